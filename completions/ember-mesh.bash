@@ -4,12 +4,16 @@ _ember_mesh() {
     local word=$2 option='' options each files=('*.[sS][tT][lL]' '*.[oO][bB][jJ]' '*.[pP][lL][yY]' '*.[oO][fF][fF]')
     COMPREPLY=()
     if ((COMP_CWORD == 1)); then
-        mapfile -t COMPREPLY < <(compgen -W 'union difference intersection bool help --help -h --version' -- "$word")
+        mapfile -t COMPREPLY < <(compgen -W 'union difference intersection bool snap export view info help --help -h --version' -- "$word")
         return
     fi
     case ${COMP_WORDS[1]} in
-        bool) options=' --expr -o --step --workers --digits --quiet --help -h ' ;;
-        union | difference | intersection) options=' -o --step --workers --digits --quiet --help -h ' ;;
+        bool) options=' --expr -o --step --workers --digits --view --keep --quiet --help -h ' ;;
+        union | difference | intersection) options=' -o --step --workers --digits --view --keep --quiet --help -h ' ;;
+        snap) options=' -d --step --quiet --help -h ' ;;
+        export) options=' --scene -o --digits --view --quiet --help -h ' ;;
+        view) options=' -o --quiet --help -h ' ;;
+        info) options=' --help -h ' ;;
         *) return ;;
     esac
 
@@ -29,8 +33,14 @@ _ember_mesh() {
         mapfile -t COMPREPLY < <(compgen -W 'nice finest' -- "$word")
     elif [[ -z $option && $word == -* ]]; then
         mapfile -t COMPREPLY < <(compgen -W "$options" -- "$word")
-    elif [[ -z $option || $option == -o ]]; then
-        [[ $option == -o ]] && files=("${files[0]}") # only STL is written
+    elif [[ -z $option || $option == -[od] || $option == --scene || $option == --view || $option == --keep ]]; then
+        case ${COMP_WORDS[1]}$option in
+            view-o | *--view) files=('*.[hH][tT][mM][lL]') ;;
+            *-o) files=("${files[@]}" '*.[gG][lL][bB]') ;;
+            *--scene) files=('*.[jJ][sS][oO][nN]') ;;
+            *-d | *--keep) files=() ;; # folders alone
+            export) files=('*') ;; # a document has any name
+        esac
         compopt -o filenames 2>/dev/null
         mapfile -t COMPREPLY < <(
             for each in "${files[@]}"; do compgen -f -X "!$each" -- "$word"; done

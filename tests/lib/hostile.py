@@ -85,6 +85,30 @@ def sheet(count, draw):
     return corners, faces + [face[::-1] for face in faces]
 
 
+def points(count, draw):
+    """A plate with prisms on its roof, each with a corner inside one edge of the roof (at most 1,266)."""
+    step = max(3, 3800 // count)
+    wide = min(3, step // 3)
+    feet = [[(x, -2000), (x + wide, -1990), (x - wide, -1990)] for x in range(-1900, step * count - 1900, step)]
+    return joined([box((-2000, -2000, -100), (2000, 2000, 0)), *(prism(foot, 0, 10 + i % 5) for i, foot in enumerate(feet))])
+
+
+def floors(count, draw):
+    """A plate with prisms on its roof: three corners of each in one plane (at most 6,700)."""
+    parts = [box((-2000, -2000, -100), (2000, 2000, 0))]
+    for i in range(count):
+        x, y = 39 * (i % 100) - 1980, 58 * (i // 100) - 1980
+        parts.append(prism([(x, y), (x + 9, y + 10), (x - 9, y + 10)], 0, 5 + i % 9))
+    return joined(parts)
+
+
+def line(count, draw):
+    """Wedges with an edge on one line, six round each piece of it (at most 12,240)."""
+    sides = [((8, 1), (7, 4)), ((5, 6), (3, 8)), ((-1, 8), (-4, 7)), ((-8, -1), (-7, -4)), ((-5, -6), (-3, -8)), ((1, -8), (4, -7))]
+    places = [(z, side) for z in range(-2040, 2040, 2) for side in sides][:count]
+    return joined(prism([(0, 0), *side], z, z + 1) for z, side in places)
+
+
 # Each scene with the size that the table has if none is given: of such a size that the costliest command takes a few seconds.
 SCENES = {
     "plate": (plate, 100),
@@ -97,6 +121,9 @@ SCENES = {
     "soup": (soup, 60),
     "copies": (copies, 20000),
     "sheet": (sheet, 200),
+    "points": (points, 256),
+    "floors": (floors, 1000),
+    "line": (line, 3000),
 }
 
 

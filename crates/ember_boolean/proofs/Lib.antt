@@ -1,3 +1,6 @@
 pub mod Readings
 pub mod Refusals
+pub mod WritingRefusals
+pub mod DocumentRefusals
 pub mod Outputs
+pub mod OutputMeaning

@@ -1,7 +1,9 @@
 -- The file of a mesh, and the output that it belongs to
-use Rattle.std.proofs.Common.{◌≡◌, ◌≤◌, ℕ, Bool, true, false, not, List, map, length, Result, Ok, Err, IfOk, refl, sym, subst, ap, ◌∙◌, arith}
+use Rattle.std.proofs.Common.{◌≡◌, ◌≤◌, ℕ, Bool, true, false, not, List, map, length, Option, Some, None, IfSome, refl, sym, subst, ap, ◌∙◌, arith}
+use Rattle.std.specs.Bool.{then_some}
+use Rattle.std.specs.Global.{Vec}
 use Rattle.std.specs.List.{All, list_all}
-use Rattle.std.specs.declared.option.Option.{Option}
+use Rattle.std.specs.Option.{option_map}
 use Rattle.std.proofs.lemmas.List.{length-map}
 use Rattle.std.proofs.lemmas.List.Filters.{length-filter_both}
 use Rattle.ember_certificate.specs.declared.space_point.SpacePoint.{SpacePoint}
@@ -10,18 +12,17 @@ use Rattle.ember_certificate.specs.Certificate.{IsProper}
 use Rattle.ember_expr.specs.Formula.{Formula}
 use Rattle.ember_grid.specs.declared.grid.Grid.{Grid}
 use Rattle.ember_model.specs.declared.plane.Plane.{Plane}
+use Rattle.ember_model.specs.declared.scene.Scene.{Scene}
 use Rattle.ember_model.specs.declared.tri.Tri.{Tri}
-use Rattle.ember_moves.specs.declared.length.Length.{Length}
-use Rattle.ember_moves.specs.Shown.{AreMoves}
-use Rattle.ember_query.specs.Solids.{IsSolidReport}
 use Rattle.ember_scene.specs.declared.scene.Placed.{Placed}
-use Rattle.ember_scene.specs.Images.{images_of, counts_on}
+use Rattle.ember_scene.specs.Images.{images_of}
 use Rattle.ember_snap.specs.declared.offsets.Offset.{Offset}
 use Rattle.ember_snap.specs.declared.steps.Step.{Step}
 use Rattle.ember_solid_mesh.specs.declared.mesh.SolidMesh.{SolidMesh}
-use Rattle.ember_solid_mesh.specs.Meshes.{IsSolidMesh}
+use Rattle.ember_solid_mesh.specs.declared.solid.MeshedSolid.{MeshedSolid}
+use Rattle.ember_solid_mesh.specs.Asked.{IsThereIf}
+use Rattle.ember_solid_mesh.specs.Meshes.{IsDocumentMesh, IsMeshedSolid}
 use Rattle.ember_stl_bytes.specs.declared.triangle.WrittenTriangle.{WrittenTriangle}
-use Rattle.ember_surface.specs.declared.surface.Surface.{Surface}
 use Rattle.ember_manifold.specs.declared.split.SplitMesh.{SplitMesh}
 use Rattle.ember_manifold.specs.Splits.{AreSplitOf}
 use Rattle.ember_manifold.specs.Cuts.{AreCutOf}
@@ -33,23 +34,22 @@ use Rattle.ember_vertices.specs.declared.point.DecimalTriangle.{DecimalTriangle}
 use Rattle.ember_vertices.specs.declared.point.IndexedTriangle.{IndexedTriangle}
 use Rattle.ember_vertices.specs.Vertices.{vertices_of, indexed, point_at}
 use Rattle.ember_written.specs.Decimals.{decimal_point}
-use Rattle.ember_written.specs.DecimalTriangles.{decimal_triangles}
 use Rattle.ember_written.specs.DecimalTriangles as decimal
 use Rattle.ember_written.specs.Triangles.{has_corners, vanishes, kept, triangle_at, AreWritten}
-use Rattle.ember_written.specs.Closed.{AreRoundAndClosed, AreIndicesClosed}
+use Rattle.ember_written.specs.Closed.{AreRoundAndClosed}
 use Rattle.ember_written.specs.Digits.{written_places}
-use Rattle.ember_written.specs.Shared.{IsSharedIndexCount}
 use Rattle.ember_written.proofs.Proper.{proper_corners}
 use Rattle.ember_written.proofs.WrittenClosed.{certified_are_closed, written_are_closed}
 use Rattle.ember_written.proofs.DecimalsClosed.{decimals_are_closed, indices_are_closed}
-use Rattle.ember_boolean.specs.declared.fault.BooleanFault.{BooleanFault}
 use Rattle.ember_boolean.specs.declared.files.MeshFile.{MeshFile}
+use Rattle.ember_boolean.specs.declared.output.Kept.{Kept}
 use Rattle.ember_boolean.specs.declared.wanted.MeshFormat.{MeshFormat}
-use Rattle.ember_boolean.specs.declared.wanted.MeshFormat.TheVariants.{Stl, Text}
+use Rattle.ember_boolean.specs.declared.wanted.FloatFormat.{FloatFormat}
+use Rattle.ember_boolean.specs.declared.wanted.MeshFormat.TheVariants.{Floats, Text}
 use Rattle.ember_boolean.specs.declared.wanted.WantedFile.{WantedFile}
-use Rattle.ember_boolean.specs.declared.writing.Output.{Output}
-use Rattle.ember_boolean.specs.Files.{ArePlaced, IsPlaced}
-use Rattle.ember_boolean.specs.Outputs.{AreRounded, over_vertices, IsTextOver, IsStl, IsText, IsWritten, IsClosedStl, IsClosedText, IsClosedAs, IsOutput}
+use Rattle.ember_boolean.specs.declared.writing.Written.{Written}
+use Rattle.ember_boolean.specs.Files.{IsPlaced}
+use Rattle.ember_boolean.specs.Outputs.{AreKept, AreRounded, AreShownIf, over_vertices, decimals_of, IsTextOver, IsOfFloats, IsText, IsWritten, IsClosedOfFloats, IsClosedText, IsClosedAs, IsOutput}
 
 twice : (b : Bool) → b ≡ not (not b)
 twice true = refl
@@ -88,17 +88,13 @@ decimals_are_fewer ps ts =
     let e = length-filter_both (λ t. not (gone t)) gone (λ t. twice (gone t)) ts in omega (arith, e)
 
 -- no more triangles of decimals are written than there are
-pub fewer_decimals : (places : ℕ) (s : Step) (o : Offset) (corners : List SpacePoint) (ts : List Triangle) → length (decimal_triangles places s o corners ts) ≤ length ts
-fewer_decimals places s o corners ts =
-    let ps = map (decimal_point places s o) corners in
+pub fewer_decimals : (digits : Option ℕ) (grid : Grid) (mesh : SolidMesh) → length (decimals_of digits grid mesh) ≤ length mesh.triangles.items
+fewer_decimals digits grid mesh =
+    let ps = map (decimal_point (written_places digits grid.step) grid.step grid.offset) mesh.corners.items in
+    let ts = mesh.triangles.items in
     let n = length-map (decimal.kept ps ts) (decimal.triangle_at ps) in
     let k = decimals_are_fewer ps ts in
     omega (arith, n, k)
-
--- as many as of lists that equal those of the mesh
-pub as_many_decimals : (places many : ℕ) (s : Step) (o : Offset) (corners cs : List SpacePoint) (triangles ts : List Triangle) → places ≡ many → cs ≡ corners → ts ≡ triangles → length (decimal_triangles places s o cs ts) ≡ length (decimal_triangles many s o corners triangles)
-as_many_decimals places many s o corners cs triangles ts a b d =
-    λ i. length (decimal_triangles (a i) s o (b i) (d i))
 
 -- as many are shown as are written
 pub shown_are_written : (ts : List DecimalTriangle) (shown : List IndexedTriangle) → shown ≡ map (indexed (vertices_of ts)) ts → length shown ≡ length ts
@@ -116,61 +112,64 @@ split_is_text format places ts cut split faces points vertices written origins b
   whole = whole;
 }
 
--- the text of a mesh, by lists that equal those of the mesh
-pub text_of_mesh : (format : TextFormat) (places many : ℕ) (s : Step) (o : Offset) (corners cs : List SpacePoint) (triangles ts : List Triangle) (bytes : List ℕ) (is_manifold : Bool) → places ≡ many → cs ≡ corners → ts ≡ triangles → IsTextOver format places (decimal_triangles places s o cs ts) bytes is_manifold → IsTextOver format many (decimal_triangles many s o corners triangles) bytes is_manifold
-text_of_mesh format places many s o corners cs triangles ts bytes is_manifold a b d text =
-    let of_places : IsTextOver format many (decimal_triangles many s o cs ts) bytes is_manifold = subst (λ (n : ℕ). IsTextOver format n (decimal_triangles n s o cs ts) bytes is_manifold) a text in
-    let of_corners : IsTextOver format many (decimal_triangles many s o corners ts) bytes is_manifold = subst (λ (us : List SpacePoint). IsTextOver format many (decimal_triangles many s o us ts) bytes is_manifold) b of_places in
-    subst (λ (us : List Triangle). IsTextOver format many (decimal_triangles many s o corners us) bytes is_manifold) d of_corners
-
--- the edges of more than two triangles are those of the mesh, by lists that equal those of the mesh
-pub shared_of_mesh : (places many : ℕ) (s : Step) (o : Offset) (corners cs : List SpacePoint) (triangles ts : List Triangle) (shown : List IndexedTriangle) (count : ℕ) → places ≡ many → cs ≡ corners → ts ≡ triangles → shown ≡ over_vertices (decimal_triangles places s o cs ts) → (AreIndicesClosed shown → IsSharedIndexCount shown count) → AreIndicesClosed (over_vertices (decimal_triangles many s o corners triangles)) → IsSharedIndexCount (over_vertices (decimal_triangles many s o corners triangles)) count
-shared_of_mesh places many s o corners cs triangles ts shown count a b d e h =
-    subst (λ (us : List IndexedTriangle). AreIndicesClosed us → IsSharedIndexCount us count) (e ∙ (λ i. over_vertices (decimal_triangles (a i) s o (b i) (d i)))) h
-
 -- ---- closed files
--- the triangles of a solid's mesh are closed before they are rounded
-mesh_is_closed : (tris : List Tri) (formula : Formula) (mesh : SolidMesh) → IsSolidMesh tris formula mesh → AreRoundAndClosed mesh.triangles.items
-mesh_is_closed tris formula mesh solid =
-    certified_are_closed mesh.planes.items mesh.corners.items solid.tables.segments.items mesh.triangles.items solid.cut.certified
+-- the triangles of a document's mesh are closed before they are rounded
+mesh_is_closed : (bytes : List ℕ) (mesh : SolidMesh) → IsDocumentMesh bytes mesh → AreRoundAndClosed mesh.triangles.items
+mesh_is_closed bytes mesh is =
+    certified_are_closed mesh.planes.items is.tables.lines.items mesh.corners.items is.tables.segments.items mesh.triangles.items is.cut.certified
 
--- and so are those of its STL
-stl_is_closed : (grid : Grid) (mesh : SolidMesh) (out : Output) → AreRoundAndClosed mesh.triangles.items → IsStl grid mesh out → IsClosedStl grid mesh out
-stl_is_closed grid mesh out round stl =
-    let closed = written_are_closed grid.step grid.offset mesh.planes.items mesh.corners.items mesh.triangles.items stl.written stl.rounded round in
-    record { stl = stl; closed = closed; shared = stl.shared closed }
+-- and so are those of its STL and its GLB
+floats_are_closed : (format : FloatFormat) (grid : Grid) (mesh : SolidMesh) (file : Written) → AreRoundAndClosed mesh.triangles.items → IsOfFloats format grid mesh file → IsClosedOfFloats format grid mesh file
+floats_are_closed format grid mesh file round floats =
+    let closed = written_are_closed grid.step grid.offset mesh.planes.items mesh.corners.items mesh.triangles.items floats.written floats.rounded round in
+    record { floats = floats; closed = closed; shared = floats.shared closed }
 
 -- and of its text
-text_is_closed : (format : TextFormat) (digits : Option ℕ) (grid : Grid) (mesh : SolidMesh) (out : Output) → AreRoundAndClosed mesh.triangles.items → IsText format digits grid mesh out → IsClosedText format digits grid mesh out
-text_is_closed format digits grid mesh out round text = record {
+text_is_closed : (format : TextFormat) (digits : Option ℕ) (grid : Grid) (mesh : SolidMesh) (file : Written) → AreRoundAndClosed mesh.triangles.items → IsText format digits grid mesh file → IsClosedText format digits grid mesh file
+text_is_closed format digits grid mesh file round text = record {
   text = text;
   closed = decimals_are_closed (written_places digits grid.step) grid.step grid.offset mesh.corners.items mesh.triangles.items round;
   shared = text.shared (indices_are_closed (written_places digits grid.step) grid.step grid.offset mesh.corners.items mesh.triangles.items round);
 }
 
-file_is_closed : (format : MeshFormat) (grid : Grid) (mesh : SolidMesh) (out : Output) → AreRoundAndClosed mesh.triangles.items → IsWritten format grid mesh out → IsClosedAs format grid mesh out
-file_is_closed Stl grid mesh out round stl = stl_is_closed grid mesh out round stl
-file_is_closed (Text format digits) grid mesh out round text = text_is_closed format digits grid mesh out round text
+-- and so are those of its file
+file_is_closed : (format : MeshFormat) (grid : Grid) (mesh : SolidMesh) (file : Written) → AreRoundAndClosed mesh.triangles.items → IsWritten format grid mesh file → IsClosedAs format grid mesh file
+file_is_closed (Floats format) grid mesh file round floats = floats_are_closed format grid mesh file round floats
+file_is_closed (Text format digits) grid mesh file round text = text_is_closed format digits grid mesh file round text
+
+-- the file of a document's mesh is closed
+pub written_is_closed : (bytes : List ℕ) (format : MeshFormat) (grid : Grid) (mesh : SolidMesh) (file : Written) → IsDocumentMesh bytes mesh → IsWritten format grid mesh file → IsClosedAs format grid mesh file
+written_is_closed bytes format grid mesh file is written =
+    file_is_closed format grid mesh file (mesh_is_closed bytes mesh is) written
 
 -- ---- outputs
-module _ (files : List MeshFile) (formula : Formula) (wanted : WantedFile) (mesh : SolidMesh) where
-  output_on : (surfaces : List Surface) (out : Output) (grid : Grid) → out.grid ≡ grid → ArePlaced files wanted.grid surfaces grid → out.counts.items ≡ map (counts_on grid) surfaces → AreMoves grid surfaces out.moves.items → IsSolidMesh (images_of grid surfaces) formula mesh → IsSolidReport (images_of grid surfaces) formula out.report → IsWritten wanted.format grid mesh out → IsOutput files formula wanted out
-  output_on surfaces out grid e are counts moves solid report written =
-      let round = mesh_is_closed (images_of grid surfaces) formula mesh solid in
-      record {
-        surfaces = surfaces;
-        are_placed = subst (ArePlaced files wanted.grid surfaces) (sym e) are;
-        counts = subst (λ (g : Grid). out.counts.items ≡ map (counts_on g) surfaces) (sym e) counts;
-        moves = subst (λ (g : Grid). AreMoves g surfaces out.moves.items) (sym e) moves;
-        mesh = mesh;
-        solid = subst (λ (g : Grid). IsSolidMesh (images_of g surfaces) formula mesh) (sym e) solid;
-        report = subst (λ (g : Grid). IsSolidReport (images_of g surfaces) formula out.report) (sym e) report;
-        written = subst (λ (g : Grid). IsClosedAs wanted.format g mesh out) (sym e) (file_is_closed wanted.format grid mesh out round written);
-      }
+-- triangles that are shown are those that are written
+pub shown_if_asked : (asked : Bool) (written : Vec WrittenTriangle) → IfSome (then_some asked written) (λ shown. shown.items ≡ written.items)
+shown_if_asked true written = refl
+shown_if_asked false written = tt
 
-  -- the file of the mesh of the files' scene is an output for them
-  pub output_is : (placed : Placed) (is : IsPlaced files wanted.grid placed) → IsSolidMesh placed.scene.tris formula mesh → IsSolidReport placed.scene.tris formula mesh.report → (result : Result Output BooleanFault) → IfOk result (λ out. out.grid ≡ placed.grid) → IfOk result (λ out. out.counts.items ≡ placed.counts.items) → IfOk result (λ out. out.moves.items ≡ placed.moves.items) → IfOk result (λ out. out.report ≡ mesh.report) → IfOk result (IsWritten wanted.format placed.grid mesh) → IfOk result (IsOutput files formula wanted)
-  output_is placed is solid report (Ok out) grid counts moves numbers written =
-      let of_images : IsSolidReport (images_of placed.grid is.surfaces) formula mesh.report = subst (λ (ts : List Tri). IsSolidReport ts formula mesh.report) is.tris report in
-      output_on is.surfaces out placed.grid grid is.are_placed (counts ∙ is.counts) (subst (λ (ls : List Length). AreMoves placed.grid is.surfaces ls) (sym moves) is.moves) (subst (λ (ts : List Tri). IsSolidMesh ts formula mesh) is.tris solid) (subst (IsSolidReport (images_of placed.grid is.surfaces) formula) (sym numbers) of_images) written
-  output_is placed is solid report (Err fault) grid counts moves numbers written = tt
+-- the scene is kept with its document
+abbrev kept_with : Scene → Option (Vec ℕ) → Option Kept
+kept_with scene document = option_map (λ (d : Vec ℕ). record { scene = scene; document = d }) document
+
+both_are_kept : (keeps : Bool) (tris : List Tri) (bytes : List ℕ) (scene : Scene) (document : Option (Vec ℕ)) → scene.tris ≡ tris → IsThereIf keeps (λ (d : Vec ℕ). d.items ≡ bytes) document → IsThereIf keeps (AreKept tris bytes) (kept_with scene document)
+both_are_kept keeps tris bytes scene (Some document) e h = (h.0, record { scene = e; document = h.1 })
+both_are_kept keeps tris bytes scene None e h = h
+
+-- the file of the mesh of the files' scene is an output for them
+module _ (files : List MeshFile) (formula : Formula) (wanted : WantedFile) (placed : Placed) (is : IsPlaced files wanted.grid placed) where
+  pub output_is : (meshed : MeshedSolid) → IsMeshedSolid placed.scene.tris formula wanted.keeps meshed → (file : Written) → IsWritten wanted.format placed.grid meshed.mesh file → AreShownIf wanted.shows placed.grid meshed.mesh file.shown → (kept : Option Kept) → kept ≡ kept_with placed.scene meshed.document → IsOutput files formula wanted (record { written = file; grid = placed.grid; counts = placed.counts; moves = placed.moves; report = meshed.report; kept = kept })
+  output_is meshed solid file written shown kept e =
+      let of_images = subst (λ (tris : List Tri). IsMeshedSolid tris formula wanted.keeps meshed) is.tris solid in
+      record {
+        surfaces = is.surfaces;
+        are_placed = is.are_placed;
+        counts = is.counts;
+        moves = is.moves;
+        mesh = meshed.mesh;
+        solid = of_images.mesh;
+        report = of_images.report;
+        written = written_is_closed of_images.mesh.bytes wanted.format placed.grid meshed.mesh file of_images.mesh.of_document written;
+        shown = shown;
+        kept = subst (IsThereIf wanted.keeps (AreKept (images_of placed.grid is.surfaces) of_images.mesh.bytes)) (sym e) (both_are_kept wanted.keeps (images_of placed.grid is.surfaces) of_images.mesh.bytes placed.scene meshed.document is.tris of_images.document);
+      }

@@ -1,9 +1,7 @@
 -- The faults of the steps are those of files
-use Rattle.std.proofs.Common.{◌≡◌, ◌⊎◌, inl, inr, ℕ, ◌<◌, ◌≤◌, ◌^◌, true, List, length, take, get_or, Option, Result, Ok, Err, IfErr, refl, sym, ap, subst, ◌∙◌}
-use Rattle.std.specs.Result.{IsErrAnd}
-use Rattle.std.specs.List.{Any, slice_get}
+use Rattle.std.proofs.Common.{◌≡◌, ◌⊎◌, inl, inr, ℕ, ◌<◌, true, List, length, take, get_or, Err, refl, sym, ap, subst, ◌∙◌}
+use Rattle.std.specs.List.{slice_get}
 use Rattle.std.proofs.lemmas.Option.{slice_get-get_or}
-use Rattle.ember_certificate.specs.declared.space_point.SpacePoint.{SpacePoint}
 use Rattle.ember_expr.specs.Formula.{Formula}
 use Rattle.ember_file.specs.declared.fault.FileFault.{FileFault}
 use Rattle.ember_file.specs.declared.fault.FileFault.TheVariants as file_fault
@@ -19,28 +17,16 @@ use Rattle.ember_solid_mesh.specs.declared.fault.SolidFault.TheVariants as solid
 use Rattle.ember_solid_mesh.specs.declared.mesh.SolidMesh.{SolidMesh}
 use Rattle.ember_solid_mesh.specs.Faults.{IsSolidFault}
 use Rattle.ember_solid_mesh.specs.Meshes.{IsSolidMesh}
-use Rattle.ember_stl_bytes.specs.declared.fault.StlWriteFault.{StlWriteFault}
-use Rattle.ember_stl_bytes.specs.declared.fault.StlWriteFault.TheVariants as write_fault
-use Rattle.ember_stl_bytes.specs.declared.triangle.WrittenTriangle.{WrittenTriangle}
 use Rattle.ember_surface.specs.declared.surface.Surface.{Surface}
-use Rattle.ember_written.specs.declared.fault.PlaceFault.{PlaceFault}
-use Rattle.ember_written.specs.declared.fault.PlaceFault.TheVariants as place_fault
-use Rattle.ember_mesh_text.specs.declared.format.TextFormat.{TextFormat}
-use Rattle.ember_written.specs.Decimals.{IsFarPoint, IsDecimalFault}
-use Rattle.ember_written.specs.Floats.{IsTooFar, IsFloatFault}
 use Rattle.ember_boolean.specs.declared.fault.BooleanFault.{BooleanFault}
 use Rattle.ember_boolean.specs.declared.fault.BooleanFault.TheVariants.{File, Scene, Solid, TooFar, TooManyTriangles, OutOfMemory}
 use Rattle.ember_boolean.specs.declared.files.MeshFile.{MeshFile}
-use Rattle.ember_boolean.specs.declared.wanted.MeshFormat.TheVariants.{Stl, Text}
 use Rattle.ember_boolean.specs.declared.wanted.WantedFile.{WantedFile}
+use Rattle.ember_boolean.specs.declared.writing_fault.WritingFault.{WritingFault}
+use Rattle.ember_boolean.specs.declared.writing_fault.WritingFault.TheVariants as writing_fault
 use Rattle.ember_boolean.specs.Files.{reading, AreReadings, ArePlaced}
-use Rattle.ember_boolean.specs.Outputs.{AreRounded}
-use Rattle.ember_boolean.specs.Faults.{HasFault, IsRefusal, IsReadFault, IsPlacingFault, IsWritingFault, IsBooleanFault, of_file_fault, of_scene_fault, of_solid_fault, of_place_fault, of_write_fault}
-
--- what holds of the fault that a result has
-pub passed_on : {T : Type 0} (P : BooleanFault → Type 0) (result : Result T BooleanFault) (fault : BooleanFault) → IsErrAnd result (λ given. given ≡ fault) → P fault → IfErr result P
-passed_on P (Ok value) fault e h = tt
-passed_on P (Err given) fault e h = subst P (sym e) h
+use Rattle.ember_boolean.specs.WritingFaults.{IsWritingFault}
+use Rattle.ember_boolean.specs.Faults.{HasFault, IsRefusal, IsReadFault, IsPlacingFault, IsBooleanFault, of_file_fault, of_scene_fault, of_solid_fault, of_writing_fault}
 
 -- ---- files
 has_fault : (file : MeshFile) (fault : FileFault) → (fault ≡ file_fault.OutOfMemory → ⊥) → (fault ≡ file_fault.OutOfMemory) ⊎ (reading file ≡ Err (fault_of fault)) → is_plain fault ≡ true → HasFault file fault
@@ -151,31 +137,9 @@ module _ (files : List MeshFile) (formula : Formula) (wanted : WantedFile) (surf
   solid_fault_is solid_fault.OutOfMemory h = tt
 
   -- a fault of the mesh of their solid
-  pub writing_fault_is : (mesh : SolidMesh) → IsSolidMesh (images_of grid surfaces) formula mesh → (fault : BooleanFault) → IsWritingFault wanted.format grid mesh fault → IsBooleanFault files formula wanted fault
-  writing_fault_is mesh solid (File index fault) h = absurd h
-  writing_fault_is mesh solid (Scene fault) h = absurd h
-  writing_fault_is mesh solid (Solid fault) h = absurd h
-  writing_fault_is mesh solid TooFar h =
+  pub writing_fault_is : (mesh : SolidMesh) → IsSolidMesh (images_of grid surfaces) formula mesh → (cause : WritingFault) → IsWritingFault wanted.format grid mesh cause → IsBooleanFault files formula wanted (of_writing_fault cause)
+  writing_fault_is mesh solid writing_fault.TooFar h =
       record { surfaces = surfaces; grid = grid; are_placed = are; mesh = mesh; solid = solid; is_fault = h }
-  writing_fault_is mesh solid TooManyTriangles h =
+  writing_fault_is mesh solid writing_fault.TooManyTriangles h =
       record { surfaces = surfaces; grid = grid; are_placed = are; mesh = mesh; solid = solid; is_fault = h }
-  writing_fault_is mesh solid OutOfMemory h = tt
-
--- ---- the STL
--- a corner that is too far out for a float
-pub float_fault_is : (grid : Grid) (mesh : SolidMesh) (corners : List SpacePoint) (cause : PlaceFault) → corners ≡ mesh.corners.items → IsFloatFault grid.step grid.offset corners cause → IsWritingFault Stl grid mesh (of_place_fault cause)
-float_fault_is grid mesh corners place_fault.TooFar e h = subst (Any (IsTooFar grid.step grid.offset)) e h
-float_fault_is grid mesh corners place_fault.OutOfMemory e h = tt
-
--- too many triangles for an STL
-pub stl_fault_is : {T : Type 0} (grid : Grid) (mesh : SolidMesh) (written given : List WrittenTriangle) (result : Result T StlWriteFault) (cause : StlWriteFault) → AreRounded grid mesh written → given ≡ written → result ≡ Err cause → (result ≡ Err write_fault.TooManyTriangles → 2 ^ 32 ≤ length given) → IsWritingFault Stl grid mesh (of_write_fault cause)
-stl_fault_is grid mesh written given result write_fault.TooManyTriangles rounded same e many =
-    record { written = written; rounded = rounded; many = subst (λ (ws : List WrittenTriangle). 2 ^ 32 ≤ length ws) same (many e) }
-stl_fault_is grid mesh written given result write_fault.OutOfMemory rounded same e many = tt
-
--- ---- a text
--- a corner that is too far out for a decimal
-pub decimal_fault_is : (format : TextFormat) (digits : Option ℕ) (grid : Grid) (mesh : SolidMesh) (corners : List SpacePoint) (cause : PlaceFault) → corners ≡ mesh.corners.items → IsDecimalFault grid.step grid.offset corners cause → IsWritingFault (Text format digits) grid mesh (of_place_fault cause)
-decimal_fault_is format digits grid mesh corners place_fault.TooFar e h =
-    subst (Any (IsFarPoint grid.step grid.offset)) e h
-decimal_fault_is format digits grid mesh corners place_fault.OutOfMemory e h = tt
+  writing_fault_is mesh solid writing_fault.OutOfMemory h = tt

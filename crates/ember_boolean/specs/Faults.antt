@@ -1,6 +1,5 @@
 -- Why mesh files give no solid
-use Rattle.std.specs.Prelude.{◌≡◌, ◌≢◌, ⊤, ℕ, ◌^◌, ◌≤◌, true, List, length, take, Some, Err, slice_get}
-use Rattle.std.specs.List.{Any}
+use Rattle.std.specs.Prelude.{◌≡◌, ◌≢◌, ⊤, ℕ, true, List, take, Some, Err, slice_get}
 use Rattle.ember_expr.specs.Formula.{Formula}
 use Rattle.ember_file.specs.declared.fault.FileFault.{FileFault}
 use Rattle.ember_file.specs.declared.fault.FileFault.TheVariants as file_fault
@@ -16,22 +15,15 @@ use Rattle.ember_solid_mesh.specs.declared.fault.SolidFault.TheVariants as solid
 use Rattle.ember_solid_mesh.specs.declared.mesh.SolidMesh.{SolidMesh}
 use Rattle.ember_solid_mesh.specs.Faults.{IsSolidFault}
 use Rattle.ember_solid_mesh.specs.Meshes.{IsSolidMesh}
-use Rattle.ember_stl_bytes.specs.declared.fault.StlWriteFault.{StlWriteFault}
-use Rattle.ember_stl_bytes.specs.declared.fault.StlWriteFault.TheVariants as write_fault
-use Rattle.ember_stl_bytes.specs.declared.triangle.WrittenTriangle.{WrittenTriangle}
 use Rattle.ember_surface.specs.declared.surface.Surface.{Surface}
-use Rattle.ember_written.specs.declared.fault.PlaceFault.{PlaceFault}
-use Rattle.ember_written.specs.declared.fault.PlaceFault.TheVariants as place_fault
-use Rattle.ember_written.specs.Decimals.{IsFarPoint}
-use Rattle.ember_written.specs.Floats.{IsTooFar}
 use Rattle.ember_boolean.specs.declared.fault.BooleanFault.{BooleanFault}
 use Rattle.ember_boolean.specs.declared.fault.BooleanFault.TheVariants.{File, Scene, Solid, TooFar, TooManyTriangles, OutOfMemory}
 use Rattle.ember_boolean.specs.declared.files.MeshFile.{MeshFile}
-use Rattle.ember_boolean.specs.declared.wanted.MeshFormat.{MeshFormat}
-use Rattle.ember_boolean.specs.declared.wanted.MeshFormat.TheVariants.{Stl, Text}
 use Rattle.ember_boolean.specs.declared.wanted.WantedFile.{WantedFile}
+use Rattle.ember_boolean.specs.declared.writing_fault.WritingFault.{WritingFault}
+use Rattle.ember_boolean.specs.declared.writing_fault.WritingFault.TheVariants as writing_fault
 use Rattle.ember_boolean.specs.Files.{reading, AreReadings, ArePlaced}
-use Rattle.ember_boolean.specs.Outputs.{AreRounded}
+use Rattle.ember_boolean.specs.WritingFaults.{HasFarCorner, HasTooMany}
 
 -- ---- the faults of the steps, where want of memory is one
 abbrev pub of_file_fault : ℕ → FileFault → BooleanFault
@@ -46,13 +38,10 @@ abbrev pub of_solid_fault : SolidFault → BooleanFault
 of_solid_fault solid_fault.OutOfMemory = OutOfMemory
 of_solid_fault fault = Solid fault
 
-abbrev pub of_place_fault : PlaceFault → BooleanFault
-of_place_fault place_fault.TooFar = TooFar
-of_place_fault place_fault.OutOfMemory = OutOfMemory
-
-abbrev pub of_write_fault : StlWriteFault → BooleanFault
-of_write_fault write_fault.TooManyTriangles = TooManyTriangles
-of_write_fault write_fault.OutOfMemory = OutOfMemory
+abbrev pub of_writing_fault : WritingFault → BooleanFault
+of_writing_fault writing_fault.TooFar = TooFar
+of_writing_fault writing_fault.TooManyTriangles = TooManyTriangles
+of_writing_fault writing_fault.OutOfMemory = OutOfMemory
 
 -- ---- files
 -- the reading of the file gives this fault, which isn't want of memory; nor is the fault of a reader in it
@@ -114,30 +103,6 @@ pub record HasNoMesh (files : List MeshFile) (formula : Formula) (wanted : Wante
   pub of_solid : fault ≢ solid_fault.OutOfMemory
 
 -- ---- the file
--- a corner rounds to infinity, or is too far out for a decimal
-abbrev pub HasFarCorner : MeshFormat → Grid → SolidMesh → Type 0
-HasFarCorner Stl grid mesh = Any (IsTooFar grid.step grid.offset) mesh.corners.items
-HasFarCorner (Text format digits) grid mesh = Any (IsFarPoint grid.step grid.offset) mesh.corners.items
-
--- too many triangles are left for an STL
-pub record HasTooManyForStl (grid : Grid) (mesh : SolidMesh) : Type 0 where
-  pub written : List WrittenTriangle
-  pub rounded : AreRounded grid mesh written
-  pub many : 2 ^ 32 ≤ length written
-
-abbrev pub HasTooMany : MeshFormat → Grid → SolidMesh → Type 0
-HasTooMany Stl grid mesh = HasTooManyForStl grid mesh
-HasTooMany (Text format digits) grid mesh = ⊥
-
--- why a mesh isn't written
-abbrev pub IsWritingFault : MeshFormat → Grid → SolidMesh → BooleanFault → Type 0
-IsWritingFault format grid mesh (File index fault) = ⊥
-IsWritingFault format grid mesh (Scene fault) = ⊥
-IsWritingFault format grid mesh (Solid fault) = ⊥
-IsWritingFault format grid mesh TooFar = HasFarCorner format grid mesh
-IsWritingFault format grid mesh TooManyTriangles = HasTooMany format grid mesh
-IsWritingFault format grid mesh OutOfMemory = ⊤
-
 -- the surfaces of the files are a scene, its solid has a mesh, and the mesh has this fault
 pub record HasUnwritten (files : List MeshFile) (formula : Formula) (wanted : Wanted)
     (IsFault : Grid → SolidMesh → Type 0) : Type 0 where

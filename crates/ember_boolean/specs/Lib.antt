@@ -1,3 +1,5 @@
 pub mod Files
 pub mod Outputs
+pub mod WritingFaults
 pub mod Faults
+pub mod DocumentFiles

@@ -1,21 +1,26 @@
 -- The file of a mesh, and the output for mesh files
-use Rattle.std.specs.Prelude.{◌≡◌, ◌≤◌, ⊤, ℕ, Bool, true, false, ◌+◌, List, length, map, IfSome}
+use Rattle.std.specs.Prelude.{◌≡◌, ◌≤◌, ◌<◌, ⊤, ℕ, Bool, true, false, ◌+◌, List, length, map, IfSome}
+use Rattle.std.specs.Global.{Vec}
 use Rattle.std.specs.declared.option.Option.{Option}
 use Rattle.ember_expr.specs.Formula.{Formula}
+use Rattle.ember_glb.specs.ReadBack as glb
+use Rattle.ember_glb.specs.Written.{IsGlb}
 use Rattle.ember_grid.specs.declared.grid.Grid.{Grid}
 use Rattle.ember_manifold.specs.declared.split.SplitMesh.{SplitMesh}
 use Rattle.ember_manifold.specs.Splits.{AreSplitOf}
 use Rattle.ember_manifold.specs.Cuts.{AreCutOf}
 use Rattle.ember_manifold.specs.Paired.{IsManifold}
+use Rattle.ember_model.specs.declared.tri.Tri.{Tri}
 use Rattle.ember_moves.specs.Shown.{AreMoves}
 use Rattle.ember_mesh_text.specs.declared.format.TextFormat.{TextFormat}
 use Rattle.ember_mesh_text.specs.Texts.{text_of}
 use Rattle.ember_query.specs.Solids.{IsSolidReport}
 use Rattle.ember_scene.specs.Images.{images_of, counts_on}
 use Rattle.ember_solid_mesh.specs.declared.mesh.SolidMesh.{SolidMesh}
+use Rattle.ember_solid_mesh.specs.Asked.{IsThereIf}
 use Rattle.ember_solid_mesh.specs.Meshes.{IsSolidMesh}
 use Rattle.ember_stl_bytes.specs.declared.triangle.WrittenTriangle.{WrittenTriangle}
-use Rattle.ember_stl_bytes.specs.ReadBack.{IsReadBack}
+use Rattle.ember_stl_bytes.specs.ReadBack as stl
 use Rattle.ember_stl_bytes.specs.Written.{stl_bytes_of}
 use Rattle.ember_surface.specs.declared.surface.Surface.{Surface}
 use Rattle.ember_vertices.specs.declared.point.DecimalTriangle.{DecimalTriangle}
@@ -27,36 +32,60 @@ use Rattle.ember_written.specs.Triangles.{AreWritten}
 use Rattle.ember_written.specs.Closed.{AreWrittenClosed, AreDecimalsClosed, AreIndicesClosed}
 use Rattle.ember_written.specs.Shared.{IsSharedCount, IsSharedIndexCount}
 use Rattle.ember_boolean.specs.declared.files.MeshFile.{MeshFile}
+use Rattle.ember_boolean.specs.declared.wanted.FloatFormat.{FloatFormat}
+use Rattle.ember_boolean.specs.declared.wanted.FloatFormat.TheVariants.{Stl, Glb}
 use Rattle.ember_boolean.specs.declared.wanted.MeshFormat.{MeshFormat}
-use Rattle.ember_boolean.specs.declared.wanted.MeshFormat.TheVariants.{Stl, Text}
+use Rattle.ember_boolean.specs.declared.wanted.MeshFormat.TheVariants.{Floats, Text}
 use Rattle.ember_boolean.specs.declared.wanted.WantedFile.{WantedFile}
-use Rattle.ember_boolean.specs.declared.writing.Output.{Output}
+use Rattle.ember_boolean.specs.declared.output.Kept.{Kept}
+use Rattle.ember_boolean.specs.declared.output.Output.{Output}
+use Rattle.ember_boolean.specs.declared.writing.Written.{Written}
 use Rattle.ember_boolean.specs.Files.{ArePlaced}
 
 -- ---- formats
 -- at most 17 decimal places are asked for
 abbrev pub HasFewDigits : MeshFormat → Type 0
-HasFewDigits Stl = ⊤
+HasFewDigits (Floats format) = ⊤
 HasFewDigits (Text format digits) = IfSome digits (λ n. n ≤ 17)
 
--- ---- STL
+-- ---- STL and GLB
+-- the bytes are the STL of the triangles, which reading them gives again
+pub record IsStlFile (written : List WrittenTriangle) (bytes : List ℕ) : Type 0 where
+  pub is : bytes ≡ stl_bytes_of written
+  pub read_back : stl.IsReadBack written bytes
+
+-- or the GLB; without triangles it has no mesh that could be read
+pub record IsGlbFile (written : List WrittenTriangle) (bytes : List ℕ) : Type 0 where
+  pub is : IsGlb written bytes
+  pub read_back : 0 < length written → glb.IsReadBack written bytes
+
+abbrev pub IsFloatFile : FloatFormat → List WrittenTriangle → List ℕ → Type 0
+IsFloatFile Stl written bytes = IsStlFile written bytes
+IsFloatFile Glb written bytes = IsGlbFile written bytes
+
 -- the triangles of a mesh on the grid, in the user's unit and rounded
 abbrev pub AreRounded : Grid → SolidMesh → List WrittenTriangle → Type 0
 AreRounded grid mesh written =
     AreWritten grid.step grid.offset mesh.planes.items mesh.corners.items mesh.triangles.items written
 
--- the bytes are the STL of the mesh's rounded triangles, which reading them gives again; the numbers are those of the
--- mesh, of its triangles that aren't written, and of the edges of more than two written triangles, if these are closed
-pub record IsStl (grid : Grid) (mesh : SolidMesh) (out : Output) : Type 0 where
+-- they are there exactly if they are asked for
+abbrev pub AreShownIf : Bool → Grid → SolidMesh → Option (Vec WrittenTriangle) → Type 0
+AreShownIf shows grid mesh shown = IsThereIf shows (λ written. AreRounded grid mesh written.items) shown
+
+-- the bytes are the file of the mesh's rounded triangles, which are also those that are shown, if any are; the numbers
+-- are those of the mesh, of its triangles that aren't written, and of the edges of more than two written triangles, if
+-- these are closed
+pub record IsOfFloats (format : FloatFormat) (grid : Grid) (mesh : SolidMesh) (file : Written) : Type 0 where
   pub written : List WrittenTriangle
   pub rounded : AreRounded grid mesh written
-  pub bytes : out.bytes.items ≡ stl_bytes_of written
-  pub read_back : IsReadBack written out.bytes.items
-  pub not_known : out.is_manifold ≡ false
-  pub planes : out.planes ≡ length mesh.planes.items
-  pub triangles : out.triangles ≡ length mesh.triangles.items
-  pub vanished : out.vanished + length written ≡ out.triangles
-  pub shared : AreWrittenClosed written → IsSharedCount written out.shared
+  pub bytes : IsFloatFile format written file.bytes.items
+  pub shown : IfSome file.shown (λ shown. shown.items ≡ written)
+  pub not_known : file.is_manifold ≡ false
+  pub faces : file.faces ≡ mesh.faces
+  pub planes : file.planes ≡ length mesh.planes.items
+  pub triangles : file.triangles ≡ length mesh.triangles.items
+  pub vanished : file.vanished + length written ≡ file.triangles
+  pub shared : AreWrittenClosed written → IsSharedCount written file.shared
 
 -- ---- text
 -- the triangles of a mesh on the grid, in the user's unit and rounded to decimals
@@ -83,43 +112,50 @@ pub record IsTextOver (format : TextFormat) (places : ℕ) (ts : List DecimalTri
 
 -- the bytes are the text of the mesh's rounded triangles; the numbers are those of the mesh, of its triangles that
 -- aren't written, and, if the others are closed, of their edges of more than two, where each point is one vertex
-pub record IsText (format : TextFormat) (digits : Option ℕ) (grid : Grid) (mesh : SolidMesh) (out : Output) :
+pub record IsText (format : TextFormat) (digits : Option ℕ) (grid : Grid) (mesh : SolidMesh) (file : Written) :
     Type 0 where
-  pub bytes : IsTextOver format (written_places digits grid.step) (decimals_of digits grid mesh) out.bytes.items
-      out.is_manifold
-  pub planes : out.planes ≡ length mesh.planes.items
-  pub triangles : out.triangles ≡ length mesh.triangles.items
-  pub vanished : out.vanished + length (decimals_of digits grid mesh) ≡ out.triangles
+  pub bytes : IsTextOver format (written_places digits grid.step) (decimals_of digits grid mesh) file.bytes.items
+      file.is_manifold
+  pub faces : file.faces ≡ mesh.faces
+  pub planes : file.planes ≡ length mesh.planes.items
+  pub triangles : file.triangles ≡ length mesh.triangles.items
+  pub vanished : file.vanished + length (decimals_of digits grid mesh) ≡ file.triangles
   pub shared : AreIndicesClosed (over_vertices (decimals_of digits grid mesh)) →
-      IsSharedIndexCount (over_vertices (decimals_of digits grid mesh)) out.shared
+      IsSharedIndexCount (over_vertices (decimals_of digits grid mesh)) file.shared
 
 -- ---- any format
-abbrev pub IsWritten : MeshFormat → Grid → SolidMesh → Output → Type 0
-IsWritten Stl grid mesh out = IsStl grid mesh out
-IsWritten (Text format digits) grid mesh out = IsText format digits grid mesh out
+abbrev pub IsWritten : MeshFormat → Grid → SolidMesh → Written → Type 0
+IsWritten (Floats format) grid mesh file = IsOfFloats format grid mesh file
+IsWritten (Text format digits) grid mesh file = IsText format digits grid mesh file
 
 -- ---- closed
--- the triangles of the STL are closed, and so many edges belong to more than two of them
-pub record IsClosedStl (grid : Grid) (mesh : SolidMesh) (out : Output) : Type 0 where
-  pub stl : IsStl grid mesh out
-  pub closed : AreWrittenClosed stl.written
-  pub shared : IsSharedCount stl.written out.shared
+-- the triangles of the STL or the GLB are closed, and so many edges belong to more than two of them
+pub record IsClosedOfFloats (format : FloatFormat) (grid : Grid) (mesh : SolidMesh) (file : Written) : Type 0 where
+  pub floats : IsOfFloats format grid mesh file
+  pub closed : AreWrittenClosed floats.written
+  pub shared : IsSharedCount floats.written file.shared
 
 -- the same of a text before any of its triangles are cut; if some are, each of its edges has two (`IsTextOver`)
-pub record IsClosedText (format : TextFormat) (digits : Option ℕ) (grid : Grid) (mesh : SolidMesh) (out : Output) :
+pub record IsClosedText (format : TextFormat) (digits : Option ℕ) (grid : Grid) (mesh : SolidMesh) (file : Written) :
     Type 0 where
-  pub text : IsText format digits grid mesh out
+  pub text : IsText format digits grid mesh file
   pub closed : AreDecimalsClosed (decimals_of digits grid mesh)
-  pub shared : IsSharedIndexCount (over_vertices (decimals_of digits grid mesh)) out.shared
+  pub shared : IsSharedIndexCount (over_vertices (decimals_of digits grid mesh)) file.shared
 
 -- the file has this format, and its triangles are closed
-abbrev pub IsClosedAs : MeshFormat → Grid → SolidMesh → Output → Type 0
-IsClosedAs Stl grid mesh out = IsClosedStl grid mesh out
-IsClosedAs (Text format digits) grid mesh out = IsClosedText format digits grid mesh out
+abbrev pub IsClosedAs : MeshFormat → Grid → SolidMesh → Written → Type 0
+IsClosedAs (Floats format) grid mesh file = IsClosedOfFloats format grid mesh file
+IsClosedAs (Text format digits) grid mesh file = IsClosedText format digits grid mesh file
 
 -- ---- outputs
+-- the scene has these triangles, and the document these bytes
+pub record AreKept (images : List Tri) (bytes : List ℕ) (kept : Kept) : Type 0 where
+  pub scene : kept.scene.tris ≡ images
+  pub document : kept.document.items ≡ bytes
+
 -- the surfaces of the files are a scene on the wanted grid, with these counts and moves; there is a mesh of the solid
--- of their triangles, with this report of the run; and the rest is this mesh in the wanted format, closed
+-- of their triangles, with this report of the run; the file is this mesh in the wanted format, closed; and the triangles
+-- that are shown, and the scene and the document of the solid, are there if they are wanted
 pub record IsOutput (files : List MeshFile) (formula : Formula) (wanted : WantedFile) (out : Output) : Type 0 where
   pub surfaces : List Surface
   pub are_placed : ArePlaced files wanted.grid surfaces out.grid
@@ -128,4 +164,6 @@ pub record IsOutput (files : List MeshFile) (formula : Formula) (wanted : Wanted
   pub mesh : SolidMesh
   pub solid : IsSolidMesh (images_of out.grid surfaces) formula mesh
   pub report : IsSolidReport (images_of out.grid surfaces) formula out.report
-  pub written : IsClosedAs wanted.format out.grid mesh out
+  pub written : IsClosedAs wanted.format out.grid mesh out.written
+  pub shown : AreShownIf wanted.shows out.grid mesh out.written.shown
+  pub kept : IsThereIf wanted.keeps (AreKept (images_of out.grid surfaces) solid.bytes) out.kept

@@ -1,13 +1,12 @@
 // Why mesh files give no solid.
 ghost use Rattle.std.specs.Prelude.{◌≡◌};
 ghost use Rattle.ember_boolean.specs.declared.fault.BooleanFault.TheVariants.{OutOfMemory};
-ghost use Rattle.ember_boolean.specs.Faults.{of_scene_fault, of_solid_fault, of_place_fault, of_write_fault};
+ghost use Rattle.ember_boolean.specs.Faults.{of_scene_fault, of_solid_fault, of_writing_fault};
 
+use crate::writing_fault::WritingFault;
 use ember_file::FileFault;
 use ember_scene::SceneFault;
 use ember_solid_mesh::SolidFault;
-use ember_stl_bytes::StlWriteFault;
-use ember_written::PlaceFault;
 use std::alloc::{AllocError, AllocFailed};
 use thiserror::Error;
 
@@ -27,8 +26,8 @@ pub enum BooleanFault<'a> {
     /// or more, so that no float is nearest to it, or, for a decimal, 10^21 or more.
     #[error("a corner is too far from zero")]
     TooFar,
-    /// The STL would have 2^32 triangles or more.
-    #[error("more than 4294967295 triangles")]
+    /// The STL would have 2^32 triangles or more, or the GLB 2^32 bytes or more.
+    #[error("too many triangles for the format")]
     TooManyTriangles,
     #[error("out of memory")]
     OutOfMemory,
@@ -72,24 +71,14 @@ impl<'a> From<SolidFault> for BooleanFault<'a> {
     }
 }
 
-impl<'a> From<PlaceFault> for BooleanFault<'a> {
-    ghost from_gives = { λ cause fault. fault ≡ of_place_fault cause };
+impl<'a> From<WritingFault> for BooleanFault<'a> {
+    ghost from_gives = { λ cause fault. fault ≡ of_writing_fault cause };
 
-    fn from(cause: PlaceFault) -> BooleanFault<'a> {
+    fn from(cause: WritingFault) -> BooleanFault<'a> {
         match cause {
-            PlaceFault::TooFar => BooleanFault::TooFar,
-            PlaceFault::OutOfMemory => BooleanFault::OutOfMemory,
-        }
-    }
-}
-
-impl<'a> From<StlWriteFault> for BooleanFault<'a> {
-    ghost from_gives = { λ cause fault. fault ≡ of_write_fault cause };
-
-    fn from(cause: StlWriteFault) -> BooleanFault<'a> {
-        match cause {
-            StlWriteFault::TooManyTriangles => BooleanFault::TooManyTriangles,
-            StlWriteFault::OutOfMemory => BooleanFault::OutOfMemory,
+            WritingFault::TooFar => BooleanFault::TooFar,
+            WritingFault::TooManyTriangles => BooleanFault::TooManyTriangles,
+            WritingFault::OutOfMemory => BooleanFault::OutOfMemory,
         }
     }
 }

@@ -4,14 +4,16 @@ ghost use Rattle.ember_chain.specs.Chains.{IsClosedSurface};
 ghost use Rattle.ember_expr.specs.Formula.{Formula};
 ghost use Rattle.ember_grid.specs.Closed.{IsSurfaceClosed};
 ghost use Rattle.ember_meaning.specs.Meaning.{IsFalseOutside, HaveMeaning};
+ghost use Rattle.ember_meaning.specs.Nearby.{WindOnceAtMost};
 ghost use Rattle.ember_scene.specs.declared.fault.Open.{Open};
 ghost use Rattle.ember_scene.specs.declared.fault.SceneFault.TheVariants as scene_fault;
 ghost use Rattle.ember_scene.specs.Images.{images_of};
+ghost use Rattle.ember_solid_mesh.specs.MeshFaces.{faces_of_mesh};
 ghost use Rattle.ember_surface.specs.declared.surface.Surface.{Surface};
 ghost use Rattle.ember_boolean.specs.declared.fault.BooleanFault.TheVariants.{Scene};
 ghost use Rattle.ember_boolean.specs.declared.files.MeshFile.{MeshFile};
 ghost use Rattle.ember_boolean.specs.declared.wanted.WantedFile.{WantedFile};
-ghost use Rattle.ember_boolean.specs.declared.writing.Output.{Output};
+ghost use Rattle.ember_boolean.specs.declared.output.Output.{Output};
 ghost use Rattle.ember_boolean.specs.Files.{AreReadings};
 ghost use Rattle.ember_boolean.specs.Outputs.{IsOutput};
 ghost use Rattle.ember_boolean.specs.Faults.{IsBooleanFault};
@@ -24,10 +26,22 @@ use ember_scene::closed_surfaces_are_never_open;
 pub fn faces_of_outputs_have_the_meaning()
     ensures means { (files : List MeshFile) (formula : Formula) (wanted : WantedFile) (out : Output) →
         IsFalseOutside formula → (is : IsOutput files formula wanted out) →
-        HaveMeaning (images_of out.grid is.surfaces) formula is.solid.tables_are.faces }
+        HaveMeaning (images_of out.grid is.surfaces) formula is.solid.of_document.tables_are.faces }
     ensures closed { (files : List MeshFile) (formula : Formula) (wanted : WantedFile) (out : Output) →
         IsFalseOutside formula → (is : IsOutput files formula wanted out) →
-        IsClosedSurface is.solid.tables_are.read.written }
+        IsClosedSurface is.solid.of_document.tables_are.read.written }
+{}
+
+/// Let an expression be false if all winding numbers are 0. The triangles of an output, before they
+/// are rounded, wind once where it is true of the files' triangles on the grid, and not at all
+/// elsewhere. Around each point that is clear of the output's triangles alone, they wind once or not
+/// at all.
+pub fn triangles_of_outputs_have_the_meaning()
+    ensures means { (files : List MeshFile) (formula : Formula) (wanted : WantedFile) (out : Output) →
+        IsFalseOutside formula → (is : IsOutput files formula wanted out) →
+        HaveMeaning (images_of out.grid is.surfaces) formula (faces_of_mesh is.mesh) }
+    ensures once { (files : List MeshFile) (formula : Formula) (wanted : WantedFile) (out : Output) →
+        IsFalseOutside formula → (is : IsOutput files formula wanted out) → WindOnceAtMost (faces_of_mesh is.mesh) }
 {}
 
 /// Files whose surfaces are closed by the exact positions of their corners are never refused as

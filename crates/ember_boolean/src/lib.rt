@@ -1,20 +1,31 @@
-//! The solid of an expression over mesh files: from their bytes to those of the file that is
-//! wanted.
+//! The solid of an expression over mesh files, and the mesh of a document: from their bytes to those
+//! of the file that is wanted.
 #![tactic(auto)]
 
+mod document;
 mod fault;
 mod files;
+mod floats;
 mod laws;
+mod output;
 mod placing;
+mod rounding;
 mod solid;
-mod stl;
 mod text;
 mod wanted;
 mod writing;
+mod writing_fault;
 
+pub use document::{DocumentFileFault, document_file};
 pub use fault::BooleanFault;
 pub use files::{MeshFile, surfaces_in};
-pub use laws::{closed_files_are_never_open, faces_of_outputs_have_the_meaning};
+pub use laws::{
+    closed_files_are_never_open, faces_of_outputs_have_the_meaning,
+    triangles_of_outputs_have_the_meaning,
+};
+pub use output::{Kept, Output};
+pub use placing::placed_files;
 pub use solid::solid_file;
-pub use wanted::{MeshFormat, WantedFile};
-pub use writing::Output;
+pub use wanted::{FloatFormat, MeshFormat, WantedFile};
+pub use writing::Written;
+pub use writing_fault::WritingFault;

@@ -10,8 +10,14 @@ use ember_grid::Wanted;
 use ember_scene::{Placed, scene_of};
 use std::alloc::Global;
 
-// The scene of the files' surfaces, which aren't kept.
-pub(crate) fn placed_of<'a>(
+/// The scene of mesh files on the grid that is wanted for them: each file is a closed mesh, and the
+/// file with the index `i` has the mesh number `i + 1`. The surfaces of the files aren't kept. There
+/// are at most 64 files, of at most 2^28 bytes each, and a given step is in range. Of several faults
+/// the first of these is reported:
+///
+/// 1. The first file that isn't read.
+/// 2. The surfaces are no scene: see [`scene_of`](ember_scene::scene_of).
+pub fn placed_files<'a>(
     alloc: Global,
     files: &[MeshFile<'a>],
     wanted: Wanted,

@@ -8,20 +8,19 @@ ghost use Rattle.ember_manifold.specs.Paired.{IsManifold};
 ghost use Rattle.ember_manifold.specs.Splits.{AreSplitOf};
 ghost use Rattle.ember_vertices.specs.Vertices.{IsMeshOf};
 ghost use Rattle.ember_boolean.specs.declared.wanted.MeshFormat.TheVariants.{Text};
-ghost use Rattle.ember_boolean.specs.Outputs.{over_vertices, IsText, IsTextOver};
-ghost use Rattle.ember_boolean.specs.Faults.{IsWritingFault};
+ghost use Rattle.ember_boolean.specs.Outputs.{over_vertices, AreShownIf, IsText, IsTextOver};
+ghost use Rattle.ember_boolean.specs.WritingFaults.{IsWritingFault};
 
-use crate::fault::BooleanFault;
-use crate::writing::Output;
+use crate::rounding::{decimals, shown_if};
+use crate::writing::Written;
+use crate::writing_fault::WritingFault;
 use ember_grid::Grid;
 use ember_manifold::{CheckedSplit, cut_pinched, points_of, split_vertices};
 use ember_mesh_text::{TextFormat, mesh_text};
 use ember_model::Plane;
-use ember_moves::Length;
-use ember_scene::Counts;
 use ember_solid_mesh::SolidMesh;
 use ember_vertices::IndexedMesh;
-use ember_written::{DecimalMesh, decimal_mesh, shared_edges_by_index, written_places};
+use ember_written::{DecimalMesh, shared_edges_by_index, written_places};
 use std::alloc::{AllocError, Global};
 
 // A text, and whether each of its edges has two triangles.
@@ -92,59 +91,47 @@ fn split_text(
     text_over(alloc, format, mesh, &split, places)
 }
 
-// The text of a mesh on a grid. The mesh isn't kept while its bytes are made.
-pub(crate) fn text_output<'a>(
+// The text of a mesh on a grid. Of the mesh only the planes are kept while its bytes are made.
+pub(crate) fn text_file(
     alloc: Global,
     mesh: SolidMesh,
-    grid: Grid,
-    counts: Vec<Counts>,
-    moves: Vec<Length>,
+    grid: &Grid,
     format: TextFormat,
     digits: Option<u32>,
-) -> Result<Output, BooleanFault<'a>>
-    requires step { IsStep grid.step }
+    shows: bool,
+) -> Result<Written, WritingFault>
+    requires step { IsStep grid.now.step }
     requires proper { All (IsProper mesh.planes.items mesh.corners.items) mesh.triangles.items }
     requires digits { IfSome digits (λ n. n ≤ 17) }
-    ensures grid { IfOk result (λ out. out.grid ≡ grid) }
-    ensures counts { IfOk result (λ out. out.counts.items ≡ counts.items) }
-    ensures moves { IfOk result (λ out. out.moves.items ≡ moves.items) }
-    ensures report { IfOk result (λ out. out.report ≡ mesh.report) }
-    ensures text { IfOk result (IsText format digits grid mesh) }
-    ensures fault { IfErr result (IsWritingFault (Text format digits) grid mesh) }
+    ensures text { IfOk result (IsText format digits grid.now mesh) }
+    ensures shown { IfOk result (λ file. AreShownIf shows grid.now mesh file.shown) }
+    ensures fault { IfErr result (IsWritingFault (Text format digits) grid.now mesh) }
 {
+    let written = decimals(alloc, &mesh, grid, digits)?;
+    let shown = shown_if(alloc, shows, &mesh, grid)?;
     let SolidMesh {
         planes,
         corners,
         triangles,
-        report,
+        faces,
     } = mesh;
-    let places = written_places(digits, &grid.step);
-    let written = decimal_mesh(
-        alloc,
-        &corners,
-        &triangles,
-        &grid.step,
-        &grid.offset,
-        places,
-    )?;
     let plane_count = planes.len() as u64;
     let triangle_count = triangles.len() as u64;
-    let faces = written.mesh.triangles();
-    let vanished = triangle_count - faces.len() as u64;
     drop(corners);
     drop(triangles);
-    let shared = shared_edges_by_index(alloc, faces)?;
+    let indexed = written.mesh.triangles();
+    let vanished = triangle_count - indexed.len() as u64;
+    let shared = shared_edges_by_index(alloc, indexed)?;
+    let places = written_places(digits, &grid.step);
     let MeshText { bytes, is_manifold } = split_text(alloc, format, &planes, &written, places)?;
-    Ok(Output {
+    Ok(Written {
         bytes,
-        grid,
-        counts,
-        moves,
+        faces,
         planes: plane_count,
         triangles: triangle_count,
         vanished,
         shared,
         is_manifold,
-        report,
+        shown,
     })
 }

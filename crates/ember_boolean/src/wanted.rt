@@ -2,19 +2,33 @@
 use ember_grid::Wanted;
 use ember_mesh_text::TextFormat;
 
+/// A format with floats of 32 bits.
+#[derive(Clone, Copy, Debug, PartialEq, Eq)]
+pub enum FloatFormat {
+    /// Binary STL.
+    Stl,
+    /// The binary file of glTF 2.0.
+    Glb,
+}
+
 /// The format of a mesh file that is written.
 #[derive(Clone, Copy, Debug, PartialEq, Eq)]
 pub enum MeshFormat {
-    /// Binary STL: coordinates are rounded to floats of 32 bits.
-    Stl,
+    /// Coordinates are rounded to floats.
+    Floats(FloatFormat),
     /// Text: coordinates are rounded to decimals with at most so many places, up to 17. If no
     /// number is given, there are at most six more than the step of the grid has.
     Text(TextFormat, Option<u32>),
 }
 
-/// A wanted file: the grid on which the solid is exact, and the format in which it is written.
+/// A wanted file: the grid on which the solid is exact, the format in which it is written, and what
+/// is wanted beside it.
 #[derive(Clone, Copy, Debug, PartialEq, Eq)]
 pub struct WantedFile {
     pub grid: Wanted,
     pub format: MeshFormat,
+    /// Whether the triangles are wanted as a page shows them.
+    pub shows: bool,
+    /// Whether the scene of the files and the document of the solid are to be kept.
+    pub keeps: bool,
 }

@@ -1,32 +1,26 @@
 // The file of a mesh.
-ghost use Rattle.std.specs.Prelude.{◌≡◌, All, IfOk, IfErr};
+ghost use Rattle.std.specs.Prelude.{All, IfOk, IfErr};
 ghost use Rattle.ember_certificate.specs.Certificate.{IsProper};
 ghost use Rattle.ember_snap.specs.Steps.{IsStep};
-ghost use Rattle.ember_boolean.specs.Outputs.{HasFewDigits, IsWritten};
-ghost use Rattle.ember_boolean.specs.Faults.{IsWritingFault};
+ghost use Rattle.ember_boolean.specs.Outputs.{AreShownIf, HasFewDigits, IsWritten};
+ghost use Rattle.ember_boolean.specs.WritingFaults.{IsWritingFault};
 
-use crate::fault::BooleanFault;
-use crate::stl::stl_output;
-use crate::text::text_output;
+use crate::floats::float_file;
+use crate::text::text_file;
 use crate::wanted::MeshFormat;
+use crate::writing_fault::WritingFault;
 use ember_grid::Grid;
-use ember_moves::Length;
-use ember_report::Report;
-use ember_scene::Counts;
 use ember_solid_mesh::SolidMesh;
+use ember_stl_bytes::WrittenTriangle;
 use std::alloc::Global;
 
-/// A solid as a file, with the grid and the numbers of the run that made it.
+/// A mesh as a file, with its numbers.
 #[derive(Drop)]
-pub struct Output {
+pub struct Written {
     /// The bytes of the file: the triangles of the exact mesh in the user's unit, rounded.
     pub bytes: Vec<u8>,
-    /// The grid on which the mesh is exact.
-    pub grid: Grid,
-    /// The counts of each file, in order.
-    pub counts: Vec<Counts>,
-    /// How far a corner of each file moved to the grid at most, in order.
-    pub moves: Vec<Length>,
+    /// The number of the faces that the triangles of the exact mesh cut up.
+    pub faces: u64,
     /// The number of planes of the exact mesh.
     pub planes: u64,
     /// The number of triangles of the exact mesh.
@@ -35,35 +29,30 @@ pub struct Output {
     pub vanished: u64,
     /// How many edges belong to more than two of the others, by the rounded places of their ends.
     pub shared: u64,
-    /// Whether each edge of the file has two triangles. An STL has no vertices, so there it is
-    /// false.
+    /// Whether each edge of the file has two triangles. An STL has no vertices, and a GLB has one
+    /// for each corner of a triangle, so there it is false.
     pub is_manifold: bool,
-    pub report: Report,
+    /// The triangles as an STL has them, if they were asked for. A page shows them.
+    pub shown: Option<Vec<WrittenTriangle>>,
 }
 
 // The file of a mesh on a grid. The mesh isn't kept while its bytes are made.
-pub(crate) fn output_of<'a>(
+pub(crate) fn written_of(
     alloc: Global,
     mesh: SolidMesh,
-    grid: Grid,
-    counts: Vec<Counts>,
-    moves: Vec<Length>,
+    grid: &Grid,
     format: MeshFormat,
-) -> Result<Output, BooleanFault<'a>>
-    requires step { IsStep grid.step }
+    shows: bool,
+) -> Result<Written, WritingFault>
+    requires step { IsStep grid.now.step }
     requires proper { All (IsProper mesh.planes.items mesh.corners.items) mesh.triangles.items }
     requires digits { HasFewDigits format }
-    ensures grid { IfOk result (λ out. out.grid ≡ grid) }
-    ensures counts { IfOk result (λ out. out.counts.items ≡ counts.items) }
-    ensures moves { IfOk result (λ out. out.moves.items ≡ moves.items) }
-    ensures report { IfOk result (λ out. out.report ≡ mesh.report) }
-    ensures written { IfOk result (IsWritten format grid mesh) }
-    ensures fault { IfErr result (IsWritingFault format grid mesh) }
+    ensures written { IfOk result (IsWritten format grid.now mesh) }
+    ensures shown { IfOk result (λ file. AreShownIf shows grid.now mesh file.shown) }
+    ensures fault { IfErr result (IsWritingFault format grid.now mesh) }
 {
     match format {
-        MeshFormat::Stl => stl_output(alloc, mesh, grid, counts, moves),
-        MeshFormat::Text(text, digits) => {
-            text_output(alloc, mesh, grid, counts, moves, text, digits)
-        }
+        MeshFormat::Floats(floats) => float_file(alloc, mesh, grid, floats, shows),
+        MeshFormat::Text(text, digits) => text_file(alloc, mesh, grid, text, digits, shows),
     }
 }

@@ -12,7 +12,7 @@ use Rattle.ember_certificate.specs.Chains.{is_on, HaveSameBoundary}
 use Rattle.ember_certificate.specs.Keys.{key, start_key, end_key}
 use Rattle.ember_certificate.proofs.Boundaries.{starts, ends, ended_at, boundary_is}
 
-key_same : (p l c q m d : ℕ) → l < 4294967296 → c < 4294967296 → m < 4294967296 → d < 4294967296 → eqb (key p l c) (key q m d) ≡ (eqb p q && eqb l m) && eqb c d
+pub key_same : (p l c q m d : ℕ) → l < 4294967296 → c < 4294967296 → m < 4294967296 → d < 4294967296 → eqb (key p l c) (key q m d) ≡ (eqb p q && eqb l m) && eqb c d
 key_same p l c q m d sl sc sm sd = by (eqb p q) refl (eqb l m) refl (eqb c d) refl
   where
     by : (x : Bool) → eqb p q ≡ x → (y : Bool) → eqb l m ≡ y → (z : Bool) → eqb c d ≡ z → eqb (key p l c) (key q m d) ≡ (x && y) && z

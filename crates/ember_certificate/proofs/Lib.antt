@@ -1,7 +1,12 @@
 pub mod Sorted
 pub mod Boundaries
 pub mod Keyed
+pub mod LeftOver
 pub mod ClosedKeys
 pub mod SeenFromFront
 pub mod Triangles
+pub mod Halves
 pub mod Cancels
+pub mod PlaceSums
+pub mod FreePairs
+pub mod OnTheirLines

@@ -1,12 +1,14 @@
 -- What is certified of the triangles of a mesh
 use Rattle.std.specs.Prelude.{◌≡◌, nat_eq, Bool, true, ◌&&◌, Option, Some, List, [], ◌∷◌, All, slice_get}
 use Rattle.ember_model.specs.declared.plane.Plane.{Plane}
+use Rattle.ember_key.specs.declared.lines.LineKey.{LineKey}
 use Rattle.ember_certificate.specs.declared.segment.Segment.{Segment}
 use Rattle.ember_certificate.specs.declared.space_point.SpacePoint.{SpacePoint}
 use Rattle.ember_certificate.specs.declared.triangle.Triangle.{Triangle}
 use Rattle.ember_certificate.specs.Chains.{HaveSameChains}
 use Rattle.ember_certificate.specs.Closed.{AreSegmentsClosed}
 use Rattle.ember_certificate.specs.Facing.{spot_of, FacesFront}
+use Rattle.ember_certificate.specs.OnLines.{IsOnItsLine, AreFreePaired}
 
 -- ---- one triangle
 -- each edge ends where the next one starts
@@ -44,9 +46,12 @@ abbrev pub edges_in : List Triangle → List Segment
 edges_in [] = []
 edges_in (t ∷ ts) = t.first ∷ t.second ∷ t.third ∷ edges_in ts
 
--- each triangle is proper, in each plane they have the chain of the faces, and together they are closed
-pub record IsCertified (ps : List Plane) (cs : List SpacePoint) (faces : List Segment)
+-- each triangle is proper, in each plane they have the chain of the faces, and together they are closed; their edges on
+-- lines of the table lie there, and those on other lines cancel in pairs
+pub record IsCertified (ps : List Plane) (ls : List LineKey) (cs : List SpacePoint) (faces : List Segment)
     (ts : List Triangle) : Type 0 where
   pub proper : All (IsProper ps cs) ts
   pub chains : HaveSameChains faces (edges_in ts)
   pub closed : AreSegmentsClosed (edges_in ts)
+  pub on_lines : All (IsOnItsLine ls cs) (edges_in ts)
+  pub free_paired : AreFreePaired ls (edges_in ts)

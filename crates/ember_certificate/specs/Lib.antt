@@ -4,4 +4,5 @@ pub mod Closed
 pub mod Keys
 pub mod SpacePoints
 pub mod Facing
+pub mod OnLines
 pub mod Certificate

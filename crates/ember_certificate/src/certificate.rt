@@ -7,9 +7,12 @@ ghost use Rattle.ember_certificate.specs.Certificate.{IsProper, edges_in, IsCert
 use crate::chains::same_chains;
 use crate::closed::are_closed;
 use crate::facing::faces_front;
+use crate::free_pairs::are_free_paired;
+use crate::on_lines::are_on_lines;
 use crate::segment::Segment;
-use crate::space_point::SpacePoint;
+use crate::space_point::{SpacePoint, corner_at};
 use crate::triangle::Triangle;
+use ember_key::LineKey;
 use ember_model::{OutOfMemory, Plane};
 use std::alloc::Global;
 
@@ -68,12 +71,6 @@ fn plane_at(planes: &[Plane], number: u32) -> Option<Plane>
     planes.get(number as usize).copied()
 }
 
-fn corner_at(corners: &[SpacePoint], number: u32) -> Option<SpacePoint>
-    ensures { result ≡ slice_get corners.now number }
-{
-    corners.get(number as usize).copied()
-}
-
 // Whether the triangle is proper: its edges lead around three corners of its plane, and it faces
 // the front.
 fn is_proper(planes: &[Plane], corners: &[SpacePoint], t: &Triangle) -> bool
@@ -125,22 +122,32 @@ fn edges_of(alloc: Global, triangles: &[Triangle]) -> Result<Vec<Segment>, OutOf
 /// Whether the triangles cut up the faces: each goes round three corners of its plane,
 /// counter-clockwise seen from the plane's front; in each plane the triangles have the chain of the
 /// faces over each point of each line; and each ordered pair of corners is as often an edge as its
-/// reverse. A triangle whose plane or corner isn't in its table is refused.
+/// reverse. An edge on a line of the table lies on that line, and the edges on free lines, which
+/// aren't in the table, are paired in each plane. A triangle whose plane or corner isn't in its
+/// table is refused.
 pub fn is_certified(
     alloc: Global,
     planes: &[Plane],
+    lines: &[LineKey],
     corners: &[SpacePoint],
     faces: &[Segment],
     triangles: &[Triangle],
 ) -> Result<bool, OutOfMemory>
     requires { All IsValidPlane planes.now }
-    ensures { IfOk result (λ certified. IsTrue certified ↔ IsCertified planes.now corners.now faces.now triangles.now) }
+    ensures { IfOk result (λ certified. IsTrue certified ↔ IsCertified planes.now lines.now corners.now
+        faces.now triangles.now) }
 {
     if !are_proper(planes, corners, triangles) {
         return Ok(false);
     }
     let edges = edges_of(alloc, triangles)?;
+    if !are_on_lines(lines, corners, &edges) {
+        return Ok(false);
+    }
     if !same_chains(alloc, faces, &edges)? {
+        return Ok(false);
+    }
+    if !are_free_paired(alloc, lines, &edges)? {
         return Ok(false);
     }
     are_closed(alloc, &edges)

@@ -1,30 +1,27 @@
 // Whether two lists of segments have the same chains.
-ghost use Rattle.std.specs.Prelude.{◌≡◌, ◌++◌, ◌↔◌, map, IfOk, IsTrue};
+ghost use Rattle.std.specs.Prelude.{◌≡◌, ◌↔◌, map, IfOk, IsTrue};
 ghost use Rattle.ember_certificate.specs.Chains.{HaveSameBoundary, HaveSameChains};
-ghost use Rattle.ember_certificate.specs.Keys.{start_key, end_key};
+ghost use Rattle.ember_certificate.specs.Keys.{segment_key};
 
-use crate::keys::{end_key, start_key};
-use crate::order::are_rearranged;
+use crate::keys::segment_key;
+use crate::order::{BELOW_PLANE_OF_SEGMENT, are_rearranged, sort_by_stretches};
 use crate::segment::Segment;
+use crate::unmatched::{Ends, unmatched_ends};
 use ember_model::OutOfMemory;
 use std::alloc::Global;
 
-// The keys of where segments start and where others end.
-fn keys_of(alloc: Global, starts: &[Segment], ends: &[Segment]) -> Result<Vec<u128>, OutOfMemory>
-    ensures { IfOk result (λ keys. keys.items ≡ map start_key starts.now ++ map end_key ends.now) }
+fn segment_keys(alloc: Global, segments: &[Segment]) -> Result<Vec<u128>, OutOfMemory>
+    ensures { IfOk result (λ keys. keys.items ≡ map segment_key segments.now) }
 {
-    let mut keys = Vec::with_capacity(alloc, starts.len() + ends.len())?;
-    for s in starts {
-        keys.push(start_key(s))?;
-    }
-    for s in ends {
-        keys.push(end_key(s))?;
+    let mut keys = Vec::with_capacity(alloc, segments.len())?;
+    for s in segments {
+        keys.push(segment_key(s))?;
     }
     Ok(keys)
 }
 
 /// Whether the segments of the faces and those of the triangles have the same chain over every
-/// point of every line of every plane.
+/// point of every line of every plane. A segment that both have needs no comparison of its ends.
 pub fn same_chains(
     alloc: Global,
     faces: &[Segment],
@@ -33,7 +30,10 @@ pub fn same_chains(
     ensures boundary { IfOk result (λ same. IsTrue same ↔ HaveSameBoundary faces.now triangles.now) }
     ensures chains { IfOk result (λ same. IsTrue same ↔ HaveSameChains faces.now triangles.now) }
 {
-    let starts = keys_of(alloc, faces, triangles)?;
-    let ends = keys_of(alloc, triangles, faces)?;
+    let mut of_faces = segment_keys(alloc, faces)?;
+    let mut of_triangles = segment_keys(alloc, triangles)?;
+    of_faces.sort_unstable();
+    sort_by_stretches(&mut of_triangles, BELOW_PLANE_OF_SEGMENT);
+    let Ends { starts, ends } = unmatched_ends(alloc, &of_faces, &of_triangles)?;
     Ok(are_rearranged(starts, ends))
 }

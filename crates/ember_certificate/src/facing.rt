@@ -13,7 +13,7 @@ use ember_point::{Meet, side};
 use ember_wide::{PlanePoint, turn};
 
 // The same point, with less known of it.
-fn meet_of(p: &SpacePoint) -> Meet
+pub fn meet_of(p: &SpacePoint) -> Meet
     ensures { meets.spot_of result ≡ spot_of p.now }
 {
     Meet {

@@ -60,7 +60,7 @@ missed_face_is_clear f p w off o =
 
 -- ---- of outlined faces
 -- the plane that gives an edge plane's value at the hit has a normal, since the edge has a course
-hit_course : (n g : Plane) (a : Axis) → cross (normal n) (normal (at_hit_of g n a)) ≡ scale_v (size (along n a)) (cross (normal n) (normal g))
+pub hit_course : (n g : Plane) (a : Axis) → cross (normal n) (normal (at_hit_of g n a)) ≡ scale_v (size (along n a)) (cross (normal n) (normal g))
 hit_course n g a =
     vector_identity (tuple ∷ tuple ∷ scalar ∷ scalar ∷ []) (λ n g m k. crossE (normalE n) (record { x = m ⊗ g.x ⊕ k ⊗ n.x; y = m ⊗ g.y ⊕ k ⊗ n.y; z = m ⊗ g.z ⊕ k ⊗ n.z }) ≈v scaleE m (crossE (normalE n) (normalE g))) cancels_v (plane_tuple n) (plane_tuple g) (size (along n a)) (neg_ℤ (sign (along n a)) *ℤ along g a)
 

@@ -112,11 +112,11 @@ reach_gap k u v =
     identity (vector ∷ tuple ∷ tuple ∷ []) (λ k u v. u.w ⊗ dotE k (normalE v) ⊖ v.w ⊗ dotE k (normalE u) ≈ dotE k (displacementE u v)) cancels k (spot_tuple u) (spot_tuple v)
 
 -- a displacement in a plane
-flat_displacement : (h : Plane) (u v : Spot) → value_at h u ≡ pos 0 → value_at h v ≡ pos 0 → dot (normal h) (displacement u v) ≡ pos 0
+pub flat_displacement : (h : Plane) (u v : Spot) → value_at h u ≡ pos 0 → value_at h v ≡ pos 0 → dot (normal h) (displacement u v) ≡ pos 0
 flat_displacement h u v zu zv = sym (displacement_value h u v) ∙ both_zero u.w v.w zv zu
 
 -- a displacement in two planes
-line_displacement : (n g : Plane) (u v : Spot) → value_at n u ≡ pos 0 → value_at n v ≡ pos 0 → value_at g u ≡ pos 0 → value_at g v ≡ pos 0 → Parallel (displacement u v) (cross (normal n) (normal g))
+pub line_displacement : (n g : Plane) (u v : Spot) → value_at n u ≡ pos 0 → value_at n v ≡ pos 0 → value_at g u ≡ pos 0 → value_at g v ≡ pos 0 → Parallel (displacement u v) (cross (normal n) (normal g))
 line_displacement n g u v nu nv gu gv =
     orthogonal_parallel (displacement u v) (normal n) (normal g) (dot_swap (displacement u v) (normal n) ∙ flat_displacement n u v nu nv) (dot_swap (displacement u v) (normal g) ∙ flat_displacement g u v gu gv)
 
@@ -127,13 +127,13 @@ module _ (f : Face) (e : RingEdge) (end : Spot) (edge : IsEdge f e end) where
   abbrev whole : DirectedEdge
   whole = record { from = e.start; to = end }
 
-  start_on : OnEdge f e.plane e.start
+  pub start_on : OnEdge f e.plane e.start
   start_on = edge_out f e.plane e.start edge.starts
 
-  end_on : OnEdge f e.plane end
+  pub end_on : OnEdge f e.plane end
   end_on = edge_out f e.plane end edge.ends
 
-  leads : pos 0 <ℤ dot course (displacement e.start end)
+  pub leads : pos 0 <ℤ dot course (displacement e.start end)
   leads = let l = edge.leads.before in omega (arith, linear, l, reach_gap course e.start end)
 
   pub course_nonzero : course ≢ zero_v
@@ -204,7 +204,7 @@ module _ (f : Face) (e : RingEdge) (end : Spot) (edge : IsEdge f e end) where
 
 -- ---- the edges of an outline
 -- an edge covers the points just after t by the turn of its plane where t lies on it, and none elsewhere
-edge_form : (d : Vector) (t : Spot) (f : Face) (e : RingEdge) (end : Spot) → pos 0 <ℤ t.w → is_zero_vector d ≡ false → IsGeneralFace d t f → IsEdge f e end → IsOffEnds d t (record { from = e.start; to = end }) → coverage t d (record { from = e.start; to = end }) ≡ edge_turn d t f e
+pub edge_form : (d : Vector) (t : Spot) (f : Face) (e : RingEdge) (end : Spot) → pos 0 <ℤ t.w → is_zero_vector d ≡ false → IsGeneralFace d t f → IsEdge f e end → IsOffEnds d t (record { from = e.start; to = end }) → coverage t d (record { from = e.start; to = end }) ≡ edge_turn d t f e
 edge_form d t f e end wt nd general edge off = by (is_on_edge f e.plane t) refl
   where
     by : (b : Bool) → is_on_edge f e.plane t ≡ b → coverage t d (record { from = e.start; to = end }) ≡ edge_turn d t f e
@@ -223,7 +223,7 @@ path_form d t f end (e ∷ []) wt nd g p o = ap (λ (z : ℤ). z +ℤ pos 0) (ed
 path_form d t f end (e ∷ b ∷ es) wt nd g p o =
     let x = edge_form d t f e b.start wt nd g p.0 o.0 in let y = path_form d t f end (b ∷ es) wt nd g p.1 o.1 in λ i. x i +ℤ y i
 
-once_round : (f : Face) (es : List RingEdge) (o : IsOutline f es) → directed_edges es ≡ edges_to o.first.start es
+pub once_round : (f : Face) (es : List RingEdge) (o : IsOutline f es) → directed_edges es ≡ edges_to o.first.start es
 once_round f es o = ap directed_edges o.begins ∙ sym (ap (edges_to o.first.start) o.begins)
 
 -- the edges of an outline cover the points just after t as often as the turns at t say

@@ -1,8 +1,10 @@
 // Whether triangles cut up a square with two sides.
 use crate::shapes::plane;
 use ember_certificate::{
-    Segment, SpacePoint, Triangle, are_closed, faces_front, is_certified, same_chains,
+    Segment, SpacePoint, Triangle, are_closed, are_free_paired, faces_front, is_certified,
+    same_chains,
 };
+use ember_key::LineKey;
 use std::alloc::Global;
 use std::test::Fail;
 
@@ -40,12 +42,62 @@ const CORNERS: [SpacePoint; 5] = [
     },
 ];
 
-// The number of the line through two corners. Corner 4 lies on the line of corners 0 and 1.
+fn line(direction: [i64; 3], moment: [i128; 3]) -> LineKey {
+    LineKey {
+        dx: direction[0],
+        dy: direction[1],
+        dz: direction[2],
+        mx: moment[0],
+        my: moment[1],
+        mz: moment[2],
+    }
+}
+
+// The lines of the square's sides.
+const SIDES: [LineKey; 4] = [
+    LineKey {
+        dx: 1,
+        dy: 0,
+        dz: 0,
+        mx: 0,
+        my: 0,
+        mz: 0,
+    },
+    LineKey {
+        dx: 0,
+        dy: 1,
+        dz: 0,
+        mx: 0,
+        my: 0,
+        mz: 2,
+    },
+    LineKey {
+        dx: 1,
+        dy: 0,
+        dz: 0,
+        mx: 0,
+        my: 0,
+        mz: -2,
+    },
+    LineKey {
+        dx: 0,
+        dy: 1,
+        dz: 0,
+        mx: 0,
+        my: 0,
+        mz: 0,
+    },
+];
+
+// The number of the line through two corners. Corner 4 lies on the line of corners 0 and 1. Lines on which there is
+// no side aren't in the table.
 fn line_through(i: u32, j: u32) -> u32 {
-    if (i < 2 || i == 4) && (j < 2 || j == 4) {
-        0
-    } else {
-        i.min(j) % 8 * 8 + i.max(j) % 8
+    match (i.min(j), i.max(j)) {
+        (0, 1) | (0, 4) | (1, 4) => 0,
+        (1, 2) => 1,
+        (2, 3) => 2,
+        (0, 3) => 3,
+        (low, high) => low % 8 * 8 + high % 8 + 8,
     }
 }
 
@@ -67,8 +119,14 @@ fn triangle(corners: [u32; 4]) -> Triangle {
     }
 }
 
-// Plane 0 has the square's front, plane 1 its back.
-fn is_cut_up(alloc: Global, rows: &[[u32; 4]]) -> Result<bool, Fail> {
+// Whether these triangles, of a plane and three corners each, and the others cut up the square. Plane 0 has its
+// front, plane 1 its back.
+fn is_cut_up(
+    alloc: Global,
+    lines: &[LineKey],
+    rows: &[[u32; 4]],
+    others: &[Triangle],
+) -> Result<bool, Fail> {
     let planes = [plane([0, 0, 1, 0]), plane([0, 0, -1, 0])];
     let faces = [
         segment(0, 0, 1),
@@ -84,7 +142,23 @@ fn is_cut_up(alloc: Global, rows: &[[u32; 4]]) -> Result<bool, Fail> {
     for row in rows {
         triangles.push(triangle(*row))?;
     }
-    Ok(is_certified(alloc, &planes, &CORNERS, &faces, &triangles)?)
+    triangles.extend_from_slice(others)?;
+    Ok(is_certified(alloc, &planes, lines, &CORNERS, &faces, &triangles)?)
+}
+
+// The same with the sides' true lines, and no other triangles.
+fn is_cut_into(alloc: Global, rows: &[[u32; 4]]) -> Result<bool, Fail> {
+    is_cut_up(alloc, &SIDES, rows, &[])
+}
+
+// The same with the triangles of one diagonal, and others.
+fn is_diagonal_cut(alloc: Global, lines: &[LineKey], others: &[Triangle]) -> Result<bool, Fail> {
+    is_cut_up(
+        alloc,
+        lines,
+        &[[0, 0, 1, 2], [0, 0, 2, 3], [1, 0, 2, 1], [1, 0, 3, 2]],
+        others,
+    )
 }
 
 #[test]
@@ -142,8 +216,94 @@ fn triangles_of_a_square(rt: HostRuntime) -> Result<(), Fail> {
         (&[[2, 0, 1, 2]], false),
     ];
     for (triangles, want) in rows {
-        assert_eq!(rt; is_cut_up(rt.alloc(), triangles)?, want);
+        assert_eq!(rt; is_cut_into(rt.alloc(), triangles)?, want);
     }
+    Ok(())
+}
+
+// The segment on another line.
+fn moved_to(line: u32, side: Segment) -> Segment {
+    Segment {
+        plane: side.plane,
+        line,
+        start: side.start,
+        end: side.end,
+    }
+}
+
+// A triangle whose three edges name one line.
+fn on_one_line(line: u32, corners: [u32; 4]) -> Triangle {
+    let sides = triangle(corners);
+    Triangle {
+        first: moved_to(line, sides.first),
+        second: moved_to(line, sides.second),
+        third: moved_to(line, sides.third),
+    }
+}
+
+#[test]
+fn a_needless_pair_of_triangles(rt: HostRuntime) -> Result<(), Fail> {
+    // On a side, on a line that isn't in the table, and on right lines.
+    let sides = SIDES;
+    for line in [0, 3, 4, 40] {
+        let pair = [
+            on_one_line(line, [0, 0, 1, 2]),
+            on_one_line(line, [1, 0, 2, 1]),
+        ];
+        assert!(rt; !is_diagonal_cut(rt.alloc(), &sides, &pair)?);
+    }
+    let pair = [triangle([0, 0, 1, 2]), triangle([1, 0, 2, 1])];
+    assert!(rt; !is_diagonal_cut(rt.alloc(), &sides, &pair)?);
+    Ok(())
+}
+
+#[test]
+fn sides_off_their_lines(rt: HostRuntime) -> Result<(), Fail> {
+    let wrong = [
+        line([0, 0, 0], [0, 0, 0]),
+        line([0, 0, 1], [0, 0, 0]),
+        line([1, 1, 0], [0, 0, 0]),
+        line([1, 0, 0], [0, 0, 1]),
+        line([1, 0, 0], [0, 1, 0]),
+    ];
+    let others: [Triangle; 0] = [];
+    for side in 0..SIDES.len() {
+        for key in wrong {
+            let mut lines = SIDES;
+            lines[side] = key;
+            assert!(rt; !is_diagonal_cut(rt.alloc(), &lines, &others)?);
+        }
+    }
+    // Lines that no edge names may be anything, and those that aren't in the table aren't looked at.
+    let mut more = [wrong[0]; 8];
+    for side in 0..SIDES.len() {
+        more[side] = SIDES[side];
+    }
+    let fewer = [SIDES[0], SIDES[1], SIDES[2]];
+    assert!(rt; is_diagonal_cut(rt.alloc(), &more, &others)?);
+    assert!(rt; !is_diagonal_cut(rt.alloc(), &fewer, &others)?);
+    Ok(())
+}
+
+// A segment on a line that isn't in the table.
+fn free_segment(plane: u32, start: u32, end: u32) -> Segment {
+    moved_to(40, segment(plane, start, end))
+}
+
+#[test]
+fn pairs_of_free_segments(rt: HostRuntime) -> Result<(), Fail> {
+    let pair = [free_segment(0, 1, 2), free_segment(0, 2, 1)];
+    let two_planes = [free_segment(0, 1, 2), free_segment(1, 2, 1)];
+    let round = [
+        free_segment(0, 1, 2),
+        free_segment(0, 2, 3),
+        free_segment(0, 3, 1),
+    ];
+    assert!(rt; are_free_paired(rt.alloc(), &SIDES, &pair)?);
+    assert!(rt; !are_free_paired(rt.alloc(), &SIDES, &two_planes)?);
+    assert!(rt; !are_free_paired(rt.alloc(), &SIDES, &round)?);
+    // Sides aren't asked to be paired.
+    assert!(rt; are_free_paired(rt.alloc(), &SIDES, &[segment(0, 0, 1)])?);
     Ok(())
 }
 

@@ -1,10 +1,11 @@
 // One box of a Boolean: skipped, a leaf or halves.
 use crate::scenes::{expression, scene_of_files};
+use crate::shapes::plane;
 use crate::texts::{C, D, TETRA, TETRA_TEXT};
 use ember_gen::scene_of;
 use ember_job::Outcome;
-use ember_model::Scene;
-use ember_step::{box_step, count_step, root_job, text_step};
+use ember_model::{Face, Scene};
+use ember_step::{box_step, count_step, faces_step, root_job, text_step};
 use ember_text::{document_of, face_count};
 use std::alloc::Global;
 use std::process::Abort;
@@ -51,10 +52,22 @@ fn root_by_text(alloc: Global, s: &Scene, text: &str) -> Result<Root, Fail> {
     }
 }
 
+// By the step that gives their faces.
+fn root_by_faces(alloc: Global, s: &Scene, text: &str) -> Result<Root, Fail> {
+    let e = expression(alloc, text.as_bytes(), 2)?;
+    let job = root_job(alloc, s)?;
+    match faces_step(alloc, s, &e, &job)? {
+        Outcome::Halves(_, _) => Ok(Root::Halved),
+        Outcome::Leaf(faces) => Ok(Root::Leaf(faces.items().len() as u64)),
+        Outcome::Skipped => Ok(Root::Skipped),
+    }
+}
+
 fn check(rt: &impl Abort, alloc: Global, s: &Scene, text: &str, want: Root) -> Result<(), Fail> {
     assert_eq!(rt; root_by_regions(alloc, s, text)?, want, "{text}");
     assert_eq!(rt; root_by_count(alloc, s, text)?, want, "{text}");
     assert_eq!(rt; root_by_text(alloc, s, text)?, want, "{text}");
+    assert_eq!(rt; root_by_faces(alloc, s, text)?, want, "{text}");
     Ok(())
 }
 
@@ -91,4 +104,51 @@ fn the_text_of_a_tetrahedron(rt: HostRuntime) -> Result<(), Fail> {
     let file = document_of(alloc, texts)?;
     assert_eq!(rt; file.as_slice(), TETRA_TEXT);
     Ok(())
+}
+
+// The faces of the tetrahedron by this expression.
+fn faces_of_tetra(alloc: Global, text: &str) -> Result<Vec<Face>, Fail> {
+    let scene = scene_of_files(alloc, &[TETRA])?;
+    let e = expression(alloc, text.as_bytes(), 1)?;
+    let job = root_job(alloc, &scene)?;
+    match faces_step(alloc, &scene, &e, &job)? {
+        Outcome::Leaf(faces) => Ok(faces.into_vec()),
+        _ => Err(Fail::from("no leaf")),
+    }
+}
+
+// A support plane, and the edge planes in order.
+type Row = [[i16; 4]; 4];
+
+fn is_row(face: &Face, row: &Row) -> bool {
+    face.support == plane(row[0])
+        && face.edges.items() == [plane(row[1]), plane(row[2]), plane(row[3])].as_slice()
+}
+
+// The faces of the tetrahedron by this expression are these.
+fn check_faces(rt: &impl Abort, alloc: Global, text: &str, rows: &[Row]) -> Result<(), Fail> {
+    let faces = faces_of_tetra(alloc, text)?;
+    assert_eq!(rt; faces.len(), rows.len(), "{text}");
+    for (face, row) in faces.iter().zip(rows.iter()) {
+        assert!(rt; is_row(face, row), "{text}, {:?}", face.support);
+    }
+    Ok(())
+}
+
+#[test]
+fn the_faces_of_a_tetrahedron_from_both_sides(rt: HostRuntime) -> Result<(), Fail> {
+    let inside: [Row; 4] = [
+        [[0, 0, -1, 0], [-1, 0, 0, 0], [1, 1, 0, 1], [0, -1, 0, 0]],
+        [[0, -1, 0, 0], [0, 0, -1, 0], [1, 0, 1, 1], [-1, 0, 0, 0]],
+        [[-1, 0, 0, 0], [0, -1, 0, 0], [0, 1, 1, 1], [0, 0, -1, 0]],
+        [[1, 1, 1, 1], [0, 0, -1, 0], [0, 1, 1, 1], [0, -1, 0, 0]],
+    ];
+    let outside: [Row; 4] = [
+        [[0, 0, 1, 0], [-1, 0, 0, 0], [0, -1, 0, 0], [1, 1, 0, 1]],
+        [[0, 1, 0, 0], [0, 0, -1, 0], [-1, 0, 0, 0], [1, 0, 1, 1]],
+        [[1, 0, 0, 0], [0, -1, 0, 0], [0, 0, -1, 0], [0, 1, 1, 1]],
+        [[-1, -1, -1, -1], [0, 0, -1, 0], [0, -1, 0, 0], [0, 1, 1, 1]],
+    ];
+    check_faces(&rt, rt.alloc(), "m1", &inside)?;
+    check_faces(&rt, rt.alloc(), "!m1", &outside)
 }

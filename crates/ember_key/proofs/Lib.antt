@@ -4,3 +4,4 @@ pub mod Vectors
 pub mod Signs
 pub mod PlaneLaws
 pub mod LineLaws
+pub mod OnLine

@@ -3,7 +3,8 @@ ghost use Rattle.std.specs.Prelude.{◌≡◌, ◌≢◌, [], ◌∷◌, unsigne
 ghost use Rattle.std.specs.Int.{IsGcd};
 ghost use Rattle.ember_key.specs.Divisors.{IsGreatestDivisor};
 
-fn gcd(a: u64, b: u64) -> u64
+/// The greatest common divisor of two numbers; of 0 and 0 it is 0.
+pub fn gcd(a: u64, b: u64) -> u64
     ensures { IsGcd a b result }
 {
     if a == 1 {

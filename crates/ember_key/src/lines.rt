@@ -1,5 +1,5 @@
 // The key of the line in which two planes meet.
-ghost use Rattle.std.specs.Prelude.{◌≡◌, ◌≢◌, ◌↔◌, [], ◌∷◌, pos, ◌-ℤ◌, ◌*ℤ◌, unsigned_abs, true, IfSome, IsNone};
+ghost use Rattle.std.specs.Prelude.{◌≡◌, ◌≢◌, ◌↔◌, [], ◌∷◌, pos, ◌-ℤ◌, ◌*ℤ◌, unsigned_abs, IfSome, IsNone, IsTrue};
 ghost use Rattle.ember_algebra.specs.Large.{first_sign};
 ghost use Rattle.ember_algebra.specs.Sign.{is_negative, sign};
 ghost use Rattle.ember_algebra.specs.Size.{Small};
@@ -17,7 +17,7 @@ use ember_model::Plane;
 /// Pluecker coordinates of a line: its direction `(dx, dy, dz)`, and its moment `(mx, my, mz)`, the
 /// cross product of any point of the line and the direction. Direction below 2^51 in size, moment
 /// below 2^65.
-#[derive(Clone, Copy, Debug, PartialEq, Eq)]
+#[derive(Clone, Copy, Debug, PartialEq, Eq, Hash)]
 pub struct LineKey {
     pub dx: i64,
     pub dy: i64,
@@ -80,11 +80,11 @@ fn divisor_of_line(line: &LineKey) -> u64
     divisor_with(with_y, line.mz)
 }
 
-// Whether the two planes are parallel, so that they have no line.
-fn has_no_direction(line: &LineKey) -> bool
-    ensures { (result ≡ true) ↔ (direction line.now ≡ zero_v) }
+/// Whether the direction isn't zero. It is never zero in a key that [`line_key`] gives.
+pub fn has_direction(line: &LineKey) -> bool
+    ensures { IsTrue result ↔ (direction line.now ≢ zero_v) }
 {
-    line.dx == 0 && line.dy == 0 && line.dz == 0
+    line.dx != 0 || line.dy != 0 || line.dz != 0
 }
 
 // Whether the first entry of the direction that isn't 0 is negative.
@@ -141,7 +141,7 @@ pub fn line_key(plane: &Plane, edge: &Plane) -> Option<LineKey>
     ensures sized { IfSome result IsLineSized }
 {
     let line = meet_of_planes(plane, edge);
-    if has_no_direction(&line) {
+    if !has_direction(&line) {
         return None;
     }
     Some(divided(&line, signed_divisor(&line)))

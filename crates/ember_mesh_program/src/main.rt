@@ -3,10 +3,11 @@
 
 use ember_io::{FileShelf, StdSink};
 use ember_mesh_run::run_mesh;
+use ember_progress::ProgressGate;
 use ember_target::FileTarget;
+use std::io::IsTerminal;
 use std::process::ExitCode;
 use std::{env, io};
-use steal_pool::OpenGate;
 
 // The exit status if a word of the command line isn't text. All others are those of
 // `Status::number` in ember_mesh_run.
@@ -28,6 +29,12 @@ fn claim_stack(place: usize) -> bool {
     room[place % STACK] == 0
 }
 
+// Whether the words ask for silence. (A value that is spelled so asks for it too: then no progress is
+// shown, which nobody is promised.)
+fn are_quiet(words: &[String]) -> bool {
+    words.iter().any(|word| word.as_str() == "--quiet")
+}
+
 // The toolchain passes `main` the runtime `rt`: the memory, threads, files and streams of the
 // system. Its type needs no import.
 fn main(rt: HostRuntime) -> ExitCode {
@@ -44,6 +51,8 @@ fn main(rt: HostRuntime) -> ExitCode {
     if !claim_stack(words.len()) {
         return ExitCode::from(NO_MEMORY);
     }
+    let is_shown = rt.stderr().is_terminal() && !are_quiet(&words);
+    let gate = ProgressGate::new(&rt, is_shown);
     let mut shelf = FileShelf::new(&rt);
     let mut target = FileTarget::new(&rt);
     // Standard output.
@@ -57,7 +66,8 @@ fn main(rt: HostRuntime) -> ExitCode {
         &mut target,
         &mut out,
         &mut err,
-        &OpenGate,
+        &gate,
     );
+    gate.clear();
     ExitCode::from(status.number())
 }

@@ -46,3 +46,13 @@ on_ok_if ok err (Err e) d f = tt
 pub on_ok_same : {X E : Type 0} (new now want : List ℕ) (r : Result X E) → OnOk r (new ≡ now) → now ≡ want → OnOk r (new ≡ want)
 on_ok_same new now want (Ok v) e f = e ∙ f
 on_ok_same new now want (Err e) d f = tt
+
+-- a fact that holds anyway
+pub on_ok_anyway : {X E P : Type 0} (r : Result X E) → P → OnOk r P
+on_ok_anyway (Ok v) p = p
+on_ok_anyway (Err e) p = tt
+
+-- what follows from two facts
+pub on_ok_both : {X E P Q R : Type 0} (r : Result X E) → (P → Q → R) → OnOk r P → OnOk r Q → OnOk r R
+on_ok_both (Ok v) f p q = f p q
+on_ok_both (Err e) f p q = tt

@@ -7,24 +7,25 @@ use Rattle.std.specs.Prelude.{string_bytes}
 use Rattle.ember_boolean.specs.declared.fault.BooleanFault.{BooleanFault}
 use Rattle.ember_boolean.specs.declared.fault.BooleanFault.TheVariants as boolean
 use Rattle.ember_boolean.specs.declared.files.MeshFile.{MeshFile}
-use Rattle.ember_boolean.specs.Faults.{IsBooleanFault, IsFirstUnread, IsReadFault}
+use Rattle.ember_boolean.specs.Faults.{IsBooleanFault, IsFirstUnread, IsPlacingFault, IsReadFault}
 use Rattle.ember_boolean.specs.Files.{AreReadings}
 use Rattle.ember_boolean.proofs.Readings.{readings_are_as_many}
 use Rattle.ember_expr.specs.Formula.{Formula}
 use Rattle.ember_file.specs.declared.fault.FileFault.{FileFault}
 use Rattle.ember_boolean.specs.declared.wanted.WantedFile.{WantedFile}
+use Rattle.ember_grid.specs.declared.choice.Wanted.{Wanted}
 use Rattle.ember_scene.specs.declared.fault.SceneFault.TheVariants as scene
 use Rattle.ember_io.specs.declared.shelf.ReadEnd.{ReadEnd}
 use Rattle.ember_io.specs.declared.shelf.ReadEnd.TheVariants as read
 use Rattle.ember_io.specs.Shelves.{TellsMore}
 use Rattle.ember_mesh_run.specs.Calls.{ShelfCall, HasShelfFailed}
-use Rattle.ember_mesh_run.specs.Causes.{end_status, IsEndAt, IsFilesCause, IsReadingCause, IsRefusalCause, IsRefused}
+use Rattle.ember_mesh_run.specs.Causes.{end_status, IsEndAt, IsFilesCause, IsPlacingCause, IsReadingCause, IsRefusalCause, IsRefused}
 use Rattle.ember_mesh_run.specs.Files.{AreFiles, AreRead, IsFileIn}
 use Rattle.ember_mesh_run.specs.Lines.{name_of}
 use Rattle.ember_mesh_run.specs.Statuses.{HasReason, IsStatusOf, NamesFile}
 use Rattle.ember_mesh_run.proofs.ToldFiles.{file_up_to, files_are_as_many, files_up_to}
 use Rattle.ember_mesh_run.specs.declared.status.Status.{Status}
-use Rattle.ember_mesh_run.specs.declared.status.Status.TheVariants.{Done, Words, StepOfNoGrid, ReadFault, WriteFault, FileRefused, NoTriangles, NotClosed, ExprRefused, Unbounded, LongFile, TooManyTriangles, TooManyWritten, StepTooSmall, TooFar, OutOfMemory, Uncertified}
+use Rattle.ember_mesh_run.specs.declared.status.Status.TheVariants.{Done, Words, StepOfNoGrid, ReadFault, WriteFault, NotWritten, FileRefused, NoTriangles, NotAScene, NotClosed, ExprRefused, Unbounded, LongFile, TooManyTriangles, TooManyWritten, StepTooSmall, TooFar, DocumentRefused, OutOfMemory, Uncertified}
 
 -- the files before one that can't be read are read
 pub read_before : (told : List ℕ → Option (List ℕ)) (names : List (List ℕ)) (n : ℕ) → AreRead told (take n names) → AreRead told (take (n + 1 - 1) names)
@@ -34,12 +35,14 @@ read_before told names n h =
 -- a file that is refused is one that isn't read
 refusal_is_cause : (names : List (List ℕ)) (shelf : ShelfCall) (status : Status) → IsRefusalCause shelf.told names status → IsReadingCause names shelf status
 refusal_is_cause names shelf Done h = absurd h
-refusal_is_cause names shelf (Words why) h = absurd h
+refusal_is_cause names shelf (Words refusal) h = absurd h
 refusal_is_cause names shelf StepOfNoGrid h = absurd h
 refusal_is_cause names shelf (ReadFault i) h = absurd h
 refusal_is_cause names shelf WriteFault h = absurd h
+refusal_is_cause names shelf (NotWritten file) h = absurd h
 refusal_is_cause names shelf (FileRefused i reason) h = h
 refusal_is_cause names shelf NoTriangles h = absurd h
+refusal_is_cause names shelf NotAScene h = absurd h
 refusal_is_cause names shelf (NotClosed o format) h = absurd h
 refusal_is_cause names shelf (ExprRefused fault) h = absurd h
 refusal_is_cause names shelf Unbounded h = absurd h
@@ -48,6 +51,7 @@ refusal_is_cause names shelf (TooManyTriangles count) h = absurd h
 refusal_is_cause names shelf TooManyWritten h = absurd h
 refusal_is_cause names shelf (StepTooSmall extent) h = absurd h
 refusal_is_cause names shelf TooFar h = absurd h
+refusal_is_cause names shelf (DocumentRefused fault) h = absurd h
 refusal_is_cause names shelf OutOfMemory h = tt
 refusal_is_cause names shelf (Uncertified fault) h = absurd h
 
@@ -73,18 +77,27 @@ unread_file_is_there files boolean.TooFar h = absurd h
 unread_file_is_there files boolean.TooManyTriangles h = absurd h
 unread_file_is_there files boolean.OutOfMemory h = tt
 
--- a file that has a fault is one of the files
-pub faulty_file_is_there : (files : List MeshFile) (formula : Formula) (wanted : WantedFile) (fault : BooleanFault) → IsBooleanFault files formula wanted fault → NamesFile files fault
-faulty_file_is_there files formula wanted (boolean.File index fault) h = slice_get_within files index h.file h.found
-faulty_file_is_there files formula wanted (boolean.Scene scene.NoTriangles) h = tt
-faulty_file_is_there files formula wanted (boolean.Scene (scene.StepTooSmall extent)) h = tt
-faulty_file_is_there files formula wanted (boolean.Scene (scene.Open o)) h =
+-- a file that keeps files from their grid is one of them
+pub unplaced_file_is_there : (files : List MeshFile) (wanted : Wanted) (fault : BooleanFault) → IsPlacingFault files wanted fault → NamesFile files fault
+unplaced_file_is_there files wanted (boolean.File index fault) h = slice_get_within files index h.file h.found
+unplaced_file_is_there files wanted (boolean.Scene scene.NoTriangles) h = tt
+unplaced_file_is_there files wanted (boolean.Scene (scene.StepTooSmall extent)) h = tt
+unplaced_file_is_there files wanted (boolean.Scene (scene.Open o)) h =
     let first = h.is_fault.1 in
     let inside = slice_get_within h.surfaces o.file first.surface first.found in
     let as_many = readings_are_as_many files h.surfaces h.read in
     omega (arith, inside, as_many)
-faulty_file_is_there files formula wanted (boolean.Scene (scene.TooManyTriangles count)) h = tt
-faulty_file_is_there files formula wanted (boolean.Scene scene.OutOfMemory) h = tt
+unplaced_file_is_there files wanted (boolean.Scene (scene.TooManyTriangles count)) h = tt
+unplaced_file_is_there files wanted (boolean.Scene scene.OutOfMemory) h = tt
+unplaced_file_is_there files wanted (boolean.Solid fault) h = absurd h
+unplaced_file_is_there files wanted boolean.TooFar h = absurd h
+unplaced_file_is_there files wanted boolean.TooManyTriangles h = absurd h
+unplaced_file_is_there files wanted boolean.OutOfMemory h = tt
+
+-- a file that has a fault is one of the files
+pub faulty_file_is_there : (files : List MeshFile) (formula : Formula) (wanted : WantedFile) (fault : BooleanFault) → IsBooleanFault files formula wanted fault → NamesFile files fault
+faulty_file_is_there files formula wanted (boolean.File index fault) h = unplaced_file_is_there files wanted.grid (boolean.File index fault) h
+faulty_file_is_there files formula wanted (boolean.Scene fault) h = unplaced_file_is_there files wanted.grid (boolean.Scene fault) h
 faulty_file_is_there files formula wanted (boolean.Solid fault) h = tt
 faulty_file_is_there files formula wanted boolean.TooFar h = tt
 faulty_file_is_there files formula wanted boolean.TooManyTriangles h = tt
@@ -132,22 +145,50 @@ module _ (told : List ℕ → Option (List ℕ)) (names : List (List ℕ)) (file
   refusal_caused boolean.TooManyTriangles status h s = absurd h
   refusal_caused boolean.OutOfMemory status h e = subst (λ (s : Status). IsRefusalCause told names s) (sym e) tt
 
+  -- the status of files that aren't put on the grid
+  pub placing_caused : (wanted : Wanted) (fault : BooleanFault) (status : Status) → IsPlacingFault files wanted fault → IsStatusOf files fault status → IsPlacingCause told names wanted status
+  placing_caused wanted (boolean.File index fault) status h (inl r) =
+      subst (λ (s : Status). IsPlacingCause told names wanted s) (sym r.1) (refused_first index fault (string_bytes r.0) h r.2)
+  placing_caused wanted (boolean.File index fault) status h (inr e) = subst (λ (s : Status). IsPlacingCause told names wanted s) (sym e) tt
+  placing_caused wanted (boolean.Scene scene.NoTriangles) status h e = subst (λ (s : Status). IsPlacingCause told names wanted s) (sym e) (record { files = files; are_files = are; is_fault = h })
+  placing_caused wanted (boolean.Scene (scene.StepTooSmall extent)) status h e = subst (λ (s : Status). IsPlacingCause told names wanted s) (sym e) (record { files = files; are_files = are; is_fault = h })
+  placing_caused wanted (boolean.Scene (scene.Open o)) status h s =
+      subst (λ (s : Status). IsPlacingCause told names wanted s) (sym s.1) (record { files = files; are_files = are; is_fault = h; format_is = s.2 })
+  placing_caused wanted (boolean.Scene (scene.TooManyTriangles count)) status h e = subst (λ (s : Status). IsPlacingCause told names wanted s) (sym e) (record { files = files; are_files = are; is_fault = h })
+  placing_caused wanted (boolean.Scene scene.OutOfMemory) status h e = subst (λ (s : Status). IsPlacingCause told names wanted s) (sym e) tt
+  placing_caused wanted (boolean.Solid fault) status h e = absurd h
+  placing_caused wanted boolean.TooFar status h e = absurd h
+  placing_caused wanted boolean.TooManyTriangles status h e = absurd h
+  placing_caused wanted boolean.OutOfMemory status h e = subst (λ (s : Status). IsPlacingCause told names wanted s) (sym e) tt
+
   -- the status of files that have no output
+  placing_is_cause : (formula : Formula) (wanted : WantedFile) (status : Status) → IsPlacingCause told names wanted.grid status → IsFilesCause told names formula wanted status
+  placing_is_cause formula wanted Done h = h
+  placing_is_cause formula wanted (Words refusal) h = h
+  placing_is_cause formula wanted StepOfNoGrid h = h
+  placing_is_cause formula wanted (ReadFault i) h = h
+  placing_is_cause formula wanted WriteFault h = h
+  placing_is_cause formula wanted (NotWritten file) h = h
+  placing_is_cause formula wanted (FileRefused i reason) h = h
+  placing_is_cause formula wanted NoTriangles h = h
+  placing_is_cause formula wanted NotAScene h = h
+  placing_is_cause formula wanted (NotClosed o format) h = h
+  placing_is_cause formula wanted (ExprRefused fault) h = h
+  placing_is_cause formula wanted Unbounded h = h
+  placing_is_cause formula wanted (LongFile i) h = h
+  placing_is_cause formula wanted (TooManyTriangles count) h = h
+  placing_is_cause formula wanted TooManyWritten h = absurd h
+  placing_is_cause formula wanted (StepTooSmall extent) h = h
+  placing_is_cause formula wanted TooFar h = absurd h
+  placing_is_cause formula wanted (DocumentRefused fault) h = h
+  placing_is_cause formula wanted OutOfMemory h = h
+  placing_is_cause formula wanted (Uncertified fault) h = absurd h
+
   pub status_caused : (formula : Formula) (wanted : WantedFile) (fault : BooleanFault) (status : Status) → IsBooleanFault files formula wanted fault → IsStatusOf files fault status → IsFilesCause told names formula wanted status
-  status_caused formula wanted (boolean.File index fault) status h (inl r) =
-      subst (λ (s : Status). IsFilesCause told names formula wanted s) (sym r.1) (refused_first index fault (string_bytes r.0) h r.2)
-  status_caused formula wanted (boolean.File index fault) status h (inr e) =
-      subst (λ (s : Status). IsFilesCause told names formula wanted s) (sym e) tt
-  status_caused formula wanted (boolean.Scene scene.NoTriangles) status h e =
-      subst (λ (s : Status). IsFilesCause told names formula wanted s) (sym e) (record { files = files; are_files = are; is_fault = h })
-  status_caused formula wanted (boolean.Scene (scene.StepTooSmall extent)) status h e =
-      subst (λ (s : Status). IsFilesCause told names formula wanted s) (sym e) (record { files = files; are_files = are; is_fault = h })
-  status_caused formula wanted (boolean.Scene (scene.Open o)) status h s =
-      subst (λ (s : Status). IsFilesCause told names formula wanted s) (sym s.1) (record { files = files; are_files = are; is_fault = h; format_is = s.2 })
-  status_caused formula wanted (boolean.Scene (scene.TooManyTriangles count)) status h e =
-      subst (λ (s : Status). IsFilesCause told names formula wanted s) (sym e) (record { files = files; are_files = are; is_fault = h })
-  status_caused formula wanted (boolean.Scene scene.OutOfMemory) status h e =
-      subst (λ (s : Status). IsFilesCause told names formula wanted s) (sym e) tt
+  status_caused formula wanted (boolean.File index fault) status h s =
+      placing_is_cause formula wanted status (placing_caused wanted.grid (boolean.File index fault) status h s)
+  status_caused formula wanted (boolean.Scene fault) status h s =
+      placing_is_cause formula wanted status (placing_caused wanted.grid (boolean.Scene fault) status h s)
   status_caused formula wanted (boolean.Solid fault) status h e =
       subst (λ (s : Status). IsFilesCause told names formula wanted s) (sym e) (record { files = files; are_files = are; is_fault = h })
   status_caused formula wanted boolean.TooFar status h e =
@@ -176,12 +217,14 @@ refused_among_more told names n i reason l h =
 -- the same, as a cause
 pub cause_among_more : (told : List ℕ → Option (List ℕ)) (names : List (List ℕ)) (n : ℕ) (status : Status) → n ≤ length names → IsRefusalCause told (take n names) status → IsRefusalCause told names status
 cause_among_more told names n Done l h = absurd h
-cause_among_more told names n (Words why) l h = absurd h
+cause_among_more told names n (Words refusal) l h = absurd h
 cause_among_more told names n StepOfNoGrid l h = absurd h
 cause_among_more told names n (ReadFault i) l h = absurd h
 cause_among_more told names n WriteFault l h = absurd h
+cause_among_more told names n (NotWritten file) l h = absurd h
 cause_among_more told names n (FileRefused i reason) l h = refused_among_more told names n i (string_bytes reason) l h
 cause_among_more told names n NoTriangles l h = absurd h
+cause_among_more told names n NotAScene l h = absurd h
 cause_among_more told names n (NotClosed o format) l h = absurd h
 cause_among_more told names n (ExprRefused fault) l h = absurd h
 cause_among_more told names n Unbounded l h = absurd h
@@ -190,5 +233,6 @@ cause_among_more told names n (TooManyTriangles count) l h = absurd h
 cause_among_more told names n TooManyWritten l h = absurd h
 cause_among_more told names n (StepTooSmall extent) l h = absurd h
 cause_among_more told names n TooFar l h = absurd h
+cause_among_more told names n (DocumentRefused fault) l h = absurd h
 cause_among_more told names n OutOfMemory l h = tt
 cause_among_more told names n (Uncertified fault) l h = absurd h

@@ -1,10 +1,17 @@
 pub mod ToldFiles
 pub mod Stops
+pub mod SnapStops
+pub mod ExportStops
 pub mod FileStatuses
 pub mod Shown
 pub mod ErrTexts
 pub mod KeptNames
+pub mod UnmetRequests
 pub mod Outcomes
 pub mod ShownSteps
 pub mod Appended
 pub mod CountLines
+pub mod InfoOutcomes
+pub mod OutputMeaning
+pub mod OutputParts
+pub mod FilesMade

@@ -11,7 +11,7 @@ use Rattle.ember_boolean.specs.declared.files.MeshFile.{MeshFile}
 use Rattle.ember_boolean.specs.Files.{IsSmall, AreReadings}
 use Rattle.ember_io.specs.Shelves.{Tells}
 use Rattle.ember_surface.specs.declared.surface.Surface.{Surface}
-use Rattle.ember_mesh_run.specs.Files.{AreBytes, AreContents, AreFiles, AreRead}
+use Rattle.ember_mesh_run.specs.Files.{AreBytes, AreContents, AreFiles, AreReadAs}
 
 abbrev name_in : MeshFile → List ℕ
 name_in file = file.name.now
@@ -75,10 +75,10 @@ files_are_told told names contents files n b h =
     let zipped : AllZip (AreBytes told) (map name_in files) (map bytes_in files) = subst (λ (bs : List (List ℕ)). AllZip (AreBytes told) (map name_in files) bs) (sym b) named in
     record { named = n; tells = all_told told files zipped; small = all_small told files zipped }
 
--- and if they are read, none of them is refused
-pub files_are_read : (told : List ℕ → Option (List ℕ)) (names contents : List (List ℕ)) (files : List MeshFile) (surfaces : List Surface) → map name_in files ≡ names → map bytes_in files ≡ contents → AllZip (AreBytes told) names contents → AreReadings files surfaces → AreRead told names
+-- and if they are read, these are their surfaces
+pub files_are_read : (told : List ℕ → Option (List ℕ)) (names contents : List (List ℕ)) (files : List MeshFile) (surfaces : List Surface) → map name_in files ≡ names → map bytes_in files ≡ contents → AllZip (AreBytes told) names contents → AreReadings files surfaces → AreReadAs told names surfaces
 files_are_read told names contents files surfaces n b h read =
-    record { files = files; are_files = files_are_told told names contents files n b h; surfaces = surfaces; readings = read }
+    record { files = files; are_files = files_are_told told names contents files n b h; readings = read }
 
 -- bytes that are told are small
 pub contents_are_small : (told : List ℕ → Option (List ℕ)) (names : List (List ℕ)) (contents : List (Vec ℕ Global)) → AreContents told names contents → All (λ (bytes : Vec ℕ Global). length bytes.items ≤ 268435456) contents

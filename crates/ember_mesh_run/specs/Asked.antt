@@ -1,8 +1,9 @@
 -- What the words of a Boolean ask for, before any file is read
-use Rattle.std.specs.Prelude.{◌≡◌, ◌≢◌, ⊤, ℕ, List, length, true, Ok, Err, replicate, pos}
+use Rattle.std.specs.Prelude.{◌≡◌, ◌≢◌, ⊤, ℕ, List, length, true, Ok, Err, is_some, replicate, pos}
 use Rattle.std.specs.declared.option.Option.{Option}
+use Rattle.ember_boolean.specs.declared.wanted.FloatFormat.TheVariants as floats
 use Rattle.ember_boolean.specs.declared.wanted.MeshFormat.{MeshFormat}
-use Rattle.ember_boolean.specs.declared.wanted.MeshFormat.TheVariants.{Stl, Text}
+use Rattle.ember_boolean.specs.declared.wanted.MeshFormat.TheVariants.{Floats, Text}
 use Rattle.ember_boolean.specs.declared.wanted.WantedFile.{WantedFile}
 use Rattle.ember_expr.specs.declared.fault.ExprFault.TheVariants as expr
 use Rattle.ember_expr.specs.Formula.{Formula}
@@ -38,7 +39,8 @@ IsStepOfNoGrid (step.Decimal text) = (s : Step) → IsStepOf text s → ⊥
 -- ---- formats
 -- the format that the output's name and `--digits` ask for
 abbrev pub format_asked : OutputFormat → Option ℕ → MeshFormat
-format_asked output.Stl digits = Stl
+format_asked output.Stl digits = Floats floats.Stl
+format_asked output.Glb digits = Floats floats.Glb
 format_asked output.Obj digits = Text texts.Obj digits
 format_asked output.Ply digits = Text texts.Ply digits
 format_asked output.Off digits = Text texts.Off digits
@@ -63,10 +65,13 @@ IsExpressionCause text meshes OutOfMemory = ⊤
 IsExpressionCause text meshes status = ⊥
 
 -- ---- requests
--- the file has the format that is asked for, on a grid as it is asked for
+-- the file has the format that is asked for, on a grid as it is asked for; and what a page or a folder takes is wanted
+-- beside it if one is named
 pub record AsksFile (request : Request) (wanted : WantedFile) : Type 0 where
   pub format : wanted.format ≡ format_asked request.format request.digits
   pub step : IsWanted request.step wanted.grid
+  pub shows : wanted.shows ≡ is_some request.view
+  pub keeps : wanted.keeps ≡ is_some request.keep
 
 -- and the expression of its files has this tree
 pub record Asks (request : Request) (wanted : WantedFile) (formula : Formula) : Type 0 where

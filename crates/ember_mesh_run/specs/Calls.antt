@@ -1,10 +1,10 @@
 -- What a call saw of its devices, before and after it
-use Rattle.std.specs.Prelude.{◌≡◌, ◌⊎◌, ℕ, ◌≤◌, List}
+use Rattle.std.specs.Prelude.{◌≡◌, ℕ, ◌≤◌, List}
 use Rattle.std.specs.declared.option.Option.{Option}
 use Rattle.std.specs.Io.KnownBytes.{Appends}
 use Rattle.ember_io.specs.Causes.{HasRisen}
 use Rattle.ember_io.specs.Sinks.{AppendsPrefix, IsFlushed}
-use Rattle.ember_target.specs.Targets.{Names, HoldsSame, HoldsOld, HasRisenTwice}
+use Rattle.ember_target.specs.Targets.{Names, HoldsSame}
 
 -- what a call saw of a shelf
 pub record ShelfCall : Type 0 where
@@ -83,14 +83,6 @@ HasShelfFailed shelf = HasRisen shelf.faults shelf.faults_after
 -- each name holds what it held
 abbrev pub HoldsAll : TargetCall → Type 0
 HoldsAll target = HoldsSame target.held target.held_after
-
--- the same, but if two calls of the target failed, a new file may be left beside this name
-abbrev pub HoldsAllBut : List ℕ → TargetCall → Type 0
-HoldsAllBut name target =
-    HoldsAll target ⊎ (HoldsOld target.held target.held_after name × HasRisenTwice target.faults target.faults_after)
-
-abbrev pub HasTargetFailed : TargetCall → Type 0
-HasTargetFailed target = HasRisen target.faults target.faults_after
 
 -- ---- sinks
 -- it took the whole text and flushed it

@@ -1,34 +1,29 @@
--- Why a Boolean isn't written: a cause of each status
-use Rattle.std.specs.Prelude.{◌≡◌, ◌⊎◌, ⊤, ℕ, ◌-◌, ◌<◌, Bool, true, false, List, take, string_bytes}
+-- Why meshes get no output: a cause of each status
+use Rattle.std.specs.Prelude.{◌≡◌, ◌⊎◌, ⊤, ℕ, ◌-◌, List, take, string_bytes}
 use Rattle.std.specs.declared.option.Option.{Option}
-use Rattle.ember_boolean.specs.declared.fault.BooleanFault.{BooleanFault}
 use Rattle.ember_boolean.specs.declared.fault.BooleanFault.TheVariants as boolean
 use Rattle.ember_boolean.specs.declared.files.MeshFile.{MeshFile}
 use Rattle.ember_boolean.specs.declared.wanted.WantedFile.{WantedFile}
-use Rattle.ember_boolean.specs.declared.writing.Output.{Output}
-use Rattle.ember_boolean.specs.Faults.{IsBooleanFault, IsFirstUnread}
-use Rattle.ember_expr.specs.declared.fault.ExprFault.TheVariants as expr
+use Rattle.ember_boolean.specs.Faults.{IsBooleanFault, IsFirstUnread, IsPlacingFault}
 use Rattle.ember_expr.specs.Formula.{Formula}
 use Rattle.ember_file.specs.declared.fault.FileFault.{FileFault}
 use Rattle.ember_format.specs.declared.format.Format.{Format}
+use Rattle.ember_grid.specs.declared.choice.Wanted.{Wanted}
 use Rattle.ember_io.specs.Shelves.{TellsMore}
 use Rattle.ember_io.specs.declared.shelf.ReadEnd.{ReadEnd}
 use Rattle.ember_io.specs.declared.shelf.ReadEnd.TheVariants as read
 use Rattle.ember_mesh_words.specs.declared.command.Request.{Request}
+use Rattle.ember_mesh_words.specs.declared.command.SnapRequest.{SnapRequest}
 use Rattle.ember_scene.specs.declared.fault.Open.{Open}
+use Rattle.ember_scene.specs.declared.fault.SceneFault.{SceneFault}
 use Rattle.ember_scene.specs.declared.fault.SceneFault.TheVariants as scene
-use Rattle.ember_solid_mesh.specs.declared.fault.SolidFault.TheVariants as solid
-use Rattle.ember_tables.specs.declared.fault.TableFault.TheVariants as table
-use Rattle.ember_target.specs.Targets.{IsTaken, beside}
-use Rattle.ember_triangles.specs.declared.fault.TrianglesFault.TheVariants as mesh
-use Rattle.ember_mesh_run.specs.Asked.{Asks, IsWordsCause}
-use Rattle.ember_mesh_run.specs.Outputs.{IsOutputFor}
+use Rattle.ember_mesh_run.specs.Asked.{Asks, IsStepOfNoGrid, IsWanted, IsWordsCause}
 use Rattle.ember_mesh_run.specs.Statuses.{HasFormat, HasReason}
-use Rattle.ember_mesh_run.specs.Calls.{ShelfCall, TargetCall, HasShelfFailed, HasTargetFailed}
+use Rattle.ember_mesh_run.specs.Calls.{ShelfCall, HasShelfFailed}
 use Rattle.ember_mesh_run.specs.Files.{AreFiles, AreRead, IsFileIn}
 use Rattle.ember_mesh_run.specs.Lines.{name_of}
 use Rattle.ember_mesh_run.specs.declared.status.Status.{Status}
-use Rattle.ember_mesh_run.specs.declared.status.Status.TheVariants.{Done, Words, StepOfNoGrid, ReadFault, WriteFault, FileRefused, NoTriangles, NotClosed, ExprRefused, Unbounded, LongFile, TooManyTriangles, TooManyWritten, StepTooSmall, TooFar, OutOfMemory, Uncertified}
+use Rattle.ember_mesh_run.specs.declared.status.Status.TheVariants.{Done, Words, StepOfNoGrid, ReadFault, WriteFault, NotWritten, FileRefused, NoTriangles, NotClosed, ExprRefused, Unbounded, LongFile, TooManyTriangles, TooManyWritten, StepTooSmall, TooFar, OutOfMemory, Uncertified}
 
 -- ---- a file and those before it
 -- the shelf failed at file i, and no file before it is refused
@@ -77,38 +72,44 @@ IsEndAt told names i end status =
     IsRefusalCause told names status ⊎ ((status ≡ end_status i end) × AreRead told (take (i - 1) names))
 
 -- ---- all files together
--- the files have this fault
-pub record HaveFault (told : List ℕ → Option (List ℕ)) (names : List (List ℕ)) (formula : Formula) (wanted : WantedFile)
-    (fault : BooleanFault) : Type 0 where
+-- the files have a fault
+pub record HaveFault (told : List ℕ → Option (List ℕ)) (names : List (List ℕ)) (IsFault : List MeshFile → Type 0) :
+    Type 0 where
   pub files : List MeshFile
   pub are_files : AreFiles told names files
-  pub is_fault : IsBooleanFault files formula wanted fault
+  pub is_fault : IsFault files
+
+-- that they are no scene
+abbrev pub HaveSceneFault : (List ℕ → Option (List ℕ)) → List (List ℕ) → Wanted → SceneFault → Type 0
+HaveSceneFault told names wanted fault = HaveFault told names (λ files. IsPlacingFault files wanted (boolean.Scene fault))
 
 -- one of them isn't closed on the grid, and has this format
-pub record HaveOpen (told : List ℕ → Option (List ℕ)) (names : List (List ℕ)) (formula : Formula) (wanted : WantedFile)
-    (o : Open) (format : Format) : Type 0 where
+pub record HaveOpen (told : List ℕ → Option (List ℕ)) (names : List (List ℕ)) (wanted : Wanted) (o : Open)
+    (format : Format) : Type 0 where
   pub files : List MeshFile
   pub are_files : AreFiles told names files
-  pub is_fault : IsBooleanFault files formula wanted (boolean.Scene (scene.Open o))
+  pub is_fault : IsPlacingFault files wanted (boolean.Scene (scene.Open o))
   pub format_is : HasFormat files o.file format
+
+-- why files that were read aren't put on the grid
+abbrev pub IsPlacingCause : (List ℕ → Option (List ℕ)) → List (List ℕ) → Wanted → Status → Type 0
+IsPlacingCause told names wanted NoTriangles = HaveSceneFault told names wanted scene.NoTriangles
+IsPlacingCause told names wanted (NotClosed o format) = HaveOpen told names wanted o format
+IsPlacingCause told names wanted (TooManyTriangles count) = HaveSceneFault told names wanted (scene.TooManyTriangles count)
+IsPlacingCause told names wanted (StepTooSmall extent) = HaveSceneFault told names wanted (scene.StepTooSmall extent)
+IsPlacingCause told names wanted status = IsRefusalCause told names status
 
 -- why files that were read have no output
 abbrev pub IsFilesCause : (List ℕ → Option (List ℕ)) → List (List ℕ) → Formula → WantedFile → Status → Type 0
-IsFilesCause told names formula wanted NoTriangles =
-    HaveFault told names formula wanted (boolean.Scene scene.NoTriangles)
-IsFilesCause told names formula wanted (NotClosed o format) = HaveOpen told names formula wanted o format
-IsFilesCause told names formula wanted (TooManyTriangles count) =
-    HaveFault told names formula wanted (boolean.Scene (scene.TooManyTriangles count))
-IsFilesCause told names formula wanted (StepTooSmall extent) =
-    HaveFault told names formula wanted (boolean.Scene (scene.StepTooSmall extent))
 IsFilesCause told names formula wanted (Uncertified fault) =
-    HaveFault told names formula wanted (boolean.Solid fault)
-IsFilesCause told names formula wanted TooFar = HaveFault told names formula wanted boolean.TooFar
+    HaveFault told names (λ files. IsBooleanFault files formula wanted (boolean.Solid fault))
+IsFilesCause told names formula wanted TooFar =
+    HaveFault told names (λ files. IsBooleanFault files formula wanted boolean.TooFar)
 IsFilesCause told names formula wanted TooManyWritten =
-    HaveFault told names formula wanted boolean.TooManyTriangles
-IsFilesCause told names formula wanted status = IsRefusalCause told names status
+    HaveFault told names (λ files. IsBooleanFault files formula wanted boolean.TooManyTriangles)
+IsFilesCause told names formula wanted status = IsPlacingCause told names wanted.grid status
 
--- ---- a request
+-- ---- a Boolean
 -- why a request that asks for something gets no output
 abbrev pub IsAskedCause : Request → Formula → WantedFile → ShelfCall → Status → Type 0
 IsAskedCause request formula wanted shelf (ReadFault i) = IsReadingCause request.files shelf (ReadFault i)
@@ -128,33 +129,28 @@ abbrev pub IsStop : Request → ShelfCall → Status → Type 0
 IsStop request shelf Done = ⊥
 IsStop request shelf (Words why) = ⊥
 IsStop request shelf WriteFault = ⊥
+IsStop request shelf (NotWritten name) = ⊥
 IsStop request shelf StepOfNoGrid = IsWordsCause request StepOfNoGrid
 IsStop request shelf (ExprRefused fault) = IsWordsCause request (ExprRefused fault)
 IsStop request shelf Unbounded = IsWordsCause request Unbounded
 IsStop request shelf OutOfMemory = ⊤
 IsStop request shelf status = IsLateCause request shelf status
 
--- ---- writing
--- the target failed, or all names that a new file may have are taken
-abbrev pub IsWriteCause : List ℕ → TargetCall → Type 0
-IsWriteCause name target =
-    HasTargetFailed target ⊎ ((number : ℕ) → number < 100 → IsTaken target.held (beside name number))
+-- ---- meshes on their grid
+-- why files aren't put on the grid that is wanted for them
+abbrev pub IsSceneCause : List (List ℕ) → Wanted → ShelfCall → Status → Type 0
+IsSceneCause names wanted shelf (ReadFault i) = IsReadingCause names shelf (ReadFault i)
+IsSceneCause names wanted shelf (LongFile i) = IsReadingCause names shelf (LongFile i)
+IsSceneCause names wanted shelf status = IsPlacingCause shelf.told names wanted status
 
--- the request has an output, and it isn't written
-pub record IsUnwritten (request : Request) (shelf : ShelfCall) (target : TargetCall) : Type 0 where
-  pub output : Output
-  pub is_output : IsOutputFor request shelf.told output
-  pub cause : IsWriteCause request.output target
+-- a grid is asked for, but the files aren't put on it
+pub record IsLateSnapCause (request : SnapRequest) (shelf : ShelfCall) (status : Status) : Type 0 where
+  pub wanted : Wanted
+  pub asks : IsWanted request.step wanted
+  pub cause : IsSceneCause request.files wanted shelf status
 
--- why nothing is written
-abbrev pub IsCause : Request → ShelfCall → TargetCall → Status → Type 0
-IsCause request shelf target WriteFault = IsUnwritten request shelf target
-IsCause request shelf target status = IsStop request shelf status
-
--- whether out-of-memory is hidden in another status
-abbrev pub hides_memory : Status → Bool
-hides_memory (ExprRefused expr.OutOfMemory) = true
-hides_memory (Uncertified solid.OutOfMemory) = true
-hides_memory (Uncertified (solid.NoTables table.OutOfMemory)) = true
-hides_memory (Uncertified (solid.NotCut mesh.OutOfMemory)) = true
-hides_memory _ = false
+-- why files aren't snapped: the step, a file, or all files together; of want of memory nothing is said
+abbrev pub IsSnapStop : SnapRequest → ShelfCall → Status → Type 0
+IsSnapStop request shelf StepOfNoGrid = IsStepOfNoGrid request.step
+IsSnapStop request shelf OutOfMemory = ⊤
+IsSnapStop request shelf status = IsLateSnapCause request shelf status

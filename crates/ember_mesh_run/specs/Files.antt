@@ -14,12 +14,15 @@ pub record AreFiles (told : List ℕ → Option (List ℕ)) (names : List (List 
   pub tells : All (λ file. Tells (told file.name.now) file.bytes.now) files
   pub small : All IsSmall files
 
--- no file with one of these names is refused
-pub record AreRead (told : List ℕ → Option (List ℕ)) (names : List (List ℕ)) : Type 0 where
+-- no file with one of these names is refused, and these are their surfaces, in order
+pub record AreReadAs (told : List ℕ → Option (List ℕ)) (names : List (List ℕ)) (surfaces : List Surface) : Type 0 where
   pub files : List MeshFile
   pub are_files : AreFiles told names files
-  pub surfaces : List Surface
   pub readings : AreReadings files surfaces
+
+-- no file with one of these names is refused
+abbrev pub AreRead : (List ℕ → Option (List ℕ)) → List (List ℕ) → Type 0
+AreRead told names = (surfaces : List Surface) × AreReadAs told names surfaces
 
 -- file i, from 1, has one of these names
 pub record IsFileIn (names : List (List ℕ)) (i : ℕ) : Type 0 where

@@ -1,5 +1,5 @@
--- The number of a status, and its line on standard error
-use Rattle.std.specs.Prelude.{⊤, ℕ, ℤ, ◌+ℤ◌, ◌*ℤ◌, ◌<◌, ◌+◌, ◌-◌, ◌*◌, ◌^◌, List, [], ◌++◌, length, codes, decimal, get_or, pos, nat_le, ◌==◌, Some, None, unsigned_abs, if◌then◌else◌, string_bytes}
+-- The line on standard error of a request that isn't met
+use Rattle.std.specs.Prelude.{⊤, ℕ, ℤ, ◌+ℤ◌, ◌*ℤ◌, ◌<◌, ◌+◌, ◌-◌, ◌*◌, ◌^◌, List, [], ◌++◌, codes, decimal, get_or, pos, nat_le, ◌==◌, Some, None, unsigned_abs, if◌then◌else◌, string_bytes}
 use Rattle.std.specs.declared.option.Option.{Option}
 use Rattle.ember_expr.specs.declared.fault.ExprFault.{ExprFault}
 use Rattle.ember_expr.specs.declared.fault.ExprFault.TheVariants as expr
@@ -11,11 +11,9 @@ use Rattle.ember_grid.specs.Lengths.{trillion}
 use Rattle.ember_mesh_words.specs.declared.command.OutputFormat.{OutputFormat}
 use Rattle.ember_mesh_words.specs.declared.command.OutputFormat.TheVariants as output
 use Rattle.ember_mesh_words.specs.declared.command.Request.{Request}
+use Rattle.ember_mesh_words.specs.declared.command.SnapRequest.{SnapRequest}
 use Rattle.ember_mesh_words.specs.declared.command.WantedStep.{WantedStep}
 use Rattle.ember_mesh_words.specs.declared.command.WantedStep.TheVariants as step
-use Rattle.ember_mesh_words.specs.declared.faults.Refusal.{Refusal}
-use Rattle.ember_mesh_words.specs.declared.faults.Refusal.TheVariants as refusal
-use Rattle.ember_mesh_words.specs.Given.{output_given, step_given}
 use Rattle.ember_model.specs.declared.point.Corner.{Corner}
 use Rattle.ember_moves.specs.Shown.{Rounded}
 use Rattle.ember_number.specs.Fractions.{Fraction}
@@ -24,30 +22,11 @@ use Rattle.ember_snap.specs.declared.steps.Step.{Step}
 use Rattle.ember_snap.specs.Steps.{IsStep}
 use Rattle.ember_solid_mesh.specs.declared.fault.SolidFault.{SolidFault}
 use Rattle.ember_solid_mesh.specs.declared.fault.SolidFault.TheVariants as solid
-use Rattle.ember_triangles.specs.declared.fault.TrianglesFault.TheVariants as mesh
+use Rattle.ember_triangles.specs.declared.fault.TrianglesFault.{TrianglesFault}
+use Rattle.ember_triangles.specs.declared.fault.TrianglesFault.TheVariants as triangles
 use Rattle.ember_written.specs.Decimals.{decimal_of}
 use Rattle.ember_mesh_run.specs.declared.status.Status.{Status}
-use Rattle.ember_mesh_run.specs.declared.status.Status.TheVariants.{Done, Words, StepOfNoGrid, ReadFault, WriteFault, FileRefused, NoTriangles, NotClosed, ExprRefused, Unbounded, LongFile, TooManyTriangles, TooManyWritten, StepTooSmall, TooFar, OutOfMemory, Uncertified}
-
--- the exit status
-abbrev pub number_of : Status → ℕ
-number_of Done = 0
-number_of (Words why) = 2
-number_of StepOfNoGrid = 2
-number_of (ReadFault i) = 3
-number_of WriteFault = 4
-number_of (FileRefused i reason) = 5
-number_of NoTriangles = 5
-number_of (NotClosed o format) = 6
-number_of (ExprRefused fault) = 7
-number_of Unbounded = 8
-number_of (LongFile i) = 9
-number_of (TooManyTriangles count) = 9
-number_of TooManyWritten = 9
-number_of (StepTooSmall extent) = 10
-number_of TooFar = 10
-number_of OutOfMemory = 12
-number_of (Uncertified fault) = 14
+use Rattle.ember_mesh_run.specs.declared.status.Status.TheVariants.{StepOfNoGrid, ReadFault, NotWritten, FileRefused, NoTriangles, NotClosed, ExprRefused, Unbounded, LongFile, TooManyTriangles, TooManyWritten, StepTooSmall, TooFar, OutOfMemory, Uncertified}
 
 -- the name of file i, from 1
 abbrev pub name_of : List (List ℕ) → ℕ → List ℕ
@@ -103,32 +82,6 @@ corner_text g c =
     (codes " " ++ (shown (grid_place g c.y g.offset.y) ++
     (codes " " ++ (shown (grid_place g c.z g.offset.z) ++ codes ")")))))
 
--- ---- words
--- the word with this number, from 0
-abbrev pub word_at : List (List ℕ) → ℕ → List ℕ
-word_at words number = get_or words number []
-
--- `WORD: WHY`
-abbrev pub word_text : List ℕ → List ℕ → List ℕ
-word_text word why = word ++ (codes ": " ++ (why ++ codes "; see ember-mesh help"))
-
--- why words are refused; word 0 is the name of the command
-abbrev pub refusal_text : List (List ℕ) → Refusal → List ℕ
-refusal_text words refusal.NoCommand = codes "no command; see ember-mesh help"
-refusal_text words refusal.UnknownCommand = word_text (word_at words 0) (codes "no such command")
-refusal_text words (refusal.UnknownOption i) = word_text (word_at words i) (codes "unknown option")
-refusal_text words refusal.NoValue = word_text (word_at words (length words - 1)) (codes "needs a value")
-refusal_text words refusal.NoFiles = codes "no files; see ember-mesh help"
-refusal_text words refusal.TooManyFiles = codes "more than 64 files; see ember-mesh help"
-refusal_text words refusal.NoExpression = word_text (codes "--expr") (codes "is missing")
-refusal_text words refusal.NeedlessExpression = word_text (codes "--expr") (codes "is for bool alone")
-refusal_text words refusal.NoOutput = word_text (codes "-o") (codes "is missing")
-refusal_text words refusal.OutputEnding =
-    codes "-o " ++ (output_given words ++ codes ": the name must end in .stl, .obj, .ply or .off")
-refusal_text words refusal.NotAStep = codes "--step " ++ (step_given words ++ codes ": not a number above 0")
-refusal_text words refusal.Workers = word_text (codes "--workers") (codes "not a number from 1 to 64")
-refusal_text words refusal.Digits = word_text (codes "--digits") (codes "not a number from 0 to 17")
-
 -- ---- expressions
 -- a fault at a place of the expression
 abbrev pub place_text : List ℕ → ℕ → List ℕ
@@ -167,52 +120,72 @@ open_text o format =
     (codes " " ++ (decimal o.place ++ codes "; close the hole in the modeller")))))))))
 
 -- ---- the solid
--- the plane of the result that has no triangles
-abbrev pub plane_without : SolidFault → Option ℕ
-plane_without (solid.NotCut (mesh.NoTriangles plane)) = Some plane
-plane_without fault = None
-
 -- what has no triangles: one plane, or none is known
 abbrev pub not_found_text : Option ℕ → List ℕ
 not_found_text (Some plane) = codes "triangles of plane " ++ (decimal plane ++ codes " not found")
 not_found_text None = codes "triangles of the result not found"
 
+-- faces have no triangles
+abbrev pub uncut_text : TrianglesFault → List ℕ
+uncut_text (triangles.NoTriangles plane) = not_found_text (Some plane)
+uncut_text fault = not_found_text None
+
+-- or no tables
 abbrev pub solid_text : SolidFault → List ℕ
-solid_text fault = not_found_text (plane_without fault)
+solid_text (solid.NotCut fault) = uncut_text fault
+solid_text fault = not_found_text None
 
 -- ---- corners
 -- a corner is too far out for the numbers of this format
 abbrev pub too_far_text : OutputFormat → List ℕ
 too_far_text output.Stl =
     codes "a corner of the result is too far from 0 for STL; move the meshes to the origin"
+too_far_text output.Glb =
+    codes "a corner of the result is too far from 0 for GLB; move the meshes to the origin"
 too_far_text format = codes "a corner of the result is 10^21 or more from 0; move the meshes to the origin"
 
+-- ---- numbers of triangles
+-- there are too many for this format; of texts this is never said
+abbrev pub too_many_text : OutputFormat → List ℕ
+too_many_text output.Glb = codes "more than 4294967295 bytes, too many for GLB; simplify the meshes"
+too_many_text format = codes "more than 4294967295 triangles, too many for STL; simplify the meshes"
+
 -- ---- all of them
--- why a request isn't met
-abbrev pub why_of : Request → Status → List ℕ
-why_of request Done = []
-why_of request (Words why) = []
-why_of request StepOfNoGrid =
-    codes "--step " ++ (wanted_text request.step ++
+-- why not all files are read, or one isn't written
+abbrev pub reading_why : List (List ℕ) → Status → List ℕ
+reading_why names (ReadFault i) = file_text names i (codes "cannot be read")
+reading_why names (FileRefused i reason) = file_text names i (string_bytes reason)
+reading_why names (LongFile i) = file_text names i (codes "more than 268435456 bytes; simplify the mesh")
+reading_why names (NotWritten name) = codes "cannot write " ++ string_bytes name
+reading_why names OutOfMemory = codes "out of memory"
+reading_why names status = []
+
+-- why files aren't put on their grid
+abbrev pub scene_why : List (List ℕ) → WantedStep → Status → List ℕ
+scene_why names step StepOfNoGrid =
+    codes "--step " ++ (wanted_text step ++
     codes ": no grid has this step; give at most 12 digits and 12 decimal places")
-why_of request (ReadFault i) = file_text request.files i (codes "cannot be read")
-why_of request WriteFault = codes "cannot write " ++ request.output
-why_of request (FileRefused i reason) = file_text request.files i (string_bytes reason)
-why_of request NoTriangles = codes "no triangles in the files; are they meshes?"
-why_of request (NotClosed o format) = file_text request.files (o.file + 1) (open_text o format)
-why_of request (ExprRefused fault) = expr_text fault
-why_of request Unbounded = codes "expression holds outside all meshes"
-why_of request (LongFile i) = file_text request.files i (codes "more than 268435456 bytes; simplify the mesh")
-why_of request (TooManyTriangles count) =
+scene_why names step NoTriangles = codes "no triangles in the files; are they meshes?"
+scene_why names step (NotClosed o format) = file_text names (o.file + 1) (open_text o format)
+scene_why names step (TooManyTriangles count) =
     decimal count ++ codes " triangles after snapping, more than 262144; simplify the meshes"
-why_of request TooManyWritten = codes "more than 4294967295 triangles, too many for STL; simplify the meshes"
-why_of request (StepTooSmall extent) =
-    codes "--step " ++ (wanted_text request.step ++
+scene_why names step (StepTooSmall extent) =
+    codes "--step " ++ (wanted_text step ++
     (codes ": the scene is " ++ (length_text extent ++
     (codes " long, which needs a step of at least " ++ step_text extent.finest))))
+scene_why names step status = reading_why names status
+
+abbrev pub snap_why : SnapRequest → Status → List ℕ
+snap_why request status = scene_why request.files request.step status
+
+-- why a Boolean isn't written
+abbrev pub why_of : Request → Status → List ℕ
+why_of request (ExprRefused fault) = expr_text fault
+why_of request Unbounded = codes "expression holds outside all meshes"
+why_of request TooManyWritten = too_many_text request.format
 why_of request TooFar = too_far_text request.format
-why_of request OutOfMemory = codes "out of memory"
 why_of request (Uncertified fault) = solid_text fault
+why_of request status = scene_why request.files request.step status
 
 -- the numbers in the status can be shown
 abbrev pub IsShown : Status → Type 0

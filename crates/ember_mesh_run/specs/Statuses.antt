@@ -1,6 +1,8 @@
--- The statuses of files that give no output
+-- The statuses of files and documents that give no output
 use Rattle.std.specs.Prelude.{◌≡◌, ◌⊎◌, ⊤, ℕ, ◌+◌, ◌<◌, List, length, Some, slice_get, String, string_bytes}
 use Rattle.std.specs.declared.alloc.Global.{Global}
+use Rattle.ember_boolean.specs.declared.document.DocumentFileFault.{DocumentFileFault}
+use Rattle.ember_boolean.specs.declared.document.DocumentFileFault.TheVariants as document
 use Rattle.ember_boolean.specs.declared.fault.BooleanFault.{BooleanFault}
 use Rattle.ember_boolean.specs.declared.fault.BooleanFault.TheVariants as boolean
 use Rattle.ember_boolean.specs.declared.files.MeshFile.{MeshFile}
@@ -11,7 +13,7 @@ use Rattle.ember_format.specs.declared.format.Format.{Format}
 use Rattle.ember_format.specs.Formats.{format_said}
 use Rattle.ember_scene.specs.declared.fault.SceneFault.TheVariants as scene
 use Rattle.ember_mesh_run.specs.declared.status.Status.{Status}
-use Rattle.ember_mesh_run.specs.declared.status.Status.TheVariants.{FileRefused, NoTriangles, NotClosed, TooManyTriangles, TooManyWritten, StepTooSmall, TooFar, OutOfMemory, Uncertified}
+use Rattle.ember_mesh_run.specs.declared.status.Status.TheVariants.{DocumentRefused, FileRefused, NoTriangles, NotClosed, TooManyTriangles, TooManyWritten, StepTooSmall, TooFar, OutOfMemory, Uncertified}
 
 -- ---- what a fault says of a file
 -- this is why the file with this index is refused for its fault
@@ -52,3 +54,10 @@ IsStatusOf files (boolean.Solid fault) status = status ≡ Uncertified fault
 IsStatusOf files boolean.TooFar status = status ≡ TooFar
 IsStatusOf files boolean.TooManyTriangles status = status ≡ TooManyWritten
 IsStatusOf files boolean.OutOfMemory status = status ≡ OutOfMemory
+
+-- the status of a document with this fault
+abbrev pub status_of_document : DocumentFileFault → Status
+status_of_document (document.Document fault) = DocumentRefused fault
+status_of_document document.TooFar = TooFar
+status_of_document document.TooManyTriangles = TooManyWritten
+status_of_document document.OutOfMemory = OutOfMemory

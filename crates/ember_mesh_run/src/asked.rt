@@ -1,4 +1,4 @@
-// What the words of a Boolean ask for, before any file is read.
+// What words ask for, before any file is read.
 ghost use Rattle.std.specs.Prelude.{◌≡◌, ◌≤◌, IfOk, IfErr, IfSome, IfNone};
 ghost use Rattle.ember_boolean.specs.Outputs.{HasFewDigits};
 ghost use Rattle.ember_expr.specs.Formula.{formula_of};
@@ -7,7 +7,7 @@ ghost use Rattle.ember_mesh_words.specs.Commands.{IsWithinLimits};
 ghost use Rattle.ember_mesh_run.specs.Asked.{Asks, AsksFile, IsExpression, IsExpressionCause, IsStepOfNoGrid, IsWanted, IsWordsCause, format_asked};
 
 use crate::status::Status;
-use ember_boolean::{MeshFormat, WantedFile};
+use ember_boolean::{FloatFormat, MeshFormat, WantedFile};
 use ember_expr::{Expr, ExprFault, bounded, parse};
 use ember_grid::Wanted;
 use ember_mesh_text::TextFormat;
@@ -23,8 +23,8 @@ pub(crate) struct Asked {
     pub expr: Expr,
 }
 
-// The step that is asked for, unless no grid has it.
-fn wanted_of(step: &WantedStep) -> Option<Wanted>
+/// The step that is asked for, unless no grid has it.
+pub(crate) fn wanted_of(step: &WantedStep) -> Option<Wanted>
     ensures wanted { IfSome result (IsWanted step.now) }
     ensures choice { IfSome result IsChoice }
     ensures none { IfNone result (IsStepOfNoGrid step.now) }
@@ -39,14 +39,15 @@ fn wanted_of(step: &WantedStep) -> Option<Wanted>
     }
 }
 
-// The format that the output's name and `--digits` ask for.
-fn format_asked(format: OutputFormat, digits: Option<u32>) -> MeshFormat
+/// The format that the output's name and `--digits` ask for.
+pub(crate) fn format_asked(format: OutputFormat, digits: Option<u32>) -> MeshFormat
     requires { IfSome digits (λ n. n ≤ 17) }
     ensures value { result ≡ format_asked format digits }
     ensures digits { HasFewDigits result }
 {
     match format {
-        OutputFormat::Stl => MeshFormat::Stl,
+        OutputFormat::Stl => MeshFormat::Floats(FloatFormat::Stl),
+        OutputFormat::Glb => MeshFormat::Floats(FloatFormat::Glb),
         OutputFormat::Obj => MeshFormat::Text(TextFormat::Obj, digits),
         OutputFormat::Ply => MeshFormat::Text(TextFormat::Ply, digits),
         OutputFormat::Off => MeshFormat::Text(TextFormat::Off, digits),
@@ -63,7 +64,12 @@ fn file_asked(request: &Request) -> Result<WantedFile, Status>
 {
     let format = format_asked(request.format, request.digits);
     match wanted_of(&request.step) {
-        Some(grid) => Ok(WantedFile { grid, format }),
+        Some(grid) => Ok(WantedFile {
+            grid,
+            format,
+            shows: request.view.is_some(),
+            keeps: request.keep.is_some(),
+        }),
         None => Err(Status::StepOfNoGrid),
     }
 }

@@ -3,18 +3,19 @@ ghost use Rattle.std.specs.Prelude.{◌≡◌, ◌<◌, ◌≤◌, ◌+◌, ℕ,
 ghost use Rattle.std.specs.declared.option.Option.{Option};
 ghost use Rattle.ember_mesh_run.specs.Calls.{shelf_call};
 ghost use Rattle.ember_mesh_run.specs.Causes.{IsEndAt, IsReadingCause, IsRefusalCause};
-ghost use Rattle.ember_mesh_run.specs.Files.{AreContents, AreRead};
+ghost use Rattle.ember_mesh_run.specs.Files.{AreContents, AreReadAs};
 
 use crate::refusals::status_of;
 use crate::status::Status;
 use ember_boolean::{MeshFile, surfaces_in};
 use ember_io::{ReadEnd, Shelf, read_all};
 use ember_model::OutOfMemory;
+use ember_surface::Surface;
 use ember_words::Text;
 use std::alloc::Global;
 
-// The greatest number of bytes of a file, 2^28.
-const MOST_BYTES: u64 = 268_435_456;
+/// The greatest number of bytes of a file, 2^28.
+pub const MOST_BYTES: u64 = 268_435_456;
 
 /// The files with these bytes, in order. There may be more names than bytes.
 pub fn mesh_files<'a>(
@@ -38,21 +39,26 @@ pub fn mesh_files<'a>(
     Ok(files)
 }
 
-// Whether these files are read, or why the first that isn't is refused.
-fn check_read(alloc: Global, names: &[Text], contents: &[Vec<u8>]) -> Result<(), Status>
+/// The surfaces of files with these bytes, or why the first that has none is refused. There may be
+/// more names than bytes.
+pub fn surfaces_of<'a>(
+    alloc: Global,
+    names: &'a [Text],
+    contents: &'a [Vec<u8>],
+) -> Result<Vec<Surface<'a>>, Status>
     requires few { length names.now ≤ 64 }
     requires named { length contents.now ≤ length names.now }
     requires small { All (λ bytes. length bytes.items ≤ 268435456) contents.now }
-    ensures read { IfOk result (λ _. (told : List ℕ → Option (List ℕ)) →
+    ensures read { IfOk result (λ surfaces. (told : List ℕ → Option (List ℕ)) →
         AreContents told (take (length contents.now) names.now) contents.now →
-        AreRead told (take (length contents.now) names.now)) }
+        AreReadAs told (take (length contents.now) names.now) surfaces.items) }
     ensures cause { IfErr result (λ status. (told : List ℕ → Option (List ℕ)) →
         AreContents told (take (length contents.now) names.now) contents.now →
         IsRefusalCause told names.now status) }
 {
     let files = mesh_files(alloc, names, contents)?;
     match surfaces_in(alloc, &files) {
-        Ok(_) => Ok(()),
+        Ok(surfaces) => Ok(surfaces),
         Err(fault) => Err(status_of(alloc, &files, fault)),
     }
 }
@@ -67,8 +73,8 @@ fn status_after(alloc: Global, names: &[Text], contents: &[Vec<u8>], end: ReadEn
         IsEndAt told names.now (length contents.now + 1) end result }
 {
     let number = contents.len() as u32 + 1;
-    match check_read(alloc, names, contents) {
-        Ok(()) => match end {
+    match surfaces_of(alloc, names, contents) {
+        Ok(_) => match end {
             ReadEnd::ReadFault => Status::ReadFault(number),
             ReadEnd::TooLong(_) => Status::LongFile(number),
             ReadEnd::OutOfMemory => Status::OutOfMemory,

@@ -1,16 +1,16 @@
-// The report of an output.
+// The reports.
 ghost use Rattle.std.specs.Prelude.{◌≡◌, ◌++◌, ◌<◌, drop, IfOk, OnOk};
 ghost use Rattle.ember_mesh_run.specs.Lines.{line};
 ghost use Rattle.ember_moves.specs.Shown.{rounded_of};
-ghost use Rattle.ember_mesh_run.specs.Reports.{counts_line, counts_lines, empty_line, first_move, grid_line, report_lines, report_of, result_line};
+ghost use Rattle.ember_mesh_run.specs.Reports.{counts_line, counts_lines, empty_line, export_report, first_move, grid_line, mesh_line, mesh_lines, report_of, scene_lines, snap_report};
 
 use crate::texts::{line, put_count, put_move, put_signed, put_step};
-use ember_boolean::Output;
+use ember_boolean::{Output, Written};
 use ember_grid::Grid;
-use ember_mesh_words::Request;
+use ember_mesh_words::{ExportRequest, Request, SnapRequest};
 use ember_model::OutOfMemory;
 use ember_moves::Length;
-use ember_scene::Counts;
+use ember_scene::{Counts, Placed};
 use ember_words::Text;
 use std::alloc::Global;
 
@@ -96,44 +96,66 @@ fn put_all_counts(
 }
 
 // Appends that the result is empty, if it is.
-fn put_empty(alloc: Global, output: &Output, text: &mut Vec<u8>) -> Result<(), OutOfMemory>
-    ensures { OnOk result (text.new.items ≡ text.old.items ++ empty_line output.now) }
+fn put_empty(alloc: Global, mesh: &Written, text: &mut Vec<u8>) -> Result<(), OutOfMemory>
+    ensures { OnOk result (text.new.items ≡ text.old.items ++ empty_line mesh.now) }
 {
-    if output.triangles != output.vanished {
+    if mesh.triangles != mesh.vanished {
         return Ok(());
     }
     put_line(alloc, b"the result is empty", text)
 }
 
-// Appends the line of the result.
-fn put_result(alloc: Global, output: &Output, text: &mut Vec<u8>) -> Result<(), OutOfMemory>
-    ensures { OnOk result (text.new.items ≡ text.old.items ++ result_line output.now) }
+// Appends the line of the mesh of so many faces.
+fn put_mesh(
+    alloc: Global,
+    faces: u64,
+    mesh: &Written,
+    text: &mut Vec<u8>,
+) -> Result<(), OutOfMemory>
+    ensures { OnOk result (text.new.items ≡ text.old.items ++ mesh_line faces mesh.now) }
 {
     let mut said = Vec::new(alloc);
-    put_count(output.report.faces, &mut said)?;
+    put_count(faces, &mut said)?;
     said.extend_from_slice(b" faces -> ")?;
-    put_count(output.triangles, &mut said)?;
+    put_count(mesh.triangles, &mut said)?;
     said.extend_from_slice(b" triangles in ")?;
-    put_count(output.planes, &mut said)?;
+    put_count(mesh.planes, &mut said)?;
     said.extend_from_slice(b" planes; ")?;
-    put_count(output.vanished, &mut said)?;
+    put_count(mesh.vanished, &mut said)?;
     said.extend_from_slice(b" vanished; ")?;
-    put_count(output.shared, &mut said)?;
+    put_count(mesh.shared, &mut said)?;
     said.extend_from_slice(b" edges of more than two triangles")?;
     put_line(alloc, &said, text)
 }
 
-// All lines of the report.
-fn report_lines(alloc: Global, names: &[Text], output: &Output) -> Result<Vec<u8>, OutOfMemory>
-    requires { 0 < output.now.grid.step.denominator }
-    ensures { IfOk result (λ text. text.items ≡ report_lines names.now output.now) }
+// Appends the lines of a mesh of so many faces.
+fn put_mesh_lines(
+    alloc: Global,
+    faces: u64,
+    mesh: &Written,
+    text: &mut Vec<u8>,
+) -> Result<(), OutOfMemory>
+    ensures { OnOk result (text.new.items ≡ text.old.items ++ mesh_lines faces mesh.now) }
 {
-    let mut text = Vec::new(alloc);
-    put_grid(alloc, &output.grid, &mut text)?;
-    put_all_counts(alloc, names, &output.counts, &output.moves, &mut text)?;
-    put_empty(alloc, output, &mut text)?;
-    put_result(alloc, output, &mut text)?;
-    Ok(text)
+    put_empty(alloc, mesh, text)?;
+    put_mesh(alloc, faces, mesh, text)
+}
+
+// Appends the lines of the grid and of the files.
+fn put_scene(
+    alloc: Global,
+    names: &[Text],
+    grid: &Grid,
+    counts: &[Counts],
+    moves: &[Length],
+    text: &mut Vec<u8>,
+) -> Result<(), OutOfMemory>
+    requires { 0 < grid.now.step.denominator }
+    ensures { OnOk result (text.new.items ≡
+        text.old.items ++ scene_lines names.now grid.now counts.now moves.now) }
+{
+    put_grid(alloc, grid, text)?;
+    put_all_counts(alloc, names, counts, moves, text)
 }
 
 /// The report of an output; empty if the request wants none. It has a line for the grid, a line for
@@ -142,8 +164,62 @@ pub fn report_of(alloc: Global, request: &Request, output: &Output) -> Result<Ve
     requires { 0 < output.now.grid.step.denominator }
     ensures { IfOk result (λ text. text.items ≡ report_of request.now output.now) }
 {
+    let mut text = Vec::new(alloc);
     if request.quiet {
-        return Ok(Vec::new(alloc));
+        return Ok(text);
     }
-    report_lines(alloc, request.files.items(), output)
+    let names = request.files.items();
+    put_scene(
+        alloc,
+        names,
+        &output.grid,
+        &output.counts,
+        &output.moves,
+        &mut text,
+    )?;
+    put_mesh_lines(alloc, output.report.faces, &output.written, &mut text)?;
+    Ok(text)
+}
+
+/// The report of placed files, unless the request wants none: a line for the grid and a line for
+/// each file.
+pub fn snap_report(
+    alloc: Global,
+    request: &SnapRequest,
+    placed: &Placed,
+) -> Result<Vec<u8>, OutOfMemory>
+    requires { 0 < placed.now.grid.step.denominator }
+    ensures { IfOk result (λ text. text.items ≡ snap_report request.now placed.now) }
+{
+    let mut text = Vec::new(alloc);
+    if request.quiet {
+        return Ok(text);
+    }
+    let names = request.files.items();
+    put_scene(
+        alloc,
+        names,
+        &placed.grid,
+        &placed.counts,
+        &placed.moves,
+        &mut text,
+    )?;
+    Ok(text)
+}
+
+/// The report of a document's mesh, unless the request wants none: that it is empty, if it is, and
+/// its numbers.
+pub fn export_report(
+    alloc: Global,
+    request: &ExportRequest,
+    mesh: &Written,
+) -> Result<Vec<u8>, OutOfMemory>
+    ensures { IfOk result (λ text. text.items ≡ export_report request.now mesh.now) }
+{
+    let mut text = Vec::new(alloc);
+    if request.quiet {
+        return Ok(text);
+    }
+    put_mesh_lines(alloc, mesh.faces, mesh, &mut text)?;
+    Ok(text)
 }

@@ -1,25 +1,32 @@
-// The output of a Boolean.
-ghost use Rattle.std.specs.Prelude.{◌≡◌, ◌≤◌, ℕ, List, length, All, IfOk, IfErr};
+// The files of a Boolean.
+ghost use Rattle.std.specs.Prelude.{◌≡◌, ◌≤◌, ℕ, List, length, All, false, None, IfOk, IfErr};
 ghost use Rattle.std.specs.declared.option.Option.{Option};
 ghost use Rattle.ember_boolean.specs.Outputs.{HasFewDigits};
 ghost use Rattle.ember_expr.specs.Formula.{formula_of};
 ghost use Rattle.ember_grid.specs.Grids.{IsChoice};
 ghost use Rattle.ember_mesh_words.specs.Commands.{IsWithinLimits};
 ghost use Rattle.ember_query.specs.Queries.{IsExecutor};
-ghost use Rattle.ember_mesh_run.specs.Calls.{shelf_call};
+ghost use Rattle.ember_mesh_run.specs.Calls.{KeepsContents, TakesUntilFault, shelf_call, sink_call, target_call};
 ghost use Rattle.ember_mesh_run.specs.Causes.{IsFilesCause, IsStop};
 ghost use Rattle.ember_mesh_run.specs.Files.{AreContents};
+ghost use Rattle.ember_mesh_run.specs.Memory.{hides_memory};
 ghost use Rattle.ember_mesh_run.specs.Outputs.{IsFilesOutput, IsOutputFor};
+ghost use Rattle.ember_mesh_run.specs.Serves.{IsSolidOutcome, IsSolidUnmet, WritesSolid};
 
 use crate::asked::{Asked, asked_by};
+use crate::files::solid_files;
+use crate::lines::line_of;
 use crate::reading::{mesh_files, read_contents};
 use crate::refusals::status_of;
+use crate::report::report_of;
 use crate::status::Status;
+use crate::writing::{say, say_why, write_files};
 use ember_boolean::{Output, solid_file};
-use ember_io::Shelf;
+use ember_io::{Shelf, Sink};
 use ember_mesh_words::Request;
 use ember_model::OutOfMemory;
 use ember_query::{Answer, Query};
+use ember_target::Target;
 use ember_words::Text;
 use std::alloc::Global;
 
@@ -51,9 +58,9 @@ fn output_of_contents<C: Fn(&Query) -> Result<Answer, OutOfMemory>>(
     }
 }
 
-/// The output that a request asks for. The error is the status with which the call ends instead. No
-/// file is opened if the words or the expression are refused.
-pub fn solid_output<S: Shelf, C: Fn(&Query) -> Result<Answer, OutOfMemory>>(
+// The output that a request asks for. The error is the status with which the call ends instead. No
+// file is opened if the words or the expression are refused.
+fn solid_output<S: Shelf, C: Fn(&Query) -> Result<Answer, OutOfMemory>>(
     alloc: Global,
     request: &Request,
     shelf: &mut S,
@@ -75,5 +82,72 @@ pub fn solid_output<S: Shelf, C: Fn(&Query) -> Result<Answer, OutOfMemory>>(
     match read_contents(alloc, shelf, names) {
         Ok(contents) => output_of_contents(alloc, names, &contents, &asked, executor),
         Err(status) => Err(status),
+    }
+}
+
+// Writes the files that a request asks for, and gives the report, or the status that says why they
+// aren't written.
+fn write_solid<S: Shelf, T: Target, C: Fn(&Query) -> Result<Answer, OutOfMemory>>(
+    alloc: Global,
+    request: &Request,
+    shelf: &mut S,
+    target: &mut T,
+    executor: &C,
+) -> Result<Vec<u8>, Status>
+    requires limits { IsWithinLimits request.now }
+    requires begun { T.begun target.old ≡ None }
+    requires executor { IsExecutor C.pre C.post executor.now }
+    ensures contents { KeepsContents (shelf_call S.contents S.faults S.fault_at shelf.old shelf.new) }
+    ensures none_begun { T.begun target.new ≡ None }
+    ensures later { T.faults target.old ≤ T.faults target.new }
+    ensures written { IfOk result (λ report. WritesSolid request.now
+        (shelf_call S.contents S.faults S.fault_at shelf.old shelf.new)
+        (target_call T.held T.begun T.faults target.old target.new) report.items) }
+    ensures stop { IfErr result (IsSolidUnmet request.now
+        (shelf_call S.contents S.faults S.fault_at shelf.old shelf.new)
+        (target_call T.held T.begun T.faults target.old target.new)) }
+{
+    let output = match solid_output(alloc, request, shelf, executor) {
+        Ok(output) => output,
+        Err(status) => return Err(status),
+    };
+    let report = report_of(alloc, request, &output)?;
+    let files = solid_files(alloc, request, output)?;
+    match write_files(alloc, target, request.keep.as_ref(), &files) {
+        Ok(()) => Ok(report),
+        Err(status) => Err(status),
+    }
+}
+
+/// Writes the files that a request asks for, and the report or the line of the status to err.
+pub fn serve_solid<S: Shelf, T: Target, E: Sink, C: Fn(&Query) -> Result<Answer, OutOfMemory>>(
+    alloc: Global,
+    request: &Request,
+    shelf: &mut S,
+    target: &mut T,
+    err: &mut E,
+    executor: &C,
+) -> Status
+    requires limits { IsWithinLimits request.now }
+    requires begun { T.begun target.old ≡ None }
+    requires executor { IsExecutor C.pre C.post executor.now }
+    ensures contents { KeepsContents (shelf_call S.contents S.faults S.fault_at shelf.old shelf.new) }
+    ensures none_begun { T.begun target.new ≡ None }
+    ensures later { T.faults target.old ≤ T.faults target.new }
+    ensures outcome { (text : List ℕ) × IsSolidOutcome request.now
+        (shelf_call S.contents S.faults S.fault_at shelf.old shelf.new)
+        (target_call T.held T.begun T.faults target.old target.new) result text ×
+        TakesUntilFault (sink_call E.taken E.flushed E.faults err.old err.new) text }
+    ensures memory { hides_memory result ≡ false }
+{
+    match write_solid(alloc, request, shelf, target, executor) {
+        Ok(report) => {
+            say(err, &report);
+            Status::Done
+        }
+        Err(status) => {
+            let said = line_of(alloc, request, &status);
+            say_why(err, status, said)
+        }
     }
 }

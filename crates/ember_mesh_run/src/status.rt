@@ -1,6 +1,6 @@
 // How a call ends.
 ghost use Rattle.std.specs.Prelude.{◌≡◌};
-ghost use Rattle.ember_mesh_run.specs.Lines.{number_of};
+ghost use Rattle.ember_mesh_run.specs.Numbers.{document_number, number_of};
 ghost use Rattle.ember_mesh_run.specs.declared.status.Status.TheVariants.{OutOfMemory};
 
 use ember_expr::ExprFault;
@@ -8,7 +8,8 @@ use ember_format::Format;
 use ember_grid::Extent;
 use ember_mesh_words::Refusal;
 use ember_scene::Open;
-use ember_solid_mesh::SolidFault;
+use ember_solid_mesh::{DocumentFault, SolidFault};
+use ember_triangles::TrianglesFault;
 use std::alloc::{AllocError, AllocFailed};
 
 /// How a call ends. A `u32` is the number of a file, from 1, in the order of the command line.
@@ -22,8 +23,14 @@ pub enum Status {
     StepOfNoGrid,
     /// The file can't be read.
     ReadFault(u32),
-    /// The output can't be written; what its name held is still there.
+    /// Standard output can't be written.
     WriteFault,
+    /// The file of this name can't be written; what its name held is still there.
+    NotWritten(String),
+    /// The file is no scene of a grid. It is the first that is read.
+    NotAScene,
+    /// The document has no mesh.
+    DocumentRefused(DocumentFault),
     /// The file is refused, for this reason: the place, the fault and the remedy.
     FileRefused(u32, String),
     /// The files have no triangles. It isn't proved that this never happens, since a file without
@@ -52,6 +59,19 @@ pub enum Status {
     Uncertified(SolidFault),
 }
 
+// The exit status of a document that has no mesh: it is refused, or no certified triangles were found.
+fn document_number(fault: &DocumentFault) -> u8
+    ensures { result ≡ document_number fault.now }
+{
+    match fault {
+        DocumentFault::NotCut(fault) => match fault {
+            TrianglesFault::Overlap { .. } | TrianglesFault::NotClosed(_) => 11,
+            _ => 14,
+        },
+        _ => 11,
+    }
+}
+
 impl Status {
     /// The exit status of the program.
     pub fn number(&self) -> u8
@@ -61,13 +81,14 @@ impl Status {
             Status::Done => 0,
             Status::Words(_) | Status::StepOfNoGrid => 2,
             Status::ReadFault(_) => 3,
-            Status::WriteFault => 4,
-            Status::FileRefused(_, _) | Status::NoTriangles => 5,
+            Status::WriteFault | Status::NotWritten(_) => 4,
+            Status::FileRefused(_, _) | Status::NoTriangles | Status::NotAScene => 5,
             Status::NotClosed(_, _) => 6,
             Status::ExprRefused(_) => 7,
             Status::Unbounded => 8,
             Status::LongFile(_) | Status::TooManyTriangles(_) | Status::TooManyWritten => 9,
             Status::StepTooSmall(_) | Status::TooFar => 10,
+            Status::DocumentRefused(fault) => document_number(fault),
             Status::OutOfMemory => 12,
             Status::Uncertified(_) => 14,
         }

@@ -156,3 +156,17 @@ pub fn put_corner(corner: &Corner, grid: &Grid, text: &mut Vec<u8>) -> Result<()
     put_shown(&point, Axis::Z, grid, text)?;
     text.extend_from_slice(b")")
 }
+
+/// Appends a word, its value, and what is said of it.
+pub fn put_value(
+    option: &[u8],
+    value: &[u8],
+    said: &[u8],
+    text: &mut Vec<u8>,
+) -> Result<(), OutOfMemory>
+    ensures { OnOk result (text.new.items ≡ text.old.items ++ (option.now ++ (value.now ++ said.now))) }
+{
+    text.extend_from_slice(option)?;
+    text.extend_from_slice(value)?;
+    text.extend_from_slice(said)
+}

@@ -3,13 +3,18 @@
 ghost use Rattle.std.specs.Prelude.{◌≡◌, ◌≤◌, ℕ, List, false, None, IfOk, map, string_bytes};
 ghost use Rattle.ember_query.specs.Queries.{IsAnswer, IsExecutorOfAny, IsQuery};
 ghost use Rattle.ember_mesh_run.specs.Calls.{TakesUntilFault, shelf_call, sink_call, target_call};
-ghost use Rattle.ember_mesh_run.specs.Causes.{hides_memory};
+ghost use Rattle.ember_mesh_run.specs.Memory.{hides_memory};
 ghost use Rattle.ember_mesh_run.specs.Serves.{IsWordsOutcome, MeshServes};
 
-use crate::lines::refusal_line;
+use crate::exports::serve_export;
+use crate::infos::serve_infos;
 use crate::messages::{USAGE, VERSION};
+use crate::snaps::serve_snap;
+use crate::solid::serve_solid;
 use crate::status::Status;
-use crate::writing::{say, say_out_of_memory, serve, write_message};
+use crate::views::serve_view;
+use crate::word_lines::refusal_line;
+use crate::writing::{say, say_out_of_memory, write_bytes};
 use ember_io::{Shelf, Sink};
 use ember_mesh_words::{Command, Refusal, WordsFault, read_words};
 use ember_model::OutOfMemory;
@@ -63,7 +68,7 @@ fn run_by<S: Shelf, T: Target, O: Sink, E: Sink, C: Fn(u32, &Query) -> Result<An
     match read_words(alloc, words) {
         Ok(Command::Boole(request)) => {
             let workers = request.workers;
-            serve(
+            serve_solid(
                 alloc,
                 &request,
                 shelf,
@@ -75,8 +80,12 @@ fn run_by<S: Shelf, T: Target, O: Sink, E: Sink, C: Fn(u32, &Query) -> Result<An
                 { executor(workers, query) },
             )
         }
-        Ok(Command::Help) => write_message(out, err, USAGE),
-        Ok(Command::Version) => write_message(out, err, VERSION),
+        Ok(Command::Snap(request)) => serve_snap(alloc, &request, shelf, target, err),
+        Ok(Command::Export(request)) => serve_export(alloc, &request, shelf, target, err),
+        Ok(Command::Info(names)) => serve_infos(alloc, &names, shelf, out, err),
+        Ok(Command::View(request)) => serve_view(alloc, &request, shelf, target, err),
+        Ok(Command::Help) => write_bytes(out, err, USAGE.as_bytes()),
+        Ok(Command::Version) => write_bytes(out, err, VERSION.as_bytes()),
         Err(WordsFault::Refused(why)) => refuse_words(alloc, words, why, err),
         Err(WordsFault::OutOfMemory) => {
             say_out_of_memory(err);
@@ -119,7 +128,7 @@ pub fn run_mesh_one<S: Shelf, T: Target, O: Sink, E: Sink, G: Gate>(
 }
 
 /// Does what the words ask for, with as many workers as they say. The files that they name are read
-/// from the shelf, and the file of the result is written to the target, whole or not at all. `help`
+/// from the shelf, and those of the result are written to the target, each whole or not at all. `help`
 /// and the version go to `out`; the report, or the line of the status, goes to `err`. The solid
 /// doesn't depend on the number of workers. With one worker, the calling thread does everything.
 pub fn run_mesh<R: Threads + Wait + Sync, S: Shelf, T: Target, O: Sink, E: Sink, G: Gate + Sync>(

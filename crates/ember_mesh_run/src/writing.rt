@@ -1,22 +1,17 @@
-// The file of a Boolean, and what standard error gets.
-ghost use Rattle.std.specs.Prelude.{◌≡◌, ◌⊎◌, ◌≤◌, ℕ, List, codes, false, None, Some, IfOk, IfErr};
-ghost use Rattle.ember_mesh_words.specs.Commands.{IsWithinLimits};
-ghost use Rattle.ember_query.specs.Queries.{IsExecutor};
-ghost use Rattle.ember_target.specs.Targets.{Puts};
-ghost use Rattle.ember_mesh_run.specs.Calls.{HoldsAllBut, KeepsContents, TakesUntilFault, shelf_call, sink_call, target_call};
-ghost use Rattle.ember_mesh_run.specs.Causes.{IsWriteCause, hides_memory};
+// What the target and the two streams get.
+ghost use Rattle.std.specs.Prelude.{◌≡◌, ◌≤◌, ℕ, List, codes, false, None, IfOk, IfErr, OnOk, OnErr};
+ghost use Rattle.ember_target.specs.Several.{PutsEach, names_and_bytes};
+ghost use Rattle.ember_mesh_run.specs.Calls.{HoldsAll, TakesUntilFault, sink_call, target_call};
 ghost use Rattle.ember_mesh_run.specs.Lines.{line};
-ghost use Rattle.ember_mesh_run.specs.Serves.{IsMessageOutcome, IsSolidOutcome, IsUnmet, WritesSolid};
+ghost use Rattle.ember_mesh_run.specs.Memory.{hides_memory};
+ghost use Rattle.ember_mesh_run.specs.Serves.{IsMessageOutcome};
+ghost use Rattle.ember_mesh_run.specs.Unmet.{IsUnwrittenStatus, IsWriteStop};
 
-use crate::lines::line_of;
-use crate::report::report_of;
-use crate::solid::solid_output;
 use crate::status::Status;
-use ember_io::{Shelf, Sink, write_all};
-use ember_mesh_words::Request;
+use ember_io::{Sink, write_all};
 use ember_model::OutOfMemory;
-use ember_query::{Answer, Query};
-use ember_target::{Target, WriteEnd, write_whole};
+use ember_target::{NamedFile, Target, WriteEnd, write_each};
+use ember_words::Text;
 use std::alloc::Global;
 
 const MEMORY_LINE: &[u8] = b"ember-mesh: out of memory\n";
@@ -38,15 +33,15 @@ pub fn say_out_of_memory<E: Sink>(err: &mut E)
     say(err, MEMORY_LINE);
 }
 
-/// Writes a message to `out`, or the line of a failure to err.
-pub fn write_message<O: Sink, E: Sink>(out: &mut O, err: &mut E, message: &str) -> Status
+/// Writes bytes to `out`, or the line of a failure to err.
+pub fn write_bytes<O: Sink, E: Sink>(out: &mut O, err: &mut E, bytes: &[u8]) -> Status
     ensures later { O.faults out.old ≤ O.faults out.new }
-    ensures outcome { (text : List ℕ) × IsMessageOutcome message.now
+    ensures outcome { (text : List ℕ) × IsMessageOutcome bytes.now
         (sink_call O.taken O.flushed O.faults out.old out.new) result text ×
         TakesUntilFault (sink_call E.taken E.flushed E.faults err.old err.new) text }
     ensures memory { hides_memory result ≡ false }
 {
-    match write_all(out, message.as_bytes()) {
+    match write_all(out, bytes) {
         Ok(()) => {
             say(err, &[]);
             Status::Done
@@ -58,97 +53,70 @@ pub fn write_message<O: Sink, E: Sink>(out: &mut O, err: &mut E, message: &str) 
     }
 }
 
-// Writes a file to the target.
-fn write_file<T: Target>(
+/// Writes the line of a status to err. Without memory for the line, that of out-of-memory is
+/// written, and this is the status then.
+pub fn say_why<E: Sink>(err: &mut E, status: Status, said: Result<Vec<u8>, OutOfMemory>) -> Status
+    ensures said { IfOk said (λ text. (result ≡ status) ×
+        TakesUntilFault (sink_call E.taken E.flushed E.faults err.old err.new) text.items) }
+    ensures memory { OnErr said ((result ≡ Status.OutOfMemory) ×
+        TakesUntilFault (sink_call E.taken E.flushed E.faults err.old err.new) (line (codes "out of memory"))) }
+{
+    match said {
+        Ok(text) => {
+            say(err, &text);
+            status
+        }
+        Err(_) => {
+            say_out_of_memory(err);
+            Status::OutOfMemory
+        }
+    }
+}
+
+// Makes a folder, if one is named. If it can't be made, no file can be written there, and this is
+// told of the first of them.
+#[tactic(auto, using(crate::proofs::KeptNames::names_hold_the_same))]
+fn make_folder<T: Target>(target: &mut T, folder: Option<&Text>)
+    ensures begun { T.begun target.new ≡ T.begun target.old }
+    ensures held { HoldsAll (target_call T.held T.begun T.faults target.old target.new) }
+    ensures later { T.faults target.old ≤ T.faults target.new }
+{
+    if let Some(folder) = folder {
+        let _ = target.make_folder(folder.as_str());
+    }
+}
+
+// The status of a file of this name that isn't written.
+fn unwritten_status(alloc: Global, name: &str, why: WriteEnd) -> Status
+    ensures { IsUnwrittenStatus name.now why result }
+{
+    match why {
+        WriteEnd::WriteFault | WriteEnd::NamesTaken => match String::from_str(alloc, name) {
+            Ok(name) => Status::NotWritten(name),
+            Err(_) => Status::OutOfMemory,
+        },
+        WriteEnd::OutOfMemory => Status::OutOfMemory,
+    }
+}
+
+/// Writes files to the target, each in its turn. The folder is made before, if one is named and it
+/// isn't there. The error names the file that isn't written, or is out-of-memory.
+pub fn write_files<T: Target>(
     alloc: Global,
     target: &mut T,
-    name: &str,
-    bytes: &[u8],
+    folder: Option<&Text>,
+    files: &[NamedFile],
 ) -> Result<(), Status>
     requires { T.begun target.old ≡ None }
     ensures none_begun { T.begun target.new ≡ None }
     ensures later { T.faults target.old ≤ T.faults target.new }
-    ensures written { IfOk result (λ _. Puts (T.held target.old) (T.held target.new) name.now (Some bytes.now)) }
-    ensures held { IfErr result (λ _. HoldsAllBut name.now
+    ensures written { OnOk result (PutsEach (names_and_bytes files.now) (T.held target.old) (T.held target.new)) }
+    ensures stop { IfErr result (IsWriteStop (names_and_bytes files.now)
         (target_call T.held T.begun T.faults target.old target.new)) }
-    ensures cause { IfErr result (λ status. (status ≡ Status.OutOfMemory) ⊎ ((status ≡ Status.WriteFault) ×
-        IsWriteCause name.now (target_call T.held T.begun T.faults target.old target.new))) }
 {
-    match write_whole(alloc, target, name, bytes) {
+    make_folder(target, folder);
+    match write_each(alloc, target, files) {
         Ok(()) => Ok(()),
-        Err(WriteEnd::OutOfMemory) => Err(Status::OutOfMemory),
-        Err(WriteEnd::WriteFault) | Err(WriteEnd::NamesTaken) => Err(Status::WriteFault),
-    }
-}
-
-// Writes the solid that a request asks for, and gives its report, or the status that says why it
-// isn't written.
-fn write_solid<S: Shelf, T: Target, C: Fn(&Query) -> Result<Answer, OutOfMemory>>(
-    alloc: Global,
-    request: &Request,
-    shelf: &mut S,
-    target: &mut T,
-    executor: &C,
-) -> Result<Vec<u8>, Status>
-    requires limits { IsWithinLimits request.now }
-    requires begun { T.begun target.old ≡ None }
-    requires executor { IsExecutor C.pre C.post executor.now }
-    ensures contents { KeepsContents (shelf_call S.contents S.faults S.fault_at shelf.old shelf.new) }
-    ensures none_begun { T.begun target.new ≡ None }
-    ensures later { T.faults target.old ≤ T.faults target.new }
-    ensures written { IfOk result (λ report. WritesSolid request.now
-        (shelf_call S.contents S.faults S.fault_at shelf.old shelf.new)
-        (target_call T.held T.begun T.faults target.old target.new) report.items) }
-    ensures stop { IfErr result (IsUnmet request.now
-        (shelf_call S.contents S.faults S.fault_at shelf.old shelf.new)
-        (target_call T.held T.begun T.faults target.old target.new)) }
-{
-    let output = match solid_output(alloc, request, shelf, executor) {
-        Ok(output) => output,
-        Err(status) => return Err(status),
-    };
-    let report = report_of(alloc, request, &output)?;
-    match write_file(alloc, target, request.output.as_str(), &output.bytes) {
-        Ok(()) => Ok(report),
-        Err(status) => Err(status),
-    }
-}
-
-/// Writes the solid that a request asks for, and its report or the line of the status to err.
-pub fn serve<S: Shelf, T: Target, E: Sink, C: Fn(&Query) -> Result<Answer, OutOfMemory>>(
-    alloc: Global,
-    request: &Request,
-    shelf: &mut S,
-    target: &mut T,
-    err: &mut E,
-    executor: &C,
-) -> Status
-    requires limits { IsWithinLimits request.now }
-    requires begun { T.begun target.old ≡ None }
-    requires executor { IsExecutor C.pre C.post executor.now }
-    ensures contents { KeepsContents (shelf_call S.contents S.faults S.fault_at shelf.old shelf.new) }
-    ensures none_begun { T.begun target.new ≡ None }
-    ensures later { T.faults target.old ≤ T.faults target.new }
-    ensures outcome { (text : List ℕ) × IsSolidOutcome request.now
-        (shelf_call S.contents S.faults S.fault_at shelf.old shelf.new)
-        (target_call T.held T.begun T.faults target.old target.new) result text ×
-        TakesUntilFault (sink_call E.taken E.flushed E.faults err.old err.new) text }
-    ensures memory { hides_memory result ≡ false }
-{
-    match write_solid(alloc, request, shelf, target, executor) {
-        Ok(report) => {
-            say(err, &report);
-            Status::Done
-        }
-        Err(status) => match line_of(alloc, request, &status) {
-            Ok(line) => {
-                say(err, &line);
-                status
-            }
-            Err(_) => {
-                say_out_of_memory(err);
-                Status::OutOfMemory
-            }
-        },
+        Err(file) => Err(unwritten_status(alloc, file.name, file.why)),
     }
 }

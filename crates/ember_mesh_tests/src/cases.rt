@@ -129,7 +129,18 @@ fn give_by<R: Threads + Wait + Sync>(
 
 // Both give the same.
 fn are_same(given: &Given, other: &Given) -> bool {
-    for name in ["out.stl", "out.obj", "out.ply", "out.off"] {
+    for name in [
+        "out.stl",
+        "out.obj",
+        "out.ply",
+        "out.off",
+        "out.glb",
+        "page.html",
+        "dir/1.obj",
+        "dir/2.obj",
+        "dir/scene.json",
+        "dir/doc.txt",
+    ] {
         if given.held(name) != other.held(name) {
             return false;
         }

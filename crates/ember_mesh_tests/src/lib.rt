@@ -8,10 +8,16 @@ mod cases;
 #[cfg(test)]
 mod devices;
 #[cfg(test)]
+mod infos;
+#[cfg(test)]
 mod refusal_cases;
+#[cfg(test)]
+mod scenes;
 #[cfg(test)]
 mod solid_cases;
 #[cfg(test)]
 mod solids;
+#[cfg(test)]
+mod views;
 #[cfg(test)]
 mod words;

@@ -210,6 +210,20 @@ fn solids_as_text(rt: HostRuntime) -> Result<(), Fail> {
     Ok(())
 }
 
+// The numbers stand behind all else: 72 bytes for each triangle, behind a head of 8.
+#[test]
+fn a_solid_as_glb(rt: HostRuntime) -> Result<(), Fail> {
+    let files: Named = &[("a.obj", LOW), ("b.obj", HIGH)];
+    let given = give(&rt, rt.alloc(), "difference -o out.glb a.obj b.obj", files)?;
+    assert_eq!(rt; given.status.number(), 0);
+    let bytes = given.held("out.glb");
+    assert!(rt; bytes.starts_with(b"glTF\x02\0\0\0"));
+    assert!(rt; bytes.len() > 28 + 72 * 24);
+    let numbers = bytes.split_at(bytes.len() - 72 * 24 - 8).1;
+    assert!(rt; numbers.starts_with(b"\xc0\x06\0\0BIN\0"));
+    Ok(())
+}
+
 // The edge in which the boxes touch has four triangles, and its two corners are four vertices.
 #[test]
 fn corners_of_an_edge_in_which_boxes_touch(rt: HostRuntime) -> Result<(), Fail> {

@@ -39,8 +39,8 @@ fn refused_words_have_a_line(rt: HostRuntime) -> Result<(), Fail> {
             b"ember-mesh: -o: is missing; see ember-mesh help\n",
         ),
         (
-            "union -o out.glb a.stl",
-            b"ember-mesh: -o out.glb: the name must end in .stl, .obj, .ply or .off\n",
+            "union -o out.gltf a.stl",
+            b"ember-mesh: -o out.gltf: the name must end in .stl, .obj, .ply, .off or .glb\n",
         ),
         (
             "union -o out.obj --digits 18 a.stl",

@@ -17,8 +17,12 @@ obj_vertex places p = codes "v " ++ point_line places p
 unfoldable pub obj_face : IndexedTriangle → List ℕ
 obj_face t = codes "f" ++ indices_line (t.a + 1) (t.b + 1) (t.c + 1)
 
+-- the lines behind the comment
+abbrev pub obj_lines : ℕ → List DecimalPoint → List IndexedTriangle → List ℕ
+obj_lines places ps ts = flat_map (obj_vertex places) ps ++ flat_map obj_face ts
+
 abbrev pub obj_text : ℕ → List DecimalPoint → List IndexedTriangle → List ℕ
-obj_text places ps ts = obj_header ++ (flat_map (obj_vertex places) ps ++ flat_map obj_face ts)
+obj_text places ps ts = obj_header ++ obj_lines places ps ts
 
 -- ---- PLY
 unfoldable pub ply_header : ℕ → ℕ → List ℕ

@@ -9,4 +9,5 @@ mod ply;
 mod whole;
 
 pub use format::TextFormat;
+pub use obj::put_obj_lines;
 pub use whole::mesh_text;

@@ -1,6 +1,6 @@
 // OBJ.
 ghost use Rattle.std.specs.Prelude.{◌≡◌, ◌≤◌, ◌++◌, IfOk, OnOk, flat_map};
-ghost use Rattle.ember_mesh_text.specs.Texts.{obj_vertex, obj_face, obj_text};
+ghost use Rattle.ember_mesh_text.specs.Texts.{obj_vertex, obj_face, obj_lines, obj_text};
 
 use crate::lines::{put_indices, put_point};
 use ember_vertices::{DecimalPoint, IndexedTriangle};
@@ -50,6 +50,22 @@ fn put_faces(triangles: &[IndexedTriangle], out: &mut Vec<u8>) -> Result<(), All
     Ok(())
 }
 
+/// Appends the lines of an OBJ behind its comment: one for each vertex, then one for each triangle,
+/// in their order. Coordinates are units of the last of so many decimal places, of which there are
+/// at most 17. The one error is out-of-memory.
+pub fn put_obj_lines(
+    vertices: &[DecimalPoint],
+    triangles: &[IndexedTriangle],
+    places: u32,
+    out: &mut Vec<u8>,
+) -> Result<(), AllocError>
+    requires { places ≤ 17 }
+    ensures { OnOk result (out.new.items ≡ out.old.items ++ obj_lines places vertices.now triangles.now) }
+{
+    put_vertices(vertices, places, out)?;
+    put_faces(triangles, out)
+}
+
 /// The OBJ with these vertices and triangles.
 pub fn obj_text(
     alloc: Global,
@@ -61,7 +77,6 @@ pub fn obj_text(
     ensures { IfOk result (λ text. text.items ≡ obj_text places vertices.now triangles.now) }
 {
     let mut text = Vec::from_slice(alloc, HEADER)?;
-    put_vertices(vertices, places, &mut text)?;
-    put_faces(triangles, &mut text)?;
+    put_obj_lines(vertices, triangles, places, &mut text)?;
     Ok(text)
 }

@@ -16,7 +16,7 @@ use Rattle.ember_mesh_words.specs.declared.arguments.WordMeaning.{WordMeaning}
 use Rattle.ember_mesh_words.specs.declared.arguments.WordMeaning.TheVariants.{Whole, Waiting, Unknown}
 use Rattle.ember_mesh_words.specs.Names.{Text, setting_of}
 use Rattle.ember_mesh_words.specs.Arguments.{in_front, parts_of, with_value, attached_in, is_help, said, said_by, waiting_in, prepend, arguments_with, arguments_from}
-use Rattle.ember_mesh_words.specs.Commands.{Reads, command_of, command_with}
+use Rattle.ember_mesh_words.specs.Commands.{Reads, command_of, command_with, snap_command, export_command, view_command}
 use Rattle.ember_mesh_words.specs.Spelling.{name_of, option_of, spelling_of, AreSpelled}
 
 -- ---- one word
@@ -26,6 +26,10 @@ option_waits setting.Output = refl
 option_waits setting.Step = refl
 option_waits setting.Workers = refl
 option_waits setting.Digits = refl
+option_waits setting.Folder = refl
+option_waits setting.Scene = refl
+option_waits setting.Page = refl
+option_waits setting.Keep = refl
 
 -- a word that doesn't begin with a hyphen has no option before an equals sign
 not_attached : (b : ℕ) (bs : List ℕ) → (b == 45) ≡ false → attached_in (b ∷ bs) ≡ None
@@ -77,3 +81,18 @@ command_back operation.Expression is h = ap (command_with operation.Expression) 
 pub spelled_words : (words : List Text) (r : Result Command WordsFault) (o : Operation) (is : List Argument) → Reads (command_of words) r → AreSpelled is
     → words ≡ name_of o ∷ spelling_of is → Reads (command_with o (Ok is)) r
 spelled_words words r o is h spelled e = subst (λ (c : Result Command Refusal). Reads c r) (ap command_of e ∙ command_back o is spelled) h
+
+-- those of a page
+pub spelled_view : (words : List Text) (r : Result Command WordsFault) (is : List Argument) → Reads (command_of words) r → AreSpelled is
+    → words ≡ codes "view" ∷ spelling_of is → Reads (view_command (Ok is)) r
+spelled_view words r is h spelled e = subst (λ (c : Result Command Refusal). Reads c r) (ap command_of e ∙ ap view_command (read_back is 1 spelled)) h
+
+-- those of meshes on their grid
+pub spelled_snap : (words : List Text) (r : Result Command WordsFault) (is : List Argument) → Reads (command_of words) r → AreSpelled is
+    → words ≡ codes "snap" ∷ spelling_of is → Reads (snap_command (Ok is)) r
+spelled_snap words r is h spelled e = subst (λ (c : Result Command Refusal). Reads c r) (ap command_of e ∙ ap snap_command (read_back is 1 spelled)) h
+
+-- those of a document's mesh
+pub spelled_export : (words : List Text) (r : Result Command WordsFault) (is : List Argument) → Reads (command_of words) r → AreSpelled is
+    → words ≡ codes "export" ∷ spelling_of is → Reads (export_command (Ok is)) r
+spelled_export words r is h spelled e = subst (λ (c : Result Command Refusal). Reads c r) (ap command_of e ∙ ap export_command (read_back is 1 spelled)) h

@@ -1,6 +1,11 @@
 pub mod Names
 pub mod Arguments
+pub mod Allowed
 pub mod Values
+pub mod Plain
+pub mod Views
+pub mod Snaps
+pub mod Exports
 pub mod Commands
 pub mod Spelling
 pub mod Given

@@ -19,11 +19,15 @@ verb_of name =
     else (if bytes_eq name (codes "difference") then Some (verb.Compute operation.Difference)
     else (if bytes_eq name (codes "intersection") then Some (verb.Compute operation.Intersection)
     else (if bytes_eq name (codes "bool") then Some (verb.Compute operation.Expression)
+    else (if bytes_eq name (codes "snap") then Some verb.Snap
+    else (if bytes_eq name (codes "export") then Some verb.Export
+    else (if bytes_eq name (codes "info") then Some verb.Info
+    else (if bytes_eq name (codes "view") then Some verb.View
     else (if bytes_eq name (codes "help") then Some verb.Help
     else (if bytes_eq name (codes "--help") then Some verb.Help
     else (if bytes_eq name (codes "-h") then Some verb.Help
     else (if bytes_eq name (codes "--version") then Some verb.Version
-    else None)))))))
+    else None)))))))))))
 
 -- the operator between the meshes of the expression, none if it is given by `--expr`
 abbrev pub operator_of : Operation → Option Text
@@ -40,7 +44,11 @@ setting_of name =
     else (if bytes_eq name (codes "--step") then Some setting.Step
     else (if bytes_eq name (codes "--workers") then Some setting.Workers
     else (if bytes_eq name (codes "--digits") then Some setting.Digits
-    else None))))
+    else (if bytes_eq name (codes "-d") then Some setting.Folder
+    else (if bytes_eq name (codes "--scene") then Some setting.Scene
+    else (if bytes_eq name (codes "--view") then Some setting.Page
+    else (if bytes_eq name (codes "--keep") then Some setting.Keep
+    else None))))))))
 
 -- a number of its own for each option
 abbrev pub rank : Setting → ℕ
@@ -49,3 +57,7 @@ rank setting.Output = 1
 rank setting.Step = 2
 rank setting.Workers = 3
 rank setting.Digits = 4
+rank setting.Folder = 5
+rank setting.Scene = 6
+rank setting.Page = 7
+rank setting.Keep = 8

@@ -23,6 +23,10 @@ option_of setting.Output = codes "-o"
 option_of setting.Step = codes "--step"
 option_of setting.Workers = codes "--workers"
 option_of setting.Digits = codes "--digits"
+option_of setting.Folder = codes "-d"
+option_of setting.Scene = codes "--scene"
+option_of setting.Page = codes "--view"
+option_of setting.Keep = codes "--keep"
 
 -- the words of an argument
 abbrev pub words_of : Argument → List Text

@@ -1,4 +1,4 @@
--- The values of a Boolean's options
+-- The values of options
 use Rattle.std.specs.Prelude.{ℕ, zero, suc, ◌+◌, ◌-◌, ◌==◌, Bool, false, List, [], ◌∷◌, ◌++◌, length, drop, Option, Some, None, Result, Ok, Err, codes, decimal, if◌then◌else◌, nat_lt}
 use Rattle.std.specs.Int.{is_positive}
 use Rattle.std.specs.Str.{bytes_eq, str_eq_ignore_ascii_case}
@@ -10,7 +10,7 @@ use Rattle.ember_mesh_words.specs.declared.command.OutputFormat.TheVariants as f
 use Rattle.ember_mesh_words.specs.declared.command.WantedStep.{WantedStep}
 use Rattle.ember_mesh_words.specs.declared.command.WantedStep.TheVariants as step
 use Rattle.ember_mesh_words.specs.declared.faults.Refusal.{Refusal}
-use Rattle.ember_mesh_words.specs.declared.faults.Refusal.TheVariants.{NoFiles, TooManyFiles, NoExpression, NeedlessExpression, NoOutput, OutputEnding, NotAStep, Workers, Digits}
+use Rattle.ember_mesh_words.specs.declared.faults.Refusal.TheVariants.{NoFiles, TooManyFiles, NoExpression, NeedlessExpression, NoFolder, NoOutput, OutputEnding, NotAStep, Workers, Digits}
 use Rattle.ember_mesh_words.specs.Names.{Text}
 
 -- 1 to 64 names
@@ -30,6 +30,10 @@ expression_of None meshes (Some given) = Ok given
 expression_of (Some operator) meshes (Some given) = Err NeedlessExpression
 expression_of (Some operator) meshes None = Ok (joined operator (meshes - 1))
 
+abbrev pub folder_of : Option Text → Result Text Refusal
+folder_of None = Err NoFolder
+folder_of (Some name) = Ok name
+
 abbrev pub output_of : Option Text → Result Text Refusal
 output_of None = Err NoOutput
 output_of (Some name) = Ok name
@@ -42,10 +46,15 @@ ends_in ending name = str_eq_ignore_ascii_case (drop (length name - 4) name) end
 abbrev pub format_of : Text → Result OutputFormat Refusal
 format_of name =
     if ends_in (codes ".stl") name then Ok format.Stl
+    else (if ends_in (codes ".glb") name then Ok format.Glb
     else (if ends_in (codes ".obj") name then Ok format.Obj
     else (if ends_in (codes ".ply") name then Ok format.Ply
     else (if ends_in (codes ".off") name then Ok format.Off
-    else Err OutputEnding)))
+    else Err OutputEnding))))
+
+abbrev pub format_from : Result Text Refusal → Result OutputFormat Refusal
+format_from (Err why) = Err why
+format_from (Ok name) = format_of name
 
 abbrev pub is_above_zero : Option Fraction → Bool
 is_above_zero None = false

@@ -43,7 +43,7 @@ fn attached(word: &str) -> Option<(Setting, &str)>
 }
 
 // Whether the word asks for help: `--help` or `-h`.
-fn is_help(word: &str) -> bool
+pub fn is_help(word: &str) -> bool
     ensures { result ≡ is_help word.now }
 {
     word == "--help" || word == "-h"

@@ -6,6 +6,14 @@ use ember_words::{Text, Texts};
 pub enum Command {
     /// Write the mesh of a Boolean.
     Boole(Request),
+    /// Put meshes on their grid, and write them and the grid into a folder.
+    Snap(SnapRequest),
+    /// Write the mesh of a document.
+    Export(ExportRequest),
+    /// Print what is said of each of these meshes, 1 to 64.
+    Info(Texts),
+    /// Write a page that shows meshes.
+    View(ViewRequest),
     /// Print the usage.
     Help,
     /// Print the version.
@@ -29,6 +37,50 @@ pub struct Request {
     pub digits: Option<u32>,
     /// The names of the mesh files.
     pub files: Texts,
+    /// The name of a page that shows the result too.
+    pub view: Option<Text>,
+    /// The folder that keeps the meshes on their grid, the grid, and the document.
+    pub keep: Option<Text>,
+}
+
+/// Meshes to be put on their grid. There are 1 to 64 files.
+#[derive(Drop)]
+pub struct SnapRequest {
+    /// The folder that the meshes and the grid are written into.
+    pub folder: Text,
+    pub step: WantedStep,
+    /// Whether the program prints only a refusal.
+    pub quiet: bool,
+    /// The names of the mesh files.
+    pub files: Texts,
+}
+
+/// A document of a Boolean whose mesh is to be written.
+#[derive(Drop)]
+pub struct ExportRequest {
+    /// The name of the document.
+    pub document: Text,
+    /// The name of the file with the grid of the document. Without it the step is 1 and nothing is
+    /// moved.
+    pub scene: Option<Text>,
+    /// The name of the output; it ends as its format says.
+    pub output: Text,
+    pub format: OutputFormat,
+    /// The decimal places of OBJ, PLY and OFF, up to 17. If there is no number, the step decides.
+    pub digits: Option<u32>,
+    /// The name of a page that shows the result too.
+    pub view: Option<Text>,
+    /// Whether the program prints only a refusal.
+    pub quiet: bool,
+}
+
+/// A page that shows meshes. There are 1 to 64 files.
+#[derive(Drop)]
+pub struct ViewRequest {
+    /// The name of the page, with any ending.
+    pub output: Text,
+    /// The names of the mesh files.
+    pub files: Texts,
 }
 
 /// How the mesh is written.
@@ -36,6 +88,8 @@ pub struct Request {
 pub enum OutputFormat {
     /// Binary STL.
     Stl,
+    /// The binary file of glTF 2.0.
+    Glb,
     Obj,
     Ply,
     Off,

@@ -2,6 +2,7 @@
 ghost use Rattle.std.specs.Prelude.{◌≡◌};
 ghost use Rattle.ember_mesh_words.specs.declared.faults.WordsFault.TheVariants.{Refused, OutOfMemory};
 
+use crate::names::Setting;
 use std::alloc::{AllocError, AllocFailed};
 use thiserror::Error;
 
@@ -33,11 +34,20 @@ pub enum Refusal {
     /// Another command than `bool` has an `--expr`.
     #[error("--expr is for bool alone; see ember-mesh help")]
     NeedlessExpression,
+    /// The command doesn't take this option.
+    #[error("the option is not for this command; see ember-mesh help")]
+    NotFor(Setting),
+    /// `export` has no file name, or more than one.
+    #[error("export takes one document; see ember-mesh help")]
+    NotOneDocument,
+    /// `snap` has no `-d`.
+    #[error("-d is missing; see ember-mesh help")]
+    NoFolder,
     /// There is no `-o`.
     #[error("-o is missing; see ember-mesh help")]
     NoOutput,
-    /// The name of the output ends in none of `.stl`, `.obj`, `.ply` and `.off`.
-    #[error("-o: the name must end in .stl, .obj, .ply or .off")]
+    /// The name of the output ends in none of `.stl`, `.obj`, `.ply`, `.off` and `.glb`.
+    #[error("-o: the name must end in .stl, .obj, .ply, .off or .glb")]
     OutputEnding,
     /// The value of `--step` is neither `nice` nor `finest` nor a decimal above 0.
     #[error("--step: not a number above 0")]

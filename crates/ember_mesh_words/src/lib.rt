@@ -1,18 +1,26 @@
 //! Reads the command that the words of the second program's command line give.
 #![tactic(auto)]
 
+mod allowed;
 mod arguments;
 mod command;
+mod exports;
 mod expressions;
 mod faults;
 mod given;
 mod names;
 mod numbers;
+mod plain;
 mod reading;
+mod snaps;
 mod texts;
 mod values;
+mod views;
 
-pub use command::{Command, OutputFormat, Request, WantedStep};
+pub use command::{
+    Command, ExportRequest, OutputFormat, Request, SnapRequest, ViewRequest, WantedStep,
+};
 pub use faults::{Refusal, WordsFault};
 pub use given::{output_given, step_given};
+pub use names::Setting;
 pub use reading::read_words;

@@ -1,11 +1,16 @@
 // The names of commands and options.
 ghost use Rattle.std.specs.Prelude.{◌≡◌, option_map};
 ghost use Rattle.ember_mesh_words.specs.Names.{verb_of, operator_of, setting_of, rank};
+ghost use Rattle.ember_mesh_words.specs.Spelling.{option_of};
 
 /// A command without its values.
 #[derive(Clone, Copy)]
 pub enum Verb {
     Compute(Operation),
+    Snap,
+    Export,
+    Info,
+    View,
     Help,
     Version,
 }
@@ -21,13 +26,21 @@ pub enum Operation {
 }
 
 /// An option that has a value.
-#[derive(Clone, Copy)]
+#[derive(Clone, Copy, Debug, PartialEq, Eq)]
 pub enum Setting {
     Expression,
     Output,
     Step,
     Workers,
     Digits,
+    /// The folder of `snap`.
+    Folder,
+    /// The grid of a document.
+    Scene,
+    /// A page that shows the result.
+    Page,
+    /// The folder that keeps what a Boolean makes on the way.
+    Keep,
 }
 
 impl Verb {
@@ -40,6 +53,10 @@ impl Verb {
             "difference" => Some(Verb::Compute(Operation::Difference)),
             "intersection" => Some(Verb::Compute(Operation::Intersection)),
             "bool" => Some(Verb::Compute(Operation::Expression)),
+            "snap" => Some(Verb::Snap),
+            "export" => Some(Verb::Export),
+            "info" => Some(Verb::Info),
+            "view" => Some(Verb::View),
             "help" => Some(Verb::Help),
             "--help" => Some(Verb::Help),
             "-h" => Some(Verb::Help),
@@ -74,7 +91,28 @@ impl Setting {
             "--step" => Some(Setting::Step),
             "--workers" => Some(Setting::Workers),
             "--digits" => Some(Setting::Digits),
+            "-d" => Some(Setting::Folder),
+            "--scene" => Some(Setting::Scene),
+            "--view" => Some(Setting::Page),
+            "--keep" => Some(Setting::Keep),
             _ => None,
+        }
+    }
+
+    /// The name of the option.
+    pub fn name(self) -> &'static str
+        ensures { result.now ≡ option_of self }
+    {
+        match self {
+            Setting::Expression => "--expr",
+            Setting::Output => "-o",
+            Setting::Step => "--step",
+            Setting::Workers => "--workers",
+            Setting::Digits => "--digits",
+            Setting::Folder => "-d",
+            Setting::Scene => "--scene",
+            Setting::Page => "--view",
+            Setting::Keep => "--keep",
         }
     }
 
@@ -88,6 +126,10 @@ impl Setting {
             Setting::Step => 2,
             Setting::Workers => 3,
             Setting::Digits => 4,
+            Setting::Folder => 5,
+            Setting::Scene => 6,
+            Setting::Page => 7,
+            Setting::Keep => 8,
         }
     }
 }

@@ -1,8 +1,8 @@
-// The values of a Boolean's options.
+// The values of options.
 ghost use Rattle.std.specs.Prelude.{◌≡◌, ◌≤◌, ◌-◌, IfOk, IfSome, drop, length, option_map};
 ghost use Rattle.std.specs.Int.{IsInRange};
 ghost use Rattle.ember_mesh_words.specs.Names.{operator_of};
-ghost use Rattle.ember_mesh_words.specs.Values.{files_of, expression_of, output_of, ends_in, format_of, step_of, workers_of, digits_of};
+ghost use Rattle.ember_mesh_words.specs.Values.{files_of, expression_of, folder_of, output_of, ends_in, format_of, step_of, workers_of, digits_of};
 ghost use Rattle.ember_mesh_words.specs.Commands.{Reads, IsValidStep};
 
 use crate::command::{OutputFormat, WantedStep};
@@ -13,7 +13,7 @@ use crate::numbers::is_above_zero;
 use crate::texts::copied;
 use ember_number::number_below;
 use ember_words::{Text, Texts};
-use std::alloc::Global;
+use std::alloc::{AllocError, Global};
 
 // The same names, if there are 1 to 64 of them.
 pub fn counted(names: Texts) -> Result<Texts, Refusal>
@@ -48,6 +48,26 @@ pub fn expression(
     }
 }
 
+// The name of the folder.
+pub fn folder(alloc: Global, given: Option<&Text>) -> Result<Text, WordsFault>
+    ensures { Reads (folder_of (option_map (λ text. text.now) given.entry)) result }
+{
+    match given {
+        Some(name) => Ok(copied(alloc, name.as_str())?),
+        None => Err(WordsFault::Refused(Refusal::NoFolder)),
+    }
+}
+
+// A value that may be missing.
+pub fn optional(alloc: Global, given: Option<&Text>) -> Result<Option<Text>, AllocError>
+    ensures { IfOk result (λ value. value ≡ option_map (λ text. text.now) given.entry) }
+{
+    match given {
+        Some(text) => Ok(Some(copied(alloc, text.as_str())?)),
+        None => Ok(None),
+    }
+}
+
 // The name of the output.
 pub fn output(alloc: Global, given: Option<&Text>) -> Result<Text, WordsFault>
     ensures { Reads (output_of (option_map (λ text. text.now) given.entry)) result }
@@ -73,6 +93,8 @@ pub fn format_of(name: &str) -> Result<OutputFormat, Refusal>
     let name = name.as_bytes();
     if ends_in(b".stl", name) {
         Ok(OutputFormat::Stl)
+    } else if ends_in(b".glb", name) {
+        Ok(OutputFormat::Glb)
     } else if ends_in(b".obj", name) {
         Ok(OutputFormat::Obj)
     } else if ends_in(b".ply", name) {

@@ -1,12 +1,13 @@
 // Words of the second program's command line, and the commands that they give.
 use ember_mesh_words::{
-    Command, OutputFormat, Refusal, Request, WantedStep, WordsFault, output_given, read_words,
-    step_given,
+    Command, ExportRequest, OutputFormat, Request, SnapRequest, WantedStep, WordsFault, read_words,
 };
+use ember_words::Text;
 use std::alloc::Global;
 use std::test::Fail;
 
-fn strings(alloc: Global, words: &[&str]) -> Result<Vec<String>, Fail> {
+/// The words as strings.
+pub fn strings(alloc: Global, words: &[&str]) -> Result<Vec<String>, Fail> {
     let mut strings = Vec::new(alloc);
     for word in words {
         strings.push(String::from_str(alloc, word)?)?;
@@ -14,16 +15,41 @@ fn strings(alloc: Global, words: &[&str]) -> Result<Vec<String>, Fail> {
     Ok(strings)
 }
 
-fn read(alloc: Global, words: &[&str]) -> Result<Result<Command, WordsFault>, Fail> {
+/// What the words are read as.
+pub fn read(alloc: Global, words: &[&str]) -> Result<Result<Command, WordsFault>, Fail> {
     let strings = strings(alloc, words)?;
     Ok(read_words(alloc, &strings))
 }
 
-// The Boolean of words that give one.
-fn request_of(alloc: Global, words: &[&str]) -> Result<Request, Fail> {
+/// The Boolean of words that give one.
+pub fn request_of(alloc: Global, words: &[&str]) -> Result<Request, Fail> {
     match read(alloc, words)? {
         Ok(Command::Boole(request)) => Ok(request),
         _ => Err(Fail::from("no Boolean")),
+    }
+}
+
+// The meshes for the grid of words that give them.
+fn snap_of(alloc: Global, words: &[&str]) -> Result<SnapRequest, Fail> {
+    match read(alloc, words)? {
+        Ok(Command::Snap(request)) => Ok(request),
+        _ => Err(Fail::from("no snap")),
+    }
+}
+
+// The document of words that give one.
+fn export_of(alloc: Global, words: &[&str]) -> Result<ExportRequest, Fail> {
+    match read(alloc, words)? {
+        Ok(Command::Export(request)) => Ok(request),
+        _ => Err(Fail::from("no export")),
+    }
+}
+
+// A name that may be missing.
+fn name_in(name: &Option<Text>) -> Option<&str> {
+    match name {
+        Some(text) => Some(text.as_str()),
+        None => None,
     }
 }
 
@@ -43,6 +69,7 @@ fn a_union_of_defaults(rt: HostRuntime) -> Result<(), Fail> {
         (request.workers, request.quiet, request.digits),
         (4, false, None)
     );
+    assert!(rt; request.view.is_none() && request.keep.is_none());
     let names = ["a.stl", "b.obj", "a.stl"];
     assert_eq!(rt; request.files.items().len(), names.len());
     for (file, name) in request.files.items().iter().zip(&names) {
@@ -84,6 +111,104 @@ fn options_between_and_behind_files(rt: HostRuntime) -> Result<(), Fail> {
 }
 
 #[test]
+fn pages_and_folders_of_a_boolean(rt: HostRuntime) -> Result<(), Fail> {
+    let rows: [(&[&str], Option<&str>, Option<&str>); 4] = [
+        (
+            &["union", "-o", "x.stl", "a", "--view", "p.html"],
+            Some("p.html"),
+            None,
+        ),
+        (
+            &[
+                "bool",
+                "--view=p.html",
+                "-o=x.stl",
+                "--expr=m1",
+                "--keep",
+                "d",
+                "a",
+            ],
+            Some("p.html"),
+            Some("d"),
+        ),
+        (
+            &[
+                "intersection",
+                "--keep=a=b",
+                "a",
+                "-o=x.stl",
+                "--view",
+                "--keep",
+            ],
+            Some("--keep"),
+            Some("a=b"),
+        ),
+        (
+            &["difference", "--keep=c", "a", "b", "--keep=", "-o", "x.glb"],
+            None,
+            Some(""),
+        ),
+    ];
+    for (words, view, keep) in rows {
+        let request = request_of(rt.alloc(), words)?;
+        assert_eq!(rt; name_in(&request.view), view);
+        assert_eq!(rt; name_in(&request.keep), keep);
+    }
+    Ok(())
+}
+
+#[test]
+fn meshes_for_their_grid(rt: HostRuntime) -> Result<(), Fail> {
+    let words = ["snap", "a.stl", "-d", "grid", "b.obj", "--quiet", "a.stl"];
+    let request = snap_of(rt.alloc(), &words)?;
+    assert_eq!(rt; (request.folder.as_str(), request.quiet), ("grid", true));
+    assert!(rt; matches!(&request.step, WantedStep::Nice));
+    let names = ["a.stl", "b.obj", "a.stl"];
+    assert_eq!(rt; request.files.items().len(), names.len());
+    for (file, name) in request.files.items().iter().zip(&names) {
+        assert_eq!(rt; file.as_str(), *name);
+    }
+    let request = snap_of(rt.alloc(), &["snap", "--step=finest", "-d=", "a"])?;
+    assert_eq!(rt; (request.folder.as_str(), request.quiet), ("", false));
+    assert!(rt; matches!(&request.step, WantedStep::Finest));
+    let request = snap_of(rt.alloc(), &["snap", "-d", "-o", "a", "--step", ".5"])?;
+    assert_eq!(rt; request.folder.as_str(), "-o");
+    assert!(rt; matches!(&request.step, WantedStep::Decimal(text) if text.as_str() == ".5"));
+    Ok(())
+}
+
+#[test]
+fn a_document_to_export(rt: HostRuntime) -> Result<(), Fail> {
+    let request = export_of(rt.alloc(), &["export", "doc.txt", "-o", "x.obj"])?;
+    assert_eq!(rt; request.document.as_str(), "doc.txt");
+    assert_eq!(rt;
+        (request.output.as_str(), request.format),
+        ("x.obj", OutputFormat::Obj)
+    );
+    assert_eq!(rt; (request.digits, request.quiet), (None, false));
+    assert!(rt; request.scene.is_none() && request.view.is_none());
+    let words = [
+        "export",
+        "--scene",
+        "d/scene.json",
+        "--digits=0",
+        "--quiet",
+        "--view=p.html",
+        "-o=x.ply",
+        "doc",
+    ];
+    let request = export_of(rt.alloc(), &words)?;
+    assert_eq!(rt; request.document.as_str(), "doc");
+    assert_eq!(rt; name_in(&request.scene), Some("d/scene.json"));
+    assert_eq!(rt; name_in(&request.view), Some("p.html"));
+    assert_eq!(rt;
+        (request.format, request.digits, request.quiet),
+        (OutputFormat::Ply, Some(0), true)
+    );
+    Ok(())
+}
+
+#[test]
 fn expressions_of_operators(rt: HostRuntime) -> Result<(), Fail> {
     let rows = [
         ("union", "m1|m2|m3|m4|m5|m6|m7|m8|m9|m10|m11"),
@@ -104,18 +229,24 @@ fn expressions_of_operators(rt: HostRuntime) -> Result<(), Fail> {
             (one.expression.as_str(), one.format),
             ("m1", OutputFormat::Obj)
         );
+        let one = request_of(rt.alloc(), &[name, "-o", "x.Glb", "a"])?;
+        assert!(rt; one.format == OutputFormat::Glb);
     }
     Ok(())
 }
 
 #[test]
 fn words_that_ask_for_help_or_the_version(rt: HostRuntime) -> Result<(), Fail> {
-    let helping: [&[&str]; 5] = [
+    let helping: [&[&str]; 9] = [
         &["help"],
         &["help", "union"],
         &["-h", "--x"],
         &["--help"],
         &["union", "a.stl", "--help"],
+        &["info", "a.stl", "-h"],
+        &["view", "--step=1", "--help"],
+        &["snap", "--help"],
+        &["export", "-h", "a", "b"],
     ];
     for words in helping {
         assert!(rt; matches!(read(rt.alloc(), words)?, Ok(Command::Help)));
@@ -124,106 +255,30 @@ fn words_that_ask_for_help_or_the_version(rt: HostRuntime) -> Result<(), Fail> {
     Ok(())
 }
 
-fn refusal(alloc: Global, words: &[&str]) -> Result<Option<Refusal>, Fail> {
-    match read(alloc, words)? {
-        Err(WordsFault::Refused(why)) => Ok(Some(why)),
-        _ => Ok(None),
-    }
-}
-
 #[test]
-fn words_that_are_refused(rt: HostRuntime) -> Result<(), Fail> {
-    let rows: [(&[&str], Refusal); 24] = [
-        (&[], Refusal::NoCommand),
-        (&["snap", "a.stl"], Refusal::UnknownCommand),
-        (&["Union"], Refusal::UnknownCommand),
-        (
-            &["union", "a", "--view", "p.html"],
-            Refusal::UnknownOption(2),
-        ),
-        (&["union", "-"], Refusal::UnknownOption(1)),
-        (&["union", "--steps=1"], Refusal::UnknownOption(1)),
-        (&["union", "--quiet=1", "-o"], Refusal::UnknownOption(1)),
-        (&["union", "a", "-o"], Refusal::NoValue),
-        (&["union", "-o", "--help"], Refusal::NoFiles),
-        (&["bool", "-o", "x.stl", "a"], Refusal::NoExpression),
-        (&["union", "--expr", "m1", "a"], Refusal::NeedlessExpression),
-        (&["union", "a"], Refusal::NoOutput),
-        (&["union", "-o", "x.glb", "a"], Refusal::OutputEnding),
-        (&["union", "-o", "stl", "a"], Refusal::OutputEnding),
-        (
-            &["union", "-o", "x.stl", "--step", "0.00e3", "a"],
-            Refusal::NotAStep,
-        ),
-        (
-            &["union", "-o", "x.stl", "--step", "-1", "a"],
-            Refusal::NotAStep,
-        ),
-        (
-            &["union", "-o", "x.stl", "--step", "Nice", "a"],
-            Refusal::NotAStep,
-        ),
-        (&["union", "-o", "x.stl", "--step=", "a"], Refusal::NotAStep),
-        (
-            &["union", "-o", "x.stl", "--workers", "0", "a"],
-            Refusal::Workers,
-        ),
-        (
-            &["union", "-o", "x.stl", "--workers=65", "a"],
-            Refusal::Workers,
-        ),
-        (
-            &["union", "-o", "x.stl", "--workers", "+4", "a"],
-            Refusal::Workers,
-        ),
-        (
-            &["union", "-o", "x.stl", "--digits", "18", "a"],
-            Refusal::Digits,
-        ),
-        (
-            &["union", "-o", "x.stl", "--digits", "-1", "a"],
-            Refusal::Digits,
-        ),
-        (&["union", "-o", "x.stl", "--digits=", "a"], Refusal::Digits),
-    ];
-    for (words, want) in rows {
-        assert_eq!(rt; refusal(rt.alloc(), words)?, Some(want));
-    }
+fn info_of_files(rt: HostRuntime) -> Result<(), Fail> {
+    let Ok(Command::Info(files)) = read(rt.alloc(), &["info", "a.stl", "b=1.obj"])? else {
+        return Err(Fail::from("no info"));
+    };
+    assert_eq!(rt; files.items().len(), 2);
+    assert_eq!(rt; files.items()[0].as_str(), "a.stl");
+    assert_eq!(rt; files.items()[1].as_str(), "b=1.obj");
     Ok(())
 }
 
 #[test]
-fn values_that_are_refused_are_known(rt: HostRuntime) -> Result<(), Fail> {
-    let rows: [(&[&str], &str, &str); 5] = [
-        (&["union", "-o", "x.glb", "--step=1=2", "a"], "x.glb", "1=2"),
-        (
-            &["union", "--step", "1", "-ox", "a", "--step", "-1"],
-            "",
-            "",
-        ),
-        (&["union", "--step", "1", "a", "--step", "-1"], "", "-1"),
-        (&["union", "a"], "", ""),
-        (&[], "", ""),
+fn a_view_of_files(rt: HostRuntime) -> Result<(), Fail> {
+    let words = [
+        "view", "-o", "x.html", "a.stl", "--quiet", "-o=page", "b.obj", "a.stl",
     ];
-    for (words, output, step) in rows {
-        let strings = strings(rt.alloc(), words)?;
-        assert_eq!(rt; output_given(rt.alloc(), &strings)?.as_str(), output);
-        assert_eq!(rt; step_given(rt.alloc(), &strings)?.as_str(), step);
+    let Ok(Command::View(request)) = read(rt.alloc(), &words)? else {
+        return Err(Fail::from("no view"));
+    };
+    assert_eq!(rt; request.output.as_str(), "page");
+    let names = ["a.stl", "b.obj", "a.stl"];
+    assert_eq!(rt; request.files.items().len(), names.len());
+    for (file, name) in request.files.items().iter().zip(&names) {
+        assert_eq!(rt; file.as_str(), *name);
     }
-    Ok(())
-}
-
-#[test]
-fn at_most_64_files(rt: HostRuntime) -> Result<(), Fail> {
-    let mut words = Vec::new(rt.alloc());
-    for word in ["union", "-o", "x.stl"] {
-        words.push(word)?;
-    }
-    for _file in 0..64 {
-        words.push("a")?;
-    }
-    assert_eq!(rt; request_of(rt.alloc(), &words)?.files.items().len(), 64);
-    words.push("a")?;
-    assert_eq!(rt; refusal(rt.alloc(), &words)?, Some(Refusal::TooManyFiles));
     Ok(())
 }

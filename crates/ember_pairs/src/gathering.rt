@@ -22,6 +22,8 @@ pub fn gather(alloc: Global, items: Vec<PairList>) -> Result<PairList, OutOfMemo
     ensures { IfOk result (λ ps. AreGathered items.items ps) }
 {
     let mut all = append_all(alloc, &items)?;
+    // Sorting needs room for as many pairs again.
+    drop(items);
     all.sort()?;
     all.dedup();
     Ok(PairList::of(all))

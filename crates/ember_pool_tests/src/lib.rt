@@ -9,3 +9,5 @@ mod jobs;
 mod parts;
 #[cfg(test)]
 mod pool;
+#[cfg(test)]
+mod progress;

@@ -226,14 +226,14 @@ fn want_of_memory_at_any_box_ends_the_run(rt: HostRuntime) -> Result<(), Fail> {
 }
 
 #[test]
-fn a_thousand_runs_give_equal_answers(rt: HostRuntime) -> Result<(), Fail> {
+fn a_hundred_runs_give_equal_answers(rt: HostRuntime) -> Result<(), Fail> {
     let alloc = rt.alloc();
     let calls = AtomicU64::new(0);
-    for turn in 0..1000u32 {
+    for turn in 0..100u32 {
         let workers = 2 + turn % 7;
         let harvest = run(&rt, alloc, workers, 8, 0, &calls, &OpenGate)?;
         check(&rt, alloc, harvest, workers as usize + 1, 16)?;
     }
-    assert_eq!(rt; calls.load(Ordering::SeqCst), 1000 * 31);
+    assert_eq!(rt; calls.load(Ordering::SeqCst), 100 * 31);
     Ok(())
 }

@@ -5,6 +5,7 @@ use Rattle.ember_expr.specs.declared.trees.Tree.{Tree}
 use Rattle.ember_expr.specs.Formula.{formula_of}
 use Rattle.ember_job.specs.declared.job.Job.{Job}
 use Rattle.ember_job.specs.Visited.{leaves}
+use Rattle.ember_model.specs.declared.face.Face.{Face}
 use Rattle.ember_model.specs.declared.scene.Scene.{Scene}
 use Rattle.ember_pairs.specs.declared.pair.Pair.{Pair}
 use Rattle.ember_pairs.specs.Pairs.{AreMeetingPairs}
@@ -16,6 +17,7 @@ use Rattle.ember_voxel.specs.Fills.{IsFill}
 use Rattle.ember_voxel.specs.Lattice as lattice
 use Rattle.ember_voxel.specs.Laws.{root_is_voxel_job}
 use Rattle.ember_step.specs.Counts.{IsCount}
+use Rattle.ember_step.specs.Faces.{AreBoxFaces}
 use Rattle.ember_step.specs.Texts.{IsBoxText}
 use Rattle.ember_text.specs.FacesTexts.{FacesText}
 use Rattle.ember_job.specs.Items.{EachAnswers}
@@ -48,6 +50,14 @@ pub texts_found : (asked : Query) (scene : Bor Scene) (expr : Bor Tree) (root : 
 texts_found asked scene expr root found e f are holds =
     subst (λ (asked : Query). IsAnswer asked (answer.Texts found)) (sym e) (
       subst (λ (root : Job). EachAnswers (λ job text. IsBoxText scene.now.tris (formula_of expr.now) job.cell text) (leaves (values.shape scene.now.tris (formula_of expr.now)) root) found.items.items) f are,
+      subst (λ (root : Job). AreJournalsOf (values.shape scene.now.tris (formula_of expr.now)) root found.journals) f holds,
+    )
+
+-- what the leaves give answers the query for faces
+pub faces_found : (asked : Query) (scene : Bor Scene) (expr : Bor Tree) (root : Job) (found : RunResult (List Face)) → asked ≡ query.Faces scene expr → root ≡ root_job scene.now.tris → EachAnswers (λ job faces. AreBoxFaces scene.now.tris (formula_of expr.now) job.cell faces) (leaves (values.shape scene.now.tris (formula_of expr.now)) root) found.items.items → AreJournalsOf (values.shape scene.now.tris (formula_of expr.now)) root found.journals → IsAnswer asked (answer.Faces found)
+faces_found asked scene expr root found e f are holds =
+    subst (λ (asked : Query). IsAnswer asked (answer.Faces found)) (sym e) (
+      subst (λ (root : Job). EachAnswers (λ job faces. AreBoxFaces scene.now.tris (formula_of expr.now) job.cell faces) (leaves (values.shape scene.now.tris (formula_of expr.now)) root) found.items.items) f are,
       subst (λ (root : Job). AreJournalsOf (values.shape scene.now.tris (formula_of expr.now)) root found.journals) f holds,
     )
 

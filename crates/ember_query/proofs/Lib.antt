@@ -1,5 +1,6 @@
 pub mod Reports
 pub mod KeptLists
 pub mod Counts
+pub mod FacesOfSolids
 pub mod SolidRuns
 pub mod Findings

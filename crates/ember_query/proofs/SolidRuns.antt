@@ -29,7 +29,7 @@ use Rattle.ember_text.specs.Documents.{IsDocumentText, IsTextOf, joined, written
 pub journals_fit : (tris : List Tri) (formula : Formula) (journals : List (List Entry)) → AreJournalsOf (shape tris formula) (root_job tris) journals → sum_by length journals < 2 ^ 64
 journals_fit tris formula journals holds = entries_fit (shape tris formula) (root_job tris) journals refl holds
 
-of_run : (tris : List Tri) (formula : Formula) (journals : List (List Entry)) (faces count : ℕ) (report : Report) → AreJournalsOfSolid tris formula journals → report ≡ report_from journals faces → faces ≡ count → report ≡ run_report (shape tris formula) (root_job tris) count
+pub of_run : (tris : List Tri) (formula : Formula) (journals : List (List Entry)) (faces count : ℕ) (report : Report) → AreJournalsOfSolid tris formula journals → report ≡ report_from journals faces → faces ≡ count → report ≡ run_report (shape tris formula) (root_job tris) count
 of_run tris formula journals faces count report holds e f =
     e ∙ same_report (shape tris formula) (root_job tris) journals faces holds ∙ ap (run_report (shape tris formula) (root_job tris)) f
 

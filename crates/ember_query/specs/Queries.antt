@@ -9,6 +9,7 @@ use Rattle.ember_query.specs.declared.query.Query.{Query}
 use Rattle.ember_query.specs.declared.query.Query.TheVariants as query
 use Rattle.ember_query.specs.Leaves.{AreFills, ArePairsOfLeaves, AreRegionCounts}
 use Rattle.ember_query.specs.Solids.{AreJournalsOfSolid}
+use Rattle.ember_step.specs.Faces.{AreLeafFaces}
 use Rattle.ember_step.specs.Texts.{AreLeafTexts}
 
 -- the queries that may be asked: cells have a side of 2 ^ 4 to 2 ^ 12
@@ -16,6 +17,7 @@ abbrev pub IsQuery : Query → Type 0
 IsQuery (query.Pairs scene) = ⊤
 IsQuery (query.Fills scene expr size) = (4 ≤ size) × (size ≤ 12)
 IsQuery (query.Texts scene expr) = ⊤
+IsQuery (query.Faces scene expr) = ⊤
 IsQuery (query.Counts scene expr) = ⊤
 
 -- this is the answer to the query; it is of the same kind (`query.Pairs` is a variant of `Query`,
@@ -26,6 +28,9 @@ IsAnswer (query.Fills scene expr size) (answer.Fills fills) =
     AreFills scene.now.tris (formula_of expr.now) size fills.items
 IsAnswer (query.Texts scene expr) (answer.Texts found) =
     AreLeafTexts scene.now.tris (formula_of expr.now) found.items.items ×
+    AreJournalsOfSolid scene.now.tris (formula_of expr.now) found.journals
+IsAnswer (query.Faces scene expr) (answer.Faces found) =
+    AreLeafFaces scene.now.tris (formula_of expr.now) found.items.items ×
     AreJournalsOfSolid scene.now.tris (formula_of expr.now) found.journals
 IsAnswer (query.Counts scene expr) (answer.Counts found) =
     AreRegionCounts scene.now.tris (formula_of expr.now) found.items.items ×

@@ -4,7 +4,9 @@ use Rattle.ember_expr.specs.Formula.{Formula}
 use Rattle.ember_job.specs.declared.job.Entry.{Entry}
 use Rattle.ember_leaf.specs.declared.kept.Kept.{Kept}
 use Rattle.ember_leaf.specs.Scenes.{IsWritten}
+use Rattle.ember_model.specs.declared.face.Face.{Face}
 use Rattle.ember_model.specs.declared.tri.Tri.{Tri}
+use Rattle.ember_model.specs.FaceFiles.{IsFaceFile}
 use Rattle.ember_report.specs.declared.report.Report.{Report}
 use Rattle.ember_text.specs.Documents.{IsDocumentText, written_face}
 use Rattle.ember_visit.specs.Jobs.{root_job}
@@ -32,3 +34,9 @@ pub record IsSolidText (tris : List Tri) (formula : Formula) (bytes : List ℕ) 
   pub report : Report
   pub solid : IsSolid tris formula kept report
   pub text : IsDocumentText (map written_face kept) bytes
+
+-- the faces are those that the document of the solid holds. Nobody need have made this document
+pub record AreSolidFaces (tris : List Tri) (formula : Formula) (faces : List Face) : Type 0 where
+  pub bytes : List ℕ
+  pub text : IsSolidText tris formula bytes
+  pub read : IsFaceFile bytes faces

@@ -14,7 +14,7 @@ use crate::query::{Answer, Query, RunResult};
 use ember_job::{Job, Outcome, Step, Work};
 use ember_model::OutOfMemory;
 use ember_pairs::{PairWork, pair_step, root_pairs};
-use ember_step::{CountWork, TextWork, count_step, text_step};
+use ember_step::{CountWork, FaceWork, TextWork, count_step, faces_step, text_step};
 use ember_tree::merge;
 use ember_visit::root_job;
 use ember_voxel::{VoxelWork, voxel_step};
@@ -113,6 +113,14 @@ macro_rules! run_query {
                     call: |job: &Job| text_step($alloc, scene, expr, job),
                 };
                 Ok(Answer::Texts($run?))
+            }
+            Query::Faces(scene, expr) => {
+                let $root = root_job($alloc, scene)?;
+                let $step = Step {
+                    work: FaceWork { scene, expr },
+                    call: |job: &Job| faces_step($alloc, scene, expr, job),
+                };
+                Ok(Answer::Faces($run?))
             }
             Query::Counts(scene, expr) => {
                 let $root = root_job($alloc, scene)?;

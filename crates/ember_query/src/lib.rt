@@ -4,9 +4,13 @@
 #![tactic(auto)]
 
 mod executor;
+mod faces;
 mod query;
 mod solid;
 
 pub use executor::{answer_alone, answer_by_workers};
-pub use query::{Answer, Query, RunResult, query_counts, query_fills, query_pairs, query_texts};
+pub use faces::{SolidFaces, solid_faces};
+pub use query::{
+    Answer, Query, RunResult, query_counts, query_faces, query_fills, query_pairs, query_texts,
+};
 pub use solid::{Solid, query_report, solid_of};

@@ -4,7 +4,7 @@
 // answer, that it gets from `run` or `run_one` (top.rt of ember_run). They make the closure of
 // `answer_by_workers` or `answer_alone` (executor.rt). The macro `run_query!` there takes the
 // root's job and the step of each query, and gives both to the pool. One closure answers queries of
-// all four kinds, so it packs its answer into the enum `Answer`. The functions here ask it and
+// all five kinds, so it packs its answer into the enum `Answer`. The functions here ask it and
 // unpack the answer; by `IsExecutor` the answer is of the query's kind, so `unreachable!` is proved
 // never to run.
 //
@@ -16,12 +16,14 @@ ghost use Rattle.ember_expr.specs.Formula.{formula_of};
 ghost use Rattle.ember_query.specs.Leaves.{AreFills, ArePairsOfLeaves, AreRegionCounts};
 ghost use Rattle.ember_query.specs.Queries.{IsExecutor};
 ghost use Rattle.ember_query.specs.Solids.{AreJournalsOfSolid};
+ghost use Rattle.ember_step.specs.Faces.{AreLeafFaces};
 ghost use Rattle.ember_step.specs.Texts.{AreLeafTexts};
 
 use ember_expr::Expr;
 use ember_job::Journals;
 use ember_model::{OutOfMemory, Scene};
 use ember_pairs::PairList;
+use ember_reread::FaceList;
 use ember_text::FacesText;
 use ember_voxel::Fill;
 
@@ -34,6 +36,8 @@ pub enum Query<'a> {
     Fills(&'a Scene, &'a Expr, u8),
     /// The text of the written regions of each leaf.
     Texts(&'a Scene, &'a Expr),
+    /// The faces of the written regions of each leaf, in memory.
+    Faces(&'a Scene, &'a Expr),
     /// The number of written regions of each leaf.
     Counts(&'a Scene, &'a Expr),
 }
@@ -51,6 +55,7 @@ pub enum Answer {
     Pairs(Vec<PairList>),
     Fills(Vec<Fill>),
     Texts(RunResult<FacesText>),
+    Faces(RunResult<FaceList>),
     Counts(RunResult<u64>),
 }
 
@@ -99,6 +104,23 @@ pub fn query_texts<C: Fn(&Query) -> Result<Answer, OutOfMemory>>(
     ensures journals { IfOk result (λ found. AreJournalsOfSolid scene.now.tris (formula_of expr.now) found.journals) }
 {
     let Answer::Texts(found) = executor(&Query::Texts(scene, expr))? else {
+        unreachable!()
+    };
+    Ok(found)
+}
+
+/// Asks the executor for the faces of the written regions of each leaf, as their text holds them. The
+/// only error is out-of-memory.
+pub fn query_faces<C: Fn(&Query) -> Result<Answer, OutOfMemory>>(
+    scene: &Scene,
+    expr: &Expr,
+    executor: &C,
+) -> Result<RunResult<FaceList>, OutOfMemory>
+    requires { IsExecutor C.pre C.post executor.now }
+    ensures items { IfOk result (λ found. AreLeafFaces scene.now.tris (formula_of expr.now) found.items.items) }
+    ensures journals { IfOk result (λ found. AreJournalsOfSolid scene.now.tris (formula_of expr.now) found.journals) }
+{
+    let Answer::Faces(found) = executor(&Query::Faces(scene, expr))? else {
         unreachable!()
     };
     Ok(found)

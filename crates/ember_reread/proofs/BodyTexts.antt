@@ -12,7 +12,7 @@ use Rattle.ember_model.specs.Valid.{IsValidFace}
 use Rattle.ember_model.specs.FaceFiles.{face_lines, header, ending, WrittenFace, IsWrittenFace, IsWrittenEdge, IsFaceFile}
 use Rattle.ember_reread.specs.Lines.{IsFaceLines, face_in, HasFace, HasFaces, IsBody}
 use Rattle.ember_reread.proofs.Chains.{chain_ahead, chain_same_end}
-use Rattle.ember_reread.proofs.Words.{head_injective, tail_injective}
+use Rattle.ember_reread.proofs.NumberTexts.{head_injective, tail_injective}
 use Rattle.ember_reread.proofs.FaceTexts.{face_begins, face_shorter, face_end, all_of, each_of, planes_valid}
 
 abbrev lines_in : WrittenFace → List ℕ
@@ -67,7 +67,8 @@ no_body {fs} {bytes} {rest} q h f e gs k =
     (cases_order (length h.faces) (length k.faces.faces))
 
 -- ---- the faces of the whole file
-faces_text : {ws : List WrittenFace} {a b : List ℕ} → Chain IsFaceLines ws a b → (a ≡ flat_map lines_in ws ++ b) × AllByRecursion IsWrittenFace ws
+-- the lines of faces, in one piece
+pub faces_text : {ws : List WrittenFace} {a b : List ℕ} → Chain IsFaceLines ws a b → (a ≡ flat_map lines_in ws ++ b) × AllByRecursion IsWrittenFace ws
 faces_text done = (refl, tt)
 faces_text (step {x = w} {xs = ws} {c = c} h k) =
     let t = faces_text k in
@@ -110,7 +111,8 @@ body_fits e h =
 valid_in : (w : WrittenFace) → IsWrittenFace w → IsValidFace (face_in w)
 valid_in w h = record { support = h.support; edges = planes_valid w.edges (each_of IsWrittenEdge w.edges h.edges) }
 
-faces_valid : (ws : List WrittenFace) → AllByRecursion IsWrittenFace ws → All IsValidFace (map face_in ws)
+-- faces as a face file has them are valid
+pub faces_valid : (ws : List WrittenFace) → AllByRecursion IsWrittenFace ws → All IsValidFace (map face_in ws)
 faces_valid [] h = All-nil IsValidFace
 faces_valid (w ∷ ws) h =
     All-cons IsValidFace (face_in w) (map face_in ws) (valid_in w h.0) (faces_valid ws h.1)
@@ -119,3 +121,8 @@ faces_valid (w ∷ ws) h =
 pub body_valid : {fs : List Face} {s : List ℕ} → IsBody fs s → All IsValidFace fs
 body_valid h =
     subst (λ l. All IsValidFace l) (sym h.faces.are) (faces_valid h.faces.faces (faces_text h.faces.lines).1)
+
+-- and so are those of a file
+pub file_valid : {fs : List Face} {bytes : List ℕ} → IsFaceFile bytes fs → All IsValidFace fs
+file_valid h =
+    subst (λ l. All IsValidFace l) (sym h.faces) (faces_valid h.written (each_of IsWrittenFace h.written h.well_formed))

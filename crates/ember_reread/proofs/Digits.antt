@@ -1,29 +1,19 @@
 -- Digits, and the numbers that they spell.
-use Rattle.std.proofs.Common.{◌≡◌, refl, sym, ap, subst, ◌∙◌, arith, ℕ, zero, suc, ◌+◌, ◌-◌, ◌*◌, ◌/◌, ◌%◌, ◌^◌, ◌<◌, ◌≤◌, Bool, true, false, not, ◌&&◌, eqb, List, [], ◌∷◌, ◌++◌, length, drop, get_or, length-append, decimal, append-nil, append_assoc, rules}
+use Rattle.std.proofs.Common.{◌≡◌, sym, ap, ◌∙◌, arith, ℕ, zero, suc, ◌+◌, ◌-◌, ◌*◌, ◌/◌, ◌%◌, ◌^◌, ◌<◌, ◌≤◌, true, false, not, ◌&&◌, eqb, List, [], ◌∷◌, ◌++◌, length, get_or, length-append, decimal, append-nil, append_assoc, rules}
 use Rattle.std.specs.List.{list_all}
 use Rattle.std.specs.Char.{is_ascii_digit, digit_value}
 use Rattle.std.specs.Str.Parse.{AllDigits, digits_value, digits_value_after}
-use Rattle.std.specs.Prelude.{MatchOption, Option, Some, None}
 use Rattle.std.proofs.lemmas.Str.{digit_value_digit}
 use Rattle.std.proofs.lemmas.Str.Parse.{IsNumeralModel, numerals_by_fold, digit_from_value}
 use Rattle.std.proofs.lemmas.Fmt.{decimal_is_IsNumeral_wide, decimal_digit, decimal_step_wide, decimal_by_steps_wide}
 use Rattle.std.proofs.lemmas.Bool.{ne_eqb}
 use Rattle.std.proofs.Math.ListN.{get_or-append}
-use Rattle.ember_reread.specs.Numbers.{number_from, is_padded, is_numeral, IsSize}
+use Rattle.ember_reread.specs.Numbers.{number_from, is_padded, IsSize}
 
 -- digits behind a number don't make it smaller
-number_from-grows : (v : ℕ) (ds : List ℕ) → v ≤ number_from v ds
+pub number_from-grows : (v : ℕ) (ds : List ℕ) → v ≤ number_from v ds
 number_from-grows v [] = omega arith
 number_from-grows v (d ∷ ds) = omega (arith, number_from-grows (v * 10 + (d - 48)) ds)
-
-number_from-drop : (v i : ℕ) (ds : List ℕ) → i < length ds → number_from v (drop i ds) ≡ number_from (v * 10 + (get_or ds i 0 - 48)) (drop (suc i) ds)
-number_from-drop v i [] h = absurd (omega arith)
-number_from-drop v zero (d ∷ ds) h = refl
-number_from-drop v (suc i) (d ∷ ds) h = number_from-drop v i ds (omega arith)
-
--- a number that is too large stays so as digits follow
-pub too_large : (most v i : ℕ) (ds : List ℕ) → i < length ds → most < v * 10 + (get_or ds i 0 - 48) → most < number_from v (drop i ds)
-too_large most v i ds h large = rw (number_from-drop v i ds h) (omega (arith, number_from-grows (v * 10 + (get_or ds i 0 - 48)) (drop (suc i) ds)))
 
 -- ---- from a number to its digits, and back
 abbrev AreDigits : List ℕ → Type 0
@@ -32,12 +22,8 @@ AreDigits ds = list_all is_ascii_digit ds ≡ true
 own : IsNumeralModel AreDigits (number_from 0)
 own = numerals_by_fold AreDigits (search rules) number_from (search rules)
 
-module _ (n : ℕ) (small : n < 10 ^ 64) where
-  digits_decimal : list_all is_ascii_digit (decimal n) ≡ true
-  digits_decimal = own.from (decimal n) (decimal_is_IsNumeral_wide n small).0.1
-
-  number_decimal : number_from 0 (decimal n) ≡ n
-  number_decimal = own.same (decimal n) (decimal_is_IsNumeral_wide n small).0.1 ∙ (decimal_is_IsNumeral_wide n small).1
+number_decimal : (n : ℕ) → n < 10 ^ 64 → number_from 0 (decimal n) ≡ n
+number_decimal n small = own.same (decimal n) (decimal_is_IsNumeral_wide n small).0.1 ∙ (decimal_is_IsNumeral_wide n small).1
 
 -- numbers below 10^64 with the same digits are equal
 pub decimal_injective_wide : (m n : ℕ) → m < 10 ^ 64 → n < 10 ^ 64 → decimal m ≡ decimal n → m ≡ n
@@ -85,28 +71,16 @@ decimal_unpadded : (n : ℕ) → n < 10 ^ 64 → is_padded (decimal n) ≡ false
 decimal_unpadded zero small = ap is_padded (decimal_digit 0 (omega arith))
 decimal_unpadded (suc n) small = unpadded (decimal (suc n)) ((first_digit (suc n) small).1 (omega arith))
 
--- the digits of a size are a numeral
-pub size_numeral : {most n : ℕ} {ds : List ℕ} → most < 2 ^ 124 → IsSize most n ds → is_numeral ds ≡ true
-size_numeral {most} {n} {ds} l h =
-    let small : n < 10 ^ 64 = omega (arith, h.small) in
-    ap is_numeral h.is ∙ (λ i. not (decimal_unpadded n small i) && digits_decimal n small i)
+-- the digits of a size have no 0 before them
+pub size_unpadded : {most n : ℕ} {ds : List ℕ} → most < 2 ^ 124 → IsSize most n ds → is_padded ds ≡ false
+size_unpadded {n = n} l h = ap is_padded h.is ∙ decimal_unpadded n (omega (arith, h.small))
 
 -- the digits of a size spell it
 pub size_value : {most n : ℕ} {ds : List ℕ} → most < 2 ^ 124 → IsSize most n ds → number_from 0 ds ≡ n
-size_value {most} {n} {ds} l h =
+size_value {n = n} l h =
     ap (number_from 0) h.is ∙ number_decimal n (omega (arith, h.small))
 
-numeral_parts : (p a : Bool) → not p && a ≡ true → (p ≡ false) × (a ≡ true)
-numeral_parts true a e = absurd (cc)
-numeral_parts false a e = (refl, e)
-
-value_size : (most : ℕ) (ds : List ℕ) → most < 2 ^ 124 → is_numeral ds ≡ true → number_from 0 ds ≤ most → IsSize most (number_from 0 ds) ds
-value_size most ds l e small =
-    let p = numeral_parts (is_padded ds) (list_all is_ascii_digit ds) e in
-    record { small = small; is = sym (decimal_number ds p.1 p.0 (omega arith)) }
-
--- a numeral is a size exactly if the number that it spells is at most `most`
-pub size_found : (most : ℕ) (ds : List ℕ) (r : Option ℕ) → most < 2 ^ 124 → is_numeral ds ≡ true → MatchOption r (most < number_from 0 ds) (λ n. (n ≡ number_from 0 ds) × (n ≤ most)) → MatchOption r ((n : ℕ) → IsSize most n ds → ⊥) (λ n. IsSize most n ds)
-size_found most ds None l e h = λ n s. omega (arith, h, size_value l s, s.small)
-size_found most ds (Some n) l e h =
-    subst (λ k. IsSize most k ds) (sym h.0) (value_size most ds l e (omega (arith, h.0, h.1)))
+-- unpadded digits are the size that they spell
+pub value_size : {most : ℕ} {ds : List ℕ} → most < 2 ^ 124 → list_all is_ascii_digit ds ≡ true → is_padded ds ≡ false → number_from 0 ds ≤ most → IsSize most (number_from 0 ds) ds
+value_size {ds = ds} l d p small =
+    record { small = small; is = sym (decimal_number ds d p (omega arith)) }

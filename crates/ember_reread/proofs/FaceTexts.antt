@@ -108,17 +108,22 @@ no_face_edges {n} {count} {bytes} {t} l k s f w rest h =
     let e = same_support (omega (arith, l, face_fits h)) (omega (arith, l, k)) (face_support h) s in
     f _ rest (subst (λ b. HasEdges count (map (λ (e : RingEdge). e.plane) w.edges) b rest) e.2 (subst (λ m. HasEdges m (map (λ (e : RingEdge). e.plane) w.edges) (behind_support h) rest) e.1 (face_edges h)))
 
--- a support line with its edges is a face
+-- a support line with its edges is the lines of a face
+pub face_lines_found : {n : Plane} {count : ℕ} {bytes t rest : List ℕ} (es : List RingEdge) → IsSupportLine n count bytes t → Chain IsEdgeLine es t rest → length es ≡ count → IsFaceLines (record { support = n; edges = es }) bytes rest
+face_lines_found {n} {count} {bytes} {t} {rest} es s h many =
+    let texts = edges_text h in
+    let lines : bytes ≡ support_line n (length es) ++ t = s.is ∙ ap (λ m. support_line n m ++ t) (sym many) in
+    record {
+      written = record { support = s.plane; edges = all_of IsWrittenEdge es texts.1; at_least_three = subst (λ m. 3 ≤ m) (sym many) s.enough };
+      is = lines ∙ ap (λ q. support_line n (length es) ++ q) texts.0 ∙ sym (append_assoc (support_line n (length es)) (flat_map edge_line es) rest);
+    }
+
+-- and they have this face
 pub face_found : {n : Plane} {count : ℕ} {ps : List Plane} {f : Face} {bytes t rest : List ℕ} → IsSupportLine n count bytes t → HasEdges count ps t rest → f ≡ record { support = n; edges = ps } → HasFace f bytes rest
-face_found {n} {count} {ps} {f} {bytes} {t} {rest} s h e =
-    let texts = edges_text h.lines in
-    let lines : bytes ≡ support_line n (length h.edges) ++ t = s.is ∙ ap (λ m. support_line n m ++ t) (sym h.many) in
+face_found {n} s h e =
     record {
       face = record { support = n; edges = h.edges };
-      lines = record {
-        written = record { support = s.plane; edges = all_of IsWrittenEdge h.edges texts.1; at_least_three = subst (λ m. 3 ≤ m) (sym h.many) s.enough };
-        is = lines ∙ ap (λ q. support_line n (length h.edges) ++ q) texts.0 ∙ sym (append_assoc (support_line n (length h.edges)) (flat_map edge_line h.edges) rest);
-      };
+      lines = face_lines_found h.edges s h.lines h.many;
       is = e ∙ (λ i. record { support = n; edges = h.planes i });
     }
 

@@ -1,35 +1,22 @@
 -- Fields: what is read of them, and that nothing else could be.
-use Rattle.std.proofs.Common.{◌≡◌, sym, ap, subst, ◌∙◌, ℕ, ◌^◌, ◌<◌, List, ◌∷◌, ◌++◌, ℤ}
-use Rattle.std.specs.Fmt.{signed_decimal}
+use Rattle.std.proofs.Common.{◌≡◌, sym, subst, ◌∙◌, ℕ, ◌^◌, ◌<◌, List, ◌∷◌, ℤ}
 use Rattle.ember_reread.specs.declared.fields.Four.{Four}
-use Rattle.ember_reread.specs.Numbers.{word_of, behind_word, IsNumber}
+use Rattle.ember_reread.specs.Numbers.{IsNumberAt}
 use Rattle.ember_reread.specs.Lines.{IsField, AreFields}
-use Rattle.ember_reread.proofs.Words.{tail_injective, word_whole, behind_ends, number_front, same_number}
+use Rattle.ember_reread.proofs.NumberTexts.{tail_injective, number_rest, number_once}
 
 -- ---- one field
--- the word behind the space is the number's, and what is behind the word follows
-module _ {most : ℕ} {z : ℤ} {bytes s rest : List ℕ} (e : bytes ≡ 32 ∷ s) (h : IsField most z bytes rest) where
-  here : s ≡ signed_decimal z ++ rest
-  here = tail_injective (sym e ∙ h.is)
-
-  pub field_word : IsNumber most z (word_of s)
-  field_word = record { small = h.small; is = ap word_of here ∙ (number_front z rest h.ends).0 }
-
-  field_behind : behind_word s ≡ rest
-  field_behind = ap behind_word here ∙ (number_front z rest h.ends).1
-
--- a space and a number are a field
-pub field_found : {most : ℕ} {z : ℤ} {bytes s : List ℕ} → bytes ≡ 32 ∷ s → IsNumber most z (word_of s) → IsField most z bytes (behind_word s)
-field_found {s = s} e h =
-    record { small = h.small; ends = behind_ends s; is = e ∙ ap (λ l. 32 ∷ l) (word_whole s ∙ ap (λ w. w ++ behind_word s) h.is) }
+-- behind the space is the field's number
+field_number : {most : ℕ} {z : ℤ} {bytes s rest : List ℕ} → bytes ≡ 32 ∷ s → IsField most z bytes rest → IsNumberAt most z s rest
+field_number e h = record { small = h.small; ends = h.ends; is = tail_injective (sym e ∙ h.is) }
 
 -- a text has one field at its front: the rest is the same
 pub same_rest : {m n : ℕ} {y z : ℤ} {bytes r s : List ℕ} → IsField m y bytes r → IsField n z bytes s → r ≡ s
-same_rest h k = sym (field_behind h.is h) ∙ field_behind h.is k
+same_rest {y = y} {z = z} h k = number_rest y z (field_number h.is h) (field_number h.is k)
 
 -- a text has one number as a field at its front
 pub same_field : {m : ℕ} {y z : ℤ} {bytes r s : List ℕ} → m < 10 ^ 64 → IsField m y bytes r → IsField m z bytes s → y ≡ z
-same_field {m} {y} {z} l h k = same_number m y z l h.small k.small (sym (field_word h.is h).is ∙ (field_word h.is k).is)
+same_field {y = y} {z = z} l h k = number_once y z l (field_number h.is h) (field_number h.is k)
 
 -- ---- four fields
 abbrev NoField : ℕ → List ℕ → Type 0

@@ -1,5 +1,5 @@
 pub mod Digits
-pub mod Words
+pub mod NumberTexts
 pub mod FieldTexts
 pub mod Lowest
 pub mod LineTexts
@@ -8,4 +8,5 @@ pub mod FaceTexts
 pub mod BodyTexts
 pub mod Prefixes
 pub mod OneOutline
+pub mod CorneredTexts
 pub mod OneReading

@@ -12,8 +12,8 @@ use Rattle.ember_model.specs.FaceFiles.{fields, line_of, IsWrittenCorner}
 use Rattle.ember_model.proofs.Tuples.{same_plane, same_spot}
 use Rattle.ember_reread.specs.declared.fields.Four.{Four}
 use Rattle.ember_reread.specs.Numbers.{IsEnd}
-use Rattle.ember_reread.specs.Lines.{IsField, AreFields, IsPlane, IsCorner, IsEdgeLine, IsSupportLine, HasEdge}
-use Rattle.ember_reread.proofs.Words.{tail_injective}
+use Rattle.ember_reread.specs.Lines.{IsField, AreFields, IsPlane, IsCorner, IsEdgeLine, IsSupportLine}
+use Rattle.ember_reread.proofs.NumberTexts.{tail_injective}
 use Rattle.ember_reread.proofs.FieldTexts.{same_field, same_rest, same_fields}
 
 -- ---- numbers with a space before each, and what follows
@@ -60,7 +60,8 @@ corner_numbers v = v.x ∷ v.y ∷ v.z ∷ v.w ∷ []
 abbrev plane_four : Plane → Four
 plane_four p = record { x = p.a; y = p.b; z = p.c; w = p.d }
 
-plane_valid : {p : Plane} {bytes rest : List ℕ} → IsPlane p bytes rest → IsValidPlane p
+-- a plane that is read is valid
+pub plane_valid : {p : Plane} {bytes rest : List ℕ} → IsPlane p bytes rest → IsValidPlane p
 plane_valid h = let f = h.fields in record { a = f.x.small; b = f.y.small; c = f.z.small; d = f.w.small }
 
 plane_spaced : {p : Plane} {bytes rest : List ℕ} → IsPlane p bytes rest → bytes ≡ spaced (plane_numbers p) rest
@@ -131,19 +132,15 @@ module _ {bytes s : List ℕ} (name : bytes ≡ 101 ∷ s) where
     pub no_edge_corner : ((v : Spot) (rest : List ℕ) → IsCorner v t rest → ⊥) → NoEdge bytes
     no_edge_corner f e rest h = f _ _ (edge_corner (edge_parts h))
 
-    module _ {q : List ℕ} (corner : (v : Spot) × IsCorner v t q) where
+    module _ {v : Spot} {q : List ℕ} (corner : IsCorner v t q) where
       pub no_edge_end : NoByte 10 q → NoEdge bytes
-      no_edge_end f e rest h = f rest (corner_rest corner.1 (edge_corner (edge_parts h)))
+      no_edge_end f e rest h = f rest (corner_rest corner (edge_corner (edge_parts h)))
 
-      pub edge_found : {rest : List ℕ} → q ≡ 10 ∷ rest → HasEdge p bytes rest
+      pub edge_found : {rest : List ℕ} → q ≡ 10 ∷ rest → IsEdgeLine (record { plane = p; start = v }) bytes rest
       edge_found {rest} end =
-          let v = corner.0 in
           record {
-            start = v;
-            line = record {
-              written = record { plane = plane_valid plane; start = corner.1.written };
-              is = name ∙ ap (λ l. 101 ∷ l) (plane_spaced plane ∙ ap (λ l. spaced (plane_numbers p) l) (corner_spaced corner.1 ∙ ap (λ l. spaced (corner_numbers v) l) end)) ∙ sym (line_spaced 101 (p.a ∷ p.b ∷ p.c ∷ p.d ∷ corner_numbers v) rest);
-            };
+            written = record { plane = plane_valid plane; start = corner.written };
+            is = name ∙ ap (λ l. 101 ∷ l) (plane_spaced plane ∙ ap (λ l. spaced (plane_numbers p) l) (corner_spaced corner ∙ ap (λ l. spaced (corner_numbers v) l) end)) ∙ sym (line_spaced 101 (p.a ∷ p.b ∷ p.c ∷ p.d ∷ corner_numbers v) rest);
           }
 
 -- a line is that of one edge

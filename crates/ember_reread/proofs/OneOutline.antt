@@ -259,7 +259,7 @@ begun_one f es cs d c ds bs a b =
     λ i. same i ∷ rest i
 
 -- a face has one outline with corners in lowest terms
-outline_one : (f : Face) (es cs : List RingEdge) → IsOutline f es → IsOutline f cs → All (λ e. IsLowest e.start) es → All (λ e. IsLowest e.start) cs → es ≡ cs
+pub outline_one : (f : Face) (es cs : List RingEdge) → IsOutline f es → IsOutline f cs → All (λ e. IsLowest e.start) es → All (λ e. IsLowest e.start) cs → es ≡ cs
 outline_one f es cs a b l m =
     a.begins ∙ begun_one f es cs a.first b.first a.rest b.rest (begun f es a l) (begun f cs b m) ∙ sym b.begins
 

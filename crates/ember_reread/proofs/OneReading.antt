@@ -5,7 +5,7 @@ use Rattle.ember_model.specs.declared.face.Face.{Face}
 use Rattle.ember_model.specs.Edges.{RingEdge}
 use Rattle.ember_model.specs.FaceFiles.{ending, WrittenFace, IsWrittenFace, IsWrittenEdge, IsFaceFile}
 use Rattle.ember_reread.specs.Lines.{IsEdgeLine, IsFaceLines}
-use Rattle.ember_reread.proofs.Words.{head_injective, tail_injective}
+use Rattle.ember_reread.proofs.NumberTexts.{head_injective, tail_injective}
 use Rattle.ember_reread.proofs.LineTexts.{NoEdge, same_edge, edge_begins, support_line_once}
 use Rattle.ember_reread.proofs.FaceTexts.{edges_chain, face_support, face_begins, each_of}
 use Rattle.ember_reread.proofs.BodyTexts.{faces_chain, no_face_at_end}

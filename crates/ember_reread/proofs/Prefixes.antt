@@ -8,7 +8,7 @@ use Rattle.std.proofs.lemmas.Slice.Eq.{slice_eq-Decides}
 use Rattle.std.proofs.lemmas.List.{take-append-drop, append_cancel_left}
 use Rattle.std.proofs.Math.Seq.{take-append_seam}
 use Rattle.ember_model.specs.FaceFiles.{ending}
-use Rattle.ember_reread.proofs.Words.{tail_injective}
+use Rattle.ember_reread.proofs.NumberTexts.{tail_injective}
 
 abbrev begins : List ℕ → List ℕ → Bool
 begins bytes text = pointwise nat_eq (take (length text) bytes) text

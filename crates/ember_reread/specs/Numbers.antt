@@ -1,20 +1,18 @@
--- Words, and numbers in their canonical spelling
-use Rattle.std.specs.Prelude.{◌≡◌, ℕ, ◌+◌, ◌-◌, ◌*◌, ◌≤◌, ◌==◌, nat_le, ℤ, Bool, true, not, ◌&&◌, if◌then◌else◌, List, [], ◌∷◌, length, decimal, ⊤}
-use Rattle.std.specs.List.{list_all}
+-- Digits, and numbers in their canonical spelling
+use Rattle.std.specs.Prelude.{◌≡◌, ℕ, ◌+◌, ◌-◌, ◌*◌, ◌≤◌, ◌==◌, ℤ, Bool, true, not, ◌&&◌, if◌then◌else◌, List, [], ◌∷◌, ◌++◌, length, decimal, ⊤}
 use Rattle.std.specs.Char.{is_ascii_digit}
 use Rattle.std.specs.Fmt.{signed_decimal}
 use Rattle.ember_algebra.specs.Size.{Small}
 
--- ---- words
--- the bytes before the first that is a space or lies below it, and from it on
-abbrev pub word_of : List ℕ → List ℕ
-word_of [] = []
-word_of (b ∷ bs) = if nat_le b 32 then [] else b ∷ word_of bs
+-- ---- digits
+-- the decimal digits before the first other byte, and from it on
+abbrev pub digits_of : List ℕ → List ℕ
+digits_of [] = []
+digits_of (b ∷ bs) = if is_ascii_digit b then b ∷ digits_of bs else []
 
--- the bytes after the first word
-abbrev pub behind_word : List ℕ → List ℕ
-behind_word [] = []
-behind_word (b ∷ bs) = if nat_le b 32 then b ∷ bs else behind_word bs
+abbrev pub behind_digits : List ℕ → List ℕ
+behind_digits [] = []
+behind_digits (b ∷ bs) = if is_ascii_digit b then behind_digits bs else b ∷ bs
 
 -- no word goes on here
 abbrev pub IsEnd : List ℕ → Type 0
@@ -32,16 +30,20 @@ abbrev pub is_padded : List ℕ → Bool
 is_padded [] = true
 is_padded (d ∷ ds) = d == 48 && not (length ds == 0)
 
--- digits as a number is written
-abbrev pub is_numeral : List ℕ → Bool
-is_numeral ds = not (is_padded ds) && list_all is_ascii_digit ds
-
 -- the digits spell n, which is at most that
 pub record IsSize (most n : ℕ) (digits : List ℕ) : Type 0 where
   pub small : n ≤ most
   pub is : digits ≡ decimal n
 
--- the word spells z, whose size is at most that
-pub record IsNumber (most : ℕ) (z : ℤ) (word : List ℕ) : Type 0 where
+-- ---- at the front of bytes
+-- the bytes begin with n, which is at most that, and `rest` follows
+pub record IsSizeAt (most n : ℕ) (bytes rest : List ℕ) : Type 0 where
+  pub small : n ≤ most
+  pub ends : IsEnd rest
+  pub is : bytes ≡ decimal n ++ rest
+
+-- the bytes begin with z, whose size is at most that, and `rest` follows
+pub record IsNumberAt (most : ℕ) (z : ℤ) (bytes rest : List ℕ) : Type 0 where
   pub small : Small most z
-  pub is : word ≡ signed_decimal z
+  pub ends : IsEnd rest
+  pub is : bytes ≡ signed_decimal z ++ rest

@@ -5,8 +5,9 @@ ghost use Rattle.ember_model.specs.Edges.{RingEdge};
 ghost use Rattle.ember_model.specs.FaceFiles.{WrittenFace};
 ghost use Rattle.ember_reread.specs.Lines.{IsEdgeLine, IsSupportLine, HasEdge, HasEdges, IsFaceLines, HasFace};
 
+use crate::cornered::take_cornered_edge;
 use crate::fault::RereadFault;
-use crate::parts::{skip_byte, skip_corner, take_number, take_plane};
+use crate::parts::{skip_byte, take_number, take_plane};
 use ember_model::{Face, Plane, Planes};
 use std::alloc::Global;
 
@@ -15,9 +16,8 @@ fn take_edge(bytes: &[u8]) -> Option<(Plane, &[u8])>
     ensures { MatchOption result ((e : RingEdge) (rest : List ℕ) → IsEdgeLine e bytes.now rest →
         ⊥) (λ t. HasEdge t.0 bytes.now t.1.now) }
 {
-    let (plane, rest) = take_plane(skip_byte(bytes, b'e')?)?;
-    let rest = skip_byte(skip_corner(rest)?, b'\n')?;
-    Some((plane, rest))
+    let (edge, rest) = take_cornered_edge(bytes)?;
+    Some((edge.plane, rest))
 }
 
 // The planes of that many edges' lines, and what follows.
@@ -39,7 +39,7 @@ fn take_edges(alloc: Global, bytes: &[u8], count: usize) -> Result<(Vec<Plane>, 
 }
 
 // A face's first line: its support plane and the number of its edges. And what follows the line.
-fn take_support(bytes: &[u8]) -> Option<(Plane, usize, &[u8])>
+pub(crate) fn take_support(bytes: &[u8]) -> Option<(Plane, usize, &[u8])>
     ensures line { MatchOption result ((n : Plane) (count : ℕ) (rest : List ℕ) → count ≤ length bytes.now →
         IsSupportLine n count bytes.now rest → ⊥) (λ t. IsSupportLine t.0 t.1 bytes.now t.2.now) }
     ensures fits { IfSome result (λ t. t.1 ≤ length bytes.now) }

@@ -12,10 +12,10 @@ use crate::parts::{skip_byte, skip_bytes};
 use itoa::Buffer;
 use std::alloc::Global;
 
-const HEADER: &[u8] = b"ember 1\n";
+pub(crate) const HEADER: &[u8] = b"ember 1\n";
 
 // Whether the bytes are the last line of a file of that many faces.
-fn is_ending(bytes: &[u8], count: usize) -> bool
+pub(crate) fn is_ending(bytes: &[u8], count: usize) -> bool
     ensures { IsTrue result ↔ (bytes.now ≡ ending count) }
 {
     let mut buffer = Buffer::new();
@@ -29,7 +29,7 @@ fn is_ending(bytes: &[u8], count: usize) -> bool
 }
 
 // Whether the bytes begin as a face's lines do.
-fn begins_face(bytes: &[u8]) -> bool
+pub(crate) fn begins_face(bytes: &[u8]) -> bool
     ensures { IsTrue result ↔ ((rest : List ℕ) × (bytes.now ≡ 102 ∷ rest)) }
 {
     skip_byte(bytes, b'f').is_some()

@@ -1,6 +1,8 @@
 //! Reads face files back.
 #![tactic(auto)]
 
+mod cornered;
+mod cornered_face;
 mod edges;
 mod faces;
 mod fault;
@@ -10,6 +12,8 @@ mod list;
 mod number;
 mod parts;
 
+pub use cornered::read_cornered_faces;
+pub use cornered_face::{CorneredEdge, CorneredFace};
 pub use faces::read_faces;
 pub use fault::RereadFault;
 pub use law::faces_have_one_text;

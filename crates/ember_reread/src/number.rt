@@ -1,81 +1,107 @@
-// Numbers in their canonical spelling.
-ghost use Rattle.std.specs.Prelude.{ℕ, ℤ, ◌≡◌, ◌≤◌, ◌<◌, ◌^◌, ◌∷◌, true, MatchOption};
-ghost use Rattle.std.specs.List.{list_all};
-ghost use Rattle.std.specs.Char.{is_ascii_digit};
-ghost use Rattle.ember_reread.specs.Numbers.{number_from, is_padded, is_numeral, IsSize, IsNumber};
+// Numbers in their canonical spelling, at the front of bytes.
+ghost use Rattle.std.specs.Prelude.{ℕ, ℤ, List, ◌≡◌, ◌≤◌, ◌<◌, ◌^◌, ◌∷◌, length, drop, true, IsTrue, ◌↔◌, MatchOption};
+ghost use Rattle.ember_reread.specs.Numbers.{digits_of, behind_digits, number_from, is_padded};
+ghost use Rattle.ember_reread.specs.Numbers.{IsEnd, IsSizeAt, IsNumberAt};
 
-// Whether all bytes are decimal digits.
-fn are_digits(text: &[u8]) -> bool
-    ensures { result ≡ list_all is_ascii_digit text.now }
-{
-    text.iter().all(|b| b.is_ascii_digit())
-}
+// A number below it has a tenfold that still fits into 64 bits with a digit more.
+const SHORT: u64 = 1_000_000_000_000_000_000;
 
 // Whether there is no digit, or a 0 before others.
-fn has_padding(digits: &[u8]) -> bool
-    ensures { result ≡ is_padded digits.now }
+fn has_padding(bytes: &[u8]) -> bool
+    ensures { result ≡ is_padded (digits_of bytes.now) }
 {
-    match digits.split_first() {
-        None => true,
-        Some((first, others)) => *first == b'0' && !others.is_empty(),
+    match bytes {
+        [b'0', next, ..] => next.is_ascii_digit(),
+        [first, ..] => !first.is_ascii_digit(),
+        [] => true,
     }
 }
 
-// Whether the bytes are the digits of a number without leading zeros.
-fn is_numeral(digits: &[u8]) -> bool
-    ensures { result ≡ is_numeral digits.now }
+// Whether no word goes on here.
+fn is_end(bytes: &[u8]) -> bool
+    ensures { IsTrue result ↔ IsEnd bytes.now }
 {
-    !has_padding(digits) && are_digits(digits)
+    match bytes.split_first() {
+        Some((first, _)) => *first <= b' ',
+        None => true,
+    }
 }
 
-// The number with these digits, if it is at most `most`.
-#[tactic(auto, using(crate::proofs::Digits::too_large))]
-fn value_of(digits: &[u8], most: u128) -> Option<u128>
-    requires digits { list_all is_ascii_digit digits.now ≡ true }
-    requires most { most < 2 ^ 124 }
-    ensures { MatchOption result (most < number_from 0 digits.now) (λ n. (n ≡ number_from 0 digits.now) × (n ≤ most)) }
+// The number that the first digits spell, and how many these are: all of them, if there are few.
+fn first_digits(bytes: &[u8]) -> (u64, usize)
+    ensures within { result.1 ≤ length bytes.now }
+    ensures value { number_from 0 (digits_of bytes.now) ≡ number_from result.0 (digits_of (drop result.1 bytes.now)) }
+    ensures behind { behind_digits bytes.now ≡ behind_digits (drop result.1 bytes.now) }
 {
-    let mut value = 0u128;
-    for digit in digits {
-        value = value * 10 + u128::from(*digit - b'0');
+    let mut value = 0u64;
+    let mut end = 0;
+    while value < SHORT && end < bytes.len() && bytes[end].is_ascii_digit() {
+        value = value * 10 + u64::from(bytes[end] - b'0');
+        end += 1;
+    }
+    (value, end)
+}
+
+// The number that the digits at the front spell, if it is at most `most`, and what follows them.
+fn value_at(bytes: &[u8], most: u128) -> Option<(u128, &[u8])>
+    requires { most < 2 ^ 124 }
+    ensures { MatchOption result (most < number_from 0 (digits_of bytes.now)) (λ p.
+        (p.0 ≡ number_from 0 (digits_of bytes.now)) × (p.0 ≤ most) × (p.1.now ≡ behind_digits bytes.now)) }
+{
+    let (first, mut end) = first_digits(bytes);
+    let mut value = u128::from(first);
+    while end < bytes.len() && bytes[end].is_ascii_digit() {
         if value > most {
             return None;
         }
+        value = value * 10 + u128::from(bytes[end] - b'0');
+        end += 1;
     }
-    Some(value)
-}
-
-// The number that these digits spell, if it is at most `most`.
-fn size_in(digits: &[u8], most: u128) -> Option<u128>
-    requires { most < 2 ^ 124 }
-    ensures { MatchOption result ((n : ℕ) → IsSize most n digits.now → ⊥) (λ n. IsSize most n digits.now) }
-{
-    if !is_numeral(digits) {
+    if value > most {
         return None;
     }
-    value_of(digits, most)
+    Some((value, bytes.split_at(end).1))
 }
 
-// The number that a minus and these digits spell, if its size is at most `most`.
-fn negative_in(digits: &[u8], most: u128) -> Option<i128>
+// The number that is written at the front, if it is at most `most`, and what follows it.
+fn size_at(bytes: &[u8], most: u128) -> Option<(u128, &[u8])>
     requires { most < 2 ^ 124 }
-    ensures { MatchOption result ((z : ℤ) → IsNumber most z (45 ∷ digits.now) →
-        ⊥) (λ z. IsNumber most z (45 ∷ digits.now)) }
+    ensures { MatchOption result ((n : ℕ) (rest : List ℕ) → IsSizeAt most n bytes.now rest →
+        ⊥) (λ p. IsSizeAt most p.0 bytes.now p.1.now) }
 {
-    let size = size_in(digits, most)?;
+    if has_padding(bytes) {
+        return None;
+    }
+    let (size, rest) = value_at(bytes, most)?;
+    if !is_end(rest) {
+        return None;
+    }
+    Some((size, rest))
+}
+
+// The number that a minus and these bytes begin with, if its size is at most `most`, and what
+// follows it.
+fn negative_at(bytes: &[u8], most: u128) -> Option<(i128, &[u8])>
+    requires { most < 2 ^ 124 }
+    ensures { MatchOption result ((z : ℤ) (rest : List ℕ) → IsNumberAt most z (45 ∷ bytes.now) rest →
+        ⊥) (λ p. IsNumberAt most p.0 (45 ∷ bytes.now) p.1.now) }
+{
+    let (size, rest) = size_at(bytes, most)?;
     if size == 0 {
         return None;
     }
-    Some(-(size as i128))
+    Some((-(size as i128), rest))
 }
 
-// The number that the word spells, if its size is at most `most`.
-pub(crate) fn number_in(word: &[u8], most: u128) -> Option<i128>
+// The number that is written at the front, if its size is at most `most`, and what follows it.
+pub(crate) fn number_at(bytes: &[u8], most: u128) -> Option<(i128, &[u8])>
     requires { most < 2 ^ 124 }
-    ensures { MatchOption result ((z : ℤ) → IsNumber most z word.now → ⊥) (λ z. IsNumber most z word.now) }
+    ensures { MatchOption result ((z : ℤ) (rest : List ℕ) → IsNumberAt most z bytes.now rest →
+        ⊥) (λ p. IsNumberAt most p.0 bytes.now p.1.now) }
 {
-    match word.split_first() {
-        Some((b'-', digits)) => negative_in(digits, most),
-        _ => Some(size_in(word, most)? as i128),
+    if let Some((b'-', digits)) = bytes.split_first() {
+        return negative_at(digits, most);
     }
+    let (size, rest) = size_at(bytes, most)?;
+    Some((size as i128, rest))
 }

@@ -5,11 +5,10 @@ ghost use Rattle.ember_model.specs.declared.point.Spot.{Spot};
 ghost use Rattle.ember_model.specs.FaceFiles.{IsLowest};
 ghost use Rattle.ember_point.specs.Points.{spot_of};
 ghost use Rattle.ember_reread.specs.declared.fields.Four.{Four};
-ghost use Rattle.ember_reread.specs.Numbers.{word_of, behind_word};
 ghost use Rattle.ember_reread.specs.Lines.{IsField, AreFields, IsPlane, IsCorner};
 
 use crate::fields::Four;
-use crate::number::number_in;
+use crate::number::number_at;
 use ember_model::Plane;
 use ember_point::{Meet, reduce};
 
@@ -31,26 +30,13 @@ pub(crate) fn skip_bytes<'a>(bytes: &'a [u8], text: &[u8]) -> Option<&'a [u8]>
     bytes.strip_prefix(text)
 }
 
-// The bytes before the first that is a space or less, and from it on.
-fn cut_word(bytes: &[u8]) -> (&[u8], &[u8])
-    ensures word { result.0.now ≡ word_of bytes.now }
-    ensures behind { result.1.now ≡ behind_word bytes.now }
-{
-    let mut end = 0;
-    while end < bytes.len() && bytes[end] > b' ' {
-        end += 1;
-    }
-    bytes.split_at(end)
-}
-
 // A space and a number of at most this size, and what follows.
 pub(crate) fn take_number(bytes: &[u8], most: u128) -> Option<(i128, &[u8])>
     requires { most < 2 ^ 124 }
     ensures { MatchOption result ((z : ℤ) (rest : List ℕ) → IsField most z bytes.now rest →
         ⊥) (λ p. IsField most p.0 bytes.now p.1.now) }
 {
-    let (word, rest) = cut_word(skip_byte(bytes, b' ')?);
-    Some((number_in(word, most)?, rest))
+    number_at(skip_byte(bytes, b' ')?, most)
 }
 
 // Three numbers of at most the size `most` and one of at most the size `last`, and what follows.
@@ -99,10 +85,10 @@ fn is_lowest(corner: &Meet) -> bool
     corner.w == 1 || reduce(corner) == *corner
 }
 
-// What follows a corner in lowest terms.
-pub(crate) fn skip_corner(bytes: &[u8]) -> Option<&[u8]>
+// A corner in lowest terms, and what follows.
+pub(crate) fn take_corner(bytes: &[u8]) -> Option<(Meet, &[u8])>
     ensures { MatchOption result ((v : Spot) (rest : List ℕ) → IsCorner v bytes.now rest →
-        ⊥) (λ rest. (v : Spot) × IsCorner v bytes.now rest.now) }
+        ⊥) (λ t. IsCorner (spot_of t.0) bytes.now t.1.now) }
 {
     let (four, rest) = take_four(bytes, MOST_COORDINATE, MOST_WEIGHT)?;
     if four.w < 1 {
@@ -114,5 +100,9 @@ pub(crate) fn skip_corner(bytes: &[u8]) -> Option<&[u8]>
         z: four.z,
         w: four.w,
     };
-    if is_lowest(&corner) { Some(rest) } else { None }
+    if is_lowest(&corner) {
+        Some((corner, rest))
+    } else {
+        None
+    }
 }

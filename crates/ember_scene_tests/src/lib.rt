@@ -2,6 +2,10 @@
 #![tactic(auto)]
 
 #[cfg(test)]
+mod documents;
+#[cfg(test)]
+mod faults;
+#[cfg(test)]
 mod grids;
 #[cfg(test)]
 mod moves;
@@ -11,6 +15,8 @@ mod outputs;
 mod placed;
 #[cfg(test)]
 mod queries;
+#[cfg(test)]
+mod scene_files;
 #[cfg(test)]
 mod scenes;
 #[cfg(test)]

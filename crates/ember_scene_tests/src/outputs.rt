@@ -1,25 +1,24 @@
 // The surfaces that mesh files hold; and the solids of mesh files as STL files and as text, by the
 // calling thread alone and by two workers.
-ghost use Rattle.std.specs.Prelude.{IfOk, IsTrue, All};
+ghost use Rattle.std.specs.Prelude.{◌≡◌, IfOk, IsTrue, All};
 ghost use Rattle.ember_boolean.specs.Files.{IsSmall};
 ghost use Rattle.ember_boolean.specs.Outputs.{HasFewDigits};
 ghost use Rattle.ember_grid.specs.Grids.{IsChoice};
 ghost use Rattle.ember_query.specs.Queries.{IsAnswer, IsExecutor, IsQuery};
 
-use crate::grids::{LARGER_EXTENT, THOUSANDTH, grid_with};
+use crate::grids::grid_with;
 use crate::scenes::expression;
-use crate::texts::{CUBE, FRACTIONS, LARGER, OPEN, SHIFTED_CUBE, STL_TRIANGLE};
-use ember_balance::Loose;
+use crate::texts::{FRACTIONS, SHIFTED_CUBE, STL_TRIANGLE};
 use ember_boolean::{
-    BooleanFault, MeshFile, MeshFormat, Output, WantedFile, solid_file, surfaces_in,
+    BooleanFault, FloatFormat, MeshFile, MeshFormat, Output, WantedFile, solid_file, surfaces_in,
 };
 use ember_file::FileFault;
 use ember_grid::Wanted;
 use ember_mesh_text::TextFormat;
-use ember_model::{Corner, OutOfMemory};
+use ember_model::OutOfMemory;
 use ember_number::floor_times;
 use ember_query::{Answer, Query, answer_alone, answer_by_workers};
-use ember_scene::{Counts, Open, SceneFault};
+use ember_scene::Counts;
 use ember_stl_bytes::{FloatPoint, WrittenTriangle, stl_bytes};
 use ember_surface::{Facet, Surface, Vertex};
 use ember_wavefront::WavefrontFault;
@@ -29,6 +28,11 @@ use std::sync::Wait;
 use std::test::Fail;
 use std::thread::Threads;
 use steal_pool::OpenGate;
+
+/// An STL.
+pub const STL: MeshFormat = MeshFormat::Floats(FloatFormat::Stl);
+
+const GLB: MeshFormat = MeshFormat::Floats(FloatFormat::Glb);
 
 // The bits of the binary32 of 4.
 const FOUR: u32 = 0x4080_0000;
@@ -76,14 +80,16 @@ fn cube_stl(alloc: Global) -> Result<Vec<u8>, Fail> {
     }
 }
 
-fn obj(bytes: &[u8]) -> MeshFile<'_> {
+/// An OBJ file.
+pub fn obj(bytes: &[u8]) -> MeshFile<'_> {
     MeshFile {
         name: b"mesh.obj",
         bytes,
     }
 }
 
-fn stl(bytes: &[u8]) -> MeshFile<'_> {
+/// A binary or ASCII STL.
+pub fn stl(bytes: &[u8]) -> MeshFile<'_> {
     MeshFile {
         name: b"mesh.stl",
         bytes,
@@ -108,8 +114,8 @@ fn are_small(files: &[MeshFile]) -> bool
     true
 }
 
-// The surfaces of files, or their first fault.
-fn surfaces_of<'a>(
+/// The surfaces of files, or their first fault.
+pub fn surfaces_of<'a>(
     alloc: Global,
     files: &[MeshFile<'a>],
 ) -> Result<Result<Vec<Surface<'a>>, BooleanFault<'a>>, Fail> {
@@ -122,8 +128,8 @@ fn surfaces_of<'a>(
     Ok(surfaces_in(alloc, files))
 }
 
-// The coordinates of a vertex in thousandths.
-fn coordinates(vertex: &Vertex) -> [Option<i128>; 3] {
+/// The coordinates of a vertex in thousandths.
+pub fn coordinates(vertex: &Vertex) -> [Option<i128>; 3] {
     [
         floor_times(&vertex.x, 1000),
         floor_times(&vertex.y, 1000),
@@ -186,12 +192,11 @@ fn outcome_by<'a, C: Fn(&Query) -> Result<Answer, OutOfMemory>>(
     alloc: Global,
     files: &[MeshFile<'a>],
     text: &[u8],
-    grid: Wanted,
-    format: MeshFormat,
+    wanted: WantedFile,
     executor: &C,
 ) -> Result<Result<Output, BooleanFault<'a>>, Fail>
-    requires choice { IsChoice grid }
-    requires digits { HasFewDigits format }
+    requires choice { IsChoice wanted.grid }
+    requires digits { HasFewDigits wanted.format }
     requires executor { IsExecutor C.pre C.post executor.now }
 {
     if files.len() > 64 {
@@ -201,12 +206,46 @@ fn outcome_by<'a, C: Fn(&Query) -> Result<Answer, OutOfMemory>>(
         return Err(Fail::from("long file"));
     }
     let expr = expression(alloc, text)?;
-    let wanted = WantedFile { grid, format };
     Ok(solid_file(alloc, files, &expr, wanted, executor))
 }
 
-// What the calling thread alone makes.
-fn outcome_alone<'a>(
+/// What the calling thread alone makes.
+pub fn outcome_wanted<'a>(
+    alloc: Global,
+    files: &[MeshFile<'a>],
+    text: &[u8],
+    wanted: WantedFile,
+) -> Result<Result<Output, BooleanFault<'a>>, Fail>
+    requires choice { IsChoice wanted.grid }
+    requires digits { HasFewDigits wanted.format }
+{
+    outcome_by(
+        alloc,
+        files,
+        text,
+        wanted,
+        &|query: &Query| -> Result<Answer, OutOfMemory>
+            requires { IsQuery query.now }
+            ensures { IfOk result (IsAnswer query.entry.now) }
+        { answer_alone(alloc, &OpenGate, query) },
+    )
+}
+
+// A file with nothing beside it.
+fn file_alone(grid: Wanted, format: MeshFormat) -> WantedFile
+    ensures grid { result.grid ≡ grid }
+    ensures format { result.format ≡ format }
+{
+    WantedFile {
+        grid,
+        format,
+        shows: false,
+        keeps: false,
+    }
+}
+
+/// The file that the calling thread alone makes.
+pub fn outcome_alone<'a>(
     alloc: Global,
     files: &[MeshFile<'a>],
     text: &[u8],
@@ -216,17 +255,7 @@ fn outcome_alone<'a>(
     requires choice { IsChoice grid }
     requires digits { HasFewDigits format }
 {
-    outcome_by(
-        alloc,
-        files,
-        text,
-        grid,
-        format,
-        &|query: &Query| -> Result<Answer, OutOfMemory>
-            requires { IsQuery query.now }
-            ensures { IfOk result (IsAnswer query.entry.now) }
-        { answer_alone(alloc, &OpenGate, query) },
-    )
+    outcome_wanted(alloc, files, text, file_alone(grid, format))
 }
 
 // The STL that two workers make.
@@ -243,8 +272,7 @@ fn outcome_of_two<'a, R: Threads + Wait + Sync>(
         alloc,
         files,
         text,
-        wanted,
-        MeshFormat::Stl,
+        file_alone(wanted, STL),
         &|query: &Query| -> Result<Answer, OutOfMemory>
             requires { IsQuery query.now }
             ensures { IfOk result (IsAnswer query.entry.now) }
@@ -269,16 +297,18 @@ fn check_numbers(rt: &impl Abort, output: &Output, counts: &[Counts]) {
     for length in &output.moves {
         assert_eq!(rt; length.size, 0);
     }
-    assert_eq!(rt; output.planes, 9);
-    assert_eq!(rt; output.triangles, 24);
-    assert_eq!(rt; (output.vanished, output.shared), (0, 0));
+    assert!(rt; output.kept.is_none());
+    assert!(rt; output.written.shown.is_none());
+    assert_eq!(rt; output.written.planes, 9);
+    assert_eq!(rt; output.written.triangles, 24);
+    assert_eq!(rt; (output.written.vanished, output.written.shared), (0, 0));
 }
 
 // And the file is an STL.
 fn check(rt: &impl Abort, output: &Output, counts: &[Counts]) {
     check_numbers(rt, output, counts);
-    assert_eq!(rt; output.bytes.len(), 84 + 24 * 50);
-    assert!(rt; !output.is_manifold);
+    assert_eq!(rt; output.written.bytes.len(), 84 + 24 * 50);
+    assert!(rt; !output.written.is_manifold);
 }
 
 // A face of a cube that isn't cut has two triangles, one that is cut at a corner has four.
@@ -287,7 +317,7 @@ fn the_difference_of_two_cubes_is_read_again(rt: HostRuntime) -> Result<(), Fail
     let alloc = rt.alloc();
     let cube = cube_stl(alloc)?;
     let files = [stl(&cube), obj(SHIFTED_CUBE)];
-    let Ok(output) = outcome_alone(alloc, &files, b"m1&!m2", Wanted::Nice, MeshFormat::Stl)? else {
+    let Ok(output) = outcome_alone(alloc, &files, b"m1&!m2", Wanted::Nice, STL)? else {
         return Err(Fail::from("refused"));
     };
     check(&rt, &output, &[all_kept(12), all_kept(12)]);
@@ -295,13 +325,33 @@ fn the_difference_of_two_cubes_is_read_again(rt: HostRuntime) -> Result<(), Fail
     let Ok(by_two) = outcome_of_two(&rt, alloc, &files, b"m1&!m2", Wanted::Nice)? else {
         return Err(Fail::from("refused by two workers"));
     };
-    assert_eq!(rt; by_two.bytes, output.bytes);
+    assert_eq!(rt; by_two.written.bytes, output.written.bytes);
     assert_eq!(rt; by_two.report, output.report);
-    let again = [stl(&output.bytes)];
-    let Ok(again) = outcome_alone(alloc, &again, b"m1", Wanted::Nice, MeshFormat::Stl)? else {
+    let again = [stl(&output.written.bytes)];
+    let Ok(again) = outcome_alone(alloc, &again, b"m1", Wanted::Nice, STL)? else {
         return Err(Fail::from("not read again"));
     };
     check(&rt, &again, &[all_kept(24)]);
+    Ok(())
+}
+
+// 12 bytes of header, 8 before the JSON, which has a multiple of 4, and 8 before 72 of each triangle.
+#[test]
+fn the_difference_as_glb_has_its_triangles(rt: HostRuntime) -> Result<(), Fail> {
+    let alloc = rt.alloc();
+    let cube = cube_stl(alloc)?;
+    let files = [stl(&cube), obj(SHIFTED_CUBE)];
+    let Ok(output) = outcome_alone(alloc, &files, b"m1&!m2", Wanted::Nice, GLB)? else {
+        return Err(Fail::from("refused"));
+    };
+    check_numbers(&rt, &output, &[all_kept(12), all_kept(12)]);
+    let length = output.written.bytes.len();
+    assert!(rt; length > 28 + 72 * 24);
+    assert_eq!(rt; length % 4, 0);
+    assert!(rt; output.written.bytes.starts_with(b"glTF\x02\0\0\0"));
+    let numbers = output.written.bytes.split_at(length - 72 * 24 - 8).1;
+    assert!(rt; numbers.starts_with(b"\xc0\x06\0\0BIN\0"));
+    assert!(rt; !output.written.is_manifold);
     Ok(())
 }
 
@@ -329,82 +379,13 @@ fn the_difference_as_text_is_read_again(rt: HostRuntime) -> Result<(), Fail> {
             return Err(Fail::from("refused"));
         };
         check_numbers(&rt, &output, &[all_kept(12), all_kept(12)]);
-        assert!(rt; output.bytes.starts_with(beginning));
-        assert!(rt; output.is_manifold);
-        let again = [obj(&output.bytes)];
-        let Ok(again) = outcome_alone(alloc, &again, b"m1", Wanted::Nice, MeshFormat::Stl)? else {
+        assert!(rt; output.written.bytes.starts_with(beginning));
+        assert!(rt; output.written.is_manifold);
+        let again = [obj(&output.written.bytes)];
+        let Ok(again) = outcome_alone(alloc, &again, b"m1", Wanted::Nice, STL)? else {
             return Err(Fail::from("not read again"));
         };
         check(&rt, &again, &[all_kept(24)]);
     }
-    Ok(())
-}
-
-// The fault of files.
-fn fault_of<'a>(
-    alloc: Global,
-    files: &[MeshFile<'a>],
-    wanted: Wanted,
-) -> Result<Option<BooleanFault<'a>>, Fail>
-    requires { IsChoice wanted }
-{
-    Ok(outcome_alone(alloc, files, b"m1", wanted, MeshFormat::Stl)?.err())
-}
-
-#[test]
-fn the_first_file_that_is_not_read_is_reported(rt: HostRuntime) -> Result<(), Fail> {
-    let files = [obj(CUBE), stl(b"v 0 0 0\n"), stl(b"")];
-    assert_eq!(rt;
-        fault_of(rt.alloc(), &files, Wanted::Nice)?,
-        Some(BooleanFault::File(1, FileFault::CutOff(0)))
-    );
-    Ok(())
-}
-
-#[test]
-fn files_are_read_before_they_are_a_scene(rt: HostRuntime) -> Result<(), Fail> {
-    let open = Open {
-        file: 1,
-        grid: grid_with(1, 1000, [750, 1125, 1562]),
-        edges: 3,
-        loose: Loose {
-            from: Corner {
-                x: -750,
-                y: -1125,
-                z: 1563,
-            },
-            to: Corner {
-                x: -750,
-                y: 1125,
-                z: -1562,
-            },
-            there: 1,
-            back: 0,
-        },
-        place: 7,
-    };
-    let files = [obj(FRACTIONS), obj(OPEN)];
-    assert_eq!(rt;
-        fault_of(rt.alloc(), &files, Wanted::Nice)?,
-        Some(BooleanFault::Scene(SceneFault::Open(open)))
-    );
-    let files = [obj(FRACTIONS), obj(OPEN), stl(b"")];
-    assert_eq!(rt;
-        fault_of(rt.alloc(), &files, Wanted::Nice)?,
-        Some(BooleanFault::File(2, FileFault::CutOff(0)))
-    );
-    Ok(())
-}
-
-#[test]
-fn a_step_may_be_too_small_for_files(rt: HostRuntime) -> Result<(), Fail> {
-    assert_eq!(rt;
-        fault_of(rt.alloc(), &[obj(LARGER)], Wanted::Given(THOUSANDTH))?,
-        Some(BooleanFault::Scene(SceneFault::StepTooSmall(LARGER_EXTENT)))
-    );
-    assert_eq!(rt;
-        fault_of(rt.alloc(), &[], Wanted::Nice)?,
-        Some(BooleanFault::Scene(SceneFault::NoTriangles))
-    );
     Ok(())
 }

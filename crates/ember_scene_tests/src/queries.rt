@@ -5,13 +5,14 @@ ghost use Rattle.ember_query.specs.Queries.{IsAnswer, IsExecutor, IsQuery};
 use crate::scenes::{expression, scene_of};
 use crate::texts::{CUBE, EMPTY, SHIFTED_CUBE, TETRA, TETRA_TEXT};
 use ember_expr::Expr;
-use ember_model::{OutOfMemory, Scene};
+use ember_model::{Face, OutOfMemory, Scene};
 use ember_pairs::gather;
 use ember_query::{
-    Answer, Query, Solid, answer_alone, answer_by_workers, query_counts, query_fills, query_pairs,
-    query_report, query_texts, solid_of,
+    Answer, Query, Solid, SolidFaces, answer_alone, answer_by_workers, query_counts, query_fills,
+    query_pairs, query_report, query_texts, solid_faces, solid_of,
 };
 use ember_report::Report;
+use ember_reread::read_faces;
 use ember_text::face_count;
 use std::alloc::Global;
 use std::process::Abort;
@@ -84,11 +85,12 @@ struct Counts {
     regions: [u64; 2],
 }
 
-// What an executor finds: by each query, the solid, and the report without the solid.
+// What an executor finds: by each query, the solid, its faces, and the report without both.
 #[derive(Drop)]
 struct Found {
     counts: Counts,
     solid: Solid,
+    faces: SolidFaces,
     report: Report,
 }
 
@@ -107,10 +109,12 @@ fn found_by<C: Fn(&Query) -> Result<Answer, OutOfMemory>>(
         regions: region_counts(scene, expr, executor)?,
     };
     let solid = solid_of(alloc, scene, expr, executor)?;
+    let faces = solid_faces(alloc, scene, expr, executor)?;
     let report = query_report(scene, expr, executor)?;
     Ok(Found {
         counts,
         solid,
+        faces,
         report,
     })
 }
@@ -150,6 +154,7 @@ fn found_by_two<R: Threads + Wait + Sync>(
 fn check(rt: &impl Abort, found: &Found, counts: Counts, report: Report) {
     assert_eq!(rt; found.counts, counts);
     assert_eq!(rt; found.solid.report, report);
+    assert_eq!(rt; found.faces.report, report);
     assert_eq!(rt; found.report, report);
 }
 
@@ -168,6 +173,39 @@ fn document_of<R: Threads + Wait + Sync + Abort>(
     check(rt, &by_two, counts, report);
     assert_eq!(rt; by_one.solid.text, by_two.solid.text);
     Ok(by_two.solid.text)
+}
+
+// The faces in memory are those that the document holds.
+fn check_faces(
+    rt: &impl Abort,
+    alloc: Global,
+    faces: &[Face],
+    document: &[u8],
+) -> Result<(), Fail> {
+    let Ok(read) = read_faces(alloc, document) else {
+        return Err(Fail::from("no face file"));
+    };
+    assert_eq!(rt; faces.len(), read.items().len());
+    for (face, same) in faces.iter().zip(read.items().iter()) {
+        assert_eq!(rt; face.support, same.support);
+        assert_eq!(rt; face.edges.items(), same.edges.items());
+    }
+    Ok(())
+}
+
+#[test]
+fn faces_in_memory_are_those_of_the_document(rt: HostRuntime) -> Result<(), Fail> {
+    let alloc = rt.alloc();
+    let scene = scene_of(alloc, CUBE, SHIFTED_CUBE)?;
+    // By the last two, the faces of a cube are flipped.
+    for text in ["m1|m2", "m1&!m2", "m2&!m1"] {
+        let expr = expression(alloc, text.as_bytes())?;
+        let by_one = found_alone(alloc, &scene, &expr)?;
+        check_faces(&rt, alloc, &by_one.faces.faces, &by_one.solid.text)?;
+        let by_two = found_by_two(&rt, alloc, &scene, &expr)?;
+        check_faces(&rt, alloc, &by_two.faces.faces, &by_two.solid.text)?;
+    }
+    Ok(())
 }
 
 #[test]

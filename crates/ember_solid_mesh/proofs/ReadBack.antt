@@ -1,5 +1,5 @@
 -- The document of a solid is a face file, so it is read.
-use Rattle.std.proofs.Common.{◌≡◌, ◌⊎◌, inl, inr, ℕ, suc, refl, sym, ap, subst, ◌∙◌, List, [], ◌∷◌, ◌++◌, length, map, flat_map}
+use Rattle.std.proofs.Common.{◌≡◌, ◌⊎◌, inl, inr, ℕ, suc, refl, sym, ap, ◌∙◌, List, [], ◌∷◌, ◌++◌, length, map, flat_map}
 use Rattle.std.specs.List.{All}
 use Rattle.std.proofs.lemmas.List.Concat.{flat_map-cons}
 use Rattle.std.proofs.lemmas.List.Elements.{All-cons, All-nil}
@@ -55,10 +55,9 @@ pub solid_holds_faces : (tris : List Tri) (formula : Formula) (bytes : List ℕ)
 solid_holds_faces tris formula bytes is = document_holds_faces (map written_face is.kept) bytes is.text
 
 -- a face file isn't refused for its form
-pub never_refused : (bytes file : List ℕ) (fault : RereadFault) → bytes ≡ file → HoldsFaces file → fault ≡ Form → (fault ≡ OutOfMemory) ⊎ ((fs : List Face) → IsFaceFile bytes fs → ⊥) → ⊥
-never_refused bytes file fault e held form (inl memory) = clash (sym form ∙ memory)
+pub never_refused : (file : List ℕ) (fault : RereadFault) → HoldsFaces file → fault ≡ Form → (fault ≡ OutOfMemory) ⊎ ((fs : List Face) → IsFaceFile file fs → ⊥) → ⊥
+never_refused file fault held form (inl memory) = clash (sym form ∙ memory)
   where
     clash : Form ≡ OutOfMemory → ⊥
     clash q = cc
-never_refused bytes file fault e held form (inr refused) =
-    refused held.0 (subst (λ (bytes : List ℕ). IsFaceFile bytes held.0) (sym e) held.1)
+never_refused file fault held form (inr refused) = refused held.0 held.1

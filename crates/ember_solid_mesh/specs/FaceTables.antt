@@ -1,7 +1,8 @@
--- The tables of the faces of a face file
-use Rattle.std.specs.Prelude.{◌≢◌, ℕ, List}
+-- The faces of a face file, and their tables
+use Rattle.std.specs.Prelude.{◌≡◌, ◌≢◌, ℕ, List, All, Some, slice_get, take}
 use Rattle.ember_model.specs.declared.face.Face.{Face}
-use Rattle.ember_model.specs.FaceFiles.{IsFaceFile}
+use Rattle.ember_model.specs.FaceFiles.{WrittenFace, IsFaceFile}
+use Rattle.ember_outline.specs.Rounds.{IsRound}
 use Rattle.ember_tables.specs.declared.fault.TableFault.{TableFault}
 use Rattle.ember_tables.specs.declared.fault.TableFault.TheVariants.{OutOfMemory}
 use Rattle.ember_tables.specs.declared.tables.Tables.{Tables}
@@ -11,6 +12,16 @@ use Rattle.ember_tables.specs.Tables.{AreTables, IsFault}
 -- the bytes are a face file
 abbrev pub HoldsFaces : List ℕ → Type 0
 HoldsFaces bytes = (faces : List Face) × IsFaceFile bytes faces
+
+-- the bytes are a face file; the face with this number, from 0, has the fault, and the edges of those before it lead
+-- once around them
+pub record HasFirstFace (bytes : List ℕ) (number : ℕ) (IsFault : WrittenFace → Type 0) : Type 0 where
+  pub faces : List Face
+  pub read : IsFaceFile bytes faces
+  pub face : WrittenFace
+  pub found : slice_get read.written number ≡ Some face
+  pub is_fault : IsFault face
+  pub before : All IsRound (take number read.written)
 
 -- the bytes are a face file, and the tables are those of its faces
 pub record AreTablesIn (bytes : List ℕ) (tables : Tables) : Type 0 where

@@ -1,16 +1,23 @@
--- Why a solid gets no mesh
+-- Why a solid or a document gets no mesh
 use Rattle.std.specs.Prelude.{◌≢◌, ⊤, ℕ, List}
 use Rattle.ember_expr.specs.Formula.{Formula}
 use Rattle.ember_model.specs.declared.tri.Tri.{Tri}
+use Rattle.ember_outline.specs.declared.fault.OutlineFault.{OutlineFault}
+use Rattle.ember_outline.specs.declared.fault.OutlineFault.TheVariants as outline
+use Rattle.ember_outline.specs.Rounds.{IsOffEdge, IsOffPlane, IsNotRound}
 use Rattle.ember_query.specs.Solids.{IsSolidText}
+use Rattle.ember_reread.specs.declared.fault.RereadFault.{RereadFault}
+use Rattle.ember_reread.specs.declared.fault.RereadFault.TheVariants as reread
 use Rattle.ember_tables.specs.declared.fault.TableFault.{TableFault}
 use Rattle.ember_tables.specs.declared.fault.TableFault.TheVariants as table
 use Rattle.ember_tables.specs.declared.tables.Tables.{Tables}
 use Rattle.ember_triangles.specs.declared.fault.TrianglesFault.{TrianglesFault}
 use Rattle.ember_triangles.specs.declared.fault.TrianglesFault.TheVariants as triangles
+use Rattle.ember_solid_mesh.specs.declared.fault.DocumentFault.{DocumentFault}
+use Rattle.ember_solid_mesh.specs.declared.fault.DocumentFault.TheVariants as document
 use Rattle.ember_solid_mesh.specs.declared.fault.SolidFault.{SolidFault}
 use Rattle.ember_solid_mesh.specs.declared.fault.SolidFault.TheVariants.{NoTables, NotCut, OutOfMemory}
-use Rattle.ember_solid_mesh.specs.FaceTables.{AreTablesIn, HaveTableFault}
+use Rattle.ember_solid_mesh.specs.FaceTables.{AreTablesIn, HasFirstFace, HaveTableFault, HoldsFaces}
 
 -- ---- the faults of the steps, where want of memory is one
 abbrev pub of_table_fault : TableFault → SolidFault
@@ -21,11 +28,20 @@ abbrev pub of_triangles_fault : TrianglesFault → SolidFault
 of_triangles_fault triangles.OutOfMemory = OutOfMemory
 of_triangles_fault fault = NotCut fault
 
--- why a face file gives no tables
-abbrev pub IsFileFault : List ℕ → SolidFault → Type 0
-IsFileFault bytes (NoTables fault) = HaveTableFault bytes fault
-IsFileFault bytes (NotCut fault) = ⊥
-IsFileFault bytes OutOfMemory = ⊤
+abbrev pub of_reading_fault : RereadFault → DocumentFault
+of_reading_fault reread.Form = document.NotADocument
+of_reading_fault reread.OutOfMemory = document.OutOfMemory
+
+abbrev pub of_outline_fault : ℕ → OutlineFault → DocumentFault
+of_outline_fault face outline.OffPlane = document.OffPlane face
+of_outline_fault face outline.OffEdge = document.OffEdge face
+of_outline_fault face outline.NotRound = document.NotRound face
+of_outline_fault face outline.OutOfMemory = document.OutOfMemory
+
+abbrev pub of_mesh_fault : SolidFault → DocumentFault
+of_mesh_fault (NoTables fault) = document.NoTables fault
+of_mesh_fault (NotCut fault) = document.NotCut fault
+of_mesh_fault OutOfMemory = document.OutOfMemory
 
 -- why tables give no triangles
 abbrev pub IsCutFault : SolidFault → Type 0
@@ -33,12 +49,34 @@ IsCutFault (NoTables fault) = ⊥
 IsCutFault (NotCut fault) = fault ≢ triangles.OutOfMemory
 IsCutFault OutOfMemory = ⊤
 
+-- ---- the faults of a document
+-- its faces have tables but no triangles were found, and not for want of memory
+pub record HasNoTriangles (bytes : List ℕ) (fault : TrianglesFault) : Type 0 where
+  pub tables : Tables
+  pub are_tables : AreTablesIn bytes tables
+  pub of_triangles : fault ≢ triangles.OutOfMemory
+
+-- why the faces of a face file give no mesh
+abbrev pub IsFileFault : List ℕ → SolidFault → Type 0
+IsFileFault bytes (NoTables fault) = HaveTableFault bytes fault
+IsFileFault bytes (NotCut fault) = HasNoTriangles bytes fault
+IsFileFault bytes OutOfMemory = ⊤
+
+-- why bytes from anywhere give no mesh: they are no face file, a face isn't as it has to be, or the faces give none
+abbrev pub IsDocumentFault : List ℕ → DocumentFault → Type 0
+IsDocumentFault bytes document.NotADocument = HoldsFaces bytes → ⊥
+IsDocumentFault bytes (document.OffPlane face) = HasFirstFace bytes face IsOffPlane
+IsDocumentFault bytes (document.OffEdge face) = HasFirstFace bytes face IsOffEdge
+IsDocumentFault bytes (document.NotRound face) = HasFirstFace bytes face IsNotRound
+IsDocumentFault bytes (document.NoTables fault) = HaveTableFault bytes fault
+IsDocumentFault bytes (document.NotCut fault) = HasNoTriangles bytes fault
+IsDocumentFault bytes document.OutOfMemory = ⊤
+
 -- ---- the faults of a solid
 -- the faces of its document have a fault, or they have tables but no triangles were found, or memory is short
 abbrev pub IsSolidFault : List Tri → Formula → SolidFault → Type 0
 IsSolidFault tris formula (NoTables fault) =
     (bytes : List ℕ) × IsSolidText tris formula bytes × HaveTableFault bytes fault
 IsSolidFault tris formula (NotCut fault) =
-    (bytes : List ℕ) × (tables : Tables) × IsSolidText tris formula bytes × AreTablesIn bytes tables ×
-    (fault ≢ triangles.OutOfMemory)
+    (bytes : List ℕ) × IsSolidText tris formula bytes × HasNoTriangles bytes fault
 IsSolidFault tris formula OutOfMemory = ⊤

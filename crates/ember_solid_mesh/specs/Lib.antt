@@ -1,3 +1,5 @@
+pub mod Asked
 pub mod FaceTables
 pub mod Faults
 pub mod Meshes
+pub mod MeshFaces

@@ -1,64 +1,33 @@
-// The mesh of a solid.
-ghost use Rattle.std.specs.Prelude.{◌≡◌, All, IfOk, IfErr};
+// The mesh of faces.
+ghost use Rattle.std.specs.Prelude.{◌≡◌, ℕ, List, length, All, IfOk, IfErr};
 ghost use Rattle.ember_model.specs.FaceFiles.{IsFaceFile};
 ghost use Rattle.ember_model.specs.Valid.{IsValidFace, IsValidPlane};
-ghost use Rattle.ember_expr.specs.Formula.{formula_of};
-ghost use Rattle.ember_query.specs.Queries.{IsExecutor};
-ghost use Rattle.ember_query.specs.Solids.{IsSolidReport};
-ghost use Rattle.ember_solid_mesh.specs.FaceTables.{HoldsFaces, AreTablesIn};
-ghost use Rattle.ember_solid_mesh.specs.Faults.{IsFileFault, IsCutFault, IsSolidFault};
-ghost use Rattle.ember_solid_mesh.specs.Meshes.{IsMeshOf, IsSolidMesh};
+ghost use Rattle.ember_solid_mesh.specs.Faults.{IsCutFault, IsFileFault};
+ghost use Rattle.ember_solid_mesh.specs.Meshes.{IsDocumentMesh, IsMeshOf};
 
 use crate::fault::SolidFault;
 use ember_certificate::{SpacePoint, Triangle};
-use ember_expr::Expr;
-use ember_model::{Face, OutOfMemory, Plane, Scene};
-use ember_query::{Answer, Query, Solid, solid_of};
-use ember_report::Report;
-use ember_reread::{RereadFault, read_faces};
+use ember_model::{Face, Plane};
 use ember_tables::{Tables, tables_of};
 use ember_triangles::certified_triangles;
-use std::alloc::{AllocError, Global};
+use std::alloc::Global;
 
-/// Triangles of a solid's faces, with the planes and corners that their numbers stand for, and the
-/// numbers of the run. A corner may belong to no triangle.
+/// Triangles of the faces of a document, with the planes and corners that their numbers stand for.
+/// A corner may belong to no triangle.
 #[derive(Drop)]
 pub struct SolidMesh {
     pub planes: Vec<Plane>,
     pub corners: Vec<SpacePoint>,
     pub triangles: Vec<Triangle>,
-    pub report: Report,
+    /// The number of the faces that the triangles cut up.
+    pub faces: u64,
 }
 
-// The faces of a face file, which isn't kept.
-fn faces_in(alloc: Global, file: Vec<u8>) -> Result<Vec<Face>, OutOfMemory>
-    requires { HoldsFaces file.items }
-    ensures faces { IfOk result (λ faces. IsFaceFile file.items faces.items) }
-    ensures valid { IfOk result (λ faces. All IsValidFace faces.items) }
-{
-    match read_faces(alloc, &file) {
-        Ok(faces) => Ok(faces.into_vec()),
-        Err(RereadFault::OutOfMemory) => Err(AllocError),
-        Err(RereadFault::Form) => unreachable!(),
-    }
-}
-
-// The tables of the faces of a face file. Neither the file nor its faces are kept.
-fn tables_in(alloc: Global, file: Vec<u8>) -> Result<Tables, SolidFault>
-    requires { HoldsFaces file.items }
-    ensures tables { IfOk result (λ tables. AreTablesIn file.items tables) }
-    ensures fault { IfErr result (λ fault. IsFileFault file.items fault) }
-{
-    let faces = faces_in(alloc, file)?;
-    let tables = tables_of(alloc, &faces)?;
-    Ok(tables)
-}
-
-// The mesh with these tables and this report. Lines and segments aren't kept.
-fn mesh_of(alloc: Global, tables: Tables, report: Report) -> Result<SolidMesh, SolidFault>
+// The mesh with these tables, of so many faces. Lines and segments aren't kept.
+fn mesh_of(alloc: Global, tables: Tables, faces: u64) -> Result<SolidMesh, SolidFault>
     requires { All IsValidPlane tables.planes.items }
     ensures mesh { IfOk result (λ mesh. IsMeshOf tables mesh) }
-    ensures report { IfOk result (λ mesh. mesh.report ≡ report) }
+    ensures faces { IfOk result (λ mesh. mesh.faces ≡ faces) }
     ensures fault { IfErr result (λ fault. IsCutFault fault) }
 {
     let Tables {
@@ -72,26 +41,18 @@ fn mesh_of(alloc: Global, tables: Tables, report: Report) -> Result<SolidMesh, S
         planes,
         corners,
         triangles,
-        report,
+        faces,
     })
 }
 
-/// The solid of an expression over a scene as certified triangles. They cut up the faces of the solid's
-/// document, as they are read back from it. The document is dropped before the triangles are made.
-/// It is a fault if the faces have no tables or if no certified triangles are found; it isn't proved that
-/// this never happens.
-pub fn solid_mesh<C: Fn(&Query) -> Result<Answer, OutOfMemory>>(
-    alloc: Global,
-    scene: &Scene,
-    expr: &Expr,
-    executor: &C,
-) -> Result<SolidMesh, SolidFault>
-    requires { IsExecutor C.pre C.post executor.now }
-    ensures mesh { IfOk result (λ mesh. IsSolidMesh scene.now.tris (formula_of expr.now) mesh) }
-    ensures report { IfOk result (λ mesh. IsSolidReport scene.now.tris (formula_of expr.now) mesh.report) }
-    ensures fault { IfErr result (λ fault. IsSolidFault scene.now.tris (formula_of expr.now) fault) }
+// The mesh of the faces of a document, which aren't kept while triangles are made.
+pub(crate) fn mesh_of_faces(alloc: Global, faces: Vec<Face>) -> Result<SolidMesh, SolidFault>
+    requires { All IsValidFace faces.items }
+    ensures mesh { (bytes : List ℕ) → IsFaceFile bytes faces.items → IfOk result (IsDocumentMesh bytes) }
+    ensures fault { (bytes : List ℕ) → IsFaceFile bytes faces.items → IfErr result (IsFileFault bytes) }
 {
-    let Solid { text, report } = solid_of(alloc, scene, expr, executor)?;
-    let tables = tables_in(alloc, text)?;
-    mesh_of(alloc, tables, report)
+    let count = faces.len() as u64;
+    let tables = tables_of(alloc, &faces)?;
+    drop(faces);
+    mesh_of(alloc, tables, count)
 }

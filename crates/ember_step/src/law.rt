@@ -15,6 +15,7 @@ ghost use Rattle.ember_job.specs.Visited.{leaves};
 ghost use Rattle.ember_leaf.specs.declared.kept.Kept.{Kept};
 ghost use Rattle.ember_leaf.specs.Written.{IsWrittenIn};
 ghost use Rattle.ember_leaf.specs.Scenes.{HasOneValue, IsWritten};
+ghost use Rattle.ember_step.specs.Faces.{LeafFacesJoin};
 ghost use Rattle.ember_step.specs.Texts.{LeafTextsJoin};
 ghost use Rattle.ember_visit.specs.Jobs.{IsJob, root_job};
 ghost use Rattle.ember_visit.specs.Values.{box_value, shape};
@@ -50,6 +51,15 @@ pub fn visited_leaves_write_all(_s: &Scene, e: &Expr)
 /// regions of its scene.
 pub fn leaf_texts_join(_s: &Scene, e: &Expr)
     ensures { LeafTextsJoin _s.now.tris (formula_of e.now) }
+{
+    // Called only for its clause `fit`, which the prover then knows of `e`.
+    tree(e);
+}
+
+/// The faces of the visited leaves of a Boolean, one list after another, are the faces of the
+/// written regions of its scene, as their text holds them.
+pub fn leaf_faces_join(_s: &Scene, e: &Expr)
+    ensures { LeafFacesJoin _s.now.tris (formula_of e.now) }
 {
     // Called only for its clause `fit`, which the prover then knows of `e`.
     tree(e);

@@ -7,14 +7,16 @@
 #![tactic(auto)]
 
 mod count;
+mod faces;
 mod law;
 mod step;
 mod text;
 
 pub use count::{CountWork, count_step};
 pub use ember_visit::root_job;
+pub use faces::{FaceWork, faces_step};
 pub use law::{
-    known_boxes_write_nothing, leaf_texts_join, visited_leaves_write_all,
+    known_boxes_write_nothing, leaf_faces_join, leaf_texts_join, visited_leaves_write_all,
     written_regions_are_one_list,
 };
 pub use step::{BoolWork, box_step};

@@ -7,4 +7,4 @@ mod writing;
 
 pub use fault::StlWriteFault;
 pub use triangle::{FloatPoint, WrittenTriangle};
-pub use writing::stl_bytes;
+pub use writing::{put_number, put_point, stl_bytes};

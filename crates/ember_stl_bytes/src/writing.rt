@@ -18,8 +18,9 @@ fn put_header(out: &mut Vec<u8>) -> Result<(), AllocError>
     out.extend_from_slice(HEADER)
 }
 
+/// Appends the four bytes of a number, the lowest first.
 #[tactic(auto, unfolding(crate::specs::Written::number_bytes))]
-fn put_number(number: u32, out: &mut Vec<u8>) -> Result<(), AllocError>
+pub fn put_number(number: u32, out: &mut Vec<u8>) -> Result<(), AllocError>
     ensures { OnOk result (out.new.items ≡ out.old.items ++ number_bytes number) }
 {
     out.extend_from_slice(&[
@@ -30,8 +31,9 @@ fn put_number(number: u32, out: &mut Vec<u8>) -> Result<(), AllocError>
     ])
 }
 
+/// Appends the coordinates of a point, each in four bytes.
 #[tactic(auto, unfolding(crate::specs::Written::point_bytes))]
-fn put_point(point: &FloatPoint, out: &mut Vec<u8>) -> Result<(), AllocError>
+pub fn put_point(point: &FloatPoint, out: &mut Vec<u8>) -> Result<(), AllocError>
     ensures { OnOk result (out.new.items ≡ out.old.items ++ point_bytes point.now) }
 {
     put_number(point.x, out)?;

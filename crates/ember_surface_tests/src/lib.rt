@@ -12,11 +12,15 @@ mod floats;
 #[cfg(test)]
 mod formats;
 #[cfg(test)]
+mod glb;
+#[cfg(test)]
 mod grids;
 #[cfg(test)]
 mod numbers;
 #[cfg(test)]
 mod off_files;
+#[cfg(test)]
+mod pages;
 #[cfg(test)]
 mod ply_files;
 #[cfg(test)]

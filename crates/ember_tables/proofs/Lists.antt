@@ -1,5 +1,6 @@
 -- Entries of lists, and lists in pairs
-use Rattle.std.proofs.Common.{◌≡◌, inl, inr, ℕ, zero, suc, List, [], ◌∷◌, ◌++◌, map, Some, slice_get, refl, sym, ap, subst}
+use Rattle.std.proofs.Common.{◌≡◌, inl, inr, ℕ, zero, suc, ◌+◌, ◌≤◌, List, [], ◌∷◌, ◌++◌, length, map, Some, slice_get, refl, sym, ap, subst, ◌∙◌, arith, length-append}
+use Rattle.std.proofs.lemmas.List.{map-append, append-nil}
 use Rattle.std.specs.List.{AllZip, All}
 use Rattle.std.proofs.lemmas.Option.{none-some, same_Some}
 use Rattle.std.proofs.lemmas.List.Elements.{All-push}
@@ -10,12 +11,21 @@ slice_get-append [] ys n x e = absurd (none-some x e)
 slice_get-append (y ∷ xs) ys zero x e = e
 slice_get-append (y ∷ xs) ys (suc n) x e = slice_get-append xs ys n x e
 
+-- ys begins with xs
+abbrev pub Extends : {X : Type 0} → List X → List X → Type 0
+Extends {X} xs ys = (zs : List X) × (ys ≡ xs ++ zs)
+
+pub extends_same : {X : Type 0} (xs ys : List X) → ys ≡ xs → Extends xs ys
+extends_same xs ys e = ([], e ∙ sym (append-nil xs))
+
+pub extends_put : {X : Type 0} (x : X) (xs ys : List X) → IsKeptOrPut x xs ys → Extends xs ys
+extends_put x xs ys (inl e) = extends_same xs ys e
+extends_put x xs ys (inr e) = (x ∷ [], e)
+
 -- an entry keeps its number
-pub entry_stays : {X : Type 0} (x : X) (xs ys : List X) (n : ℕ) (P : X → Type 0) → IsKeptOrPut x xs ys → HasEntry xs n P → HasEntry ys n P
-entry_stays x xs ys n P (inl e) h =
-    record { entry = h.entry; here = subst (λ zs. slice_get zs n ≡ Some h.entry) (sym e) h.here; holds = h.holds }
-entry_stays x xs ys n P (inr e) h =
-    record { entry = h.entry; here = subst (λ zs. slice_get zs n ≡ Some h.entry) (sym e) (slice_get-append xs (x ∷ []) n h.entry h.here); holds = h.holds }
+pub entry_stays : {X : Type 0} (xs ys : List X) (n : ℕ) (P : X → Type 0) → Extends xs ys → HasEntry xs n P → HasEntry ys n P
+entry_stays xs ys n P e h =
+    record { entry = h.entry; here = subst (λ zs. slice_get zs n ≡ Some h.entry) (sym e.1) (slice_get-append xs e.0 n h.entry h.here); holds = h.holds }
 
 -- what holds of an entry
 pub entry_with : {X : Type 0} (xs : List X) (n : ℕ) (P Q : X → Type 0) → ((x : X) → P x → Q x) → HasEntry xs n P → HasEntry xs n Q
@@ -25,6 +35,16 @@ entry_with xs n P Q f h = record { entry = h.entry; here = h.here; holds = f h.e
 pub all_put : {X : Type 0} (P : X → Type 0) (x : X) (xs ys : List X) → IsKeptOrPut x xs ys → All P xs → P x → All P ys
 all_put P x xs ys (inl e) h p = subst (All P) (sym e) h
 all_put P x xs ys (inr e) h p = subst (All P) (sym e) (All-push P xs x h p)
+
+-- what is put into a list is put into the mapped one
+pub mapped_put : {X Y : Type 0} (f : X → Y) (x : X) (xs ys : List X) → IsKeptOrPut x xs ys → IsKeptOrPut (f x) (map f xs) (map f ys)
+mapped_put f x xs ys (inl e) = inl (ap (map f) e)
+mapped_put f x xs ys (inr e) = inr (ap (map f) e ∙ map-append f xs (x ∷ []))
+
+-- at most one more
+pub put_length : {X : Type 0} (x : X) (xs ys : List X) → IsKeptOrPut x xs ys → length ys ≤ length xs + 1
+put_length x xs ys (inl e) = omega (arith, ap length e)
+put_length x xs ys (inr e) = omega (arith, ap length e ∙ length-append xs (x ∷ []))
 
 -- the entry of a mapped list
 pub entry_of_map : {X Y : Type 0} (f : X → Y) (xs : List X) (n : ℕ) (y : Y) → slice_get (map f xs) n ≡ Some y → (x : X) × (slice_get xs n ≡ Some x) × (f x ≡ y)
@@ -52,3 +72,8 @@ pairs_push R [] [] x y h r = (r, tt)
 pairs_push R [] (b ∷ ys) x y h r = absurd h
 pairs_push R (a ∷ xs) [] x y h r = absurd h
 pairs_push R (a ∷ xs) (b ∷ ys) x y h r = (h.0, pairs_push R xs ys x y h.1 r)
+
+-- ---- images
+-- an entry's image has its number
+pub mapped_has : {X Y : Type 0} (f : X → Y) (xs : List X) (n : ℕ) (P : X → Type 0) (Q : Y → Type 0) → ((x : X) → P x → Q (f x)) → HasEntry xs n P → HasEntry (map f xs) n Q
+mapped_has f xs n P Q g h = record { entry = f h.entry; here = mapped_entry f xs n h.entry h.here; holds = g h.entry h.holds }

@@ -1,72 +1,75 @@
--- Keys beside entries
-use Rattle.std.proofs.Common.{◌≡◌, ◌⊎◌, inl, inr, ℕ, ◌<◌, ◌≤◌, Bool, true, false, true≢false, not, if◌then◌else◌, List, [], ◌∷◌, ◌++◌, map, Some, slice_get, sym, ap, subst, ◌∙◌, arith}
+-- Entries without equals
+use Rattle.std.proofs.Common.{◌≡◌, ◌⊎◌, inl, inr, ℕ, ◌<◌, ◌≤◌, Bool, true, false, true≢false, if◌then◌else◌, List, [], ◌∷◌, ◌++◌, map, Some, slice_get, sym, ap, ◌∙◌, arith}
 use Rattle.std.specs.Bool.{Decides}
 use Rattle.std.specs.List.{IsDistinct}
 use Rattle.std.proofs.lemmas.Bool.{cases_lt}
 use Rattle.std.proofs.lemmas.Bool.Decides.{Decides-like, Decides-and, Decides-int_eq}
-use Rattle.std.proofs.lemmas.List.{map-append}
 use Rattle.std.proofs.lemmas.Option.{get_or_from_slice_get, slice_get_within}
 use Rattle.std.proofs.lemmas.Map.Keys.{apart_from_distinct}
-use Rattle.ember_tables.specs.declared.hash_key.HashKey.{HashKey}
-use Rattle.ember_tables.specs.Numberings.{HasEntry, AreDistinct, same_key, IsNumbering}
-use Rattle.ember_tables.proofs.Lists.{entry_of_map, mapped_entry}
+use Rattle.ember_model.specs.declared.point.Spot.{Spot}
+use Rattle.ember_model.specs.declared.plane.Plane.{Plane}
+use Rattle.ember_key.specs.declared.lines.LineKey.{LineKey}
+use Rattle.ember_certificate.specs.declared.space_point.SpacePoint.{SpacePoint}
+use Rattle.ember_certificate.specs.Facing.{spot_of}
+use Rattle.ember_tables.specs.declared.plane_entry.PlaneEntry.{PlaneEntry}
+use Rattle.ember_tables.specs.Numberings.{AreDistinct, IsKeptOrPut, plane_of, same_entry, same_line, same_corner}
+use Rattle.ember_tables.proofs.Lists.{entry_of_map}
 
-same_six : {k l : HashKey} → k.a ≡ l.a → k.b ≡ l.b → k.c ≡ l.c → k.d ≡ l.d → k.e ≡ l.e → k.f ≡ l.f → k ≡ l
-same_six ea eb ec ed ee ef = λ i. record { a = ea i; b = eb i; c = ec i; d = ed i; e = ee i; f = ef i }
+-- ---- what the tests decide
+plane_from : {e f : PlaneEntry} → e.a ≡ f.a → e.b ≡ f.b → e.c ≡ f.c → e.d ≡ f.d → plane_of e ≡ plane_of f
+plane_from a b c d = λ i. record { a = a i; b = b i; c = c i; d = d i }
 
-same_key_decides : (k l : HashKey) → Decides (same_key k l) (k ≡ l)
-same_key_decides k l =
+pub same_entry_decides : (e f : PlaneEntry) → Decides (same_entry e f) (plane_of e ≡ plane_of f)
+same_entry_decides e f =
     Decides-like _
-    (λ t. same_six t.0 t.1.0 t.1.1.0 t.1.1.1.0 t.1.1.1.1.0 t.1.1.1.1.1)
-    (λ e. (ap (λ (s : HashKey). s.a) e, (ap (λ (s : HashKey). s.b) e, (ap (λ (s : HashKey). s.c) e, (ap (λ (s : HashKey). s.d) e, (ap (λ (s : HashKey). s.e) e, ap (λ (s : HashKey). s.f) e))))))
-    (Decides-and _ _ (Decides-int_eq k.a l.a) (Decides-and _ _ (Decides-int_eq k.b l.b) (Decides-and _ _ (Decides-int_eq k.c l.c) (Decides-and _ _ (Decides-int_eq k.d l.d) (Decides-and _ _ (Decides-int_eq k.e l.e) (Decides-int_eq k.f l.f))))))
+    (λ t. plane_from {e = e} {f = f} t.0 t.1.0 t.1.1.0 t.1.1.1)
+    (λ s. (ap (λ (p : Plane). p.a) s, (ap (λ (p : Plane). p.b) s, (ap (λ (p : Plane). p.c) s, ap (λ (p : Plane). p.d) s))))
+    (Decides-and _ _ (Decides-int_eq e.a f.a) (Decides-and _ _ (Decides-int_eq e.b f.b) (Decides-and _ _ (Decides-int_eq e.c f.c) (Decides-int_eq e.d f.d))))
 
--- ---- the keys after one more was numbering_put
-module _ (keys more : List HashKey) (k : HashKey) (new : Bool) where
-  pub old_keys : (b : Bool) → more ≡ (if b then keys else keys ++ k ∷ []) → new ≡ not b → new ≡ false → more ≡ keys
-  old_keys true m n e = m
-  old_keys false m n e = absurd (true≢false (sym n ∙ e))
+line_from : {k l : LineKey} → k.dx ≡ l.dx → k.dy ≡ l.dy → k.dz ≡ l.dz → k.mx ≡ l.mx → k.my ≡ l.my → k.mz ≡ l.mz → k ≡ l
+line_from a b c d e f =
+    λ i. record { dx = a i; dy = b i; dz = c i; mx = d i; my = e i; mz = f i }
 
-  pub new_keys : (b : Bool) → more ≡ (if b then keys else keys ++ k ∷ []) → new ≡ not b → new ≡ true → more ≡ keys ++ k ∷ []
-  new_keys true m n e = absurd (true≢false (sym e ∙ n))
-  new_keys false m n e = m
+pub same_line_decides : (k l : LineKey) → Decides (same_line k l) (k ≡ l)
+same_line_decides k l =
+    Decides-like _
+    (λ t. line_from {k = k} {l = l} t.0 t.1.0 t.1.1.0 t.1.1.1.0 t.1.1.1.1.0 t.1.1.1.1.1)
+    (λ s. (ap (λ (m : LineKey). m.dx) s, (ap (λ (m : LineKey). m.dy) s, (ap (λ (m : LineKey). m.dz) s, (ap (λ (m : LineKey). m.mx) s, (ap (λ (m : LineKey). m.my) s, ap (λ (m : LineKey). m.mz) s))))))
+    (Decides-and _ _ (Decides-int_eq k.dx l.dx) (Decides-and _ _ (Decides-int_eq k.dy l.dy) (Decides-and _ _ (Decides-int_eq k.dz l.dz) (Decides-and _ _ (Decides-int_eq k.mx l.mx) (Decides-and _ _ (Decides-int_eq k.my l.my) (Decides-int_eq k.mz l.mz))))))
 
-module _ {X : Type 0} (f : X → HashKey) where
-  -- the entry of a key that was found_key_has_entry
-  pub found_key_has_entry : (keys : List HashKey) (xs : List X) (n : ℕ) (k l : HashKey) → IsNumbering f keys xs → slice_get keys n ≡ Some l → same_key k l ≡ true → HasEntry xs n (λ x. f x ≡ k)
-  found_key_has_entry keys xs n k l h e t =
-      let p = entry_of_map f xs n l (subst (λ ks. slice_get ks n ≡ Some l) h.keyed e) in
-      record { entry = p.0; here = p.1; holds = p.2 ∙ sym ((same_key_decides k l).0 t) }
+spot_from : {u v : Spot} → u.x ≡ v.x → u.y ≡ v.y → u.z ≡ v.z → u.w ≡ v.w → u ≡ v
+spot_from a b c d = λ i. record { x = a i; y = b i; z = c i; w = d i }
 
-  -- one more key and its entry
-  pub numbering_put : (keys more : List HashKey) (xs ys : List X) (k : HashKey) (x : X) → f x ≡ k → IsNumbering f keys xs → more ≡ keys ++ k ∷ [] → ys ≡ xs ++ x ∷ [] → IsDistinct same_key more → IsNumbering f more ys
-  numbering_put keys more xs ys k x e h m y d =
-      record {
-        keyed = m ∙ (λ i. h.keyed i ++ sym e i ∷ []) ∙ sym (ap (map f) y ∙ map-append f xs (x ∷ []));
-        distinct = d;
-      }
+pub same_corner_decides : (p q : SpacePoint) → Decides (same_corner p q) (spot_of p ≡ spot_of q)
+same_corner_decides p q =
+    Decides-like _
+    (λ t. spot_from {u = spot_of p} {v = spot_of q} t.0 t.1.0 t.1.1.0 t.1.1.1)
+    (λ s. (ap (λ (v : Spot). v.x) s, (ap (λ (v : Spot). v.y) s, (ap (λ (v : Spot). v.z) s, ap (λ (v : Spot). v.w) s))))
+    (Decides-and _ _ (Decides-int_eq p.x q.x) (Decides-and _ _ (Decides-int_eq p.y q.y) (Decides-and _ _ (Decides-int_eq p.z q.z) (Decides-int_eq p.w q.w))))
 
-  pub numbering_kept : (keys more : List HashKey) (xs ys : List X) → IsNumbering f keys xs → more ≡ keys → ys ≡ xs → IsDistinct same_key more → IsNumbering f more ys
-  numbering_kept keys more xs ys h m y d = record { keyed = m ∙ h.keyed ∙ sym (ap (map f) y); distinct = d }
+-- ---- one more entry
+pub kept_or_put : {X : Type 0} (b : Bool) (x : X) (xs ys : List X) → ys ≡ (if b then xs else xs ++ x ∷ []) → IsKeptOrPut x xs ys
+kept_or_put true x xs ys e = inl e
+kept_or_put false x xs ys e = inr e
 
-  -- ---- distinct entries
-  apart : (keys : List HashKey) (xs : List X) (i j : ℕ) (x y : X) → IsNumbering f keys xs → i < j → slice_get xs i ≡ Some x → slice_get xs j ≡ Some y → f x ≡ f y → ⊥
-  apart keys xs i j x y h l a b e =
-      let ka = subst (λ ks. slice_get ks i ≡ Some (f x)) (sym h.keyed) (mapped_entry f xs i x a) in
-      let kb = subst (λ ks. slice_get ks j ≡ Some (f y)) (sym h.keyed) (mapped_entry f xs j y b) in
-      let d = apart_from_distinct same_key keys i j (f x) h.distinct l (slice_get_within keys j (f y) kb) in
-      let ga = get_or_from_slice_get keys i (f x) (f x) ka in
-      let gb = get_or_from_slice_get keys j (f y) (f x) kb in
-      true≢false (sym ((same_key_decides (f x) (f y)).1 e) ∙ sym (λ n. same_key (ga n) (gb n)) ∙ d)
+-- ---- distinct entries
+module _ {X Y : Type 0} (same : X → X → Bool) (f : X → Y) (decides : (x y : X) → Decides (same x y) (f x ≡ f y)) (xs : List X) (h : IsDistinct same xs) where
+  apart : (i j : ℕ) (x y : X) → i < j → slice_get xs i ≡ Some x → slice_get xs j ≡ Some y → f x ≡ f y → ⊥
+  apart i j x y l a b e =
+      let d = apart_from_distinct same xs i j x h l (slice_get_within xs j y b) in
+      let ga = get_or_from_slice_get xs i x x a in
+      let gb = get_or_from_slice_get xs j y x b in
+      true≢false (sym ((decides x y).1 e) ∙ sym (λ n. same (ga n) (gb n)) ∙ d)
 
-  pub distinct : (keys : List HashKey) (xs : List X) → IsNumbering f keys xs → AreDistinct f xs
-  distinct keys xs h = record { each = λ i j x y a b e. by i j x y a b e (cases_lt i j) (cases_lt j i) }
+  pub distinct : AreDistinct f xs
+  distinct = record { each = λ i j x y a b e. by i j x y a b e (cases_lt i j) (cases_lt j i) }
     where
       by : (i j : ℕ) (x y : X) → slice_get xs i ≡ Some x → slice_get xs j ≡ Some y → f x ≡ f y → (i < j) ⊎ (j ≤ i) → (j < i) ⊎ (i ≤ j) → i ≡ j
-      by i j x y a b e (inl l) r = absurd (apart keys xs i j x y h l a b e)
-      by i j x y a b e (inr l) (inl r) = absurd (apart keys xs j i y x h r b a (sym e))
+      by i j x y a b e (inl l) r = absurd (apart i j x y l a b e)
+      by i j x y a b e (inr l) (inl r) = absurd (apart j i y x r b a (sym e))
       by i j x y a b e (inr l) (inr r) = omega (arith, l, r)
 
--- entries that are distinct by a coarser value are so by a finer one
-pub distinct_by : {X Y Z : Type 0} (f : X → Y) (g : X → Z) (xs : List X) → ((x y : X) → g x ≡ g y → f x ≡ f y) → AreDistinct f xs → AreDistinct g xs
-distinct_by f g xs c h = record { each = λ i j x y a b e. h.each i j x y a b (c x y e) }
+-- the images of entries with distinct images are distinct
+pub distinct_images : {X Y : Type 0} (f : X → Y) (xs : List X) → AreDistinct f xs → AreDistinct (λ (y : Y). y) (map f xs)
+distinct_images f xs h =
+    record { each = λ i j x y a b e. let p = entry_of_map f xs i x a in let q = entry_of_map f xs j y b in h.each i j p.0 q.0 p.1 q.1 (p.2 ∙ e ∙ sym q.2) }

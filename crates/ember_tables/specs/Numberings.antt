@@ -1,11 +1,10 @@
 -- Tables whose entries have numbers
-use Rattle.std.specs.Prelude.{◌≡◌, ◌⊎◌, ℕ, pos, Bool, ◌&&◌, List, [], ◌∷◌, ◌++◌, map, Some, slice_get}
-use Rattle.std.specs.List.{IsDistinct}
+use Rattle.std.specs.Prelude.{◌≡◌, ◌⊎◌, ℕ, Bool, ◌&&◌, List, [], ◌∷◌, ◌++◌, Some, slice_get}
 use Rattle.std.specs.Ordering.{int_eq}
 use Rattle.ember_model.specs.declared.plane.Plane.{Plane}
 use Rattle.ember_key.specs.declared.lines.LineKey.{LineKey}
 use Rattle.ember_certificate.specs.declared.space_point.SpacePoint.{SpacePoint}
-use Rattle.ember_tables.specs.declared.hash_key.HashKey.{HashKey}
+use Rattle.ember_tables.specs.declared.plane_entry.PlaneEntry.{PlaneEntry}
 
 -- ---- entries by numbers
 -- the entry with the number n has the property
@@ -18,26 +17,25 @@ pub record HasEntry {X : Type 0} (xs : List X) (n : ℕ) (P : X → Type 0) : Ty
 pub record AreDistinct {X Y : Type 0} (f : X → Y) (xs : List X) : Type 0 where
   pub each : (i j : ℕ) (x y : X) → slice_get xs i ≡ Some x → slice_get xs j ≡ Some y → f x ≡ f y → i ≡ j
 
--- ---- the numbers by which an entry is found
-abbrev pub plane_numbers : Plane → HashKey
-plane_numbers p = record { a = p.a; b = p.b; c = p.c; d = p.d; e = pos 0; f = pos 0 }
-
-abbrev pub line_numbers : LineKey → HashKey
-line_numbers k = record { a = k.dx; b = k.dy; c = k.dz; d = k.mx; e = k.my; f = k.mz }
-
-abbrev pub corner_numbers : SpacePoint → HashKey
-corner_numbers p = record { a = p.x; b = p.y; c = p.z; d = p.w; e = pos 0; f = pos 0 }
-
-abbrev pub same_key : HashKey → HashKey → Bool
-same_key k l =
-    int_eq k.a l.a && (int_eq k.b l.b && (int_eq k.c l.c && (int_eq k.d l.d && (int_eq k.e l.e && int_eq k.f l.f))))
-
--- ---- on the way to a table
--- the keys are those of the entries, and no two are equal
-pub record IsNumbering {X : Type 0} (f : X → HashKey) (keys : List HashKey) (xs : List X) : Type 0 where
-  pub keyed : keys ≡ map f xs
-  pub distinct : IsDistinct same_key keys
-
 -- ys is xs, or xs and then x
 abbrev pub IsKeptOrPut : {X : Type 0} → X → List X → List X → Type 0
 IsKeptOrPut x xs ys = (ys ≡ xs) ⊎ (ys ≡ xs ++ x ∷ [])
+
+-- ---- planes as entries
+abbrev pub entry_of : Plane → PlaneEntry
+entry_of p = record { a = p.a; b = p.b; c = p.c; d = p.d }
+
+abbrev pub plane_of : PlaneEntry → Plane
+plane_of e = record { a = e.a; b = e.b; c = e.c; d = e.d }
+
+-- ---- equal entries, as tests
+abbrev pub same_entry : PlaneEntry → PlaneEntry → Bool
+same_entry e f = int_eq e.a f.a && (int_eq e.b f.b && (int_eq e.c f.c && int_eq e.d f.d))
+
+abbrev pub same_line : LineKey → LineKey → Bool
+same_line k l =
+    int_eq k.dx l.dx &&
+    (int_eq k.dy l.dy && (int_eq k.dz l.dz && (int_eq k.mx l.mx && (int_eq k.my l.my && int_eq k.mz l.mz))))
+
+abbrev pub same_corner : SpacePoint → SpacePoint → Bool
+same_corner p q = int_eq p.x q.x && (int_eq p.y q.y && (int_eq p.z q.z && int_eq p.w q.w))

@@ -71,10 +71,7 @@ IsFault edges TooMany = 2147483647 < length edges
 IsFault edges OutOfMemory = ⊤
 
 -- ---- on the way to a segment
--- k has the keys of the edge's plane and line, and its corners
+-- k has the key of the edge's line, and the corner in which it ends
 pub record IsKeyed (edge : FaceEdge) (k : Keyed) : Type 0 where
-  pub plane : IsPlaneKey edge.support k.plane
-  pub valid : IsValidPlane k.plane
   pub line : IsLineKey edge.support edge.plane k.line
-  pub start : IsCorner edge.support edge.before edge.plane (spot_of k.start)
   pub end : IsCorner edge.support edge.plane edge.after (spot_of k.end)

@@ -1,26 +1,51 @@
 // What an edge has in the tables.
 ghost use Rattle.std.specs.Prelude.{IfOk, IfErr};
+ghost use Rattle.ember_model.specs.declared.plane.Plane.{Plane};
+ghost use Rattle.ember_model.specs.Valid.{IsValidPlane};
+ghost use Rattle.ember_certificate.specs.Facing.{spot_of};
 ghost use Rattle.ember_tables.specs.Edges.{IsValidEdge};
-ghost use Rattle.ember_tables.specs.Tables.{IsKeyed, IsEdgeFault};
+ghost use Rattle.ember_tables.specs.Tables.{IsCorner, IsKeyed, IsEdgeFault};
 
 use crate::corner::corner_of;
 use crate::face_edge::FaceEdge;
 use crate::fault::TableFault;
 use ember_certificate::SpacePoint;
-use ember_key::{LineKey, line_key, plane_key};
+use ember_key::{LineKey, line_key};
 use ember_model::Plane;
 
-/// The keys of an edge's plane and line, and its corners.
+/// The key of an edge's line, and the corner in which the edge ends.
 #[derive(Clone, Copy)]
 pub struct Keyed {
-    pub plane: Plane,
     pub line: LineKey,
-    pub start: SpacePoint,
     pub end: SpacePoint,
 }
 
-// The keys of an edge's plane and line, with its two corners. `NoLine` if the edge plane is
-// parallel to the face, and `NoCorner` if an end of the edge isn't one point within the limits.
+// The corner in which an edge starts. `NoLine` if its plane is parallel to the face, and `NoCorner`
+// if it starts in no point within the limits.
+pub fn start_of(
+    face: usize,
+    support: &Plane,
+    before: &Plane,
+    plane: &Plane,
+) -> Result<SpacePoint, TableFault>
+    requires support { IsValidPlane support.now }
+    requires before { IsValidPlane before.now }
+    requires plane { IsValidPlane plane.now }
+    ensures ok { IfOk result (λ c. IsCorner support.now before.now plane.now (spot_of c)) }
+    ensures fault { (after : Plane) → IfErr result (λ e. IsEdgeFault
+        (record { face = face; support = support.now; before = before.now; plane = plane.now; after = after }) e) }
+{
+    if let Some(start) = corner_of(support, before, plane) {
+        return Ok(start);
+    }
+    match line_key(support, plane) {
+        Some(_) => Err(TableFault::NoCorner(face)),
+        None => Err(TableFault::NoLine(face)),
+    }
+}
+
+// The key of an edge's line, and the corner in which it ends. `NoLine` if the edge plane is
+// parallel to the face, and `NoCorner` if the end of the edge isn't one point within the limits.
 pub fn keys_of(edge: &FaceEdge) -> Result<Keyed, TableFault>
     requires { IsValidEdge edge.now }
     ensures ok { IfOk result (λ k. IsKeyed edge.now k) }
@@ -29,16 +54,8 @@ pub fn keys_of(edge: &FaceEdge) -> Result<Keyed, TableFault>
     let Some(line) = line_key(&edge.support, &edge.plane) else {
         return Err(TableFault::NoLine(edge.face));
     };
-    let Some(start) = corner_of(&edge.support, &edge.before, &edge.plane) else {
-        return Err(TableFault::NoCorner(edge.face));
-    };
     let Some(end) = corner_of(&edge.support, &edge.plane, &edge.after) else {
         return Err(TableFault::NoCorner(edge.face));
     };
-    Ok(Keyed {
-        plane: plane_key(&edge.support),
-        line,
-        start,
-        end,
-    })
+    Ok(Keyed { line, end })
 }

@@ -2,11 +2,12 @@
 #![tactic(auto)]
 
 mod corner;
+mod draft;
 mod face_edge;
 mod fault;
-mod hash_key;
 mod keyed;
 mod numbering;
+mod plane_entry;
 mod tables;
 
 pub use fault::TableFault;

@@ -69,6 +69,16 @@ impl<'a, R: Files> Target for FileTarget<'a, R> {
 
     ghost faults = { λ s. s.faults };
 
+    fn make_folder(&mut self, name: &str) -> Result<(), Failed> {
+        match fs::create_dir_all(self.rt, name) {
+            Ok(()) => Ok(()),
+            Err(_) => {
+                self.faults = self.faults.saturating_add(1);
+                Err(Failed)
+            }
+        }
+    }
+
     fn begin(&mut self, path: String) -> Result<(), BeginEnd> {
         match File::create_new(self.rt, path.as_str()) {
             Ok(file) => {

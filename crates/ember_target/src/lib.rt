@@ -5,8 +5,10 @@
 mod file_target;
 mod map_files;
 mod memory_target;
+mod several;
 mod target;
 
 pub use file_target::FileTarget;
 pub use memory_target::MemoryTarget;
+pub use several::{NamedFile, Unwritten, write_each};
 pub use target::{BeginEnd, Target, WriteEnd, write_whole};

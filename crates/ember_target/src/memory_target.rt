@@ -120,6 +120,20 @@ impl Target for MemoryTarget {
 
     ghost faults = { λ s. s.faults };
 
+    // There are no folders here.
+    fn make_folder(&mut self, _name: &str) -> Result<(), Failed>
+        ensures begun { self.new.begun ≡ self.old.begun }
+        ensures held { HoldsSame (shown self.old) (shown self.new) }
+        ensures cause { HasCause self.old.faults self.new.faults result }
+
+        // It fails exactly at the chosen calls.
+        ensures fails { IsErr result ↔ Contains self.old.failing (next_count self.old.calls) }
+        ensures calls { self.new.calls ≡ next_count self.old.calls }
+        ensures same { IsSameTarget self.old self.new }
+    {
+        self.call()
+    }
+
     fn begin(&mut self, path: String) -> Result<(), BeginEnd>
         requires { self.old.begun ≡ None }
         ensures begun { OnOk result (self.new.begun ≡ Some (string_bytes path)) }

@@ -33,6 +33,12 @@ pub trait Target {
     /// How often it has failed. This number never falls; at the greatest `u64` it stays.
     ghost faults: { Self → ℕ };
 
+    /// Makes a folder of this name, and those above it, unless they are there.
+    fn make_folder(&mut self, name: &str) -> Result<(), Failed>
+        ensures begun { begun self.new ≡ begun self.old }
+        ensures held { HoldsSame (held self.old) (held self.new) }
+        ensures cause { HasCause (faults self.old) (faults self.new) result };
+
     /// Begins a new file, which is empty, if there is none of that name.
     fn begin(&mut self, path: String) -> Result<(), BeginEnd>
         requires { begun self.old ≡ None }

@@ -2,4 +2,6 @@
 #![tactic(auto)]
 
 #[cfg(test)]
+mod several_files;
+#[cfg(test)]
 mod whole_files;

@@ -1,3 +1,4 @@
 pub mod Documents
+pub mod FacesInTexts
 pub mod FacesTexts
 pub mod Texts

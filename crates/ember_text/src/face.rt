@@ -11,7 +11,7 @@ use ember_poly::{Ring, outline, support};
 use std::alloc::Global;
 
 // The same plane with the opposite front.
-fn opposite_plane(p: &Plane) -> Plane
+pub(crate) fn opposite_plane(p: &Plane) -> Plane
     requires { IsValidPlane p.now }
     ensures value { result ≡ opposite p.now }
     ensures valid { IsValidPlane result }

@@ -1,17 +1,19 @@
 //! The text of faces, and the face file of the written regions: the document. `faces_text`
 //! (texts.rt) makes the text of a leaf, face by face (face.rt, edges.rt, line.rt), and
-//! `document_of` (whole.rt) puts the texts of all leaves together. README.md says which definitions
-//! to read first.
+//! `document_of` (whole.rt) puts the texts of all leaves together. `outline_faces` (outline.rt)
+//! makes the faces that the text of a leaf holds. README.md says which definitions to read first.
 #![tactic(auto)]
 
 mod edges;
 mod face;
 mod file;
 mod line;
+mod outline;
 mod texts;
 mod whole;
 
 pub use face::face_text;
 pub use file::{begin_file, end_file};
+pub use outline::outline_faces;
 pub use texts::{FacesText, faces_text};
 pub use whole::{document, document_of, face_count};

@@ -2,8 +2,9 @@
 ghost use Rattle.ember_model.specs.Valid.{IsValidPlane};
 
 use ember_certificate::{Segment, SpacePoint, Triangle, is_certified};
+use ember_key::LineKey;
 use ember_model::Plane;
-use ember_triangulate::{Cut, triangles_of, with_lines};
+use ember_triangulate::{Cut, Touch, triangles_of, with_lines};
 use std::alloc::Global;
 use std::test::Fail;
 
@@ -24,7 +25,8 @@ pub(crate) fn plane(numbers: [i16; 4]) -> Plane
 enum Outcome {
     Certified,
     Refused,
-    Touch { corner: u32, line: u32 },
+    // So many touches, and the first of them.
+    Touches(usize, Touch),
     NotFound,
 }
 
@@ -45,14 +47,55 @@ pub(crate) fn thirds(x: i32, y: i32, z: i32) -> SpacePoint {
     }
 }
 
-// The corner of the sheet that is seen from its first side at the place (x, y), in thirds.
-fn corner_at(sheet: usize, place: (i16, i16)) -> SpacePoint {
+// The coordinates of the corner of the sheet that is seen from its first side at the place (x, y), in thirds.
+fn coordinates_at(sheet: usize, place: (i16, i16)) -> [i32; 3] {
     let (x, y) = (i32::from(place.0), i32::from(place.1));
     match sheet {
-        0 => thirds(x, y, 0),
-        1 => thirds(y, 0, x),
-        _ => thirds(x.wrapping_add(y).wrapping_neg(), x, y),
+        0 => [x, y, 0],
+        1 => [y, 0, x],
+        _ => [x.wrapping_add(y).wrapping_neg(), x, y],
     }
+}
+
+fn corner_at(sheet: usize, place: (i16, i16)) -> SpacePoint {
+    let [x, y, z] = coordinates_at(sheet, place);
+    thirds(x, y, z)
+}
+
+fn moment(y: i64, dz: i64, z: i64, dy: i64) -> i128 {
+    i128::from(y.wrapping_mul(dz).wrapping_sub(z.wrapping_mul(dy)))
+}
+
+// The line through two points, given in thirds.
+fn line_through(u: [i32; 3], v: [i32; 3]) -> LineKey {
+    let (x, y, z) = (i64::from(u[0]), i64::from(u[1]), i64::from(u[2]));
+    let dx = i64::from(v[0]).wrapping_sub(x);
+    let dy = i64::from(v[1]).wrapping_sub(y);
+    let dz = i64::from(v[2]).wrapping_sub(z);
+    LineKey {
+        dx: dx.wrapping_mul(3),
+        dy: dy.wrapping_mul(3),
+        dz: dz.wrapping_mul(3),
+        mx: moment(y, dz, z, dy),
+        my: moment(z, dx, x, dz),
+        mz: moment(x, dy, y, dx),
+    }
+}
+
+// The lines of a sheet's segments, each of which has a line of its own.
+fn lines_of(
+    alloc: Global,
+    sheet: usize,
+    places: &[(i16, i16)],
+    boundary: &[Segment],
+) -> Result<Vec<LineKey>, Fail> {
+    let mut lines = Vec::new(alloc);
+    for s in boundary {
+        let start = places.get(s.start as usize).ok_or("no corner")?;
+        let end = places.get(s.end as usize).ok_or("no corner")?;
+        lines.push(line_through(coordinates_at(sheet, *start), coordinates_at(sheet, *end)))?;
+    }
+    Ok(lines)
 }
 
 // The segment of the first side from one corner to another.
@@ -105,7 +148,10 @@ fn push_side(
 ) -> Result<Option<Outcome>, Fail> {
     let cut = match triangles_of(alloc, plane, corners, boundary)? {
         Cut::Triangles(cut) => cut,
-        Cut::Touch { corner, line } => return Ok(Some(Outcome::Touch { corner, line })),
+        Cut::Touches(touches) => {
+            let first = *touches.first().ok_or("no touch")?;
+            return Ok(Some(Outcome::Touches(touches.len(), first)));
+        }
         Cut::NotFound => return Ok(Some(Outcome::NotFound)),
     };
     let number = boundary.first().map_or(0, |s| s.plane);
@@ -138,14 +184,15 @@ fn outcome_of(
     }
     let mut faces = Vec::from_slice(alloc, boundary)?;
     faces.extend_from_slice(&reverse)?;
-    if is_certified(alloc, &planes, &corners, &faces, &triangles)? {
+    let lines = lines_of(alloc, sheet % 3, places, boundary)?;
+    if is_certified(alloc, &planes, &lines, &corners, &faces, &triangles)? {
         Ok(Outcome::Certified)
     } else {
         Ok(Outcome::Refused)
     }
 }
 
-const SQUARES: [(i16, i16); 13] = [
+const SQUARES: [(i16, i16); 15] = [
     (0, 0),
     (9, 0),
     (9, 9),
@@ -159,15 +206,21 @@ const SQUARES: [(i16, i16); 13] = [
     (5, 5),
     (4, 5),
     (4, 0),
+    (6, 0),
+    (0, 4),
 ];
 
 #[test]
 fn parts_of_squares(rt: HostRuntime) -> Result<(), Fail> {
-    let touch = Outcome::Touch {
+    let touch = Touch {
         corner: 12,
         line: 1,
     };
-    let rows: [(&[&[u32]], Outcome); 12] = [
+    let touch_on_another_side = Touch {
+        corner: 14,
+        line: 0,
+    };
+    let rows: [(&[&[u32]], Outcome); 14] = [
         (&[&[0, 1, 2]], Outcome::Certified),
         (&[&[0, 1, 2, 3]], Outcome::Certified),
         // A quadrangle that is cut by only one of its diagonals.
@@ -183,10 +236,19 @@ fn parts_of_squares(rt: HostRuntime) -> Result<(), Fail> {
         (&[&[4, 9, 10, 11], &[10, 1, 2]], Outcome::Certified),
         (&[&[0, 1, 2, 3], &[4, 7, 8], &[8, 6, 5]], Outcome::Certified),
         (&[&[0, 12, 1, 2, 3], &[12, 4, 8]], Outcome::Certified),
-        (&[&[0, 1, 2, 3], &[12, 4, 8]], touch),
+        (&[&[0, 1, 2, 3], &[12, 4, 8]], Outcome::Touches(1, touch)),
+        // Two corners inside one side, and two inside different ones.
+        (
+            &[&[0, 1, 2, 3], &[12, 4, 8], &[13, 9, 5]],
+            Outcome::Touches(2, touch),
+        ),
+        (
+            &[&[0, 1, 2, 3], &[14, 8, 4], &[13, 9, 5]],
+            Outcome::Touches(2, touch_on_another_side),
+        ),
         // The wrong way round, and a corner that isn't there.
         (&[&[2, 1, 0]], Outcome::Refused),
-        (&[&[0, 1, 2, 3, 13]], Outcome::NotFound),
+        (&[&[0, 1, 2, 3, 15]], Outcome::NotFound),
     ];
     for sheet in 0..3 {
         for (rings, want) in rows {

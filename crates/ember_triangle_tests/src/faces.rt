@@ -4,40 +4,36 @@ ghost use Rattle.ember_model.specs.Valid.{IsValidPlane};
 
 use crate::cuts::{plane, thirds};
 use ember_certificate::{Segment, SpacePoint};
-use ember_key::LineKey;
+use ember_key::{LineKey, line_key};
 use ember_model::Plane;
 use ember_triangles::{TrianglesFault, certified_triangles};
 use std::alloc::Global;
 use std::test::Fail;
 
-// A line with this direction, wherever it lies.
-fn line(direction: (i64, i64, i64)) -> LineKey {
-    let (dx, dy, dz) = direction;
-    LineKey {
-        dx,
-        dy,
-        dz,
-        mx: 0,
-        my: 0,
-        mz: 0,
+// The lines in which pairs of planes meet, by the numbers of the planes.
+fn lines_of(alloc: Global, pairs: &[[[i16; 4]; 2]]) -> Result<Vec<LineKey>, TrianglesFault> {
+    let mut lines = Vec::new(alloc);
+    for pair in pairs {
+        let [first, second] = *pair;
+        let Some(line) = line_key(&plane(first), &plane(second)) else {
+            return Err(TrianglesFault::UnknownLine(0));
+        };
+        lines.push(line)?;
     }
+    Ok(lines)
 }
 
 // How many triangles the faces become.
 fn count_of(
     alloc: Global,
     planes: &[Plane],
-    directions: &[(i64, i64, i64)],
+    lines: &[LineKey],
     corners: &[SpacePoint],
     segments: &[Segment],
 ) -> Result<usize, TrianglesFault>
     requires { All IsValidPlane planes.now }
 {
-    let mut lines = Vec::new(alloc);
-    for direction in directions {
-        lines.push(line(*direction))?;
-    }
-    let triangles = certified_triangles(alloc, planes, &lines, corners, segments)?;
+    let triangles = certified_triangles(alloc, planes, lines, corners, segments)?;
     Ok(triangles.len())
 }
 
@@ -60,22 +56,22 @@ const PLACES: [(i32, i32); 15] = [
     (11, 8),
 ];
 
-// The directions of the lines on which the sheet has edges.
-const DIRECTIONS: [(i64, i64, i64); 14] = [
-    (1, 0, 0),
-    (1, 0, 0),
-    (0, 1, 0),
-    (0, 1, 0),
-    (0, 1, 0),
-    (1, -1, 0),
-    (1, 0, 0),
-    (1, 1, 0),
-    (1, 0, 0),
-    (1, 2, 0),
-    (1, -2, 0),
-    (1, -2, 0),
-    (1, 2, 0),
-    (1, 0, 0),
+// The lines on which the sheet has edges: its plane, and one that meets it there.
+const SHEET_LINES: [[[i16; 4]; 2]; 14] = [
+    [[0, 0, 1, 0], [0, 1, 0, 0]],
+    [[0, 0, 1, 0], [0, 3, 0, 2]],
+    [[0, 0, 1, 0], [1, 0, 0, 0]],
+    [[0, 0, 1, 0], [3, 0, 0, 2]],
+    [[0, 0, 1, 0], [3, 0, 0, 4]],
+    [[0, 0, 1, 0], [3, 3, 0, 2]],
+    [[0, 0, 1, 0], [0, 3, 0, 1]],
+    [[0, 0, 1, 0], [3, -3, 0, 2]],
+    [[0, 0, 1, 0], [0, 3, 0, 10]],
+    [[0, 0, 1, 0], [6, -3, 0, 10]],
+    [[0, 0, 1, 0], [6, 3, 0, 30]],
+    [[0, 0, 1, 0], [6, 3, 0, 34]],
+    [[0, 0, 1, 0], [6, -3, 0, 6]],
+    [[0, 0, 1, 0], [0, 3, 0, 8]],
 ];
 
 // An edge of a face, by the numbers of its plane, line and corners.
@@ -124,7 +120,8 @@ fn sheet_count(
     for ring in rings {
         push_ring(&mut segments, ring, is_open)?;
     }
-    count_of(alloc, &planes, &DIRECTIONS, &corners, &segments)
+    let lines = lines_of(alloc, &SHEET_LINES)?;
+    count_of(alloc, &planes, &lines, &corners, &segments)
 }
 
 #[test]
@@ -154,6 +151,16 @@ fn sheets(rt: HostRuntime) {
     }
 }
 
+// Numbers that are no line's.
+const NO_LINE: LineKey = LineKey {
+    dx: 0,
+    dy: 0,
+    dz: 0,
+    mx: 0,
+    my: 0,
+    mz: 0,
+};
+
 // The edges of the tetrahedron with the corners (0, 0, 0), (1, 0, 0), (0, 1, 0) and (0, 0, 1): their planes, lines
 // and ends.
 const TETRAHEDRON: [(u32, u32, u32, u32); 12] = [
@@ -171,21 +178,27 @@ const TETRAHEDRON: [(u32, u32, u32, u32); 12] = [
     (3, 4, 3, 1),
 ];
 
-// How many triangles these edges of the tetrahedron's faces become.
-fn tetrahedron_count(alloc: Global, segments: &[Segment]) -> Result<usize, TrianglesFault> {
+// The lines of its edges.
+const TETRAHEDRON_LINES: [[[i16; 4]; 2]; 6] = [
+    [[0, 1, 0, 0], [0, 0, 1, 0]],
+    [[1, 0, 0, 0], [0, 0, 1, 0]],
+    [[1, 0, 0, 0], [0, 1, 0, 0]],
+    [[0, 0, 1, 0], [1, 1, 1, 1]],
+    [[0, 1, 0, 0], [1, 1, 1, 1]],
+    [[1, 0, 0, 0], [1, 1, 1, 1]],
+];
+
+// How many triangles these edges of the tetrahedron's faces become, on these lines.
+fn tetrahedron_count(
+    alloc: Global,
+    lines: &[LineKey],
+    segments: &[Segment],
+) -> Result<usize, TrianglesFault> {
     let planes = [
         plane([0, 0, -1, 0]),
         plane([0, -1, 0, 0]),
         plane([-1, 0, 0, 0]),
         plane([1, 1, 1, 1]),
-    ];
-    let directions = [
-        (1, 0, 0),
-        (0, 1, 0),
-        (0, 0, 1),
-        (1, -1, 0),
-        (1, 0, -1),
-        (0, 1, -1),
     ];
     let corners = [
         thirds(0, 0, 0),
@@ -193,7 +206,7 @@ fn tetrahedron_count(alloc: Global, segments: &[Segment]) -> Result<usize, Trian
         thirds(0, 3, 0),
         thirds(0, 0, 3),
     ];
-    count_of(alloc, &planes, &directions, &corners, segments)
+    count_of(alloc, &planes, lines, &corners, segments)
 }
 
 #[test]
@@ -202,10 +215,35 @@ fn faces_of_a_tetrahedron(rt: HostRuntime) -> Result<(), Fail> {
     for (plane, line, start, end) in TETRAHEDRON {
         segments.push(edge_of(plane, line, start, end))?;
     }
-    let count = tetrahedron_count(rt.alloc(), &segments);
+    let lines = lines_of(rt.alloc(), &TETRAHEDRON_LINES)?;
+    let count = tetrahedron_count(rt.alloc(), &lines, &segments);
     assert_eq!(rt; count, Ok(4));
     let _ = segments.pop();
-    let open = tetrahedron_count(rt.alloc(), &segments);
+    let open = tetrahedron_count(rt.alloc(), &lines, &segments);
     assert_eq!(rt; open, Err(TrianglesFault::NotClosed(4)));
+    Ok(())
+}
+
+#[test]
+fn edges_off_the_lines_of_the_table(rt: HostRuntime) -> Result<(), Fail> {
+    let mut segments = Vec::new(rt.alloc());
+    for (plane, line, start, end) in TETRAHEDRON {
+        segments.push(edge_of(plane, line, start, end))?;
+    }
+    let lines = lines_of(rt.alloc(), &TETRAHEDRON_LINES)?;
+    for number in 0..lines.len() {
+        let mut shifted = lines.clone()?;
+        shifted[number].mx = shifted[number].mx.wrapping_add(1);
+        let mut zeros = lines.clone()?;
+        zeros[number] = NO_LINE;
+        for wrong in [shifted, zeros] {
+            let count = tetrahedron_count(rt.alloc(), &wrong, &segments);
+            assert_eq!(rt; count, Err(TrianglesFault::NotCertified));
+        }
+    }
+    // A line without edges may be anything.
+    let mut more = lines;
+    more.push(NO_LINE)?;
+    assert_eq!(rt; tetrahedron_count(rt.alloc(), &more, &segments), Ok(4));
     Ok(())
 }

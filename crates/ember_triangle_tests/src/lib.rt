@@ -4,6 +4,8 @@
 #[cfg(test)]
 mod cuts;
 #[cfg(test)]
+mod documents;
+#[cfg(test)]
 mod faces;
 #[cfg(test)]
 mod solids;

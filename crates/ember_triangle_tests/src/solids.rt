@@ -7,7 +7,7 @@ use ember_mesh::{Closed, Parts, balanced, check, join};
 use ember_model::{OutOfMemory, Scene, Soup};
 use ember_obj::read_obj;
 use ember_query::{Answer, Query, answer_alone};
-use ember_solid_mesh::solid_mesh;
+use ember_solid_mesh::{MeshedSolid, document_mesh, solid_mesh};
 use std::alloc::Global;
 use std::test::Fail;
 use steal_pool::OpenGate;
@@ -61,22 +61,23 @@ fn scene_of(alloc: Global, first: &[u8], second: &[u8]) -> Result<Scene, Fail> {
     }
 }
 
-// How many triangles the solid of an expression has.
-fn count_of(alloc: Global, scene: &Scene, text: &[u8]) -> Result<usize, Fail> {
+// The solid of an expression over two meshes.
+fn solid_of(alloc: Global, scene: &Scene, text: &[u8], keeps: bool) -> Result<MeshedSolid, Fail> {
     let expr = match parse(alloc, text, 2) {
         Ok(expr) => expr,
         Err(_) => return Err(Fail::from("refused expression")),
     };
-    let mesh = solid_mesh(
+    let solid = solid_mesh(
         alloc,
         scene,
         &expr,
+        keeps,
         &|query: &Query| -> Result<Answer, OutOfMemory>
             requires { IsQuery query.now }
             ensures { IfOk result (IsAnswer query.entry.now) }
         { answer_alone(alloc, &OpenGate, query) },
     )?;
-    Ok(mesh.triangles.len())
+    Ok(solid)
 }
 
 #[test]
@@ -92,7 +93,26 @@ fn solids_of_two_meshes(rt: HostRuntime) -> Result<(), Fail> {
     ];
     for (first, second, text, want) in rows {
         let scene = scene_of(rt.alloc(), first, second)?;
-        assert_eq!(rt; count_of(rt.alloc(), &scene, text)?, want);
+        let solid = solid_of(rt.alloc(), &scene, text, false)?;
+        assert_eq!(rt; solid.mesh.triangles.len(), want);
+        assert_eq!(rt; solid.mesh.faces, solid.report.faces);
+        assert!(rt; solid.document.is_none());
     }
+    Ok(())
+}
+
+// The mesh of a document that is kept is that of the solid.
+#[test]
+fn documents_of_solids_have_their_mesh(rt: HostRuntime) -> Result<(), Fail> {
+    let scene = scene_of(rt.alloc(), LOW_BOX, HIGH_BOX)?;
+    let MeshedSolid { mesh, document, .. } = solid_of(rt.alloc(), &scene, b"m1&!m2", true)?;
+    let Some(document) = document else {
+        return Err(Fail::from("no document"));
+    };
+    let again = document_mesh(rt.alloc(), &document)?;
+    assert_eq!(rt; again.planes, mesh.planes);
+    assert_eq!(rt; again.corners, mesh.corners);
+    assert_eq!(rt; again.triangles, mesh.triangles);
+    assert_eq!(rt; again.faces, mesh.faces);
     Ok(())
 }

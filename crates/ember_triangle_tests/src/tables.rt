@@ -4,7 +4,8 @@ use ember_tables::{TableFault, Tables, tables_of};
 use std::alloc::Global;
 use std::test::Fail;
 
-const TETRA: &[u8] = b"ember 1\n\
+/// The faces of a tetrahedron.
+pub const TETRA: &[u8] = b"ember 1\n\
     f 0 0 -1 0 3\ne -1 0 0 0 0 0 0 1\ne 1 1 0 1 0 1 0 1\ne 0 -1 0 0 1 0 0 1\n\
     f 0 -1 0 0 3\ne 0 0 -1 0 0 0 0 1\ne 1 0 1 1 1 0 0 1\ne -1 0 0 0 0 0 1 1\n\
     f -1 0 0 0 3\ne 0 -1 0 0 0 0 0 1\ne 0 1 1 1 0 0 1 1\ne 0 0 -1 0 0 1 0 1\n\

@@ -43,3 +43,9 @@ last_line all done rest sorted z p h =
   where
     passed : (a d r : ℤ) → a ≡ d +ℤ r → r ≡ pos 0 → a ≡ d
     passed a d r e f = omega (arith, linear, e, f)
+
+-- what has the chains of the segments in another order has their chains
+pub chains_of_all : (ss sorted bs ts : List Segment) → IsPermutation ss sorted → HaveSameChains sorted bs → HaveSameChains bs ts → HaveSameChains ss ts
+chains_of_all ss sorted bs ts p h k =
+    let order = chains_from_boundary ss sorted (record { each = λ plane line corner. sym (boundary-permutation plane line corner ss sorted p) }) in
+    record { each = λ plane line rank x. order.each plane line rank x ∙ h.each plane line rank x ∙ k.each plane line rank x }

@@ -1,10 +1,12 @@
 // The boundaries of the planes' parts.
-ghost use Rattle.std.specs.Prelude.{◌≡◌, ◌≤◌, [], ◌∷◌, length, take, All, IfOk, OnOk, IsTrue};
+ghost use Rattle.std.specs.Prelude.{◌≡◌, ◌≤◌, ℕ, List, [], ◌∷◌, length, take, All, IfOk, OnOk, IsTrue};
+ghost use Rattle.ember_certificate.specs.declared.segment.Segment.{Segment};
 ghost use Rattle.ember_certificate.specs.Chains.{HaveSameChains};
-ghost use Rattle.ember_triangles.specs.Walks.{AddsBoundary};
+ghost use Rattle.ember_triangles.specs.Walks.{AddsBoundary, IsWalked};
 
+use crate::corner_order::CornerOrder;
 use crate::fault::TrianglesFault;
-use crate::marks::marks_of;
+use crate::marks::{Mark, put_marks};
 use crate::split::{Split, splits_on};
 use crate::tables::Tables;
 use crate::walk::{Boundaries, Walk};
@@ -39,10 +41,33 @@ fn push_opposite(
     Ok(())
 }
 
+// What is made anew for each line. Its memory is used again.
+#[derive(Drop)]
+struct Desk {
+    order: CornerOrder,
+    marks: Vec<Mark>,
+    walk: Walk,
+}
+
+// Passes the marks in turn.
+fn pass_all(
+    walk: &mut Walk,
+    marks: &[Mark],
+    boundaries: &mut Boundaries,
+) -> Result<(), TrianglesFault>
+    ensures { (line : ℕ) (before : List Segment) → IsWalked line [] before walk.old boundaries.old.segments.items →
+        OnOk result (IsWalked line marks.now before walk.new boundaries.new.segments.items) }
+{
+    for m in marks {
+        walk.pass(m, boundaries)?;
+    }
+    Ok(())
+}
+
 // Splits a line's segments at its corners, cancels opposite ones, and joins the rest at each corner
 // at which no plane's chain changes.
 fn walk_along(
-    alloc: Global,
+    desk: &mut Desk,
     tables: &Tables,
     line: u32,
     segments: &[Segment],
@@ -52,16 +77,21 @@ fn walk_along(
     requires { All (λ s. s.line ≡ line) segments.now }
     ensures { OnOk result (AddsBoundary boundaries.old.segments.items segments.now boundaries.new.segments.items) }
 {
-    let marks = marks_of(alloc, tables, line, segments, splits)?;
-    let mut walk = Walk::along(alloc, line);
-    for m in &marks {
-        walk.pass(m, boundaries)?;
-    }
-    walk.settle(boundaries)
+    put_marks(
+        &mut desk.marks,
+        &mut desk.order,
+        tables,
+        line,
+        segments,
+        splits,
+    )?;
+    desk.walk.begin(line);
+    pass_all(&mut desk.walk, &desk.marks, boundaries)?;
+    desk.walk.settle(boundaries)
 }
 
 fn push_line(
-    alloc: Global,
+    desk: &mut Desk,
     tables: &Tables,
     line: u32,
     segments: &[Segment],
@@ -73,7 +103,7 @@ fn push_line(
 {
     match segments {
         [s, t] if splits.is_empty() && are_opposite(s, t) => push_opposite(s, t, boundaries),
-        _ => walk_along(alloc, tables, line, segments, splits, boundaries),
+        _ => walk_along(desk, tables, line, segments, splits, boundaries),
     }
 }
 
@@ -105,12 +135,17 @@ pub fn boundaries_of(
         segments: Vec::new(alloc),
         through: Vec::new(alloc),
     };
+    let mut desk = Desk {
+        order: CornerOrder::empty(alloc),
+        marks: Vec::new(alloc),
+        walk: Walk::new(alloc),
+    };
     let mut rest = by_line;
     while let Some((first, behind)) = rest.split_first() {
         let line = first.line;
         let (here, after) = rest.split_at(count_on(behind, line) + 1);
         push_line(
-            alloc,
+            &mut desk,
             tables,
             line,
             here,

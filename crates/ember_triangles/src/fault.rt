@@ -27,7 +27,8 @@ pub enum TrianglesFault {
     /// Splitting lines at corners didn't end.
     #[error("no triangles were found")]
     NoEnd,
-    /// There are segments on the line 2^32 - 1, or too many diagonals.
+    /// Lines have numbers up to 2^32 - 1: the table or the segments take all of them, or there are
+    /// too many diagonals.
     #[error("no number is left for a diagonal's line")]
     NoLineLeft,
     /// Triangles were found that don't cut up the faces.

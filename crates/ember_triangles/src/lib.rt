@@ -6,6 +6,7 @@
 
 mod boundaries;
 mod certified;
+mod corner_order;
 mod fault;
 mod marks;
 mod parts;

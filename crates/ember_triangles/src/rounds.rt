@@ -1,17 +1,24 @@
 // Rounds of cutting, until no corner lies inside a segment.
+ghost use Rattle.std.specs.Prelude.{IfOk};
+ghost use Rattle.std.specs.List.Sorted.{IsPermutation};
+
 use crate::boundaries::boundaries_of;
 use crate::fault::TrianglesFault;
-use crate::parts::{PlanePart, all_triangles, empty_parts};
-use crate::split::{Split, add_splits};
+use crate::parts::Parts;
+use crate::split::{Split, add_splits, lines_of};
 use crate::tables::Tables;
-use crate::through::crossings;
+use crate::through::{Through, crossings};
 use crate::walk::Boundaries;
 use ember_certificate::{Segment, Triangle};
+use ember_key::LineKey;
 use std::alloc::Global;
 
-// The line after those of all segments: the lines of diagonals begin there.
-fn first_free_line(segments: &[Segment]) -> Result<u32, TrianglesFault> {
-    let mut free: u32 = 0;
+// The line after those of the table and of all segments: the lines of diagonals begin there.
+fn first_free_line(lines: &[LineKey], segments: &[Segment]) -> Result<u32, TrianglesFault> {
+    let Ok(known) = u32::try_from(lines.len()) else {
+        return Err(TrianglesFault::NoLineLeft);
+    };
+    let mut free = known;
     for s in segments {
         let Some(next) = s.line.checked_add(1) else {
             return Err(TrianglesFault::NoLineLeft);
@@ -21,46 +28,77 @@ fn first_free_line(segments: &[Segment]) -> Result<u32, TrianglesFault> {
     Ok(free)
 }
 
-// Cuts the parts, and returns the splits that are needed before all of them can be cut.
-fn cut_once(
+/// The segments in order of lines.
+pub fn in_order_of_lines(
+    alloc: Global,
+    segments: &[Segment],
+) -> Result<Vec<Segment>, TrianglesFault>
+    ensures { IfOk result (λ sorted. IsPermutation segments.now sorted.items) }
+{
+    let mut sorted = Vec::from_slice(alloc, segments)?;
+    sorted.sort_unstable_by_key(|s| s.line);
+    Ok(sorted)
+}
+
+// Those of the segments in order of lines that are on the line.
+fn on_line(by_line: &[Segment], line: u32) -> &[Segment] {
+    let first = by_line.partition_point(|s| s.line < line);
+    let behind = by_line.partition_point(|s| s.line <= line);
+    by_line.get(first..behind).unwrap_or(&[])
+}
+
+// Those of the segments in order of lines that are on some lines.
+fn segments_on(
+    alloc: Global,
+    by_line: &[Segment],
+    lines: &[u32],
+) -> Result<Vec<Segment>, TrianglesFault> {
+    let mut segments = Vec::new(alloc);
+    for line in lines {
+        segments.extend_from_slice(on_line(by_line, *line))?;
+    }
+    Ok(segments)
+}
+
+// Finds the boundaries on the lines of the new splits anew.
+fn split_lines(
     alloc: Global,
     tables: &Tables,
     by_line: &[Segment],
     splits: &[Split],
-    parts: &mut [PlanePart],
-) -> Result<Vec<Split>, TrianglesFault> {
-    let Boundaries { segments, through } = boundaries_of(alloc, tables, by_line, splits)?;
-    let mut needed = crossings(alloc, through)?;
-    if !needed.is_empty() {
-        return Ok(needed);
-    }
-    for part in parts {
-        if let Some(split) = part.renew(alloc, tables, &segments)? {
-            needed.push(split)?;
-        }
-    }
-    Ok(needed)
+    new: &[Split],
+    parts: &mut Parts,
+) -> Result<(), TrianglesFault> {
+    let lines = lines_of(alloc, new)?;
+    let changed = segments_on(alloc, by_line, &lines)?;
+    let Boundaries { segments, .. } = boundaries_of(alloc, tables, &changed, splits)?;
+    parts.replace(alloc, &lines, &segments)
 }
 
-/// Triangles of the planes' parts, plane by plane in the order of their first segments. Nobody has
-/// checked them yet.
+/// Triangles of the planes' parts, plane by plane. Nobody has checked them yet. A split takes
+/// corners away from those that boundaries run through, and adds none: so it is enough to look for
+/// crossings once.
 pub fn found_triangles(
     alloc: Global,
     tables: &Tables,
-    segments: &[Segment],
+    by_line: &[Segment],
+    boundary: &[Segment],
+    through: Vec<Through>,
 ) -> Result<Vec<Triangle>, TrianglesFault> {
-    let free = first_free_line(segments)?;
-    let mut by_line = Vec::from_slice(alloc, segments)?;
-    by_line.sort_unstable_by_key(|s| (s.line, s.plane, s.start, s.end));
-    let mut parts = empty_parts(alloc, segments)?;
+    let free = first_free_line(tables.lines, by_line)?;
+    let mut needed = crossings(alloc, through)?;
     let mut splits = Vec::new(alloc);
-    for _ in 0..segments.len().saturating_add(1) {
-        let needed = cut_once(alloc, tables, &by_line, &splits, &mut parts)?;
-        if needed.is_empty() {
-            return all_triangles(alloc, &parts, free);
+    let mut parts = Parts::inside(alloc, boundary)?;
+    for _ in 0..by_line.len().saturating_add(1) {
+        if !needed.is_empty() {
+            if !add_splits(&mut splits, &needed)? {
+                return Err(TrianglesFault::NoEnd);
+            }
+            split_lines(alloc, tables, by_line, &splits, &needed, &mut parts)?;
         }
-        if !add_splits(&mut splits, &needed)? {
-            return Err(TrianglesFault::NoEnd);
+        needed = parts.cut(alloc, tables)?;
+        if needed.is_empty() {
+            return parts.triangles(alloc, free);
         }
     }
     Err(TrianglesFault::NoEnd)

@@ -46,18 +46,28 @@ fn segment_on(line: u32, plane: u32, start: u32, end: u32) -> Segment
 }
 
 impl Walk {
-    /// A walk that begins.
-    pub fn along(alloc: Global, line: u32) -> Walk
-        ensures { (before : List Segment) → IsWalked line [] before result before }
-    {
+    /// A walk along the line 0 that begins.
+    pub fn new(alloc: Global) -> Walk {
         Walk {
-            line,
+            line: 0,
             last: 0,
             stretch: Vec::new(alloc),
             here: 0,
             changes: Vec::new(alloc),
             is_split: false,
         }
+    }
+
+    /// Begins anew, along another line.
+    pub fn begin(&mut self, line: u32)
+        ensures { (before : List Segment) → IsWalked line [] before self.new before }
+    {
+        self.line = line;
+        self.last = 0;
+        self.stretch.clear();
+        self.here = 0;
+        self.changes.clear();
+        self.is_split = false;
     }
 
     /// Goes on to the corner of the next mark.

@@ -2,3 +2,4 @@ pub mod Corners
 pub mod NextLines
 pub mod Tables
 pub mod NamedTriangles
+pub mod WholeTriangles

@@ -71,7 +71,7 @@ pub record RunsOn (p l u v : ℕ) (e : Segment) : Type 0 where
   pub end : e.end ≡ v
 
 module _ (p a b c k l m : ℕ) (t : Triangle) (first : RunsOn p k a b t.first) (second : RunsOn p l b c t.second) (third : RunsOn p m c a t.third) where
-  leads : is_round t ≡ true
+  pub leads : is_round t ≡ true
   leads =
       let x = eq-eqb t.first.end t.second.start (first.end ∙ sym second.start) in
       let y = eq-eqb t.second.end t.third.start (second.end ∙ sym third.start) in

@@ -43,6 +43,23 @@ pub record AreWithLines (p : ℕ) (ss : List Segment) (cs : List (List ℕ)) (fi
   pub lines : All (HasLine ss first) (edges_in ts)
   pub own : HaveOwnLines ss (edges_in ts)
 
+-- ---- whole parts
+-- a segment from the first corner to the second is on the line
+abbrev pub IsLineOf : List Segment → ℕ → ℕ → ℕ → Type 0
+IsLineOf ss start end line =
+    (s : Segment) × Contains ss s × (s.start ≡ start) × (s.end ≡ end) × (s.line ≡ line)
+
+-- the edge is a segment, but for its plane
+abbrev pub IsSide : List Segment → Segment → Type 0
+IsSide ss e = IsLineOf ss e.start e.end e.line
+
+-- the edges of the triangle lead round the corners in the plane, and are sides
+pub record IsWhole (p : ℕ) (ss : List Segment) (cs : List ℕ) (t : Triangle) : Type 0 where
+  pub corners : corners_of t ≡ cs
+  pub round : is_round t ≡ true
+  pub plane : t.first.plane ≡ p
+  pub sides : All (IsSide ss) (edges_in (t ∷ []))
+
 -- ---- tables of lines
 -- exactly the keys of the segments have lines, each that of a segment
 pub record AreLinesOf (ss : List Segment) (lines : ℕ → Option ℕ) : Type 0 where

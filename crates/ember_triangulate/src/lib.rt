@@ -10,7 +10,9 @@ mod ring;
 mod sorted_boundary;
 mod stop;
 mod sweep;
+mod touches;
 mod view;
+mod whole;
 
-pub use cut::{Cut, triangles_of};
+pub use cut::{Cut, Touch, triangles_of};
 pub use lines::with_lines;

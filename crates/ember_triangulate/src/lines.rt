@@ -4,6 +4,7 @@ ghost use Rattle.std.specs.HashMap.{get};
 ghost use Rattle.ember_triangulate.specs.Lines.{IsLineIn, IsNamed, AreLinesOf, AreRight, AreExtended, AreWithLines};
 
 use crate::diagonals::{Diagonals, edge_key, pair_key};
+use crate::whole::whole_triangle;
 use ember_certificate::{Segment, Triangle};
 use ember_model::OutOfMemory;
 use std::alloc::Global;
@@ -16,7 +17,8 @@ struct Lines {
     diagonals: Diagonals,
 }
 
-fn segment(plane: u32, line: u32, start: u32, end: u32) -> Segment
+// The segment with these numbers.
+pub fn segment(plane: u32, line: u32, start: u32, end: u32) -> Segment
     ensures plane { result.plane ≡ plane }
     ensures line { result.line ≡ line }
     ensures start { result.start ≡ start }
@@ -94,6 +96,12 @@ pub fn with_lines(
     ensures { IfOk result (λ named. IfSome named (λ ts.
         AreWithLines plane boundary.now triangles.now first_free_line ts.items)) }
 {
+    if let [corners] = triangles
+        && let Some(triangle) = whole_triangle(plane, boundary, corners)
+    {
+        let only = Vec::from_array(alloc, [triangle])?;
+        return Ok(Some(only));
+    }
     let mut lines = Lines::of(alloc, boundary, first_free_line)?;
     let mut named = Vec::with_capacity(alloc, triangles.len())?;
     for corners in triangles {

@@ -56,6 +56,11 @@ impl SortedBoundary {
             self.edges.partition_point(|e| e.left <= place),
         )
     }
+
+    /// Whether the edge passes below the place.
+    pub fn is_below(&self, edge: &Edge, place: usize) -> bool {
+        edge.right != place && turns_left(&self.places, edge.left, edge.right, place)
+    }
 }
 
 /// The turn of the points of three places.
@@ -127,7 +132,8 @@ fn edges_of(
     Ok(edges)
 }
 
-fn edge_order(places: &[Place], first: &Edge, second: &Edge) -> Ordering {
+/// The order of edges by their left ends, and of those with one left end from below.
+pub fn edge_order(places: &[Place], first: &Edge, second: &Edge) -> Ordering {
     match first.left.cmp(&second.left) {
         Ordering::Equal => match turn_at(places, first.left, first.right, second.right) {
             Sign::Pos => Ordering::Less,

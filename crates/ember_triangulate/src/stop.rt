@@ -13,9 +13,9 @@ pub enum Stop {
     /// A corner has no point, or isn't where a segment starts.
     #[error("no triangles were found")]
     NotFound,
-    /// The corner where the segment `corner` starts lies inside the segment `edge`.
-    #[error("the start of segment {corner} lies inside segment {edge}")]
-    Touch { corner: usize, edge: usize },
+    /// A corner lies inside a segment.
+    #[error("a corner lies inside a segment")]
+    Touch,
 }
 
 impl From<AllocError> for Stop {

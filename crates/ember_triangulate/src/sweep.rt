@@ -2,7 +2,7 @@
 ghost use Rattle.std.specs.Prelude.{◌<◌};
 
 use crate::reflex_chain::ReflexChain;
-use crate::sorted_boundary::{Edge, SortedBoundary, turn_at, turns_left};
+use crate::sorted_boundary::{Edge, SortedBoundary, turn_at};
 use crate::stop::Stop;
 use ember_algebra::Sign;
 use std::alloc::Global;
@@ -68,8 +68,7 @@ impl Sweep<'_> {
     // Whether the edge passes below the place.
     fn is_below(&self, number: usize, place: usize) -> bool {
         match self.boundary.edges.get(number) {
-            Some(e) => e.right != place
-                && turns_left(&self.boundary.places, e.left, e.right, place),
+            Some(e) => self.boundary.is_below(e, place),
             None => false,
         }
     }
@@ -92,15 +91,7 @@ impl Sweep<'_> {
 
     fn refuse_touch(&self, edge: &Edge, place: usize) -> Result<(), Stop> {
         match turn_at(&self.boundary.places, edge.left, edge.right, place) {
-            Sign::Zero => Err(Stop::Touch {
-                corner: self
-                    .boundary
-                    .places
-                    .get(place)
-                    .ok_or(Stop::NotFound)?
-                    .segment,
-                edge: edge.segment,
-            }),
+            Sign::Zero => Err(Stop::Touch),
             Sign::Neg | Sign::Pos => Ok(()),
         }
     }

@@ -6,6 +6,7 @@ use Rattle.ember_snap.specs.declared.steps.Step.{Step}
 use Rattle.ember_snap.specs.declared.offsets.Offset.{Offset}
 use Rattle.ember_stl_bytes.specs.declared.triangle.FloatPoint.{FloatPoint}
 use Rattle.ember_stl_bytes.specs.declared.triangle.WrittenTriangle.{WrittenTriangle}
+use Rattle.ember_key.specs.declared.lines.LineKey.{LineKey}
 use Rattle.ember_certificate.specs.declared.segment.Segment.{Segment}
 use Rattle.ember_certificate.specs.declared.space_point.SpacePoint.{SpacePoint}
 use Rattle.ember_certificate.specs.declared.triangle.Triangle.{Triangle}
@@ -19,8 +20,8 @@ leads_on : (ps : List Plane) (cs : List SpacePoint) (t : Triangle) → IsProper 
 leads_on ps cs t h = (and_parts (leads_round t) (is_in_one_plane t) h.round).0
 
 -- certified triangles are closed
-pub certified_are_closed : (ps : List Plane) (cs : List SpacePoint) (faces : List Segment) (ts : List Triangle) → IsCertified ps cs faces ts → AreRoundAndClosed ts
-certified_are_closed ps cs faces ts h = record {
+pub certified_are_closed : (ps : List Plane) (ls : List LineKey) (cs : List SpacePoint) (faces : List Segment) (ts : List Triangle) → IsCertified ps ls cs faces ts → AreRoundAndClosed ts
+certified_are_closed ps ls cs faces ts h = record {
   round = λ k d l. leads_on ps cs (get_or ts k d) (h.proper k d l);
   closed = h.closed;
 }

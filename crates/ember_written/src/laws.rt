@@ -2,6 +2,7 @@
 ghost use Rattle.std.specs.Prelude.{◌≡◌, true, ℕ, pos, int_lt, unsigned_abs, List, All, length, map};
 ghost use Rattle.std.specs.List.{list_all};
 ghost use Rattle.ember_model.specs.declared.plane.Plane.{Plane};
+ghost use Rattle.ember_key.specs.declared.lines.LineKey.{LineKey};
 ghost use Rattle.ember_certificate.specs.declared.segment.Segment.{Segment};
 ghost use Rattle.ember_certificate.specs.declared.space_point.SpacePoint.{SpacePoint};
 ghost use Rattle.ember_certificate.specs.declared.triangle.Triangle.{Triangle};
@@ -27,8 +28,8 @@ pub fn proper_triangles_have_corners()
 /// [`float_triangles`](crate::float_triangles) and [`decimal_mesh`](crate::decimal_mesh) make of
 /// them is closed.
 pub fn certified_triangles_are_closed()
-    ensures { (planes : List Plane) (corners : List SpacePoint) (faces : List Segment) (ts : List Triangle) →
-        IsCertified planes corners faces ts → AreRoundAndClosed ts }
+    ensures { (planes : List Plane) (lines : List LineKey) (corners : List SpacePoint) (faces : List Segment)
+        (ts : List Triangle) → IsCertified planes lines corners faces ts → AreRoundAndClosed ts }
 {}
 
 /// Triangles that are closed before their corners are rounded to decimals stay closed, by their

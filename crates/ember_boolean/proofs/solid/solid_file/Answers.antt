@@ -1,11 +1,11 @@
 use Rattle.std.proofs.Common.{List, subst}
-use Rattle.std.proofs.lemmas.Result.{IfErr-weaker}
 use Rattle.ember_expr.specs.Formula.{formula_of}
 use Rattle.ember_model.specs.declared.tri.Tri.{Tri}
 use Rattle.ember_solid_mesh.specs.Faults.{IsSolidFault}
 use Rattle.ember_solid_mesh.specs.Meshes.{IsSolidMesh}
-use Rattle.ember_boolean.specs.Faults.{IsBooleanFault, of_solid_fault}
-use Rattle.ember_boolean.proofs.Refusals.{passed_on, placing_fault_is, solid_fault_is, writing_fault_is}
+use Rattle.ember_solid_mesh.proofs.Passing.{passed_on}
+use Rattle.ember_boolean.specs.Faults.{IsBooleanFault, of_solid_fault, of_writing_fault}
+use Rattle.ember_boolean.proofs.Refusals.{placing_fault_is, solid_fault_is, writing_fault_is}
 use Rattle.ember_boolean.proofs.Outputs.{output_is}
 use Rattle.ember_boolean.proofs.solid.solid_file.Goals as goal
 
@@ -23,21 +23,21 @@ returns-in_err-mesh-clause-fault g c =
     let of_images = subst (λ (tris : List Tri). IsSolidFault tris formula cause) is.tris c.in_err-mesh.ensures.fault in
     passed_on (IsBooleanFault c.args.files.now formula c.args.wanted) c.from_residual-in_err-mesh.result (of_solid_fault cause) c.from_residual-in_err-mesh.ensures.1 (solid_fault_is c.args.files.now formula c.args.wanted is.surfaces c.in_ok-placed.placed.grid is.are_placed cause of_images)
 
-pub output_of-requires-clause-step : goal.output_of-requires-clause-step
-output_of-requires-clause-step g c = c.in_ok-placed.ensures.placed.are_placed.on_grid.step
+pub written_of-requires-clause-step : goal.written_of-requires-clause-step
+written_of-requires-clause-step g c = c.in_ok-placed.ensures.placed.are_placed.on_grid.step
 
-pub output_of-requires-clause-proper : goal.output_of-requires-clause-proper
-output_of-requires-clause-proper g c = c.in_ok-mesh.ensures.mesh.cut.certified.proper
+pub written_of-requires-clause-proper : goal.written_of-requires-clause-proper
+written_of-requires-clause-proper g c = c.in_ok-mesh.ensures.solid.mesh.of_document.cut.certified.proper
+
+pub returns-in_err-written-clause-fault : goal.returns-in_err-written-clause-fault
+returns-in_err-written-clause-fault g c =
+    let formula = formula_of c.args.expr.now in
+    let cause = c.in_err-written.field-0.0 in
+    let is = c.in_ok-placed.ensures.placed in
+    let mesh = c.in_ok-mesh.field-0.mesh in
+    let solid = subst (λ (tris : List Tri). IsSolidMesh tris formula mesh) is.tris c.in_ok-mesh.ensures.solid.mesh in
+    passed_on (IsBooleanFault c.args.files.now formula c.args.wanted) c.from_residual-in_err-written.result (of_writing_fault cause) c.from_residual-in_err-written.ensures.1 (writing_fault_is c.args.files.now formula c.args.wanted is.surfaces c.in_ok-placed.placed.grid is.are_placed mesh solid cause c.in_err-written.ensures.fault)
 
 pub returns-clause-output : goal.returns-clause-output
 returns-clause-output g c =
-    let formula = formula_of c.args.expr.now in
-    let made = c.output_of.ensures in
-    output_is c.args.files.now formula c.args.wanted c.in_ok-mesh.mesh c.in_ok-placed.placed c.in_ok-placed.ensures.placed c.in_ok-mesh.ensures.mesh c.in_ok-mesh.ensures.report c.output_of.result made.grid made.counts made.moves made.report made.written
-
-pub returns-clause-fault : goal.returns-clause-fault
-returns-clause-fault g c =
-    let formula = formula_of c.args.expr.now in
-    let is = c.in_ok-placed.ensures.placed in
-    let solid = subst (λ (tris : List Tri). IsSolidMesh tris formula c.in_ok-mesh.mesh) is.tris c.in_ok-mesh.ensures.mesh in
-    IfErr-weaker c.output_of.result _ _ (writing_fault_is c.args.files.now formula c.args.wanted is.surfaces c.in_ok-placed.placed.grid is.are_placed c.in_ok-mesh.mesh solid) c.output_of.ensures.fault
+    output_is c.args.files.now (formula_of c.args.expr.now) c.args.wanted c.in_ok-placed.placed c.in_ok-placed.ensures.placed c.in_ok-mesh.field-0 c.in_ok-mesh.ensures.solid c.in_ok-written.written c.in_ok-written.ensures.written c.in_ok-written.ensures.shown c.kept_with-kept.result c.kept_with-kept.ensures

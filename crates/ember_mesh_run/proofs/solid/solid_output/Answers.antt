@@ -8,6 +8,7 @@ use Rattle.ember_mesh_run.specs.Calls.{shelf_call}
 use Rattle.ember_mesh_run.specs.Causes.{IsFilesCause, IsReadingCause, IsStop}
 use Rattle.ember_mesh_run.specs.Files.{AreContents}
 use Rattle.ember_mesh_run.specs.Outputs.{IsFilesOutput, IsOutputFor}
+use Rattle.ember_mesh_run.proofs.OutputMeaning.{output_is_asked_for}
 use Rattle.ember_mesh_run.proofs.Stops.{files_stop, reading_stop, words_stop}
 use Rattle.ember_mesh_run.proofs.ToldFiles.{contents_are_as_many, contents_are_small}
 use Rattle.ember_mesh_run.proofs.solid.solid_output.Goals as goal
@@ -33,12 +34,7 @@ returns-in-Ok-read_contents-clause-output g c =
     let wanted = c.in-Ok.asked.wanted in
     let contents = subst (λ (contents : List (Vec ℕ Global)). AreContents told names contents) (sym c.deref.ensures.value) c.in-Ok-read_contents.ensures.contents in
     IfOk-weaker c.output_of_contents.result _ (IsOutputFor c.args.request.now told)
-    (λ output h. record {
-      wanted = wanted;
-      formula = formula;
-      asks = c.in-Ok.ensures.asks;
-      of_files = subst (λ (names : List (List ℕ)). IsFilesOutput told names formula wanted output) c.items-names.ensures (h told contents);
-    })
+    (λ output h. output_is_asked_for c.args.request.now told wanted formula output c.in-Ok.ensures.asks (subst (λ (names : List (List ℕ)). IsFilesOutput told names formula wanted output) c.items-names.ensures (h told contents)))
     c.output_of_contents.ensures.output
 
 pub returns-in-Ok-read_contents-clause-stop : goal.returns-in-Ok-read_contents-clause-stop

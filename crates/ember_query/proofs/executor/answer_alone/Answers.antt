@@ -1,4 +1,4 @@
-use Rattle.ember_query.proofs.Findings.{counts_found, fills_found, fills_root, texts_found, pairs_found}
+use Rattle.ember_query.proofs.Findings.{counts_found, faces_found, fills_found, fills_root, texts_found, pairs_found}
 use Rattle.ember_query.proofs.executor.answer_alone.Goals as goal
 
 pub results_alone-requires-in-Fills-clause-root : goal.results_alone-requires-in-Fills-clause-root
@@ -16,6 +16,10 @@ returns-in_ok-results_alone-in-Fills g c =
 pub returns-in_ok-results_alone-in-Texts : goal.returns-in_ok-results_alone-in-Texts
 returns-in_ok-results_alone-in-Texts g c =
     texts_found _ _ _ _ _ c.in-Texts.is c.in_ok-root-in-Texts.ensures.value c.in_ok-results_alone-in-Texts.ensures.items c.in_ok-results_alone-in-Texts.ensures.journals
+
+pub returns-in_ok-results_alone-in-Faces : goal.returns-in_ok-results_alone-in-Faces
+returns-in_ok-results_alone-in-Faces g c =
+    faces_found _ _ _ _ _ c.in-Faces.is c.in_ok-root-in-Faces.ensures.value c.in_ok-results_alone-in-Faces.ensures.items c.in_ok-results_alone-in-Faces.ensures.journals
 
 pub returns-in_ok-results_alone-in-Counts : goal.returns-in_ok-results_alone-in-Counts
 returns-in_ok-results_alone-in-Counts g c =

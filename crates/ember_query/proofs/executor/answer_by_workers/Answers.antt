@@ -1,4 +1,4 @@
-use Rattle.ember_query.proofs.Findings.{counts_found, fills_found, fills_root, texts_found, pairs_found}
+use Rattle.ember_query.proofs.Findings.{counts_found, faces_found, fills_found, fills_root, texts_found, pairs_found}
 use Rattle.ember_query.proofs.executor.answer_by_workers.Goals as goal
 
 pub results_by_workers-requires-in-Fills-clause-root : goal.results_by_workers-requires-in-Fills-clause-root
@@ -16,6 +16,10 @@ returns-in_ok-results_by_workers-in-Fills g c =
 pub returns-in_ok-results_by_workers-in-Texts : goal.returns-in_ok-results_by_workers-in-Texts
 returns-in_ok-results_by_workers-in-Texts g c =
     texts_found _ _ _ _ _ c.in-Texts.is c.in_ok-root-in-Texts.ensures.value c.in_ok-results_by_workers-in-Texts.ensures.items c.in_ok-results_by_workers-in-Texts.ensures.journals
+
+pub returns-in_ok-results_by_workers-in-Faces : goal.returns-in_ok-results_by_workers-in-Faces
+returns-in_ok-results_by_workers-in-Faces g c =
+    faces_found _ _ _ _ _ c.in-Faces.is c.in_ok-root-in-Faces.ensures.value c.in_ok-results_by_workers-in-Faces.ensures.items c.in_ok-results_by_workers-in-Faces.ensures.journals
 
 pub returns-in_ok-results_by_workers-in-Counts : goal.returns-in_ok-results_by_workers-in-Counts
 returns-in_ok-results_by_workers-in-Counts g c =

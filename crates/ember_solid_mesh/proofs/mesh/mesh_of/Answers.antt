@@ -7,8 +7,8 @@ returns-clause-mesh c =
     record {
       planes = refl;
       corners = refl;
-      certified = certified_of c.in_ok-triangles.triangles.items c.deref.ensures.value c.deref-3.ensures.value c.deref-4.ensures.value c.in_ok-triangles.ensures;
+      certified = certified_of c.in_ok-triangles.triangles.items c.deref.ensures.value c.deref-2.ensures.value c.deref-3.ensures.value c.deref-4.ensures.value c.in_ok-triangles.ensures;
     }
 
-pub returns-clause-report : goal.returns-clause-report
-returns-clause-report c = refl
+pub returns-clause-faces : goal.returns-clause-faces
+returns-clause-faces c = refl

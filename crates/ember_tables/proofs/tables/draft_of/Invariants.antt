@@ -1,6 +1,8 @@
-use Rattle.std.proofs.Common.{take}
-use Rattle.ember_tables.specs.Drafts.{IsDraft}
+use Rattle.std.proofs.Common.{drop}
+use Rattle.ember_tables.specs.Edges.{face_edges_of}
+use Rattle.ember_tables.specs.Drafts.{IsDraftBefore, HasFew}
 use Rattle.ember_tables.proofs.tables.draft_of.Given as goal
 
-abbrev pub invariant-loop-edge : goal.invariant-loop-edge
-invariant-loop-edge l = IsDraft (take l.edge-index l.edges) l.draft
+abbrev pub invariant-loop-number : goal.invariant-loop-number
+invariant-loop-number l =
+    IsDraftBefore (face_edges_of 0 l.faces) (face_edges_of l.number (drop l.number l.faces)) l.draft × HasFew l.draft

@@ -1,29 +1,30 @@
-use Rattle.std.proofs.Common.{List, ◌∙◌, sym, ap, subst}
-use Rattle.std.specs.List.{All}
+use Rattle.std.proofs.Common.{◌≡◌, ◌∙◌, List, map, sym, ap, subst}
+use Rattle.std.specs.List.{All, AllZip}
 use Rattle.ember_model.specs.declared.plane.Plane.{Plane}
+use Rattle.ember_model.specs.Valid.{IsValidPlane}
 use Rattle.ember_key.specs.declared.lines.LineKey.{LineKey}
+use Rattle.ember_certificate.specs.declared.space_point.SpacePoint.{SpacePoint}
 use Rattle.ember_certificate.specs.Facing.{spot_of}
-use Rattle.ember_tables.specs.declared.face_edge.FaceEdge.{FaceEdge}
-use Rattle.ember_tables.specs.Edges.{IsValidEdge}
-use Rattle.ember_tables.specs.Numberings.{plane_numbers, line_numbers, corner_numbers}
-use Rattle.ember_tables.specs.Drafts.{IsDraft}
-use Rattle.ember_tables.proofs.Numbers.{distinct, distinct_by}
-use Rattle.ember_tables.proofs.FaceLoops.{valid_edges}
-use Rattle.ember_tables.proofs.Segments.{corner_numbers_by}
+use Rattle.ember_tables.specs.Edges.{face_edges_of}
+use Rattle.ember_tables.specs.Numberings.{AreDistinct, plane_of, same_entry, same_line, same_corner}
+use Rattle.ember_tables.specs.Tables.{IsSegmentOf}
+use Rattle.ember_tables.specs.Drafts.{planes_in}
+use Rattle.ember_tables.proofs.Numbers.{same_entry_decides, same_line_decides, same_corner_decides, distinct, distinct_images}
 use Rattle.ember_tables.proofs.tables.tables_of.Goals as goal
-
-pub draft_of-requires-clause-valid : goal.draft_of-requires-clause-valid
-draft_of-requires-clause-valid c =
-    subst (All IsValidEdge) (sym (c.deref.ensures.value ∙ c.in_ok-edges.ensures.ok)) (valid_edges 0 c.args.faces.now c.requires)
 
 pub returns-clause-tables : goal.returns-clause-tables
 returns-clause-tables c =
-    let d = c.in_ok-planes.field-0 in
-    let h = subst (λ (es : List FaceEdge). IsDraft es d) (c.deref.ensures.value ∙ c.in_ok-edges.ensures.ok) c.in_ok-planes.ensures.ok in
+    let d = c.in_ok-planes.field-0 in let h = c.in_ok-planes.ensures.ok in
+    let edges = face_edges_of 0 c.args.faces.now in let ss = d.segments.items in
+    let ps : c.in_ok-planes_of.field-0.items ≡ planes_in d = c.in_ok-planes_of.ensures ∙ ap (map plane_of) c.as_slice-3.ensures.keys in
+    let ls : c.in_ok-line_list.line_list.items ≡ d.lines.keys = c.in_ok-line_list.ensures.items ∙ c.as_slice.ensures.keys in
+    let cs : c.in_ok-corner_list.corner_list.items ≡ d.corners.keys = c.in_ok-corner_list.ensures.items ∙ c.as_slice-2.ensures.keys in
+    let with_planes = subst (λ (qs : List Plane). AllZip (IsSegmentOf qs d.lines.keys d.corners.keys) edges ss) (sym ps) h.segments in
+    let with_lines = subst (λ (ms : List LineKey). AllZip (IsSegmentOf c.in_ok-planes_of.field-0.items ms d.corners.keys) edges ss) (sym ls) with_planes in
     record {
-      segments = h.segments;
-      planes = distinct_by plane_numbers (λ (p : Plane). p) d.planes.entries.items (λ x y e. ap plane_numbers e) (distinct plane_numbers d.planes.keys.keys d.planes.entries.items h.planes);
-      lines = distinct_by line_numbers (λ (k : LineKey). k) d.lines.entries.items (λ x y e. ap line_numbers e) (distinct line_numbers d.lines.keys.keys d.lines.entries.items h.lines);
-      corners = distinct_by corner_numbers spot_of d.corners.entries.items corner_numbers_by (distinct corner_numbers d.corners.keys.keys d.corners.entries.items h.corners);
-      valid = h.valid;
+      segments = subst (λ (ks : List SpacePoint). AllZip (IsSegmentOf c.in_ok-planes_of.field-0.items c.in_ok-line_list.line_list.items ks) edges ss) (sym cs) with_lines;
+      planes = subst (AreDistinct (λ (p : Plane). p)) (sym ps) (distinct_images plane_of d.planes.keys (distinct same_entry plane_of same_entry_decides d.planes.keys h.planes));
+      lines = subst (AreDistinct (λ (k : LineKey). k)) (sym ls) (distinct same_line (λ k. k) same_line_decides d.lines.keys h.lines);
+      corners = subst (AreDistinct spot_of) (sym cs) (distinct same_corner spot_of same_corner_decides d.corners.keys h.corners);
+      valid = subst (All IsValidPlane) (sym ps) h.valid;
     }

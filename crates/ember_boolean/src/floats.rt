@@ -1,0 +1,73 @@
+// The STL or the GLB of a mesh.
+ghost use Rattle.std.specs.Prelude.{All, IfOk, IfErr};
+ghost use Rattle.ember_certificate.specs.Certificate.{IsProper};
+ghost use Rattle.ember_snap.specs.Steps.{IsStep};
+ghost use Rattle.ember_boolean.specs.declared.wanted.MeshFormat.TheVariants.{Floats};
+ghost use Rattle.ember_boolean.specs.Outputs.{AreShownIf, IsFloatFile, IsOfFloats};
+ghost use Rattle.ember_boolean.specs.WritingFaults.{IsFloatFileFault, IsWritingFault};
+
+use crate::rounding::rounded;
+use crate::wanted::FloatFormat;
+use crate::writing::Written;
+use crate::writing_fault::WritingFault;
+use ember_glb::glb_bytes;
+use ember_grid::Grid;
+use ember_solid_mesh::SolidMesh;
+use ember_stl_bytes::{WrittenTriangle, stl_bytes};
+use ember_written::shared_edges;
+use std::alloc::Global;
+
+// The file of the triangles.
+fn float_bytes(
+    alloc: Global,
+    format: FloatFormat,
+    triangles: &[WrittenTriangle],
+) -> Result<Vec<u8>, WritingFault>
+    ensures file { IfOk result (λ bytes. IsFloatFile format triangles.now bytes.items) }
+    ensures fault { IfErr result (IsFloatFileFault format triangles.now) }
+{
+    match format {
+        FloatFormat::Stl => match stl_bytes(alloc, triangles) {
+            Ok(bytes) => Ok(bytes),
+            Err(fault) => Err(WritingFault::from(fault)),
+        },
+        FloatFormat::Glb => match glb_bytes(alloc, triangles) {
+            Ok(bytes) => Ok(bytes),
+            Err(fault) => Err(WritingFault::from(fault)),
+        },
+    }
+}
+
+// The STL or the GLB of a mesh on a grid. The mesh isn't kept while its bytes are made.
+pub(crate) fn float_file(
+    alloc: Global,
+    mesh: SolidMesh,
+    grid: &Grid,
+    format: FloatFormat,
+    shows: bool,
+) -> Result<Written, WritingFault>
+    requires step { IsStep grid.now.step }
+    requires proper { All (IsProper mesh.planes.items mesh.corners.items) mesh.triangles.items }
+    ensures floats { IfOk result (IsOfFloats format grid.now mesh) }
+    ensures shown { IfOk result (λ file. AreShownIf shows grid.now mesh file.shown) }
+    ensures fault { IfErr result (IsWritingFault (Floats format) grid.now mesh) }
+{
+    let written = rounded(alloc, &mesh, grid)?;
+    let faces = mesh.faces;
+    let planes = mesh.planes.len() as u64;
+    let triangles = mesh.triangles.len() as u64;
+    let vanished = triangles - written.len() as u64;
+    drop(mesh);
+    let shared = shared_edges(alloc, &written)?;
+    let bytes = float_bytes(alloc, format, &written)?;
+    Ok(Written {
+        bytes,
+        faces,
+        planes,
+        triangles,
+        vanished,
+        shared,
+        is_manifold: false,
+        shown: shows.then_some(written),
+    })
+}

@@ -1,0 +1,79 @@
+// The rounded triangles of a mesh.
+ghost use Rattle.std.specs.Prelude.{◌≤◌, All, IfOk, IfErr, IfSome};
+ghost use Rattle.ember_certificate.specs.Certificate.{IsProper};
+ghost use Rattle.ember_snap.specs.Steps.{IsStep};
+ghost use Rattle.ember_vertices.specs.Vertices.{IsMeshOf};
+ghost use Rattle.ember_written.specs.Decimals.{IsDecimalFault};
+ghost use Rattle.ember_written.specs.Digits.{written_places};
+ghost use Rattle.ember_written.specs.Floats.{IsFloatFault};
+ghost use Rattle.ember_boolean.specs.Outputs.{AreRounded, AreShownIf, decimals_of};
+
+use ember_grid::Grid;
+use ember_solid_mesh::SolidMesh;
+use ember_stl_bytes::WrittenTriangle;
+use ember_written::{DecimalMesh, PlaceFault, decimal_mesh, float_triangles, written_places};
+use std::alloc::Global;
+
+// The triangles of a mesh on a grid, in the user's unit and rounded to floats.
+pub(crate) fn rounded(
+    alloc: Global,
+    mesh: &SolidMesh,
+    grid: &Grid,
+) -> Result<Vec<WrittenTriangle>, PlaceFault>
+    requires step { IsStep grid.now.step }
+    requires proper { All (IsProper mesh.now.planes.items mesh.now.corners.items) mesh.now.triangles.items }
+    ensures rounded { IfOk result (λ written. AreRounded grid.now mesh.now written.items) }
+    ensures fault { IfErr result (IsFloatFault grid.now.step grid.now.offset mesh.now.corners.items) }
+{
+    float_triangles(
+        alloc,
+        &mesh.planes,
+        &mesh.corners,
+        &mesh.triangles,
+        &grid.step,
+        &grid.offset,
+    )
+}
+
+// The same, if they are asked for.
+pub(crate) fn shown_if(
+    alloc: Global,
+    shows: bool,
+    mesh: &SolidMesh,
+    grid: &Grid,
+) -> Result<Option<Vec<WrittenTriangle>>, PlaceFault>
+    requires step { IsStep grid.now.step }
+    requires proper { All (IsProper mesh.now.planes.items mesh.now.corners.items) mesh.now.triangles.items }
+    ensures shown { IfOk result (AreShownIf shows grid.now mesh.now) }
+    ensures fault { IfErr result (IsFloatFault grid.now.step grid.now.offset mesh.now.corners.items) }
+{
+    if !shows {
+        return Ok(None);
+    }
+    let shown = rounded(alloc, mesh, grid)?;
+    Ok(Some(shown))
+}
+
+// The triangles of a mesh on a grid, in the user's unit and rounded to decimals.
+pub(crate) fn decimals(
+    alloc: Global,
+    mesh: &SolidMesh,
+    grid: &Grid,
+    digits: Option<u32>,
+) -> Result<DecimalMesh, PlaceFault>
+    requires step { IsStep grid.now.step }
+    requires proper { All (IsProper mesh.now.planes.items mesh.now.corners.items) mesh.now.triangles.items }
+    requires digits { IfSome digits (λ n. n ≤ 17) }
+    ensures mesh { IfOk result (λ written. IsMeshOf (decimals_of digits grid.now mesh.now) written.mesh) }
+    ensures fault { IfErr result (IsDecimalFault grid.now.step grid.now.offset mesh.now.corners.items) }
+{
+    let places = written_places(digits, &grid.step);
+    decimal_mesh(
+        alloc,
+        &mesh.corners,
+        &mesh.triangles,
+        &grid.step,
+        &grid.offset,
+        places,
+    )
+}

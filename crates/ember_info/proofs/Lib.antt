@@ -1,0 +1,4 @@
+pub mod Appended
+pub mod EdgeUses
+pub mod Meshes
+pub mod SaidLines

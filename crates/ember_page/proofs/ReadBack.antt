@@ -1,0 +1,26 @@
+-- The corners that a reader finds in a page.
+use Rattle.std.proofs.Common.{◌≡◌, ℕ, List, ◌++◌, flat_map, Ok, append_assoc, ◌∙◌}
+use Rattle.base64.specs.Engines.{standard}
+use Rattle.base64.specs.GeneralPurpose.{decode_of}
+use Rattle.ember_glb.specs.Written.{corner_bytes}
+use Rattle.ember_glb.proofs.Points.{corners_alone}
+use Rattle.ember_stl_bytes.specs.declared.triangle.WrittenTriangle.{WrittenTriangle}
+use Rattle.ember_page.specs.declared.head.TheConstants.{HEAD, PANEL}
+use Rattle.ember_page.specs.declared.counts.TheConstants.{COUNTS}
+use Rattle.ember_page.specs.declared.drawing.TheConstants.{DRAWING}
+use Rattle.ember_page.specs.Pages.{escaped}
+use Rattle.ember_page.specs.ReadBack.{IsReadBack}
+
+joined : (a b c d e f : List ℕ) → a ++ (b ++ (c ++ (d ++ (e ++ f)))) ≡ ((a ++ b) ++ c) ++ (d ++ (e ++ f))
+joined a b c d e f = simp append_assoc
+
+-- of a page with this text of numbers
+pub read_back : (ts : List WrittenTriangle) (title text page : List ℕ) → page ≡ HEAD.now ++ (escaped title ++ (PANEL.now ++ (text ++ (COUNTS.now ++ DRAWING.now)))) → decode_of standard text ≡ Ok (flat_map corner_bytes ts) → IsReadBack ts page
+read_back ts title text page is decoded = record {
+  front = HEAD.now ++ escaped title;
+  text = text;
+  found = is ∙ joined HEAD.now (escaped title) PANEL.now text COUNTS.now DRAWING.now;
+  numbers = flat_map corner_bytes ts;
+  decoded = decoded;
+  corners = corners_alone ts;
+}

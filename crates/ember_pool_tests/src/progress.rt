@@ -1,0 +1,135 @@
+// How far a run has come, on a terminal and by a clock that the tests set.
+use ember_progress::{ProgressGate, percentage, weight};
+use std::alloc::Global;
+use std::cell::{Cell, RefCell};
+use std::fmt::{Display, Write};
+use std::io;
+use std::io::Eprint;
+use std::rt::Clock;
+use std::test::Fail;
+use std::time::Duration;
+use steal_pool::Gate;
+
+// A clock that stands still until it is set, and a terminal that keeps what is written to it.
+#[derive(Drop)]
+struct Desk {
+    milliseconds: Cell<u64>,
+    text: RefCell<String>,
+}
+
+impl Desk {
+    fn new(alloc: Global) -> Desk {
+        Desk {
+            milliseconds: Cell::new(0),
+            text: RefCell::new(String::new(alloc)),
+        }
+    }
+
+    // Takes what was written since the last call.
+    fn taken(&self, alloc: Global) -> Result<String, Fail> {
+        match self.text.try_replace(String::new(alloc)) {
+            Ok(text) => Ok(text),
+            Err(_) => Err(Fail::from("the terminal is in use")),
+        }
+    }
+}
+
+impl Clock for Desk {
+    fn monotonic(&self) -> io::Result<Duration> {
+        Ok(Duration::from_millis(self.milliseconds.get()))
+    }
+
+    fn since_1970(&self) -> io::Result<Duration> {
+        Ok(Duration::from_millis(self.milliseconds.get()))
+    }
+}
+
+impl Eprint for Desk {
+    fn eprint<D: Display + Drop>(&self, value: D) -> io::Result<()> {
+        if let Ok(mut text) = self.text.try_borrow_mut() {
+            let _ = write!(text, "{value}");
+        }
+        Ok(())
+    }
+
+    fn eprintln<D: Display + Drop>(&self, value: D) -> io::Result<()> {
+        self.eprint(value)
+    }
+}
+
+#[test]
+fn a_line_follows_the_boxes(rt: HostRuntime) -> Result<(), Fail> {
+    let desk = Desk::new(rt.alloc());
+    let gate = ProgressGate::new(&desk, true);
+    // the root and three left halves in the first second
+    for path in [1, 2, 4] {
+        gate.enter(path);
+    }
+    desk.milliseconds.set(999);
+    gate.enter(8);
+    assert_eq!(rt; desk.taken(rt.alloc())?.as_str(), "");
+    // then the others, each after what is done by then
+    let rows = [
+        (1000, 9, "ember-mesh:  12 %\r"),
+        (1099, 5, ""),
+        (1100, 3, "ember-mesh:  50 %\r"),
+        (1200, 6, ""),
+        (1300, 1 << 20, ""),
+        (1400, 7, "ember-mesh:  75 %\r"),
+        (1450, 14, ""),
+        (1500, 15, "ember-mesh:  87 %\r"),
+    ];
+    for (time, path, line) in rows {
+        desk.milliseconds.set(time);
+        gate.enter(path);
+        assert_eq!(rt; desk.taken(rt.alloc())?.as_str(), line);
+    }
+    gate.clear();
+    assert_eq!(rt; desk.taken(rt.alloc())?.as_str(), "                 \r");
+    Ok(())
+}
+
+#[test]
+fn nothing_is_shown_that_is_not_wanted(rt: HostRuntime) -> Result<(), Fail> {
+    let desk = Desk::new(rt.alloc());
+    for is_wanted in [false, true] {
+        desk.milliseconds.set(0);
+        let gate = ProgressGate::new(&desk, is_wanted);
+        desk.milliseconds.set(if is_wanted { 500 } else { 5000 });
+        for path in [1, 2, 3] {
+            gate.enter(path);
+        }
+        gate.clear();
+        assert_eq!(rt; desk.taken(rt.alloc())?.as_str(), "");
+    }
+    Ok(())
+}
+
+#[test]
+fn weights_and_percentages(rt: HostRuntime) -> Result<(), Fail> {
+    let rows = [
+        (1, 65536),
+        (2, 32768),
+        (3, 32768),
+        (7, 16384),
+        (65535, 2),
+        (65536, 1),
+        (131071, 1),
+        (131072, 0),
+        (1 << 36, 0),
+    ];
+    for (path, want) in rows {
+        assert_eq!(rt; weight(path), want);
+    }
+    for (done, want) in [
+        (0, 0),
+        (655, 0),
+        (656, 1),
+        (65535, 99),
+        (65536, 100),
+        (98304, 100),
+    ] {
+        assert_eq!(rt; percentage(done), want);
+    }
+    Ok(())
+}

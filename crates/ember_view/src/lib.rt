@@ -1,0 +1,7 @@
+//! The page that shows surfaces.
+#![tactic(auto)]
+
+mod floats;
+mod views;
+
+pub use views::view_of;

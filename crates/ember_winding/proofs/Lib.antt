@@ -1,0 +1,17 @@
+pub mod Halves
+pub mod Passings
+pub mod Seen
+pub mod TriangleCount
+pub mod LineForm
+pub mod OneCorner
+pub mod SamePlane
+pub mod EdgeCount
+pub mod Skew
+pub mod Bounded
+pub mod FaceCount
+pub mod GeneralPoints
+pub mod Crossings
+pub mod TriangleSums
+pub mod FaceSums
+pub mod CertifiedSums
+pub mod Winding
