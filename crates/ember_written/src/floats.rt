@@ -37,8 +37,10 @@ fn float_point(corner: &SpacePoint, step: &Step, offset: &Offset) -> Option<Floa
     Some(FloatPoint { x, y, z })
 }
 
-// Each corner with its coordinates rounded, in order.
-pub(crate) fn float_points(
+/// Each corner of the table with its coordinates rounded to floats, in order: see
+/// [`float_place`](crate::float_place). A corner that is 2^128 - 2^103 or more from zero along an
+/// axis is a fault.
+pub fn float_points(
     alloc: Global,
     corners: &[SpacePoint],
     step: &Step,

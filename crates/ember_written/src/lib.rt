@@ -20,7 +20,7 @@ pub use decimal_triangles::{DecimalMesh, decimal_mesh};
 pub use decimals::put_place;
 pub use digits::written_places;
 pub use fault::PlaceFault;
-pub use floats::float_place;
+pub use floats::{float_place, float_points};
 pub use laws::{
     certified_triangles_are_closed, decimal_triangles_are_closed, proper_triangles_have_corners,
     units_have_the_nearest_decimal,
@@ -29,4 +29,4 @@ pub use places::exact_place;
 pub use ratio::Ratio;
 pub use shared::shared_edges;
 pub use shared_by_index::shared_edges_by_index;
-pub use triangles::{float_triangles, have_corners};
+pub use triangles::{float_triangles, have_corners, triangles_over};

@@ -73,7 +73,9 @@ fn push_kept(written: &mut Vec<WrittenTriangle>, t: WrittenTriangle) -> Result<(
     Ok(())
 }
 
-fn written_triangles(
+/// The triangles over points that stand for the corners of their table: those of
+/// [`float_triangles`](crate::float_triangles), where the points are the rounded corners.
+pub fn triangles_over(
     alloc: Global,
     planes: &[Plane],
     points: &[FloatPoint],
@@ -114,6 +116,6 @@ pub fn float_triangles(
     ensures fault { IfErr result (IsFloatFault step.now offset.now corners.now) }
 {
     let points = float_points(alloc, corners, step, offset)?;
-    let written = written_triangles(alloc, planes, &points, triangles)?;
+    let written = triangles_over(alloc, planes, &points, triangles)?;
     Ok(written)
 }
