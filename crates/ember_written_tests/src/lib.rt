@@ -2,6 +2,8 @@
 #![tactic(auto)]
 
 #[cfg(test)]
+mod moves;
+#[cfg(test)]
 mod texts;
 #[cfg(test)]
 mod written;
