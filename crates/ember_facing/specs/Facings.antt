@@ -1,5 +1,5 @@
 -- How many triangles have no area, and how many are turned over
-use Rattle.std.specs.Prelude.{◌≡◌, ℕ, suc, Bool, true, false, List, [], ◌∷◌, map, count_by, Option, Some, None, pos, slice_get, slice_index_or, if◌then◌else◌}
+use Rattle.std.specs.Prelude.{◌≡◌, ℕ, suc, Bool, false, List, [], ◌∷◌, map, count_by, Option, Some, None, pos, slice_get, slice_index_or, if◌then◌else◌}
 use Rattle.ember_algebra.specs.declared.Sign.{Sign}
 use Rattle.ember_algebra.specs.Sign.{sgn, is_nil, is_neg}
 use Rattle.ember_model.specs.declared.plane.Plane.{Plane}
@@ -51,7 +51,7 @@ numbered_plane planes numbers index = plane_from planes (slice_get numbers index
 -- the sign of the triangle's signed area; none if it vanishes
 abbrev pub float_facing : List Plane → List FloatPoint → Triangle → Option Sign
 float_facing planes ps t = if vanishes (triangle_at planes ps t) then None
-  else Some (sgn (signed_area (plane_at planes t.first.plane) (float_point (point_at ps t.first.start))
+    else Some (sgn (signed_area (plane_at planes t.first.plane) (float_point (point_at ps t.first.start))
     (float_point (point_at ps t.second.start)) (float_point (point_at ps t.third.start))))
 
 abbrev pub AreFloatFacings : List Plane → List FloatPoint → List Triangle → Facings → Type 0

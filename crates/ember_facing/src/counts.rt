@@ -5,8 +5,17 @@ ghost use Rattle.ember_algebra.specs.Sign.{sgn};
 ghost use Rattle.ember_model.specs.Valid.{IsValidPlane};
 ghost use Rattle.ember_written.specs.Triangles as written;
 ghost use Rattle.ember_vertices.specs.Vertices as vertices;
-ghost use Rattle.ember_facing.specs.Facings.{plane_at, has_no_area, is_turned_over, one_if, float_facing, decimal_facing, numbered_plane,
-    AreFloatFacings, AreDecimalFacings};
+ghost use Rattle.ember_facing.specs.Facings.{
+  plane_at,
+  has_no_area,
+  is_turned_over,
+  one_if,
+  float_facing,
+  decimal_facing,
+  numbered_plane,
+  AreFloatFacings,
+  AreDecimalFacings,
+};
 
 use crate::decimals::decimal_area_sign;
 use crate::facings::Facings;

@@ -46,12 +46,7 @@ fn along_normal(plane: &Plane, x: i128, y: i128, z: i128) -> i128
 }
 
 /// The sign of the signed area of a triangle.
-pub(crate) fn short_area_sign(
-    plane: &Plane,
-    a: &ShortPoint,
-    b: &ShortPoint,
-    c: &ShortPoint,
-) -> Sign
+pub(crate) fn short_area_sign(plane: &Plane, a: &ShortPoint, b: &ShortPoint, c: &ShortPoint) -> Sign
     requires { IsValidPlane plane.now }
     ensures { result ≡ sgn (signed_area plane.now (short_point a.now) (short_point b.now) (short_point c.now)) }
 {

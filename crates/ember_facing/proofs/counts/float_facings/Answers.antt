@@ -1,7 +1,6 @@
 use Rattle.std.proofs.Common.{◌≡◌, ◌+◌, ◌∷◌, List, length, drop, map, sym, subst, ap, ◌∙◌}
 use Rattle.std.specs.Prelude.{Option}
 use Rattle.ember_algebra.specs.declared.Sign.{Sign}
-use Rattle.ember_certificate.specs.declared.triangle.Triangle.{Triangle}
 use Rattle.ember_written.specs.Triangles.{has_corners}
 use Rattle.ember_facing.specs.Facings.{float_facing}
 use Rattle.ember_facing.proofs.Counted.{HaveCounted, counted_more, rest_begins, all_pass_at}

@@ -1,5 +1,4 @@
 use mir.Syntax.{w128}
-use Rattle.std.proofs.Common.{◌^◌}
 use Rattle.ember_algebra.proofs.Exact.{Code, stored, wide, kept, ◌⊠◌, ◌⊞◌, ◌&◌, done, exact, no_overflow}
 use Rattle.ember_facing.proofs.short_area.along_normal.Goals as goal
 
