@@ -2,6 +2,8 @@
 #![tactic(auto)]
 
 #[cfg(test)]
+mod facings;
+#[cfg(test)]
 mod moves;
 #[cfg(test)]
 mod texts;

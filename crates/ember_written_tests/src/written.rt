@@ -133,7 +133,7 @@ const HEIGHT: u32 = 0x4e80_0000;
 
 const TEN: u32 = 0x4120_0000;
 
-fn float_point(x: u32, y: u32, z: u32) -> FloatPoint {
+pub fn float_point(x: u32, y: u32, z: u32) -> FloatPoint {
     FloatPoint { x, y, z }
 }
 
