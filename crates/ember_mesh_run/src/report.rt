@@ -16,7 +16,8 @@ use ember_words::Text;
 use std::alloc::Global;
 
 // What a warning ends with.
-const ADVICE: &[u8] = b", more than a hundredth of the step; write OBJ, PLY or OFF, or move the parts to the origin";
+const ADVICE: &[u8] =
+    b", more than a hundredth of the step; write OBJ, PLY or OFF, or move the parts to the origin";
 
 // Appends a line with this text.
 fn put_line(alloc: Global, said: &[u8], text: &mut Vec<u8>) -> Result<(), OutOfMemory>

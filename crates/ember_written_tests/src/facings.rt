@@ -74,9 +74,30 @@ fn floats_of_each_kind(rt: HostRuntime) {
 fn floats_with_places_far_apart(rt: HostRuntime) {
     let planes = [level()];
     let rows: [([FloatPoint; 3], Facings); 3] = [
-        ([float_point(0, 0, 0), float_point(ONE, TINY, 0), float_point(TWO, TINY, 0)], facings(0, 1)),
-        ([float_point(0, 0, 0), float_point(ONE, MINUS_TINY, 0), float_point(TWO, MINUS_TINY, 0)], facings(0, 0)),
-        ([float_point(TINY, TINY, 0), float_point(ONE, ONE, 0), float_point(ABOVE_ONE, ABOVE_ONE, 0)], facings(1, 0)),
+        (
+            [
+                float_point(0, 0, 0),
+                float_point(ONE, TINY, 0),
+                float_point(TWO, TINY, 0),
+            ],
+            facings(0, 1),
+        ),
+        (
+            [
+                float_point(0, 0, 0),
+                float_point(ONE, MINUS_TINY, 0),
+                float_point(TWO, MINUS_TINY, 0),
+            ],
+            facings(0, 0),
+        ),
+        (
+            [
+                float_point(TINY, TINY, 0),
+                float_point(ONE, ONE, 0),
+                float_point(ABOVE_ONE, ABOVE_ONE, 0),
+            ],
+            facings(1, 0),
+        ),
     ];
     let triangles = [triangle(0, 0, 1, 2)];
     for (points, want) in rows {
@@ -100,6 +121,12 @@ fn decimals_far_out(rt: HostRuntime) {
     let back = IndexedTriangle { a: 0, b: 2, c: 1 };
     let line = IndexedTriangle { a: 3, b: 0, c: 1 };
     let all = [front, back, line, front];
-    assert_eq!(rt; decimal_facings(&planes, &[0, 0, 0, 0], &vertices, &all), facings(1, 1));
-    assert_eq!(rt; decimal_facings(&planes, &[0, 0, 0], &vertices, &all), facings(2, 1));
+    assert_eq!(rt;
+        decimal_facings(&planes, &[0, 0, 0, 0], &vertices, &all),
+        facings(1, 1)
+    );
+    assert_eq!(rt;
+        decimal_facings(&planes, &[0, 0, 0], &vertices, &all),
+        facings(2, 1)
+    );
 }

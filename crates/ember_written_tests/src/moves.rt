@@ -1,17 +1,11 @@
 // How far corners move when they are written.
-ghost use Rattle.std.specs.Prelude.{IfSome};
-ghost use Rattle.ember_snap.specs.Steps.{IsStep};
-ghost use Rattle.ember_written.specs.Floats.{IsFloatPoint};
-
 use crate::written::{AT_ZERO, TENTH, THIRDS, UNIT, triangle};
 use ember_certificate::{SpacePoint, Triangle};
-use ember_model::Axis;
 use ember_rounding::{
     Move, greatest_decimal_move, greatest_float_move, is_above_hundredth, put_move,
 };
-use ember_snap::{Offset, Step};
-use ember_stl_bytes::FloatPoint;
-use ember_written::float_place;
+use ember_snap::Step;
+use ember_written::float_points;
 use std::test::Fail;
 
 const THIRD: SpacePoint = SpacePoint {
@@ -48,22 +42,19 @@ fn moves_to_decimals(rt: HostRuntime) -> Result<(), Fail> {
         assert!(rt; 0 < step.numerator && step.numerator < 1 << 40);
         assert!(rt; 0 < step.denominator && step.denominator < 1 << 40);
         assert!(rt; places <= 17);
-        let moved = greatest_decimal_move(alloc, &[corner], &of_one_corner(), &step, &AT_ZERO, places)?;
+        let moved = greatest_decimal_move(
+            alloc,
+            &[corner],
+            &of_one_corner(),
+            &step,
+            &AT_ZERO,
+            places,
+        )?;
         let mut text = Vec::new(alloc);
         put_move(&moved, &mut text)?;
         assert_eq!(rt; text.as_slice(), want);
     }
     Ok(())
-}
-
-fn point_of(corner: &SpacePoint, step: &Step, offset: &Offset) -> Option<FloatPoint>
-    requires { IsStep step.now }
-    ensures { IfSome result (IsFloatPoint step.now offset.now corner.now) }
-{
-    let x = float_place(corner, Axis::X, step, offset)?;
-    let y = float_place(corner, Axis::Y, step, offset)?;
-    let z = float_place(corner, Axis::Z, step, offset)?;
-    Some(FloatPoint { x, y, z })
 }
 
 const ONE: SpacePoint = SpacePoint {
@@ -81,32 +72,78 @@ fn moves_to_floats(rt: HostRuntime) -> Result<(), Fail> {
         (THIRDS, UNIT, b"2.22133396e-08"),
         (WHOLE, UNIT, b"0"),
     ];
-    let mut moves = 0;
     for (corner, step, want) in rows {
         assert!(rt; 0 < step.numerator && step.numerator < 1 << 40);
         assert!(rt; 0 < step.denominator && step.denominator < 1 << 40);
-        if let Some(point) = point_of(&corner, &step, &AT_ZERO) {
-            let moved = greatest_float_move(alloc, &[corner], &[point], &of_one_corner(), &step, &AT_ZERO)?;
-            let mut text = Vec::new(alloc);
-            put_move(&moved, &mut text)?;
-            assert_eq!(rt; text.as_slice(), want);
-            moves += 1;
-        }
+        let corners = [corner];
+        let points = float_points(alloc, &corners, &step, &AT_ZERO)?;
+        let moved = greatest_float_move(
+            alloc,
+            &corners,
+            &points,
+            &of_one_corner(),
+            &step,
+            &AT_ZERO,
+        )?;
+        let mut text = Vec::new(alloc);
+        put_move(&moved, &mut text)?;
+        assert_eq!(rt; text.as_slice(), want);
     }
-    assert_eq!(rt; moves, 3);
     Ok(())
 }
 
 #[test]
 fn moves_are_written(rt: HostRuntime) -> Result<(), Fail> {
     let rows: [(Move, &[u8]); 7] = [
-        (Move { size: 0, places: 38 }, b"0"),
-        (Move { size: 123_456_789_000, places: 0 }, b"123456789000"),
-        (Move { size: 149_011_612, places: 17 }, b"1.49011612e-09"),
-        (Move { size: 200_000_000, places: 13 }, b"2e-05"),
-        (Move { size: 100_000_000, places: 12 }, b"0.0001"),
-        (Move { size: 999_999_999, places: 13 }, b"9.99999999e-05"),
-        (Move { size: 1, places: 38 }, b"1e-38"),
+        (
+            Move {
+                size: 0,
+                places: 38,
+            },
+            b"0",
+        ),
+        (
+            Move {
+                size: 123_456_789_000,
+                places: 0,
+            },
+            b"123456789000",
+        ),
+        (
+            Move {
+                size: 149_011_612,
+                places: 17,
+            },
+            b"1.49011612e-09",
+        ),
+        (
+            Move {
+                size: 200_000_000,
+                places: 13,
+            },
+            b"2e-05",
+        ),
+        (
+            Move {
+                size: 100_000_000,
+                places: 12,
+            },
+            b"0.0001",
+        ),
+        (
+            Move {
+                size: 999_999_999,
+                places: 13,
+            },
+            b"9.99999999e-05",
+        ),
+        (
+            Move {
+                size: 1,
+                places: 38,
+            },
+            b"1e-38",
+        ),
     ];
     for (moved, want) in rows {
         let mut text = Vec::new(rt.alloc());
@@ -119,7 +156,10 @@ fn moves_are_written(rt: HostRuntime) -> Result<(), Fail> {
 #[test]
 fn above_a_hundredth_of_the_step(rt: HostRuntime) {
     let hundredth = Move { size: 1, places: 3 };
-    let more = Move { size: 100_001, places: 8 };
+    let more = Move {
+        size: 100_001,
+        places: 8,
+    };
     assert!(rt; !is_above_hundredth(&hundredth, &TENTH));
     assert!(rt; is_above_hundredth(&more, &TENTH));
     assert!(rt; !is_above_hundredth(&more, &UNIT));
