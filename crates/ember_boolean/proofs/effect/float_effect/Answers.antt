@@ -4,10 +4,6 @@ use Rattle.ember_written.specs.Triangles.{has_corners}
 use Rattle.ember_boolean.proofs.Outputs.{corners_are_there}
 use Rattle.ember_boolean.proofs.effect.float_effect.Goals as goal
 
-pub greatest_float_move-requires-clause-corners : goal.greatest_float_move-requires-clause-corners
-greatest_float_move-requires-clause-corners c =
-    corners_are_there c.args.mesh.now.planes.items c.deref.ensures.value c.deref-2.ensures.value c.requires.proper
-
 pub float_facings-facings-requires-clause-corners : goal.float_facings-facings-requires-clause-corners
 float_facings-facings-requires-clause-corners c =
     let among_corners = corners_are_there c.args.mesh.now.planes.items refl c.deref-4.ensures.value c.requires.proper in
