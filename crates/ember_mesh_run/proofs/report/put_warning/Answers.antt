@@ -4,7 +4,7 @@ use Rattle.ember_mesh_run.specs.Reports.{name_of_format, rounding_text}
 use Rattle.ember_mesh_run.proofs.Appended.{after4, on_ok_same}
 use Rattle.ember_mesh_run.proofs.report.put_warning.Goals as goal
 
-advice : List ℕ
+abbrev advice : List ℕ
 advice = codes ", more than a hundredth of the step; write OBJ, PLY or OFF, or move the parts to the origin"
 
 pub returns : goal.returns
