@@ -1,8 +1,12 @@
 // How rounded triangles face.
+ghost use Rattle.std.specs.Prelude.{◌≡◌, true, length};
+ghost use Rattle.std.specs.List.{list_all};
 ghost use Rattle.ember_model.specs.Valid.{IsValidPlane};
+ghost use Rattle.ember_written.specs.Triangles.{has_corners};
 
 use crate::texts::point;
 use crate::written::{float_point, triangle};
+use ember_certificate::Triangle;
 use ember_facing::{Facings, decimal_facings, float_facings};
 use ember_model::Plane;
 use ember_stl_bytes::FloatPoint;
@@ -39,6 +43,13 @@ fn facings(without_area: u64, turned_over: u64) -> Facings {
     }
 }
 
+// How triangles of one plane face.
+fn level_facings(points: &[FloatPoint], triangles: &[Triangle]) -> Facings
+    requires { list_all (has_corners (length points.now)) triangles.now ≡ true }
+{
+    float_facings(&[level()], points, triangles)
+}
+
 // Seen from above: one that keeps facing front, one that is turned over, one on a line, one that vanishes, and one
 // whose plane isn't in the table.
 #[test]
@@ -50,7 +61,6 @@ fn floats_of_each_kind(rt: HostRuntime) {
         float_point(TWO, 0, 0),
         float_point(ONE, 0, 0),
     ];
-    let planes = [level()];
     let front = triangle(0, 0, 1, 2);
     let back = triangle(0, 0, 2, 1);
     let line = triangle(0, 0, 1, 3);
@@ -65,14 +75,13 @@ fn floats_of_each_kind(rt: HostRuntime) {
     ];
     for (triangles, want) in rows {
         assert!(rt; have_corners(&triangles, points.len()));
-        assert_eq!(rt; float_facings(&planes, &points, &triangles), want);
+        assert_eq!(rt; level_facings(&points, &triangles), want);
     }
 }
 
 // The places of 1 and 1e-30 are 100 apart.
 #[test]
 fn floats_with_places_far_apart(rt: HostRuntime) {
-    let planes = [level()];
     let rows: [([FloatPoint; 3], Facings); 3] = [
         (
             [
@@ -102,7 +111,7 @@ fn floats_with_places_far_apart(rt: HostRuntime) {
     let triangles = [triangle(0, 0, 1, 2)];
     for (points, want) in rows {
         assert!(rt; have_corners(&triangles, points.len()));
-        assert_eq!(rt; float_facings(&planes, &points, &triangles), want);
+        assert_eq!(rt; level_facings(&points, &triangles), want);
     }
 }
 
