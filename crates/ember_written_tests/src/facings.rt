@@ -50,8 +50,8 @@ fn level_facings(points: &[FloatPoint], triangles: &[Triangle]) -> Facings
     float_facings(&[level()], points, triangles)
 }
 
-// Seen from above: one that keeps facing front, one that is turned over, one on a line, one that vanishes, and one
-// whose plane isn't in the table.
+// Seen from above: one that keeps facing front, one that is turned over, one on a line, one that
+// vanishes, and one whose plane isn't in the table.
 #[test]
 fn floats_of_each_kind(rt: HostRuntime) {
     let points = [
