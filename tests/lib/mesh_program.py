@@ -54,7 +54,10 @@ FORMS[0] = re.compile(
         rf"ember-mesh: step {_NUMBER}, grid offset -?\d+ -?\d+ -?\d+\n"
         rf"(?:ember-mesh: {_NAME}: \d+ triangles, \d+ vanished, \d+ without area; greatest move {_MOVE}; closed\n)+"
         r"(?:ember-mesh: the result is empty\n)?"
-        r"ember-mesh: \d+ faces -> \d+ triangles in \d+ planes; \d+ vanished; \d+ edges of more than two triangles\n"
+        r"(?:ember-mesh: warning: rounding for (?:STL|OBJ|PLY|OFF|GLB) moves corners by up to \d[\d.e-]*, more than a hundredth of the step; "
+        r"write OBJ, PLY or OFF, or move the parts to the origin\n)?"
+        r"ember-mesh: \d+ faces -> \d+ triangles in \d+ planes; greatest rounding move \d[\d.e-]*; "
+        r"\d+ vanished, \d+ without area, \d+ turned over; \d+ edges of more than two triangles\n"
     ).encode()
 )
 FORMS[13] = re.compile(b"")

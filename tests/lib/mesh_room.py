@@ -90,8 +90,8 @@ def fault_of_shared(err, counts):
 
 
 def fault_of_report(err, report):
-    """The report has these lines; an N stands for any number."""
+    """The report has these lines; an N stands for any number, and an X for any move."""
     if report is None:
         return None
-    form = "".join(f"ember-mesh: {re.escape(line)}\n" for line in report).replace("N\\ ", r"\d+\ ")
+    form = "".join(f"ember-mesh: {re.escape(line)}\n" for line in report).replace("N\\ ", r"\d+\ ").replace("move\\ X;", r"move\ \d[\d.e-]*;")
     return None if re.fullmatch(form, err.decode()) else f"report {err.decode()!r}, not {report}"

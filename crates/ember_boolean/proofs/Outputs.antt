@@ -12,6 +12,7 @@ use Rattle.ember_certificate.specs.Certificate.{IsProper}
 use Rattle.ember_expr.specs.Formula.{Formula}
 use Rattle.ember_grid.specs.declared.grid.Grid.{Grid}
 use Rattle.ember_model.specs.declared.plane.Plane.{Plane}
+use Rattle.ember_model.specs.Valid.{IsValidPlane}
 use Rattle.ember_model.specs.declared.scene.Scene.{Scene}
 use Rattle.ember_model.specs.declared.tri.Tri.{Tri}
 use Rattle.ember_scene.specs.declared.scene.Placed.{Placed}
@@ -49,7 +50,8 @@ use Rattle.ember_boolean.specs.declared.wanted.MeshFormat.TheVariants.{Floats, T
 use Rattle.ember_boolean.specs.declared.wanted.WantedFile.{WantedFile}
 use Rattle.ember_boolean.specs.declared.writing.Written.{Written}
 use Rattle.ember_boolean.specs.Files.{IsPlaced}
-use Rattle.ember_boolean.specs.Outputs.{AreKept, AreRounded, AreShownIf, over_vertices, decimals_of, IsTextOver, IsOfFloats, IsText, IsWritten, IsClosedOfFloats, IsClosedText, IsClosedAs, IsOutput}
+use Rattle.ember_boolean.specs.Effects.{over_vertices, decimals_of}
+use Rattle.ember_boolean.specs.Outputs.{AreKept, AreRounded, AreShownIf, IsTextOver, IsOfFloats, IsText, IsWritten, IsClosedOfFloats, IsClosedText, IsClosedAs, IsOutput}
 
 twice : (b : Bool) → b ≡ not (not b)
 twice true = refl
@@ -101,16 +103,22 @@ pub shown_are_written : (ts : List DecimalTriangle) (shown : List IndexedTriangl
 shown_are_written ts shown e = ap length e ∙ length-map ts (indexed (vertices_of ts))
 
 -- the text of a split mesh, by lists that equal its own
-pub split_is_text : (format : TextFormat) (places : ℕ) (ts cut : List DecimalTriangle) (split : SplitMesh) (faces : List IndexedTriangle) (points vertices written : List DecimalPoint) (origins : List ℕ) (bytes : List ℕ) (is_manifold : Bool) → AreCutOf ts cut → points ≡ vertices_of cut → AreSplitOf split (over_vertices cut) → (is_manifold ≡ true → IsManifold split.triangles.items) → (is_manifold ≡ false → cut ≡ ts) → origins ≡ split.origins.items → vertices ≡ map (point_at points) origins → written ≡ vertices → faces ≡ split.triangles.items → bytes ≡ text_of format places written faces → IsTextOver format places ts bytes is_manifold
-split_is_text format places ts cut split faces points vertices written origins bytes is_manifold are_cut b are manifold whole d e f g h = record {
+pub split_is_text : (format : TextFormat) (places : ℕ) (ts cut : List DecimalTriangle) (split : SplitMesh) (faces : List IndexedTriangle) (points vertices written : List DecimalPoint) (origins : List ℕ) (bytes : List ℕ) (count : ℕ) (is_manifold : Bool) → AreCutOf ts cut → points ≡ vertices_of cut → AreSplitOf split (over_vertices cut) → (is_manifold ≡ true → IsManifold split.triangles.items) → (is_manifold ≡ false → cut ≡ ts) → origins ≡ split.origins.items → vertices ≡ map (point_at points) origins → written ≡ vertices → faces ≡ split.triangles.items → bytes ≡ text_of format places written faces → count ≡ length split.triangles.items → IsTextOver format places ts bytes count is_manifold
+split_is_text format places ts cut split faces points vertices written origins bytes count is_manifold are_cut b are manifold whole d e f g h k = record {
   cut = cut;
   are_cut = are_cut;
   split = split;
   are_split = are;
   is = h ∙ (λ i. text_of format places ((f ∙ e) i) (g i)) ∙ (λ i. text_of format places (map (point_at (b i)) (d i)) split.triangles.items);
+  count_is = k;
   manifold = manifold;
   whole = whole;
 }
+
+-- ---- planes
+-- the planes of a document's mesh are valid
+pub planes_are_valid : (bytes : List ℕ) (mesh : SolidMesh) → IsDocumentMesh bytes mesh → All IsValidPlane mesh.planes.items
+planes_are_valid bytes mesh is = subst (λ (ps : List Plane). All IsValidPlane ps) (sym is.cut.planes) is.tables_are.are_tables.valid
 
 -- ---- closed files
 -- the triangles of a document's mesh are closed before they are rounded
@@ -121,7 +129,7 @@ mesh_is_closed bytes mesh is =
 -- and so are those of its STL and its GLB
 floats_are_closed : (format : FloatFormat) (grid : Grid) (mesh : SolidMesh) (file : Written) → AreRoundAndClosed mesh.triangles.items → IsOfFloats format grid mesh file → IsClosedOfFloats format grid mesh file
 floats_are_closed format grid mesh file round floats =
-    let closed = written_are_closed grid.step grid.offset mesh.planes.items mesh.corners.items mesh.triangles.items floats.written floats.rounded round in
+    let closed = written_are_closed grid.step grid.offset mesh.planes.items mesh.corners.items mesh.triangles.items floats.written floats.rounded.rounded round in
     record { floats = floats; closed = closed; shared = floats.shared closed }
 
 -- and of its text

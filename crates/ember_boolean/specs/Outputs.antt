@@ -25,12 +25,12 @@ use Rattle.ember_stl_bytes.specs.Written.{stl_bytes_of}
 use Rattle.ember_surface.specs.declared.surface.Surface.{Surface}
 use Rattle.ember_vertices.specs.declared.point.DecimalTriangle.{DecimalTriangle}
 use Rattle.ember_vertices.specs.declared.point.IndexedTriangle.{IndexedTriangle}
-use Rattle.ember_vertices.specs.Vertices.{vertices_of, indexed, point_at}
-use Rattle.ember_written.specs.DecimalTriangles.{decimal_triangles}
+use Rattle.ember_vertices.specs.Vertices.{vertices_of, point_at}
 use Rattle.ember_written.specs.Digits.{written_places}
 use Rattle.ember_written.specs.Triangles.{AreWritten}
 use Rattle.ember_written.specs.Closed.{AreWrittenClosed, AreDecimalsClosed, AreIndicesClosed}
 use Rattle.ember_written.specs.Shared.{IsSharedCount, IsSharedIndexCount}
+use Rattle.ember_boolean.specs.declared.effect.RoundingEffect.{RoundingEffect}
 use Rattle.ember_boolean.specs.declared.files.MeshFile.{MeshFile}
 use Rattle.ember_boolean.specs.declared.wanted.FloatFormat.{FloatFormat}
 use Rattle.ember_boolean.specs.declared.wanted.FloatFormat.TheVariants.{Stl, Glb}
@@ -40,6 +40,7 @@ use Rattle.ember_boolean.specs.declared.wanted.WantedFile.{WantedFile}
 use Rattle.ember_boolean.specs.declared.output.Kept.{Kept}
 use Rattle.ember_boolean.specs.declared.output.Output.{Output}
 use Rattle.ember_boolean.specs.declared.writing.Written.{Written}
+use Rattle.ember_boolean.specs.Effects.{IsDecimalEffect, IsFloatEffect, decimals_of, over_vertices}
 use Rattle.ember_boolean.specs.Files.{ArePlaced}
 
 -- ---- formats
@@ -72,12 +73,18 @@ AreRounded grid mesh written =
 abbrev pub AreShownIf : Bool → Grid → SolidMesh → Option (Vec WrittenTriangle) → Type 0
 AreShownIf shows grid mesh shown = IsThereIf shows (λ written. AreRounded grid mesh written.items) shown
 
+-- the triangles of the mesh, rounded, and what rounding did to it
+pub record AreRoundedWith (grid : Grid) (mesh : SolidMesh) (written : List WrittenTriangle) (effect : RoundingEffect) :
+    Type 0 where
+  pub rounded : AreRounded grid mesh written
+  pub is_effect : IsFloatEffect grid mesh rounded.points effect
+
 -- the bytes are the file of the mesh's rounded triangles, which are also those that are shown, if any are; the numbers
--- are those of the mesh, of its triangles that aren't written, and of the edges of more than two written triangles, if
--- these are closed
+-- are those of the mesh, of what rounding did to it, of its triangles that aren't written, and of the edges of more than
+-- two written triangles, if these are closed
 pub record IsOfFloats (format : FloatFormat) (grid : Grid) (mesh : SolidMesh) (file : Written) : Type 0 where
   pub written : List WrittenTriangle
-  pub rounded : AreRounded grid mesh written
+  pub rounded : AreRoundedWith grid mesh written file.effect
   pub bytes : IsFloatFile format written file.bytes.items
   pub shown : IfSome file.shown (λ shown. shown.items ≡ written)
   pub not_known : file.is_manifold ≡ false
@@ -85,37 +92,32 @@ pub record IsOfFloats (format : FloatFormat) (grid : Grid) (mesh : SolidMesh) (f
   pub planes : file.planes ≡ length mesh.planes.items
   pub triangles : file.triangles ≡ length mesh.triangles.items
   pub vanished : file.vanished + length written ≡ file.triangles
+  pub count : file.written ≡ length written
   pub shared : AreWrittenClosed written → IsSharedCount written file.shared
 
 -- ---- text
--- the triangles of a mesh on the grid, in the user's unit and rounded to decimals
-abbrev pub decimals_of : Option ℕ → Grid → SolidMesh → List DecimalTriangle
-decimals_of digits grid mesh =
-    decimal_triangles (written_places digits grid.step) grid.step grid.offset mesh.corners.items mesh.triangles.items
-
--- triangles by the indices of their corners, where each point is one vertex
-abbrev pub over_vertices : List DecimalTriangle → List IndexedTriangle
-over_vertices ts = map (indexed (vertices_of ts)) ts
-
 -- the bytes are a text of triangles, some of them cut at the middles of their edges: each of their points is a vertex,
--- some of them more than once, and each corner of a triangle is a vertex at its point. If it is called manifold, each
--- edge between its vertices has two triangles; otherwise none is cut
-pub record IsTextOver (format : TextFormat) (places : ℕ) (ts : List DecimalTriangle) (bytes : List ℕ)
+-- some of them more than once, and each corner of a triangle is a vertex at its point. There are so many triangles. If
+-- it is called manifold, each edge between its vertices has two triangles; otherwise none is cut
+pub record IsTextOver (format : TextFormat) (places : ℕ) (ts : List DecimalTriangle) (bytes : List ℕ) (count : ℕ)
     (is_manifold : Bool) : Type 0 where
   pub cut : List DecimalTriangle
   pub are_cut : AreCutOf ts cut
   pub split : SplitMesh
   pub are_split : AreSplitOf split (over_vertices cut)
   pub is : bytes ≡ text_of format places (map (point_at (vertices_of cut)) split.origins.items) split.triangles.items
+  pub count_is : count ≡ length split.triangles.items
   pub manifold : is_manifold ≡ true → IsManifold split.triangles.items
   pub whole : is_manifold ≡ false → cut ≡ ts
 
--- the bytes are the text of the mesh's rounded triangles; the numbers are those of the mesh, of its triangles that
--- aren't written, and, if the others are closed, of their edges of more than two, where each point is one vertex
+-- the bytes are the text of the mesh's rounded triangles; the numbers are those of the mesh, of what rounding did to it,
+-- of its triangles that aren't written, and, if the others are closed, of their edges of more than two, where each point
+-- is one vertex
 pub record IsText (format : TextFormat) (digits : Option ℕ) (grid : Grid) (mesh : SolidMesh) (file : Written) :
     Type 0 where
   pub bytes : IsTextOver format (written_places digits grid.step) (decimals_of digits grid mesh) file.bytes.items
-      file.is_manifold
+      file.written file.is_manifold
+  pub effect : IsDecimalEffect digits grid mesh file.effect
   pub faces : file.faces ≡ mesh.faces
   pub planes : file.planes ≡ length mesh.planes.items
   pub triangles : file.triangles ≡ length mesh.triangles.items

@@ -1,12 +1,13 @@
 // The STL or the GLB of a mesh.
 ghost use Rattle.std.specs.Prelude.{All, IfOk, IfErr};
 ghost use Rattle.ember_certificate.specs.Certificate.{IsProper};
+ghost use Rattle.ember_model.specs.Valid.{IsValidPlane};
 ghost use Rattle.ember_snap.specs.Steps.{IsStep};
 ghost use Rattle.ember_boolean.specs.declared.wanted.MeshFormat.TheVariants.{Floats};
 ghost use Rattle.ember_boolean.specs.Outputs.{AreShownIf, IsFloatFile, IsOfFloats};
 ghost use Rattle.ember_boolean.specs.WritingFaults.{IsFloatFileFault, IsWritingFault};
 
-use crate::rounding::rounded;
+use crate::rounding::{RoundedMesh, rounded_with_effect};
 use crate::wanted::FloatFormat;
 use crate::writing::Written;
 use crate::writing_fault::WritingFault;
@@ -48,15 +49,20 @@ pub(crate) fn float_file(
 ) -> Result<Written, WritingFault>
     requires step { IsStep grid.now.step }
     requires proper { All (IsProper mesh.planes.items mesh.corners.items) mesh.triangles.items }
+    requires valid { All IsValidPlane mesh.planes.items }
     ensures floats { IfOk result (IsOfFloats format grid.now mesh) }
     ensures shown { IfOk result (λ file. AreShownIf shows grid.now mesh file.shown) }
     ensures fault { IfErr result (IsWritingFault (Floats format) grid.now mesh) }
 {
-    let written = rounded(alloc, &mesh, grid)?;
+    let RoundedMesh {
+        triangles: written,
+        effect,
+    } = rounded_with_effect(alloc, &mesh, grid)?;
     let faces = mesh.faces;
     let planes = mesh.planes.len() as u64;
     let triangles = mesh.triangles.len() as u64;
-    let vanished = triangles - written.len() as u64;
+    let count = written.len() as u64;
+    let vanished = triangles - count;
     drop(mesh);
     let shared = shared_edges(alloc, &written)?;
     let bytes = float_bytes(alloc, format, &written)?;
@@ -66,8 +72,10 @@ pub(crate) fn float_file(
         planes,
         triangles,
         vanished,
+        written: count,
         shared,
         is_manifold: false,
+        effect,
         shown: shows.then_some(written),
     })
 }

@@ -3,6 +3,7 @@
 #![tactic(auto)]
 
 mod document;
+mod effect;
 mod fault;
 mod files;
 mod floats;
@@ -17,6 +18,7 @@ mod writing;
 mod writing_fault;
 
 pub use document::{DocumentFileFault, document_file};
+pub use effect::RoundingEffect;
 pub use fault::BooleanFault;
 pub use files::{MeshFile, surfaces_in};
 pub use laws::{

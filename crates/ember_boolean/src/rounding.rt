@@ -1,17 +1,23 @@
 // The rounded triangles of a mesh.
-ghost use Rattle.std.specs.Prelude.{◌≤◌, All, IfOk, IfErr, IfSome};
+ghost use Rattle.std.specs.Prelude.{◌≡◌, ◌≤◌, All, IfOk, IfErr, IfSome};
 ghost use Rattle.ember_certificate.specs.Certificate.{IsProper};
+ghost use Rattle.ember_model.specs.Valid.{IsValidPlane};
 ghost use Rattle.ember_snap.specs.Steps.{IsStep};
 ghost use Rattle.ember_vertices.specs.Vertices.{IsMeshOf};
 ghost use Rattle.ember_written.specs.Decimals.{IsDecimalFault};
 ghost use Rattle.ember_written.specs.Digits.{written_places};
 ghost use Rattle.ember_written.specs.Floats.{IsFloatFault};
-ghost use Rattle.ember_boolean.specs.Outputs.{AreRounded, AreShownIf, decimals_of};
+ghost use Rattle.ember_boolean.specs.Effects.{decimals_of, planes_of_decimals};
+ghost use Rattle.ember_boolean.specs.Outputs.{AreRounded, AreRoundedWith, AreShownIf};
 
+use crate::effect::{RoundingEffect, float_effect};
 use ember_grid::Grid;
 use ember_solid_mesh::SolidMesh;
 use ember_stl_bytes::WrittenTriangle;
-use ember_written::{DecimalMesh, PlaceFault, decimal_mesh, float_triangles, written_places};
+use ember_written::{
+    DecimalMesh, PlaceFault, decimal_mesh, float_points, float_triangles, triangles_over,
+    written_places,
+};
 use std::alloc::Global;
 
 // The triangles of a mesh on a grid, in the user's unit and rounded to floats.
@@ -35,7 +41,32 @@ pub(crate) fn rounded(
     )
 }
 
-// The same, if they are asked for.
+// The written triangles of a mesh, and what rounding did to it.
+#[derive(Drop)]
+pub(crate) struct RoundedMesh {
+    pub(crate) triangles: Vec<WrittenTriangle>,
+    pub(crate) effect: RoundingEffect,
+}
+
+// The same triangles, and what rounding did to the mesh.
+pub(crate) fn rounded_with_effect(
+    alloc: Global,
+    mesh: &SolidMesh,
+    grid: &Grid,
+) -> Result<RoundedMesh, PlaceFault>
+    requires step { IsStep grid.now.step }
+    requires proper { All (IsProper mesh.now.planes.items mesh.now.corners.items) mesh.now.triangles.items }
+    requires valid { All IsValidPlane mesh.now.planes.items }
+    ensures rounded { IfOk result (λ it. AreRoundedWith grid.now mesh.now it.triangles.items it.effect) }
+    ensures fault { IfErr result (IsFloatFault grid.now.step grid.now.offset mesh.now.corners.items) }
+{
+    let points = float_points(alloc, &mesh.corners, &grid.step, &grid.offset)?;
+    let effect = float_effect(alloc, mesh, &points, grid)?;
+    let triangles = triangles_over(alloc, &mesh.planes, &points, &mesh.triangles)?;
+    Ok(RoundedMesh { triangles, effect })
+}
+
+// The triangles alone, if they are asked for.
 pub(crate) fn shown_if(
     alloc: Global,
     shows: bool,
@@ -65,6 +96,7 @@ pub(crate) fn decimals(
     requires proper { All (IsProper mesh.now.planes.items mesh.now.corners.items) mesh.now.triangles.items }
     requires digits { IfSome digits (λ n. n ≤ 17) }
     ensures mesh { IfOk result (λ written. IsMeshOf (decimals_of digits grid.now mesh.now) written.mesh) }
+    ensures planes { IfOk result (λ written. written.planes.items ≡ planes_of_decimals digits grid.now mesh.now) }
     ensures fault { IfErr result (IsDecimalFault grid.now.step grid.now.offset mesh.now.corners.items) }
 {
     let places = written_places(digits, &grid.step);

@@ -1,6 +1,7 @@
 // The OBJ, PLY or OFF of a mesh.
 ghost use Rattle.std.specs.Prelude.{◌≡◌, ◌≤◌, true, false, List, All, IfOk, IfErr, IfSome};
 ghost use Rattle.ember_certificate.specs.Certificate.{IsProper};
+ghost use Rattle.ember_model.specs.Valid.{IsValidPlane};
 ghost use Rattle.ember_snap.specs.Steps.{IsStep};
 ghost use Rattle.ember_vertices.specs.declared.point.DecimalTriangle.{DecimalTriangle};
 ghost use Rattle.ember_manifold.specs.Cuts.{AreCutOf};
@@ -8,9 +9,11 @@ ghost use Rattle.ember_manifold.specs.Paired.{IsManifold};
 ghost use Rattle.ember_manifold.specs.Splits.{AreSplitOf};
 ghost use Rattle.ember_vertices.specs.Vertices.{IsMeshOf};
 ghost use Rattle.ember_boolean.specs.declared.wanted.MeshFormat.TheVariants.{Text};
-ghost use Rattle.ember_boolean.specs.Outputs.{over_vertices, AreShownIf, IsText, IsTextOver};
+ghost use Rattle.ember_boolean.specs.Effects.{over_vertices};
+ghost use Rattle.ember_boolean.specs.Outputs.{AreShownIf, IsText, IsTextOver};
 ghost use Rattle.ember_boolean.specs.WritingFaults.{IsWritingFault};
 
+use crate::effect::decimal_effect;
 use crate::rounding::{decimals, shown_if};
 use crate::writing::Written;
 use crate::writing_fault::WritingFault;
@@ -23,10 +26,11 @@ use ember_vertices::IndexedMesh;
 use ember_written::{DecimalMesh, shared_edges_by_index, written_places};
 use std::alloc::{AllocError, Global};
 
-// A text, and whether each of its edges has two triangles.
+// A text, the number of its triangles, and whether each of its edges has two.
 #[derive(Drop)]
 struct MeshText {
     bytes: Vec<u8>,
+    triangles: u64,
     is_manifold: bool,
 }
 
@@ -43,12 +47,13 @@ fn text_over(
         AreSplitOf split.now.mesh (over_vertices cut) →
         (split.now.is_manifold ≡ true → IsManifold split.now.mesh.triangles.items) →
         (split.now.is_manifold ≡ false → cut ≡ ts) →
-        IfOk result (λ text. IsTextOver format places ts text.bytes.items text.is_manifold) }
+        IfOk result (λ text. IsTextOver format places ts text.bytes.items text.triangles text.is_manifold) }
 {
     let vertices = points_of(alloc, mesh.vertices(), &split.mesh.origins)?;
     let bytes = mesh_text(alloc, format, &vertices, &split.mesh.triangles, places)?;
     Ok(MeshText {
         bytes,
+        triangles: split.mesh.triangles.len() as u64,
         is_manifold: split.is_manifold,
     })
 }
@@ -64,7 +69,7 @@ fn split_text(
 ) -> Result<MeshText, AllocError>
     requires { places ≤ 17 }
     ensures { (ts : List DecimalTriangle) → IsMeshOf ts written.now.mesh →
-        IfOk result (λ text. IsTextOver format places ts text.bytes.items text.is_manifold) }
+        IfOk result (λ text. IsTextOver format places ts text.bytes.items text.triangles text.is_manifold) }
 {
     let mesh = &written.mesh;
     let split = split_vertices(
@@ -102,12 +107,14 @@ pub(crate) fn text_file(
 ) -> Result<Written, WritingFault>
     requires step { IsStep grid.now.step }
     requires proper { All (IsProper mesh.planes.items mesh.corners.items) mesh.triangles.items }
+    requires valid { All IsValidPlane mesh.planes.items }
     requires digits { IfSome digits (λ n. n ≤ 17) }
     ensures text { IfOk result (IsText format digits grid.now mesh) }
     ensures shown { IfOk result (λ file. AreShownIf shows grid.now mesh file.shown) }
     ensures fault { IfErr result (IsWritingFault (Text format digits) grid.now mesh) }
 {
     let written = decimals(alloc, &mesh, grid, digits)?;
+    let effect = decimal_effect(alloc, &mesh, &written, grid, digits)?;
     let shown = shown_if(alloc, shows, &mesh, grid)?;
     let SolidMesh {
         planes,
@@ -123,15 +130,17 @@ pub(crate) fn text_file(
     let vanished = triangle_count - indexed.len() as u64;
     let shared = shared_edges_by_index(alloc, indexed)?;
     let places = written_places(digits, &grid.step);
-    let MeshText { bytes, is_manifold } = split_text(alloc, format, &planes, &written, places)?;
+    let text = split_text(alloc, format, &planes, &written, places)?;
     Ok(Written {
-        bytes,
+        bytes: text.bytes,
         faces,
         planes: plane_count,
         triangles: triangle_count,
         vanished,
+        written: text.triangles,
         shared,
-        is_manifold,
+        is_manifold: text.is_manifold,
+        effect,
         shown,
     })
 }

@@ -1,10 +1,12 @@
 // The file of a mesh.
 ghost use Rattle.std.specs.Prelude.{All, IfOk, IfErr};
 ghost use Rattle.ember_certificate.specs.Certificate.{IsProper};
+ghost use Rattle.ember_model.specs.Valid.{IsValidPlane};
 ghost use Rattle.ember_snap.specs.Steps.{IsStep};
 ghost use Rattle.ember_boolean.specs.Outputs.{AreShownIf, HasFewDigits, IsWritten};
 ghost use Rattle.ember_boolean.specs.WritingFaults.{IsWritingFault};
 
+use crate::effect::RoundingEffect;
 use crate::floats::float_file;
 use crate::text::text_file;
 use crate::wanted::MeshFormat;
@@ -27,11 +29,16 @@ pub struct Written {
     pub triangles: u64,
     /// How many of these aren't in the file: two of their corners became equal when rounded.
     pub vanished: u64,
-    /// How many edges belong to more than two of the others, by the rounded places of their ends.
+    /// The number of triangles of the file. Those of a text may have been cut.
+    pub written: u64,
+    /// How many edges belong to more than two of the triangles that didn't vanish, by the rounded
+    /// places of their ends.
     pub shared: u64,
     /// Whether each edge of the file has two triangles. An STL has no vertices, and a GLB has one
     /// for each corner of a triangle, so there it is false.
     pub is_manifold: bool,
+    /// What rounding did to the exact mesh.
+    pub effect: RoundingEffect,
     /// The triangles as an STL has them, if they were asked for. A page shows them.
     pub shown: Option<Vec<WrittenTriangle>>,
 }
@@ -46,6 +53,7 @@ pub(crate) fn written_of(
 ) -> Result<Written, WritingFault>
     requires step { IsStep grid.now.step }
     requires proper { All (IsProper mesh.planes.items mesh.corners.items) mesh.triangles.items }
+    requires valid { All IsValidPlane mesh.planes.items }
     requires digits { HasFewDigits format }
     ensures written { IfOk result (IsWritten format grid.now mesh) }
     ensures shown { IfOk result (λ file. AreShownIf shows grid.now mesh file.shown) }

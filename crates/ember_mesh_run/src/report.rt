@@ -2,17 +2,22 @@
 ghost use Rattle.std.specs.Prelude.{◌≡◌, ◌++◌, ◌<◌, drop, IfOk, OnOk};
 ghost use Rattle.ember_mesh_run.specs.Lines.{line};
 ghost use Rattle.ember_moves.specs.Shown.{rounded_of};
-ghost use Rattle.ember_mesh_run.specs.Reports.{counts_line, counts_lines, empty_line, export_report, first_move, grid_line, mesh_line, mesh_lines, report_of, scene_lines, snap_report};
+ghost use Rattle.ember_mesh_run.specs.Reports.{counts_line, counts_lines, empty_line, export_report, first_move, grid_line, losses_text, mesh_line, mesh_lines, mesh_text, name_of_format, report_of, scene_lines, snap_report, warning_line};
 
 use crate::texts::{line, put_count, put_move, put_signed, put_step};
 use ember_boolean::{Output, Written};
 use ember_grid::Grid;
-use ember_mesh_words::{ExportRequest, Request, SnapRequest};
+use ember_mesh_words::{ExportRequest, OutputFormat, Request, SnapRequest};
 use ember_model::OutOfMemory;
 use ember_moves::Length;
+use ember_rounding::put_move as put_rounding_move;
 use ember_scene::{Counts, Placed};
 use ember_words::Text;
 use std::alloc::Global;
+
+// What a warning ends with.
+const ADVICE: &[u8] =
+    b", more than a hundredth of the step; write OBJ, PLY or OFF, or move the parts to the origin";
 
 // Appends a line with this text.
 fn put_line(alloc: Global, said: &[u8], text: &mut Vec<u8>) -> Result<(), OutOfMemory>
@@ -105,6 +110,65 @@ fn put_empty(alloc: Global, mesh: &Written, text: &mut Vec<u8>) -> Result<(), Ou
     put_line(alloc, b"the result is empty", text)
 }
 
+fn name_of_format(format: OutputFormat) -> &'static [u8]
+    ensures { result.now ≡ name_of_format format }
+{
+    match format {
+        OutputFormat::Stl => b"STL",
+        OutputFormat::Obj => b"OBJ",
+        OutputFormat::Ply => b"PLY",
+        OutputFormat::Off => b"OFF",
+        OutputFormat::Glb => b"GLB",
+    }
+}
+
+// Appends that rounding moves corners far, if it does.
+fn put_warning(
+    alloc: Global,
+    format: OutputFormat,
+    mesh: &Written,
+    text: &mut Vec<u8>,
+) -> Result<(), OutOfMemory>
+    ensures { OnOk result (text.new.items ≡ text.old.items ++ warning_line format mesh.now) }
+{
+    if !mesh.effect.is_coarse {
+        return Ok(());
+    }
+    let mut said = Vec::from_slice(alloc, b"warning: rounding for ")?;
+    said.extend_from_slice(name_of_format(format))?;
+    said.extend_from_slice(b" moves corners by up to ")?;
+    put_rounding_move(&mesh.effect.greatest, &mut said)?;
+    said.extend_from_slice(ADVICE)?;
+    put_line(alloc, &said, text)
+}
+
+// Appends how large the mesh of so many faces is, and how far rounding moved its corners.
+fn put_mesh_text(faces: u64, mesh: &Written, text: &mut Vec<u8>) -> Result<(), OutOfMemory>
+    ensures { OnOk result (text.new.items ≡ text.old.items ++ mesh_text faces mesh.now) }
+{
+    put_count(faces, text)?;
+    text.extend_from_slice(b" faces -> ")?;
+    put_count(mesh.written, text)?;
+    text.extend_from_slice(b" triangles in ")?;
+    put_count(mesh.planes, text)?;
+    text.extend_from_slice(b" planes; greatest rounding move ")?;
+    put_rounding_move(&mesh.effect.greatest, text)
+}
+
+// Appends what rounding did to the triangles, and how many edges more than two of them have.
+fn put_losses(mesh: &Written, text: &mut Vec<u8>) -> Result<(), OutOfMemory>
+    ensures { OnOk result (text.new.items ≡ text.old.items ++ losses_text mesh.now) }
+{
+    put_count(mesh.vanished, text)?;
+    text.extend_from_slice(b" vanished, ")?;
+    put_count(mesh.effect.facings.without_area, text)?;
+    text.extend_from_slice(b" without area, ")?;
+    put_count(mesh.effect.facings.turned_over, text)?;
+    text.extend_from_slice(b" turned over; ")?;
+    put_count(mesh.shared, text)?;
+    text.extend_from_slice(b" edges of more than two triangles")
+}
+
 // Appends the line of the mesh of so many faces.
 fn put_mesh(
     alloc: Global,
@@ -115,29 +179,24 @@ fn put_mesh(
     ensures { OnOk result (text.new.items ≡ text.old.items ++ mesh_line faces mesh.now) }
 {
     let mut said = Vec::new(alloc);
-    put_count(faces, &mut said)?;
-    said.extend_from_slice(b" faces -> ")?;
-    put_count(mesh.triangles, &mut said)?;
-    said.extend_from_slice(b" triangles in ")?;
-    put_count(mesh.planes, &mut said)?;
-    said.extend_from_slice(b" planes; ")?;
-    put_count(mesh.vanished, &mut said)?;
-    said.extend_from_slice(b" vanished; ")?;
-    put_count(mesh.shared, &mut said)?;
-    said.extend_from_slice(b" edges of more than two triangles")?;
+    put_mesh_text(faces, mesh, &mut said)?;
+    said.extend_from_slice(b"; ")?;
+    put_losses(mesh, &mut said)?;
     put_line(alloc, &said, text)
 }
 
 // Appends the lines of a mesh of so many faces.
 fn put_mesh_lines(
     alloc: Global,
+    format: OutputFormat,
     faces: u64,
     mesh: &Written,
     text: &mut Vec<u8>,
 ) -> Result<(), OutOfMemory>
-    ensures { OnOk result (text.new.items ≡ text.old.items ++ mesh_lines faces mesh.now) }
+    ensures { OnOk result (text.new.items ≡ text.old.items ++ mesh_lines format faces mesh.now) }
 {
     put_empty(alloc, mesh, text)?;
+    put_warning(alloc, format, mesh, text)?;
     put_mesh(alloc, faces, mesh, text)
 }
 
@@ -177,7 +236,13 @@ pub fn report_of(alloc: Global, request: &Request, output: &Output) -> Result<Ve
         &output.moves,
         &mut text,
     )?;
-    put_mesh_lines(alloc, output.report.faces, &output.written, &mut text)?;
+    put_mesh_lines(
+        alloc,
+        request.format,
+        output.report.faces,
+        &output.written,
+        &mut text,
+    )?;
     Ok(text)
 }
 
@@ -220,6 +285,6 @@ pub fn export_report(
     if request.quiet {
         return Ok(text);
     }
-    put_mesh_lines(alloc, mesh.faces, mesh, &mut text)?;
+    put_mesh_lines(alloc, request.format, mesh.faces, mesh, &mut text)?;
     Ok(text)
 }

@@ -82,8 +82,8 @@ fn a_document_that_is_kept_gives_the_same_mesh(rt: HostRuntime) -> Result<(), Fa
     let page = again.held("page.html");
     assert!(rt; page.starts_with(b"<!doctype html>\n"));
     // the last line of both reports
-    let end =
-        b" faces -> 24 triangles in 9 planes; 0 vanished; 0 edges of more than two triangles\n";
+    let end = b" faces -> 24 triangles in 9 planes; greatest rounding move 0; \
+        0 vanished, 0 without area, 0 turned over; 0 edges of more than two triangles\n";
     assert!(rt; given.err.bytes().ends_with(end));
     assert!(rt; given.err.bytes().ends_with(again.err.bytes()));
     Ok(())

@@ -11,6 +11,10 @@ use std::sync::Wait;
 use std::test::Fail;
 use std::thread::Threads;
 
+// How a report ends if rounding did nothing to the triangles, and no edge has more than two.
+const UNHARMED: &[u8] =
+    b"; 0 vanished, 0 without area, 0 turned over; 0 edges of more than two triangles\n";
+
 // The first lines of the report, and what the file of the output holds.
 fn check<R: Abort + Threads + Wait + Sync>(
     rt: &R,
@@ -24,13 +28,7 @@ fn check<R: Abort + Threads + Wait + Sync>(
     assert_eq!(rt; given.status.number(), 0, "{line}");
     assert_eq!(rt; given.out.bytes().len(), 0);
     assert!(rt; given.err.bytes().starts_with(report), "{line}");
-    assert!(rt;
-        given
-            .err
-            .bytes()
-            .ends_with(b"; 0 vanished; 0 edges of more than two triangles\n"),
-        "{line}"
-    );
+    assert!(rt; given.err.bytes().ends_with(UNHARMED), "{line}");
     assert_eq!(rt; solid_in(alloc, given.bytes())?, solid, "{line}");
     Ok(())
 }
@@ -131,8 +129,8 @@ fn a_mesh_without_itself_is_empty(rt: HostRuntime) -> Result<(), Fail> {
         ember-mesh: a.obj: 12 triangles, 0 vanished, 0 without area; \
         greatest move 0 (nothing moved); closed\n\
         ember-mesh: the result is empty\n\
-        ember-mesh: 0 faces -> 0 triangles in 0 planes; 0 vanished; \
-        0 edges of more than two triangles\n";
+        ember-mesh: 0 faces -> 0 triangles in 0 planes; greatest rounding move 0; \
+        0 vanished, 0 without area, 0 turned over; 0 edges of more than two triangles\n";
     check(&rt, alloc, words, &[("a.obj", LOW)], report, solid)
 }
 
@@ -141,8 +139,8 @@ fn boxes_that_touch_in_an_edge(rt: HostRuntime) -> Result<(), Fail> {
     let words = "union -o out.stl a.obj b.obj";
     let given = give(&rt, rt.alloc(), words, &[("a.obj", LOW), ("b.obj", BESIDE)])?;
     assert_eq!(rt; given.status.number(), 0);
-    let end = b" -> 24 triangles in 10 planes; 0 vanished; \
-        1 edges of more than two triangles\n";
+    let end = b" -> 24 triangles in 10 planes; greatest rounding move 0; \
+        0 vanished, 0 without area, 0 turned over; 1 edges of more than two triangles\n";
     assert!(rt; given.err.bytes().ends_with(end));
     Ok(())
 }

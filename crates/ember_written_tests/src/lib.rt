@@ -2,6 +2,10 @@
 #![tactic(auto)]
 
 #[cfg(test)]
+mod facings;
+#[cfg(test)]
+mod moves;
+#[cfg(test)]
 mod texts;
 #[cfg(test)]
 mod written;

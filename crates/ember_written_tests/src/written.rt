@@ -11,17 +11,20 @@ use ember_written::{
 };
 use std::test::Fail;
 
-const UNIT: Step = Step {
+/// A step of the user's unit.
+pub const UNIT: Step = Step {
     numerator: 1,
     denominator: 1,
 };
 
-const TENTH: Step = Step {
+/// A step of a tenth.
+pub const TENTH: Step = Step {
     numerator: 1,
     denominator: 10,
 };
 
-const AT_ZERO: Offset = Offset { x: 0, y: 0, z: 0 };
+/// No offset.
+pub const AT_ZERO: Offset = Offset { x: 0, y: 0, z: 0 };
 
 // 2^24 units up.
 const UP: Offset = Offset {
@@ -37,7 +40,8 @@ const TENTHS: SpacePoint = SpacePoint {
     w: 1,
 };
 
-const THIRDS: SpacePoint = SpacePoint {
+/// A corner at 1/3, -2/3 and 1.
+pub const THIRDS: SpacePoint = SpacePoint {
     x: 1,
     y: -2,
     z: 3,
@@ -96,7 +100,8 @@ fn edge(plane: u32, start: u32, end: u32) -> Segment {
     }
 }
 
-fn triangle(plane: u32, a: u32, b: u32, c: u32) -> Triangle {
+/// A triangle of a plane by its corners.
+pub fn triangle(plane: u32, a: u32, b: u32, c: u32) -> Triangle {
     Triangle {
         first: edge(plane, a, b),
         second: edge(plane, b, c),
@@ -128,7 +133,7 @@ const HEIGHT: u32 = 0x4e80_0000;
 
 const TEN: u32 = 0x4120_0000;
 
-fn float_point(x: u32, y: u32, z: u32) -> FloatPoint {
+pub fn float_point(x: u32, y: u32, z: u32) -> FloatPoint {
     FloatPoint { x, y, z }
 }
 

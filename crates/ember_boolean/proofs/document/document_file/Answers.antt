@@ -1,7 +1,7 @@
 use Rattle.ember_solid_mesh.proofs.Passing.{passed_on}
 use Rattle.ember_boolean.specs.DocumentFiles.{IsDocumentFileFault, of_document_fault, of_unwritten_fault}
 use Rattle.ember_boolean.proofs.DocumentRefusals.{document_fault_is, unwritten_fault_is}
-use Rattle.ember_boolean.proofs.Outputs.{written_is_closed}
+use Rattle.ember_boolean.proofs.Outputs.{planes_are_valid, written_is_closed}
 use Rattle.ember_boolean.proofs.document.document_file.Goals as goal
 
 pub returns-in_err-mesh-clause-fault : goal.returns-in_err-mesh-clause-fault
@@ -11,6 +11,9 @@ returns-in_err-mesh-clause-fault c =
 
 pub written_of-requires-clause-proper : goal.written_of-requires-clause-proper
 written_of-requires-clause-proper c = c.in_ok-mesh.ensures.mesh.of_document.cut.certified.proper
+
+pub written_of-requires-clause-valid : goal.written_of-requires-clause-valid
+written_of-requires-clause-valid c = planes_are_valid c.args.bytes.now c.in_ok-mesh.mesh c.in_ok-mesh.ensures.mesh.of_document
 
 pub returns-in_err-written-clause-fault : goal.returns-in_err-written-clause-fault
 returns-in_err-written-clause-fault c =

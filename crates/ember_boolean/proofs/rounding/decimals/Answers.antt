@@ -1,11 +1,11 @@
-use Rattle.std.proofs.Common.{◌≡◌, List, subst}
+use Rattle.std.proofs.Common.{◌≡◌, ◌∙◌, List, subst}
 use Rattle.std.proofs.lemmas.Result.{IfOk-weaker, IfErr-weaker}
 use Rattle.ember_certificate.specs.declared.space_point.SpacePoint.{SpacePoint}
 use Rattle.ember_vertices.specs.declared.point.DecimalTriangle.{DecimalTriangle}
 use Rattle.ember_vertices.specs.Vertices.{IsMeshOf}
 use Rattle.ember_written.specs.Decimals.{IsDecimalFault}
-use Rattle.ember_written.specs.DecimalTriangles.{decimal_triangles}
-use Rattle.ember_boolean.specs.Outputs.{decimals_of}
+use Rattle.ember_written.specs.DecimalTriangles.{decimal_planes, decimal_triangles}
+use Rattle.ember_boolean.specs.Effects.{decimals_of, planes_of_decimals}
 use Rattle.ember_boolean.proofs.Outputs.{corners_are_there}
 use Rattle.ember_boolean.proofs.rounding.decimals.Goals as goal
 
@@ -24,3 +24,10 @@ pub returns-clause-fault : goal.returns-clause-fault
 returns-clause-fault c =
     let g = c.args.grid.now in
     IfErr-weaker c.decimal_mesh.result _ _ (λ cause h. subst (λ (cs : List SpacePoint). IsDecimalFault g.step g.offset cs cause) c.deref.ensures.value h) c.decimal_mesh.ensures.fault
+
+pub returns-clause-planes : goal.returns-clause-planes
+returns-clause-planes c =
+    let g = c.args.grid.now in
+    let p = c.written_places-places.ensures.value in
+    let same : decimal_planes c.written_places-places.result g.step g.offset c.deref.result.now c.deref-2.result.now ≡ planes_of_decimals c.args.digits g c.args.mesh.now = λ i. decimal_planes (p i) g.step g.offset (c.deref.ensures.value i) (c.deref-2.ensures.value i) in
+    IfOk-weaker c.decimal_mesh.result _ _ (λ written e. e ∙ same) c.decimal_mesh.ensures.planes

@@ -6,7 +6,7 @@ use Rattle.ember_solid_mesh.specs.Meshes.{IsSolidMesh}
 use Rattle.ember_solid_mesh.proofs.Passing.{passed_on}
 use Rattle.ember_boolean.specs.Faults.{IsBooleanFault, of_solid_fault, of_writing_fault}
 use Rattle.ember_boolean.proofs.Refusals.{placing_fault_is, solid_fault_is, writing_fault_is}
-use Rattle.ember_boolean.proofs.Outputs.{output_is}
+use Rattle.ember_boolean.proofs.Outputs.{output_is, planes_are_valid}
 use Rattle.ember_boolean.proofs.solid.solid_file.Goals as goal
 
 pub returns-in_err-placed-clause-fault : goal.returns-in_err-placed-clause-fault
@@ -28,6 +28,10 @@ written_of-requires-clause-step g c = c.in_ok-placed.ensures.placed.are_placed.o
 
 pub written_of-requires-clause-proper : goal.written_of-requires-clause-proper
 written_of-requires-clause-proper g c = c.in_ok-mesh.ensures.solid.mesh.of_document.cut.certified.proper
+
+pub written_of-requires-clause-valid : goal.written_of-requires-clause-valid
+written_of-requires-clause-valid g c =
+    let is = c.in_ok-mesh.ensures.solid.mesh in planes_are_valid is.bytes c.in_ok-mesh.field-0.mesh is.of_document
 
 pub returns-in_err-written-clause-fault : goal.returns-in_err-written-clause-fault
 returns-in_err-written-clause-fault g c =

@@ -3,7 +3,8 @@ use Rattle.ember_vertices.specs.declared.point.IndexedTriangle.{IndexedTriangle}
 use Rattle.ember_written.specs.Closed.{AreIndicesClosed}
 use Rattle.ember_written.specs.Shared.{IsSharedIndexCount}
 use Rattle.ember_boolean.specs.declared.wanted.MeshFormat.TheVariants.{Text}
-use Rattle.ember_boolean.specs.Outputs.{IsTextOver, decimals_of}
+use Rattle.ember_boolean.specs.Effects.{decimals_of}
+use Rattle.ember_boolean.specs.Outputs.{IsTextOver}
 use Rattle.ember_boolean.specs.WritingFaults.{IsWritingFault, of_place_fault}
 use Rattle.ember_solid_mesh.proofs.Passing.{passed_on}
 use Rattle.ember_boolean.proofs.WritingRefusals.{decimal_fault_is, shown_fault_is}
@@ -14,6 +15,11 @@ pub returns-in_err-written-clause-fault : goal.returns-in_err-written-clause-fau
 returns-in_err-written-clause-fault c =
     let cause = c.in_err-written.field-0.0 in
     passed_on (IsWritingFault (Text c.args.format c.args.digits) c.args.grid.now c.args.mesh) c.from_residual.result (of_place_fault cause) c.from_residual.ensures.1 (decimal_fault_is c.args.format c.args.digits c.args.grid.now c.args.mesh cause c.in_err-written.ensures.fault)
+
+pub returns-in_err-effect-clause-fault : goal.returns-in_err-effect-clause-fault
+returns-in_err-effect-clause-fault c =
+    let cause = c.in_err-effect.field-0.0 in
+    passed_on (IsWritingFault (Text c.args.format c.args.digits) c.args.grid.now c.args.mesh) c.from_residual-in_err-effect.result (of_place_fault cause) c.from_residual-in_err-effect.ensures.1 (decimal_fault_is c.args.format c.args.digits c.args.grid.now c.args.mesh cause c.in_err-effect.ensures.fault)
 
 pub returns-in_err-shown-clause-fault : goal.returns-in_err-shown-clause-fault
 returns-in_err-shown-clause-fault c =
@@ -34,9 +40,10 @@ returns-clause-text c =
     let of_points = c.triangles-indexed.ensures ts is in
     let fewer = fewer_decimals c.args.digits c.args.grid.now c.args.mesh in
     let indexed = shown_are_written ts c.triangles-indexed.result.now of_points in
-    let text = c.in_ok-bytes.field-0 in
+    let text = c.in_ok-text.text in
     record {
-      bytes = subst (λ (places : ℕ). IsTextOver c.args.format places ts text.bytes.items text.is_manifold) c.written_places-places.ensures.value (c.in_ok-bytes.ensures ts is);
+      bytes = subst (λ (places : ℕ). IsTextOver c.args.format places ts text.bytes.items text.triangles text.is_manifold) c.written_places-places.ensures.value (c.in_ok-text.ensures ts is);
+      effect = c.in_ok-effect.ensures.effect;
       faces = refl;
       planes = omega arith;
       triangles = omega arith;

@@ -1,0 +1,6 @@
+pub mod Buckets
+pub mod Leading
+pub mod Rows
+pub mod AreaSums
+pub mod FloatUnits
+pub mod Counted

@@ -1,0 +1,9 @@
+pub mod Areas
+pub mod Decimals
+pub mod Digits
+pub mod Facings
+pub mod Floats
+pub mod Parts
+pub mod Short
+pub mod Sizes
+pub mod Sums

@@ -1,0 +1,13 @@
+pub mod Above
+pub mod Places
+pub mod TicksFit
+pub mod Maxima
+pub mod TickCounts
+pub mod FloatBits
+pub mod FloatErrors
+pub mod FloatSums
+pub mod DecimalErrors
+pub mod Doubling
+pub mod NotBelow
+pub mod FloatTables
+pub mod RatioErrors
