@@ -10,3 +10,4 @@ pub mod Cancels
 pub mod PlaceSums
 pub mod FreePairs
 pub mod OnTheirLines
+pub mod JoinedParts

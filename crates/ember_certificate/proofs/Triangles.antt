@@ -7,7 +7,8 @@ use Rattle.ember_certificate.specs.declared.segment.Segment.{Segment}
 use Rattle.ember_certificate.specs.declared.triangle.Triangle.{Triangle}
 use Rattle.ember_certificate.specs.Certificate.{edges_in}
 
-edges_in-append : (ts us : List Triangle) → edges_in (ts ++ us) ≡ edges_in ts ++ edges_in us
+-- the edges of two lists of triangles
+pub edges_in-append : (ts us : List Triangle) → edges_in (ts ++ us) ≡ edges_in ts ++ edges_in us
 edges_in-append [] us = refl
 edges_in-append (t ∷ ts) us =
     ap (λ (ss : List Segment). t.first ∷ t.second ∷ t.third ∷ ss) (edges_in-append ts us)

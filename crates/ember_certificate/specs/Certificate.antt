@@ -46,8 +46,16 @@ abbrev pub edges_in : List Triangle → List Segment
 edges_in [] = []
 edges_in (t ∷ ts) = t.first ∷ t.second ∷ t.third ∷ edges_in ts
 
--- each triangle is proper, in each plane they have the chain of the faces, and together they are closed; their edges on
--- lines of the table lie there, and those on other lines cancel in pairs
+-- each triangle is proper, and in each plane they have the chain of the faces; their edges on lines of the table lie
+-- there, and those on other lines cancel in pairs
+pub record ArePartsCertified (ps : List Plane) (ls : List LineKey) (cs : List SpacePoint) (faces : List Segment)
+    (ts : List Triangle) : Type 0 where
+  pub proper : All (IsProper ps cs) ts
+  pub chains : HaveSameChains faces (edges_in ts)
+  pub on_lines : All (IsOnItsLine ls cs) (edges_in ts)
+  pub free_paired : AreFreePaired ls (edges_in ts)
+
+-- the same, and together they are closed
 pub record IsCertified (ps : List Plane) (ls : List LineKey) (cs : List SpacePoint) (faces : List Segment)
     (ts : List Triangle) : Type 0 where
   pub proper : All (IsProper ps cs) ts

@@ -2,7 +2,8 @@
 ghost use Rattle.std.specs.Prelude.{◌≡◌, ◌↔◌, [], ◌∷◌, ◌++◌, All, slice_get, IfOk, OnOk, IfSome, IsTrue};
 ghost use Rattle.ember_model.specs.Valid.{IsValidPlane};
 ghost use Rattle.ember_certificate.specs.Certificate.{leads_round, is_in_one_plane, is_round, FacesFrontOf};
-ghost use Rattle.ember_certificate.specs.Certificate.{IsProper, edges_in, IsCertified};
+ghost use Rattle.ember_certificate.specs.Certificate.{IsProper, edges_in, ArePartsCertified, IsCertified};
+ghost use Rattle.ember_certificate.specs.Closed.{AreSegmentsClosed};
 
 use crate::chains::same_chains;
 use crate::closed::are_closed;
@@ -119,13 +120,12 @@ fn edges_of(alloc: Global, triangles: &[Triangle]) -> Result<Vec<Segment>, OutOf
     Ok(edges)
 }
 
-/// Whether the triangles cut up the faces: each goes round three corners of its plane,
-/// counter-clockwise seen from the plane's front; in each plane the triangles have the chain of the
-/// faces over each point of each line; and each ordered pair of corners is as often an edge as its
-/// reverse. An edge on a line of the table lies on that line, and the edges on free lines, which
-/// aren't in the table, are paired in each plane. A triangle whose plane or corner isn't in its
-/// table is refused.
-pub fn is_certified(
+/// Whether the triangles cut up the faces, plane by plane: each goes round three corners of its
+/// plane, counter-clockwise seen from the plane's front, and in each plane the triangles have the
+/// chain of the faces over each point of each line. An edge on a line of the table lies on that
+/// line, and the edges on free lines, which aren't in the table, are paired in each plane. A
+/// triangle whose plane or corner isn't in its table is refused.
+pub fn are_parts_certified(
     alloc: Global,
     planes: &[Plane],
     lines: &[LineKey],
@@ -134,7 +134,7 @@ pub fn is_certified(
     triangles: &[Triangle],
 ) -> Result<bool, OutOfMemory>
     requires { All IsValidPlane planes.now }
-    ensures { IfOk result (λ certified. IsTrue certified ↔ IsCertified planes.now lines.now corners.now
+    ensures { IfOk result (λ certified. IsTrue certified ↔ ArePartsCertified planes.now lines.now corners.now
         faces.now triangles.now) }
 {
     if !are_proper(planes, corners, triangles) {
@@ -147,8 +147,33 @@ pub fn is_certified(
     if !same_chains(alloc, faces, &edges)? {
         return Ok(false);
     }
-    if !are_free_paired(alloc, lines, &edges)? {
+    are_free_paired(alloc, lines, &edges)
+}
+
+/// Whether the triangles are closed: each ordered pair of corners is as often an edge as its reverse.
+pub fn are_triangles_closed(alloc: Global, triangles: &[Triangle]) -> Result<bool, OutOfMemory>
+    ensures { IfOk result (λ closed. IsTrue closed ↔ AreSegmentsClosed (edges_in triangles.now)) }
+{
+    let edges = edges_of(alloc, triangles)?;
+    are_closed(alloc, &edges)
+}
+
+/// Whether the triangles cut up the faces plane by plane, as
+/// [`are_parts_certified`](crate::are_parts_certified) says, and are closed together.
+pub fn is_certified(
+    alloc: Global,
+    planes: &[Plane],
+    lines: &[LineKey],
+    corners: &[SpacePoint],
+    faces: &[Segment],
+    triangles: &[Triangle],
+) -> Result<bool, OutOfMemory>
+    requires { All IsValidPlane planes.now }
+    ensures { IfOk result (λ certified. IsTrue certified ↔ IsCertified planes.now lines.now corners.now
+        faces.now triangles.now) }
+{
+    if !are_parts_certified(alloc, planes, lines, corners, faces, triangles)? {
         return Ok(false);
     }
-    are_closed(alloc, &edges)
+    are_triangles_closed(alloc, triangles)
 }

@@ -16,7 +16,7 @@ mod space_point;
 mod triangle;
 mod unmatched;
 
-pub use certificate::is_certified;
+pub use certificate::{are_parts_certified, are_triangles_closed, is_certified};
 pub use chains::same_chains;
 pub use closed::are_closed;
 pub use facing::faces_front;
