@@ -4,12 +4,14 @@ ghost use Rattle.ember_snap.specs.Steps.{IsStep};
 ghost use Rattle.ember_boolean.specs.declared.document.DocumentFileFault.TheVariants.{OutOfMemory};
 ghost use Rattle.ember_boolean.specs.DocumentFiles.{IsDocumentFileFault, IsDocumentOutput, of_document_fault, of_unwritten_fault};
 ghost use Rattle.ember_boolean.specs.Outputs.{HasFewDigits};
+ghost use Rattle.ember_triangles.specs.PlaneQueries.{IsPlaneAnswer, IsPlaneQuery};
 
 use crate::wanted::MeshFormat;
 use crate::writing::{Written, written_of};
 use crate::writing_fault::WritingFault;
 use ember_grid::Grid;
 use ember_solid_mesh::{DocumentFault, document_mesh};
+use ember_triangles::{PlaneAnswer, PlaneQuery, TrianglesFault, answer_planes_alone};
 use std::alloc::Global;
 use thiserror::Error;
 
@@ -73,7 +75,14 @@ pub fn document_file(
     ensures output { IfOk result (IsDocumentOutput bytes.now grid format shows) }
     ensures fault { IfErr result (IsDocumentFileFault bytes.now grid format) }
 {
-    let mesh = document_mesh(alloc, bytes)?;
+    let mesh = document_mesh(
+        alloc,
+        bytes,
+        &|query: &PlaneQuery| -> Result<PlaneAnswer, TrianglesFault>
+            requires { IsPlaneQuery query.now }
+            ensures { IfOk result (IsPlaneAnswer query.entry.now) }
+        { answer_planes_alone(alloc, query) },
+    )?;
     let written = written_of(alloc, mesh, &grid, format, shows)?;
     Ok(written)
 }

@@ -7,6 +7,7 @@ ghost use Rattle.ember_query.specs.Queries.{IsExecutor};
 ghost use Rattle.ember_boolean.specs.Files.{IsSmall};
 ghost use Rattle.ember_boolean.specs.Outputs.{HasFewDigits, IsOutput};
 ghost use Rattle.ember_boolean.specs.Faults.{IsBooleanFault};
+ghost use Rattle.ember_triangles.specs.PlaneQueries.{IsPlaneExecutor};
 
 use crate::fault::BooleanFault;
 use crate::files::MeshFile;
@@ -18,6 +19,7 @@ use ember_expr::Expr;
 use ember_model::{OutOfMemory, Scene};
 use ember_query::{Answer, Query};
 use ember_solid_mesh::{MeshedSolid, solid_mesh};
+use ember_triangles::{PlaneAnswer, PlaneQuery, TrianglesFault};
 use std::alloc::Global;
 
 // The scene and the document of its solid, if that is there; otherwise the scene is dropped.
@@ -44,18 +46,24 @@ fn kept_with(scene: Scene, document: Option<Vec<u8>>) -> Option<Kept>
 /// 3. The solid has no mesh: see [`solid_mesh`](ember_solid_mesh::solid_mesh).
 /// 4. A corner of the mesh that is too far out for a float, or for a decimal.
 /// 5. After rounding, too many triangles: 2^32 or more for an STL, 2^32 bytes or more of a GLB.
-pub fn solid_file<'a, C: Fn(&Query) -> Result<Answer, OutOfMemory>>(
+pub fn solid_file<
+    'a,
+    C: Fn(&Query) -> Result<Answer, OutOfMemory>,
+    D: Fn(&PlaneQuery) -> Result<PlaneAnswer, TrianglesFault>,
+>(
     alloc: Global,
     files: &[MeshFile<'a>],
     expr: &Expr,
     wanted: WantedFile,
     executor: &C,
+    plane_executor: &D,
 ) -> Result<Output, BooleanFault<'a>>
     requires few { length files.now ≤ 64 }
     requires sizes { All IsSmall files.now }
     requires choice { IsChoice wanted.grid }
     requires digits { HasFewDigits wanted.format }
     requires executor { IsExecutor C.pre C.post executor.now }
+    requires plane_executor { IsPlaneExecutor D.pre D.post plane_executor.now }
     ensures output { IfOk result (IsOutput files.now (formula_of expr.now) wanted) }
     ensures fault { IfErr result (IsBooleanFault files.now (formula_of expr.now) wanted) }
 {
@@ -64,7 +72,14 @@ pub fn solid_file<'a, C: Fn(&Query) -> Result<Answer, OutOfMemory>>(
         mesh,
         report,
         document,
-    } = solid_mesh(alloc, &placed.scene, expr, wanted.keeps, executor)?;
+    } = solid_mesh(
+        alloc,
+        &placed.scene,
+        expr,
+        wanted.keeps,
+        executor,
+        plane_executor,
+    )?;
     let kept = kept_with(placed.scene, document);
     let written = written_of(alloc, mesh, &placed.grid, wanted.format, wanted.shows)?;
     Ok(Output {

@@ -21,6 +21,7 @@ pub use chains::same_chains;
 pub use closed::are_closed;
 pub use facing::faces_front;
 pub use free_pairs::are_free_paired;
+pub use keys::segment_key;
 pub use law::{
     closed_segments_cancel, one_boundary_has_one_chain, one_boundary_has_one_sum,
     one_chain_has_one_boundary,

@@ -6,6 +6,7 @@ ghost use Rattle.ember_expr.specs.Formula.{formula_of};
 ghost use Rattle.ember_grid.specs.Grids.{IsChoice};
 ghost use Rattle.ember_mesh_words.specs.Commands.{IsWithinLimits};
 ghost use Rattle.ember_query.specs.Queries.{IsExecutor};
+ghost use Rattle.ember_triangles.specs.PlaneQueries.{IsPlaneExecutor};
 ghost use Rattle.ember_mesh_run.specs.Calls.{KeepsContents, TakesUntilFault, shelf_call, sink_call, target_call};
 ghost use Rattle.ember_mesh_run.specs.Causes.{IsFilesCause, IsStop};
 ghost use Rattle.ember_mesh_run.specs.Files.{AreContents};
@@ -27,16 +28,21 @@ use ember_mesh_words::Request;
 use ember_model::OutOfMemory;
 use ember_query::{Answer, Query};
 use ember_target::Target;
+use ember_triangles::{PlaneAnswer, PlaneQuery, TrianglesFault};
 use ember_words::Text;
 use std::alloc::Global;
 
 // The output for files with these names and bytes.
-fn output_of_contents<C: Fn(&Query) -> Result<Answer, OutOfMemory>>(
+fn output_of_contents<
+    C: Fn(&Query) -> Result<Answer, OutOfMemory>,
+    D: Fn(&PlaneQuery) -> Result<PlaneAnswer, TrianglesFault>,
+>(
     alloc: Global,
     names: &[Text],
     contents: &[Vec<u8>],
     asked: &Asked,
     executor: &C,
+    plane_executor: &D,
 ) -> Result<Output, Status>
     requires few { length names.now ≤ 64 }
     requires one_each { length contents.now ≡ length names.now }
@@ -44,6 +50,7 @@ fn output_of_contents<C: Fn(&Query) -> Result<Answer, OutOfMemory>>(
     requires choice { IsChoice asked.now.wanted.grid }
     requires digits { HasFewDigits asked.now.wanted.format }
     requires executor { IsExecutor C.pre C.post executor.now }
+    requires plane_executor { IsPlaneExecutor D.pre D.post plane_executor.now }
     ensures output { IfOk result (λ output. (told : List ℕ → Option (List ℕ)) →
         AreContents told names.now contents.now →
         IsFilesOutput told names.now (formula_of asked.now.expr) asked.now.wanted output) }
@@ -52,7 +59,14 @@ fn output_of_contents<C: Fn(&Query) -> Result<Answer, OutOfMemory>>(
         IsFilesCause told names.now (formula_of asked.now.expr) asked.now.wanted status) }
 {
     let files = mesh_files(alloc, names, contents)?;
-    match solid_file(alloc, &files, &asked.expr, asked.wanted, executor) {
+    match solid_file(
+        alloc,
+        &files,
+        &asked.expr,
+        asked.wanted,
+        executor,
+        plane_executor,
+    ) {
         Ok(output) => Ok(output),
         Err(fault) => Err(status_of(alloc, &files, fault)),
     }
@@ -60,14 +74,20 @@ fn output_of_contents<C: Fn(&Query) -> Result<Answer, OutOfMemory>>(
 
 // The output that a request asks for. The error is the status with which the call ends instead. No
 // file is opened if the words or the expression are refused.
-fn solid_output<S: Shelf, C: Fn(&Query) -> Result<Answer, OutOfMemory>>(
+fn solid_output<
+    S: Shelf,
+    C: Fn(&Query) -> Result<Answer, OutOfMemory>,
+    D: Fn(&PlaneQuery) -> Result<PlaneAnswer, TrianglesFault>,
+>(
     alloc: Global,
     request: &Request,
     shelf: &mut S,
     executor: &C,
+    plane_executor: &D,
 ) -> Result<Output, Status>
     requires limits { IsWithinLimits request.now }
     requires executor { IsExecutor C.pre C.post executor.now }
+    requires plane_executor { IsPlaneExecutor D.pre D.post plane_executor.now }
     ensures same { S.contents shelf.new ≡ S.contents shelf.old }
     ensures later { S.faults shelf.old ≤ S.faults shelf.new }
     ensures output { IfOk result (IsOutputFor request.now (S.contents shelf.old)) }
@@ -80,23 +100,32 @@ fn solid_output<S: Shelf, C: Fn(&Query) -> Result<Answer, OutOfMemory>>(
     };
     let names = request.files.items();
     match read_contents(alloc, shelf, names) {
-        Ok(contents) => output_of_contents(alloc, names, &contents, &asked, executor),
+        Ok(contents) => {
+            output_of_contents(alloc, names, &contents, &asked, executor, plane_executor)
+        }
         Err(status) => Err(status),
     }
 }
 
 // Writes the files that a request asks for, and gives the report, or the status that says why they
 // aren't written.
-fn write_solid<S: Shelf, T: Target, C: Fn(&Query) -> Result<Answer, OutOfMemory>>(
+fn write_solid<
+    S: Shelf,
+    T: Target,
+    C: Fn(&Query) -> Result<Answer, OutOfMemory>,
+    D: Fn(&PlaneQuery) -> Result<PlaneAnswer, TrianglesFault>,
+>(
     alloc: Global,
     request: &Request,
     shelf: &mut S,
     target: &mut T,
     executor: &C,
+    plane_executor: &D,
 ) -> Result<Vec<u8>, Status>
     requires limits { IsWithinLimits request.now }
     requires begun { T.begun target.old ≡ None }
     requires executor { IsExecutor C.pre C.post executor.now }
+    requires plane_executor { IsPlaneExecutor D.pre D.post plane_executor.now }
     ensures contents { KeepsContents (shelf_call S.contents S.faults S.fault_at shelf.old shelf.new) }
     ensures none_begun { T.begun target.new ≡ None }
     ensures later { T.faults target.old ≤ T.faults target.new }
@@ -107,7 +136,7 @@ fn write_solid<S: Shelf, T: Target, C: Fn(&Query) -> Result<Answer, OutOfMemory>
         (shelf_call S.contents S.faults S.fault_at shelf.old shelf.new)
         (target_call T.held T.begun T.faults target.old target.new)) }
 {
-    let output = match solid_output(alloc, request, shelf, executor) {
+    let output = match solid_output(alloc, request, shelf, executor, plane_executor) {
         Ok(output) => output,
         Err(status) => return Err(status),
     };
@@ -120,17 +149,25 @@ fn write_solid<S: Shelf, T: Target, C: Fn(&Query) -> Result<Answer, OutOfMemory>
 }
 
 /// Writes the files that a request asks for, and the report or the line of the status to err.
-pub fn serve_solid<S: Shelf, T: Target, E: Sink, C: Fn(&Query) -> Result<Answer, OutOfMemory>>(
+pub fn serve_solid<
+    S: Shelf,
+    T: Target,
+    E: Sink,
+    C: Fn(&Query) -> Result<Answer, OutOfMemory>,
+    D: Fn(&PlaneQuery) -> Result<PlaneAnswer, TrianglesFault>,
+>(
     alloc: Global,
     request: &Request,
     shelf: &mut S,
     target: &mut T,
     err: &mut E,
     executor: &C,
+    plane_executor: &D,
 ) -> Status
     requires limits { IsWithinLimits request.now }
     requires begun { T.begun target.old ≡ None }
     requires executor { IsExecutor C.pre C.post executor.now }
+    requires plane_executor { IsPlaneExecutor D.pre D.post plane_executor.now }
     ensures contents { KeepsContents (shelf_call S.contents S.faults S.fault_at shelf.old shelf.new) }
     ensures none_begun { T.begun target.new ≡ None }
     ensures later { T.faults target.old ≤ T.faults target.new }
@@ -140,7 +177,7 @@ pub fn serve_solid<S: Shelf, T: Target, E: Sink, C: Fn(&Query) -> Result<Answer,
         TakesUntilFault (sink_call E.taken E.flushed E.faults err.old err.new) text }
     ensures memory { hides_memory result ≡ false }
 {
-    match write_solid(alloc, request, shelf, target, executor) {
+    match write_solid(alloc, request, shelf, target, executor, plane_executor) {
         Ok(report) => {
             say(err, &report);
             Status::Done

@@ -1,7 +1,9 @@
-// The top call. `run_mesh` and `run_mesh_one` make the *executor*: the closure that runs the boxes of a
-// query (query.rt of ember_query).
+// The top call. `run_mesh` and `run_mesh_one` make the *executors*: the closure that runs the boxes of
+// a query (query.rt of ember_query), and the one that answers for lines and planes (query.rt of
+// ember_triangles).
 ghost use Rattle.std.specs.Prelude.{◌≡◌, ◌≤◌, ℕ, List, false, None, IfOk, map, string_bytes};
 ghost use Rattle.ember_query.specs.Queries.{IsAnswer, IsExecutorOfAny, IsQuery};
+ghost use Rattle.ember_triangles.specs.PlaneQueries.{IsPlaneAnswer, IsPlaneExecutorOfAny, IsPlaneQuery};
 ghost use Rattle.ember_mesh_run.specs.Calls.{TakesUntilFault, shelf_call, sink_call, target_call};
 ghost use Rattle.ember_mesh_run.specs.Memory.{hides_memory};
 ghost use Rattle.ember_mesh_run.specs.Serves.{IsWordsOutcome, MeshServes};
@@ -20,6 +22,9 @@ use ember_mesh_words::{Command, Refusal, WordsFault, read_words};
 use ember_model::OutOfMemory;
 use ember_query::{Answer, Query, answer_alone, answer_by_workers};
 use ember_target::Target;
+use ember_triangles::{
+    PlaneAnswer, PlaneQuery, TrianglesFault, answer_planes_alone, answer_planes_by_workers,
+};
 use std::alloc::Global;
 use std::sync::Wait;
 use std::thread::Threads;
@@ -45,9 +50,16 @@ fn refuse_words<E: Sink>(alloc: Global, words: &[String], why: Refusal, err: &mu
 
 // Does what the words ask for, by an executor with the workers that they ask for.
 //
-// The closure here fixes the number of workers. In its clauses, `x.entry` is `x` as the closure was
+// The closures here fix the number of workers. In their clauses, `x.entry` is `x` as the closure was
 // given it, and `.now` is what a reference points to.
-fn run_by<S: Shelf, T: Target, O: Sink, E: Sink, C: Fn(u32, &Query) -> Result<Answer, OutOfMemory>>(
+fn run_by<
+    S: Shelf,
+    T: Target,
+    O: Sink,
+    E: Sink,
+    C: Fn(u32, &Query) -> Result<Answer, OutOfMemory>,
+    D: Fn(u32, &PlaneQuery) -> Result<PlaneAnswer, TrianglesFault>,
+>(
     alloc: Global,
     words: &[String],
     shelf: &mut S,
@@ -55,9 +67,11 @@ fn run_by<S: Shelf, T: Target, O: Sink, E: Sink, C: Fn(u32, &Query) -> Result<An
     out: &mut O,
     err: &mut E,
     executor: &C,
+    plane_executor: &D,
 ) -> Status
     requires begun { T.begun target.old ≡ None }
     requires executor { IsExecutorOfAny C.pre C.post executor.now }
+    requires plane_executor { IsPlaneExecutorOfAny D.pre D.post plane_executor.now }
     ensures { MeshServes (map string_bytes words.now)
         (shelf_call S.contents S.faults S.fault_at shelf.old shelf.new)
         (target_call T.held T.begun T.faults target.old target.new)
@@ -78,6 +92,10 @@ fn run_by<S: Shelf, T: Target, O: Sink, E: Sink, C: Fn(u32, &Query) -> Result<An
                     requires { C.pre executor.now workers query }
                     ensures { C.post executor.entry.now workers query.entry result }
                 { executor(workers, query) },
+                &|query: &PlaneQuery| -> Result<PlaneAnswer, TrianglesFault>
+                    requires { D.pre plane_executor.now workers query }
+                    ensures { D.post plane_executor.entry.now workers query.entry result }
+                { plane_executor(workers, query) },
             )
         }
         Ok(Command::Snap(request)) => serve_snap(alloc, &request, shelf, target, err),
@@ -124,6 +142,10 @@ pub fn run_mesh_one<S: Shelf, T: Target, O: Sink, E: Sink, G: Gate>(
             requires { IsQuery query.now }
             ensures { IfOk result (IsAnswer query.entry.now) }
         { answer_alone(alloc, gate, query) },
+        &|_workers: u32, query: &PlaneQuery| -> Result<PlaneAnswer, TrianglesFault>
+            requires { IsPlaneQuery query.now }
+            ensures { IfOk result (IsPlaneAnswer query.entry.now) }
+        { answer_planes_alone(alloc, query) },
     )
 }
 
@@ -161,5 +183,10 @@ pub fn run_mesh<R: Threads + Wait + Sync, S: Shelf, T: Target, O: Sink, E: Sink,
             requires query { IsQuery query.now }
             ensures { IfOk result (IsAnswer query.entry.now) }
         { answer_by_workers(rt, alloc, workers, gate, query) },
+        &|workers: u32, query: &PlaneQuery| -> Result<PlaneAnswer, TrianglesFault>
+            requires workers { (1 ≤ workers) × (workers ≤ 64) }
+            requires query { IsPlaneQuery query.now }
+            ensures { IfOk result (IsPlaneAnswer query.entry.now) }
+        { answer_planes_by_workers(rt, alloc, workers, query) },
     )
 }

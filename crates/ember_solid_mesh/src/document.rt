@@ -5,12 +5,14 @@ ghost use Rattle.ember_reread.specs.Cornered.{IsFileOf, face_of};
 ghost use Rattle.ember_reread.specs.Lines.{face_in};
 ghost use Rattle.ember_solid_mesh.specs.Faults.{IsDocumentFault, of_outline_fault};
 ghost use Rattle.ember_solid_mesh.specs.Meshes.{IsOutlinedMesh};
+ghost use Rattle.ember_triangles.specs.PlaneQueries.{IsPlaneExecutor};
 
 use crate::fault::DocumentFault;
 use crate::mesh::{SolidMesh, mesh_of_faces};
 use ember_model::Face;
 use ember_outline::{OutlineFault, check_outline};
 use ember_reread::{CorneredFace, read_cornered_faces};
+use ember_triangles::{PlaneAnswer, PlaneQuery, TrianglesFault};
 use std::alloc::Global;
 
 // The fault of the face with this number.
@@ -51,13 +53,20 @@ fn outlined_faces(alloc: Global, written: &[CorneredFace]) -> Result<Vec<Face>, 
 /// 3. The faces have no tables: an edge has no line or no corner within the limits.
 /// 4. No certified triangles are found: faces of one plane overlap, they aren't closed, or, which
 ///    isn't proved to be impossible, the triangles that are found don't cut up the faces.
-pub fn document_mesh(alloc: Global, bytes: &[u8]) -> Result<SolidMesh, DocumentFault>
+///
+/// The executor answers for lines and planes.
+pub fn document_mesh<D: Fn(&PlaneQuery) -> Result<PlaneAnswer, TrianglesFault>>(
+    alloc: Global,
+    bytes: &[u8],
+    plane_executor: &D,
+) -> Result<SolidMesh, DocumentFault>
+    requires { IsPlaneExecutor D.pre D.post plane_executor.now }
     ensures mesh { IfOk result (IsOutlinedMesh bytes.now) }
     ensures fault { IfErr result (IsDocumentFault bytes.now) }
 {
     let written = read_cornered_faces(alloc, bytes)?;
     let faces = outlined_faces(alloc, &written)?;
     drop(written);
-    let mesh = mesh_of_faces(alloc, faces)?;
+    let mesh = mesh_of_faces(alloc, faces, plane_executor)?;
     Ok(mesh)
 }

@@ -4,12 +4,13 @@ ghost use Rattle.ember_model.specs.FaceFiles.{IsFaceFile};
 ghost use Rattle.ember_model.specs.Valid.{IsValidFace, IsValidPlane};
 ghost use Rattle.ember_solid_mesh.specs.Faults.{IsCutFault, IsFileFault};
 ghost use Rattle.ember_solid_mesh.specs.Meshes.{IsDocumentMesh, IsMeshOf};
+ghost use Rattle.ember_triangles.specs.PlaneQueries.{IsPlaneExecutor};
 
 use crate::fault::SolidFault;
 use ember_certificate::{SpacePoint, Triangle};
 use ember_model::{Face, Plane};
 use ember_tables::{Tables, tables_of};
-use ember_triangles::certified_triangles;
+use ember_triangles::{PlaneAnswer, PlaneQuery, TrianglesFault, certified_triangles};
 use std::alloc::Global;
 
 /// Triangles of the faces of a document, with the planes and corners that their numbers stand for.
@@ -24,8 +25,14 @@ pub struct SolidMesh {
 }
 
 // The mesh with these tables, of so many faces. Lines and segments aren't kept.
-fn mesh_of(alloc: Global, tables: Tables, faces: u64) -> Result<SolidMesh, SolidFault>
-    requires { All IsValidPlane tables.planes.items }
+fn mesh_of<D: Fn(&PlaneQuery) -> Result<PlaneAnswer, TrianglesFault>>(
+    alloc: Global,
+    tables: Tables,
+    faces: u64,
+    plane_executor: &D,
+) -> Result<SolidMesh, SolidFault>
+    requires valid { All IsValidPlane tables.planes.items }
+    requires plane_executor { IsPlaneExecutor D.pre D.post plane_executor.now }
     ensures mesh { IfOk result (λ mesh. IsMeshOf tables mesh) }
     ensures faces { IfOk result (λ mesh. mesh.faces ≡ faces) }
     ensures fault { IfErr result (λ fault. IsCutFault fault) }
@@ -36,7 +43,14 @@ fn mesh_of(alloc: Global, tables: Tables, faces: u64) -> Result<SolidMesh, Solid
         corners,
         segments,
     } = tables;
-    let triangles = certified_triangles(alloc, &planes, &lines, &corners, &segments)?;
+    let triangles = certified_triangles(
+        alloc,
+        &planes,
+        &lines,
+        &corners,
+        &segments,
+        plane_executor,
+    )?;
     Ok(SolidMesh {
         planes,
         corners,
@@ -46,13 +60,18 @@ fn mesh_of(alloc: Global, tables: Tables, faces: u64) -> Result<SolidMesh, Solid
 }
 
 // The mesh of the faces of a document, which aren't kept while triangles are made.
-pub(crate) fn mesh_of_faces(alloc: Global, faces: Vec<Face>) -> Result<SolidMesh, SolidFault>
-    requires { All IsValidFace faces.items }
+pub(crate) fn mesh_of_faces<D: Fn(&PlaneQuery) -> Result<PlaneAnswer, TrianglesFault>>(
+    alloc: Global,
+    faces: Vec<Face>,
+    plane_executor: &D,
+) -> Result<SolidMesh, SolidFault>
+    requires valid { All IsValidFace faces.items }
+    requires plane_executor { IsPlaneExecutor D.pre D.post plane_executor.now }
     ensures mesh { (bytes : List ℕ) → IsFaceFile bytes faces.items → IfOk result (IsDocumentMesh bytes) }
     ensures fault { (bytes : List ℕ) → IsFaceFile bytes faces.items → IfErr result (IsFileFault bytes) }
 {
     let count = faces.len() as u64;
     let tables = tables_of(alloc, &faces)?;
     drop(faces);
-    mesh_of(alloc, tables, count)
+    mesh_of(alloc, tables, count, plane_executor)
 }

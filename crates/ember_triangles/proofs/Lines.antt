@@ -37,15 +37,20 @@ next_line all done more rest here behind e k h =
     passed a d r h b m e f g = omega (arith, linear, e, f, g)
 
 -- no line is left
-pub last_line : (all done rest sorted : List Segment) → length rest ≡ 0 → IsPermutation done sorted → AddsBoundary done rest all → HaveSameChains all sorted
-last_line all done rest sorted z p h =
-    chains_from_boundary all sorted (record { each = λ plane line corner. passed (boundary plane line corner all) (boundary plane line corner done) (boundary plane line corner rest) (h.each plane line corner) (ap (boundary plane line corner) (nil_from_length rest z)) ∙ sym (boundary-permutation plane line corner done sorted p) })
+pub last_line : (all done rest : List Segment) → length rest ≡ 0 → AddsBoundary done rest all → HaveSameChains all done
+last_line all done rest z h =
+    chains_from_boundary all done (record { each = λ plane line corner. passed (boundary plane line corner all) (boundary plane line corner done) (boundary plane line corner rest) (h.each plane line corner) (ap (boundary plane line corner) (nil_from_length rest z)) })
   where
     passed : (a d r : ℤ) → a ≡ d +ℤ r → r ≡ pos 0 → a ≡ d
     passed a d r e f = omega (arith, linear, e, f)
 
--- what has the chains of the segments in another order has their chains
-pub chains_of_all : (ss sorted bs ts : List Segment) → IsPermutation ss sorted → HaveSameChains sorted bs → HaveSameChains bs ts → HaveSameChains ss ts
-chains_of_all ss sorted bs ts p h k =
-    let order = chains_from_boundary ss sorted (record { each = λ plane line corner. sym (boundary-permutation plane line corner ss sorted p) }) in
-    record { each = λ plane line rank x. order.each plane line rank x ∙ h.each plane line rank x ∙ k.each plane line rank x }
+-- segments in another order have the same chains
+pub chains_in_order : (ss sorted : List Segment) → IsPermutation ss sorted → HaveSameChains ss sorted
+chains_in_order ss sorted p =
+    chains_from_boundary ss sorted (record { each = λ plane line corner. sym (boundary-permutation plane line corner ss sorted p) })
+
+-- the chains of segments whose order is changed twice, before and after their boundaries are found
+pub chains_of_all : (ss sorted found bs ts : List Segment) → IsPermutation ss sorted → HaveSameChains sorted found → HaveSameChains found bs → HaveSameChains bs ts → HaveSameChains ss ts
+chains_of_all ss sorted found bs ts p f h k =
+    let order = chains_in_order ss sorted p in
+    record { each = λ plane line rank x. order.each plane line rank x ∙ f.each plane line rank x ∙ h.each plane line rank x ∙ k.each plane line rank x }

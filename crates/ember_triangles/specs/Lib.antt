@@ -1,3 +1,4 @@
 pub mod Strands
 pub mod Marks
 pub mod Walks
+pub mod PlaneQueries

@@ -10,7 +10,7 @@ use crate::marks::{Mark, put_marks};
 use crate::split::{Split, splits_on};
 use crate::tables::Tables;
 use crate::walk::{Boundaries, Walk};
-use ember_certificate::Segment;
+use ember_certificate::{Segment, segment_key};
 use std::alloc::Global;
 
 // Whether each of the two runs back over the other.
@@ -120,9 +120,9 @@ fn count_on(segments: &[Segment], line: u32) -> usize
     segments.len()
 }
 
-/// The boundaries of the planes' parts, in order of planes, from the segments in order of lines: in
-/// each plane they have the chains of the segments. On a line there are only corners at which some
-/// plane's chain changes or the line is split.
+/// The boundaries of the planes' parts, from segments in order of lines: in each plane they have the
+/// chains of the segments. On a line there are only corners at which some plane's chain changes or
+/// the line is split.
 pub fn boundaries_of(
     alloc: Global,
     tables: &Tables,
@@ -154,8 +154,14 @@ pub fn boundaries_of(
         )?;
         rest = after;
     }
-    boundaries
-        .segments
-        .sort_unstable_by_key(|s| (s.plane, s.line, s.start, s.end));
     Ok(boundaries)
+}
+
+/// The segments in order of planes, and in each plane of lines.
+pub fn in_order_of_planes(segments: Vec<Segment>) -> Vec<Segment>
+    ensures { HaveSameChains segments.items result.items }
+{
+    let mut sorted = segments;
+    sorted.sort_unstable_by_key(|s| segment_key(s));
+    sorted
 }

@@ -2,28 +2,33 @@
 ghost use Rattle.std.specs.Prelude.{All, IfOk};
 ghost use Rattle.ember_model.specs.Valid.{IsValidPlane};
 ghost use Rattle.ember_certificate.specs.Certificate.{IsCertified};
+ghost use Rattle.ember_triangles.specs.PlaneQueries.{IsPlaneExecutor};
 
-use crate::boundaries::boundaries_of;
+use crate::boundaries::in_order_of_planes;
 use crate::fault::TrianglesFault;
+use crate::query::{PlaneAnswer, PlaneQuery, query_boundaries, query_certificate};
 use crate::rounds::{found_triangles, in_order_of_lines};
 use crate::tables::Tables;
 use crate::walk::Boundaries;
-use ember_certificate::{Segment, SpacePoint, Triangle, is_certified};
+use ember_certificate::{Segment, SpacePoint, Triangle, are_triangles_closed};
 use ember_key::LineKey;
 use ember_model::Plane;
 use std::alloc::Global;
 
 /// Triangles that cut up the faces whose edges are the segments. `planes`, `lines` and `corners`
-/// are what the segments' numbers denote. It is a fault if faces of one plane overlap, if the faces
-/// aren't closed along a line, or if no certified triangles are found.
-pub fn certified_triangles(
+/// are what the segments' numbers denote. The executor answers for lines and planes. It is a fault
+/// if faces of one plane overlap, if the faces aren't closed along a line, or if no certified
+/// triangles are found.
+pub fn certified_triangles<C: Fn(&PlaneQuery) -> Result<PlaneAnswer, TrianglesFault>>(
     alloc: Global,
     planes: &[Plane],
     lines: &[LineKey],
     corners: &[SpacePoint],
     segments: &[Segment],
+    executor: &C,
 ) -> Result<Vec<Triangle>, TrianglesFault>
-    requires { All IsValidPlane planes.now }
+    requires valid { All IsValidPlane planes.now }
+    requires executor { IsPlaneExecutor C.pre C.post executor.now }
     ensures { IfOk result (λ ts. IsCertified planes.now lines.now corners.now segments.now ts.items) }
 {
     let tables = Tables {
@@ -33,12 +38,16 @@ pub fn certified_triangles(
     };
     let by_line = in_order_of_lines(alloc, segments)?;
     let Boundaries {
-        segments: boundary,
+        segments: found,
         through,
-    } = boundaries_of(alloc, &tables, &by_line, &[])?;
-    let triangles = found_triangles(alloc, &tables, &by_line, &boundary, through)?;
+    } = query_boundaries(&tables, &by_line, executor)?;
+    let boundary = in_order_of_planes(found);
+    let triangles = found_triangles(alloc, &tables, &by_line, &boundary, through, executor)?;
     drop(by_line);
-    if !is_certified(alloc, planes, lines, corners, &boundary, &triangles)? {
+    if !query_certificate(&tables, &boundary, &triangles, executor)? {
+        return Err(TrianglesFault::NotCertified);
+    }
+    if !are_triangles_closed(alloc, &triangles)? {
         return Err(TrianglesFault::NotCertified);
     }
     Ok(triangles)

@@ -7,10 +7,14 @@
 mod boundaries;
 mod certified;
 mod corner_order;
+mod cutting;
+mod executor;
 mod fault;
 mod marks;
 mod parts;
+mod query;
 mod rounds;
+mod shares;
 mod split;
 mod strand;
 mod tables;
@@ -18,4 +22,6 @@ mod through;
 mod walk;
 
 pub use certified::certified_triangles;
+pub use executor::{answer_planes_alone, answer_planes_by_workers};
 pub use fault::TrianglesFault;
+pub use query::{PlaneAnswer, PlaneQuery};

@@ -1,11 +1,14 @@
 // The triangles of the planes' parts.
 ghost use Rattle.std.specs.Prelude.{◌≤◌, length};
+ghost use Rattle.ember_triangles.specs.PlaneQueries.{IsPlaneExecutor};
 
+use crate::cutting::{CutParts, Part};
 use crate::fault::TrianglesFault;
+use crate::query::{PlaneAnswer, PlaneQuery, query_cuts};
 use crate::split::Split;
 use crate::tables::Tables;
-use ember_certificate::{Segment, Triangle};
-use ember_triangulate::{Cut, Touch, triangles_of, with_lines};
+use ember_certificate::{Segment, Triangle, segment_key};
+use ember_model::OutOfMemory;
 use std::alloc::Global;
 
 // Where the triangles of a plane's part are among those of all parts. They are due until the part is
@@ -18,17 +21,17 @@ struct PlaneCut {
     behind: usize,
 }
 
-/// The parts of all planes, in order of planes: their boundaries, and the corners of the triangles
-/// of those parts that are cut.
+/// The parts of all planes, in order of planes: their boundaries, and the triangles of those parts
+/// that are cut.
 #[derive(Drop)]
 pub struct Parts {
     boundary: Vec<Segment>,
     cuts: Vec<PlaneCut>,
-    triangles: Vec<[u32; 3]>,
+    triangles: Vec<Triangle>,
 }
 
 // The triangles of the planes of a boundary, all of them due.
-fn due_cuts(alloc: Global, boundary: &[Segment]) -> Result<Vec<PlaneCut>, TrianglesFault> {
+fn due_cuts(alloc: Global, boundary: &[Segment]) -> Result<Vec<PlaneCut>, OutOfMemory> {
     let mut cuts = Vec::new(alloc);
     let mut last = None;
     for s in boundary {
@@ -58,60 +61,16 @@ fn count_in(segments: &[Segment], plane: u32) -> usize
     segments.len()
 }
 
-// Adds the splits at touches.
-fn push_splits(needed: &mut Vec<Split>, touches: &[Touch]) -> Result<(), TrianglesFault> {
-    for touch in touches {
-        needed.push(Split {
-            line: touch.line,
-            corner: touch.corner,
-        })?;
-    }
-    Ok(())
-}
-
-impl PlaneCut {
-    // Cuts the part inside the boundary. If corners lie inside segments, adds the splits that are
-    // needed first.
-    fn renew(
-        &mut self,
-        alloc: Global,
-        tables: &Tables,
-        boundary: &[Segment],
-        triangles: &mut Vec<[u32; 3]>,
-        needed: &mut Vec<Split>,
-    ) -> Result<(), TrianglesFault> {
-        let Some(plane) = tables.planes.get(self.plane as usize) else {
-            return Err(TrianglesFault::UnknownPlane(self.plane));
-        };
-        match triangles_of(alloc, plane, tables.corners, boundary)? {
-            Cut::Triangles(found) => {
-                self.first = triangles.len();
-                triangles.extend_from_slice(&found)?;
-                self.behind = triangles.len();
-                self.is_due = false;
-                Ok(())
-            }
-            Cut::Touches(touches) => push_splits(needed, &touches),
-            Cut::NotFound => Err(TrianglesFault::NoTriangles(self.plane)),
-        }
-    }
-}
-
-// The place of a segment in the order of planes.
-fn plane_place(s: &Segment) -> (u32, u32, u32, u32) {
-    (s.plane, s.line, s.start, s.end)
-}
-
 // Appends those of the segments in order of planes that come before another one, and returns the
 // rest of them.
 fn push_before<'a>(
     boundary: &mut Vec<Segment>,
     segments: &'a [Segment],
     other: &Segment,
-) -> Result<&'a [Segment], TrianglesFault> {
+) -> Result<&'a [Segment], OutOfMemory> {
     let mut rest = segments;
     while let Some((first, behind)) = rest.split_first() {
-        if plane_place(first) >= plane_place(other) {
+        if segment_key(first) >= segment_key(other) {
             break;
         }
         boundary.push(*first)?;
@@ -120,9 +79,14 @@ fn push_before<'a>(
     Ok(rest)
 }
 
+// The triangles of a part that is cut.
+fn triangles_in<'a>(all: &'a [Triangle], cut: &PlaneCut) -> &'a [Triangle] {
+    all.get(cut.first..cut.behind).unwrap_or(&[])
+}
+
 impl Parts {
     /// The parts inside a boundary in order of planes. None is cut yet.
-    pub fn inside(alloc: Global, boundary: &[Segment]) -> Result<Parts, TrianglesFault> {
+    pub fn inside(alloc: Global, boundary: &[Segment]) -> Result<Parts, OutOfMemory> {
         Ok(Parts {
             boundary: Vec::from_slice(alloc, boundary)?,
             cuts: due_cuts(alloc, boundary)?,
@@ -137,7 +101,7 @@ impl Parts {
         alloc: Global,
         lines: &[u32],
         segments: &[Segment],
-    ) -> Result<(), TrianglesFault> {
+    ) -> Result<(), OutOfMemory> {
         for s in segments {
             self.make_due(s.plane);
         }
@@ -163,39 +127,75 @@ impl Parts {
         }
     }
 
-    /// Cuts all parts that are due, and returns the splits that are needed before the rest of them
-    /// can be cut.
-    pub fn cut(&mut self, alloc: Global, tables: &Tables) -> Result<Vec<Split>, TrianglesFault> {
-        let mut needed = Vec::new(alloc);
+    // The parts that are to be cut.
+    fn due_parts(&self, alloc: Global) -> Result<Vec<Part>, OutOfMemory> {
+        let mut due = Vec::new(alloc);
         let mut rest = self.boundary.as_slice();
-        for cut in self.cuts.iter_mut() {
-            let (own, behind) = rest.split_at(count_in(rest, cut.plane));
+        for cut in &self.cuts {
+            let (boundary, behind) = rest.split_at(count_in(rest, cut.plane));
             rest = behind;
             if cut.is_due {
-                cut.renew(alloc, tables, own, &mut self.triangles, &mut needed)?;
+                due.push(Part {
+                    plane: cut.plane,
+                    boundary,
+                })?;
             }
         }
+        Ok(due)
+    }
+
+    // Keeps the triangles of the parts that were due and are cut now.
+    fn keep(
+        &mut self,
+        triangles: &mut Vec<Triangle>,
+        counts: &[Option<usize>],
+    ) -> Result<(), OutOfMemory> {
+        let mut first = self.triangles.len();
+        self.triangles.append(triangles)?;
+        let mut rest = counts;
+        for cut in self.cuts.iter_mut() {
+            if cut.is_due
+                && let Some((count, behind)) = rest.split_first()
+            {
+                rest = behind;
+                if let Some(count) = count {
+                    cut.first = first;
+                    first = first.saturating_add(*count);
+                    cut.behind = first;
+                    cut.is_due = false;
+                }
+            }
+        }
+        Ok(())
+    }
+
+    /// Cuts all parts that are due, and returns the splits that are needed before the rest of them
+    /// can be cut. The lines of diagonals begin with the first free one, in each plane anew.
+    pub fn cut<C: Fn(&PlaneQuery) -> Result<PlaneAnswer, TrianglesFault>>(
+        &mut self,
+        alloc: Global,
+        tables: &Tables,
+        first_free_line: u32,
+        executor: &C,
+    ) -> Result<Vec<Split>, TrianglesFault>
+        requires { IsPlaneExecutor C.pre C.post executor.now }
+    {
+        let due = self.due_parts(alloc)?;
+        let CutParts {
+            mut triangles,
+            counts,
+            needed,
+        } = query_cuts(tables, &due, first_free_line, executor)?;
+        drop(due);
+        self.keep(&mut triangles, &counts)?;
         Ok(needed)
     }
 
-    /// The triangles of all parts, plane by plane. The lines of diagonals begin with the first free
-    /// one, in each plane anew.
-    pub fn triangles(
-        &self,
-        alloc: Global,
-        first_free_line: u32,
-    ) -> Result<Vec<Triangle>, TrianglesFault> {
+    /// The triangles of all parts, plane by plane.
+    pub fn triangles(&self, alloc: Global) -> Result<Vec<Triangle>, OutOfMemory> {
         let mut triangles = Vec::with_capacity(alloc, self.triangles.len())?;
-        let mut rest = self.boundary.as_slice();
         for cut in &self.cuts {
-            let (own, behind) = rest.split_at(count_in(rest, cut.plane));
-            rest = behind;
-            let corners = self.triangles.get(cut.first..cut.behind).unwrap_or(&[]);
-            let named = with_lines(alloc, cut.plane, own, corners, first_free_line)?;
-            let Some(named) = named else {
-                return Err(TrianglesFault::NoLineLeft);
-            };
-            triangles.extend_from_slice(&named)?;
+            triangles.extend_from_slice(triangles_in(&self.triangles, cut))?;
         }
         Ok(triangles)
     }

@@ -1,10 +1,12 @@
 // Rounds of cutting, until no corner lies inside a segment.
 ghost use Rattle.std.specs.Prelude.{IfOk};
 ghost use Rattle.std.specs.List.Sorted.{IsPermutation};
+ghost use Rattle.ember_triangles.specs.PlaneQueries.{IsPlaneExecutor};
 
-use crate::boundaries::boundaries_of;
+use crate::boundaries::{boundaries_of, in_order_of_planes};
 use crate::fault::TrianglesFault;
 use crate::parts::Parts;
+use crate::query::{PlaneAnswer, PlaneQuery};
 use crate::split::{Split, add_splits, lines_of};
 use crate::tables::Tables;
 use crate::through::{Through, crossings};
@@ -72,19 +74,23 @@ fn split_lines(
     let lines = lines_of(alloc, new)?;
     let changed = segments_on(alloc, by_line, &lines)?;
     let Boundaries { segments, .. } = boundaries_of(alloc, tables, &changed, splits)?;
-    parts.replace(alloc, &lines, &segments)
+    parts.replace(alloc, &lines, &in_order_of_planes(segments))?;
+    Ok(())
 }
 
 /// Triangles of the planes' parts, plane by plane. Nobody has checked them yet. A split takes
 /// corners away from those that boundaries run through, and adds none: so it is enough to look for
 /// crossings once.
-pub fn found_triangles(
+pub fn found_triangles<C: Fn(&PlaneQuery) -> Result<PlaneAnswer, TrianglesFault>>(
     alloc: Global,
     tables: &Tables,
     by_line: &[Segment],
     boundary: &[Segment],
     through: Vec<Through>,
-) -> Result<Vec<Triangle>, TrianglesFault> {
+    executor: &C,
+) -> Result<Vec<Triangle>, TrianglesFault>
+    requires { IsPlaneExecutor C.pre C.post executor.now }
+{
     let free = first_free_line(tables.lines, by_line)?;
     let mut needed = crossings(alloc, through)?;
     let mut splits = Vec::new(alloc);
@@ -96,9 +102,9 @@ pub fn found_triangles(
             }
             split_lines(alloc, tables, by_line, &splits, &needed, &mut parts)?;
         }
-        needed = parts.cut(alloc, tables)?;
+        needed = parts.cut(alloc, tables, free, executor)?;
         if needed.is_empty() {
-            return parts.triangles(alloc, free);
+            return Ok(parts.triangles(alloc)?);
         }
     }
     Err(TrianglesFault::NoEnd)

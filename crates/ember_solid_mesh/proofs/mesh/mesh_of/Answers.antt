@@ -3,7 +3,7 @@ use Rattle.ember_solid_mesh.proofs.SolidSteps.{certified_of}
 use Rattle.ember_solid_mesh.proofs.mesh.mesh_of.Goals as goal
 
 pub returns-clause-mesh : goal.returns-clause-mesh
-returns-clause-mesh c =
+returns-clause-mesh g c =
     record {
       planes = refl;
       corners = refl;
@@ -11,4 +11,4 @@ returns-clause-mesh c =
     }
 
 pub returns-clause-faces : goal.returns-clause-faces
-returns-clause-faces c = refl
+returns-clause-faces g c = refl

@@ -8,4 +8,4 @@ loop-first-preserved c =
 
 pub returns : goal.returns
 returns c =
-    last_line c.args.by_line.now c.loop-first.boundaries.segments.items c.loop-first.rest.now c.sort_unstable_by_key.new.self.items c.in_default.ensures.cases c.sort_unstable_by_key.ensures.permutation c.loop-first.invariant
+    last_line c.args.by_line.now c.loop-first.boundaries.segments.items c.loop-first.rest.now c.in_default.ensures.cases c.loop-first.invariant
