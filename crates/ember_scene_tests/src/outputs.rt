@@ -5,6 +5,7 @@ ghost use Rattle.ember_boolean.specs.Files.{IsSmall};
 ghost use Rattle.ember_boolean.specs.Outputs.{HasFewDigits};
 ghost use Rattle.ember_grid.specs.Grids.{IsChoice};
 ghost use Rattle.ember_query.specs.Queries.{IsAnswer, IsExecutor, IsQuery};
+ghost use Rattle.ember_triangles.specs.PlaneQueries.{IsPlaneAnswer, IsPlaneExecutor, IsPlaneQuery};
 
 use crate::grids::grid_with;
 use crate::scenes::expression;
@@ -21,6 +22,9 @@ use ember_query::{Answer, Query, answer_alone, answer_by_workers};
 use ember_scene::Counts;
 use ember_stl_bytes::{FloatPoint, WrittenTriangle, stl_bytes};
 use ember_surface::{Facet, Surface, Vertex};
+use ember_triangles::{
+    PlaneAnswer, PlaneQuery, TrianglesFault, answer_planes_alone, answer_planes_by_workers,
+};
 use ember_wavefront::WavefrontFault;
 use std::alloc::{AllocError, Global};
 use std::process::Abort;
@@ -188,16 +192,22 @@ fn no_surfaces_are_given_with_a_fault(rt: HostRuntime) -> Result<(), Fail> {
 }
 
 // The output for files, or why there is none.
-fn outcome_by<'a, C: Fn(&Query) -> Result<Answer, OutOfMemory>>(
+fn outcome_by<
+    'a,
+    C: Fn(&Query) -> Result<Answer, OutOfMemory>,
+    D: Fn(&PlaneQuery) -> Result<PlaneAnswer, TrianglesFault>,
+>(
     alloc: Global,
     files: &[MeshFile<'a>],
     text: &[u8],
     wanted: WantedFile,
     executor: &C,
+    plane_executor: &D,
 ) -> Result<Result<Output, BooleanFault<'a>>, Fail>
     requires choice { IsChoice wanted.grid }
     requires digits { HasFewDigits wanted.format }
     requires executor { IsExecutor C.pre C.post executor.now }
+    requires plane_executor { IsPlaneExecutor D.pre D.post plane_executor.now }
 {
     if files.len() > 64 {
         return Err(Fail::from("many files"));
@@ -206,7 +216,7 @@ fn outcome_by<'a, C: Fn(&Query) -> Result<Answer, OutOfMemory>>(
         return Err(Fail::from("long file"));
     }
     let expr = expression(alloc, text)?;
-    Ok(solid_file(alloc, files, &expr, wanted, executor))
+    Ok(solid_file(alloc, files, &expr, wanted, executor, plane_executor))
 }
 
 /// What the calling thread alone makes.
@@ -228,6 +238,10 @@ pub fn outcome_wanted<'a>(
             requires { IsQuery query.now }
             ensures { IfOk result (IsAnswer query.entry.now) }
         { answer_alone(alloc, &OpenGate, query) },
+        &|query: &PlaneQuery| -> Result<PlaneAnswer, TrianglesFault>
+            requires { IsPlaneQuery query.now }
+            ensures { IfOk result (IsPlaneAnswer query.entry.now) }
+        { answer_planes_alone(alloc, query) },
     )
 }
 
@@ -277,6 +291,10 @@ fn outcome_of_two<'a, R: Threads + Wait + Sync>(
             requires { IsQuery query.now }
             ensures { IfOk result (IsAnswer query.entry.now) }
         { answer_by_workers(rt, alloc, 2, &OpenGate, query) },
+        &|query: &PlaneQuery| -> Result<PlaneAnswer, TrianglesFault>
+            requires { IsPlaneQuery query.now }
+            ensures { IfOk result (IsPlaneAnswer query.entry.now) }
+        { answer_planes_by_workers(rt, alloc, 2, query) },
     )
 }
 

@@ -1,7 +1,10 @@
 // Documents from anywhere become certified triangles, or are refused.
+ghost use Rattle.std.specs.Prelude.{IfOk};
+ghost use Rattle.ember_triangles.specs.PlaneQueries.{IsPlaneAnswer, IsPlaneQuery};
+
 use crate::tables::TETRA;
-use ember_solid_mesh::{DocumentFault, document_mesh};
-use ember_triangles::TrianglesFault;
+use ember_solid_mesh::{DocumentFault, SolidMesh, document_mesh};
+use ember_triangles::{PlaneAnswer, PlaneQuery, TrianglesFault, answer_planes_alone};
 use std::alloc::{AllocError, Global};
 use std::test::Fail;
 
@@ -16,12 +19,24 @@ fn with_bottom(alloc: Global, lines: &[u8]) -> Result<Vec<u8>, AllocError> {
     Ok(document)
 }
 
+/// The mesh of a document, by the calling thread alone.
+pub fn mesh_of(alloc: Global, bytes: &[u8]) -> Result<SolidMesh, DocumentFault> {
+    document_mesh(
+        alloc,
+        bytes,
+        &|query: &PlaneQuery| -> Result<PlaneAnswer, TrianglesFault>
+            requires { IsPlaneQuery query.now }
+            ensures { IfOk result (IsPlaneAnswer query.entry.now) }
+        { answer_planes_alone(alloc, query) },
+    )
+}
+
 #[test]
 fn a_tetrahedron_has_four_triangles(rt: HostRuntime) -> Result<(), Fail> {
-    let mesh = document_mesh(rt.alloc(), TETRA)?;
+    let mesh = mesh_of(rt.alloc(), TETRA)?;
     assert_eq!(rt; (mesh.faces, mesh.triangles.len()), (4, 4));
     assert_eq!(rt; (mesh.planes.len(), mesh.corners.len()), (4, 4));
-    let empty = document_mesh(rt.alloc(), b"ember 1\nend 0\n")?;
+    let empty = mesh_of(rt.alloc(), b"ember 1\nend 0\n")?;
     assert_eq!(rt; (empty.faces, empty.triangles.len()), (0, 0));
     Ok(())
 }
@@ -30,7 +45,7 @@ fn a_tetrahedron_has_four_triangles(rt: HostRuntime) -> Result<(), Fail> {
 fn what_is_no_document_is_refused(rt: HostRuntime) {
     for bytes in [b"".as_slice(), b"ember 1\n", b"ember 1\nend 1\n"] {
         assert_eq!(rt;
-            document_mesh(rt.alloc(), bytes).err(),
+            mesh_of(rt.alloc(), bytes).err(),
             Some(DocumentFault::NotADocument)
         );
     }
@@ -41,7 +56,7 @@ fn one_face_is_not_closed(rt: HostRuntime) -> Result<(), Fail> {
     let document = with_bottom(rt.alloc(), b"end 1\n")?;
     assert!(rt;
         matches!(
-            document_mesh(rt.alloc(), &document).err(),
+            mesh_of(rt.alloc(), &document).err(),
             Some(DocumentFault::NotCut(TrianglesFault::NotClosed(_)))
         )
     );
@@ -72,7 +87,7 @@ fn edges_that_are_no_outline_are_refused(rt: HostRuntime) -> Result<(), Fail> {
     ];
     for (lines, fault) in rows {
         let document = with_bottom(rt.alloc(), lines)?;
-        assert_eq!(rt; document_mesh(rt.alloc(), &document).err(), Some(fault));
+        assert_eq!(rt; mesh_of(rt.alloc(), &document).err(), Some(fault));
     }
     Ok(())
 }

@@ -1,12 +1,15 @@
 // Faces become certified triangles.
-ghost use Rattle.std.specs.Prelude.{All};
+ghost use Rattle.std.specs.Prelude.{All, IfOk};
 ghost use Rattle.ember_model.specs.Valid.{IsValidPlane};
+ghost use Rattle.ember_triangles.specs.PlaneQueries.{IsPlaneAnswer, IsPlaneQuery};
 
 use crate::cuts::{plane, thirds};
 use ember_certificate::{Segment, SpacePoint};
 use ember_key::{LineKey, line_key};
 use ember_model::Plane;
-use ember_triangles::{TrianglesFault, certified_triangles};
+use ember_triangles::{
+    PlaneAnswer, PlaneQuery, TrianglesFault, answer_planes_alone, certified_triangles,
+};
 use std::alloc::Global;
 use std::test::Fail;
 
@@ -33,7 +36,17 @@ fn count_of(
 ) -> Result<usize, TrianglesFault>
     requires { All IsValidPlane planes.now }
 {
-    let triangles = certified_triangles(alloc, planes, lines, corners, segments)?;
+    let triangles = certified_triangles(
+        alloc,
+        planes,
+        lines,
+        corners,
+        segments,
+        &|query: &PlaneQuery| -> Result<PlaneAnswer, TrianglesFault>
+            requires { IsPlaneQuery query.now }
+            ensures { IfOk result (IsPlaneAnswer query.entry.now) }
+        { answer_planes_alone(alloc, query) },
+    )?;
     Ok(triangles.len())
 }
 

@@ -1,13 +1,16 @@
 // Solids become certified triangles.
 ghost use Rattle.std.specs.Prelude.{◌≡◌, ◌≤◌, length, All, IfOk};
 ghost use Rattle.ember_query.specs.Queries.{IsAnswer, IsQuery};
+ghost use Rattle.ember_triangles.specs.PlaneQueries.{IsPlaneAnswer, IsPlaneQuery};
 
+use crate::documents::mesh_of;
 use ember_expr::parse;
 use ember_mesh::{Closed, Parts, balanced, check, join};
 use ember_model::{OutOfMemory, Scene, Soup};
 use ember_obj::read_obj;
 use ember_query::{Answer, Query, answer_alone};
-use ember_solid_mesh::{MeshedSolid, document_mesh, solid_mesh};
+use ember_solid_mesh::{MeshedSolid, solid_mesh};
+use ember_triangles::{PlaneAnswer, PlaneQuery, TrianglesFault, answer_planes_alone};
 use std::alloc::Global;
 use std::test::Fail;
 use steal_pool::OpenGate;
@@ -76,6 +79,10 @@ fn solid_of(alloc: Global, scene: &Scene, text: &[u8], keeps: bool) -> Result<Me
             requires { IsQuery query.now }
             ensures { IfOk result (IsAnswer query.entry.now) }
         { answer_alone(alloc, &OpenGate, query) },
+        &|query: &PlaneQuery| -> Result<PlaneAnswer, TrianglesFault>
+            requires { IsPlaneQuery query.now }
+            ensures { IfOk result (IsPlaneAnswer query.entry.now) }
+        { answer_planes_alone(alloc, query) },
     )?;
     Ok(solid)
 }
@@ -109,7 +116,7 @@ fn documents_of_solids_have_their_mesh(rt: HostRuntime) -> Result<(), Fail> {
     let Some(document) = document else {
         return Err(Fail::from("no document"));
     };
-    let again = document_mesh(rt.alloc(), &document)?;
+    let again = mesh_of(rt.alloc(), &document)?;
     assert_eq!(rt; again.planes, mesh.planes);
     assert_eq!(rt; again.corners, mesh.corners);
     assert_eq!(rt; again.triangles, mesh.triangles);
