@@ -10,10 +10,10 @@ use Rattle.ember_snap.proofs.Floors.{floor_chain}
 use Rattle.ember_snap.proofs.Nearest.{cell_nearest}
 use Rattle.ember_snap.proofs.cells.cell.Goals as goal
 
-stored : (c : goal.After-div_euclid) → to_z w128 (of_z w128 c.div_euclid.result) ≡ c.div_euclid.result
-stored c = to_z-of_z w128 c.div_euclid.result (record { sfits = c.div_euclid.type_inv })
+stored : (c : goal.After-quotient) → to_z w128 (of_z w128 c.quotient.result) ≡ c.quotient.result
+stored c = to_z-of_z w128 c.quotient.result (record { sfits = c.quotient.type_inv })
 
-plain : (c : goal.After-div_euclid) → c.div_euclid.result ≡ cell_of c.args.step.now (value_of c.args.number.now)
+plain : (c : goal.After-quotient) → c.quotient.result ≡ cell_of c.args.step.now (value_of c.args.number.now)
 plain c =
     let s = c.args.step.now in
     let v = value_of c.args.number.now in
@@ -23,7 +23,7 @@ plain c =
     omega (arith, ints, c.twice_floor-twice.ensures.small, c.from-numerator.ensures, c.requires.step.numerator_small) in
     let product : to_z w128 (of_z w128 (pos 2 *ℤ to_z w128 (of_z w128 numerator))) ≡ pos 2 *ℤ numerator =
     omega (arith, ints, c.from-numerator.ensures, c.requires.step.numerator_small) in
-    c.div_euclid.ensures ∙ rw (sum, product, c.twice_floor-twice.ensures.value, c.from-numerator.ensures)
+    c.quotient.ensures ∙ rw (sum, product, c.twice_floor-twice.ensures.value, c.from-numerator.ensures)
     (floor_chain (pos (2 * s.denominator) *ℤ v.numerator) v.denominator s.numerator (2 * s.numerator) (denominator_pos c.args.number.now) (omega (arith, c.requires.step.numerator_positive)))
 
 pub returns-clause-value : goal.returns-clause-value
