@@ -12,7 +12,7 @@ ghost use Rattle.ember_rounding.specs.Maximum.{greatest_of};
 ghost use Rattle.ember_rounding.specs.Squares.{float_square, float_squares};
 
 use crate::squares::sum_of_squares;
-use crate::ticks::ticks;
+use crate::ticks::moved_ticks;
 use ember_certificate::SpacePoint;
 use ember_model::Axis;
 use ember_snap::{Offset, Step};
@@ -154,7 +154,7 @@ fn float_ticks(
     }
     let error = error_of(&place, bits);
     let unit = last_place(bits).min(UNIT);
-    Some(ticks(&error, place.denominator, top - unit))
+    Some(moved_ticks(&error, place.denominator, top - unit))
 }
 
 // The square of the corner's move to the point, in ticks, where each axis is rounded up.

@@ -24,3 +24,19 @@ pub(crate) fn ticks(error: &Magnitude, d: u128, shift: u32) -> u128
         shifted_above(quotient_above(error, d), shift - BITS)
     }
 }
+
+/// The same; most corners don't move, and then no number is multiplied or divided.
+pub(crate) fn moved_ticks(error: &Magnitude, d: u128, shift: u32) -> u128
+    requires positive { 0 < d }
+    requires small { d < 2 ^ 115 }
+    requires short { size_of error.now ≤ d * 2 ^ 104 }
+    requires within { size_of error.now ≤ d * 2 ^ shift }
+    ensures value { result ≡ quotient true (size_of error.now * 2 ^ 62) (d * 2 ^ shift) }
+    ensures few { result ≤ 2 ^ 62 }
+{
+    if error.high == 0 && error.low == 0 {
+        0
+    } else {
+        ticks(error, d, shift)
+    }
+}

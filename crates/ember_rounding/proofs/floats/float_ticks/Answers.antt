@@ -17,16 +17,16 @@ error_of-error-requires-clause-below c =
 pub error_of-error-requires-clause-float : goal.error_of-error-requires-clause-float
 error_of-error-requires-clause-float c = subst (λ (v : Fraction). IsFloatOf v c.args.bits) (sym c.exact_place-place.ensures) c.requires.float
 
-pub ticks-requires-clause-short : goal.ticks-requires-clause-short
-ticks-requires-clause-short c =
+pub moved_ticks-requires-clause-short : goal.moved_ticks-requires-clause-short
+moved_ticks-requires-clause-short c =
     let r = c.exact_place-place.result in
     let less : size_of r.numerator.size < size_of c.product-limit.result = search rules in
     let below : size_of r.numerator.size < (2 ^ 128 - 2 ^ 103) * r.denominator = omega (arith, less, c.product-limit.ensures) in
     let near = subst (λ (v : Fraction). IsFloatOf v c.args.bits) (sym c.exact_place-place.ensures) c.requires.float in
     error_short r c.args.bits below near (size_of c.error_of-error.result) c.args.top c.requires.place c.error_of-error.ensures
 
-pub ticks-requires-clause-within : goal.ticks-requires-clause-within
-ticks-requires-clause-within c =
+pub moved_ticks-requires-clause-within : goal.moved_ticks-requires-clause-within
+moved_ticks-requires-clause-within c =
     let r = c.exact_place-place.result in
     let less : size_of r.numerator.size < size_of c.product-limit.result = search rules in
     let below : size_of r.numerator.size < (2 ^ 128 - 2 ^ 103) * r.denominator = omega (arith, less, c.product-limit.ensures) in
@@ -47,7 +47,7 @@ returns-clause-ticks c =
     let below : size_of r.numerator.size < (2 ^ 128 - 2 ^ 103) * r.denominator = omega (arith, less, c.product-limit.ensures) in
     let near = subst (λ (v : Fraction). IsFloatOf v c.args.bits) (sym c.exact_place-place.ensures) c.requires.float in
     let unit : c.min-unit.result ≡ min (last_place c.args.bits) 149 = c.min-unit.ensures ∙ ap (λ (p : ℕ). min p 149) c.last_place.ensures.value in
-    let ticks = rw unit at c.ticks.ensures.value in
+    let ticks = rw unit at c.moved_ticks.ensures.value in
     ticks
     ∙ ticks_of_error r c.args.bits below near (size_of c.error_of-error.result) c.args.top c.requires.place c.error_of-error.ensures
     ∙ ap (λ (v : Fraction). ticks_between (power_tick c.args.top) v (float_number c.args.bits)) c.exact_place-place.ensures
