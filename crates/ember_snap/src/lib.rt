@@ -5,6 +5,7 @@
 mod cells;
 mod decimals;
 mod offsets;
+mod quotients;
 mod search;
 mod spans;
 mod steps;
@@ -12,6 +13,7 @@ mod steps;
 pub use cells::{cell, grid_number};
 pub use decimals::step_of;
 pub use offsets::{Offset, offset_at};
+pub use quotients::remainder;
 pub use search::{finest_step, nice_step};
 pub use spans::{Coordinates, are_coordinates};
 pub use steps::Step;
