@@ -8,6 +8,10 @@ use Rattle.ember_surface.specs.declared.surface.Surface.{Surface}
 abbrev pub indices_in : List Facet → List ℕ
 indices_in fs = flat_map (λ f. f.corners) fs
 
+-- a triangle has three of them
+abbrev pub HasThreeCorners : Facet → Type 0
+HasThreeCorners f = length f.corners ≡ 3
+
 -- a mark for each of so many vertices, which tells whether it is one of these corners
 pub record AreMarks (vertices : ℕ) (corners : List ℕ) (marks : List Bool) : Type 0 where
   pub many : length marks ≡ vertices

@@ -14,7 +14,7 @@ use ember_model::{Corner, Tri};
 use ember_surface::{Facet, Surface, Vertex};
 use std::alloc::{AllocError, Global};
 
-// Where nothing is.
+// Where a corner is that is no vertex.
 const ZERO: Corner = Corner { x: 0, y: 0, z: 0 };
 
 // The vertex on the grid if it is a corner. Others may lie off the grid, and nobody reads them.

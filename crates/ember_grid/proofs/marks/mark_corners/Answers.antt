@@ -3,8 +3,8 @@ use Rattle.ember_grid.specs.Marks.{HasMarked}
 use Rattle.ember_grid.proofs.CornerMarks.{marked_both, three_corners}
 use Rattle.ember_grid.proofs.marks.mark_corners.Goals as goal
 
-pub returns : goal.returns
-returns c =
+pub returns-clause-marks : goal.returns-clause-marks
+returns-clause-marks c =
     let three : length c.args.facet.now.corners ≡ 3 = first_of (omega arith, search rules) in
     let later = marked_both _ _ _ _ _ c.mark-2.ensures c.mark-3.ensures in
     let all = marked_both _ _ _ _ _ c.mark.ensures later in
