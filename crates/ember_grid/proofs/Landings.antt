@@ -1,5 +1,5 @@
 -- Where the coordinates of all corners land, there each corner does
-use Rattle.std.proofs.Common.{◌≡◌, ◌<◌, Bool, true, false, cond, not, List, [], ◌∷◌, ◌++◌, Option, Some, None, map, length, get_or, refl, sym, ap, subst, ◌∙◌, arith, pos, negsuc, ◌-ℤ◌}
+use Rattle.std.proofs.Common.{◌≡◌, ◌<◌, Bool, true, false, cond, not, List, [], ◌∷◌, Option, Some, None, map, length, get_or, refl, sym, ap, subst, ◌∙◌, arith, pos, negsuc, ◌-ℤ◌}
 use Rattle.std.specs.List.{All, flat_map, find, list_any}
 use Rattle.std.specs.Option.{option_to_list, IfSome}
 use Rattle.std.specs.Prelude.{slice_get, Result, Ok, Err, IfOk}
@@ -7,7 +7,7 @@ use Rattle.std.proofs.lemmas.Bool.{and_parts}
 use Rattle.std.proofs.lemmas.List.{length-map}
 use Rattle.std.proofs.lemmas.Option.{none-some}
 use Rattle.std.proofs.lemmas.List.Folds.{list_any_at}
-use Rattle.std.proofs.lemmas.List.Elements.{All-nil, All-cons, All-head, All-tail, All-map, All-append, All-weaker}
+use Rattle.std.proofs.lemmas.List.Elements.{All-nil, All-cons, All-map, All-weaker}
 use Rattle.ember_number.specs.declared.values.Number.{Number}
 use Rattle.ember_number.specs.Fractions.{is_below_limit}
 use Rattle.ember_number.specs.Values.{value_of}
@@ -24,39 +24,7 @@ use Rattle.ember_grid.specs.declared.grid.Grid.{Grid}
 use Rattle.ember_grid.specs.declared.fault.GridFault.{GridFault}
 use Rattle.ember_grid.specs.Corners.{corners_of, corners_in, HasCoordinates, IsOnGrid, FacetLands, Lands}
 use Rattle.ember_grid.specs.Grids.{IsWithinLimit}
-
--- ---- of lists of lists
-all_left : {U : Type 0} (P : U → Type 0) (xs ys : List U) → All P (xs ++ ys) → All P xs
-all_left P [] ys h = All-nil P
-all_left P (x ∷ xs) ys h =
-    All-cons P x xs (All-head P x (xs ++ ys) h) (all_left P xs ys (All-tail P x (xs ++ ys) h))
-
-all_right : {U : Type 0} (P : U → Type 0) (xs ys : List U) → All P (xs ++ ys) → All P ys
-all_right P [] ys h = h
-all_right P (x ∷ xs) ys h = all_right P xs ys (All-tail P x (xs ++ ys) h)
-
-all_out : {U V : Type 0} (P : V → Type 0) (f : U → List V) (us : List U) → All P (flat_map f us) → All (λ u. All P (f u)) us
-all_out P f [] h = All-nil (λ u. All P (f u))
-all_out P f (u ∷ us) h =
-    All-cons (λ u. All P (f u)) u us (all_left P (f u) (flat_map f us) h) (all_out P f us (all_right P (f u) (flat_map f us) h))
-
-all_in : {U V : Type 0} (P : V → Type 0) (f : U → List V) (us : List U) → All (λ u. All P (f u)) us → All P (flat_map f us)
-all_in P f [] h = All-nil P
-all_in P f (u ∷ us) h =
-    All-append P (f u) (flat_map f us) (All-head (λ u. All P (f u)) u us h) (all_in P f us (All-tail (λ u. All P (f u)) u us h))
-
-all_mapped : {U V : Type 0} (P : V → Type 0) (f : U → V) (us : List U) → All P (map f us) → All (λ u. P (f u)) us
-all_mapped P f [] h = All-nil (λ u. P (f u))
-all_mapped P f (u ∷ us) h =
-    All-cons (λ u. P (f u)) u us (All-head P (f u) (map f us) h) (all_mapped P f us (All-tail P (f u) (map f us) h))
-
-one_out : {V : Type 0} (P : V → Type 0) (o : Option V) → All P (option_to_list o) → IfSome o P
-one_out P None h = tt
-one_out P (Some v) h = All-head P v [] h
-
-one_in : {V : Type 0} (P : V → Type 0) (o : Option V) → IfSome o P → All P (option_to_list o)
-one_in P None h = All-nil P
-one_in P (Some v) h = All-cons P v [] h (All-nil P)
+use Rattle.ember_grid.proofs.JoinedLists.{all_out, all_in, all_mapped, one_out, one_in}
 
 -- ---- corners below the limit
 none_any : {U : Type 0} (p : U → Bool) (us : List U) → list_any p us ≡ false → All (λ u. p u ≡ false) us

@@ -1,3 +1,9 @@
+pub mod JoinedLists
+pub mod SameEntries
+pub mod CornerMarks
+pub mod MarkedVertices
+pub mod GridCorners
+pub mod CornerEntries
 pub mod Maps
 pub mod Positions
 pub mod Lists

@@ -1,5 +1,5 @@
 -- Triangles under a map of their corners
-use Rattle.std.specs.Prelude.{◌≡◌, ℕ, Bool, not, ◌||◌, List, map, filter, length, slice_index, All}
+use Rattle.std.specs.Prelude.{◌≡◌, ℕ, Bool, not, ◌||◌, List, map, filter, length, slice_index, slice_index_or, All, pos}
 use Rattle.ember_surface.specs.declared.surface.Facet.{Facet}
 use Rattle.ember_model.specs.declared.point.Corner.{Corner}
 use Rattle.ember_model.specs.declared.tri.Tri.{Tri}
@@ -16,6 +16,14 @@ image at mesh f = record {
   c = at (slice_index f.corners 2);
   mesh = mesh;
 }
+
+-- the corner with this index; what is no index is at zero
+abbrev pub corner_in : List Corner → ℕ → Corner
+corner_in corners index = slice_index_or corners index (record { x = pos 0; y = pos 0; z = pos 0 })
+
+-- at these indices the corners are where the map takes them
+abbrev pub AreCornersAt : (ℕ → Corner) → List ℕ → List Corner → Type 0
+AreCornersAt at indices corners = All (λ index. corner_in corners index ≡ at index) indices
 
 -- two of its corners are equal
 abbrev pub has_equal_corners : Tri → Bool

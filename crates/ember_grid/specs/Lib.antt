@@ -1,4 +1,5 @@
 pub mod Corners
+pub mod Marks
 pub mod Lists
 pub mod Images
 pub mod Closed

@@ -1,12 +1,12 @@
 // The coordinates of all corners.
-ghost use Rattle.std.specs.Prelude.{[], ◌∷◌, flat_map, slice_get, IfOk, OnOk};
-ghost use Rattle.std.specs.Option.{option_to_list};
+ghost use Rattle.std.specs.Prelude.{◌≡◌, [], ◌∷◌, length, flat_map, if◌then◌else◌, IfOk, OnOk};
 ghost use Rattle.ember_grid.specs.Corners.{corners_of, corners_in};
-ghost use Rattle.ember_grid.specs.Lists.{IsOf, HasAppended};
+ghost use Rattle.ember_grid.specs.Lists.{HasAppended, HasEntries, HasAdded, marked};
 
+use crate::marks::corner_marks;
 use ember_model::OutOfMemory;
 use ember_number::Number;
-use ember_surface::{Facet, Surface, Vertex};
+use ember_surface::{Surface, Vertex};
 use std::alloc::Global;
 
 // The coordinates of corners along each axis.
@@ -26,48 +26,53 @@ fn push_vertex<'a>(lists: &mut CornerLists<'a>, vertex: &Vertex<'a>) -> Result<(
     Ok(())
 }
 
-fn push_corner<'a>(
+// The same if the vertex is a corner.
+fn push_if<'a>(
     lists: &mut CornerLists<'a>,
-    vertices: &[Vertex<'a>],
-    corner: u32,
+    vertex: &Vertex<'a>,
+    is_corner: bool,
 ) -> Result<(), OutOfMemory>
-    ensures { OnOk result (HasAppended lists.old (option_to_list (slice_get vertices.now corner)) lists.new) }
+    ensures { OnOk result (HasAppended lists.old (if is_corner then vertex.now ∷ [] else []) lists.new) }
 {
-    match vertices.get(corner as usize) {
-        Some(vertex) => push_vertex(lists, vertex),
-        None => Ok(()),
+    if is_corner {
+        push_vertex(lists, vertex)
+    } else {
+        Ok(())
     }
 }
 
-fn push_corners<'a>(
+fn push_marked<'a>(
     lists: &mut CornerLists<'a>,
     vertices: &[Vertex<'a>],
-    facet: &Facet,
+    marks: &[bool],
 ) -> Result<(), OutOfMemory>
-    ensures { OnOk result (HasAppended lists.old (corners_of vertices.now facet.now) lists.new) }
+    requires { length marks.now ≡ length vertices.now }
+    ensures { OnOk result (HasAppended lists.old (marked marks.now vertices.now) lists.new) }
 {
-    let [a, b, c] = facet.corners;
-    push_corner(lists, vertices, a)?;
-    push_corner(lists, vertices, b)?;
-    push_corner(lists, vertices, c)
-}
-
-fn push_surface<'a>(lists: &mut CornerLists<'a>, surface: &Surface<'a>) -> Result<(), OutOfMemory>
-    ensures { OnOk result (HasAppended lists.old
-        (flat_map (corners_of surface.now.vertices.items) surface.now.facets.items) lists.new) }
-{
-    for facet in &surface.facets {
-        push_corners(lists, &surface.vertices, facet)?;
+    for (index, vertex) in vertices.iter().enumerate() {
+        push_if(lists, vertex, marks[index])?;
     }
     Ok(())
 }
 
-// The coordinates of all corners of triangles, in order.
+fn push_surface<'a>(
+    alloc: Global,
+    lists: &mut CornerLists<'a>,
+    surface: &Surface<'a>,
+) -> Result<(), OutOfMemory>
+    ensures { OnOk result (HasAdded lists.old
+        (flat_map (corners_of surface.now.vertices.items) surface.now.facets.items) lists.new) }
+{
+    let marks = corner_marks(alloc, surface)?;
+    push_marked(lists, &surface.vertices, &marks)
+}
+
+// The coordinates of all corners of triangles, those of each vertex once.
 pub(crate) fn corner_lists<'a>(
     alloc: Global,
     surfaces: &[Surface<'a>],
 ) -> Result<CornerLists<'a>, OutOfMemory>
-    ensures { IfOk result (λ lists. IsOf lists (corners_in surfaces.now)) }
+    ensures { IfOk result (λ lists. HasEntries lists (corners_in surfaces.now)) }
 {
     let mut lists = CornerLists {
         x: Vec::new(alloc),
@@ -75,7 +80,7 @@ pub(crate) fn corner_lists<'a>(
         z: Vec::new(alloc),
     };
     for surface in surfaces {
-        push_surface(&mut lists, surface)?;
+        push_surface(alloc, &mut lists, surface)?;
     }
     Ok(lists)
 }

@@ -13,7 +13,7 @@ use ember_model::{Corner, Tri};
 use ember_snap::grid_number;
 use ember_surface::{Facet, Vertex};
 
-fn corner_on(vertex: &Vertex, grid: &Grid) -> Corner
+pub(crate) fn corner_on(vertex: &Vertex, grid: &Grid) -> Corner
     requires step { IsStep grid.now.step }
     requires lands { IsOnGrid grid.now vertex.now }
     ensures value { result ≡ corner_on grid.now vertex.now }

@@ -9,8 +9,10 @@ mod counting;
 mod extent;
 mod fault;
 mod grid;
+mod images;
 mod laws;
 mod lengths;
+mod marks;
 mod places;
 mod snapping;
 
@@ -20,5 +22,6 @@ pub use extent::Extent;
 pub use fault::{GridFault, SnapFault};
 pub use grid::Grid;
 pub use laws::maps_keep_meshes_closed;
+pub use marks::corner_marks;
 pub use places::place_of_edge;
 pub use snapping::{Snapped, snap_surface};

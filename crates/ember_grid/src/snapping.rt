@@ -11,9 +11,10 @@ ghost use Rattle.ember_grid.specs.Images.{image, images, kept, vanished, flat_on
 ghost use Rattle.ember_grid.specs.Closed.{IsSurfaceClosed};
 ghost use Rattle.ember_grid.specs.Faults.{IsSnapFault};
 
-use crate::corners::{has_equal_corners, image};
+use crate::corners::has_equal_corners;
 use crate::fault::SnapFault;
 use crate::grid::Grid;
+use crate::images::{corners_on, tri_of};
 use ember_model::{Lines, OutOfMemory, Soup, Tri, Tris, has_no_normal, support_of};
 use ember_surface::{Facet, Surface};
 use std::alloc::Global;
@@ -88,6 +89,7 @@ fn snap_all(
     ensures { IfOk result (AreSnapped
         (corner_at grid.now surface.now.vertices.items) mesh surface.now.facets.items) }
 {
+    let corners = corners_on(alloc, surface, grid)?;
     let facets = surface.facets.as_slice();
     let mut snapping = Snapping {
         tris: Vec::with_capacity(alloc, facets.len())?,
@@ -96,7 +98,7 @@ fn snap_all(
         flat: 0,
     };
     for facet in facets {
-        let tri = image(&surface.vertices, facet, grid, mesh);
+        let tri = tri_of(&corners, facet, mesh);
         snapping.add(facet, tri)?;
     }
     Ok(snapping)

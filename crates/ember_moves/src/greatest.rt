@@ -2,6 +2,7 @@
 ghost use Rattle.std.specs.Prelude.{◌≡◌, All, IfOk};
 ghost use Rattle.ember_snap.specs.Steps.{IsStep};
 ghost use Rattle.ember_grid.specs.Corners.{Lands};
+ghost use Rattle.ember_grid.specs.Marks.{AreMarksOf, HasThreeCorners};
 ghost use Rattle.ember_moves.specs.Moves.{IsFineness};
 ghost use Rattle.ember_moves.specs.Greatest.{greatest_square};
 ghost use Rattle.ember_moves.specs.Shown.{rounded_of, greatest_move, AreMoves};
@@ -9,8 +10,8 @@ ghost use Rattle.ember_moves.specs.Shown.{rounded_of, greatest_move, AreMoves};
 use crate::fineness::fineness_of;
 use crate::length::Length;
 use crate::shown::length_of;
-use crate::squares::facet_square;
-use ember_grid::Grid;
+use crate::squares::{facet_square, with_vertex};
+use ember_grid::{Grid, corner_marks};
 use ember_surface::Surface;
 use std::alloc::{AllocError, Global};
 
@@ -29,10 +30,28 @@ fn greatest_square(surface: &Surface, grid: &Grid, fineness: u64) -> u128
     greatest
 }
 
+// The same by marks that tell which vertices are corners, so that each vertex is looked at once.
+fn greatest_of_marked(surface: &Surface, marks: &[bool], grid: &Grid, fineness: u64) -> u128
+    requires step { IsStep grid.now.step }
+    requires lands { Lands grid.now surface.now }
+    requires fineness { IsFineness grid.now.step fineness }
+    requires marks { AreMarksOf surface.now marks.now }
+    requires three { All HasThreeCorners surface.now.facets.items }
+    ensures { result ≡ greatest_square grid.now.step fineness surface.now.vertices.items surface.now.facets.items }
+{
+    let vertices = surface.vertices.as_slice();
+    let mut greatest = 0u128;
+    for (index, vertex) in vertices.iter().enumerate() {
+        greatest = with_vertex(greatest, marks[index], vertex, grid, fineness);
+    }
+    greatest
+}
+
 /// How far a corner of the surface's triangles moves to the grid at most: a length that isn't below
 /// the true one, with nine digits and at most 12 places. It is 0 if no corner moves.
 ///
-/// All corners of triangles are on the grid, as [`grid_of`](ember_grid::grid_of) gives it.
+/// All corners of triangles are on the grid, as [`grid_of`](ember_grid::grid_of) gives it. This needs
+/// no memory, and looks at a vertex once for each triangle that has it.
 pub fn greatest_move(surface: &Surface, grid: &Grid) -> Length
     requires step { IsStep grid.now.step }
     requires lands { Lands grid.now surface.now }
@@ -43,7 +62,19 @@ pub fn greatest_move(surface: &Surface, grid: &Grid) -> Length
     length_of(square, &grid.step, fineness)
 }
 
-/// The greatest move of each surface, in order.
+// The same, with memory for the marks of vertices.
+fn greatest_move_of(alloc: Global, surface: &Surface, grid: &Grid) -> Result<Length, AllocError>
+    requires step { IsStep grid.now.step }
+    requires lands { Lands grid.now surface.now }
+    ensures { IfOk result (λ length. rounded_of length ≡ greatest_move grid.now surface.now) }
+{
+    let marks = corner_marks(alloc, surface)?;
+    let fineness = fineness_of(&grid.step);
+    let square = greatest_of_marked(surface, &marks, grid, fineness);
+    Ok(length_of(square, &grid.step, fineness))
+}
+
+/// The greatest move of each surface, in order. It looks at each vertex once.
 pub fn greatest_moves(
     alloc: Global,
     surfaces: &[Surface],
@@ -55,7 +86,7 @@ pub fn greatest_moves(
 {
     let mut moves = Vec::with_capacity(alloc, surfaces.len())?;
     for surface in surfaces {
-        moves.push(greatest_move(surface, grid))?;
+        moves.push(greatest_move_of(alloc, surface, grid)?)?;
     }
     Ok(moves)
 }

@@ -1,5 +1,5 @@
 // How far corners move, squared.
-ghost use Rattle.std.specs.Prelude.{◌≡◌, ◌≤◌, ◌^◌};
+ghost use Rattle.std.specs.Prelude.{◌≡◌, ◌≤◌, ◌^◌, max, true, if◌then◌else◌};
 ghost use Rattle.ember_snap.specs.Steps.{IsStep};
 ghost use Rattle.ember_grid.specs.Corners.{IsOnGrid, LandsAt, FacetLands};
 ghost use Rattle.ember_moves.specs.Moves.{IsFineness};
@@ -30,7 +30,28 @@ fn square_of(vertex: &Vertex, grid: &Grid, fineness: u64) -> u128
     x + (y + z)
 }
 
-// The same for the vertex with this index.
+// The greater of a square and that of the vertex's move, if the vertex is a corner. Others may lie
+// off the grid.
+pub(crate) fn with_vertex(
+    greatest: u128,
+    is_corner: bool,
+    vertex: &Vertex,
+    grid: &Grid,
+    fineness: u64,
+) -> u128
+    requires step { IsStep grid.now.step }
+    requires lands { is_corner ≡ true → IsOnGrid grid.now vertex.now }
+    requires fineness { IsFineness grid.now.step fineness }
+    ensures { result ≡ (if is_corner then max greatest (square_of grid.now.step fineness vertex.now) else greatest) }
+{
+    if is_corner {
+        greatest.max(square_of(vertex, grid, fineness))
+    } else {
+        greatest
+    }
+}
+
+// The same as `square_of` for the vertex with this index.
 fn square_at(vertices: &[Vertex], index: u32, grid: &Grid, fineness: u64) -> u128
     requires step { IsStep grid.now.step }
     requires lands { LandsAt grid.now vertices.now index }
