@@ -8,7 +8,7 @@ ghost use Rattle.ember_snap.specs.Steps.{IsStep};
 ghost use Rattle.ember_moves.specs.Moves.{ceiling_of_multiple, ticks_of, IsFineness};
 
 use ember_number::{Binary, Decimal, Number, floor_times};
-use ember_snap::Step;
+use ember_snap::{Step, remainder};
 
 // The number with the other sign.
 fn negated<'a>(number: &Number<'a>) -> Number<'a>
@@ -63,7 +63,7 @@ fn rest_of(floor: i128, half: u64) -> i128
     ensures small { unsigned_abs result < 2 * half }
 {
     let part = i128::from(half);
-    (floor + part).rem_euclid(2 * part)
+    remainder(floor + part, 2 * part)
 }
 
 // The greater of the distances of two numbers from the middle of a cell, of which the first is

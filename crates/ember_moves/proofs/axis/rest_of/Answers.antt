@@ -6,10 +6,10 @@ use Rattle.std.specs.Int.RustNames.{unsigned_abs}
 use Rattle.std.proofs.lemmas.Int.{to_z-of_z}
 use Rattle.ember_moves.proofs.axis.rest_of.Goals as goal
 
-stored : (c : goal.After-rem_euclid) → to_z w128 (of_z w128 c.rem_euclid.result) ≡ c.rem_euclid.result
-stored c = to_z-of_z w128 c.rem_euclid.result (record { sfits = c.rem_euclid.type_inv })
+stored : (c : goal.After-remainder) → to_z w128 (of_z w128 c.remainder.result) ≡ c.remainder.result
+stored c = to_z-of_z w128 c.remainder.result (record { sfits = c.remainder.type_inv })
 
-product : (c : goal.After-rem_euclid) → to_z w128 (of_z w128 (pos 2 *ℤ to_z w128 (of_z w128 c.from-part.result))) ≡ pos (2 * c.args.half)
+product : (c : goal.After-remainder) → to_z w128 (of_z w128 (pos 2 *ℤ to_z w128 (of_z w128 c.from-part.result))) ≡ pos (2 * c.args.half)
 product c = omega (arith, ints, c.from-part.ensures, c.requires.small)
 
 pub returns-clause-value : goal.returns-clause-value
@@ -17,9 +17,9 @@ returns-clause-value c =
     let part = c.from-part.result in
     let sum : to_z w128 (of_z w128 (to_z w128 (of_z w128 c.args.floor) +ℤ to_z w128 (of_z w128 part))) ≡ c.args.floor +ℤ pos c.args.half =
     omega (arith, ints, c.requires.floor, c.from-part.ensures, c.requires.small) in
-    stored c ∙ c.rem_euclid.ensures.value ∙ rw (sum, product c) refl
+    stored c ∙ c.remainder.ensures.value ∙ rw (sum, product c) refl
 
 pub returns-clause-small : goal.returns-clause-small
 returns-clause-small c =
-    let less : unsigned_abs c.rem_euclid.result < 2 * c.args.half = rw (product c) at c.rem_euclid.ensures.upper_bound in
+    let less : unsigned_abs c.remainder.result < 2 * c.args.half = rw (product c) at c.remainder.ensures.below in
     rw (stored c) less
