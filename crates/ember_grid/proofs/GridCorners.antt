@@ -1,9 +1,9 @@
 -- The corners on a grid, by the index of their vertex: one vertex more
-use Rattle.std.proofs.Common.{◌≡◌, ◌⊎◌, inl, inr, ◌<◌, ◌≤◌, ℕ, ◌+◌, Bool, true, false, List, [], ◌∷◌, ◌++◌, Some, length, get_or, refl, sym, ap, subst, ◌∙◌, arith, pos}
+use Rattle.std.proofs.Common.{◌≡◌, ◌⊎◌, inl, inr, ◌<◌, ◌≤◌, ℕ, ◌+◌, Bool, true, false, List, [], ◌∷◌, ◌++◌, Some, length, get_or, sym, ap, subst, ◌∙◌, arith, pos}
 use Rattle.std.specs.List.{All}
 use Rattle.std.proofs.lemmas.Bool.{cases_eq, cases_lt}
 use Rattle.std.proofs.lemmas.List.{length_push, get_or_append_left, get_or_push, get_or_past}
-use Rattle.std.proofs.lemmas.List.Elements.{All-nil, All-push, All-weaker}
+use Rattle.std.proofs.lemmas.List.Elements.{All-push, All-weaker}
 use Rattle.std.proofs.lemmas.Option.{slice_get-get_or, slice_get_past}
 use Rattle.ember_surface.specs.declared.surface.Facet.{Facet}
 use Rattle.ember_surface.specs.declared.surface.Surface.{Surface}
@@ -21,13 +21,6 @@ pub record AreFirstCorners (g : Grid) (vs : List Vertex) (marks : List Bool) (i 
   pub many : length corners ≡ i
   pub valid : All IsValidCorner corners
   pub at : (k : ℕ) → k < i → get_or marks k false ≡ true → corner_in corners k ≡ corner_at g vs k
-
-pub no_corners : (g : Grid) (vs : List Vertex) (marks : List Bool) → AreFirstCorners g vs marks 0 []
-no_corners g vs marks = record {
-  many = refl;
-  valid = All-nil IsValidCorner;
-  at = λ k l e. absurd (omega (arith, l));
-}
 
 -- one vertex more
 pub corners_more : (g : Grid) (vs : List Vertex) (marks : List Bool) (i : ℕ) (v : Vertex) (corner : Corner) (old new : List Corner) → AreFirstCorners g vs marks i old → new ≡ old ++ corner ∷ [] → i < length vs → v ≡ get_or vs i v → IsValidCorner corner → (get_or marks i false ≡ true → corner ≡ corner_on g v) → AreFirstCorners g vs marks (i + 1) new

@@ -61,6 +61,7 @@ at_mark P (m ∷ marks) (v ∷ vs) h k d l e = by m refl h (at_mark P marks vs) 
     by false is h next zero l e = absurd (clash e is)
     by b is h next (suc k) l e = next (tail b h) k d (omega (arith, l)) e
 
+-- the corners of triangles by way of their indices
 by_indices : (vs : List Vertex) (fs : List Facet) → flat_map (λ index. option_to_list (slice_get vs index)) (indices_in fs) ≡ flat_map (corners_of vs) fs
 by_indices vs [] = refl
 by_indices vs (f ∷ fs) =

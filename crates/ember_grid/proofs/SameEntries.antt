@@ -1,7 +1,7 @@
 -- Lists with the same entries: what holds of the coordinates of one holds of those of the other
 use Rattle.std.proofs.Common.{◌≡◌, ◌<◌, ℕ, List, [], ◌∷◌, ◌++◌, map, length, refl, arith, true, ℤ, pos, negsuc, ◌+ℤ◌, ◌-ℤ◌}
 use Rattle.std.specs.List.{All, Any, Contains}
-use Rattle.std.proofs.lemmas.List.Elements.{All-nil, All-head, All-append, All-map, All-weaker, All-contains, All-contains_itself, Contains-append_left, Contains-append_right}
+use Rattle.std.proofs.lemmas.List.Elements.{All-head, All-append, All-map, All-weaker, All-contains, All-contains_itself, Contains-append_left, Contains-append_right}
 use Rattle.ember_number.specs.declared.values.Number.{Number}
 use Rattle.ember_number.specs.Fractions.{is_below_limit}
 use Rattle.ember_number.specs.Values.{value_of}
@@ -23,9 +23,6 @@ use Rattle.ember_grid.proofs.JoinedLists.{all_mapped}
 -- ---- of any entries
 pub same_turned : {U : Type 0} (xs ys : List U) → HaveSameEntries xs ys → HaveSameEntries ys xs
 same_turned xs ys s = record { there = s.back; back = s.there }
-
-pub same_none : {U : Type 0} → HaveSameEntries {U = U} [] []
-same_none {U} = record { there = All-nil (Contains {X = U} []); back = All-nil (Contains {X = U} []) }
 
 pub same_append : {U : Type 0} (xs ys us vs : List U) → HaveSameEntries xs ys → HaveSameEntries us vs → HaveSameEntries (xs ++ us) (ys ++ vs)
 same_append xs ys us vs s t = record {

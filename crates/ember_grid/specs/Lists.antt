@@ -20,7 +20,7 @@ marked [] vertices = []
 marked (m ∷ marks) [] = []
 marked (m ∷ marks) (v ∷ vertices) = if m then v ∷ marked marks vertices else marked marks vertices
 
--- ---- each once, or more often
+-- ---- with the same entries
 -- each entry of one list is one of the other
 pub record HaveSameEntries {U : Type 0} (xs ys : List U) : Type 0 where
   pub there : All (Contains ys) xs

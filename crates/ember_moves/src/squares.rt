@@ -30,8 +30,8 @@ fn square_of(vertex: &Vertex, grid: &Grid, fineness: u64) -> u128
     x + (y + z)
 }
 
-// The greater of a square and that of the vertex's move, if the vertex is a corner. Others may lie
-// off the grid.
+// The greater of a square and that of the vertex's move. What isn't a corner doesn't count, and may
+// lie off the grid.
 pub(crate) fn with_vertex(
     greatest: u128,
     is_corner: bool,
