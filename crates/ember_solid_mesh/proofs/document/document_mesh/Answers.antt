@@ -23,8 +23,8 @@ returns-in_err-faces-clause-fault g c =
     let file = subst (λ (fs : List CorneredFace). IsFileOf (map face_of fs) c.args.bytes.now) (sym c.deref.ensures.value) c.in_ok-written.ensures.faces in
     passed_on (IsDocumentFault c.args.bytes.now) c.from_residual-in_err-faces.result cause c.from_residual-in_err-faces.ensures.1 (c.in_err-faces.ensures.fault c.args.bytes.now file)
 
-pub mesh_of_faces-requires : goal.mesh_of_faces-requires
-mesh_of_faces-requires g c =
+pub mesh_of_faces-requires-clause-valid : goal.mesh_of_faces-requires-clause-valid
+mesh_of_faces-requires-clause-valid g c =
     let same = c.in_ok-faces.ensures.faces ∙ ap (λ (fs : List CorneredFace). map face_in (map face_of fs)) c.deref.ensures.value in
     subst (All IsValidFace) (sym same) c.in_ok-written.ensures.valid
 
