@@ -142,7 +142,7 @@ pub fn run_mesh_one<S: Shelf, T: Target, O: Sink, E: Sink, G: Gate>(
             requires { IsQuery query.now }
             ensures { IfOk result (IsAnswer query.entry.now) }
         { answer_alone(alloc, gate, query) },
-        &|_workers: u32, query: &PlaneQuery| -> Result<PlaneAnswer, TrianglesFault>
+        &move |_workers: u32, query: &PlaneQuery| -> Result<PlaneAnswer, TrianglesFault>
             requires { IsPlaneQuery query.now }
             ensures { IfOk result (IsPlaneAnswer query.entry.now) }
         { answer_planes_alone(alloc, query) },
