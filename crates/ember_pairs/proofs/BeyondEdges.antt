@@ -18,7 +18,7 @@ use Rattle.ember_poly.proofs.FaceTests.{inside_out, closed_out}
 use Rattle.ember_poly.proofs.ReachBySigns.{all_above, most_opposite, least_from_opposite}
 use Rattle.ember_poly.proofs.TriangleRing.{tri_sides, tri_planes, stands}
 use Rattle.ember_pairs.specs.declared.heights.Heights.{Heights}
-use Rattle.ember_pairs.specs.Heights.{heights_of, none_behind, all_on, lie_beyond, is_beyond_some}
+use Rattle.ember_pairs.specs.Heights.{heights_of, none_behind, all_on, heights_over, lie_beyond, lies_beyond_some}
 use Rattle.ember_pairs.specs.Pairs.{AreMeeting}
 use Rattle.ember_pairs.proofs.PartedTriangles.{not_negative_out, three, some_over}
 
@@ -66,19 +66,19 @@ module _ (t : Tri) (full : is_flat t ≡ false) (p : Plane) where
 -- ---- some of several planes
 module _ (t : Tri) (full : is_flat t ≡ false) (v : Spot) where
   -- a point of the closed face isn't behind all
-  closed_not_behind : (planes : List Plane) → is_beyond_some planes t ≡ true → is_in_closed (face_of t) v ≡ true → AllByRecursion (λ p. IsBelow p v) planes → ⊥
+  closed_not_behind : (planes : List Plane) → lies_beyond_some (heights_over planes t) ≡ true → is_in_closed (face_of t) v ≡ true → AllByRecursion (λ p. IsBelow p v) planes → ⊥
   closed_not_behind [] e k a = absurd (false≢true e)
   closed_not_behind (p ∷ planes) e k a =
-      ⊎_elim (λ here. omega (arith, linear, a.0.under, (closed_beyond t full p here v k).at_least)) (λ later. closed_not_behind planes later k a.1) (or_cases (lie_beyond (heights_of p t)) (is_beyond_some planes t) e)
+      ⊎_elim (λ here. omega (arith, linear, a.0.under, (closed_beyond t full p here v k).at_least)) (λ later. closed_not_behind planes later k a.1) (or_cases (lie_beyond (heights_of p t)) (lies_beyond_some (heights_over planes t)) e)
 
   -- an inside point is in front of one
-  inside_in_front : (planes : List Plane) → is_beyond_some planes t ≡ true → is_inside (face_of t) v ≡ true → AllByRecursion (λ p. IsNotAbove p v) planes → ⊥
+  inside_in_front : (planes : List Plane) → lies_beyond_some (heights_over planes t) ≡ true → is_inside (face_of t) v ≡ true → AllByRecursion (λ p. IsNotAbove p v) planes → ⊥
   inside_in_front [] e i a = absurd (false≢true e)
   inside_in_front (p ∷ planes) e i a =
-      ⊎_elim (λ here. omega (arith, linear, a.0.at_most, (inside_beyond t full p here v i).over)) (λ later. inside_in_front planes later i a.1) (or_cases (lie_beyond (heights_of p t)) (is_beyond_some planes t) e)
+      ⊎_elim (λ here. omega (arith, linear, a.0.at_most, (inside_beyond t full p here v i).over)) (λ later. inside_in_front planes later i a.1) (or_cases (lie_beyond (heights_of p t)) (lies_beyond_some (heights_over planes t)) e)
 
 -- a triangle beyond an edge plane of another doesn't meet it
-pub parted_by_edge : (t u : Tri) → is_beyond_some (edges_of t) u ≡ true → AreMeeting t u → ⊥
+pub parted_by_edge : (t u : Tri) → lies_beyond_some (heights_over (edges_of t) u) ≡ true → AreMeeting t u → ⊥
 unfolding face_of
 parted_by_edge t u e m =
     ⊎_elim (λ x. closed_not_behind u m.other x.at (edges_of t) e x.holds (inside_out (face_of t) x.at x.inside).within) (λ y. inside_in_front u m.other y.at (edges_of t) e y.inside (closed_out (face_of t) y.at y.holds).within) m.meet
