@@ -1,23 +1,21 @@
 -- A sample point of a triangle is an inside point, so triangles of one plane meet if that of one is within the other.
-use Rattle.std.proofs.Common.{◌≡◌, ◌⊎◌, ⊎_elim, inl, inr, refl, sym, ap, subst, ◌∙◌, arith, true, false, not, ◌&&◌, ◌||◌, List, [], ◌∷◌, ℤ, pos, ◌+ℤ◌, ◌-ℤ◌, ◌*ℤ◌, ◌<ℤ◌, ◌≤ℤ◌}
-use Rattle.std.specs.List.{list_all, AllByRecursion}
+use Rattle.std.proofs.Common.{◌≡◌, ⊎_elim, inl, inr, ◌∙◌, arith, true, false, not, List, [], ◌∷◌, ℤ, pos, ◌+ℤ◌, ◌-ℤ◌, ◌*ℤ◌, ◌<ℤ◌}
+use Rattle.std.specs.List.{AllByRecursion}
 use Rattle.std.proofs.lemmas.Bool.{or_cases}
 use Rattle.ember_algebra.specs.Sign.{is_zero, is_positive}
 use Rattle.ember_algebra.proofs.Laws.{linear}
 use Rattle.ember_algebra.proofs.Order.{mul_pos_neg}
 use Rattle.ember_algebra.proofs.Ring.{◌⊕◌, ◌⊖◌, ◌⊗◌, ◌≈◌, num, solve, cancels}
 use Rattle.ember_model.specs.declared.plane.Plane.{Plane}
-use Rattle.ember_model.specs.declared.point.Spot.{Spot}
 use Rattle.ember_model.specs.declared.tri.Tri.{Tri}
 use Rattle.ember_model.specs.Planes.{value_at, support_of}
-use Rattle.ember_model.specs.Faces.{is_flat, face_of, edges_of, is_inside, is_in_closed, Meets}
+use Rattle.ember_model.specs.Faces.{is_flat, face_of, edges_of, is_inside, Meets}
 use Rattle.ember_model.specs.Owners.{spot_of_corner, lies_in_plane_of}
 use Rattle.ember_model.proofs.SignTests.{and_parts, zero_out, not_positive_out}
-use Rattle.ember_poly.specs.Rings.{IsBelow, IsNotAbove, IsConvexRing}
+use Rattle.ember_poly.specs.Rings.{IsBelow, IsNotAbove}
 use Rattle.ember_poly.proofs.Face.{face_from_inside}
-use Rattle.ember_poly.proofs.FaceTests.{inside_in, closed_in, all_out}
+use Rattle.ember_poly.proofs.FaceTests.{inside_in, closed_in}
 use Rattle.ember_poly.proofs.TriangleRing.{tri_sides, tri_planes, stands}
-use Rattle.ember_pairs.specs.declared.heights.Heights.{Heights}
 use Rattle.ember_pairs.specs.declared.samples.Weights.{Weights}
 use Rattle.ember_pairs.specs.Heights.{heights_of, heights_over}
 use Rattle.ember_pairs.specs.Samples.{AreWeights, sample_point, sample_height, is_sample_within, HasSampleWithin}

@@ -8,7 +8,7 @@ ghost use Rattle.ember_pairs.specs.Pairs.{AreMeeting, AreMeetingPairs, Completes
 ghost use Rattle.ember_pairs.specs.ByEdges.{HasInPlane, IsByEdges};
 ghost use Rattle.ember_pairs.specs.Candidates.{candidate_of, candidates_at, with_faces};
 
-use crate::edge_heights::{edge_heights, lies_beyond_some};
+use crate::edge_heights::edge_heights;
 use crate::heights::heights_of;
 use crate::pair::{Pair, PairList};
 use crate::samples::has_sample_within;
@@ -86,14 +86,12 @@ fn by_edges(first: &Candidate, t: &Tri, second: &Candidate, u: &Tri) -> ByEdges
     requires other_facet { second.now ≡ candidate_of u.now }
     ensures { IsByEdges t.now u.now result }
 {
-    let theirs = edge_heights(t, &first.support, u);
-    if lies_beyond_some(&theirs) {
+    let Some(theirs) = edge_heights(t, &first.support, u) else {
         return ByEdges::Apart;
-    }
-    let own = edge_heights(u, &second.support, t);
-    if lies_beyond_some(&own) {
+    };
+    let Some(own) = edge_heights(u, &second.support, t) else {
         return ByEdges::Apart;
-    }
+    };
     if has_in_plane(first, t, u) && has_in_plane(second, u, t) && has_sample_within(&theirs, &own) {
         return ByEdges::Met;
     }

@@ -1,11 +1,10 @@
 use Rattle.std.proofs.Common.{◌∙◌, ap, sym, subst, ◌&&◌}
 use Rattle.ember_algebra.specs.Sign.{is_zero}
-use Rattle.ember_model.specs.declared.plane.Plane.{Plane}
 use Rattle.ember_model.specs.Faces.{is_flat}
 use Rattle.ember_model.specs.Valid.{IsValidPlane}
 use Rattle.ember_model.proofs.PlaneSizes.{support_sized, support_valid}
 use Rattle.ember_pairs.specs.declared.meetings.Candidate.{Candidate}
-use Rattle.ember_pairs.specs.Heights.{heights_of, all_on}
+use Rattle.ember_pairs.specs.Heights.{all_on}
 use Rattle.ember_pairs.proofs.PartedTriangles.{heights_answer_moved}
 use Rattle.ember_pairs.proofs.meetings.has_in_plane.Goals as goal
 

@@ -1,4 +1,3 @@
-use Rattle.std.proofs.Common.{◌∙◌}
 use mir.Syntax.{w64}
 use Rattle.ember_algebra.proofs.Exact.{Code, input, stored, ◌⊠◌, ◌⊞◌, ◌&◌, done, exact, no_overflow}
 use Rattle.ember_pairs.proofs.samples.sample_height.Goals as goal
