@@ -22,20 +22,35 @@ fn equal_triangles_meet_and_neighbours_do_not(rt: HostRuntime) -> Result<(), Fai
 
 // Files of one triangle with its reverse.
 const LEFT: &[u8] = b"v 0 0 0\nv 8 0 0\nv 0 8 0\nf 1 2 3\nf 1 3 2\n";
+
 const RIGHT: &[u8] = b"v 8 0 0\nv 8 8 0\nv 0 8 0\nf 1 2 3\nf 1 3 2\n";
+
 const LOW: &[u8] = b"v 0 0 0\nv 8 0 0\nv 8 8 0\nf 1 2 3\nf 1 3 2\n";
+
 const SMALL: &[u8] = b"v 1 1 0\nv 2 1 0\nv 1 2 0\nf 1 2 3\nf 1 3 2\n";
+
 const RAISED: &[u8] = b"v 1 1 1\nv 2 1 1\nv 1 2 1\nf 1 2 3\nf 1 3 2\n";
+
 const BEYOND: &[u8] = b"v 8 8 0\nv 8 1 0\nv 1 8 0\nf 1 2 3\nf 1 3 2\n";
+
 const CORNER: &[u8] = b"v 8 0 0\nv 16 0 0\nv 8 8 0\nf 1 2 3\nf 1 3 2\n";
+
 const UP: &[u8] = b"v 0 0 0\nv 12 0 0\nv 6 9 0\nf 1 2 3\nf 1 3 2\n";
+
 const DOWN: &[u8] = b"v 0 6 0\nv 6 -3 0\nv 12 6 0\nf 1 2 3\nf 1 3 2\n";
+
 const LARGE: &[u8] = b"v 0 0 0\nv 2000 0 0\nv 0 2000 0\nf 1 2 3\nf 1 3 2\n";
+
 const SLIVER: &[u8] = b"v 2000 2000 0\nv 0 1999 0\nv 1999 0 0\nf 1 2 3\nf 1 3 2\n";
+
 const ALONG: &[u8] = b"v 0 0 0\nv 2000 1 0\nv 2000 -1 0\nf 1 2 3\nf 1 3 2\n";
+
 const ACROSS: &[u8] = b"v 1100 -900 0\nv 1101 900 0\nv 1099 900 0\nf 1 2 3\nf 1 3 2\n";
+
 const PIERCING: &[u8] = b"v 1 1 5\nv 2 1 5\nv 20 7 -5\nf 1 2 3\nf 1 3 2\n";
+
 const LEANING: &[u8] = b"v 0 0 0\nv 8 0 8\nv 0 8 0\nf 1 2 3\nf 1 3 2\n";
+
 const WITHIN: &[u8] = b"v 1 1 1\nv 2 1 2\nv 1 2 1\nf 1 2 3\nf 1 3 2\n";
 
 // Whether the triangles of two such files meet, by each of them and its reverse, in both orders; or
@@ -75,7 +90,11 @@ fn triangles_of_one_plane_and_of_two(rt: HostRuntime) -> Result<(), Fail> {
         (LEFT, PIERCING, false),
     ];
     for (one, other, want) in rows {
-        assert_eq!(rt; meet(rt.alloc(), one, other)?, Some(want), "{one:?} and {other:?}");
+        assert_eq!(rt;
+            meet(rt.alloc(), one, other)?,
+            Some(want),
+            "{one:?} and {other:?}"
+        );
     }
     Ok(())
 }

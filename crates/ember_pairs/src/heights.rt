@@ -5,7 +5,8 @@ ghost use Rattle.ember_algebra.specs.Sign.{is_negative, is_zero, is_positive};
 ghost use Rattle.ember_model.specs.Valid.{IsValidCorner, IsValidTri, IsValidPlane};
 ghost use Rattle.ember_model.specs.Planes.{value_at};
 ghost use Rattle.ember_model.specs.Owners.{spot_of_corner};
-ghost use Rattle.ember_pairs.specs.Heights.{heights_of, all_in_front, all_behind, none_in_front, none_behind, all_on, lie_beyond, AreSmall};
+ghost use Rattle.ember_pairs.specs.Heights.{heights_of, AreSmall, all_in_front, all_behind};
+ghost use Rattle.ember_pairs.specs.Heights.{none_in_front, none_behind, all_on, lie_beyond};
 
 use ember_model::{Corner, Plane, Tri};
 
