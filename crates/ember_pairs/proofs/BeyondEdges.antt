@@ -1,5 +1,5 @@
 -- Triangles that lie beyond an edge plane of another don't meet it.
-use Rattle.std.proofs.Common.{◌≡◌, ◌⊎◌, ⊎_elim, inl, inr, arith, true, false, not, List, [], ◌∷◌, pos, ◌<ℤ◌}
+use Rattle.std.proofs.Common.{◌≡◌, ◌⊎◌, ⊎_elim, inl, inr, refl, arith, Bool, cond, None, Some, true, false, not, List, [], ◌∷◌, pos, ◌<ℤ◌}
 use Rattle.std.specs.List.{AllByRecursion}
 use Rattle.std.proofs.lemmas.Bool.{or_cases, false≢true}
 use Rattle.ember_algebra.specs.Sign.{is_negative}
@@ -18,7 +18,7 @@ use Rattle.ember_poly.proofs.FaceTests.{inside_out, closed_out}
 use Rattle.ember_poly.proofs.ReachBySigns.{all_above, most_opposite, least_from_opposite}
 use Rattle.ember_poly.proofs.TriangleRing.{tri_sides, tri_planes, stands}
 use Rattle.ember_pairs.specs.declared.heights.Heights.{Heights}
-use Rattle.ember_pairs.specs.Heights.{heights_of, none_behind, all_on, lie_beyond, is_beyond_some}
+use Rattle.ember_pairs.specs.Heights.{heights_of, none_behind, all_on, heights_over, lie_beyond, lies_beyond_some}
 use Rattle.ember_pairs.specs.Pairs.{AreMeeting}
 use Rattle.ember_pairs.proofs.PartedTriangles.{not_negative_out, three, some_over}
 
@@ -66,19 +66,40 @@ module _ (t : Tri) (full : is_flat t ≡ false) (p : Plane) where
 -- ---- some of several planes
 module _ (t : Tri) (full : is_flat t ≡ false) (v : Spot) where
   -- a point of the closed face isn't behind all
-  closed_not_behind : (planes : List Plane) → is_beyond_some planes t ≡ true → is_in_closed (face_of t) v ≡ true → AllByRecursion (λ p. IsBelow p v) planes → ⊥
+  closed_not_behind : (planes : List Plane) → lies_beyond_some (heights_over planes t) ≡ true → is_in_closed (face_of t) v ≡ true → AllByRecursion (λ p. IsBelow p v) planes → ⊥
   closed_not_behind [] e k a = absurd (false≢true e)
   closed_not_behind (p ∷ planes) e k a =
-      ⊎_elim (λ here. omega (arith, linear, a.0.under, (closed_beyond t full p here v k).at_least)) (λ later. closed_not_behind planes later k a.1) (or_cases (lie_beyond (heights_of p t)) (is_beyond_some planes t) e)
+      ⊎_elim (λ here. omega (arith, linear, a.0.under, (closed_beyond t full p here v k).at_least)) (λ later. closed_not_behind planes later k a.1) (or_cases (lie_beyond (heights_of p t)) (lies_beyond_some (heights_over planes t)) e)
 
   -- an inside point is in front of one
-  inside_in_front : (planes : List Plane) → is_beyond_some planes t ≡ true → is_inside (face_of t) v ≡ true → AllByRecursion (λ p. IsNotAbove p v) planes → ⊥
+  inside_in_front : (planes : List Plane) → lies_beyond_some (heights_over planes t) ≡ true → is_inside (face_of t) v ≡ true → AllByRecursion (λ p. IsNotAbove p v) planes → ⊥
   inside_in_front [] e i a = absurd (false≢true e)
   inside_in_front (p ∷ planes) e i a =
-      ⊎_elim (λ here. omega (arith, linear, a.0.at_most, (inside_beyond t full p here v i).over)) (λ later. inside_in_front planes later i a.1) (or_cases (lie_beyond (heights_of p t)) (is_beyond_some planes t) e)
+      ⊎_elim (λ here. omega (arith, linear, a.0.at_most, (inside_beyond t full p here v i).over)) (λ later. inside_in_front planes later i a.1) (or_cases (lie_beyond (heights_of p t)) (lies_beyond_some (heights_over planes t)) e)
 
 -- a triangle beyond an edge plane of another doesn't meet it
-pub parted_by_edge : (t u : Tri) → is_beyond_some (edges_of t) u ≡ true → AreMeeting t u → ⊥
+parted_by_edge : (t u : Tri) → lies_beyond_some (heights_over (edges_of t) u) ≡ true → AreMeeting t u → ⊥
 unfolding face_of
 parted_by_edge t u e m =
     ⊎_elim (λ x. closed_not_behind u m.other x.at (edges_of t) e x.holds (inside_out (face_of t) x.at x.inside).within) (λ y. inside_in_front u m.other y.at (edges_of t) e y.inside (closed_out (face_of t) y.at y.holds).within) m.meet
+
+-- ---- the answers of the code
+true_if_none : (b : Bool) (hs : List Heights) → None ≡ cond b None (Some hs) → b ≡ true
+true_if_none true hs e = refl
+true_if_none false hs e = cc
+
+same_if_some : (b : Bool) (hs ks : List Heights) → Some ks ≡ cond b None (Some hs) → ks ≡ hs
+same_if_some true hs ks e = cc
+same_if_some false hs ks e = cc
+
+module _ (t u : Tri) where
+  abbrev hs : List Heights
+  hs = heights_over (edges_of t) u
+
+  -- no heights are given only of a triangle beyond an edge plane
+  pub parted_if_none : None ≡ cond (lies_beyond_some hs) None (Some hs) → AreMeeting t u → ⊥
+  parted_if_none e m = parted_by_edge t u (true_if_none (lies_beyond_some hs) hs e) m
+
+  -- those that are given are those over the edge planes
+  pub given_heights : (ks : List Heights) → Some ks ≡ cond (lies_beyond_some hs) None (Some hs) → ks ≡ hs
+  given_heights ks e = same_if_some (lies_beyond_some hs) hs ks e

@@ -1,6 +1,7 @@
 -- The values of a plane at the corners of a triangle, and on which sides of it the corners lie
-use Rattle.std.specs.Prelude.{Bool, not, ◌&&◌, List}
+use Rattle.std.specs.Prelude.{Bool, not, ◌&&◌, ◌^◌, List, map}
 use Rattle.std.specs.List.{list_any}
+use Rattle.ember_algebra.specs.Size.{Small}
 use Rattle.ember_algebra.specs.Sign.{is_negative, is_zero, is_positive}
 use Rattle.ember_model.specs.declared.plane.Plane.{Plane}
 use Rattle.ember_model.specs.declared.tri.Tri.{Tri}
@@ -42,6 +43,17 @@ all_on h = is_zero h.a && (is_zero h.b && is_zero h.c)
 abbrev pub lie_beyond : Heights → Bool
 lie_beyond h = none_behind h && not (all_on h)
 
--- the corners of a triangle lie so at one of these planes
-abbrev pub is_beyond_some : List Plane → Tri → Bool
-is_beyond_some planes t = list_any (λ p. lie_beyond (heights_of p t)) planes
+-- they are at most 2^40 in size
+pub record AreSmall (h : Heights) : Type 0 where
+  pub a : Small (2 ^ 40) h.a
+  pub b : Small (2 ^ 40) h.b
+  pub c : Small (2 ^ 40) h.c
+
+-- ---- several planes
+-- the heights of a triangle over each of these planes
+abbrev pub heights_over : List Plane → Tri → List Heights
+heights_over planes t = map (λ p. heights_of p t) planes
+
+-- of the heights of a triangle over several planes: it lies beyond one of them
+abbrev pub lies_beyond_some : List Heights → Bool
+lies_beyond_some heights = list_any lie_beyond heights

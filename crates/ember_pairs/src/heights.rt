@@ -1,10 +1,12 @@
 // On which sides of a plane the corners of a triangle lie.
-ghost use Rattle.std.specs.Prelude.{◌≡◌, not, ◌&&◌, ◌||◌};
+ghost use Rattle.std.specs.Prelude.{◌≡◌, not, ◌&&◌, ◌||◌, ◌^◌};
+ghost use Rattle.ember_algebra.specs.Size.{Small};
 ghost use Rattle.ember_algebra.specs.Sign.{is_negative, is_zero, is_positive};
 ghost use Rattle.ember_model.specs.Valid.{IsValidCorner, IsValidTri, IsValidPlane};
 ghost use Rattle.ember_model.specs.Planes.{value_at};
 ghost use Rattle.ember_model.specs.Owners.{spot_of_corner};
-ghost use Rattle.ember_pairs.specs.Heights.{heights_of, all_in_front, all_behind, none_in_front, none_behind, all_on, lie_beyond};
+ghost use Rattle.ember_pairs.specs.Heights.{heights_of, AreSmall, all_in_front, all_behind};
+ghost use Rattle.ember_pairs.specs.Heights.{none_in_front, none_behind, all_on, lie_beyond};
 
 use ember_model::{Corner, Plane, Tri};
 
@@ -21,7 +23,8 @@ pub struct Heights {
 fn height(p: &Plane, u: &Corner) -> i64
     requires plane { IsValidPlane p.now }
     requires corner { IsValidCorner u.now }
-    ensures { result ≡ value_at p.now (spot_of_corner u.now) }
+    ensures value { result ≡ value_at p.now (spot_of_corner u.now) }
+    ensures small { Small (2 ^ 40) result }
 {
     p.a * u.x as i64 + p.b * u.y as i64 + p.c * u.z as i64 - p.d
 }
@@ -30,7 +33,8 @@ fn height(p: &Plane, u: &Corner) -> i64
 pub fn heights_of(p: &Plane, t: &Tri) -> Heights
     requires plane { IsValidPlane p.now }
     requires tri { IsValidTri t.now }
-    ensures { result ≡ heights_of p.now t.now }
+    ensures value { result ≡ heights_of p.now t.now }
+    ensures small { AreSmall result }
 {
     Heights {
         a: height(p, &t.a),
@@ -68,8 +72,8 @@ impl Heights {
         self.a >= 0 && (self.b >= 0 && self.c >= 0)
     }
 
-    // Whether all corners are on the plane.
-    fn all_on(&self) -> bool
+    /// Whether all corners are on the plane.
+    pub fn all_on(&self) -> bool
         ensures { result ≡ all_on self.now }
     {
         self.a == 0 && (self.b == 0 && self.c == 0)
@@ -88,6 +92,7 @@ impl Heights {
     {
         (self.none_in_front() || self.none_behind()) && !self.all_on()
     }
+
     /// Whether no corner is behind the plane, and not all are on it.
     pub fn lie_beyond(&self) -> bool
         ensures { result ≡ lie_beyond self.now }

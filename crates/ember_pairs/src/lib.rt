@@ -2,12 +2,13 @@
 //! by box, the list of all of them, and its text.
 #![tactic(auto)]
 
-mod beyond_edges;
+mod edge_heights;
 mod gathering;
 mod heights;
 mod law;
 mod meetings;
 mod pair;
+mod samples;
 mod step;
 mod text;
 

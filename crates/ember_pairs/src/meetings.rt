@@ -5,11 +5,13 @@ ghost use Rattle.ember_model.specs.Faces.{is_flat, face_of, Meets};
 ghost use Rattle.ember_box.specs.Near.{tri_at};
 ghost use Rattle.ember_pairs.specs.declared.pair.Pair.{Pair};
 ghost use Rattle.ember_pairs.specs.Pairs.{AreMeeting, AreMeetingPairs, Completes, row, pairs_of};
+ghost use Rattle.ember_pairs.specs.ByEdges.{HasInPlane, IsByEdges};
 ghost use Rattle.ember_pairs.specs.Candidates.{candidate_of, candidates_at, with_faces};
 
-use crate::beyond_edges::is_beyond_an_edge;
+use crate::edge_heights::edge_heights;
 use crate::heights::heights_of;
 use crate::pair::{Pair, PairList};
+use crate::samples::has_sample_within;
 use ember_box::{Aabb, aabb_of_tri, aabbs_meet};
 use ember_model::{OutOfMemory, Plane, Scene, Tri, has_no_normal, support_of};
 use ember_poly::{meets, of_tri};
@@ -51,16 +53,49 @@ fn are_parted(first: &Candidate, t: &Tri, second: &Candidate, u: &Tri) -> bool
     own.are_on_one_side() || own.lean_to_one_side() && theirs.lean_to_one_side()
 }
 
-// `true` only if two triangles don't meet, as an edge plane of one of them shows, beyond which the
-// other lies. `false` shows nothing.
-fn are_parted_by_edges(first: &Candidate, t: &Tri, second: &Candidate, u: &Tri) -> bool
+// Whether `t` isn't flat, and `u` lies in its plane.
+fn has_in_plane(first: &Candidate, t: &Tri, u: &Tri) -> bool
+    requires one { IsValidTri t.now }
+    requires other { IsValidTri u.now }
+    requires facet { first.now ≡ candidate_of t.now }
+    ensures { IsTrue result → HasInPlane t.now u.now }
+{
+    if has_no_normal(&first.support) {
+        return false;
+    }
+    heights_of(&first.support, u).all_on()
+}
+
+// What the edge planes of two triangles show.
+#[derive(Clone, Copy)]
+enum ByEdges {
+    // They don't meet: one lies beyond an edge of the other.
+    Apart,
+    // They meet: they lie in one plane, and a sample point of one is within the edges of the other.
+    Met,
+    // Not known.
+    Unknown,
+}
+
+// What the edge planes of two triangles show. Neighbours in one plane are apart, so this is tested
+// before any sample point.
+fn by_edges(first: &Candidate, t: &Tri, second: &Candidate, u: &Tri) -> ByEdges
     requires one { IsValidTri t.now }
     requires other { IsValidTri u.now }
     requires facet { first.now ≡ candidate_of t.now }
     requires other_facet { second.now ≡ candidate_of u.now }
-    ensures { IsTrue result → AreMeeting t.now u.now → ⊥ }
+    ensures { IsByEdges t.now u.now result }
 {
-    is_beyond_an_edge(t, &first.support, u) || is_beyond_an_edge(u, &second.support, t)
+    let Some(theirs) = edge_heights(t, &first.support, u) else {
+        return ByEdges::Apart;
+    };
+    let Some(own) = edge_heights(u, &second.support, t) else {
+        return ByEdges::Apart;
+    };
+    if has_in_plane(first, t, u) && has_in_plane(second, u, t) && has_sample_within(&theirs, &own) {
+        return ByEdges::Met;
+    }
+    ByEdges::Unknown
 }
 
 // Whether the triangle is flat: its normal is zero.
@@ -100,7 +135,7 @@ fn faces_meet(alloc: Global, t: &Tri, u: &Tri) -> Result<bool, OutOfMemory>
 }
 
 // Whether two triangles meet. Rings are made only if neither bounding boxes nor corners nor edges
-// show that they don't.
+// nor sample points show it.
 fn are_meeting(
     alloc: Global,
     first: &Candidate,
@@ -120,10 +155,11 @@ fn are_meeting(
     if are_parted(first, t, second, u) {
         return Ok(false);
     }
-    if are_parted_by_edges(first, t, second, u) {
-        return Ok(false);
+    match by_edges(first, t, second, u) {
+        ByEdges::Apart => Ok(false),
+        ByEdges::Met => Ok(true),
+        ByEdges::Unknown => faces_meet(alloc, t, u),
     }
-    faces_meet(alloc, t, u)
 }
 
 /// The same as `meeting`, for a list of triangles in place of a scene. The only error is

@@ -1,7 +1,7 @@
-use Rattle.std.proofs.Common.{◌∙◌, pos}
+use Rattle.std.proofs.Common.{◌∙◌, ◌^◌, pos}
 use mir.Syntax.{w32, w64}
 use Rattle.ember_algebra.proofs.Ring.{◌⊕◌, ◌⊖◌, ◌⊗◌, ◌≈◌, num, solve, cancels}
-use Rattle.ember_algebra.proofs.Exact.{input, stored, ◌⊞◌, ◌⊟◌, ◌⊠◌, ◌&◌, done, exact, no_overflow}
+use Rattle.ember_algebra.proofs.Exact.{input, stored, ◌⊞◌, ◌⊟◌, ◌⊠◌, ◌&◌, done, exact, bounded, no_overflow}
 use Rattle.ember_pairs.proofs.heights.height.Goals as goal
 
 pub overflow_cast-result : goal.overflow_cast-result
@@ -49,7 +49,12 @@ overflow_sub-result c =
     let p = c.requires.plane in let o = c.requires.corner in
     no_overflow (p.a & o.x & p.b & o.y & p.c & o.z & p.d & done) w64 (stored w64 (stored w64 (stored w64 (stored w64 (input 0) ⊠ stored w64 (stored w32 (input 1))) ⊞ stored w64 (stored w64 (input 2) ⊠ stored w64 (stored w32 (input 3)))) ⊞ stored w64 (stored w64 (input 4) ⊠ stored w64 (stored w32 (input 5)))) ⊟ stored w64 (input 6)) tt
 
-pub returns : goal.returns
-returns c =
+pub returns-clause-value : goal.returns-clause-value
+returns-clause-value c =
     let p = c.requires.plane in let o = c.requires.corner in let q = c.args.p.now in
     exact (p.a & o.x & p.b & o.y & p.c & o.z & p.d & done) (stored w64 (stored w64 (stored w64 (stored w64 (stored w64 (input 0) ⊠ stored w64 (stored w32 (input 1))) ⊞ stored w64 (stored w64 (input 2) ⊠ stored w64 (stored w32 (input 3)))) ⊞ stored w64 (stored w64 (input 4) ⊠ stored w64 (stored w32 (input 5)))) ⊟ stored w64 (input 6))) tt ∙ solve 7 (λ a x b y c z d. a ⊗ x ⊕ b ⊗ y ⊕ c ⊗ z ⊖ d ≈ a ⊗ x ⊕ b ⊗ y ⊕ c ⊗ z ⊖ d ⊗ num (pos 1)) cancels q.a _ q.b _ q.c _ q.d
+
+pub returns-clause-small : goal.returns-clause-small
+returns-clause-small c =
+    let p = c.requires.plane in let o = c.requires.corner in
+    bounded (p.a & o.x & p.b & o.y & p.c & o.z & p.d & done) (2 ^ 40) (stored w64 (stored w64 (stored w64 (stored w64 (stored w64 (input 0) ⊠ stored w64 (stored w32 (input 1))) ⊞ stored w64 (stored w64 (input 2) ⊠ stored w64 (stored w32 (input 3)))) ⊞ stored w64 (stored w64 (input 4) ⊠ stored w64 (stored w32 (input 5)))) ⊟ stored w64 (input 6))) tt

@@ -1,6 +1,7 @@
-use Rattle.std.proofs.Common.{◌≡◌, false, sym, ◌∙◌}
+use Rattle.std.proofs.Common.{◌≡◌, false, refl, sym, subst, ◌∙◌}
 use Rattle.std.proofs.lemmas.Bool.{false≢true}
 use Rattle.ember_box.specs.Aabbs.{aabb_of_tri, aabbs_meet}
+use Rattle.ember_pairs.specs.ByEdges.{IsByEdges}
 use Rattle.ember_pairs.proofs.DisjointAabbs.{boxes_apart}
 use Rattle.ember_pairs.proofs.meetings.are_meeting.Goals as goal
 
@@ -14,6 +15,10 @@ pub returns-then-are_parted : goal.returns-then-are_parted
 returns-then-are_parted c =
     (λ r. absurd (false≢true r), λ m. absurd (c.are_parted.ensures c.if-are_parted.true m))
 
-pub returns-then-are_parted_by_edges : goal.returns-then-are_parted_by_edges
-returns-then-are_parted_by_edges c =
-    (λ r. absurd (false≢true r), λ m. absurd (c.are_parted_by_edges.ensures c.if-are_parted_by_edges.true m))
+pub returns-in-Apart : goal.returns-in-Apart
+returns-in-Apart c =
+    (λ r. absurd (false≢true r), λ m. absurd (subst (λ b. IsByEdges c.args.t.now c.args.u.now b) c.in-Apart.is c.by_edges.ensures m))
+
+pub returns-in-Met : goal.returns-in-Met
+returns-in-Met c =
+    (λ r. subst (λ b. IsByEdges c.args.t.now c.args.u.now b) c.in-Met.is c.by_edges.ensures, λ m. refl)

@@ -16,14 +16,14 @@ heights_of-own-requires-clause-plane c =
 
 pub returns-then-are_on_one_side : goal.returns-then-are_on_one_side
 returns-then-are_on_one_side c = λ r m.
-    parted_by_one c.args.t.now c.args.u.now (heights_answer_moved (λ h. all_in_front h || all_behind h) c.args.u.now (ap (λ (f : Candidate). f.support) c.requires.facet) c.heights_of-theirs.ensures c.are_on_one_side.ensures c.if-are_on_one_side.true) m
+    parted_by_one c.args.t.now c.args.u.now (heights_answer_moved (λ h. all_in_front h || all_behind h) c.args.u.now (ap (λ (f : Candidate). f.support) c.requires.facet) c.heights_of-theirs.ensures.value c.are_on_one_side.ensures c.if-are_on_one_side.true) m
 
 pub returns-then-are_on_one_side-2 : goal.returns-then-are_on_one_side-2
 returns-then-are_on_one_side-2 c = λ r m.
-    parted_by_one c.args.u.now c.args.t.now (heights_answer_moved (λ h. all_in_front h || all_behind h) c.args.t.now (ap (λ (f : Candidate). f.support) c.requires.other_facet) c.heights_of-own.ensures c.are_on_one_side-2.ensures r) (meeting_is_symmetric m)
+    parted_by_one c.args.u.now c.args.t.now (heights_answer_moved (λ h. all_in_front h || all_behind h) c.args.t.now (ap (λ (f : Candidate). f.support) c.requires.other_facet) c.heights_of-own.ensures.value c.are_on_one_side-2.ensures r) (meeting_is_symmetric m)
 
 pub returns-then-lean_to_one_side : goal.returns-then-lean_to_one_side
 returns-then-lean_to_one_side c = λ r m.
-    let own = heights_answer_moved (λ h. (none_in_front h || none_behind h) && not (all_on h)) c.args.t.now (ap (λ (f : Candidate). f.support) c.requires.other_facet) c.heights_of-own.ensures c.lean_to_one_side.ensures c.if-lean_to_one_side.true in
-    let theirs = heights_answer_moved (λ h. (none_in_front h || none_behind h) && not (all_on h)) c.args.u.now (ap (λ (f : Candidate). f.support) c.requires.facet) c.heights_of-theirs.ensures c.lean_to_one_side-then-lean_to_one_side.ensures r in
+    let own = heights_answer_moved (λ h. (none_in_front h || none_behind h) && not (all_on h)) c.args.t.now (ap (λ (f : Candidate). f.support) c.requires.other_facet) c.heights_of-own.ensures.value c.lean_to_one_side.ensures c.if-lean_to_one_side.true in
+    let theirs = heights_answer_moved (λ h. (none_in_front h || none_behind h) && not (all_on h)) c.args.u.now (ap (λ (f : Candidate). f.support) c.requires.facet) c.heights_of-theirs.ensures.value c.lean_to_one_side-then-lean_to_one_side.ensures r in
     parted_by_both c.args.t.now c.args.u.now own theirs m
