@@ -6,6 +6,7 @@ ghost use Rattle.ember_boolean.specs.Faults.{of_file_fault, IsRefusal, IsReadFau
 
 use crate::fault::BooleanFault;
 use ember_file::{FileFault, read_file};
+use ember_progress::{Stage, Stages};
 use ember_surface::Surface;
 use std::alloc::Global;
 
@@ -43,10 +44,12 @@ fn surface_in<'a>(
     }
 }
 
-/// The surface of each file, in order, or the first fault. There are at most 64 files.
-pub fn surfaces_in<'a>(
+/// The surface of each file, in order, or the first fault. There are at most 64 files. `stages` is
+/// told before each of them.
+pub fn surfaces_in<'a, P: Stages>(
     alloc: Global,
     files: &[MeshFile<'a>],
+    stages: &P,
 ) -> Result<Vec<Surface<'a>>, BooleanFault<'a>>
     requires few { length files.now ≤ 64 }
     requires sizes { All IsSmall files.now }
@@ -56,6 +59,7 @@ pub fn surfaces_in<'a>(
 {
     let mut surfaces = Vec::with_capacity(alloc, files.len())?;
     for (index, file) in files.iter().enumerate() {
+        stages.begin(Stage::Reading);
         match surface_in(alloc, file, index as u32) {
             Ok(surface) => surfaces.push(surface)?,
             Err(fault) => return Err(fault),

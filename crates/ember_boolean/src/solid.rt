@@ -17,6 +17,7 @@ use crate::wanted::WantedFile;
 use crate::writing::written_of;
 use ember_expr::Expr;
 use ember_model::{OutOfMemory, Scene};
+use ember_progress::{Stage, Stages};
 use ember_query::{Answer, Query};
 use ember_solid_mesh::{MeshedSolid, solid_mesh};
 use ember_triangles::{PlaneAnswer, PlaneQuery, TrianglesFault};
@@ -37,7 +38,8 @@ fn kept_with(scene: Scene, document: Option<Vec<u8>>) -> Option<Kept>
 ///
 /// The surfaces of the files are put on the grid that is wanted, the triangles of the solid are
 /// exact there, and each coordinate of their corners is rounded once. What is wanted beside the file
-/// is there, and else it is dropped as soon as it isn't needed. There are at most 64 files, of at
+/// is there, and else it is dropped as soon as it isn't needed. `stages` is told of the stages but
+/// those of the executors. There are at most 64 files, of at
 /// most 2^28 bytes each, a given step is in range, and there are at most 17 decimal places. Of
 /// several faults the first of these is reported:
 ///
@@ -48,6 +50,7 @@ fn kept_with(scene: Scene, document: Option<Vec<u8>>) -> Option<Kept>
 /// 5. After rounding, too many triangles: 2^32 or more for an STL, 2^32 bytes or more of a GLB.
 pub fn solid_file<
     'a,
+    P: Stages,
     C: Fn(&Query) -> Result<Answer, OutOfMemory>,
     D: Fn(&PlaneQuery) -> Result<PlaneAnswer, TrianglesFault>,
 >(
@@ -55,6 +58,7 @@ pub fn solid_file<
     files: &[MeshFile<'a>],
     expr: &Expr,
     wanted: WantedFile,
+    stages: &P,
     executor: &C,
     plane_executor: &D,
 ) -> Result<Output, BooleanFault<'a>>
@@ -67,7 +71,7 @@ pub fn solid_file<
     ensures output { IfOk result (IsOutput files.now (formula_of expr.now) wanted) }
     ensures fault { IfErr result (IsBooleanFault files.now (formula_of expr.now) wanted) }
 {
-    let placed = placed_files(alloc, files, wanted.grid)?;
+    let placed = placed_files(alloc, files, wanted.grid, stages)?;
     let MeshedSolid {
         mesh,
         report,
@@ -81,6 +85,7 @@ pub fn solid_file<
         plane_executor,
     )?;
     let kept = kept_with(placed.scene, document);
+    stages.begin(Stage::Writing);
     let written = written_of(alloc, mesh, &placed.grid, wanted.format, wanted.shows)?;
     Ok(Output {
         written,

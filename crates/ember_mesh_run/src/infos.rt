@@ -22,6 +22,7 @@ use ember_model::OutOfMemory;
 use ember_surface::Surface;
 use ember_words::{Text, Texts};
 use std::alloc::Global;
+use steal_pool::OpenGate;
 
 // The line of each file, one after another.
 #[tactic(auto, using(crate::proofs::InfoOutcomes::surfaces_are_as_many))]
@@ -52,7 +53,7 @@ fn infos_of_contents(alloc: Global, names: &[Text], contents: &[Vec<u8>]) -> Res
 {
     let made = mesh_files(alloc, names, contents)?;
     let files = made.as_slice();
-    match surfaces_in(alloc, files) {
+    match surfaces_in(alloc, files, &OpenGate) {
         Ok(surfaces) => {
             let lines = info_lines(alloc, files, &surfaces)?;
             Ok(lines)

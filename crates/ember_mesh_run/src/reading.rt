@@ -13,6 +13,7 @@ use ember_model::OutOfMemory;
 use ember_surface::Surface;
 use ember_words::Text;
 use std::alloc::Global;
+use steal_pool::OpenGate;
 
 /// The greatest number of bytes of a file, 2^28.
 pub const MOST_BYTES: u64 = 268_435_456;
@@ -57,7 +58,7 @@ pub fn surfaces_of<'a>(
         IsRefusalCause told names.now status) }
 {
     let files = mesh_files(alloc, names, contents)?;
-    match surfaces_in(alloc, &files) {
+    match surfaces_in(alloc, &files, &OpenGate) {
         Ok(surfaces) => Ok(surfaces),
         Err(fault) => Err(status_of(alloc, &files, fault)),
     }

@@ -22,17 +22,19 @@ use ember_boolean::placed_files;
 use ember_grid::Wanted;
 use ember_io::{Shelf, Sink};
 use ember_mesh_words::SnapRequest;
+use ember_progress::Stages;
 use ember_scene::Placed;
 use ember_target::Target;
 use ember_words::Text;
 use std::alloc::Global;
 
 // Files with these names and bytes on the grid that is wanted.
-fn placed_of_contents(
+fn placed_of_contents<P: Stages>(
     alloc: Global,
     names: &[Text],
     contents: &[Vec<u8>],
     wanted: Wanted,
+    stages: &P,
 ) -> Result<Placed, Status>
     requires few { length names.now ≤ 64 }
     requires one_each { length contents.now ≡ length names.now }
@@ -44,7 +46,7 @@ fn placed_of_contents(
         AreContents told names.now contents.now → IsPlacingCause told names.now wanted status) }
 {
     let files = mesh_files(alloc, names, contents)?;
-    match placed_files(alloc, &files, wanted) {
+    match placed_files(alloc, &files, wanted, stages) {
         Ok(placed) => Ok(placed),
         Err(fault) => Err(status_of(alloc, &files, fault)),
     }
@@ -52,10 +54,11 @@ fn placed_of_contents(
 
 // The files of a request on the grid that it asks for. The error is the status with which the call
 // ends instead.
-fn placed_for<S: Shelf>(
+fn placed_for<S: Shelf, P: Stages>(
     alloc: Global,
     request: &SnapRequest,
     shelf: &mut S,
+    stages: &P,
 ) -> Result<Placed, Status>
     requires { IsWithinSnapLimits request.now }
     ensures contents { KeepsContents (shelf_call S.contents S.faults S.fault_at shelf.old shelf.new) }
@@ -68,18 +71,19 @@ fn placed_for<S: Shelf>(
     };
     let names = request.files.items();
     match read_contents(alloc, shelf, names) {
-        Ok(contents) => placed_of_contents(alloc, names, &contents, wanted),
+        Ok(contents) => placed_of_contents(alloc, names, &contents, wanted, stages),
         Err(status) => Err(status),
     }
 }
 
 // Writes the files of the scene that a request asks for, and gives the report, or the status that
 // says why they aren't written.
-fn write_scene<S: Shelf, T: Target>(
+fn write_scene<S: Shelf, T: Target, P: Stages>(
     alloc: Global,
     request: &SnapRequest,
     shelf: &mut S,
     target: &mut T,
+    stages: &P,
 ) -> Result<Vec<u8>, Status>
     requires limits { IsWithinSnapLimits request.now }
     requires begun { T.begun target.old ≡ None }
@@ -93,7 +97,7 @@ fn write_scene<S: Shelf, T: Target>(
         (shelf_call S.contents S.faults S.fault_at shelf.old shelf.new)
         (target_call T.held T.begun T.faults target.old target.new)) }
 {
-    let placed = match placed_for(alloc, request, shelf) {
+    let placed = match placed_for(alloc, request, shelf, stages) {
         Ok(placed) => placed,
         Err(status) => return Err(status),
     };
@@ -107,12 +111,13 @@ fn write_scene<S: Shelf, T: Target>(
 
 /// Puts the meshes of a request on their grid and writes them and the grid, and the report or the
 /// line of the status to err.
-pub fn serve_snap<S: Shelf, T: Target, E: Sink>(
+pub fn serve_snap<S: Shelf, T: Target, E: Sink, P: Stages>(
     alloc: Global,
     request: &SnapRequest,
     shelf: &mut S,
     target: &mut T,
     err: &mut E,
+    stages: &P,
 ) -> Status
     requires limits { IsWithinSnapLimits request.now }
     requires begun { T.begun target.old ≡ None }
@@ -125,7 +130,7 @@ pub fn serve_snap<S: Shelf, T: Target, E: Sink>(
         TakesUntilFault (sink_call E.taken E.flushed E.faults err.old err.new) text }
     ensures memory { hides_memory result ≡ false }
 {
-    match write_scene(alloc, request, shelf, target) {
+    match write_scene(alloc, request, shelf, target, stages) {
         Ok(report) => {
             say(err, &report);
             Status::Done

@@ -26,6 +26,7 @@ use ember_boolean::{Output, solid_file};
 use ember_io::{Shelf, Sink};
 use ember_mesh_words::Request;
 use ember_model::OutOfMemory;
+use ember_progress::Stages;
 use ember_query::{Answer, Query};
 use ember_target::Target;
 use ember_triangles::{PlaneAnswer, PlaneQuery, TrianglesFault};
@@ -34,6 +35,7 @@ use std::alloc::Global;
 
 // The output for files with these names and bytes.
 fn output_of_contents<
+    P: Stages,
     C: Fn(&Query) -> Result<Answer, OutOfMemory>,
     D: Fn(&PlaneQuery) -> Result<PlaneAnswer, TrianglesFault>,
 >(
@@ -41,6 +43,7 @@ fn output_of_contents<
     names: &[Text],
     contents: &[Vec<u8>],
     asked: &Asked,
+    stages: &P,
     executor: &C,
     plane_executor: &D,
 ) -> Result<Output, Status>
@@ -64,6 +67,7 @@ fn output_of_contents<
         &files,
         &asked.expr,
         asked.wanted,
+        stages,
         executor,
         plane_executor,
     ) {
@@ -76,12 +80,14 @@ fn output_of_contents<
 // file is opened if the words or the expression are refused.
 fn solid_output<
     S: Shelf,
+    P: Stages,
     C: Fn(&Query) -> Result<Answer, OutOfMemory>,
     D: Fn(&PlaneQuery) -> Result<PlaneAnswer, TrianglesFault>,
 >(
     alloc: Global,
     request: &Request,
     shelf: &mut S,
+    stages: &P,
     executor: &C,
     plane_executor: &D,
 ) -> Result<Output, Status>
@@ -101,7 +107,7 @@ fn solid_output<
     let names = request.files.items();
     match read_contents(alloc, shelf, names) {
         Ok(contents) => {
-            output_of_contents(alloc, names, &contents, &asked, executor, plane_executor)
+            output_of_contents(alloc, names, &contents, &asked, stages, executor, plane_executor)
         }
         Err(status) => Err(status),
     }
@@ -112,6 +118,7 @@ fn solid_output<
 fn write_solid<
     S: Shelf,
     T: Target,
+    P: Stages,
     C: Fn(&Query) -> Result<Answer, OutOfMemory>,
     D: Fn(&PlaneQuery) -> Result<PlaneAnswer, TrianglesFault>,
 >(
@@ -119,6 +126,7 @@ fn write_solid<
     request: &Request,
     shelf: &mut S,
     target: &mut T,
+    stages: &P,
     executor: &C,
     plane_executor: &D,
 ) -> Result<Vec<u8>, Status>
@@ -136,7 +144,7 @@ fn write_solid<
         (shelf_call S.contents S.faults S.fault_at shelf.old shelf.new)
         (target_call T.held T.begun T.faults target.old target.new)) }
 {
-    let output = match solid_output(alloc, request, shelf, executor, plane_executor) {
+    let output = match solid_output(alloc, request, shelf, stages, executor, plane_executor) {
         Ok(output) => output,
         Err(status) => return Err(status),
     };
@@ -153,6 +161,7 @@ pub fn serve_solid<
     S: Shelf,
     T: Target,
     E: Sink,
+    P: Stages,
     C: Fn(&Query) -> Result<Answer, OutOfMemory>,
     D: Fn(&PlaneQuery) -> Result<PlaneAnswer, TrianglesFault>,
 >(
@@ -161,6 +170,7 @@ pub fn serve_solid<
     shelf: &mut S,
     target: &mut T,
     err: &mut E,
+    stages: &P,
     executor: &C,
     plane_executor: &D,
 ) -> Status
@@ -177,7 +187,7 @@ pub fn serve_solid<
         TakesUntilFault (sink_call E.taken E.flushed E.faults err.old err.new) text }
     ensures memory { hides_memory result ≡ false }
 {
-    match write_solid(alloc, request, shelf, target, executor, plane_executor) {
+    match write_solid(alloc, request, shelf, target, stages, executor, plane_executor) {
         Ok(report) => {
             say(err, &report);
             Status::Done

@@ -20,6 +20,7 @@ use crate::writing::{say, say_out_of_memory, write_bytes};
 use ember_io::{Shelf, Sink};
 use ember_mesh_words::{Command, Refusal, WordsFault, read_words};
 use ember_model::OutOfMemory;
+use ember_progress::{Stage, Stages};
 use ember_query::{Answer, Query, answer_alone, answer_by_workers};
 use ember_target::Target;
 use ember_triangles::{
@@ -57,6 +58,7 @@ fn run_by<
     T: Target,
     O: Sink,
     E: Sink,
+    P: Stages,
     C: Fn(u32, &Query) -> Result<Answer, OutOfMemory>,
     D: Fn(u32, &PlaneQuery) -> Result<PlaneAnswer, TrianglesFault>,
 >(
@@ -66,6 +68,7 @@ fn run_by<
     target: &mut T,
     out: &mut O,
     err: &mut E,
+    stages: &P,
     executor: &C,
     plane_executor: &D,
 ) -> Status
@@ -88,6 +91,7 @@ fn run_by<
                 shelf,
                 target,
                 err,
+                stages,
                 &|query: &Query| -> Result<Answer, OutOfMemory>
                     requires { C.pre executor.now workers query }
                     ensures { C.post executor.entry.now workers query.entry result }
@@ -98,7 +102,7 @@ fn run_by<
                 { plane_executor(workers, query) },
             )
         }
-        Ok(Command::Snap(request)) => serve_snap(alloc, &request, shelf, target, err),
+        Ok(Command::Snap(request)) => serve_snap(alloc, &request, shelf, target, err, stages),
         Ok(Command::Export(request)) => serve_export(alloc, &request, shelf, target, err),
         Ok(Command::Info(names)) => serve_infos(alloc, &names, shelf, out, err),
         Ok(Command::View(request)) => serve_view(alloc, &request, shelf, target, err),
@@ -114,7 +118,7 @@ fn run_by<
 
 /// Does what the words ask for, with one worker whatever they say. It waits for nobody, and accepts
 /// all words that `run_mesh` accepts. Only tests call this.
-pub fn run_mesh_one<S: Shelf, T: Target, O: Sink, E: Sink, G: Gate>(
+pub fn run_mesh_one<S: Shelf, T: Target, O: Sink, E: Sink, G: Gate + Stages>(
     alloc: Global,
     words: &[String],
     shelf: &mut S,
@@ -138,22 +142,38 @@ pub fn run_mesh_one<S: Shelf, T: Target, O: Sink, E: Sink, G: Gate>(
         target,
         out,
         err,
+        gate,
         &|_workers: u32, query: &Query| -> Result<Answer, OutOfMemory>
             requires { IsQuery query.now }
             ensures { IfOk result (IsAnswer query.entry.now) }
-        { answer_alone(alloc, gate, query) },
+        {
+            let answer = answer_alone(alloc, gate, query);
+            gate.begin(Stage::Triangles);
+            answer
+        },
         &move |_workers: u32, query: &PlaneQuery| -> Result<PlaneAnswer, TrianglesFault>
             requires { IsPlaneQuery query.now }
             ensures { IfOk result (IsPlaneAnswer query.entry.now) }
-        { answer_planes_alone(alloc, query) },
+        {
+            gate.begin(Stage::Triangles);
+            answer_planes_alone(alloc, query)
+        },
     )
 }
 
 /// Does what the words ask for, with as many workers as they say. The files that they name are read
 /// from the shelf, and those of the result are written to the target, each whole or not at all. `help`
 /// and the version go to `out`; the report, or the line of the status, goes to `err`. The solid
-/// doesn't depend on the number of workers. With one worker, the calling thread does everything.
-pub fn run_mesh<R: Threads + Wait + Sync, S: Shelf, T: Target, O: Sink, E: Sink, G: Gate + Sync>(
+/// doesn't depend on the number of workers. With one worker, the calling thread does everything. The
+/// gate is told of the boxes and of the other stages.
+pub fn run_mesh<
+    R: Threads + Wait + Sync,
+    S: Shelf,
+    T: Target,
+    O: Sink,
+    E: Sink,
+    G: Gate + Stages + Sync,
+>(
     rt: &R,
     alloc: Global,
     words: &[String],
@@ -178,15 +198,23 @@ pub fn run_mesh<R: Threads + Wait + Sync, S: Shelf, T: Target, O: Sink, E: Sink,
         target,
         out,
         err,
+        gate,
         &|workers: u32, query: &Query| -> Result<Answer, OutOfMemory>
             requires workers { (1 ≤ workers) × (workers ≤ 64) }
             requires query { IsQuery query.now }
             ensures { IfOk result (IsAnswer query.entry.now) }
-        { answer_by_workers(rt, alloc, workers, gate, query) },
+        {
+            let answer = answer_by_workers(rt, alloc, workers, gate, query);
+            gate.begin(Stage::Triangles);
+            answer
+        },
         &|workers: u32, query: &PlaneQuery| -> Result<PlaneAnswer, TrianglesFault>
             requires workers { (1 ≤ workers) × (workers ≤ 64) }
             requires query { IsPlaneQuery query.now }
             ensures { IfOk result (IsPlaneAnswer query.entry.now) }
-        { answer_planes_by_workers(rt, alloc, workers, query) },
+        {
+            gate.begin(Stage::Triangles);
+            answer_planes_by_workers(rt, alloc, workers, query)
+        },
     )
 }

@@ -1,5 +1,5 @@
 // How far a run has come, on a terminal and by a clock that the tests set.
-use ember_progress::{ProgressGate, percentage, weight};
+use ember_progress::{ProgressGate, Stage, Stages, percentage, weight};
 use std::alloc::Global;
 use std::cell::{Cell, RefCell};
 use std::fmt::{Display, Write};
@@ -70,14 +70,14 @@ fn a_line_follows_the_boxes(rt: HostRuntime) -> Result<(), Fail> {
     assert_eq!(rt; desk.taken(rt.alloc())?.as_str(), "");
     // then the others, each after what is done by then
     let rows = [
-        (1000, 9, "ember-mesh:  12 %\r"),
+        (1000, 9, "ember-mesh:  12 %    \r"),
         (1099, 5, ""),
-        (1100, 3, "ember-mesh:  50 %\r"),
+        (1100, 3, "ember-mesh:  50 %    \r"),
         (1200, 6, ""),
         (1300, 1 << 20, ""),
-        (1400, 7, "ember-mesh:  75 %\r"),
+        (1400, 7, "ember-mesh:  75 %    \r"),
         (1450, 14, ""),
-        (1500, 15, "ember-mesh:  87 %\r"),
+        (1500, 15, "ember-mesh:  87 %    \r"),
     ];
     for (time, path, line) in rows {
         desk.milliseconds.set(time);
@@ -85,7 +85,30 @@ fn a_line_follows_the_boxes(rt: HostRuntime) -> Result<(), Fail> {
         assert_eq!(rt; desk.taken(rt.alloc())?.as_str(), line);
     }
     gate.clear();
-    assert_eq!(rt; desk.taken(rt.alloc())?.as_str(), "                 \r");
+    assert_eq!(rt; desk.taken(rt.alloc())?.as_str(), "                     \r");
+    Ok(())
+}
+
+#[test]
+fn a_stage_is_shown_when_it_begins(rt: HostRuntime) -> Result<(), Fail> {
+    let desk = Desk::new(rt.alloc());
+    let gate = ProgressGate::new(&desk, true);
+    let rows = [
+        (999, Stage::Reading, ""),
+        (1000, Stage::Reading, "ember-mesh: reading  \r"),
+        (1200, Stage::Reading, ""),
+        (1201, Stage::Snapping, "ember-mesh: snapping \r"),
+        (5000, Stage::Triangles, "ember-mesh: triangles\r"),
+        (5001, Stage::Triangles, ""),
+        (5002, Stage::Writing, "ember-mesh: writing  \r"),
+    ];
+    for (time, stage, line) in rows {
+        desk.milliseconds.set(time);
+        gate.begin(stage);
+        assert_eq!(rt; desk.taken(rt.alloc())?.as_str(), line);
+    }
+    gate.clear();
+    assert_eq!(rt; desk.taken(rt.alloc())?.as_str(), "                     \r");
     Ok(())
 }
 
@@ -99,6 +122,7 @@ fn nothing_is_shown_that_is_not_wanted(rt: HostRuntime) -> Result<(), Fail> {
         for path in [1, 2, 3] {
             gate.enter(path);
         }
+        gate.begin(Stage::Triangles);
         gate.clear();
         assert_eq!(rt; desk.taken(rt.alloc())?.as_str(), "");
     }

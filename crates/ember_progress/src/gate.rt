@@ -1,4 +1,5 @@
 // The gate that shows how far a run has come.
+use crate::stage::{Stage, Stages};
 use crate::weights::{is_left, percentage, weight};
 use std::io::Eprint;
 use std::rt::Clock;
@@ -12,13 +13,44 @@ const SILENCE: u64 = 1000;
 // For how many milliseconds at least the line stays as it is.
 const PAUSE: u64 = 100;
 
-// No percentage.
-const NONE: u64 = 101;
+// What the line says.
+#[derive(Clone, Copy, Debug, PartialEq, Eq)]
+enum Line {
+    Nothing,
+    Stage(Stage),
+    // How many hundredths of the boxes are done.
+    Boxes(u64),
+}
 
-/// The gate that weighs the boxes that enter it, and shows how many hundredths of the root's weight are
-/// done, in a line on standard error. It writes the line again when the number has changed, but not in
-/// the first second and at most ten times a second. It leaves the cursor at the beginning of the line,
-/// so that the next line is written over it.
+impl Line {
+    // A number that no other line has.
+    fn number(self) -> u64 {
+        match self {
+            Line::Boxes(percentage) => percentage,
+            Line::Nothing => 101,
+            Line::Stage(Stage::Reading) => 102,
+            Line::Stage(Stage::Snapping) => 103,
+            Line::Stage(Stage::Triangles) => 104,
+            Line::Stage(Stage::Writing) => 105,
+        }
+    }
+}
+
+// The name of the stage.
+fn name_of(stage: Stage) -> &'static str {
+    match stage {
+        Stage::Reading => "reading",
+        Stage::Snapping => "snapping",
+        Stage::Triangles => "triangles",
+        Stage::Writing => "writing",
+    }
+}
+
+/// The gate that shows in a line on standard error how far a run has come: its stage, and while the
+/// boxes are run, how many hundredths of the root's weight are done, by the weights of the boxes that
+/// enter it. It writes the line again when a stage begins or the number has changed, but not in the
+/// first second, and numbers at most ten times a second. It leaves the cursor at the beginning of the
+/// line, so that the next line is written over it.
 #[derive(Drop)]
 pub struct ProgressGate<'a, R: Clock + Eprint> {
     rt: &'a R,
@@ -26,9 +58,9 @@ pub struct ProgressGate<'a, R: Clock + Eprint> {
     start: Option<Instant>,
     // The weight of the boxes that were entered and whose left half wasn't.
     entered: AtomicU64,
-    // The percentage that the line has.
+    // The number of the line that is shown.
     shown: AtomicU64,
-    // When the line may be written again, in milliseconds from the start.
+    // When a percentage may be written next, in milliseconds from the start.
     due: AtomicU64,
     // Whether a thread is writing the line.
     is_writing: AtomicBool,
@@ -47,7 +79,7 @@ impl<'a, R: Clock + Eprint> ProgressGate<'a, R> {
             rt,
             start,
             entered: AtomicU64::new(0),
-            shown: AtomicU64::new(NONE),
+            shown: AtomicU64::new(Line::Nothing.number()),
             due: AtomicU64::new(SILENCE),
             is_writing: AtomicBool::new(false),
         }
@@ -70,25 +102,39 @@ impl<'a, R: Clock + Eprint> ProgressGate<'a, R> {
         u64::try_from(start.elapsed(self.rt).ok()?.as_millis()).ok()
     }
 
-    // Writes the line, unless it is too early or another thread is writing it.
-    fn show(&self, percentage: u64, start: Instant) {
+    // Whether the line is shown.
+    fn is_shown(&self, line: Line) -> bool {
+        self.shown.load(Ordering::SeqCst) == line.number()
+    }
+
+    // Writes the line over the one before it: each is as long as the longest.
+    fn write(&self, line: Line) {
+        // A line that can't be written is left out: no result depends on it.
+        let _ = match line {
+            Line::Nothing => eprint!(self.rt; "{:21}\r", ""),
+            Line::Stage(stage) => eprint!(self.rt; "ember-mesh: {:<9}\r", name_of(stage)),
+            Line::Boxes(percentage) => eprint!(self.rt; "ember-mesh: {percentage:>3} %    \r"),
+        };
+    }
+
+    // Writes the line, unless that isn't due or another thread is writing.
+    fn show(&self, line: Line, due: u64, start: Instant) {
         let Some(time) = self.time(start) else {
             return;
         };
-        if time < self.due.load(Ordering::SeqCst) || self.is_writing.swap(true, Ordering::SeqCst) {
+        if time < due || self.is_writing.swap(true, Ordering::SeqCst) {
             return;
         }
-        self.shown.store(percentage, Ordering::SeqCst);
+        self.shown.store(line.number(), Ordering::SeqCst);
         self.due.store(time.saturating_add(PAUSE), Ordering::SeqCst);
-        // A line that can't be written is left out: no result depends on it.
-        let _ = eprint!(self.rt; "ember-mesh: {percentage:>3} %\r");
+        self.write(line);
         self.is_writing.store(false, Ordering::SeqCst);
     }
 
     /// Clears the line, if one was shown. The run must have ended.
     pub fn clear(&self) {
-        if self.shown.load(Ordering::SeqCst) != NONE {
-            let _ = eprint!(self.rt; "{:17}\r", "");
+        if !self.is_shown(Line::Nothing) {
+            self.write(Line::Nothing);
         }
     }
 }
@@ -103,9 +149,21 @@ impl<R: Clock + Eprint> Gate for ProgressGate<'_, R> {
         if weight == 0 {
             return;
         }
-        let percentage = percentage(self.weigh(path, weight));
-        if percentage != self.shown.load(Ordering::SeqCst) {
-            self.show(percentage, start);
+        let line = Line::Boxes(percentage(self.weigh(path, weight)));
+        if !self.is_shown(line) {
+            self.show(line, self.due.load(Ordering::SeqCst), start);
+        }
+    }
+}
+
+impl<R: Clock + Eprint> Stages for ProgressGate<'_, R> {
+    fn begin(&self, stage: Stage) {
+        let Some(start) = self.start else {
+            return;
+        };
+        let line = Line::Stage(stage);
+        if !self.is_shown(line) {
+            self.show(line, SILENCE, start);
         }
     }
 }

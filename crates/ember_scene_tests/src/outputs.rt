@@ -18,6 +18,7 @@ use ember_grid::Wanted;
 use ember_mesh_text::TextFormat;
 use ember_model::OutOfMemory;
 use ember_number::floor_times;
+use ember_progress::{Stage, Stages};
 use ember_query::{Answer, Query, answer_alone, answer_by_workers};
 use ember_scene::Counts;
 use ember_stl_bytes::{FloatPoint, WrittenTriangle, stl_bytes};
@@ -27,6 +28,7 @@ use ember_triangles::{
 };
 use ember_wavefront::WavefrontFault;
 use std::alloc::{AllocError, Global};
+use std::cell::RefCell;
 use std::process::Abort;
 use std::sync::Wait;
 use std::test::Fail;
@@ -129,7 +131,7 @@ pub fn surfaces_of<'a>(
     if !are_small(files) {
         return Err(Fail::from("long file"));
     }
-    Ok(surfaces_in(alloc, files))
+    Ok(surfaces_in(alloc, files, &OpenGate))
 }
 
 /// The coordinates of a vertex in thousandths.
@@ -194,6 +196,7 @@ fn no_surfaces_are_given_with_a_fault(rt: HostRuntime) -> Result<(), Fail> {
 // The output for files, or why there is none.
 fn outcome_by<
     'a,
+    P: Stages,
     C: Fn(&Query) -> Result<Answer, OutOfMemory>,
     D: Fn(&PlaneQuery) -> Result<PlaneAnswer, TrianglesFault>,
 >(
@@ -201,6 +204,7 @@ fn outcome_by<
     files: &[MeshFile<'a>],
     text: &[u8],
     wanted: WantedFile,
+    stages: &P,
     executor: &C,
     plane_executor: &D,
 ) -> Result<Result<Output, BooleanFault<'a>>, Fail>
@@ -216,7 +220,43 @@ fn outcome_by<
         return Err(Fail::from("long file"));
     }
     let expr = expression(alloc, text)?;
-    Ok(solid_file(alloc, files, &expr, wanted, executor, plane_executor))
+    Ok(solid_file(
+        alloc,
+        files,
+        &expr,
+        wanted,
+        stages,
+        executor,
+        plane_executor,
+    ))
+}
+
+// What the calling thread alone makes, and it tells of its stages.
+fn outcome_told<'a, P: Stages>(
+    alloc: Global,
+    files: &[MeshFile<'a>],
+    text: &[u8],
+    wanted: WantedFile,
+    stages: &P,
+) -> Result<Result<Output, BooleanFault<'a>>, Fail>
+    requires choice { IsChoice wanted.grid }
+    requires digits { HasFewDigits wanted.format }
+{
+    outcome_by(
+        alloc,
+        files,
+        text,
+        wanted,
+        stages,
+        &|query: &Query| -> Result<Answer, OutOfMemory>
+            requires { IsQuery query.now }
+            ensures { IfOk result (IsAnswer query.entry.now) }
+        { answer_alone(alloc, &OpenGate, query) },
+        &|query: &PlaneQuery| -> Result<PlaneAnswer, TrianglesFault>
+            requires { IsPlaneQuery query.now }
+            ensures { IfOk result (IsPlaneAnswer query.entry.now) }
+        { answer_planes_alone(alloc, query) },
+    )
 }
 
 /// What the calling thread alone makes.
@@ -229,20 +269,7 @@ pub fn outcome_wanted<'a>(
     requires choice { IsChoice wanted.grid }
     requires digits { HasFewDigits wanted.format }
 {
-    outcome_by(
-        alloc,
-        files,
-        text,
-        wanted,
-        &|query: &Query| -> Result<Answer, OutOfMemory>
-            requires { IsQuery query.now }
-            ensures { IfOk result (IsAnswer query.entry.now) }
-        { answer_alone(alloc, &OpenGate, query) },
-        &|query: &PlaneQuery| -> Result<PlaneAnswer, TrianglesFault>
-            requires { IsPlaneQuery query.now }
-            ensures { IfOk result (IsPlaneAnswer query.entry.now) }
-        { answer_planes_alone(alloc, query) },
-    )
+    outcome_told(alloc, files, text, wanted, &OpenGate)
 }
 
 // A file with nothing beside it.
@@ -287,6 +314,7 @@ fn outcome_of_two<'a, R: Threads + Wait + Sync>(
         files,
         text,
         file_alone(wanted, STL),
+        &OpenGate,
         &|query: &Query| -> Result<Answer, OutOfMemory>
             requires { IsQuery query.now }
             ensures { IfOk result (IsAnswer query.entry.now) }
@@ -330,6 +358,44 @@ fn check(rt: &impl Abort, output: &Output, counts: &[Counts]) {
 }
 
 // A face of a cube that isn't cut has two triangles, one that is cut at a corner has four.
+// Keeps the stages that it is told of.
+#[derive(Drop)]
+struct Told {
+    stages: RefCell<Vec<Stage>>,
+}
+
+impl Stages for Told {
+    fn begin(&self, stage: Stage) {
+        if let Ok(mut stages) = self.stages.try_borrow_mut() {
+            let _ = stages.push(stage);
+        }
+    }
+}
+
+#[test]
+fn stages_come_in_their_order(rt: HostRuntime) -> Result<(), Fail> {
+    let told = Told {
+        stages: RefCell::new(Vec::new(rt.alloc())),
+    };
+    let files = [obj(SHIFTED_CUBE), obj(SHIFTED_CUBE)];
+    let wanted = file_alone(Wanted::Nice, STL);
+    if outcome_told(rt.alloc(), &files, b"m1|m2", wanted, &told)?.is_err() {
+        return Err(Fail::from("refused"));
+    }
+    let stages = told.stages.into_inner();
+    assert_eq!(rt;
+        stages.as_slice(),
+        [
+            Stage::Reading,
+            Stage::Reading,
+            Stage::Snapping,
+            Stage::Writing
+        ]
+        .as_slice()
+    );
+    Ok(())
+}
+
 #[test]
 fn the_difference_of_two_cubes_is_read_again(rt: HostRuntime) -> Result<(), Fail> {
     let alloc = rt.alloc();

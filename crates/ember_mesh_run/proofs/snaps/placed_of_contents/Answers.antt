@@ -9,33 +9,33 @@ use Rattle.ember_mesh_run.proofs.ToldFiles.{all_names, files_are_of_contents, fi
 use Rattle.ember_mesh_run.proofs.snaps.placed_of_contents.Goals as goal
 
 pub placed_files-requires-clause-few : goal.placed_files-requires-clause-few
-placed_files-requires-clause-few c =
+placed_files-requires-clause-few g c =
     let many = files_are_of_contents c.in_ok-files.files.items c.args.contents.now c.in_ok-files.ensures.bytes in
     let same = ap length c.deref.ensures.value in
     omega (arith, many, same, c.requires.few, c.requires.one_each)
 
 pub placed_files-requires-clause-sizes : goal.placed_files-requires-clause-sizes
-placed_files-requires-clause-sizes c =
+placed_files-requires-clause-sizes g c =
     subst (All IsSmall) (sym c.deref.ensures.value) (files_are_small c.in_ok-files.files.items c.args.contents.now c.in_ok-files.ensures.bytes c.requires.small)
 
 pub status_of-requires-clause-few : goal.status_of-requires-clause-few
-status_of-requires-clause-few c =
+status_of-requires-clause-few g c =
     let many = files_are_of_contents c.in_ok-files.files.items c.args.contents.now c.in_ok-files.ensures.bytes in
     let same = ap length c.deref-in-Err.ensures.value in
     omega (arith, many, same, c.requires.few, c.requires.one_each)
 
 pub status_of-requires-clause-small : goal.status_of-requires-clause-small
-status_of-requires-clause-small c =
+status_of-requires-clause-small g c =
     subst (All IsSmall) (sym c.deref-in-Err.ensures.value) (files_are_small c.in_ok-files.files.items c.args.contents.now c.in_ok-files.ensures.bytes c.requires.small)
 
 pub status_of-requires-clause-there : goal.status_of-requires-clause-there
-status_of-requires-clause-there c =
+status_of-requires-clause-there g c =
     let wanted = c.args.wanted in
     let fault = subst (λ (files : List MeshFile). IsPlacingFault files wanted c.in-Err.fault) c.deref.ensures.value c.in-Err.ensures.fault in
     subst (λ (files : List MeshFile). NamesFile files c.in-Err.fault) (sym c.deref-in-Err.ensures.value) (unplaced_file_is_there c.in_ok-files.files.items wanted c.in-Err.fault fault)
 
 pub returns-in-Ok-clause-placed : goal.returns-in-Ok-clause-placed
-returns-in-Ok-clause-placed c = λ told h.
+returns-in-Ok-clause-placed g c = λ told h.
     let made = c.in_ok-files.ensures in
     let files = c.in_ok-files.files.items in
     record {
@@ -45,7 +45,7 @@ returns-in-Ok-clause-placed c = λ told h.
     }
 
 pub returns-clause-cause : goal.returns-clause-cause
-returns-clause-cause c = λ told h.
+returns-clause-cause g c = λ told h.
     let made = c.in_ok-files.ensures in
     let files = c.in_ok-files.files.items in
     let wanted = c.args.wanted in
