@@ -2,7 +2,7 @@
 use Rattle.std.proofs.Common.{◌≡◌, ◌≤◌, ◌<◌, ℕ, zero, suc, Bool, true, false, ltb, cond, Some, None, ◌+◌, ◌-◌, ◌*◌, ◌/◌, ◌%◌, ◌^◌, min, refl, ◌∙◌, sym, ap, arith, pow-add}
 use Rattle.std.proofs.lemmas.Bool.Decides.{nat_tests}
 use Rattle.std.proofs.lemmas.Nat.{pow_pos, one_shl, shl_whole}
-use Rattle.std.proofs.Math.Nat.{mul-le-mul_left, mul-lt-mul_of_pos_left, div-lt_iff_lt-mul, pow-le-pow_right}
+use Rattle.std.proofs.Math.Nat.{mul-le-mul_left, mul-lt-mul_of_pos_left, div-le_self, div-lt_iff_lt-mul, pow-le-pow_right}
 use Rattle.ember_number.specs.Quotients.{quotient, size_of_multiple}
 use Rattle.ember_number.proofs.Rounding.{by_lt, quotient_exact, quotient_cancel, quotient_far}
 
@@ -103,6 +103,10 @@ lowered_below up s places factor less =
     let passes : ltb s (10 ^ 15 * 2 ^ places) ≡ true = sym (limit_of_quotient s (2 ^ places) (pow_pos places)) ∙ test in
     let turned : s * factor ≡ factor * s = omega arith in
     rw passes (ap (λ (n : ℕ). Some (quotient up n (2 ^ places))) turned)
+
+-- a number below 2^24 is below the limit
+pub short_lowered_below : (up : Bool) (s places factor : ℕ) → s < 2 ^ 24 → Some (quotient up (s * factor) (2 ^ places)) ≡ size_of_multiple up factor s (2 ^ places)
+short_lowered_below up s places factor h = lowered_below up s places factor (omega (arith, h, div-le_self s (2 ^ places)))
 
 -- a power of two above and one below: only their difference counts
 pub scaled_down : (up : Bool) (factor s power scale : ℕ) → power < scale → size_of_multiple up factor s (2 ^ (scale - power)) ≡ size_of_multiple up factor (s * 2 ^ power) (2 ^ scale)

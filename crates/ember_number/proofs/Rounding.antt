@@ -30,6 +30,12 @@ quotient_more true x y k p =
     let sums : x + y * k + (k - 1) ≡ x + (k - 1) + y * k = omega arith in
     ap (λ (n : ℕ). n / k) sums ∙ add-mul-div_right (x + (k - 1)) y p
 
+-- a number above 0, rounded up
+pub quotient_up_of_more : (x d : ℕ) → 0 < x → 0 < d → (x - 1) / d + 1 ≡ quotient true x d
+quotient_up_of_more x d h p =
+    let sums : x - 1 + 1 * d ≡ x + (d - 1) = omega arith in
+    sym (add-mul-div_right (x - 1) 1 p) ∙ ap (λ (n : ℕ). n / d) sums
+
 -- a quotient of 0 is 0
 pub quotient_of_zero : (up : Bool) (k : ℕ) → 0 < k → quotient up 0 k ≡ 0
 quotient_of_zero false k p = div-eq_of_lt p

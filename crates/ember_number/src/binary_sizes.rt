@@ -1,5 +1,5 @@
 // Multiples of binary numbers, without their signs, rounded to whole numbers.
-ghost use Rattle.std.specs.Prelude.{◌≡◌, ◌*◌, ◌^◌, ◌<◌, Bool, IfSome};
+ghost use Rattle.std.specs.Prelude.{◌≡◌, ◌*◌, ◌^◌, ◌<◌, Bool, Some, IfSome};
 ghost use Rattle.ember_number.specs.Quotients.{quotient, size_of_multiple};
 
 use crate::values::Binary;
@@ -12,6 +12,26 @@ const MOST_LEFT: u32 = 50;
 
 // Multiples are below 2 to the power of this.
 const MOST_RIGHT: u32 = 105;
+
+// Significands and factors below these have a product of 64 bits. Those of a binary32 and of most
+// grids are.
+const SHORT_SIGNIFICAND: u64 = 1 << 24;
+
+const SHORT_FACTOR: u64 = 1 << 40;
+
+// The quotient of a number of 64 bits by a power of two.
+fn short_shifted(x: u64, places: u32, up: bool) -> u64
+    requires { places < 64 }
+    ensures { result ≡ quotient up x (2 ^ places) }
+{
+    if !up {
+        x >> places
+    } else if x == 0 {
+        0
+    } else {
+        ((x - 1) >> places) + 1
+    }
+}
 
 // The quotient by a power of two.
 fn shifted(x: u128, places: u32, up: bool) -> u128
@@ -41,8 +61,19 @@ fn raised(significand: u64, places: u32, factor: u64) -> Option<u128>
     }
 }
 
-// The multiple of a whole number divided by a power of two.
-fn lowered(significand: u64, places: u32, factor: u64, up: bool) -> Option<u128>
+// The multiple of a whole number divided by a power of two, if 64 bits are enough. The number is then
+// below the limit, too.
+fn short_lowered(significand: u64, places: u32, factor: u64, up: bool) -> u64
+    requires significand { significand < 2 ^ 24 }
+    requires factor { factor < 2 ^ 40 }
+    requires places { places < 64 }
+    ensures { Some result ≡ size_of_multiple up factor significand (2 ^ places) }
+{
+    short_shifted(significand * factor, places, up)
+}
+
+// The multiple of a whole number divided by a power of two, in 128 bits.
+fn long_lowered(significand: u64, places: u32, factor: u64, up: bool) -> Option<u128>
     requires { factor < 2 ^ 41 }
     ensures value { result ≡ size_of_multiple up factor significand (2 ^ places) }
     ensures small { IfSome result (λ size. size < 2 ^ 106) }
@@ -51,6 +82,19 @@ fn lowered(significand: u64, places: u32, factor: u64, up: bool) -> Option<u128>
         Some(shifted(u128::from(significand) * u128::from(factor), places, up))
     } else {
         None
+    }
+}
+
+// The multiple of a whole number divided by a power of two.
+fn lowered(significand: u64, places: u32, factor: u64, up: bool) -> Option<u128>
+    requires { factor < 2 ^ 41 }
+    ensures value { result ≡ size_of_multiple up factor significand (2 ^ places) }
+    ensures small { IfSome result (λ size. size < 2 ^ 106) }
+{
+    if significand < SHORT_SIGNIFICAND && factor < SHORT_FACTOR && places < 64 {
+        Some(u128::from(short_lowered(significand, places, factor, up)))
+    } else {
+        long_lowered(significand, places, factor, up)
     }
 }
 

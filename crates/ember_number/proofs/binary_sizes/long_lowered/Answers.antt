@@ -1,5 +1,5 @@
 use Rattle.ember_number.proofs.Doublings.{lowered_below}
-use Rattle.ember_number.proofs.binary_sizes.lowered.Goals as goal
+use Rattle.ember_number.proofs.binary_sizes.long_lowered.Goals as goal
 
 pub returns-then-shifted-lt-LIMIT-clause-value : goal.returns-then-shifted-lt-LIMIT-clause-value
 returns-then-shifted-lt-LIMIT-clause-value c =
