@@ -94,8 +94,9 @@ fn mesh_alone<
 
 /// The solid of an expression over a scene as certified triangles. They cut up the faces that the
 /// solid's document holds. This document is made only if it `keeps` it. The faces are dropped before
-/// the triangles are made. One executor runs boxes, and the other answers for lines and planes. It is a fault if the faces have no tables or if no certified triangles
-/// are found; it isn't proved that this never happens.
+/// the triangles are made. One executor runs boxes, and the other answers for lines and planes. It is
+/// a fault if the faces have no tables or if no certified triangles are found; it isn't proved that
+/// this never happens.
 pub fn solid_mesh<
     C: Fn(&Query) -> Result<Answer, OutOfMemory>,
     D: Fn(&PlaneQuery) -> Result<PlaneAnswer, TrianglesFault>,

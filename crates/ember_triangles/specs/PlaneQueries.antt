@@ -16,10 +16,11 @@ IsPlaneQuery (query.Boundaries tables by_line) = ⊤
 IsPlaneQuery (query.Cuts tables parts first_free_line) = ⊤
 IsPlaneQuery (query.Certificate tables boundary triangles) = All IsValidPlane tables.planes.now
 
--- this is the answer to the query, of the same kind. Boundaries have the chains of the segments, and triangles that are
--- certified cut up the faces. Of cuts nothing is said: their triangles are certified later.
+-- this is the answer to the query, of the same kind. Boundaries have the chains of the segments, and triangles
+-- that are certified cut up the faces. Of cuts nothing is said: their triangles are certified later.
 abbrev pub IsPlaneAnswer : PlaneQuery → PlaneAnswer → Type 0
-IsPlaneAnswer (query.Boundaries tables by_line) (answer.Boundaries found) = HaveSameChains by_line.now found.segments.items
+IsPlaneAnswer (query.Boundaries tables by_line) (answer.Boundaries found) =
+    HaveSameChains by_line.now found.segments.items
 IsPlaneAnswer (query.Cuts tables parts first_free_line) (answer.Cuts found) = ⊤
 IsPlaneAnswer (query.Certificate tables boundary triangles) (answer.Certificate certified) =
     IsTrue certified →

@@ -38,7 +38,7 @@ pub fn answer_planes_alone(alloc: Global, query: &PlaneQuery) -> Result<PlaneAns
 }
 
 /// The answer to a query about planes, by 1 to 64 threads, of which this one is the first. Each takes
-/// some lines or planes. The answer is the same for each number of them.
+/// some lines or planes. Tests show that the answer is the same for each number of them.
 pub fn answer_planes_by_workers<R: Threads + Sync>(
     rt: &R,
     alloc: Global,
