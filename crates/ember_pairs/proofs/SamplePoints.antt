@@ -17,7 +17,7 @@ use Rattle.ember_pairs.specs.Samples.{AreWeights, sample_point, sample_height, i
 use Rattle.ember_pairs.specs.ByEdges.{HasInPlane}
 use Rattle.ember_pairs.specs.Pairs.{AreMeeting}
 use Rattle.ember_pairs.proofs.PartedTriangles.{three}
-use Rattle.ember_pairs.proofs.CornerSums.{ArePositive, positive_is_not_negative, value_at_sum, zeros_sum, has_own_corners, sum_inside, sum_weight}
+use Rattle.ember_pairs.proofs.CornerSums.{ArePositive, positive_weights_are_not_negative, value_at_sum, sum_of_zeros, face_has_triangle_corners, sum_is_inside, sum_has_positive_weight}
 
 -- ---- one triangle
 -- the weights of a sample point are positive
@@ -26,7 +26,7 @@ weights_positive k = record { a = k.a.positive; b = k.b.positive; c = k.c.positi
 
 -- a sample point is an inside point
 pub sample_inside : (t : Tri) → is_flat t ≡ false → (w : Weights) → AreWeights w → is_inside (face_of t) (sample_point t w) ≡ true
-sample_inside t full w k = sum_inside (face_of t) t (has_own_corners t full) w (weights_positive k)
+sample_inside t full w k = sum_is_inside (face_of t) t (face_has_triangle_corners t full) w (weights_positive k)
 
 -- ---- two triangles
 -- by its heights over several planes, a sample point is above none of them
@@ -41,8 +41,8 @@ sample_meets : (t u : Tri) → is_flat u ≡ false → lies_in_plane_of t u ≡ 
 unfolding face_of
 sample_meets t u full on w k e =
     let h = heights_of (support_of t) u in let z = three (is_zero h.a) (is_zero h.b) (is_zero h.c) on in
-    let flat = value_at_sum (support_of t) u w ∙ zeros_sum w h (zero_out h.a z.a) (zero_out h.b z.b) (zero_out h.c z.c) in
-    record { at = sample_point u w; inside = sample_inside u full w k; holds = closed_in (face_of t) (sample_point u w) (record { flat = flat; weight = sum_weight u w (positive_is_not_negative (weights_positive k)); within = sample_not_above (edges_of t) u w e }) }
+    let flat = value_at_sum (support_of t) u w ∙ sum_of_zeros w h (zero_out h.a z.a) (zero_out h.b z.b) (zero_out h.c z.c) in
+    record { at = sample_point u w; inside = sample_inside u full w k; holds = closed_in (face_of t) (sample_point u w) (record { flat = flat; weight = sum_has_positive_weight u w (positive_weights_are_not_negative (weights_positive k)); within = sample_not_above (edges_of t) u w e }) }
 
 -- triangles of one plane meet if a sample point of one is within the edges of the other
 pub met_by_sample : (t u : Tri) → HasInPlane t u → HasInPlane u t → HasSampleWithin (heights_over (edges_of t) u) (heights_over (edges_of u) t) → AreMeeting t u

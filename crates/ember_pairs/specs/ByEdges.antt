@@ -1,4 +1,4 @@
--- What edge planes and sample points show of two triangles
+-- What edge planes, sample points and chords show of two triangles
 use Rattle.std.specs.Prelude.{◌≡◌, true, false, ⊤}
 use Rattle.ember_model.specs.declared.tri.Tri.{Tri}
 use Rattle.ember_model.specs.Faces.{is_flat}

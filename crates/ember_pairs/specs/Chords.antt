@@ -11,7 +11,7 @@ use Rattle.ember_pairs.specs.declared.chords.CornerName.TheVariants.{A, B, C}
 use Rattle.ember_pairs.specs.declared.chords.LoneCorner.{LoneCorner}
 use Rattle.ember_pairs.specs.declared.chords.ChordHeights.{ChordHeights}
 
--- the heights in the order in which this corner comes first
+-- the same heights, but that of this corner first
 abbrev pub turned : CornerName → Heights → Heights
 turned A h = h
 turned B h = record { a = h.b; b = h.c; c = h.a }
@@ -32,13 +32,15 @@ pub record IsLone (h : Heights) (lone : LoneCorner) : Type 0 where
   pub over : (lone.over ≡ turned lone.name h) ⊎ (lone.over ≡ turned lone.name (opposite_heights h))
   pub alone : IsFirstAlone lone.over
 
--- ---- the chord: it leads from the edge between the lone corner and the second to that between it and the third
--- corners with the heights `lone` and `next` over the plane that cuts have `from` and `to` over another plane. This is
--- its value at the end of the chord between them, the sum of the corners with the weights -next and lone
+-- ---- the chord
+-- its first end lies on the edge from the lone corner to the second one, its second end on that to the third.
+-- The height of an end over an edge plane, times a positive number: `lone` and `next` are the heights of the edge's two
+-- corners over the plane that cuts, `from` and `to` those over the edge plane. The end is the sum of the two corners with
+-- the weights -next and lone
 abbrev pub end_height : ℤ → ℤ → ℤ → ℤ → ℤ
 end_height lone next from to = lone *ℤ to -ℤ next *ℤ from
 
--- the middle is the sum of both ends
+-- the heights of the chord, by those of the triangle's corners over the edge plane. The middle is the sum of both ends
 abbrev pub chord_heights : LoneCorner → Heights → ChordHeights
 chord_heights lone edge =
     let over = lone.over in let from = turned lone.name edge in
@@ -49,18 +51,20 @@ chord_heights lone edge =
 abbrev pub is_beyond : ChordHeights → Bool
 is_beyond c = not (is_negative c.first) && not (is_negative c.second) && not (is_zero c.first && is_zero c.second)
 
--- ---- several planes
+-- ---- several edge planes
+-- the heights of the chord over each of them
 abbrev pub chord_over : LoneCorner → List Heights → List ChordHeights
 chord_over lone edges = map (λ edge. chord_heights lone edge) edges
 
--- this end is behind all of them
+-- the first end is behind all of them
 abbrev pub is_first_behind : List ChordHeights → Bool
 is_first_behind chord = list_all (λ c. is_negative c.first) chord
 
+-- the second end is behind all of them
 abbrev pub is_second_behind : List ChordHeights → Bool
 is_second_behind chord = list_all (λ c. is_negative c.second) chord
 
--- the middle is in front of none
+-- the middle is in front of none of them
 abbrev pub is_middle_within : List ChordHeights → Bool
 is_middle_within chord = list_all (λ c. not (is_positive c.middle)) chord
 
@@ -68,19 +72,20 @@ is_middle_within chord = list_all (λ c. not (is_positive c.middle)) chord
 abbrev pub is_edge : LoneCorner → Bool
 is_edge lone = is_zero lone.over.b && is_zero lone.over.c
 
--- an end is behind all, or the middle is in front of none and the chord isn't an edge
+-- an end is behind all of them, or the middle is in front of none and the chord isn't an edge
 abbrev pub is_within : LoneCorner → List ChordHeights → Bool
 is_within lone chord =
     is_first_behind chord || (is_second_behind chord || (not (is_edge lone) && is_middle_within chord))
 
 -- ---- what it shows
--- a triangle with the heights h over a plane and these over several edge planes has a chord beyond one of them
+-- h and `edges` are the heights of a triangle over a plane that cuts it and over several edge planes
+-- the chord lies beyond one of the edge planes
 pub record HasChordBeyond (h : Heights) (edges : List Heights) : Type 0 where
   pub lone : LoneCorner
   pub is_lone : IsLone h lone
   pub beyond : list_any is_beyond (chord_over lone edges) ≡ true
 
--- it has a chord with an end or its middle within all of them
+-- an end of the chord or its middle lies within all of them
 pub record HasChordWithin (h : Heights) (edges : List Heights) : Type 0 where
   pub lone : LoneCorner
   pub is_lone : IsLone h lone

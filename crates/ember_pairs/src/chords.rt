@@ -21,7 +21,7 @@ pub enum CornerName {
 }
 
 /// The corner of a triangle that alone lies strictly on one side of a plane. `over` are the heights
-/// of all corners, this one first, over the plane with its front on this side.
+/// of all corners, this one first, over the plane with its front turned to this corner.
 #[derive(Clone, Copy)]
 pub struct LoneCorner {
     pub name: CornerName,
@@ -36,7 +36,7 @@ pub struct ChordHeights {
     pub middle: i128,
 }
 
-// The heights in the order in which the corner comes first.
+// The same heights, but that of this corner first.
 fn turned(h: &Heights, name: CornerName) -> Heights
     requires { AreSmall h.now }
     ensures value { result ≡ turned name h.now }
@@ -104,9 +104,9 @@ fn lone_corner(h: &Heights) -> Option<LoneCorner>
     }
 }
 
-// The height over a plane of the point in which another plane cuts the edge from its lone corner to
-// the next one, times a positive number: `lone` and `next` are the heights of the two corners over
-// the plane that cuts, `from` and `to` those over the other plane.
+// The height of an end of the chord over an edge plane, times a positive number. The end lies on the
+// edge from the lone corner to another one: `lone` and `next` are the heights of these two corners
+// over the plane that cuts, `from` and `to` those over the edge plane.
 fn end_height(lone: i64, next: i64, from: i64, to: i64) -> i128
     requires lone { Small (2 ^ 40) lone }
     requires next { Small (2 ^ 40) next }
@@ -118,7 +118,7 @@ fn end_height(lone: i64, next: i64, from: i64, to: i64) -> i128
     lone as i128 * to as i128 - next as i128 * from as i128
 }
 
-// The heights of the chord over an edge plane, by those of the corners over it.
+// The heights of the chord over an edge plane. `edge` are those of the corners.
 fn chord_heights(lone: &LoneCorner, edge: &Heights) -> ChordHeights
     requires lone { AreSmall lone.now.over }
     requires edge { AreSmall edge.now }
@@ -136,7 +136,7 @@ fn chord_heights(lone: &LoneCorner, edge: &Heights) -> ChordHeights
 }
 
 impl ChordHeights {
-    // Whether the chord is in front of the plane, or only one of its ends is on it.
+    // Whether no end of the chord is behind the plane, and not both are on it.
     fn is_beyond(&self) -> bool
         ensures { result ≡ is_beyond self.now }
     {
@@ -144,14 +144,14 @@ impl ChordHeights {
     }
 }
 
-// Whether the chord lies beyond one of several planes, by its heights over them.
+// Whether the chord lies beyond one of several planes. `chord` are its heights over them.
 fn is_beyond_some(chord: &[ChordHeights]) -> bool
     ensures { result ≡ list_any is_beyond chord.now }
 {
     chord.iter().any(|over| over.is_beyond())
 }
 
-// Whether the first end of the chord is behind all of several planes, by its heights over them.
+// Whether the first end of the chord is behind all of them.
 fn is_first_behind(chord: &[ChordHeights]) -> bool
     ensures { result ≡ is_first_behind chord.now }
 {
@@ -172,15 +172,15 @@ fn is_middle_within(chord: &[ChordHeights]) -> bool
     chord.iter().all(|over| over.middle <= 0)
 }
 
-// Whether the two other corners are on the plane that cuts, so that the chord is an edge.
+// Whether the two other corners are on the plane that cuts. Then the chord is an edge.
 fn is_edge(lone: &LoneCorner) -> bool
     ensures { result ≡ is_edge lone.now }
 {
     lone.over.b == 0 && lone.over.c == 0
 }
 
-// Whether an end of the chord is behind all of several planes, or its middle is in front of none and
-// the chord isn't an edge.
+// Whether an end of the chord is behind all of them, or its middle is in front of none and the chord
+// isn't an edge.
 fn is_within(lone: &LoneCorner, chord: &[ChordHeights]) -> bool
     ensures { result ≡ is_within lone.now chord.now }
 {
@@ -188,7 +188,8 @@ fn is_within(lone: &LoneCorner, chord: &[ChordHeights]) -> bool
 }
 
 /// What the chord in which the plane of one triangle cuts another shows about the two. `over` are
-/// the heights of the other's corners over this plane, and `edges` those over the edge planes.
+/// the heights of the other's corners over this plane, and `edges` those over the edge planes of the
+/// first.
 pub fn shown_by_chord(over: &Heights, edges: &[Heights; 3]) -> ByEdges
     requires over { AreSmall over.now }
     requires edges { All AreSmall edges.now }

@@ -66,8 +66,8 @@ fn plane_heights(first: &Candidate, t: &Tri, second: &Candidate, u: &Tri) -> Opt
     Some(PlaneHeights { theirs, own })
 }
 
-// What the edge planes of two triangles in one plane show. Neighbours are apart, so this is tested
-// before any sample point.
+// What the edge planes of two triangles in one plane and their sample points show. Neighbours are
+// apart, so this is tested before any sample point.
 fn by_samples(first: &Candidate, t: &Tri, second: &Candidate, u: &Tri) -> ByEdges
     requires one { IsValidTri t.now }
     requires other { IsValidTri u.now }
@@ -92,8 +92,8 @@ fn by_samples(first: &Candidate, t: &Tri, second: &Candidate, u: &Tri) -> ByEdge
     ByEdges::Unknown
 }
 
-// What the edge planes of `t` and the chord in which its plane cuts `u` show. `over` are the heights
-// of `u` over this plane.
+// What the edge planes of `t` and the chord in which the plane of `t` cuts `u` show. `over` are the
+// heights of `u` over this plane.
 fn by_chord(t: &Tri, support: &Plane, u: &Tri, over: &Heights) -> ByEdges
     requires one { IsValidTri t.now }
     requires other { IsValidTri u.now }
@@ -120,13 +120,13 @@ fn by_edges(first: &Candidate, t: &Tri, second: &Candidate, u: &Tri, over: &Plan
     requires over { ArePlaneHeights t.now u.now over.now }
     ensures { IsByEdges t.now u.now result }
 {
-    let on = over.theirs.all_on();
-    let other_on = over.own.all_on();
-    if on && other_on {
+    let theirs_on = over.theirs.all_on();
+    let own_on = over.own.all_on();
+    if theirs_on && own_on {
         return by_samples(first, t, second, u);
     }
-    // One of them is flat.
-    if on || other_on {
+    // Only one lies in the plane of the other, so one is flat.
+    if theirs_on || own_on {
         return ByEdges::Unknown;
     }
     match by_chord(t, &first.support, u, &over.theirs) {
