@@ -38,7 +38,7 @@ module _ (t : Tri) (full : is_flat t ≡ false) (p : Plane) where
       record { a = record { at_least = not_negative_out h.a k.a }; b = record { at_least = not_negative_out h.b k.b }; c = record { at_least = not_negative_out h.c k.c } }
 
   -- if no corner is behind a plane, neither is a point of the closed face
-  closed_beyond : lie_beyond (heights_of p t) ≡ true → (v : Spot) → is_in_closed (face_of t) v ≡ true → IsNotBelow p v
+  pub closed_beyond : lie_beyond (heights_of p t) ≡ true → (v : Spot) → is_in_closed (face_of t) v ≡ true → IsNotBelow p v
   unfolding face_of
   closed_beyond e v k =
       let q = and_parts (none_behind (heights_of p t)) (not (all_on (heights_of p t))) e in
@@ -46,7 +46,7 @@ module _ (t : Tri) (full : is_flat t ≡ false) (p : Plane) where
       least_from_opposite p v (corners_at_most (support_of t) (opposite p) v (tri_sides t) (stands t full).sound (most_opposite p _ o.a, (most_opposite p _ o.b, (most_opposite p _ o.c, tt))) (closed_from_face (support_of t) (tri_planes t) (tri_sides t) v (stands t full) (closed_out (face_of t) v k)))
 
   -- if also not all are on it, the inside points are in front
-  inside_beyond : lie_beyond (heights_of p t) ≡ true → (v : Spot) → is_inside (face_of t) v ≡ true → IsAbove p v
+  pub inside_beyond : lie_beyond (heights_of p t) ≡ true → (v : Spot) → is_inside (face_of t) v ≡ true → IsAbove p v
   unfolding face_of
   inside_beyond e v i =
       let q = and_parts (none_behind (heights_of p t)) (not (all_on (heights_of p t))) e in

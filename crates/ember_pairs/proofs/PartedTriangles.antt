@@ -35,6 +35,7 @@ pub three : (x y z : Bool) → x && (y && z) ≡ true → Three (x ≡ true) (y 
 three x y z e =
     let p = and_parts x (y && z) e in let q = and_parts y z p.1 in record { a = p.0; b = q.0; c = q.1 }
 
+-- of three numbers none of which is negative, and that aren't all 0, one is positive
 pub some_over : (x y z : ℤ) → pos 0 ≤ℤ x → pos 0 ≤ℤ y → pos 0 ≤ℤ z → is_zero x && (is_zero y && is_zero z) ≡ false → (pos 0 <ℤ x) ⊎ ((pos 0 <ℤ y) ⊎ (pos 0 <ℤ z))
 some_over (pos (suc n)) y z a b c e = inl (omega (arith, ints))
 some_over (negsuc n) y z a b c e = absurd (omega (arith, ints, a))
@@ -44,7 +45,8 @@ some_over (pos zero) (pos zero) (pos (suc n)) a b c e = inr (inr (omega (arith, 
 some_over (pos zero) (pos zero) (negsuc n) a b c e = absurd (omega (arith, ints, c))
 some_over (pos zero) (pos zero) (pos zero) a b c e = absurd (clash refl e)
 
-some_under : (x y z : ℤ) → x ≤ℤ pos 0 → y ≤ℤ pos 0 → z ≤ℤ pos 0 → is_zero x && (is_zero y && is_zero z) ≡ false → (x <ℤ pos 0) ⊎ ((y <ℤ pos 0) ⊎ (z <ℤ pos 0))
+-- of three numbers none of which is positive, and that aren't all 0, one is negative
+pub some_under : (x y z : ℤ) → x ≤ℤ pos 0 → y ≤ℤ pos 0 → z ≤ℤ pos 0 → is_zero x && (is_zero y && is_zero z) ≡ false → (x <ℤ pos 0) ⊎ ((y <ℤ pos 0) ⊎ (z <ℤ pos 0))
 some_under (pos (suc n)) y z a b c e = absurd (omega (arith, ints, a))
 some_under (negsuc n) y z a b c e = inl (omega (arith, ints))
 some_under (pos zero) (pos (suc n)) z a b c e = absurd (omega (arith, ints, b))

@@ -1,10 +1,10 @@
--- What edge planes and sample points show of two triangles
+-- What edge planes, sample points and chords show of two triangles
 use Rattle.std.specs.Prelude.{◌≡◌, true, false, ⊤}
 use Rattle.ember_model.specs.declared.tri.Tri.{Tri}
 use Rattle.ember_model.specs.Faces.{is_flat}
 use Rattle.ember_model.specs.Owners.{lies_in_plane_of}
-use Rattle.ember_pairs.specs.declared.meetings.ByEdges.{ByEdges}
-use Rattle.ember_pairs.specs.declared.meetings.ByEdges.TheVariants as by_edges
+use Rattle.ember_pairs.specs.declared.by_edges.ByEdges.{ByEdges}
+use Rattle.ember_pairs.specs.declared.by_edges.ByEdges.TheVariants as by_edges
 use Rattle.ember_pairs.specs.Pairs.{AreMeeting}
 
 -- t isn't flat, and u lies in its plane

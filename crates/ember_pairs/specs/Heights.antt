@@ -1,13 +1,14 @@
 -- The values of a plane at the corners of a triangle, and on which sides of it the corners lie
-use Rattle.std.specs.Prelude.{Bool, not, ◌&&◌, ◌^◌, List, map}
+use Rattle.std.specs.Prelude.{◌≡◌, Bool, not, ◌&&◌, ◌^◌, List, map}
 use Rattle.std.specs.List.{list_any}
 use Rattle.ember_algebra.specs.Size.{Small}
 use Rattle.ember_algebra.specs.Sign.{is_negative, is_zero, is_positive}
 use Rattle.ember_model.specs.declared.plane.Plane.{Plane}
 use Rattle.ember_model.specs.declared.tri.Tri.{Tri}
-use Rattle.ember_model.specs.Planes.{value_at}
+use Rattle.ember_model.specs.Planes.{value_at, support_of}
 use Rattle.ember_model.specs.Owners.{spot_of_corner}
 use Rattle.ember_pairs.specs.declared.heights.Heights.{Heights}
+use Rattle.ember_pairs.specs.declared.heights.PlaneHeights.{PlaneHeights}
 
 -- the values of a plane at the corners of a triangle
 abbrev pub heights_of : Plane → Tri → Heights
@@ -48,6 +49,14 @@ pub record AreSmall (h : Heights) : Type 0 where
   pub a : Small (2 ^ 40) h.a
   pub b : Small (2 ^ 40) h.b
   pub c : Small (2 ^ 40) h.c
+
+-- ---- two triangles
+-- these are the heights of u over the plane of t, and of t over the plane of u
+pub record ArePlaneHeights (t u : Tri) (over : PlaneHeights) : Type 0 where
+  pub theirs : over.theirs ≡ heights_of (support_of t) u
+  pub own : over.own ≡ heights_of (support_of u) t
+  pub theirs_small : AreSmall over.theirs
+  pub own_small : AreSmall over.own
 
 -- ---- several planes
 -- the heights of a triangle over each of these planes

@@ -1,6 +1,7 @@
 pub mod Pairs
 pub mod Heights
 pub mod Samples
+pub mod Chords
 pub mod ByEdges
 pub mod Candidates
 pub mod Works

@@ -18,6 +18,14 @@ pub struct Heights {
     pub c: i64,
 }
 
+/// The heights of two triangles over each other's planes: of the second over the plane of the first,
+/// and of the first over that of the second.
+#[derive(Clone, Copy)]
+pub struct PlaneHeights {
+    pub theirs: Heights,
+    pub own: Heights,
+}
+
 // The value of a plane at a corner.
 #[tactic(none)]
 fn height(p: &Plane, u: &Corner) -> i64

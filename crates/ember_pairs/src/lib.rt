@@ -2,6 +2,8 @@
 //! by box, the list of all of them, and its text.
 #![tactic(auto)]
 
+mod by_edges;
+mod chords;
 mod edge_heights;
 mod gathering;
 mod heights;

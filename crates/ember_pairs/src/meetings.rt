@@ -1,15 +1,21 @@
 // Which triangles meet.
-ghost use Rattle.std.specs.Prelude.{◌≡◌, ◌+◌, ◌<◌, ◌↔◌, false, not, List, [], ◌∷◌, ◌++◌, if◌then◌else◌, drop, map, length, All, slice_index, IfOk, OnOk, IsTrue};
+ghost use Rattle.std.specs.Prelude.{◌≡◌, ◌+◌, ◌<◌, ◌↔◌, false, true, not, List, [], ◌∷◌, ◌++◌, if◌then◌else◌, drop};
+ghost use Rattle.std.specs.Prelude.{map, length, All, slice_index, IfSome, IsNone, IfOk, OnOk, IsTrue};
 ghost use Rattle.ember_model.specs.Valid.{IsValidTri};
+ghost use Rattle.ember_model.specs.Planes.{support_of};
+ghost use Rattle.ember_model.specs.Owners.{lies_in_plane_of};
 ghost use Rattle.ember_model.specs.Faces.{is_flat, face_of, Meets};
 ghost use Rattle.ember_box.specs.Near.{tri_at};
 ghost use Rattle.ember_pairs.specs.declared.pair.Pair.{Pair};
 ghost use Rattle.ember_pairs.specs.Pairs.{AreMeeting, AreMeetingPairs, Completes, row, pairs_of};
-ghost use Rattle.ember_pairs.specs.ByEdges.{HasInPlane, IsByEdges};
+ghost use Rattle.ember_pairs.specs.Heights.{AreSmall, ArePlaneHeights, heights_of};
+ghost use Rattle.ember_pairs.specs.ByEdges.{IsByEdges};
 ghost use Rattle.ember_pairs.specs.Candidates.{candidate_of, candidates_at, with_faces};
 
+use crate::by_edges::ByEdges;
+use crate::chords::shown_by_chord;
 use crate::edge_heights::edge_heights;
-use crate::heights::heights_of;
+use crate::heights::{Heights, PlaneHeights, heights_of};
 use crate::pair::{Pair, PairList};
 use crate::samples::has_sample_within;
 use ember_box::{Aabb, aabb_of_tri, aabbs_meet};
@@ -35,67 +41,98 @@ fn candidate_of(t: &Tri) -> Candidate
     }
 }
 
-// `true` only if two triangles don't meet, as their corners show: those of one are strictly on one
-// side of the other's plane, or those of each are on one side of the other's plane and not all on
-// it. `false` shows nothing.
-fn are_parted(first: &Candidate, t: &Tri, second: &Candidate, u: &Tri) -> bool
+// The heights of two triangles over each other's planes, or `None` if they show that the two don't
+// meet: the corners of one are strictly on one side of the other's plane, or those of each are on
+// one side of the other's plane and not all on it.
+fn plane_heights(first: &Candidate, t: &Tri, second: &Candidate, u: &Tri) -> Option<PlaneHeights>
     requires one { IsValidTri t.now }
     requires other { IsValidTri u.now }
     requires facet { first.now ≡ candidate_of t.now }
     requires other_facet { second.now ≡ candidate_of u.now }
-    ensures { IsTrue result → AreMeeting t.now u.now → ⊥ }
+    ensures value { IfSome result (ArePlaneHeights t.now u.now) }
+    ensures parted { IsNone result → AreMeeting t.now u.now → ⊥ }
 {
     let theirs = heights_of(&first.support, u);
     if theirs.are_on_one_side() {
-        return true;
+        return None;
     }
     let own = heights_of(&second.support, t);
-    own.are_on_one_side() || own.lean_to_one_side() && theirs.lean_to_one_side()
-}
-
-// Whether `t` isn't flat, and `u` lies in its plane.
-fn has_in_plane(first: &Candidate, t: &Tri, u: &Tri) -> bool
-    requires one { IsValidTri t.now }
-    requires other { IsValidTri u.now }
-    requires facet { first.now ≡ candidate_of t.now }
-    ensures { IsTrue result → HasInPlane t.now u.now }
-{
-    if has_no_normal(&first.support) {
-        return false;
+    if own.are_on_one_side() {
+        return None;
     }
-    heights_of(&first.support, u).all_on()
+    if own.lean_to_one_side() && theirs.lean_to_one_side() {
+        return None;
+    }
+    Some(PlaneHeights { theirs, own })
 }
 
-// What the edge planes of two triangles show.
-#[derive(Clone, Copy)]
-enum ByEdges {
-    // They don't meet: one lies beyond an edge of the other.
-    Apart,
-    // They meet: they lie in one plane, and a sample point of one is within the edges of the other.
-    Met,
-    // Not known.
-    Unknown,
-}
-
-// What the edge planes of two triangles show. Neighbours in one plane are apart, so this is tested
-// before any sample point.
-fn by_edges(first: &Candidate, t: &Tri, second: &Candidate, u: &Tri) -> ByEdges
+// What the edge planes of two triangles in one plane and their sample points show. Neighbours are
+// apart, so this is tested before any sample point.
+fn by_samples(first: &Candidate, t: &Tri, second: &Candidate, u: &Tri) -> ByEdges
     requires one { IsValidTri t.now }
     requires other { IsValidTri u.now }
     requires facet { first.now ≡ candidate_of t.now }
     requires other_facet { second.now ≡ candidate_of u.now }
+    requires plane { lies_in_plane_of t.now u.now ≡ true }
+    requires other_plane { lies_in_plane_of u.now t.now ≡ true }
     ensures { IsByEdges t.now u.now result }
 {
+    if has_no_normal(&first.support) || has_no_normal(&second.support) {
+        return ByEdges::Unknown;
+    }
     let Some(theirs) = edge_heights(t, &first.support, u) else {
         return ByEdges::Apart;
     };
     let Some(own) = edge_heights(u, &second.support, t) else {
         return ByEdges::Apart;
     };
-    if has_in_plane(first, t, u) && has_in_plane(second, u, t) && has_sample_within(&theirs, &own) {
+    if has_sample_within(&theirs, &own) {
         return ByEdges::Met;
     }
     ByEdges::Unknown
+}
+
+// What the edge planes of `t` and the chord in which the plane of `t` cuts `u` show. `over` are the
+// heights of `u` over this plane.
+fn by_chord(t: &Tri, support: &Plane, u: &Tri, over: &Heights) -> ByEdges
+    requires one { IsValidTri t.now }
+    requires other { IsValidTri u.now }
+    requires face { is_flat t.now ≡ false }
+    requires other_face { is_flat u.now ≡ false }
+    requires support { support.now ≡ support_of t.now }
+    requires over { over.now ≡ heights_of (support_of t.now) u.now }
+    requires small { AreSmall over.now }
+    ensures { IsByEdges t.now u.now result }
+{
+    match edge_heights(t, support, u) {
+        None => ByEdges::Apart,
+        Some(edges) => shown_by_chord(over, &edges),
+    }
+}
+
+// What the edge planes of two triangles show, by sample points if they lie in one plane, and
+// otherwise by the chord of each in the plane of the other.
+fn by_edges(first: &Candidate, t: &Tri, second: &Candidate, u: &Tri, over: &PlaneHeights) -> ByEdges
+    requires one { IsValidTri t.now }
+    requires other { IsValidTri u.now }
+    requires facet { first.now ≡ candidate_of t.now }
+    requires other_facet { second.now ≡ candidate_of u.now }
+    requires over { ArePlaneHeights t.now u.now over.now }
+    ensures { IsByEdges t.now u.now result }
+{
+    let theirs_on = over.theirs.all_on();
+    let own_on = over.own.all_on();
+    if theirs_on && own_on {
+        return by_samples(first, t, second, u);
+    }
+    // Only one lies in the plane of the other, so one is flat.
+    if theirs_on || own_on {
+        return ByEdges::Unknown;
+    }
+    match by_chord(t, &first.support, u, &over.theirs) {
+        ByEdges::Unknown => by_chord(u, &second.support, t, &over.own),
+        shown => shown,
+    }
 }
 
 // Whether the triangle is flat: its normal is zero.
@@ -135,7 +172,7 @@ fn faces_meet(alloc: Global, t: &Tri, u: &Tri) -> Result<bool, OutOfMemory>
 }
 
 // Whether two triangles meet. Rings are made only if neither bounding boxes nor corners nor edges
-// nor sample points show it.
+// nor sample points nor chords show it.
 fn are_meeting(
     alloc: Global,
     first: &Candidate,
@@ -152,10 +189,10 @@ fn are_meeting(
     if !aabbs_meet(&first.aabb, &second.aabb) {
         return Ok(false);
     }
-    if are_parted(first, t, second, u) {
+    let Some(over) = plane_heights(first, t, second, u) else {
         return Ok(false);
-    }
-    match by_edges(first, t, second, u) {
+    };
+    match by_edges(first, t, second, u, &over) {
         ByEdges::Apart => Ok(false),
         ByEdges::Met => Ok(true),
         ByEdges::Unknown => faces_meet(alloc, t, u),

@@ -11,10 +11,6 @@ returns-then-not-aabbs_meet c =
     let e : aabbs_meet (aabb_of_tri t) (aabb_of_tri u) ≡ false = (λ i. aabbs_meet (sym c.requires.facet i).aabb (sym c.requires.other_facet i).aabb) ∙ sym c.aabbs_meet.ensures ∙ c.if-not-aabbs_meet.true in
     (λ r. absurd (false≢true r), λ m. absurd (boxes_apart t u e m))
 
-pub returns-then-are_parted : goal.returns-then-are_parted
-returns-then-are_parted c =
-    (λ r. absurd (false≢true r), λ m. absurd (c.are_parted.ensures c.if-are_parted.true m))
-
 pub returns-in-Apart : goal.returns-in-Apart
 returns-in-Apart c =
     (λ r. absurd (false≢true r), λ m. absurd (subst (λ b. IsByEdges c.args.t.now c.args.u.now b) c.in-Apart.is c.by_edges.ensures m))

@@ -1,25 +1,28 @@
-use Rattle.std.proofs.Common.{◌∙◌, sym, subst, List}
-use Rattle.ember_model.specs.Faces.{edges_of}
+use Rattle.std.proofs.Common.{◌≡◌, ◌∙◌, ap, sym, Bool, false}
+use Rattle.ember_model.specs.declared.tri.Tri.{Tri}
+use Rattle.ember_model.specs.Planes.{support_of}
+use Rattle.ember_model.specs.Faces.{is_flat}
 use Rattle.ember_pairs.specs.declared.heights.Heights.{Heights}
-use Rattle.ember_pairs.specs.Heights.{heights_over}
-use Rattle.ember_pairs.specs.Samples.{HasSampleWithin}
-use Rattle.ember_pairs.proofs.BeyondEdges.{parted_if_none, given_heights}
-use Rattle.ember_pairs.proofs.PartedTriangles.{meeting_is_symmetric}
-use Rattle.ember_pairs.proofs.SamplePoints.{met_by_sample}
+use Rattle.ember_pairs.specs.Heights.{heights_of, all_on}
+use Rattle.ember_pairs.proofs.FlatTriangles.{full_if_off}
 use Rattle.ember_pairs.proofs.meetings.by_edges.Goals as goal
 
-pub returns-in_default : goal.returns-in_default
-returns-in_default c = λ m.
-    parted_if_none c.args.t.now c.args.u.now (sym c.in_default.is ∙ c.edge_heights.ensures.value) m
+-- a triangle isn't flat if the test of another's heights over its plane answers false
+full : (t u : Tri) (h : Heights) (on : Bool) → h ≡ heights_of (support_of t) u → on ≡ all_on h → on ≡ false → is_flat t ≡ false
+full t u h on e q r = full_if_off t u (sym (ap all_on e) ∙ sym q ∙ r)
 
-pub returns-in_default-edge_heights : goal.returns-in_default-edge_heights
-returns-in_default-edge_heights c = λ m.
-    parted_if_none c.args.u.now c.args.t.now (sym c.in_default-edge_heights.is ∙ c.edge_heights-2.ensures.value) (meeting_is_symmetric m)
+pub by_chord-requires-clause-face : goal.by_chord-requires-clause-face
+by_chord-requires-clause-face c =
+    full c.args.t.now c.args.u.now c.args.over.now.theirs c.all_on-theirs_on.result c.requires.over.theirs c.all_on-theirs_on.ensures c.if-theirs_on-2.false
 
-pub returns-then-has_sample_within : goal.returns-then-has_sample_within
-returns-then-has_sample_within c =
-    let t = c.args.t.now in let u = c.args.u.now in
-    let theirs = given_heights t u c.in-Some.theirs (sym c.in-Some.is ∙ c.edge_heights.ensures.value) in
-    let own = given_heights u t c.in-Some-edge_heights.own (sym c.in-Some-edge_heights.is ∙ c.edge_heights-2.ensures.value) in
-    let s = c.has_sample_within.ensures c.if-has_sample_within.true in
-    met_by_sample t u (c.has_in_plane.ensures c.if-has_in_plane.true) (c.has_in_plane-then-has_in_plane.ensures c.if-has_in_plane-2.true) (subst (λ (hs : List Heights). HasSampleWithin hs (heights_over (edges_of u) t)) theirs (subst (λ (hs : List Heights). HasSampleWithin c.in-Some.theirs hs) own s))
+pub by_chord-requires-clause-other_face : goal.by_chord-requires-clause-other_face
+by_chord-requires-clause-other_face c =
+    full c.args.u.now c.args.t.now c.args.over.now.own c.all_on-own_on.result c.requires.over.own c.all_on-own_on.ensures c.if-own_on-2.false
+
+pub by_chord-requires-in-Unknown-clause-face : goal.by_chord-requires-in-Unknown-clause-face
+by_chord-requires-in-Unknown-clause-face c =
+    full c.args.u.now c.args.t.now c.args.over.now.own c.all_on-own_on.result c.requires.over.own c.all_on-own_on.ensures c.if-own_on-2.false
+
+pub by_chord-requires-in-Unknown-clause-other_face : goal.by_chord-requires-in-Unknown-clause-other_face
+by_chord-requires-in-Unknown-clause-other_face c =
+    full c.args.t.now c.args.u.now c.args.over.now.theirs c.all_on-theirs_on.result c.requires.over.theirs c.all_on-theirs_on.ensures c.if-theirs_on-2.false
