@@ -107,7 +107,15 @@ fn solid_output<
     let names = request.files.items();
     match read_contents(alloc, shelf, names) {
         Ok(contents) => {
-            output_of_contents(alloc, names, &contents, &asked, stages, executor, plane_executor)
+            output_of_contents(
+                alloc,
+                names,
+                &contents,
+                &asked,
+                stages,
+                executor,
+                plane_executor,
+            )
         }
         Err(status) => Err(status),
     }
@@ -187,7 +195,15 @@ pub fn serve_solid<
         TakesUntilFault (sink_call E.taken E.flushed E.faults err.old err.new) text }
     ensures memory { hides_memory result ≡ false }
 {
-    match write_solid(alloc, request, shelf, target, stages, executor, plane_executor) {
+    match write_solid(
+        alloc,
+        request,
+        shelf,
+        target,
+        stages,
+        executor,
+        plane_executor,
+    ) {
         Ok(report) => {
             say(err, &report);
             Status::Done

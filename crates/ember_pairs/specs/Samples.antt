@@ -24,7 +24,9 @@ pub record AreWeights (w : Weights) : Type 0 where
 -- the sample point of a triangle with these weights
 abbrev pub sample_point : Tri → Weights → Spot
 sample_point t w =
-    plus_s (plus_s (scaled w.a (spot_of_corner t.a)) (scaled w.b (spot_of_corner t.b))) (scaled w.c (spot_of_corner t.c))
+    plus_s
+    (plus_s (scaled w.a (spot_of_corner t.a)) (scaled w.b (spot_of_corner t.b)))
+    (scaled w.c (spot_of_corner t.c))
 
 -- its height over a plane, by those of the corners
 abbrev pub sample_height : Heights → Weights → ℤ
