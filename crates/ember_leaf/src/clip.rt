@@ -1,5 +1,5 @@
 // The part of a triangle that belongs to a box.
-ghost use Rattle.std.specs.Prelude.{◌≡◌, true, false, [], ◌∷◌, map, if◌then◌else◌, IfOk, OnOk, option_to_list};
+ghost use Rattle.std.specs.Prelude.{◌≡◌, true, false, [], ◌∷◌, map, if◌then◌else◌, IfOk, OnOk};
 ghost use Rattle.ember_algebra.specs.Size.{Small};
 ghost use Rattle.ember_model.specs.Valid.{IsValidPlane};
 ghost use Rattle.ember_box.specs.Aabbs.{IsIntervalSized};
@@ -14,9 +14,8 @@ ghost use Rattle.ember_leaf.specs.Walls.{wall_of, level_by, IsLowRemainder, IsHi
 use crate::wall::Wall;
 use ember_box::{Aabb, Cell, Interval, aabb_of_cell, interval_along};
 use ember_model::{Axis, OutOfMemory, Plane};
-use ember_poly::{Draft, Reach, Ring};
+use ember_poly::{Draft, Reach};
 use ember_trace::NearTriangle;
-use std::alloc::Global;
 
 // What two intervals have in common.
 fn common(first: &Interval, second: &Interval) -> Interval
@@ -236,23 +235,19 @@ fn clip_at_walls(
     Ok(true)
 }
 
-/// The part of a triangle that belongs to the box with these walls, or `None` if there is no such
-/// part. The triangle isn't flat. The lists of the ring have room for `room` cuts. The draft is
-/// only working room: its face afterwards has no meaning. The only error is out-of-memory.
+/// Leaves the part of a triangle that belongs to the box with these walls in the draft. Returns
+/// `false` if there is no such part: then the draft's face has no meaning. The triangle isn't flat.
+/// The only error is out-of-memory.
 pub fn clip_to_box(
-    alloc: Global,
     draft: &mut Draft,
     triangle: &NearTriangle,
     walls: &[Wall],
-    room: usize,
-) -> Result<Option<Ring>, OutOfMemory>
+) -> Result<bool, OutOfMemory>
     requires { is_flat triangle.now.tri ≡ false }
-    ensures { IfOk result (λ out. IsClippedBy (map wall_of walls.now) triangle.now.tri (option_to_list out)) }
+    ensures ring { OnOk result (HoldsRing draft.new) }
+    ensures left { IfOk result (λ some. IsClippedBy (map wall_of walls.now) triangle.now.tri (if some
+        then face_in draft.new ∷ [] else [])) }
 {
     draft.begin(&triangle.tri, &triangle.support, &triangle.edges)?;
-    if clip_at_walls(draft, triangle, walls)? {
-        Ok(Some(draft.ring(alloc, room)?))
-    } else {
-        Ok(None)
-    }
+    clip_at_walls(draft, triangle, walls)
 }

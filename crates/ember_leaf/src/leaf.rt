@@ -10,7 +10,7 @@ ghost use Rattle.ember_box.specs.Reference.{Fits};
 ghost use Rattle.ember_box.specs.Aabbs.{aabb_of_cell};
 ghost use Rattle.ember_box.specs.Regions.{walls as box_walls};
 ghost use Rattle.ember_leaf.specs.Walls.{wall_of};
-ghost use Rattle.ember_trace.specs.NearTriangles.{HasReferenceSide, AreBoxCounts, AreSideCounts};
+ghost use Rattle.ember_trace.specs.NearTriangles.{HasReference, AreBoxCounts, AreSideCounts};
 ghost use Rattle.ember_trace.specs.Boxed.{LiesIn};
 ghost use Rattle.ember_algebra.specs.Sign.{is_positive};
 ghost use Rattle.ember_model.specs.Planes.{along, main_axis};
@@ -90,7 +90,7 @@ impl Leaf<'_> {
         requires counts { AreBoxCounts self.now.windings.now.counts }
         requires index { i < length self.now.near.now }
         requires plane { LiesInPlaneOf (tri_at (tris_of self.now.near.now) i) ring }
-        requires reference_sides { All (HasReferenceSide self.now.cell.now) self.now.near.now }
+        requires reference_sides { All (HasReference self.now.cell.now) self.now.near.now }
         requires inside { LiesIn self.now.cell.now ring }
         requires owner { IsOwner (tris_of self.now.near.now) i ring }
         ensures placed { IfSome result (IsKeptOf (tri_at (tris_of self.now.near.now) i) i) }
@@ -120,7 +120,7 @@ impl Leaf<'_> {
         requires index { i < length self.now.near.now }
         requires plane { LiesInPlaneOf (tri_at (tris_of self.now.near.now) i) ring }
         requires regions { AreOwned self.now.cell.now (tris_of self.now.near.now) i (ring ∷ []) }
-        requires reference_sides { All (HasReferenceSide self.now.cell.now) self.now.near.now }
+        requires reference_sides { All (HasReference self.now.cell.now) self.now.near.now }
         requires inside { LiesIn self.now.cell.now ring }
         requires owner { IsOwner (tris_of self.now.near.now) i ring }
         requires kept { ArePlacedBelow (tris_of self.now.near.now) (i + 1) kept.old.items }
@@ -146,7 +146,7 @@ impl Leaf<'_> {
         requires index { i < length self.now.near.now }
         requires plane { All (LiesInPlaneOf (tri_at (tris_of self.now.near.now) i)) list.items }
         requires regions { AreOwned self.now.cell.now (tris_of self.now.near.now) i list.items }
-        requires reference_sides { All (HasReferenceSide self.now.cell.now) self.now.near.now }
+        requires reference_sides { All (HasReference self.now.cell.now) self.now.near.now }
         requires inside { All (LiesIn self.now.cell.now) list.items }
         requires owners { All (IsOwner (tris_of self.now.near.now) i) list.items }
         requires kept { ArePlacedBelow (tris_of self.now.near.now) (i + 1) kept.old.items }
@@ -177,7 +177,7 @@ impl Leaf<'_> {
         requires index { i < length self.now.near.now }
         requires walls { map wall_of walls.now ≡ box_walls self.now.cell.now }
         requires aabb { self.now.aabb.now ≡ aabb_of_cell self.now.cell.now }
-        requires reference_sides { All (HasReferenceSide self.now.cell.now) self.now.near.now }
+        requires reference_sides { All (HasReference self.now.cell.now) self.now.near.now }
         requires kept { ArePlacedBelow (tris_of self.now.near.now) (i + 1) kept.old.items }
         ensures placed { OnOk result (ArePlacedBelow (tris_of self.now.near.now) (i + 1) kept.new.items) }
         ensures written { OnOk result (AddsWritten self.now i kept.old.items kept.new.items) }
@@ -187,20 +187,23 @@ impl Leaf<'_> {
         if is_flat(target) || is_outside(walls, target) {
             return Ok(());
         }
+        // Many triangles near a box have no part in it. The clip comes first, so that no
+        // other triangle is tested against these.
+        if !clip_to_box(draft, target, walls)? {
+            return Ok(());
+        }
         let bounds = common_spans(&target.aabb, self.aabb);
         // True if an earlier coplanar triangle covers this one. Then the list is incomplete.
         if find_cutters_unless_covered(cutters, target, &bounds, self.near, i)? {
             return Ok(());
         }
-        let room = cutters.len().min(CUTTER_ROOM);
-        if let Some(ring) = clip_to_box(alloc, draft, target, walls, room)? {
-            if cutters.is_empty() {
-                // What the clip leaves is the only region, so no list is made.
-                self.add_if_written(ring, i, sides, kept)?;
-            } else {
-                let list = regions(alloc, ring, cutters)?;
-                self.add_written(list, i, sides, kept)?;
-            }
+        let ring = draft.ring(alloc, cutters.len().min(CUTTER_ROOM))?;
+        if cutters.is_empty() {
+            // What the clip leaves is the only region, so no list is made.
+            self.add_if_written(ring, i, sides, kept)?;
+        } else {
+            let list = regions(alloc, ring, cutters)?;
+            self.add_written(list, i, sides, kept)?;
         }
         Ok(())
     }

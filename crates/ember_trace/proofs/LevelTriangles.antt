@@ -15,7 +15,7 @@ use Rattle.ember_ref.specs.References.{or_sign, reference_at_list}
 use Rattle.ember_trace.specs.declared.near_triangle.NearTriangle.{NearTriangle}
 use Rattle.ember_trace.specs.declared.path.Path.{Path}
 use Rattle.ember_trace.specs.Paths.{coordinate, side_at_start, side_at_end, side_after_first, slid_to_lo}
-use Rattle.ember_trace.specs.Crossings.{all_behind}
+use Rattle.ember_trace.specs.Lines.{all_behind}
 
 record IsEmpty (p : Plane) : Type 0 where
   a : p.a ≡ pos 0
@@ -71,9 +71,6 @@ level side f k z h =
     λ i. is_neg (e i) && (is_neg (side (times_plane s (edge_through t.b t.c (unit k)))) && (is_neg (side (times_plane s (edge_through t.c t.a (unit k)))) && true))
 
 -- so no segment along the axis runs through the triangle
-pub level_first : (w : Path) (f : NearTriangle) → is_nil (sgn (along f.support w.first_axis)) ≡ true → all_behind (λ p. side_at_start w p) (edge_planes f.tri w.first_axis) ≡ false
-level_first w f h = level (λ p. side_at_start w p) f w.first_axis (empty_at_start w) h
-
 -- if the normal has no entry along the second axis, the second segment doesn't run through the triangle
 pub level_second : (w : Path) (f : NearTriangle) → is_nil (sgn (along f.support w.second_axis)) ≡ true → all_behind (λ p. side_after_first w p) (edge_planes f.tri w.second_axis) ≡ false
 level_second w f h = level (λ p. side_after_first w p) f w.second_axis (empty_after_first w) h

@@ -1,4 +1,3 @@
-pub mod AboveEnds
 pub mod BoxedRegions
 pub mod ClearVertices
 pub mod Corners

@@ -30,7 +30,7 @@ use Rattle.ember_trace.specs.declared.near_triangle.NearTriangle.{NearTriangle}
 use Rattle.ember_trace.specs.declared.path.Path.{Path}
 use Rattle.ember_trace.specs.FirstCorners.{HasFirstCorners}
 use Rattle.ember_trace.specs.Paths.{side_at_end}
-use Rattle.ember_trace.specs.Crossings.{all_behind}
+use Rattle.ember_trace.specs.Lines.{all_behind}
 use Rattle.ember_trace.proofs.Corners.{first_corners}
 use Rattle.ember_trace.proofs.SegmentCrossings.{edges_behind}
 use Rattle.ember_trace.proofs.RegionEnds.{Found, first_corners_found}

@@ -1,14 +1,16 @@
 -- A whole number that is moved into the root lies in the same bounding boxes as before.
 use Rattle.std.proofs.Common.{◌≡◌, refl, sym, ap, ◌∙◌, arith, Bool, true, false, ◌&&◌, cond, ℤ, pos, negsuc, ◌≤ℤ◌, ◌<ℤ◌, int_le, int_lt, unsigned_abs, subst, ◌≤◌}
+use Rattle.std.specs.Int.{int_max}
+use Rattle.std.proofs.lemmas.Int.{clamps}
 use borrow.Author.Differences.{ints}
 use Rattle.ember_algebra.specs.Size.{Small}
 use Rattle.ember_model.specs.declared.point.Axis.{Axis}
 use Rattle.ember_box.specs.declared.aabb.Interval.{Interval}
 use Rattle.ember_box.specs.declared.aabb.Aabb.{Aabb}
-use Rattle.ember_box.specs.Aabbs.{interval_along}
+use Rattle.ember_box.specs.Aabbs.{interval_along, aabb_of_tri}
 use Rattle.ember_trace.specs.declared.near_triangle.NearTriangle.{NearTriangle}
-use Rattle.ember_trace.specs.Crossings.{may_contain, in_root}
-use Rattle.ember_trace.proofs.SegmentsPast.{low_small, high_small}
+use Rattle.ember_trace.specs.Crossings.{may_contain, begins_by, in_root}
+use Rattle.ember_trace.proofs.SegmentsPast.{low_small, high_small, greatest_small}
 
 -- moved into the root, or already there
 pub data RootCase (z : ℤ) : Type 0 where
@@ -76,11 +78,47 @@ pub contained_in_root : (f : NearTriangle) (k : Axis) (at z : ℤ) → at ≡ in
 contained_in_root f k at z e =
     ap (λ x. may_contain (interval_along f.aabb k) x) e ∙ ap (λ (b : Aabb). may_contain (interval_along b k) (in_root z)) f.bounds ∙ same_contained _ z (low_small f.tri k f.valid) (high_small f.tri k f.valid) ∙ ap (λ (b : Aabb). may_contain (interval_along b k) z) (sym f.bounds)
 
--- what lies below a low end as moved, lies below it
-pub below_in_root : (d z : ℤ) → Small 2047 d → in_root z <ℤ d → z <ℤ d
-below_in_root d z s l = by (root_case z)
+-- an interval begins as before by the greater of the moved number and another one
+same_begin : (s : Interval) (z c : ℤ) → Small 2047 s.low → begins_by s (int_max (in_root z) c) ≡ begins_by s (int_max z c)
+same_begin s z c l = by (int_le s.low (int_max (in_root z) c)) (int_le s.low (int_max z c)) refl refl
   where
-    by : RootCase z → z <ℤ d
-    by (below o e) = omega (arith, ints, s.small, o)
-    by (above o e) = absurd (omega (arith, ints, s.small, e, l))
-    by (within e) = omega (arith, ints, e, l)
+    at_most : (a b : ℤ) → int_le a b ≡ true → a ≤ℤ b
+    at_most a b e = grind (arith, ints)
+
+    not_at_most : (a b : ℤ) → int_le a b ≡ false → b <ℤ a
+    not_at_most a b e = grind (arith, ints)
+
+    less : (a b d : ℤ) → int_max a b <ℤ d → (a <ℤ d) × (b <ℤ d)
+    less a b d h = (omega (arith, ints, clamps), omega (arith, ints, clamps))
+
+    neither : (a b d : ℤ) → a <ℤ d → b <ℤ d → int_max a b <ℤ d
+    neither a b d h k = omega (arith, ints, clamps)
+
+    moved_down : RootCase z → z <ℤ s.low → in_root z <ℤ s.low
+    moved_down (below o e) h = omega (arith, ints, l.small, e)
+    moved_down (above o e) h = absurd (omega (arith, ints, l.small, o, h))
+    moved_down (within e) h = omega (arith, ints, e, h)
+
+    moved_back : RootCase z → in_root z <ℤ s.low → z <ℤ s.low
+    moved_back (below o e) h = omega (arith, ints, l.small, o)
+    moved_back (above o e) h = absurd (omega (arith, ints, l.small, e, h))
+    moved_back (within e) h = omega (arith, ints, e, h)
+
+    by : (x y : Bool) → int_le s.low (int_max (in_root z) c) ≡ x → int_le s.low (int_max z c) ≡ y → begins_by s (int_max (in_root z) c) ≡ begins_by s (int_max z c)
+    by true true p q = p ∙ sym q
+    by false false p q = p ∙ sym q
+    by true false p q =
+        let h = less z c s.low (not_at_most s.low (int_max z c) q) in
+        absurd (let u = at_most s.low (int_max (in_root z) c) p in let v = neither (in_root z) c s.low (moved_down (root_case z) h.0) h.1 in omega (arith, ints, u, v))
+    by false true p q =
+        let h = less (in_root z) c s.low (not_at_most s.low (int_max (in_root z) c) p) in
+        absurd (let u = at_most s.low (int_max z c) q in let v = neither z c s.low (moved_back (root_case z) h.0) h.1 in omega (arith, ints, u, v))
+
+-- of the bounding box of a near triangle
+pub begun_in_root : (f : NearTriangle) (k : Axis) (at z c : ℤ) → at ≡ int_max (in_root z) c → begins_by (interval_along f.aabb k) at ≡ begins_by (interval_along f.aabb k) (int_max z c)
+begun_in_root f k at z c e =
+    ap (λ x. begins_by (interval_along f.aabb k) x) e ∙ ap (λ (b : Aabb). begins_by (interval_along b k) (int_max (in_root z) c)) f.bounds ∙ same_begin (interval_along (aabb_of_tri f.tri) k) z c (low_small f.tri k f.valid) ∙ ap (λ (b : Aabb). begins_by (interval_along b k) (int_max z c)) (sym f.bounds)
+
+-- the greater of a moved number and a small one is small
+pub farthest_small : (z c : ℤ) → Small 2048 c → Small 2048 (int_max (in_root z) c)
+farthest_small z c s = greatest_small (in_root z) c (root_small z) s

@@ -1,7 +1,8 @@
 -- The crossings of the segments of a path with a triangle, as the code counts them: by the sides of its
 -- planes on which the vertices lie, and only if the bounding box lets a segment cross it.
-use Rattle.std.proofs.Common.{◌≡◌, refl, sym, ap, ◌∙◌, arith, ℕ, ◌^◌, ◌≤◌, Bool, true, false, ◌&&◌, cond, ℤ, pos, ◌+ℤ◌, ◌-ℤ◌, ◌*ℤ◌, neg_ℤ, ◌<ℤ◌, ◌≤ℤ◌}
-use Rattle.std.specs.Int.{int_div_euclid}
+use Rattle.std.proofs.Common.{◌≡◌, ◌⊎◌, inl, inr, refl, sym, ap, ◌∙◌, arith, ℕ, ◌^◌, ◌≤◌, Bool, true, false, ◌&&◌, cond, List, ℤ, pos, ◌+ℤ◌, ◌-ℤ◌, ◌*ℤ◌, neg_ℤ, ◌<ℤ◌, ◌≤ℤ◌, int_le, slice_index_or}
+use Rattle.std.specs.Int.{int_div_euclid, int_max}
+use Rattle.std.proofs.lemmas.Int.{clamps}
 use borrow.Author.Differences.{ints}
 use Rattle.ember_algebra.specs.Vector.{Vector}
 use Rattle.ember_algebra.specs.declared.Sign.{Sign}
@@ -31,20 +32,21 @@ use Rattle.ember_model.proofs.ScaledPoints.{leg_back}
 use Rattle.ember_algebra.proofs.Size.{small_within}
 use Rattle.ember_point.specs.declared.meet_point.Meet.{Meet}
 use Rattle.ember_point.specs.Points.{spot_of, slid}
-use Rattle.ember_box.specs.Boxes.{Cell}
-use Rattle.ember_box.specs.Aabbs.{interval_along}
+use Rattle.ember_box.specs.Boxes.{Cell, axis_index}
+use Rattle.ember_box.specs.Aabbs.{interval_along, aabb_of_tri}
 use Rattle.ember_box.specs.Reference.{reference_at}
 use Rattle.ember_ref.specs.References.{or_sign, vector_of_list, reference_at_list}
 use Rattle.ember_ref.proofs.NearPoints.{coordinate as along_point}
 use Rattle.ember_ref.proofs.ReferenceLegs.{reference_is}
 use Rattle.ember_trace.specs.declared.near_triangle.NearTriangle.{NearTriangle}
 use Rattle.ember_trace.specs.declared.path.Path.{Path}
-use Rattle.ember_trace.specs.NearTriangles.{HasReferenceSide}
+use Rattle.ember_trace.specs.NearTriangles.{HasReference}
 use Rattle.ember_trace.specs.Paths.{coordinate, inside_side, first_of, second_of, side_at_start, side_at_end, side_after_first, side_after_second, floor_at_end}
-use Rattle.ember_trace.specs.Crossings.{signed_crossing, all_behind, contains_above, may_contain, may_end, first_segment, second_segment, segments_above_wall, last_segment}
+use Rattle.ember_trace.specs.Lines.{all_behind, contains_above, line_runs_through, first_lines_of}
+use Rattle.ember_trace.specs.Crossings.{signed_crossing, may_contain, begins_by, farthest, may_end, first_runs_through, first_segment, second_segment, segments_above_wall, last_segment}
 use Rattle.ember_trace.proofs.PathVertices.{with_along, entries, weight_with, level_with, differ_with}
 use Rattle.ember_trace.proofs.VertexSides.{AreStops, stop_at_start, stop_after_first, stop_after_second, start_sign, first_sign, second_sign}
-use Rattle.ember_trace.proofs.SegmentsPast.{leg_behind, across, value_across, across_with, across_sized, IsPast, past_above, past_floor}
+use Rattle.ember_trace.proofs.SegmentsPast.{leg_behind, across, value_across, across_with, across_sized, IsPast, past_above, past_floor, above_low, below_floor, low_small}
 
 -- ---- where the path starts
 record ArePowers (m : ℤ) : Type 0 where
@@ -203,7 +205,17 @@ floor_is w X = refl
 floor_is w Y = refl
 floor_is w Z = refl
 
-module _ (c : Cell) (k : Axis) (v : Path) (e : v.lo ≡ entries c.lo) (q : Spot) (n : ℕ) (s : AreStops k c.lo v.first_corner v.second_corner v.third_corner q n) (f : NearTriangle) (from : HasReferenceSide c f) where
+-- what it means that a line runs through a triangle
+lines_are : (lo : List ℤ) (t : Tri) (a : Axis) → line_runs_through lo t a ≡ contains_above (interval_along (aabb_of_tri t) (first_of a)) (coordinate lo (first_of a)) && (contains_above (interval_along (aabb_of_tri t) (second_of a)) (coordinate lo (second_of a)) && all_behind (λ p. sgn (value_at p (reference_at_list lo))) (edge_planes t a))
+lines_are lo t a = refl
+
+not_at_most : (a b : ℤ) → int_le a b ≡ false → b <ℤ a
+not_at_most a b e = grind (arith, ints)
+
+greatest_below : (a b d : ℤ) → int_max a b <ℤ d → (a <ℤ d) × (b <ℤ d)
+greatest_below a b d l = (omega (arith, ints, clamps), omega (arith, ints, clamps))
+
+module _ (c : Cell) (k : Axis) (v : Path) (e : v.lo ≡ entries c.lo) (q : Spot) (n : ℕ) (s : AreStops k c.lo v.first_corner v.second_corner v.third_corner q n) (f : NearTriangle) (from : HasReference c f) where
   -- the path, with its axes told by the last
   abbrev w : Path
   w = record v { first_axis = first_of k; second_axis = second_of k; main = k }
@@ -255,6 +267,28 @@ module _ (c : Cell) (k : Axis) (v : Path) (e : v.lo ≡ entries c.lo) (q : Spot)
   after_second = side_second (support_of t) sized ∙ ap (λ (p : Plane). side_after_second w p) (sym f.plane)
 
   -- ---- past the bounding box
+  -- the triangle begins above the whole number at or below the coordinates of both ends
+  abbrev begins_above : (a : Axis) → floor_at_end w a <ℤ (interval_along (aabb_of_tri t) a).low → IsPast t a (along_point a (spot_of v.first_corner)) v.first_corner.w
+  begins_above a l =
+      let d = (interval_along (aabb_of_tri t) a).low in let u = v.first_corner in
+      record { s = pos 1; d = d; small_s = record { small = omega arith }; small_d = low_small t a f.valid; before = above_low t a f.valid; past = (let y = along_point a (spot_of u) in let b = below_floor y u.w d u.valid.weight (let e = floor_is w a in omega (arith, linear, l, e)) in omega (arith, linear, b)) }
+
+  -- so does one that begins above the greater of both
+  both_below : (a : Axis) → begins_by (interval_along f.aabb a) (farthest w a) ≡ false → (floor_at_end w a <ℤ (interval_along (aabb_of_tri t) a).low) × (coordinate v.lo a <ℤ (interval_along (aabb_of_tri t) a).low)
+  both_below a h = greatest_below (floor_at_end w a) (coordinate v.lo a) _ (not_at_most _ _ (sym (λ j. begins_by (interval_along (f.bounds j) a) (farthest w a)) ∙ h))
+
+  beyond_start : (a : Axis) → coordinate v.lo a <ℤ (interval_along (aabb_of_tri t) a).low → value_at (across a (pos 1) (interval_along (aabb_of_tri t) a).low) p0 <ℤ pos 0
+  beyond_start a l =
+      let d = (interval_along (aabb_of_tri t) a).low in let at = coordinate (entries c.lo) a in let i = start_above c.lo n a s.large in
+      let x = value_across a (pos 1) d p0 in let h = i.to in
+      let g : coordinate v.lo a ≡ at = (λ j. coordinate (e j) a) in
+      let z : pos 0 ≤ℤ p0.w = omega (arith, linear, w0) in
+      let next : (at +ℤ pos 1) ≤ℤ d = omega (arith, linear, l, g) in
+      let m = mul_le z next in
+      let a1 = solve 2 (λ w b. (b ⊕ num (pos 1)) ⊗ w ≈ w ⊗ (b ⊕ num (pos 1))) cancels p0.w at in
+      let a2 = solve 2 (λ w d. d ⊗ w ≈ w ⊗ d) cancels p0.w d in
+      omega (arith, linear, x, h, m, a1, a2)
+
   -- the coordinate of the start isn't within
   past_start : (a : Axis) → contains_above (interval_along f.aabb a) (coordinate v.lo a) ≡ false → IsPast t a (along_point a p0) p0.w
   past_start a h =
@@ -305,18 +339,68 @@ module _ (c : Cell) (k : Axis) (v : Path) (e : v.lo ≡ entries c.lo) (q : Spot)
           let i = past_end (first_of k) h in let g = across (first_of k) i.s i.d in let l = comes (first_of k) i.s i.d p0 w0 (behind_q (first_of k) i) in
           leg_behind t g p2 p1 i.before w2 w1 (stays g (second_of k) p1 (first_second k i.s i.d) l) l
 
+      -- the line of the first segment runs through the reference point, so the near triangle has it
       first : leg (face_of t) p1 p0 ≡ neg_ℤ (first_segment w f)
-      first =
-          let b = all_behind (λ p. side_at_start w p) (edge_planes t (first_of k)) in
-          tested (contains_above (interval_along f.aabb (second_of k)) (coordinate v.lo (second_of k))) b (signed_crossing f.reference_side (side_after_first w f.support)) (leg (face_of t) p1 p0)
-          (leg_back (face_of t) p0 p1 w0 w1 ∙ ap neg_ℤ (told (first_of k) p0 p1 t b f.reference_side (side_after_first w f.support) w0 w1 (differ_with (first_of k) p0 q) at_start after_first (edges_behind (λ p. side_at_start w p) t (first_of k) p0 f.valid (λ h i z. start_sign k c.lo v.first_corner v.second_corner v.third_corner q n s h i ∙ sym (side_start h)))))
-          (λ h. first_out (second_of k) (second_first k) h)
+      first = crossed ∙ sym (ap (λ (b : Bool). neg_ℤ (cond b (signed_crossing f.reference_side (side_after_first w f.support)) (pos 0))) (runs ∙ lines_are lo t (first_of k)))
+        where
+          lo : List ℤ
+          lo = entries c.lo
+
+          runs : first_runs_through w f ≡ line_runs_through lo t (first_of k)
+          runs = ap (λ (bs : List Bool). slice_index_or bs (axis_index k) false) from.lines ∙ by_axis k
+            where
+              by_axis : (a : Axis) → slice_index_or (first_lines_of lo t) (axis_index a) false ≡ line_runs_through lo t (first_of a)
+              by_axis X = refl
+              by_axis Y = refl
+              by_axis Z = refl
+
+          -- the two other axes are the second one of the path and its main axis, in either order
+          past : (a : Axis) → (a ≡ second_of k) ⊎ (a ≡ k) → contains_above (interval_along (aabb_of_tri t) a) (coordinate lo a) ≡ false → leg (face_of t) p1 p0 ≡ pos 0
+          past a o h = first_out a (level_first o) (h')
+            where
+              level_first : (a ≡ second_of k) ⊎ (a ≡ k) → (b d : ℤ) → along (across a b d) (first_of k) ≡ pos 0
+              level_first (inl x) b d = ap (λ (m : Axis). along (across m b d) (first_of k)) x ∙ second_first k b d
+              level_first (inr x) b d = ap (λ (m : Axis). along (across m b d) (first_of k)) x ∙ across_first k b d
+
+              h' : contains_above (interval_along f.aabb a) (coordinate v.lo a) ≡ false
+              h' = (λ j. contains_above (interval_along (f.bounds j) a) (coordinate (e j) a)) ∙ h
+
+          one : (m : Axis) → (first_of (first_of m) ≡ second_of m) ⊎ (first_of (first_of m) ≡ m)
+          one X = inr refl
+          one Y = inr refl
+          one Z = inl refl
+
+          other : (m : Axis) → (second_of (first_of m) ≡ second_of m) ⊎ (second_of (first_of m) ≡ m)
+          other X = inl refl
+          other Y = inl refl
+          other Z = inr refl
+
+          crossed : leg (face_of t) p1 p0 ≡ neg_ℤ (cond (contains_above (interval_along (aabb_of_tri t) (first_of (first_of k))) (coordinate lo (first_of (first_of k))) && (contains_above (interval_along (aabb_of_tri t) (second_of (first_of k))) (coordinate lo (second_of (first_of k))) && all_behind (λ p. sgn (value_at p (reference_at_list lo))) (edge_planes t (first_of k)))) (signed_crossing f.reference_side (side_after_first w f.support)) (pos 0))
+          crossed =
+              let side = λ (p : Plane). sgn (value_at p (reference_at_list lo)) in
+              let b = all_behind side (edge_planes t (first_of k)) in let u = first_of (first_of k) in let z = second_of (first_of k) in
+              let crossing = signed_crossing f.reference_side (side_after_first w f.support) in
+              tested (contains_above (interval_along (aabb_of_tri t) u) (coordinate lo u)) (contains_above (interval_along (aabb_of_tri t) z) (coordinate lo z) && b) crossing (leg (face_of t) p1 p0)
+              (tested (contains_above (interval_along (aabb_of_tri t) z) (coordinate lo z)) b crossing (leg (face_of t) p1 p0)
+              (leg_back (face_of t) p0 p1 w0 w1 ∙ ap neg_ℤ (told (first_of k) p0 p1 t b f.reference_side (side_after_first w f.support) w0 w1 (differ_with (first_of k) p0 q) at_start after_first (edges_behind side t (first_of k) p0 f.valid (λ h i z. start_sign k c.lo v.first_corner v.second_corner v.third_corner q n s h i ∙ sym (ap (λ (p : Spot). sgn (value_at h p)) (reference_is lo c refl))))))
+              (past z (other k)))
+              (past u (one k))
+
+      -- both ends lie below the whole triangle along the second axis
+      below_out : begins_by (interval_along f.aabb (second_of k)) (farthest w (second_of k)) ≡ false → leg (face_of t) p2 p1 ≡ pos 0
+      below_out h =
+          let a = second_of k in let l = both_below a h in let i = begins_above a l.0 in let g = across a i.s i.d in
+          leg_behind t g p2 p1 i.before w2 w1 (comes a i.s i.d p1 w1 (behind_q a i)) (stays g (first_of k) p0 (second_first k i.s i.d) (beyond_start a l.1))
 
       second : leg (face_of t) p2 p1 ≡ neg_ℤ (second_segment w f)
       second =
           let b = all_behind (λ p. side_after_first w p) (edge_planes t (second_of k)) in
-          tested (may_contain (interval_along f.aabb (first_of k)) (floor_at_end w (first_of k))) b (signed_crossing (side_after_first w f.support) (side_after_second w f.support)) (leg (face_of t) p2 p1)
+          let d = begins_by (interval_along f.aabb (second_of k)) (farthest w (second_of k)) in
+          let crossing = signed_crossing (side_after_first w f.support) (side_after_second w f.support) in
+          tested (may_contain (interval_along f.aabb (first_of k)) (floor_at_end w (first_of k))) (d && b) crossing (leg (face_of t) p2 p1)
+          (tested d b crossing (leg (face_of t) p2 p1)
           (leg_back (face_of t) p1 p2 w1 w2 ∙ ap neg_ℤ (told (second_of k) p1 p2 t b (side_after_first w f.support) (side_after_second w f.support) w1 w2 (differ_with (second_of k) p1 q) after_first after_second (edges_behind (λ p. side_after_first w p) t (second_of k) p1 f.valid (λ h i z. side_first h i))))
+          below_out)
           end_out
 
   module _ (turn : Sign → Sign) (p3 : Spot) (end : IsEnd k v.first_corner v.second_corner v.third_corner turn p3) (line : DifferAlong k p2 p3) where
@@ -326,9 +410,12 @@ module _ (c : Cell) (k : Axis) (v : Path) (e : v.lo ≡ entries c.lo) (q : Spot)
     pub final_leg : leg (face_of t) p3 p2 ≡ neg_ℤ (last_segment w f side_end)
     final_leg =
         let b = all_behind (λ p. side_at_end w p) (edge_planes t k) in
-        tested (may_end w f) b (signed_crossing (side_after_second w f.support) side_end) (leg (face_of t) p3 p2)
+        let crossing = signed_crossing (side_after_second w f.support) side_end in
+        tested (begins_by (interval_along f.aabb k) (farthest w k)) (may_end w f && b) crossing (leg (face_of t) p3 p2)
+        (tested (may_end w f) b crossing (leg (face_of t) p3 p2)
         (told_back b (side_after_second w f.support) side_end (leg (face_of t) p3 p2) (told k p3 p2 t b side_end (side_after_second w f.support) end.weight w2 (differ_back k p2 p3 line) (end.side (support_of t) sized ∙ ap (λ (p : Plane). or_sign (side_at_end w p) (turn (sgn (along p k)))) (sym f.plane)) after_second (edges_behind (λ p. side_at_end w p) t k p3 f.valid (λ h i z. end.side h i ∙ or_zero (inside_side h v.first_corner v.second_corner v.third_corner) (turn (sgn (along h k))) (ap turn (ap sgn z) ∙ end.level)))))
-        (λ h. either_test (may_contain (interval_along f.aabb (first_of k)) (floor_at_end w (first_of k))) (may_contain (interval_along f.aabb (second_of k)) (floor_at_end w (second_of k))) first_out second_out h)
+        (λ h. either_test (may_contain (interval_along f.aabb (first_of k)) (floor_at_end w (first_of k))) (may_contain (interval_along f.aabb (second_of k)) (floor_at_end w (second_of k))) first_out second_out h))
+        below_out
       where
         at_p3 : (a : Axis) (i : IsPast t a (along_point a (spot_of v.first_corner)) v.first_corner.w) → value_at (across a i.s i.d) p3 <ℤ pos 0
         at_p3 a i =
@@ -344,3 +431,9 @@ module _ (c : Cell) (k : Axis) (v : Path) (e : v.lo ≡ entries c.lo) (q : Spot)
         second_out h =
             let i = past_end (second_of k) h in let g = across (second_of k) i.s i.d in
             leg_behind t g p3 p2 i.before end.weight w2 (at_p3 (second_of k) i) (comes (second_of k) i.s i.d p1 w1 (behind_q (second_of k) i))
+
+        -- both ends lie below the whole triangle along the main axis
+        below_out : begins_by (interval_along f.aabb k) (farthest w k) ≡ false → leg (face_of t) p3 p2 ≡ pos 0
+        below_out h =
+            let l = both_below k h in let i = begins_above k l.0 in let g = across k i.s i.d in
+            leg_behind t g p3 p2 i.before end.weight w2 (at_p3 k i) (stays g (second_of k) p1 (across_second k i.s i.d) (stays g (first_of k) p0 (across_first k i.s i.d) (beyond_start k l.1)))

@@ -33,7 +33,8 @@ use Rattle.ember_box.specs.Boxes.{entry_along as along_vector}
 use Rattle.ember_box.specs.Aabbs.{interval_along, interval_over, aabb_of_tri}
 use Rattle.ember_ref.proofs.NearPoints.{coordinate as along_point}
 use Rattle.ember_ref.proofs.FarTriangles.{inside_closed}
-use Rattle.ember_trace.specs.Crossings.{contains_above, may_contain}
+use Rattle.ember_trace.specs.Lines.{contains_above}
+use Rattle.ember_trace.specs.Crossings.{may_contain}
 use Rattle.ember_trace.proofs.PathVertices.{with_along, value_with}
 
 -- ---- a plane on whose front a triangle lies
@@ -124,7 +125,7 @@ least_small {m} a b i j = by (int_lt b a)
     by true = j
     by false = i
 
-greatest_small : {m : ℕ} (a b : ℤ) → Small m a → Small m b → Small m (int_max a b)
+pub greatest_small : {m : ℕ} (a b : ℤ) → Small m a → Small m b → Small m (int_max a b)
 greatest_small {m} a b i j = by (int_lt b a)
   where
     by : (t : Bool) → Small m (cond t a b)

@@ -7,7 +7,7 @@ use Rattle.ember_model.specs.declared.point.Axis.{Axis}
 use Rattle.ember_model.specs.declared.tri.Tri.{Tri}
 use Rattle.ember_model.specs.Planes.{edge_planes}
 use Rattle.ember_model.proofs.SignTests.{and_true}
-use Rattle.ember_trace.specs.Crossings.{all_behind}
+use Rattle.ember_trace.specs.Lines.{all_behind}
 
 same_some : {p q : Plane} → Some p ≡ Some q → p ≡ q
 same_some e = cc

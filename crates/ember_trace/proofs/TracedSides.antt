@@ -37,7 +37,7 @@ use Rattle.ember_ref.proofs.FarTriangles.{legs_near}
 use Rattle.ember_trace.specs.declared.near_triangle.NearTriangle.{NearTriangle}
 use Rattle.ember_trace.specs.declared.path.Path.{Path}
 use Rattle.ember_trace.specs.declared.region_sides.Sides.{Sides}
-use Rattle.ember_trace.specs.NearTriangles.{AreNearTriangles, HasReferenceSide}
+use Rattle.ember_trace.specs.NearTriangles.{AreNearTriangles, HasReference}
 use Rattle.ember_trace.specs.Paths.{coordinate, first_of, second_of, side_at_end, IsPathTo}
 use Rattle.ember_trace.specs.Crossings.{taken, segments_above_wall, last_segment, crossing_before, crossing_after, AreTraced}
 use Rattle.ember_trace.specs.Boxed.{LiesIn, AreSides}
@@ -146,7 +146,7 @@ module _ (ts ns : List Tri) (c : Cell) (counts : List ℤ) (fits : Fits ts ns c 
       let three : vector k ts p3 ≡ added counts (tally legs ns) = a ∙ (λ i. added (two i) (legs_three i)) ∙ tally_both (λ h. leg h p1 p0 +ℤ leg h p2 p1) (λ h. leg h p3 p2) ns counts in
       three ∙ ap (λ (us : List Tri). added counts (tally legs us)) (sym near_triangles.tris) ∙ sym (taken_legs legs legs_flat less fs (λ i d l. each (get_or fs i d) (near_triangles.reference_sides i d l)) counts)
     where
-      each : (f : NearTriangle) → HasReferenceSide c f → legs (face_of f.tri) ≡ neg_ℤ (less f)
+      each : (f : NearTriangle) → HasReference c f → legs (face_of f.tri) ≡ neg_ℤ (less f)
       each f from =
           let x = first_legs c k v e q n s f from in let y = final_leg c k v e q n s f from turn p3 end line in omega (arith, linear, x, y)
 

@@ -1,8 +1,7 @@
 -- How often a path to a region of a box crosses the triangles near the box, by the sides of planes on
 -- which its vertices lie
-use Rattle.std.specs.Prelude.{◌≡◌, ℤ, pos, negsuc, ◌+ℤ◌, neg_ℤ, int_le, int_lt, Bool, ◌&&◌, if◌then◌else◌, List, fold, replicate, Some, slice_get}
+use Rattle.std.specs.Prelude.{◌≡◌, ℤ, pos, negsuc, ◌+ℤ◌, neg_ℤ, int_le, int_lt, Bool, false, ◌&&◌, if◌then◌else◌, List, fold, replicate, Some, slice_get, slice_index_or}
 use Rattle.std.specs.Int.{int_max}
-use Rattle.std.specs.List.{list_all}
 use Rattle.ember_algebra.specs.declared.Sign.{Sign}
 use Rattle.ember_algebra.specs.Sign.{sgn, flip, times, number, is_neg}
 use Rattle.ember_model.specs.declared.plane.Plane.{Plane}
@@ -15,29 +14,22 @@ use Rattle.ember_poly.specs.Sides.{AreCorners}
 use Rattle.ember_law.specs.Counts.{with_more}
 use Rattle.ember_box.specs.declared.aabb.Interval.{Interval}
 use Rattle.ember_box.specs.Aabbs.{interval_along}
-use Rattle.ember_box.specs.Boxes.{Cell}
+use Rattle.ember_box.specs.Boxes.{Cell, axis_index}
 use Rattle.ember_ref.specs.References.{or_sign}
 use Rattle.ember_trace.specs.declared.near_triangle.NearTriangle.{NearTriangle}
 use Rattle.ember_trace.specs.declared.path.Path.{Path}
-use Rattle.ember_trace.specs.declared.segments.EndFloors.{EndFloors}
+use Rattle.ember_trace.specs.declared.limits.Limits.{Limits}
 use Rattle.ember_trace.specs.declared.region_sides.Sides.{Sides}
+use Rattle.ember_trace.specs.Lines.{all_behind, contains_above}
 use Rattle.ember_trace.specs.NearTriangles.{AreNearTriangles}
-use Rattle.ember_trace.specs.Paths.{coordinate, inside_side, side_at_start, side_at_end, side_after_first, side_after_second, floor_at_end, HasAxes, IsPathTo}
+use Rattle.ember_trace.specs.Paths.{coordinate, inside_side, side_at_end, side_after_first, side_after_second, floor_at_end, HasAxes, IsPathTo}
 
 -- the signed crossing of a segment from one side of a plane to another: 1 from behind to the front, -1 back,
 -- otherwise 0
 abbrev pub signed_crossing : Sign → Sign → ℤ
 signed_crossing from to = if is_neg (times from to) then number to else pos 0
 
--- all planes of a list are negative at a vertex
-abbrev pub all_behind : (Plane → Sign) → List Plane → Bool
-all_behind side ps = list_all (λ p. is_neg (side p)) ps
-
 -- ---- bounding boxes
--- the whole number plus any small number above 0 is strictly between the ends of the interval
-abbrev pub contains_above : Interval → ℤ → Bool
-contains_above s at = int_le s.low at && int_lt at s.high
-
 -- the interval contains a number with this floor
 abbrev pub may_contain : Interval → ℤ → Bool
 may_contain s floor = int_le s.low floor && int_le floor s.high
@@ -47,27 +39,39 @@ may_contain s floor = int_le s.low floor && int_le floor s.high
 abbrev pub in_root : ℤ → ℤ
 in_root z = if int_lt z (negsuc 2047) then negsuc 2047 else if int_lt (pos 2048) z then pos 2048 else z
 
--- the clamped floors of a path's end along its axes, along the main axis at least that of the last segment's start
-pub record AreEndFloors (w : Path) (at : EndFloors) : Type 0 where
+-- the greater of the coordinate of a path's start along an axis and the floor of its end: no point of the path is
+-- above the next whole number
+abbrev pub farthest : Path → Axis → ℤ
+farthest w k = int_max (floor_at_end w k) (coordinate w.lo k)
+
+-- the interval begins at a whole number or below
+abbrev pub begins_by : Interval → ℤ → Bool
+begins_by s at = int_le s.low at
+
+-- the limits of a path: the indices of its axes, its start along the main axis, and its clamped floors
+pub record AreLimits (w : Path) (at : Limits) : Type 0 where
   pub axes : HasAxes w
+  pub first_index : at.first_index ≡ axis_index w.first_axis
+  pub second_index : at.second_index ≡ axis_index w.second_axis
+  pub main_index : at.main_index ≡ axis_index w.main
+  pub start : at.start ≡ coordinate w.lo w.main
   pub first : at.first ≡ in_root (floor_at_end w w.first_axis)
   pub second : at.second ≡ in_root (floor_at_end w w.second_axis)
-  pub top : at.top ≡ int_max (in_root (floor_at_end w w.main)) (coordinate w.lo w.main)
+  pub farthest_second : at.farthest_second ≡ int_max (in_root (floor_at_end w w.second_axis)) (coordinate w.lo w.second_axis)
+  pub farthest_main : at.farthest_main ≡ int_max (in_root (floor_at_end w w.main)) (coordinate w.lo w.main)
 
 -- ---- the segments
--- the line of the first segment runs through the triangle, by the bounding box along the second axis and by the
--- edge planes
+-- the line of the first segment runs through the triangle, as the near triangle has it
 abbrev pub first_runs_through : Path → NearTriangle → Bool
-first_runs_through w f =
-    contains_above (interval_along f.aabb w.second_axis) (coordinate w.lo w.second_axis) &&
-    all_behind (λ p. side_at_start w p) (edge_planes f.tri w.first_axis)
+first_runs_through w f = slice_index_or f.first_lines (axis_index w.main) false
 
--- the line of the second segment runs through the triangle, by the bounding box along the first axis and by the
--- edge planes
+-- the second segment may cross the triangle: by the bounding box along the first and the second axis, its line runs
+-- through the triangle by the edge planes
 abbrev pub second_runs_through : Path → NearTriangle → Bool
 second_runs_through w f =
     may_contain (interval_along f.aabb w.first_axis) (floor_at_end w w.first_axis) &&
-    all_behind (λ p. side_after_first w p) (edge_planes f.tri w.second_axis)
+    (begins_by (interval_along f.aabb w.second_axis) (farthest w w.second_axis) &&
+    all_behind (λ p. side_after_first w p) (edge_planes f.tri w.second_axis))
 
 -- the end of the path can be within the bounding box
 abbrev pub may_end : Path → NearTriangle → Bool
@@ -75,10 +79,12 @@ may_end w f =
     may_contain (interval_along f.aabb w.first_axis) (floor_at_end w w.first_axis) &&
     may_contain (interval_along f.aabb w.second_axis) (floor_at_end w w.second_axis)
 
--- the line of the last segment runs through the triangle, by the bounding box along both axes and by the edge
--- planes
+-- the last segment may cross the triangle: by the bounding box along all axes, its line runs through the triangle by
+-- the edge planes
 abbrev pub last_runs_through : Path → NearTriangle → Bool
-last_runs_through w f = may_end w f && all_behind (λ p. side_at_end w p) (edge_planes f.tri w.main)
+last_runs_through w f =
+    begins_by (interval_along f.aabb w.main) (farthest w w.main) &&
+    (may_end w f && all_behind (λ p. side_at_end w p) (edge_planes f.tri w.main))
 
 -- the signed crossings of the first and of the second segment with the triangle
 abbrev pub first_segment : Path → NearTriangle → ℤ

@@ -2,5 +2,6 @@ pub mod Boxed
 pub mod Crossings
 pub mod Edges
 pub mod FirstCorners
+pub mod Lines
 pub mod NearTriangles
 pub mod Paths

@@ -7,19 +7,22 @@ use Rattle.ember_model.specs.Planes.{value_at}
 use Rattle.ember_box.specs.Boxes.{Cell}
 use Rattle.ember_ref.specs.References.{reference_at_list}
 use Rattle.ember_trace.specs.declared.near_triangle.NearTriangle.{NearTriangle}
+use Rattle.ember_trace.specs.Lines.{first_lines_of}
 
 -- the triangle alone
 abbrev pub tri_of : NearTriangle → Tri
 tri_of f = f.tri
 
--- the near triangle is kept with the side of its plane on which the reference point of the box lies
-pub record HasReferenceSide (c : Cell) (f : NearTriangle) : Type 0 where
+-- the near triangle is kept with what it has of the box's reference point: the side of its plane on which the point lies,
+-- and the lines through the point that run through it
+pub record HasReference (c : Cell) (f : NearTriangle) : Type 0 where
   pub side : f.reference_side ≡ sgn (value_at f.support (reference_at_list (c.lo.x ∷ c.lo.y ∷ c.lo.z ∷ [])))
+  pub lines : f.first_lines ≡ first_lines_of (c.lo.x ∷ c.lo.y ∷ c.lo.z ∷ []) f.tri
 
 -- the near triangles of the box that are made of these triangles, in order
 pub record AreNearTriangles (ts : List Tri) (c : Cell) (fs : List NearTriangle) : Type 0 where
   pub tris : map tri_of fs ≡ ts
-  pub reference_sides : All (HasReferenceSide c) fs
+  pub reference_sides : All (HasReference c) fs
 
 -- counts of a box are at most 36 * 262144 in size: a crossing with each of at most 262144 triangles of a scene for
 -- each of at most 36 halvings. This bound is wider than it has to be: they are winding numbers at a point, and a ray

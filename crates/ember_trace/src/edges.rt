@@ -2,15 +2,15 @@
 //
 // In this file the plane (u, v, k, s) is the one through the edge from `u` to `v` and parallel to
 // the axis `k`, times the sign `s`. Where there is no `k`, it is the path's second axis.
-ghost use Rattle.std.specs.Prelude.{◌≡◌, true};
+ghost use Rattle.std.specs.Prelude.{◌≡◌, true, All};
 ghost use Rattle.ember_algebra.specs.Size.{Small};
 ghost use Rattle.ember_algebra.specs.Sign.{is_neg};
-ghost use Rattle.ember_model.specs.Valid.{IsValidCorner};
+ghost use Rattle.ember_model.specs.Valid.{IsValidCorner, IsValidPlane};
 ghost use Rattle.ember_model.specs.Planes.{edge_planes};
 ghost use Rattle.ember_point.specs.Points.{spot_of, is_narrow};
 ghost use Rattle.ember_trace.specs.Edges.{edge_times, edge_after_first, side_at};
-ghost use Rattle.ember_trace.specs.Paths.{side_at_start, side_at_end, side_after_first, HasAxes};
-ghost use Rattle.ember_trace.specs.Crossings.{all_behind};
+ghost use Rattle.ember_trace.specs.Paths.{side_at_end, side_after_first, HasAxes};
+ghost use Rattle.ember_trace.specs.Lines.{all_behind};
 
 use crate::crossing_signs::slope_number;
 use crate::edge_lines::{edge_plane_times, line_of_edge, moved_edge_side, side_of_line};
@@ -18,7 +18,7 @@ use crate::near_triangle::NearTriangle;
 use crate::path::Path;
 use crate::vertices::coordinate;
 use ember_algebra::Sign;
-use ember_model::{Axis, Corner};
+use ember_model::{Axis, Corner, Plane};
 use ember_point::Meet;
 
 // The side of the plane (u, v, k, s) on which the path ends.
@@ -138,25 +138,30 @@ pub fn narrow_second_is_behind(triangle: &NearTriangle, way: &Path) -> bool
             && is_behind_edge_after_first(&t.c, &t.a, s, way))
 }
 
-// Whether the path begins behind the plane (u, v, k, s).
-fn is_behind_edge_at_start(u: &Corner, v: &Corner, k: Axis, s: i64, way: &Path) -> bool
-    requires from { IsValidCorner u.now }
-    requires to { IsValidCorner v.now }
-    requires s { Small 1 s }
-    ensures { result ≡ is_neg (side_at_start way.now (edge_times u.now v.now k s)) }
+/// Whether the sign is `Neg`.
+pub fn is_neg(sign: Sign) -> bool
+    ensures { result ≡ is_neg sign }
 {
-    matches!(way.side_at_start(&edge_plane_times(u, v, k, s)), Sign::Neg)
+    matches!(sign, Sign::Neg)
 }
 
-/// Whether the line of the first segment runs through the triangle: all edge planes parallel to it
-/// are negative at its start.
-pub fn is_behind_edges_at_start(triangle: &NearTriangle, way: &Path) -> bool
-    ensures { result ≡ all_behind (λ p. side_at_start way.now p) (edge_planes triangle.now.tri way.now.first_axis) }
+/// Whether the path ends behind the plane.
+pub fn is_behind_at_end(way: &Path, p: &Plane) -> bool
+    requires { IsValidPlane p.now }
+    ensures { result ≡ is_neg (side_at_end way.now p.now) }
 {
-    let k = way.first_axis;
-    let t = &triangle.tri;
-    let s = slope_number(&triangle.support, k);
-    is_behind_edge_at_start(&t.a, &t.b, k, s, way)
-        && (is_behind_edge_at_start(&t.b, &t.c, k, s, way)
-            && is_behind_edge_at_start(&t.c, &t.a, k, s, way))
+    is_neg(way.side_at_end(p))
+}
+
+/// Whether the path ends behind all of the planes.
+pub fn are_behind_at_end(way: &Path, planes: &[Plane]) -> bool
+    requires { All IsValidPlane planes.now }
+    ensures { result ≡ all_behind (λ p. side_at_end way.now p) planes.now }
+{
+    for p in planes {
+        if !is_behind_at_end(way, p) {
+            return false;
+        }
+    }
+    true
 }

@@ -1,9 +1,10 @@
 //! The winding numbers on both sides of a region. README.md says how.
 //!
 //! `trace_sides` (sides.rt) makes a path to the region (path.rt, vertices.rt) and counts how often
-//! the path crosses each near triangle (segments.rt). edges.rt and edge_lines.rt say behind which
-//! edges of a triangle a segment runs; own_triangle.rt knows it for the region's own triangle. Only
-//! tests use whole_rays.rt.
+//! the path crosses each near triangle (segments.rt). Most triangles are excluded by their bounding
+//! boxes (path_limits.rt). edges.rt and edge_lines.rt say behind which edges of a triangle a segment
+//! runs; reference_lines.rt knows it for all first segments, and own_triangle.rt for the region's
+//! own triangle. Only tests use whole_rays.rt.
 #![tactic(auto)]
 
 mod crossing_signs;
@@ -11,10 +12,13 @@ mod edge_line;
 mod edge_lines;
 mod edges;
 mod law;
+mod limits;
 mod near;
 mod near_triangle;
 mod own_triangle;
 mod path;
+mod path_limits;
+mod reference_lines;
 mod region_sides;
 mod segments;
 mod sides;

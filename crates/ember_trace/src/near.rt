@@ -6,11 +6,14 @@ ghost use Rattle.ember_model.specs.Valid.{IsValidTri};
 ghost use Rattle.ember_model.specs.Planes.{value_at};
 ghost use Rattle.ember_model.specs.Meshes.{HasMesh};
 ghost use Rattle.ember_ref.specs.References.{reference_at_list};
+ghost use Rattle.ember_trace.specs.Lines.{first_lines_of};
 ghost use Rattle.ember_trace.specs.NearTriangles.{AreNearTriangles};
 
 use crate::near_triangle::NearTriangle;
+use crate::path_limits::index_of;
+use crate::reference_lines::first_lines;
 use ember_box::{Cell, aabb_of_tri};
-use ember_model::{OutOfMemory, Tri, support_of};
+use ember_model::{OutOfMemory, Tri, main_axis, support_of};
 use ember_poly::main_edges;
 use ember_ref::lex_side;
 use std::alloc::Global;
@@ -22,20 +25,24 @@ fn near_triangle_of(t: &Tri, lo: [i32; 3]) -> NearTriangle
     requires corner { All (Small 2048) lo }
     ensures tri { result.tri ≡ t.now }
     ensures reference_side { result.reference_side ≡ sgn (value_at result.support (reference_at_list lo)) }
+    ensures first_lines { result.first_lines ≡ first_lines_of lo t.now }
 {
     let support = support_of(t);
+    let aabb = aabb_of_tri(t);
     NearTriangle {
         tri: *t,
         support,
+        main_index: index_of(main_axis(&support)),
         edges: main_edges(t, &support),
-        aabb: aabb_of_tri(t),
+        aabb,
+        intervals: [aabb.x, aabb.y, aabb.z],
         reference_side: lex_side(&support, lo),
+        first_lines: first_lines(t, &aabb, lo),
     }
 }
 
-/// The triangles near a box, in order, each with its planes, its bounding box, and the side of its
-/// support plane on which the box's reference point lies. Meshes are numbered from 1 to 64. The
-/// only error is out-of-memory.
+/// The triangles near a box, in order, each with its planes, its bounding box, and what it has of
+/// the box's reference point. Meshes are numbered from 1 to 64. The only error is out-of-memory.
 pub fn near_triangles(
     alloc: Global,
     near: &[Tri],

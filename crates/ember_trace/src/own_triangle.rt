@@ -6,7 +6,7 @@ ghost use Rattle.ember_model.specs.Planes.{value_at, edge_planes};
 ghost use Rattle.ember_model.specs.Faces.{edges_of, Everywhere};
 ghost use Rattle.ember_model.specs.ClearTest.{all_negative};
 ghost use Rattle.ember_trace.specs.Paths.{side_at_end};
-ghost use Rattle.ember_trace.specs.Crossings.{all_behind};
+ghost use Rattle.ember_trace.specs.Lines.{all_behind};
 
 use crate::crossing_signs::is_level;
 use crate::near_triangle::NearTriangle;

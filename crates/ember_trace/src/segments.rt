@@ -1,118 +1,28 @@
 // Where the segments of a path cross a triangle.
-ghost use Rattle.std.specs.Prelude.{◌≡◌, int_lt};
-ghost use Rattle.std.specs.Int.{int_max};
+ghost use Rattle.std.specs.Prelude.{◌≡◌, ◌<◌, true};
 ghost use Rattle.ember_algebra.specs.Size.{Small};
 ghost use Rattle.ember_algebra.specs.declared.Sign.{Sign};
 ghost use Rattle.ember_algebra.specs.Sign.{is_neg};
 ghost use Rattle.ember_model.specs.Valid.{IsValidPlane};
 ghost use Rattle.ember_model.specs.Sizes.{IsSupportSized};
-ghost use Rattle.ember_model.specs.Planes.{edge_planes};
+ghost use Rattle.ember_model.specs.Planes.{edge_planes, main_axis};
 ghost use Rattle.ember_box.specs.Aabbs.{interval_along};
-ghost use Rattle.ember_trace.specs.Paths.{HasAxes, coordinate, side_at_start, side_after_first, side_at_end, floor_at_end};
-ghost use Rattle.ember_trace.specs.Crossings.{all_behind, contains_above, may_contain, may_end, in_root, AreEndFloors, first_runs_through, second_runs_through, last_runs_through, first_segment, second_segment, segments_above_wall, last_segment, side_before, side_after, crossing_before, crossing_after};
+ghost use Rattle.ember_box.specs.Boxes.{axis_index};
+ghost use Rattle.ember_trace.specs.Paths.{HasAxes, coordinate, side_after_first, side_at_end, floor_at_end};
+ghost use Rattle.ember_trace.specs.Lines.{all_behind, contains_above};
+ghost use Rattle.ember_trace.specs.Crossings.{begins_by, may_contain, may_end, farthest, AreLimits, first_runs_through, second_runs_through, last_runs_through, first_segment, second_segment, segments_above_wall, last_segment, side_before, side_after, crossing_before, crossing_after};
 
 use crate::crossing_signs::{is_level, side_after, side_before, signed_crossing};
-use crate::edges::{is_behind_edges_at_start, narrow_last_is_behind, narrow_second_is_behind};
+use crate::edges::{
+    are_behind_at_end, is_behind_at_end, is_neg, narrow_last_is_behind, narrow_second_is_behind,
+};
+use crate::limits::Limits;
 use crate::near_triangle::NearTriangle;
 use crate::own_triangle::{is_own, support_side_at_end};
 use crate::path::Path;
-use crate::vertices::coordinate;
-use ember_algebra::Sign;
-use ember_box::{Interval, interval_along};
+use crate::path_limits::{begins_by, contains_above, may_contain};
+use ember_box::Interval;
 use ember_model::{Axis, Plane, edge_plane};
-
-// Whether `at` plus any small number above 0 is strictly between the ends of the interval.
-fn contains_above(interval: &Interval, at: i32) -> bool
-    ensures { result ≡ contains_above interval.now at }
-{
-    interval.low <= at && at < interval.high
-}
-
-// Whether the interval contains a number with this floor.
-fn may_contain(interval: &Interval, floor: i32) -> bool
-    ensures { result ≡ may_contain interval.now floor }
-{
-    interval.low <= floor && floor <= interval.high
-}
-
-/// Where a path ends, by the region's first corner: the floors of its coordinates along the first
-/// and the second axis, and as `top` the greater of its floor along the main axis and that of the
-/// start. A triangle whose least main coordinate is above `top` lies above the whole last segment.
-/// The floors are clamped to the root so that they fit into 32 bits, since no clause here says that
-/// the region lies in the root; a comparison with a triangle's bounding box stays the same.
-#[derive(Clone, Copy)]
-pub struct EndFloors {
-    pub first: i32,
-    pub second: i32,
-    pub top: i32,
-}
-
-// Clamps a coordinate to the root.
-fn in_root(floor: i128) -> i32
-    ensures value { result ≡ in_root floor }
-    ensures small { Small 2048 result }
-{
-    if floor < -2048 {
-        -2048
-    } else if 2048 < floor {
-        2048
-    } else {
-        floor as i32
-    }
-}
-
-// Clamps a coordinate of 64 bits to the root.
-fn narrow_in_root(floor: i64) -> i32
-    ensures value { result ≡ in_root floor }
-    ensures small { Small 2048 result }
-{
-    if floor < -2048 {
-        -2048
-    } else if 2048 < floor {
-        2048
-    } else {
-        floor as i32
-    }
-}
-
-// The floor of a coordinate of the path's end, clamped to the root.
-fn floor_in_root(way: &Path, k: Axis) -> i32
-    ensures value { result ≡ in_root (floor_at_end way.now k) }
-    ensures small { Small 2048 result }
-{
-    if way.narrow {
-        narrow_in_root(way.narrow_floor_at_end(k))
-    } else {
-        in_root(way.floor_at_end(k))
-    }
-}
-
-// The floor of the last segment's higher end, along the main axis, clamped to the root.
-fn top_of(way: &Path) -> i32
-    ensures value { result ≡
-        int_max (in_root (floor_at_end way.now way.now.main)) (coordinate way.now.lo way.now.main) }
-    ensures small { Small 2048 result }
-{
-    floor_in_root(way, way.main).max(coordinate(way.lo, way.main))
-}
-
-/// The clamped floors of a path's end.
-pub fn end_floors_of(way: &Path) -> EndFloors
-    requires { HasAxes way.now }
-    ensures { AreEndFloors way.now result }
-{
-    let first = floor_in_root(way, way.first_axis);
-    let second = floor_in_root(way, way.second_axis);
-    let top = top_of(way);
-    EndFloors { first, second, top }
-}
-
-// Whether the sign is `Neg`.
-fn is_neg(sign: Sign) -> bool
-    ensures { result ≡ is_neg sign }
-{
-    matches!(sign, Sign::Neg)
-}
 
 // Whether the first segment ends behind the plane.
 fn is_behind_after_first(way: &Path, p: &Plane) -> bool
@@ -120,24 +30,6 @@ fn is_behind_after_first(way: &Path, p: &Plane) -> bool
     ensures { result ≡ is_neg (side_after_first way.now p.now) }
 {
     is_neg(way.side_after_first(p))
-}
-
-// Whether the path ends behind the plane.
-fn is_behind_at_end(way: &Path, p: &Plane) -> bool
-    requires { IsValidPlane p.now }
-    ensures { result ≡ is_neg (side_at_end way.now p.now) }
-{
-    is_neg(way.side_at_end(p))
-}
-
-// Whether all edge planes parallel to the first segment are negative at its start.
-fn first_is_behind(triangle: &NearTriangle, way: &Path) -> bool
-    ensures { result ≡ all_behind (λ p. side_at_start way.now p) (edge_planes triangle.now.tri way.now.first_axis) }
-{
-    if is_level(&triangle.support, way.first_axis) {
-        return false;
-    }
-    is_behind_edges_at_start(triangle, way)
 }
 
 // Whether all edge planes parallel to the second segment are negative at its start.
@@ -158,12 +50,25 @@ fn second_is_behind(triangle: &NearTriangle, way: &Path) -> bool
             && is_behind_after_first(way, &edge_plane(t, 2, k)))
 }
 
+// Whether the path runs along the triangle's main axis at last, so that the edge planes at hand are
+// those parallel to the last segment.
+fn has_main_axis(triangle: &NearTriangle, way: &Path, at: &Limits) -> bool
+    requires { AreLimits way.now at.now }
+    ensures { result ≡ true → way.now.main ≡ main_axis triangle.now.support }
+{
+    triangle.main_index == at.main_index
+}
+
 // Whether all edge planes parallel to the last segment are negative at its end.
-fn last_is_behind(triangle: &NearTriangle, way: &Path) -> bool
+fn last_is_behind(triangle: &NearTriangle, way: &Path, at: &Limits) -> bool
+    requires { AreLimits way.now at.now }
     ensures { result ≡ all_behind (λ p. side_at_end way.now p) (edge_planes triangle.now.tri way.now.main) }
 {
     let k = way.main;
     let t = &triangle.tri;
+    if has_main_axis(triangle, way, at) {
+        return are_behind_at_end(way, &triangle.edges);
+    }
     if is_level(&triangle.support, k) {
         return false;
     }
@@ -176,74 +81,101 @@ fn last_is_behind(triangle: &NearTriangle, way: &Path) -> bool
 }
 
 // The same, where nothing is computed for the region's own triangle.
-fn last_is_behind_or_own(triangle: &NearTriangle, way: &Path) -> bool
+fn last_is_behind_or_own(triangle: &NearTriangle, way: &Path, at: &Limits) -> bool
+    requires { AreLimits way.now at.now }
     ensures { result ≡ all_behind (λ p. side_at_end way.now p) (edge_planes triangle.now.tri way.now.main) }
 {
     if is_own(triangle, way) {
         return true;
     }
-    last_is_behind(triangle, way)
+    last_is_behind(triangle, way, at)
 }
 
-// Whether the line of the first segment runs through the triangle. The bounding box is tested along
-// the second axis first; `segments_above_wall` has tested it along the main axis.
-fn first_runs_through(triangle: &NearTriangle, way: &Path) -> bool
-    ensures { result ≡ first_runs_through way.now triangle.now }
+// The interval of the triangle's bounding box along the axis with this index.
+fn interval_at(triangle: &NearTriangle, index: usize) -> Interval
+    requires { index < 3 }
+    ensures { (k : Axis) → index ≡ axis_index k → result ≡ interval_along triangle.now.aabb k }
 {
-    contains_above(
-        &interval_along(&triangle.aabb, way.second_axis),
-        coordinate(way.lo, way.second_axis),
-    ) && first_is_behind(triangle, way)
+    triangle.intervals[index]
 }
 
 // Whether the end of the path can be within the bounding box along the first axis.
-fn may_end_along_first(triangle: &NearTriangle, way: &Path, at: &EndFloors) -> bool
-    requires { AreEndFloors way.now at.now }
+fn may_end_along_first(triangle: &NearTriangle, way: &Path, at: &Limits) -> bool
+    requires { AreLimits way.now at.now }
     ensures { result ≡ may_contain (interval_along triangle.now.aabb way.now.first_axis)
         (floor_at_end way.now way.now.first_axis) }
 {
-    may_contain(&interval_along(&triangle.aabb, way.first_axis), at.first)
+    may_contain(&interval_at(triangle, at.first_index), at.first)
 }
 
 // Whether the end of the path can be within the bounding box along the second axis.
-fn may_end_along_second(triangle: &NearTriangle, way: &Path, at: &EndFloors) -> bool
-    requires { AreEndFloors way.now at.now }
+fn may_end_along_second(triangle: &NearTriangle, way: &Path, at: &Limits) -> bool
+    requires { AreLimits way.now at.now }
     ensures { result ≡ may_contain (interval_along triangle.now.aabb way.now.second_axis)
         (floor_at_end way.now way.now.second_axis) }
 {
-    may_contain(&interval_along(&triangle.aabb, way.second_axis), at.second)
+    may_contain(&interval_at(triangle, at.second_index), at.second)
 }
 
 // Whether the end of the path can be within the bounding box along both.
-fn may_end(triangle: &NearTriangle, way: &Path, at: &EndFloors) -> bool
-    requires { AreEndFloors way.now at.now }
+fn may_end(triangle: &NearTriangle, way: &Path, at: &Limits) -> bool
+    requires { AreLimits way.now at.now }
     ensures { result ≡ may_end way.now triangle.now }
 {
     may_end_along_first(triangle, way, at) && may_end_along_second(triangle, way, at)
 }
 
-// Whether the line of the second segment runs through the triangle.
-fn second_runs_through(triangle: &NearTriangle, way: &Path, at: &EndFloors) -> bool
-    requires { AreEndFloors way.now at.now }
-    ensures { result ≡ second_runs_through way.now triangle.now }
+// Whether the second segment doesn't lie below the whole triangle along its own axis.
+fn second_may_reach(triangle: &NearTriangle, way: &Path, at: &Limits) -> bool
+    requires { AreLimits way.now at.now }
+    ensures { result ≡ begins_by (interval_along triangle.now.aabb way.now.second_axis)
+        (farthest way.now way.now.second_axis) }
 {
-    may_end_along_first(triangle, way, at) && second_is_behind(triangle, way)
+    begins_by(&interval_at(triangle, at.second_index), at.farthest_second)
 }
 
-// Whether the line of the last segment runs through the triangle.
-fn last_runs_through(triangle: &NearTriangle, way: &Path, at: &EndFloors) -> bool
-    requires { AreEndFloors way.now at.now }
+// Whether the last segment doesn't lie below the whole triangle along its own axis.
+fn last_may_reach(triangle: &NearTriangle, way: &Path, at: &Limits) -> bool
+    requires { AreLimits way.now at.now }
+    ensures { result ≡ begins_by (interval_along triangle.now.aabb way.now.main) (farthest way.now way.now.main) }
+{
+    begins_by(&interval_at(triangle, at.main_index), at.farthest_main)
+}
+
+// Whether the line of the first segment runs through the triangle. It runs through the box's
+// reference point, so it is the same line for all paths with this main axis.
+fn first_runs_through(triangle: &NearTriangle, way: &Path, at: &Limits) -> bool
+    requires { AreLimits way.now at.now }
+    ensures { result ≡ first_runs_through way.now triangle.now }
+{
+    triangle.first_lines[at.main_index]
+}
+
+// Whether the second segment may cross the triangle.
+fn second_runs_through(triangle: &NearTriangle, way: &Path, at: &Limits) -> bool
+    requires { AreLimits way.now at.now }
+    ensures { result ≡ second_runs_through way.now triangle.now }
+{
+    may_end_along_first(triangle, way, at)
+        && (second_may_reach(triangle, way, at) && second_is_behind(triangle, way))
+}
+
+// Whether the last segment may cross the triangle.
+fn last_runs_through(triangle: &NearTriangle, way: &Path, at: &Limits) -> bool
+    requires { AreLimits way.now at.now }
     ensures { result ≡ last_runs_through way.now triangle.now }
 {
-    may_end(triangle, way, at) && last_is_behind_or_own(triangle, way)
+    last_may_reach(triangle, way, at)
+        && (may_end(triangle, way, at) && last_is_behind_or_own(triangle, way, at))
 }
 
 // The signed crossing of the first segment with the triangle.
-fn first_segment(triangle: &NearTriangle, way: &Path) -> i32
+fn first_segment(triangle: &NearTriangle, way: &Path, at: &Limits) -> i32
+    requires { AreLimits way.now at.now }
     ensures value { result ≡ first_segment way.now triangle.now }
     ensures small { Small 1 result }
 {
-    if first_runs_through(triangle, way) {
+    if first_runs_through(triangle, way, at) {
         signed_crossing(
             triangle.reference_side,
             way.side_after_first(&triangle.support),
@@ -254,8 +186,8 @@ fn first_segment(triangle: &NearTriangle, way: &Path) -> i32
 }
 
 // The signed crossing of the second segment with the triangle.
-fn second_segment(triangle: &NearTriangle, way: &Path, at: &EndFloors) -> i32
-    requires { AreEndFloors way.now at.now }
+fn second_segment(triangle: &NearTriangle, way: &Path, at: &Limits) -> i32
+    requires { AreLimits way.now at.now }
     ensures value { result ≡ second_segment way.now triangle.now }
     ensures small { Small 1 result }
 {
@@ -271,24 +203,22 @@ fn second_segment(triangle: &NearTriangle, way: &Path, at: &EndFloors) -> i32
 
 // Whether the bounding box reaches to points just above the low wall across the main axis, where
 // the first two segments run: whether the path's start is strictly within it along this axis.
-fn reaches_above_wall(triangle: &NearTriangle, way: &Path) -> bool
+fn reaches_above_wall(triangle: &NearTriangle, way: &Path, at: &Limits) -> bool
+    requires { AreLimits way.now at.now }
     ensures { result ≡
         contains_above (interval_along triangle.now.aabb way.now.main) (coordinate way.now.lo way.now.main) }
 {
-    contains_above(
-        &interval_along(&triangle.aabb, way.main),
-        coordinate(way.lo, way.main),
-    )
+    contains_above(&interval_at(triangle, at.main_index), at.start)
 }
 
 // The crossings of the first two segments, which run just above the low wall across the main axis.
-fn segments_above_wall(triangle: &NearTriangle, way: &Path, at: &EndFloors) -> i32
-    requires { AreEndFloors way.now at.now }
+fn segments_above_wall(triangle: &NearTriangle, way: &Path, at: &Limits) -> i32
+    requires { AreLimits way.now at.now }
     ensures value { result ≡ segments_above_wall way.now triangle.now }
     ensures small { Small 2 result }
 {
-    if reaches_above_wall(triangle, way) {
-        first_segment(triangle, way) + second_segment(triangle, way, at)
+    if reaches_above_wall(triangle, way, at) {
+        first_segment(triangle, way, at) + second_segment(triangle, way, at)
     } else {
         0
     }
@@ -303,8 +233,8 @@ pub struct Crossings {
 }
 
 // The crossings of the last segments, one along each path.
-fn last_segments_by_sides(triangle: &NearTriangle, way: &Path, at: &EndFloors) -> Crossings
-    requires { AreEndFloors way.now at.now }
+fn last_segments(triangle: &NearTriangle, way: &Path, at: &Limits) -> Crossings
+    requires { AreLimits way.now at.now }
     ensures before { result.before ≡
         last_segment way.now triangle.now
         (side_before triangle.now.support way.now.main (side_at_end way.now triangle.now.support)) }
@@ -327,37 +257,9 @@ fn last_segments_by_sides(triangle: &NearTriangle, way: &Path, at: &EndFloors) -
     }
 }
 
-// Whether the bounding box lies above the whole last segment along the main axis.
-fn lies_above(triangle: &NearTriangle, way: &Path, at: &EndFloors) -> bool
-    ensures { result ≡ int_lt at.now.top (interval_along triangle.now.aabb way.now.main).low }
-{
-    at.top < interval_along(&triangle.aabb, way.main).low
-}
-
-// The crossings of the last segments: none if the triangle lies above both ends.
-fn last_segments(triangle: &NearTriangle, way: &Path, at: &EndFloors) -> Crossings
-    requires { AreEndFloors way.now at.now }
-    ensures before { result.before ≡
-        last_segment way.now triangle.now
-        (side_before triangle.now.support way.now.main (side_at_end way.now triangle.now.support)) }
-    ensures after { result.after ≡
-        last_segment way.now triangle.now
-        (side_after triangle.now.support way.now.main (side_at_end way.now triangle.now.support)) }
-    ensures small { Small 1 result.before × Small 1 result.after }
-{
-    if lies_above(triangle, way, at) {
-        Crossings {
-            before: 0,
-            after: 0,
-        }
-    } else {
-        last_segments_by_sides(triangle, way, at)
-    }
-}
-
 /// The signed crossings of the two paths with a triangle.
-pub fn crossings_of(triangle: &NearTriangle, way: &Path, at: &EndFloors) -> Crossings
-    requires { AreEndFloors way.now at.now }
+pub fn crossings_of(triangle: &NearTriangle, way: &Path, at: &Limits) -> Crossings
+    requires { AreLimits way.now at.now }
     ensures before { result.before ≡ crossing_before way.now triangle.now }
     ensures after { result.after ≡ crossing_after way.now triangle.now }
     ensures small { Small 3 result.before × Small 3 result.after }

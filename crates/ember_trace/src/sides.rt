@@ -5,13 +5,14 @@ ghost use Rattle.ember_model.specs.Valid.{IsValidTri};
 ghost use Rattle.ember_model.specs.Meshes.{HasMesh};
 ghost use Rattle.ember_law.specs.Counts.{with_more};
 ghost use Rattle.ember_trace.specs.Boxed.{AreSides, AreRegionSides, AreOnlySides};
-ghost use Rattle.ember_trace.specs.NearTriangles.{AreBoxCounts, HasReferenceSide, AreWithinBound, tri_of};
+ghost use Rattle.ember_trace.specs.NearTriangles.{AreBoxCounts, HasReference, AreWithinBound, tri_of};
 ghost use Rattle.ember_trace.specs.Crossings.{AreTraced, AreTracedBy};
 
 use crate::near::near_triangles;
 use crate::near_triangle::NearTriangle;
+use crate::path_limits::limits_of;
 use crate::region_sides::Sides;
-use crate::segments::{Crossings, crossings_of, end_floors_of};
+use crate::segments::{Crossings, crossings_of};
 use crate::vertices::path_to;
 use ember_box::Cell;
 use ember_model::{OutOfMemory, Tri, Vector};
@@ -62,13 +63,13 @@ pub fn trace_sides(near: &[NearTriangle], c: &Cell, v: &Vector, r: &Ring, sides:
     requires few { length near.now ≤ 262144 }
     requires counts { AreBoxCounts v.now.counts }
     ensures traced { AreTraced c.now near.now v.now.counts r.now sides.new }
-    ensures sides { All (HasReferenceSide c.now) near.now →
+    ensures sides { All (HasReference c.now) near.now →
         AreSides (map tri_of near.now) c.now v.now.counts r.now sides.new }
     ensures before { AreWithinBound (length near.now) v.now.counts sides.new.before.counts }
     ensures after { AreWithinBound (length near.now) v.now.counts sides.new.after.counts }
 {
     let way = path_to(c, r);
-    let at = end_floors_of(&way);
+    let at = limits_of(&way);
     sides.before = *v;
     sides.after = *v;
     for triangle in near {
@@ -82,7 +83,7 @@ pub fn sides_beside(near: &[NearTriangle], c: &Cell, v: &Vector, r: &Ring) -> Si
     requires few { length near.now ≤ 262144 }
     requires counts { AreBoxCounts v.now.counts }
     ensures traced { AreTraced c.now near.now v.now.counts r.now result }
-    ensures sides { All (HasReferenceSide c.now) near.now →
+    ensures sides { All (HasReference c.now) near.now →
         AreSides (map tri_of near.now) c.now v.now.counts r.now result }
     ensures before { AreWithinBound (length near.now) v.now.counts result.before.counts }
     ensures after { AreWithinBound (length near.now) v.now.counts result.after.counts }

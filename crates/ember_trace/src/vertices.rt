@@ -15,8 +15,8 @@ use ember_point::{Meet, is_narrow, narrow_side, side, slide};
 use ember_poly::{Ring, corners, support};
 use ember_ref::lex_side;
 
-// The first of the two other axes.
-fn first_of(k: Axis) -> Axis
+/// The first of the two other axes.
+pub fn first_of(k: Axis) -> Axis
     ensures { result ≡ first_of k }
 {
     match k {
@@ -25,8 +25,8 @@ fn first_of(k: Axis) -> Axis
     }
 }
 
-// The second of the two other axes.
-fn second_of(k: Axis) -> Axis
+/// The second of the two other axes.
+pub fn second_of(k: Axis) -> Axis
     ensures { result ≡ second_of k }
 {
     match k {

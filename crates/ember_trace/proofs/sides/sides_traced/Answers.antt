@@ -2,7 +2,7 @@ use Rattle.std.proofs.Common.{ℕ, List, All, map, length, sym, ap, ◌∙◌, s
 use Rattle.ember_model.specs.declared.tri.Tri.{Tri}
 use Rattle.ember_trace.specs.declared.near_triangle.NearTriangle.{NearTriangle}
 use Rattle.ember_trace.specs.Boxed.{AreSides}
-use Rattle.ember_trace.specs.NearTriangles.{HasReferenceSide, AreWithinBound, tri_of}
+use Rattle.ember_trace.specs.NearTriangles.{HasReference, AreWithinBound, tri_of}
 use Rattle.ember_trace.specs.Crossings.{AreTraced}
 use Rattle.ember_trace.proofs.BoxedRegions.{regions_lie_in}
 use Rattle.ember_trace.proofs.OneSides.{one_sides}
@@ -30,7 +30,7 @@ returns-clause-traced c =
 pub returns-clause-sides : goal.returns-clause-sides
 returns-clause-sides c =
     let fs = c.in_ok-near.ensures in let s = c.sides_beside.result in
-    let reference_sides = subst (λ (gs : List NearTriangle). All (HasReferenceSide c.args.c.now) gs) (sym c.as_slice.ensures.value) fs.reference_sides in
+    let reference_sides = subst (λ (gs : List NearTriangle). All (HasReference c.args.c.now) gs) (sym c.as_slice.ensures.value) fs.reference_sides in
     subst (λ (ts : List Tri). AreSides ts c.args.c.now c.args.v.now.counts c.args.r.now s) (ap (λ (gs : List NearTriangle). map tri_of gs) c.as_slice.ensures.value ∙ fs.tris) (c.sides_beside.ensures.sides reference_sides)
 
 pub returns-clause-region : goal.returns-clause-region

@@ -9,8 +9,8 @@ use Rattle.ember_trace.specs.Paths.{first_of, second_of}
 use Rattle.ember_trace.proofs.TracedSides.{are_sides}
 use Rattle.ember_trace.proofs.sides.trace_sides.Goals as goal
 
-pub end_floors_of-at-requires : goal.end_floors_of-at-requires
-end_floors_of-at-requires c =
+pub limits_of-at-requires : goal.limits_of-at-requires
+limits_of-at-requires c =
     let e = c.path_to-way.ensures in record { first = e.first ∙ sym (ap first_of e.main); second = e.second ∙ sym (ap second_of e.main) }
 
 pub take_crossings-requires-clause-room_before : goal.take_crossings-requires-clause-room_before

@@ -1,7 +1,8 @@
 use Rattle.std.proofs.lemmas.List.{nil_from_length}
 use Rattle.std.proofs.lemmas.Bool.{eqb-true}
 use Rattle.ember_algebra.specs.Relations.{done}
-use Rattle.std.proofs.Common.{arith, ◌≡◌, ◌∙◌, ap, [], ◌∷◌, sym, subst, ℕ, List, All, get_or, map, option_to_list}
+use Rattle.std.proofs.Common.{arith, ◌≡◌, ◌∙◌, ap, [], ◌∷◌, sym, subst, ℕ, List, All, get_or, map, if◌then◌else◌}
+use Rattle.ember_poly.specs.Drafts.{face_in}
 use Rattle.ember_model.specs.declared.face.Face.{Face}
 use Rattle.ember_model.specs.Faces.{is_flat}
 use Rattle.ember_expr.specs.Formula.{formula_of}
@@ -52,36 +53,36 @@ find_cutters_unless_covered-requires-clause-target c =
 pub regions-requires : goal.regions-requires
 regions-requires c =
     let near = c.args.self.now.near.now in let u = (get_or near c.args.i c.index-self-i.result).tri in let cs = c.find_cutters_unless_covered.new.list.items in
-    let l = left_parts u (subst (λ o. IsClippedBy (map wall_of c.args.walls.now) u (option_to_list o)) c.in-Some.is c.in_ok-ring.ensures) in
-    subst (All (λ v. CanCut v c.in-Some.ring)) (sym c.deref.ensures.value) (all_can u c.in-Some.ring cs l.0 c.in_ok-find_cutters_unless_covered.ensures.cutters)
+    let l = left_parts u (subst (λ g. IsClippedBy (map wall_of c.args.walls.now) u (g ∷ [])) (sym c.in_ok-ring.ensures) (subst (λ b. IsClippedBy (map wall_of c.args.walls.now) u (if b then face_in c.clip_to_box.new.draft ∷ [] else [])) c.if-not-branch.false c.in_ok-clip_to_box.ensures.left)) in
+    subst (All (λ v. CanCut v c.in_ok-ring.ring)) (sym c.deref.ensures.value) (all_can u c.in_ok-ring.ring cs l.0 c.in_ok-find_cutters_unless_covered.ensures.cutters)
 
 pub add_if_written-requires-clause-regions : goal.add_if_written-requires-clause-regions
 add_if_written-requires-clause-regions c =
     let s = c.args.self.now in let near = s.near.now in let ns = tris_of near in let i = c.args.i in let f = get_or near i c.index-self-i.result in
-    let ring = c.in-Some.ring in let b = c.common_spans-bounds.result in let cs = c.find_cutters_unless_covered.new.list.items in let k = c.in_ok-find_cutters_unless_covered.ensures in
+    let ring = c.in_ok-ring.ring in let b = c.common_spans-bounds.result in let cs = c.find_cutters_unless_covered.new.list.items in let k = c.in_ok-find_cutters_unless_covered.ensures in
     let empty : cs ≡ [] = nil_from_length cs (sym c.find_cutters_unless_covered.new.list.ok.0 ∙ eqb-true _ _ (sym c.is_empty.ensures ∙ c.if-is_empty.true)) in
-    leaf_owned s.cell.now f ring ns i c.args.walls.now cs b (ring ∷ []) (own_is near i c.index-self-i.result c.requires.index) (listed_too near i c.requires.index) c.requires.walls (c.common_spans-bounds.ensures ∙ ap (common_of f.aabb) c.requires.aabb) (subst (λ o. IsClippedBy (map wall_of c.args.walls.now) f.tri (option_to_list o)) c.in-Some.is c.in_ok-ring.ensures) (k.cutting_planes c.if-branch.false) k.cutters (subst (AreEarlierOrCovered ns i f.tri b (owners_in cs)) c.if-branch.false k.owners) (subst (λ us. AreCut us (ring ∷ []) (ring ∷ [])) (sym empty) done)
+    leaf_owned s.cell.now f ring ns i c.args.walls.now cs b (ring ∷ []) (own_is near i c.index-self-i.result c.requires.index) (listed_too near i c.requires.index) c.requires.walls (c.common_spans-bounds.ensures ∙ ap (common_of f.aabb) c.requires.aabb) (subst (λ g. IsClippedBy (map wall_of c.args.walls.now) f.tri (g ∷ [])) (sym c.in_ok-ring.ensures) (subst (λ b. IsClippedBy (map wall_of c.args.walls.now) f.tri (if b then face_in c.clip_to_box.new.draft ∷ [] else [])) c.if-not-branch.false c.in_ok-clip_to_box.ensures.left)) (k.cutting_planes c.if-branch.false) k.cutters (subst (AreEarlierOrCovered ns i f.tri b (owners_in cs)) c.if-branch.false k.owners) (subst (λ us. AreCut us (ring ∷ []) (ring ∷ [])) (sym empty) done)
 
 pub add_if_written-requires-clause-plane : goal.add_if_written-requires-clause-plane
 add_if_written-requires-clause-plane c =
-    let s = c.args.self.now in let ring = c.in-Some.ring in
+    let s = c.args.self.now in let ring = c.in_ok-ring.ring in
     owned_planes s.cell.now (tris_of s.near.now) c.args.i (ring ∷ []) (add_if_written-requires-clause-regions c) 0 ring (omega arith)
 
 pub add_if_written-requires-clause-inside : goal.add_if_written-requires-clause-inside
 add_if_written-requires-clause-inside c =
-    let s = c.args.self.now in let ring = c.in-Some.ring in
+    let s = c.args.self.now in let ring = c.in_ok-ring.ring in
     owned_inside s.cell.now (tris_of s.near.now) c.args.i (ring ∷ []) (add_if_written-requires-clause-regions c) 0 ring (omega arith)
 
 pub add_if_written-requires-clause-owner : goal.add_if_written-requires-clause-owner
 add_if_written-requires-clause-owner c =
-    let s = c.args.self.now in let ring = c.in-Some.ring in
+    let s = c.args.self.now in let ring = c.in_ok-ring.ring in
     owned_each s.cell.now (tris_of s.near.now) c.args.i (ring ∷ []) (add_if_written-requires-clause-regions c) 0 ring (omega arith)
 
 pub add_written-requires-clause-regions : goal.add_written-requires-clause-regions
 add_written-requires-clause-regions c =
     let s = c.args.self.now in let near = s.near.now in let ns = tris_of near in let i = c.args.i in let f = get_or near i c.index-self-i.result in
-    let ring = c.in-Some.ring in let b = c.common_spans-bounds.result in let cs = c.find_cutters_unless_covered.new.list.items in let k = c.in_ok-find_cutters_unless_covered.ensures in
-    leaf_owned s.cell.now f ring ns i c.args.walls.now cs b c.in_ok-list.list.items (own_is near i c.index-self-i.result c.requires.index) (listed_too near i c.requires.index) c.requires.walls (c.common_spans-bounds.ensures ∙ ap (common_of f.aabb) c.requires.aabb) (subst (λ o. IsClippedBy (map wall_of c.args.walls.now) f.tri (option_to_list o)) c.in-Some.is c.in_ok-ring.ensures) (k.cutting_planes c.if-branch.false) k.cutters (subst (AreEarlierOrCovered ns i f.tri b (owners_in cs)) c.if-branch.false k.owners) (subst (λ us. AreCut us (ring ∷ []) c.in_ok-list.list.items) c.deref.ensures.value c.in_ok-list.ensures)
+    let ring = c.in_ok-ring.ring in let b = c.common_spans-bounds.result in let cs = c.find_cutters_unless_covered.new.list.items in let k = c.in_ok-find_cutters_unless_covered.ensures in
+    leaf_owned s.cell.now f ring ns i c.args.walls.now cs b c.in_ok-list.list.items (own_is near i c.index-self-i.result c.requires.index) (listed_too near i c.requires.index) c.requires.walls (c.common_spans-bounds.ensures ∙ ap (common_of f.aabb) c.requires.aabb) (subst (λ g. IsClippedBy (map wall_of c.args.walls.now) f.tri (g ∷ [])) (sym c.in_ok-ring.ensures) (subst (λ b. IsClippedBy (map wall_of c.args.walls.now) f.tri (if b then face_in c.clip_to_box.new.draft ∷ [] else [])) c.if-not-branch.false c.in_ok-clip_to_box.ensures.left)) (k.cutting_planes c.if-branch.false) k.cutters (subst (AreEarlierOrCovered ns i f.tri b (owners_in cs)) c.if-branch.false k.owners) (subst (λ us. AreCut us (ring ∷ []) c.in_ok-list.list.items) c.deref.ensures.value c.in_ok-list.ensures)
 
 pub add_written-requires-clause-plane : goal.add_written-requires-clause-plane
 add_written-requires-clause-plane c =
@@ -95,8 +96,8 @@ pub add_written-requires-clause-owners : goal.add_written-requires-clause-owners
 add_written-requires-clause-owners c =
     let s = c.args.self.now in owned_each s.cell.now (tris_of s.near.now) c.args.i c.in_ok-list.list.items (add_written-requires-clause-regions c)
 
-pub returns-in_default-clause-written : goal.returns-in_default-clause-written
-returns-in_default-clause-written c =
+pub returns-then-not-branch-clause-written : goal.returns-then-not-branch-clause-written
+returns-then-not-branch-clause-written c =
     let s = c.args.self.now in let near = s.near.now in let ns = tris_of near in let i = c.args.i in let walls = c.args.walls.now in
-    let l = subst (λ o. IsClippedBy (map wall_of walls) (get_or near i c.index-self-i.result).tri (option_to_list o)) c.in_default.is c.in_ok-ring.ensures in
+    let l = subst (λ b. IsClippedBy (map wall_of walls) (get_or near i c.index-self-i.result).tri (if b then face_in c.clip_to_box.new.draft ∷ [] else [])) c.if-not-branch.true c.in_ok-clip_to_box.ensures.left in
     grown_none _ c.args.kept.now.items (λ scene h. none_started scene (formula_of s.expr.now) s.cell.now ns i (to_start s.cell.now ns i walls (own_is near i c.index-self-i.result c.requires.index) c.requires.walls l))

@@ -1,6 +1,0 @@
-use Rattle.std.proofs.Common.{sym, ◌∙◌}
-use Rattle.ember_trace.proofs.LevelTriangles.{level_first}
-use Rattle.ember_trace.proofs.segments.first_is_behind.Goals as goal
-
-pub returns-then-is_level : goal.returns-then-is_level
-returns-then-is_level c = sym (level_first c.args.way.now c.args.triangle.now (sym c.is_level.ensures ∙ c.if-is_level.true))
