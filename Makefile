@@ -1,4 +1,4 @@
-# make: builds ember. make check: the whole gate. make install PREFIX=/usr: puts ember into PREFIX/bin, and its man page, documents and
+# make: builds ember. make test: every test that needs no proof. make check: the whole gate. make install PREFIX=/usr: puts ember into PREFIX/bin, and its man page, documents and
 # completions into PREFIX/share. make uninstall PREFIX=/usr: removes them. make mesh, install-mesh, uninstall-mesh: the same for
 # ember-mesh, which the other goals neither build nor remove.
 PREFIX ?= /usr/local
@@ -42,7 +42,10 @@ uninstall-mesh:
 	rm -f $(bin)/ember-mesh $(man)/ember-mesh.1 $(mesh_documents:%=$(doc)/ember-mesh/%) $(bash)/ember-mesh $(zsh)/_ember-mesh
 	rmdir $(doc)/ember-mesh 2>/dev/null || true
 
+test:
+	tools/test
+
 check:
 	.ci/run
 
-.PHONY: build mesh install install-mesh uninstall uninstall-mesh check
+.PHONY: build mesh install install-mesh uninstall uninstall-mesh test check
