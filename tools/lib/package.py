@@ -32,7 +32,7 @@ def fail(why):
 
 
 def output_of(*words):
-    return subprocess.run(words, cwd=TOP, stdout=subprocess.PIPE, text=True, check=True).stdout.strip()
+    return subprocess.run(words, cwd=TOP, stdout=subprocess.PIPE, text=True, check=True).stdout.rstrip()
 
 
 def version():
@@ -56,6 +56,8 @@ def changes():
 
 def refuse_changes():
     """Ends unless all that a package is made of is as in the commit that it names."""
+    if not (TOP / ".git").exists():
+        fail("a package is made of a commit, and this folder is no git repository")
     changed = output_of("git", "status", "--porcelain", "--", *SOURCES)
     if changed:
         fail(f"a package has the files of a commit, and these differ from the last one:\n{changed}")
@@ -87,7 +89,7 @@ def last_line_of_check(crate):
     log = Path(builder.room(), f"{crate}.log").read_text(encoding="utf-8")
     said = re.findall(r"^logic=proved .*$", log, re.M)
     if not said:
-        fail(f"{log.name} doesn't say that the crate is proved")
+        fail(f"{builder.room()}/{crate}.log doesn't say that the crate is proved")
     return said[-1]
 
 
