@@ -1,8 +1,7 @@
-// Cases of commands: words and files, and what comes of them.
+// Calls over devices in memory: words and files, and what comes of them.
 use ember_io::{Calls, FileSet, MemoryShelf, MemorySink};
 use ember_run::{Status, run, run_one};
 use std::alloc::Global;
-use std::process::Abort;
 use std::sync::Wait;
 use std::test::Fail;
 use std::thread::Threads;
@@ -10,25 +9,6 @@ use steal_pool::OpenGate;
 
 /// Files by their names.
 pub type Named = &'static [(&'static str, &'static [u8])];
-
-/// What a case wants of the output.
-pub enum Output {
-    /// These bytes.
-    Is(&'static [u8]),
-    /// These bytes at its end.
-    EndsWith(&'static [u8]),
-    /// What these words give for the same files.
-    IsThatOf(&'static str),
-}
-
-/// A command over files, and what comes of it. There is one blank between each two words.
-pub struct Case {
-    pub words: &'static str,
-    pub files: Named,
-    pub status: u8,
-    pub out: Output,
-    pub err: &'static [u8],
-}
 
 /// What a command gave.
 #[derive(Drop)]
@@ -116,42 +96,4 @@ pub fn give<R: Threads + Wait + Sync>(
     } else {
         Err(Fail::from("run_one gives something else"))
     }
-}
-
-// The output is as it is wanted.
-fn is_wanted<R: Threads + Wait + Sync>(
-    rt: &R,
-    alloc: Global,
-    out: &[u8],
-    case: &Case,
-) -> Result<bool, Fail> {
-    match case.out {
-        Output::Is(bytes) => Ok(out == bytes),
-        Output::EndsWith(bytes) => Ok(out.ends_with(bytes)),
-        Output::IsThatOf(line) => {
-            let words = words_of(alloc, line)?;
-            let other = give(rt, alloc, &words, case.files)?;
-            Ok(other.status == Status::Done && other.out.bytes() == out)
-        }
-    }
-}
-
-/// Each case comes out as it is stated, by `run` and by `run_one`.
-pub fn check<R: Abort + Threads + Wait + Sync>(
-    rt: &R,
-    alloc: Global,
-    cases: &[Case],
-) -> Result<(), Fail> {
-    for case in cases {
-        let words = words_of(alloc, case.words)?;
-        let given = give(rt, alloc, &words, case.files)?;
-        assert_eq!(rt; given.status.number(), case.status, "{}", case.words);
-        assert_eq!(rt; given.err.bytes(), case.err, "{}", case.words);
-        assert!(rt;
-            is_wanted(rt, alloc, given.out.bytes(), case)?,
-            "{}",
-            case.words
-        );
-    }
-    Ok(())
 }
