@@ -1,36 +1,17 @@
 // Calls of a device fail in turn.
 use crate::boxes::{HIGH, LOW};
-use crate::cases::{BEFORE, Given, Named, file_set, none, shelf_of, sink_of, target_of, words_of};
-use ember_io::{Calls, MemoryShelf, MemorySink};
-use ember_mesh_run::run_mesh_one;
+use crate::calls::{BEFORE, Given, Named, give, none};
+use ember_io::Calls;
 use std::alloc::Global;
 use std::test::Fail;
-use steal_pool::OpenGate;
 
 const FILES: Named<'static> = &[("a.obj", LOW), ("b.obj", HIGH)];
 
+const UNION: &str = "union --quiet -o out.stl a.obj b.obj";
+
 // What a union gives if these calls of the shelf fail, and these of the target.
 fn give_union(alloc: Global, shelf_calls: Calls, target_calls: Calls) -> Result<Given, Fail> {
-    let words = words_of(alloc, "union --quiet -o out.stl a.obj b.obj")?;
-    let mut shelf = MemoryShelf::new(alloc, file_set(alloc, FILES)?, 4096, shelf_calls)?;
-    let mut target = target_of(alloc, target_calls)?;
-    let mut out = sink_of(alloc)?;
-    let mut err = sink_of(alloc)?;
-    let status = run_mesh_one(
-        alloc,
-        &words,
-        &mut shelf,
-        &mut target,
-        &mut out,
-        &mut err,
-        &OpenGate,
-    );
-    Ok(Given {
-        status,
-        target,
-        out,
-        err,
-    })
+    give(alloc, UNION, FILES, shelf_calls, target_calls, 10_000)
 }
 
 #[test]
@@ -75,24 +56,11 @@ fn each_call_of_the_target_fails_in_turn(rt: HostRuntime) -> Result<(), Fail> {
 #[test]
 fn a_sink_that_fails_for_help_is_a_write_fault(rt: HostRuntime) -> Result<(), Fail> {
     let alloc = rt.alloc();
-    let words = words_of(alloc, "help")?;
-    let mut shelf = shelf_of(alloc, &[])?;
-    let mut target = target_of(alloc, none(alloc))?;
-    let mut out = MemorySink::new(alloc, 10, 4096, none(alloc))?;
-    let mut err = sink_of(alloc)?;
-    let status = run_mesh_one(
-        alloc,
-        &words,
-        &mut shelf,
-        &mut target,
-        &mut out,
-        &mut err,
-        &OpenGate,
-    );
-    assert_eq!(rt; status.number(), 4);
-    assert_eq!(rt; out.bytes().len(), 10);
+    let given = give(alloc, "help", &[], none(alloc), none(alloc), 10)?;
+    assert_eq!(rt; given.status.number(), 4);
+    assert_eq!(rt; given.out.bytes().len(), 10);
     assert_eq!(rt;
-        err.bytes(),
+        given.err.bytes(),
         b"ember-mesh: cannot write to standard output\n".as_slice()
     );
     Ok(())

@@ -1,23 +1,12 @@
-//! Tests of the second program's top call over devices in memory.
+//! Tests of the second program's top call over devices in memory whose calls fail.
+//! `tests/run_mesh` runs the built program.
 #![tactic(auto)]
 
 #[cfg(test)]
 mod boxes;
 #[cfg(test)]
-mod cases;
+mod calls;
 #[cfg(test)]
 mod devices;
 #[cfg(test)]
-mod infos;
-#[cfg(test)]
-mod refusal_cases;
-#[cfg(test)]
-mod scenes;
-#[cfg(test)]
-mod solid_cases;
-#[cfg(test)]
-mod solids;
-#[cfg(test)]
-mod views;
-#[cfg(test)]
-mod words;
+mod outputs;

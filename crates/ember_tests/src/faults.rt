@@ -1,5 +1,5 @@
 // Every call of a device fails in turn.
-use crate::cases::{Named, file_set, give, shelf_of, sink_of, words_of};
+use crate::calls::{Named, file_set, give, shelf_of, sink_of, words_of};
 use crate::texts::{C, D};
 use ember_io::{Calls, MemoryShelf, MemorySink, Shelf, Sink};
 use ember_run::{Status, run, run_one};

@@ -1,5 +1,5 @@
 // Files of the tests, and the devices that hold them.
-use crate::cases::words_of;
+use crate::calls::words_of;
 use ember_io::{Calls, FileSet, MemoryShelf, MemorySink, SafeShelf, Shelf};
 use ember_run::{Status, run, run_one};
 use std::alloc::Global;

@@ -1,5 +1,5 @@
 // Limits of size.
-use crate::cases::{give, words_of};
+use crate::calls::{give, words_of};
 use std::alloc::Global;
 use std::test::Fail;
 

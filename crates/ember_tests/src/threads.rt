@@ -1,5 +1,5 @@
 // Runs by several workers.
-use crate::cases::{Given, Named, give, give_alone, shelf_of, sink_of, words_of};
+use crate::calls::{Given, Named, give, give_alone, shelf_of, sink_of, words_of};
 use crate::texts::{C, D};
 use ember_run::{Status, run};
 use std::alloc::Global;
