@@ -1,16 +1,21 @@
-# make: builds ember. make check: the whole gate. make install PREFIX=/usr: puts ember into PREFIX/bin, and its man page, documents and
-# completions into PREFIX/share. make uninstall PREFIX=/usr: removes them. make mesh, install-mesh, uninstall-mesh: the same for
-# ember-mesh, which the other goals neither build nor remove.
+# make: builds ember. make test: every test that needs no proof. make check: the whole gate. make install PREFIX=/usr: puts ember into
+# PREFIX/bin, and its man page, documents, examples and completions into PREFIX/share. make uninstall PREFIX=/usr: removes them. make mesh,
+# install-mesh, uninstall-mesh: the same for ember-mesh, which the other goals neither build nor remove. make deb, make tar: put a package
+# of both programs into OUT.
 PREFIX ?= /usr/local
+OUT ?= out
 
 bin = $(DESTDIR)$(PREFIX)/bin
 share = $(DESTDIR)$(PREFIX)/share
 man = $(share)/man/man1
-doc = $(share)/doc
+doc = $(share)/doc/ember
+mesh_doc = $(share)/doc/ember-mesh
 bash = $(share)/bash-completion/completions
 zsh = $(share)/zsh/site-functions
-documents = DEFINITIONS.md FORMATS.md LIMITS.md REFUSALS.md
-mesh_documents = FORMATS.md MESHES.md
+documents = DEFINITIONS.md FORMATS.md LIMITS.md REFUSALS.md TRUST.md
+mesh_documents = FORMATS.md MESHES.md TRUST.md
+examples = cube.obj tetra.obj tetra.txt wedge.obj
+mesh_examples = export.obj label.stl plate.stl
 
 build:
 	tools/build
@@ -19,30 +24,42 @@ mesh:
 	tools/build --program ember_mesh_program
 
 install: build
-	install -d $(bin) $(man) $(doc)/ember $(bash) $(zsh)
+	install -d $(bin) $(man) $(doc)/examples $(bash) $(zsh)
 	install crates/ember/out/ember $(bin)/ember
 	install -m 644 docs/man/ember.1 $(man)/ember.1
-	install -m 644 $(documents:%=docs/%) $(doc)/ember
+	install -m 644 $(documents:%=docs/%) $(doc)
+	install -m 644 $(examples:%=examples/%) $(doc)/examples
 	install -m 644 completions/ember.bash $(bash)/ember
 	install -m 644 completions/_ember $(zsh)/_ember
 
 install-mesh: mesh
-	install -d $(bin) $(man) $(doc)/ember-mesh $(bash) $(zsh)
+	install -d $(bin) $(man) $(mesh_doc)/examples $(bash) $(zsh)
 	install crates/ember_mesh_program/out/ember_mesh_program $(bin)/ember-mesh
 	install -m 644 docs/man/ember-mesh.1 $(man)/ember-mesh.1
-	install -m 644 $(mesh_documents:%=docs/%) $(doc)/ember-mesh
+	install -m 644 $(mesh_documents:%=docs/%) $(mesh_doc)
+	install -m 644 $(mesh_examples:%=examples/%) $(mesh_doc)/examples
 	install -m 644 completions/ember-mesh.bash $(bash)/ember-mesh
 	install -m 644 completions/_ember-mesh $(zsh)/_ember-mesh
 
 uninstall:
-	rm -f $(bin)/ember $(man)/ember.1 $(documents:%=$(doc)/ember/%) $(bash)/ember $(zsh)/_ember
-	rmdir $(doc)/ember 2>/dev/null || true
+	rm -f $(bin)/ember $(man)/ember.1 $(documents:%=$(doc)/%) $(examples:%=$(doc)/examples/%) $(bash)/ember $(zsh)/_ember
+	rmdir $(doc)/examples $(doc) 2>/dev/null || true
 
 uninstall-mesh:
-	rm -f $(bin)/ember-mesh $(man)/ember-mesh.1 $(mesh_documents:%=$(doc)/ember-mesh/%) $(bash)/ember-mesh $(zsh)/_ember-mesh
-	rmdir $(doc)/ember-mesh 2>/dev/null || true
+	rm -f $(bin)/ember-mesh $(man)/ember-mesh.1 $(mesh_documents:%=$(mesh_doc)/%) $(mesh_examples:%=$(mesh_doc)/examples/%)
+	rm -f $(bash)/ember-mesh $(zsh)/_ember-mesh
+	rmdir $(mesh_doc)/examples $(mesh_doc) 2>/dev/null || true
+
+deb:
+	tools/deb "$(OUT)"
+
+tar:
+	tools/tar "$(OUT)"
+
+test:
+	tools/test
 
 check:
 	.ci/run
 
-.PHONY: build mesh install install-mesh uninstall uninstall-mesh check
+.PHONY: build mesh install install-mesh uninstall uninstall-mesh deb tar test check

@@ -8,7 +8,7 @@ use std::{env, io};
 use steal_pool::OpenGate;
 
 // The exit status if a word of the command line isn't text. All others are those of
-// `Status::number` in ember_run.
+// `Status::number` in ember_verdict.
 const WORDS_ARE_NO_TEXT: u8 = 13;
 
 // The exit status of `Status::OutOfMemory`, for the time before `run`.

@@ -17,7 +17,7 @@ abbrev pub one_if : Bool → ℤ
 one_if b = cond b (pos 1) (pos 0)
 
 -- the expression is false if all winding numbers are 0. To `truth` a count past the end of the list is 0, too. The same
--- property is `IsBounded` in ember_run (Accepted.antt), where `after_bounded` (Verdict.antt) asks for it
+-- property is `IsBounded` in ember_verdict (Accepted.antt), where `after_bounded` (Verdict.antt) asks for it
 abbrev pub IsFalseOutside : Formula → Type 0
 IsFalseOutside x = truth (replicate 64 (pos 0)) x ≡ false
 

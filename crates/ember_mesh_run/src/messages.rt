@@ -45,5 +45,6 @@ for view and info. Each file is written whole or stays as it was, OUT as the las
 The report, or why nothing is written, goes to standard error.
 ";
 
-// The answer to `--version`.
-pub(crate) const VERSION: &str = "ember-mesh 0.1.0\n";
+// The answer to `--version`. Its number is that of both programs and of their packages: tools/check_docs compares what
+// the documents say with it.
+pub(crate) const VERSION: &str = "ember-mesh 0.3.0\n";

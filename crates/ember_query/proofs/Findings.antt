@@ -25,7 +25,7 @@ use Rattle.ember_query.specs.declared.query.Answer.TheVariants as answer
 use Rattle.ember_query.specs.declared.query.RunResult.{RunResult}
 use Rattle.ember_query.specs.declared.query.Query.{Query}
 use Rattle.ember_query.specs.declared.query.Query.TheVariants as query
-use Rattle.ember_query.specs.Runs.{AreJournalsOf}
+use Rattle.ember_report.specs.Runs.{AreJournalsOf}
 use Rattle.ember_query.specs.Leaves.{IsWrittenAt}
 use Rattle.ember_query.specs.Queries.{IsAnswer, IsQuery}
 

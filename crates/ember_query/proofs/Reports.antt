@@ -10,7 +10,7 @@ use Rattle.ember_job.specs.Visited.{below_shape, entry_of, visited, visited_with
 use Rattle.ember_job.specs.Weights.{weigh}
 use Rattle.ember_job.specs.Works.{Shape, halved, leafed, passed}
 use Rattle.ember_report.specs.Reports.{is_leaf, is_skipped, report_from}
-use Rattle.ember_query.specs.Runs.{AreJournalsOf, entries, run_report}
+use Rattle.ember_report.specs.Runs.{AreJournalsOf, entries, run_report}
 
 -- ---- the number of all boxes down to a depth
 abbrev most : ℕ → ℕ

@@ -14,14 +14,14 @@ use Rattle.ember_job.specs.declared.job.Entry.{Entry}
 use Rattle.ember_report.specs.Reports.{report_from}
 use Rattle.ember_visit.specs.Values.{shape}
 use Rattle.std.specs.List.{sum, sum_by}
-use Rattle.ember_query.specs.Runs.{AreJournalsOf, run_report}
+use Rattle.ember_report.specs.Runs.{AreJournalsOf, run_report}
 use Rattle.ember_query.proofs.Reports.{entries_fit, same_report}
 use Rattle.ember_step.specs.Texts.{AreLeafTexts, IsSceneText, LeafTextsJoin}
 use Rattle.ember_text.specs.FacesTexts.{FacesText}
 use Rattle.ember_model.specs.declared.face.Face.{Face}
 use Rattle.std.proofs.lemmas.List.{length-map}
 use Rattle.ember_query.specs.Leaves.{AreRegionCounts, IsWrittenAt}
-use Rattle.ember_query.specs.Solids.{AreJournalsOfSolid, IsSolid, IsSolidReport, IsSolidText}
+use Rattle.ember_meaning.specs.Solids.{AreJournalsOfSolid, IsSolid, IsSolidReport, IsSolidText}
 use Rattle.ember_leaf.specs.declared.kept.Kept.{Kept}
 use Rattle.ember_text.specs.Documents.{IsDocumentText, IsTextOf, joined, written_face}
 

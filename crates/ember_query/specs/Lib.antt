@@ -1,4 +1,2 @@
 pub mod Leaves
-pub mod Runs
-pub mod Solids
 pub mod Queries

@@ -6,7 +6,7 @@ ghost use Rattle.std.specs.Prelude.{◌≡◌, ◌≤◌, IfOk};
 ghost use Rattle.ember_box.specs.Boxes as boxes;
 ghost use Rattle.ember_job.specs.Visited.{leaves};
 ghost use Rattle.ember_job.specs.Works.{AnswersAll};
-ghost use Rattle.ember_query.specs.Runs.{AreJournalsOf};
+ghost use Rattle.ember_report.specs.Runs.{AreJournalsOf};
 ghost use Rattle.ember_query.specs.Queries.{IsAnswer, IsQuery};
 ghost use Rattle.ember_job.specs.Items.{EachAnswers};
 

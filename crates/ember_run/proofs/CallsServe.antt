@@ -4,27 +4,27 @@ use Rattle.std.specs.declared.option.Option.{Option}
 use Rattle.std.specs.Io.KnownBytes.{Appends}
 use Rattle.ember_io.specs.Sinks.{AppendsPrefix, IsFlushed}
 use Rattle.ember_words.specs.declared.command.Command.{Command}
-use Rattle.ember_run.specs.declared.status.Status.{Status}
-use Rattle.ember_run.specs.declared.status.Status.TheVariants.{Done, Words, ReadFault, WriteFault, ObjRefused, MeshRefused, ExprRefused, Unbounded, Limit, NotClear, FaceRefused, OutOfMemory}
+use Rattle.ember_verdict.specs.declared.status.Status.{Status}
+use Rattle.ember_verdict.specs.declared.status.Status.TheVariants.{Done, Words, ReadFault, WriteFault, ObjRefused, MeshRefused, ExprRefused, Unbounded, Limit, NotClear, FaceRefused, OutOfMemory}
 use Rattle.ember_run.specs.declared.reply.Reply.{Reply}
-use Rattle.ember_run.specs.Outputs.{Output}
-use Rattle.ember_run.specs.Statuses.{HasOutput, IsBegun, IsBegunIfTold, IsRefusal, IsRefusalIfTold, IsText, IsTextIfTold, IsWritten, IsWrittenIfTold, hides_memory, is_before_files, is_refusal, refused_file}
-use Rattle.ember_run.specs.Devices.{ShelfCall, SinkCall, HasShelfFailed, HasSinkFailed}
-use Rattle.ember_run.specs.Held.{MayHold}
-use Rattle.ember_run.specs.Lines.{line_on_err, text_on_err}
-use Rattle.ember_run.specs.Messages.{AppendsUntilFault}
-use Rattle.ember_run.specs.Reported.{IsErrText, IsReportOfVerdictIfAsked, asks_report}
+use Rattle.ember_verdict.specs.Outputs.{Output}
+use Rattle.ember_verdict.specs.Statuses.{HasOutput, IsBegun, IsBegunIfTold, IsRefusal, IsRefusalIfTold, IsText, IsTextIfTold, IsWritten, IsWrittenIfTold, hides_memory, is_before_files, is_refusal, refused_file}
+use Rattle.ember_verdict.specs.Devices.{ShelfCall, SinkCall, HasShelfFailed, HasSinkFailed}
+use Rattle.ember_verdict.specs.Held.{MayHold}
+use Rattle.ember_verdict.specs.Lines.{line_on_err, text_on_err}
+use Rattle.ember_verdict.specs.Messages.{AppendsUntilFault}
+use Rattle.ember_verdict.specs.Reported.{IsErrText, IsReportOfVerdictIfAsked, asks_report}
 use Rattle.ember_run.specs.Serves.{IsReply, Serves}
-use Rattle.ember_run.specs.NoReplies.{IsFileIn, IsNoReply, with_others}
-use Rattle.ember_run.specs.Slices.{IsFaceFault, IsSliceRefusal, IsSliceable}
-use Rattle.ember_run.specs.Verdict.{Contents, Verdict, Unknown, Refused, Writes, Slices, first_told, names_of, told_verdict, verdict_before, verdict_of}
-use Rattle.ember_run.specs.declared.status.FaceFault.{FaceFault}
-use Rattle.ember_run.proofs.HeldContents.{contents_count}
-use Rattle.ember_run.proofs.KnownVerdicts.{known_refusal, known_text, verdict_known}
-use Rattle.ember_run.proofs.RefusedBeforeFiles.{refused_with_any, unknown_refused}
-use Rattle.ember_run.proofs.SliceFaults.{one_fault, slice_or_fault, sliceable_or_fault}
-use Rattle.ember_run.proofs.SolidVerdicts.{err_text}
-use Rattle.ember_run.proofs.NoReplies.{before_is_refusal, file_is_refusal, length_told, none_some}
+use Rattle.ember_verdict.specs.NoReplies.{IsFileIn, IsNoReply, with_others}
+use Rattle.ember_verdict.specs.Slices.{IsFaceFault, IsSliceRefusal, IsSliceable}
+use Rattle.ember_verdict.specs.Verdict.{Contents, Verdict, Unknown, Refused, Writes, Slices, first_told, names_of, told_verdict, verdict_before, verdict_of}
+use Rattle.ember_verdict.specs.declared.status.FaceFault.{FaceFault}
+use Rattle.ember_verdict.proofs.HeldContents.{contents_count}
+use Rattle.ember_verdict.proofs.KnownVerdicts.{known_refusal, known_text, verdict_known}
+use Rattle.ember_verdict.proofs.RefusedBeforeFiles.{refused_with_any, unknown_refused}
+use Rattle.ember_verdict.proofs.SliceFaults.{one_fault, slice_or_fault, sliceable_or_fault}
+use Rattle.ember_verdict.proofs.SolidVerdicts.{err_text}
+use Rattle.ember_verdict.proofs.NoReplies.{before_is_refusal, file_is_refusal, length_told, none_some}
 
 -- what a status must be for, by the verdict v
 pub record Owes (v : Verdict) (R W : Type 0) (old new : Option (List ℕ)) (status : Status) : Type 0 where

@@ -5,16 +5,16 @@ use Rattle.ember_io.specs.Sinks.{IsFlushed}
 use Rattle.ember_words.specs.declared.command.Command.{Command}
 use Rattle.ember_words.specs.Canonical.{CommandLine, IsCanonical, command_of_line, words_of}
 use Rattle.ember_words.specs.WordsCommand.{command_of}
-use Rattle.ember_run.specs.Statuses.{HasOutput, IsBegun, IsBegunIfTold, IsRefusal, IsRefusalIfTold, IsTextIfTold, IsWritten, IsWrittenIfTold, hides_memory, is_before_files, is_refusal, refused_file}
-use Rattle.ember_run.specs.Devices.{ShelfCall, SinkCall, HasShelfFailed, HasSinkFailed}
-use Rattle.ember_run.specs.Held.{MayHold}
-use Rattle.ember_run.specs.Messages.{AppendsUntilFault}
-use Rattle.ember_run.specs.Reported.{IsErrText, IsReportOfVerdictIfAsked, asks_report}
-use Rattle.ember_run.specs.NoReplies.{IsFileIn, with_others}
-use Rattle.ember_run.specs.Verdict.{Contents, Unknown, Refused, names_of, told_verdict, verdict_before, verdict_of}
+use Rattle.ember_verdict.specs.Statuses.{HasOutput, IsBegun, IsBegunIfTold, IsRefusal, IsRefusalIfTold, IsTextIfTold, IsWritten, IsWrittenIfTold, hides_memory, is_before_files, is_refusal, refused_file}
+use Rattle.ember_verdict.specs.Devices.{ShelfCall, SinkCall, HasShelfFailed, HasSinkFailed}
+use Rattle.ember_verdict.specs.Held.{MayHold}
+use Rattle.ember_verdict.specs.Messages.{AppendsUntilFault}
+use Rattle.ember_verdict.specs.Reported.{IsErrText, IsReportOfVerdictIfAsked, asks_report}
+use Rattle.ember_verdict.specs.NoReplies.{IsFileIn, with_others}
+use Rattle.ember_verdict.specs.Verdict.{Contents, Unknown, Refused, names_of, told_verdict, verdict_before, verdict_of}
 use Rattle.ember_run.specs.declared.reply.Reply.{Reply}
-use Rattle.ember_run.specs.declared.status.Status.{Status}
-use Rattle.ember_run.specs.declared.status.Status.TheVariants.{Done, Words, ReadFault, WriteFault, OutOfMemory}
+use Rattle.ember_verdict.specs.declared.status.Status.{Status}
+use Rattle.ember_verdict.specs.declared.status.Status.TheVariants.{Done, Words, ReadFault, WriteFault, OutOfMemory}
 
 -- the text is what the command asks for, over these contents, and the report is there if it asks for one
 pub record IsReply (command : Command) (told : List ℕ → Option (List ℕ)) (reply : Reply) : Type 0 where

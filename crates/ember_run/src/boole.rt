@@ -2,25 +2,23 @@
 ghost use Rattle.std.specs.Prelude.{◌≡◌, ◌≤◌, length, map, IfOk, IfErr};
 ghost use Rattle.ember_expr.specs.Formula.{formula_of};
 ghost use Rattle.ember_query.specs.Queries.{IsExecutor};
-ghost use Rattle.ember_query.specs.Solids.{IsSolidText};
-ghost use Rattle.ember_run.specs.Reported.{IsReportOfVerdictIfAsked};
-ghost use Rattle.ember_run.specs.Statuses.{IsTextIfTold};
-ghost use Rattle.ember_run.specs.Devices.{shelf_call};
-ghost use Rattle.ember_run.specs.Held.{MayHold};
-ghost use Rattle.ember_run.specs.NoReplies.{IsNoReply, IsNoReplyToExpression};
-ghost use Rattle.ember_run.specs.Solids.{IsReportTextIfAsked, IsReportText, line_if_asked};
-ghost use Rattle.ember_run.specs.Verdict.{bool_verdict, demo_verdict};
+ghost use Rattle.ember_meaning.specs.Solids.{IsSolidText};
+ghost use Rattle.ember_verdict.specs.Reported.{IsReportOfVerdictIfAsked};
+ghost use Rattle.ember_verdict.specs.Statuses.{IsTextIfTold};
+ghost use Rattle.ember_verdict.specs.Devices.{shelf_call};
+ghost use Rattle.ember_verdict.specs.Held.{MayHold};
+ghost use Rattle.ember_verdict.specs.NoReplies.{IsNoReply, IsNoReplyToExpression};
+ghost use Rattle.ember_verdict.specs.Solids.{IsReportTextIfAsked, IsReportText, line_if_asked};
+ghost use Rattle.ember_verdict.specs.Verdict.{bool_verdict, demo_verdict};
 
-use crate::expression::{parse_bounded, parse_union};
 use crate::reply::Reply;
-use crate::scene::read_scene;
-use crate::status::Status;
 use ember_expr::Expr;
 use ember_gen::scene_of;
 use ember_io::Shelf;
 use ember_model::{OutOfMemory, Scene};
 use ember_query::{Answer, Query, query_report, solid_of};
 use ember_report::{Report, report_line};
+use ember_verdict::{Status, parse_bounded, parse_union, read_scene};
 use ember_words::{Text, Texts};
 use std::alloc::Global;
 
@@ -35,7 +33,7 @@ fn line_if_asked(alloc: Global, reported: bool, report: &Report) -> Result<Vec<u
 }
 
 // The document of the solid, and the line of its report, if it is asked for.
-#[tactic(auto, using(crate::proofs::SolidVerdicts::report_line_is))]
+#[tactic(auto, using(ember_verdict::proofs::SolidVerdicts::report_line_is))]
 fn reply_of_solid<C: Fn(&Query) -> Result<Answer, OutOfMemory>>(
     alloc: Global,
     scene: &Scene,
@@ -100,7 +98,7 @@ pub fn boole_output<S: Shelf, C: Fn(&Query) -> Result<Answer, OutOfMemory>>(
 }
 
 // The line of the report of a solid.
-#[tactic(auto, using(crate::proofs::SolidVerdicts::is_report_text))]
+#[tactic(auto, using(ember_verdict::proofs::SolidVerdicts::is_report_text))]
 fn report_text<C: Fn(&Query) -> Result<Answer, OutOfMemory>>(
     alloc: Global,
     scene: &Scene,
@@ -117,7 +115,7 @@ fn report_text<C: Fn(&Query) -> Result<Answer, OutOfMemory>>(
 
 /// The output of `demo`: the line of the report of the union of the two meshes of generated boxes.
 /// There are at most 20000 `boxes`. The error is the status with which the call ends instead.
-#[tactic(auto, using(crate::proofs::SolidVerdicts::report_written, crate::proofs::SolidVerdicts::report_refused, crate::proofs::NoReplies::memory_is_no_reply_to_expression))]
+#[tactic(auto, using(ember_verdict::proofs::SolidVerdicts::report_written, ember_verdict::proofs::SolidVerdicts::report_refused, ember_verdict::proofs::NoReplies::memory_is_no_reply_to_expression))]
 pub fn demo_output<C: Fn(&Query) -> Result<Answer, OutOfMemory>>(
     alloc: Global,
     boxes: u32,

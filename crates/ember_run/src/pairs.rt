@@ -1,19 +1,18 @@
 // The command `pairs`.
 ghost use Rattle.std.specs.Prelude.{◌≡◌, ◌≤◌, length, map, IfOk, IfErr};
 ghost use Rattle.ember_query.specs.Queries.{IsExecutor};
-ghost use Rattle.ember_run.specs.PairLists.{IsPairsText};
-ghost use Rattle.ember_run.specs.Statuses.{IsTextIfTold};
-ghost use Rattle.ember_run.specs.Devices.{shelf_call};
-ghost use Rattle.ember_run.specs.Held.{MayHold};
-ghost use Rattle.ember_run.specs.NoReplies.{IsNoReply};
-ghost use Rattle.ember_run.specs.Verdict.{pairs_verdict};
+ghost use Rattle.ember_verdict.specs.PairLists.{IsPairsText};
+ghost use Rattle.ember_verdict.specs.Statuses.{IsTextIfTold};
+ghost use Rattle.ember_verdict.specs.Devices.{shelf_call};
+ghost use Rattle.ember_verdict.specs.Held.{MayHold};
+ghost use Rattle.ember_verdict.specs.NoReplies.{IsNoReply};
+ghost use Rattle.ember_verdict.specs.Verdict.{pairs_verdict};
 
-use crate::scene::read_scene;
-use crate::status::Status;
 use ember_io::Shelf;
 use ember_model::{OutOfMemory, Scene};
 use ember_pairs::{gather, gathered_pairs_are_all, pairs_text};
 use ember_query::{Answer, Query, query_pairs};
+use ember_verdict::{Status, read_scene};
 use ember_words::Texts;
 use std::alloc::Global;
 
@@ -35,7 +34,7 @@ fn text_of_pairs<C: Fn(&Query) -> Result<Answer, OutOfMemory>>(
 
 /// The output of `pairs`: the pairs of triangles that cross or overlap. `places` is at most 3, and
 /// there are at most 64 files. The error is the status with which the call ends instead.
-#[tactic(auto, using(crate::proofs::SceneVerdicts::pairs_listed))]
+#[tactic(auto, using(ember_verdict::proofs::SceneVerdicts::pairs_listed))]
 pub fn pairs_output<S: Shelf, C: Fn(&Query) -> Result<Answer, OutOfMemory>>(
     alloc: Global,
     places: u8,

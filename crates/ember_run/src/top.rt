@@ -7,25 +7,23 @@ ghost use Rattle.ember_io.specs.Sinks.{AppendsPrefix, IsFlushed};
 ghost use Rattle.ember_query.specs.Queries.{IsAnswer, IsExecutor, IsExecutorOfAny, IsQuery};
 ghost use Rattle.ember_words.specs.WordsCommand.{command_of};
 ghost use Rattle.ember_words.specs.Within.{IsWithinLimits};
-ghost use Rattle.ember_run.specs.Devices.{shelf_call, sink_call};
-ghost use Rattle.ember_run.specs.Held.{MayHold};
+ghost use Rattle.ember_verdict.specs.Devices.{shelf_call, sink_call};
+ghost use Rattle.ember_verdict.specs.Held.{MayHold};
 ghost use Rattle.ember_run.specs.Serves.{IsReply, ReadsCanonical, Serves};
-ghost use Rattle.ember_run.specs.NoReplies.{IsNoReply};
-ghost use Rattle.ember_run.specs.Statuses.{IsTextIfTold};
-ghost use Rattle.ember_run.specs.Verdict.{names_of, verdict_of};
+ghost use Rattle.ember_verdict.specs.NoReplies.{IsNoReply};
+ghost use Rattle.ember_verdict.specs.Statuses.{IsTextIfTold};
+ghost use Rattle.ember_verdict.specs.Verdict.{names_of, verdict_of};
 
-use crate::at::at_output;
 use crate::boole::{boole_output, demo_output};
-use crate::faces::faces_output;
-use crate::lines::{say_out_of_memory, say_status, say_words_refused};
 use crate::pairs::pairs_output;
 use crate::reply::Reply;
-use crate::slice::slice_output;
-use crate::status::Status;
 use crate::voxels::voxels_output;
 use ember_io::{Shelf, Sink, write_all};
 use ember_model::OutOfMemory;
 use ember_query::{Answer, Query, answer_alone, answer_by_workers};
+use ember_verdict::{
+    Status, at_output, faces_output, say_out_of_memory, say_status, say_words_refused, slice_output,
+};
 use ember_words::{Command, WordsFault, read_words};
 use std::alloc::Global;
 use std::sync::Wait;

@@ -2,20 +2,18 @@
 ghost use Rattle.std.specs.Prelude.{◌≡◌, ◌≤◌, length, map, IfOk, IfErr};
 ghost use Rattle.ember_expr.specs.Formula.{formula_of};
 ghost use Rattle.ember_query.specs.Queries.{IsExecutor};
-ghost use Rattle.ember_run.specs.Lattices.{IsLatticeText};
-ghost use Rattle.ember_run.specs.Statuses.{IsTextIfTold};
-ghost use Rattle.ember_run.specs.Devices.{shelf_call};
-ghost use Rattle.ember_run.specs.Held.{MayHold};
-ghost use Rattle.ember_run.specs.NoReplies.{IsNoReply};
-ghost use Rattle.ember_run.specs.Verdict.{voxels_verdict};
+ghost use Rattle.ember_verdict.specs.Lattices.{IsLatticeText};
+ghost use Rattle.ember_verdict.specs.Statuses.{IsTextIfTold};
+ghost use Rattle.ember_verdict.specs.Devices.{shelf_call};
+ghost use Rattle.ember_verdict.specs.Held.{MayHold};
+ghost use Rattle.ember_verdict.specs.NoReplies.{IsNoReply};
+ghost use Rattle.ember_verdict.specs.Verdict.{voxels_verdict};
 
-use crate::expression::parse_text;
-use crate::scene::read_scene;
-use crate::status::Status;
 use ember_expr::Expr;
 use ember_io::Shelf;
 use ember_model::{OutOfMemory, Scene};
 use ember_query::{Answer, Query, query_fills};
+use ember_verdict::{Status, parse_text, read_scene};
 use ember_voxel::{each_cell_has_its_value, grid_text};
 use ember_words::{Text, Texts};
 use std::alloc::Global;
@@ -42,7 +40,7 @@ fn text_of_voxels<C: Fn(&Query) -> Result<Answer, OutOfMemory>>(
 /// The output of `voxels`: the solid sampled on a lattice whose cells have the side `2 ^ size`, in
 /// units, for a size of 4 to 12. `places` is at most 3, and there are at most 64 files. The error
 /// is the status with which the call ends instead.
-#[tactic(auto, using(crate::proofs::SceneVerdicts::lattice_sampled))]
+#[tactic(auto, using(ember_verdict::proofs::SceneVerdicts::lattice_sampled))]
 pub fn voxels_output<S: Shelf, C: Fn(&Query) -> Result<Answer, OutOfMemory>>(
     alloc: Global,
     expr: &Text,

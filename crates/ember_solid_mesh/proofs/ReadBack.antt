@@ -9,7 +9,7 @@ use Rattle.ember_expr.specs.Formula.{Formula}
 use Rattle.ember_model.specs.declared.face.Face.{Face}
 use Rattle.ember_model.specs.declared.tri.Tri.{Tri}
 use Rattle.ember_model.specs.FaceFiles.{WrittenFace, IsWrittenFace, IsFaceFile, face_lines, header, ending}
-use Rattle.ember_query.specs.Solids.{IsSolidText}
+use Rattle.ember_meaning.specs.Solids.{IsSolidText}
 use Rattle.ember_reread.specs.declared.fault.RereadFault.{RereadFault}
 use Rattle.ember_reread.specs.declared.fault.RereadFault.TheVariants.{Form, OutOfMemory}
 use Rattle.ember_text.specs.Documents.{IsDocumentText, written_face}

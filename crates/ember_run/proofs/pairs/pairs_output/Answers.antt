@@ -1,12 +1,12 @@
 use Rattle.std.proofs.Common.{ℕ, List, subst}
-use Rattle.ember_run.specs.Devices.{shelf_call}
-use Rattle.ember_run.specs.Held.{MayHold}
-use Rattle.ember_run.specs.Outputs.{MeetingPairs}
-use Rattle.ember_run.specs.NoReplies.{IsNoReply}
-use Rattle.ember_run.specs.Statuses.{IsTextIfTold}
-use Rattle.ember_run.specs.Verdict.{Writes, pairs_verdict}
-use Rattle.ember_run.proofs.HeldContents.{held_then}
-use Rattle.ember_run.proofs.SceneVerdicts.{SceneRead, pairs_listed}
+use Rattle.ember_verdict.specs.Devices.{shelf_call}
+use Rattle.ember_verdict.specs.Held.{MayHold}
+use Rattle.ember_verdict.specs.Outputs.{MeetingPairs}
+use Rattle.ember_verdict.specs.NoReplies.{IsNoReply}
+use Rattle.ember_verdict.specs.Statuses.{IsTextIfTold}
+use Rattle.ember_verdict.specs.Verdict.{Writes, pairs_verdict}
+use Rattle.ember_verdict.proofs.HeldContents.{held_then}
+use Rattle.ember_verdict.proofs.SceneVerdicts.{SceneRead, pairs_listed}
 use Rattle.ember_run.proofs.pairs.pairs_output.Goals as goal
 
 pub returns-in-Err-clause-no_reply : goal.returns-in-Err-clause-no_reply

@@ -1,4 +1,4 @@
-use Rattle.ember_run.proofs.SceneVerdicts.{pairs_text_if}
+use Rattle.ember_run.proofs.TextsOfLeaves.{pairs_text_if}
 use Rattle.ember_run.proofs.pairs.text_of_pairs.Goals as goal
 
 pub returns : goal.returns

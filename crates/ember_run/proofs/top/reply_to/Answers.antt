@@ -1,9 +1,9 @@
 use Rattle.std.proofs.Common.{◌≡◌, ℤ, to_z, of_z, w32, [], ◌∷◌, Some, IfErr, rules, subst, sym}
 use Rattle.ember_words.specs.declared.command.Command.{Command}
-use Rattle.ember_run.specs.Devices.{shelf_call}
-use Rattle.ember_run.specs.NoReplies.{IsNoReply}
-use Rattle.ember_run.specs.Verdict.{file_at, names_of, slice_verdict, verdict_of}
-use Rattle.ember_run.proofs.Verdicts.{passed_on}
+use Rattle.ember_verdict.specs.Devices.{shelf_call}
+use Rattle.ember_verdict.specs.NoReplies.{IsNoReply}
+use Rattle.ember_verdict.specs.Verdict.{file_at, names_of, slice_verdict, verdict_of}
+use Rattle.ember_verdict.proofs.Verdicts.{passed_on}
 use Rattle.ember_run.proofs.top.reply_to.Goals as goal
 
 pub returns-in_err-text-in-Faces-clause-no_reply : goal.returns-in_err-text-in-Faces-clause-no_reply

@@ -1,4 +1,4 @@
-use Rattle.ember_run.proofs.SceneVerdicts.{lattice_text_if}
+use Rattle.ember_run.proofs.TextsOfLeaves.{lattice_text_if}
 use Rattle.ember_run.proofs.voxels.text_of_voxels.Goals as goal
 
 pub returns : goal.returns

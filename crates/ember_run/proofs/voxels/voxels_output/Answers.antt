@@ -1,14 +1,14 @@
 use Rattle.std.proofs.Common.{ℕ, List, map, refl, subst}
 use Rattle.std.proofs.lemmas.List.{length-map}
-use Rattle.ember_run.specs.Outputs.{Lattice}
-use Rattle.ember_run.specs.Statuses.{IsTextIfTold}
-use Rattle.ember_run.specs.Devices.{shelf_call}
-use Rattle.ember_run.specs.Held.{MayHold}
-use Rattle.ember_run.specs.NoReplies.{IsNoReply}
-use Rattle.ember_run.specs.Verdict.{Writes, after_expr, voxels_verdict}
-use Rattle.ember_run.proofs.SceneVerdicts.{SceneRead, lattice_sampled}
-use Rattle.ember_run.proofs.HeldContents.{held_then}
-use Rattle.ember_run.proofs.NoReplies.{scene_is_no_reply, expression_is_no_reply}
+use Rattle.ember_verdict.specs.Outputs.{Lattice}
+use Rattle.ember_verdict.specs.Statuses.{IsTextIfTold}
+use Rattle.ember_verdict.specs.Devices.{shelf_call}
+use Rattle.ember_verdict.specs.Held.{MayHold}
+use Rattle.ember_verdict.specs.NoReplies.{IsNoReply}
+use Rattle.ember_verdict.specs.Verdict.{Writes, after_expr, voxels_verdict}
+use Rattle.ember_verdict.proofs.SceneVerdicts.{SceneRead, lattice_sampled}
+use Rattle.ember_verdict.proofs.HeldContents.{held_then}
+use Rattle.ember_verdict.proofs.NoReplies.{scene_is_no_reply, expression_is_no_reply}
 use Rattle.ember_run.proofs.voxels.voxels_output.Goals as goal
 
 pub returns-in-Err-clause-no_reply : goal.returns-in-Err-clause-no_reply

@@ -1,5 +1,0 @@
-use Rattle.ember_run.proofs.PointCounts.{clear_same}
-use Rattle.ember_run.proofs.at.is_clear.Goals as goal
-
-pub returns : goal.returns
-returns c = clear_same c.clear.result c.args.tri.now c.args.point.now c.requires.point.weight c.clear.ensures

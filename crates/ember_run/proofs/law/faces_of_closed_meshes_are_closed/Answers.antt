@@ -1,5 +1,0 @@
-use Rattle.ember_run.proofs.ClosedMeshes.{balanced_file_is_closed}
-use Rattle.ember_run.proofs.law.faces_of_closed_meshes_are_closed.Goals as goal
-
-pub returns : goal.returns
-returns c = balanced_file_is_closed

@@ -1,5 +1,0 @@
-use Rattle.ember_run.proofs.OneTexts.{output_one}
-use Rattle.ember_run.proofs.law.outputs_have_one_text.Goals as goal
-
-pub returns : goal.returns
-returns c = output_one

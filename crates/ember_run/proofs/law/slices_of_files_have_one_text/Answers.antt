@@ -1,5 +1,0 @@
-use Rattle.ember_run.proofs.OneTexts.{slice_one}
-use Rattle.ember_run.proofs.law.slices_of_files_have_one_text.Goals as goal
-
-pub returns : goal.returns
-returns c = slice_one

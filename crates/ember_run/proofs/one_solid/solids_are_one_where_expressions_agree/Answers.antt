@@ -1,5 +1,0 @@
-use Rattle.ember_run.proofs.OneSolid.{agreeing_solids_are_one, one_solid_agrees}
-use Rattle.ember_run.proofs.one_solid.solids_are_one_where_expressions_agree.Goals as goal
-
-pub returns : goal.returns
-returns c = λ tris meshes f g one other scene a b. (one_solid_agrees tris meshes f g one other scene a b, agreeing_solids_are_one tris meshes f g one other scene a b)

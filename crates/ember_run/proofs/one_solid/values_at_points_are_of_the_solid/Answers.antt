@@ -1,5 +1,0 @@
-use Rattle.ember_run.proofs.OneSolid.{value_of_faces}
-use Rattle.ember_run.proofs.one_solid.values_at_points_are_of_the_solid.Goals as goal
-
-pub returns : goal.returns
-returns c = value_of_faces

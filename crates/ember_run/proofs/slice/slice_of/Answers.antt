@@ -1,4 +1,0 @@
-use Rattle.ember_run.proofs.slice.slice_of.Goals as goal
-
-pub returns-in-Err-clause-refused : goal.returns-in-Err-clause-refused
-returns-in-Err-clause-refused c = λ r. c.in-Err.ensures.refused c.args.at r

@@ -1,0 +1,5 @@
+use Rattle.ember_verdict.proofs.OneTexts.{output_one}
+use Rattle.ember_verdict.proofs.law.outputs_have_one_text.Goals as goal
+
+pub returns : goal.returns
+returns c = output_one

@@ -1,0 +1,21 @@
+-- Contents that files may have, as far as a shelf tells them
+use Rattle.std.specs.Prelude.{ℕ, List, map, Some}
+use Rattle.std.specs.declared.option.Option.{Option}
+use Rattle.std.specs.List.{AllZip}
+use Rattle.ember_io.specs.Shelves.{Tells}
+use Rattle.ember_verdict.specs.Verdict.{Contents}
+
+-- there are bytes of which P holds, and which a file may have of which the shelf tells this: the told bytes, or any
+-- bytes if none are told
+abbrev pub MayHoldOne : Option (List ℕ) → (Option (List ℕ) → Type 0) → Type 0
+MayHoldOne told P = (bytes : List ℕ) × Tells told bytes × P (Some bytes)
+
+-- these are contents of the files with these names, in order; what the shelf tells of a file is what it has here
+abbrev pub AreContentsOf : (List ℕ → Option (List ℕ)) → List (List ℕ) → List (List ℕ) → Type 0
+AreContentsOf told names contents = AllZip (λ name bytes. Tells (told name) bytes) names contents
+
+-- there are bytes for each file such that P holds of all of them together. For a file that the shelf tells, these are
+-- the told bytes; for another, any bytes. P gets all of them as told, so no command's verdict on them is Unknown, and
+-- under `MayHold` an `IfTold` leaves nothing open
+abbrev pub MayHold : (List ℕ → Option (List ℕ)) → List (List ℕ) → (Contents → Type 0) → Type 0
+MayHold told names P = (contents : List (List ℕ)) × AreContentsOf told names contents × P (map Some contents)

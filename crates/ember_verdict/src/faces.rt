@@ -1,0 +1,73 @@
+// The command `faces`.
+ghost use Rattle.std.specs.Prelude.{[], ◌∷◌, ◌≡◌, ◌≤◌, length, All, IfOk, IfErr};
+ghost use Rattle.ember_model.specs.Valid.{IsValidTri};
+ghost use Rattle.ember_verdict.specs.FaceTexts.{AddsFace, IsFaceFileOf};
+ghost use Rattle.ember_verdict.specs.Statuses.{IsTextIfTold};
+ghost use Rattle.ember_verdict.specs.Devices.{shelf_call};
+ghost use Rattle.ember_verdict.specs.Held.{MayHold};
+ghost use Rattle.ember_verdict.specs.NoReplies.{IsNoReply};
+ghost use Rattle.ember_verdict.specs.Verdict.{faces_verdict, file_at};
+
+use crate::reading::read_file;
+use crate::status::Status;
+use ember_io::Shelf;
+use ember_model::{OutOfMemory, Tri};
+use ember_poly::of_tri;
+use ember_text::{begin_file, end_file, face_text};
+use ember_words::Text;
+use std::alloc::Global;
+
+// Appends the triangle's face, if it has one. Returns the number of faces added, 0 or 1.
+#[tactic(auto, using(crate::proofs::FaceLists::flat_adds, crate::proofs::FaceLists::face_adds))]
+fn add_face(alloc: Global, tri: &Tri, text: &mut Vec<u8>) -> Result<u32, OutOfMemory>
+    requires { IsValidTri tri.now }
+    ensures { IfOk result (λ count. AddsFace tri.now count text.old.items text.new.items) }
+{
+    match of_tri(alloc, tri)? {
+        None => Ok(0),
+        Some(ring) => {
+            face_text(alloc, &ring, false, text)?;
+            Ok(1)
+        }
+    }
+}
+
+// The face file of the triangles' faces.
+#[tactic(auto, using(crate::proofs::FaceLists::no_texts, crate::proofs::FaceLists::more_texts))]
+fn faces_text(alloc: Global, tris: &[Tri]) -> Result<Vec<u8>, OutOfMemory>
+    requires valid { All IsValidTri tris.now }
+    requires few { length tris.now ≤ 262144 }
+    ensures { IfOk result (λ text. IsFaceFileOf tris.now text.items) }
+{
+    let mut text = begin_file(alloc)?;
+    let mut count = 0u32;
+    for tri in tris {
+        count += add_face(alloc, tri, &mut text)?;
+    }
+    end_file(count, &mut text)?;
+    Ok(text)
+}
+
+/// The output of `faces`: the face of each triangle of the file that isn't flat, in order. `places`
+/// is at most 3. The error is the status with which the call ends instead.
+#[tactic(auto, using(crate::proofs::Verdicts::faces_read))]
+pub fn faces_output<S: Shelf>(
+    alloc: Global,
+    places: u8,
+    file: &Text,
+    shelf: &mut S,
+) -> Result<Vec<u8>, Status>
+    requires { places ≤ 3 }
+    ensures contents { S.contents shelf.new ≡ S.contents shelf.old }
+    ensures later { S.faults shelf.old ≤ S.faults shelf.new }
+    ensures text { IfOk result (λ text.
+        IsTextIfTold (faces_verdict places (S.contents shelf.old file.now)) text.items) }
+    ensures text_read { IfOk result (λ text. MayHold (S.contents shelf.old) (file.now ∷ [])
+        (λ contents. IsTextIfTold (faces_verdict places (file_at contents 1)) text.items)) }
+    ensures no_reply { IfErr result
+        (IsNoReply (λ contents. faces_verdict places (file_at contents 1)) (file.now ∷ [])
+        (shelf_call S.contents S.faults S.fault_at shelf.old shelf.new)) }
+{
+    let soup = read_file(alloc, shelf, file.as_str(), 1, places)?;
+    Ok(faces_text(alloc, soup.tris.items())?)
+}

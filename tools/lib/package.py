@@ -1,0 +1,165 @@
+"""What the packages have in common: whose version and commit they are, the programs that the build proved, and the files beside them."""
+import importlib.machinery
+import importlib.util
+import os
+import re
+import shutil
+import subprocess
+import sys
+import time
+from pathlib import Path
+
+TOP = Path(__file__).resolve().parent.parent.parent
+# The crate of each program, by the program's place in a package.
+PROGRAMS = {"bin/ember": "ember", "bin/ember-mesh": "ember_mesh_program"}
+# What a package is made of.
+SOURCES = ["crates", "crates.txt", "HANDLES", "docs", "completions", "examples", "tools", "packages", "Makefile", "LICENSE", "CHANGELOG.md"]
+
+
+def loaded(script):
+    """Returns a script of Python as a module: which crates there are, and where their logs are, is what the script says."""
+    loader = importlib.machinery.SourceFileLoader(script.name, str(script))
+    module = importlib.util.module_from_spec(importlib.util.spec_from_loader(script.name, loader))
+    loader.exec_module(module)
+    return module
+
+
+builder = loaded(TOP / "tools/build")
+
+
+def fail(why):
+    sys.exit(f"ember: {why}")
+
+
+def output_of(*words):
+    return subprocess.run(words, cwd=TOP, stdout=subprocess.PIPE, text=True, check=True).stdout.rstrip()
+
+
+def version():
+    """Returns the version of both programs: the one that `ember-mesh --version` writes."""
+    text = (TOP / "crates/ember_mesh_run/src/messages.rt").read_text(encoding="utf-8")
+    return re.search(r'const VERSION: &str = "ember-mesh ([\d.]+)\\n";', text)[1]
+
+
+def commit_time():
+    """Returns when the commit was made, in seconds since 1970. All files of a package have this time."""
+    return int(output_of("git", "log", "-1", "--format=%ct"))
+
+
+def changes():
+    """Returns the parts of CHANGELOG.md on this version, each as its heading or None, and its line or None."""
+    text = (TOP / "CHANGELOG.md").read_text(encoding="utf-8")
+    entry = re.search(rf"^## {re.escape(version())}\n(.*?)(?=^## |\Z)", text, re.M | re.S)[1]
+    found = re.findall(r"^\*\*(.*)\*\*$|^- (.*(?:\n  .*)*)", entry, re.M)
+    return [(heading or None, " ".join(line.split()) or None) for heading, line in found]
+
+
+def refuse_changes():
+    """Ends unless all that a package is made of is as in the commit that it names."""
+    if not (TOP / ".git").exists():
+        fail("a package is made of a commit, and this folder is no git repository")
+    changed = output_of("git", "status", "--porcelain", "--", *SOURCES)
+    if changed:
+        fail(f"a package has the files of a commit, and these differ from the last one:\n{changed}")
+
+
+def build(jobs):
+    """Proves and builds the programs. Ends if a source was changed meanwhile: the program may be that of another text then."""
+    refuse_changes()
+    begun = time.time()
+    for crate in PROGRAMS.values():
+        build = [TOP / "tools/build", "--program", crate, *(["--jobs", str(jobs)] if jobs else [])]
+        if subprocess.run(build, check=False).returncode:
+            fail("there is no package without its programs")
+    refuse_changes()
+    sources = [TOP / "crates.txt", TOP / "HANDLES", *(it for it in (TOP / "crates").rglob("*") if "out" not in it.parts and it.is_file())]
+    for newer in (it for it in sources if it.stat().st_mtime > begun):
+        fail(f"{newer.relative_to(TOP)} was changed while the programs were built: make the package anew")
+
+
+def crates_of_programs():
+    """Returns the crates that the programs use, lowest first."""
+    crates = builder.listed()
+    names = set().union(*(builder.below(crates, it) for it in PROGRAMS.values()))
+    return [it for it in crates if it in names]
+
+
+def last_line_of_check(crate):
+    """Returns what the toolchain said last of the proof of a crate."""
+    log = Path(builder.room(), f"{crate}.log").read_text(encoding="utf-8")
+    said = re.findall(r"^logic=proved .*$", log, re.M)
+    if not said:
+        fail(f"{builder.room()}/{crate}.log doesn't say that the crate is proved")
+    return said[-1]
+
+
+def proved(folder):
+    """Returns the text of PROVED: what the programs in the folder are, and what was proved of them."""
+    sums = subprocess.run(["sha256sum", *PROGRAMS], cwd=folder, stdout=subprocess.PIPE, text=True, check=True).stdout
+    lines = [f"  {crate}: {last_line_of_check(crate)}\n" for crate in crates_of_programs()]
+    return (
+        f"ember {version()}: what these programs are, and what was proved of them\n\n"
+        f"commit {output_of('git', 'rev-parse', 'HEAD')}\n"
+        f"toolchain {output_of('rt', 'version')}\n\n"
+        f"The SHA-256 of each program, as the build made it:\n\n{sums}\n"
+        f"The last line of the check of each crate that is in them, lowest first:\n\n{''.join(lines)}"
+    )
+
+
+def kit():
+    """Returns the folder with the sources of the toolchain's libraries."""
+    return Path(os.path.realpath(shutil.which("rt"))).parent.parent / "rattle"
+
+
+def libraries():
+    """Returns the toolchain's libraries that the programs use, directly or below others."""
+    open_, found = {"std"}, set()
+    for crate in crates_of_programs():
+        line = builder.listed()[crate][0]
+        open_ |= set(line.partition("#")[0].partition(":")[2].split())
+    while open_:
+        name = open_.pop()
+        sources = kit() / name / "src"
+        if name not in found and sources.is_dir():
+            found.add(name)
+            for file in sources.rglob("*.rt"):
+                open_ |= set(re.findall(r"^\s*(?:pub )?use (\w+)::", file.read_text(encoding="utf-8"), re.M))
+    return sorted(found)
+
+
+def licences():
+    """Returns the text of LIBRARIES: the licences of the libraries whose code is in the programs."""
+    text = "The programs contain code of these libraries of the toolchain, under their own licences.\n"
+    for name in libraries():
+        files = sorted((kit() / name).glob("LICENSE*"))
+        # Where the user may choose, it is this one.
+        files = [it for it in files if it.name == "LICENSE-MIT"] or files
+        for file in files:
+            text += f"\n{'=' * 78}\n{name}: {file.name}\n{'=' * 78}\n\n{file.read_text(encoding='utf-8').strip()}\n"
+    return text
+
+
+def install(room, prefix, **places):
+    """Puts what `make install` and `make install-mesh` install below the prefix into the folder. Other places are variables of the Makefile."""
+    words = [f"{name}={place}" for name, place in {"DESTDIR": room, "PREFIX": prefix, "doc": "$(mesh_doc)", **places}.items()]
+    # They are built already, and not to be built again.
+    subprocess.run(["make", "-s", "-C", TOP, "-o", "build", "-o", "mesh", "install", "install-mesh", *words], check=True)
+
+
+def needed_libc(folder):
+    """Returns the least version of the C library with which the programs in the folder start."""
+    versions = [it for program in PROGRAMS for it in re.findall(rb"GLIBC_([\d.]+)\0", (folder / program).read_bytes())]
+    return max((it.decode() for it in versions), key=lambda it: [int(part) for part in it.split(".")])
+
+
+def write(path, text):
+    path.parent.mkdir(parents=True, exist_ok=True)
+    path.write_text(text, encoding="utf-8")
+
+
+def settle(room):
+    """Gives all files the time of the commit and the usual permissions, whatever the user's are."""
+    when = commit_time()
+    for path in [room, *room.rglob("*")]:
+        path.chmod(0o755 if path.is_dir() or path.parent.name == "bin" else 0o644)
+        os.utime(path, (when, when))
