@@ -71,7 +71,10 @@ type Shape<'a> = (&'a [[i128; 3]], &'a [Facet]);
 
 // How many of the files' surfaces are these, up to the first that isn't; 0 if their number is another.
 fn right_surfaces(alloc: Global, files: &[MeshFile], shapes: &[Shape]) -> u64 {
-    if files.len() > 64 || !are_small(files) {
+    if files.len() > 64 {
+        return 0;
+    }
+    if !are_small(files) {
         return 0;
     }
     let Ok(surfaces) = surfaces_in(alloc, files, &OpenGate) else {
@@ -132,8 +135,11 @@ fn fault_of<'a>(
     files: &[MeshFile<'a>],
     stages: &Told,
 ) -> Result<Option<BooleanFault<'a>>, Fail> {
-    if files.len() > 64 || !are_small(files) {
-        return Err(Fail::from("many or long files"));
+    if files.len() > 64 {
+        return Err(Fail::from("many files"));
+    }
+    if !are_small(files) {
+        return Err(Fail::from("long file"));
     }
     let expr = expression(alloc, b"m1|m2")?;
     let wanted = WantedFile {

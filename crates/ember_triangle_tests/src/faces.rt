@@ -200,11 +200,11 @@ const TETRAHEDRON_LINES: [[[i16; 4]; 2]; 6] = [
     [[1, 0, 0, 0], [1, 1, 1, 1]],
 ];
 
-// How many triangles so many edges of the tetrahedron's faces become, from the first on, on these lines.
+// How many triangles these edges of the tetrahedron's faces become, on these lines.
 fn tetrahedron_count(
     alloc: Global,
     lines: &[LineKey],
-    edges: usize,
+    edges: &[(u32, u32, u32, u32)],
 ) -> Result<usize, TrianglesFault> {
     let planes = [
         plane([0, 0, -1, 0]),
@@ -219,23 +219,24 @@ fn tetrahedron_count(
         thirds(0, 0, 3),
     ];
     let mut segments = Vec::new(alloc);
-    for (plane, line, start, end) in TETRAHEDRON.iter().take(edges) {
+    for (plane, line, start, end) in edges {
         segments.push(edge_of(*plane, *line, *start, *end))?;
     }
     count_of(alloc, &planes, lines, &corners, &segments)
 }
 
-// The count with all lines.
-fn count_of_edges(alloc: Global, edges: usize) -> Result<usize, TrianglesFault> {
+// The count on all lines of the table.
+fn count_of_edges(alloc: Global, edges: &[(u32, u32, u32, u32)]) -> Result<usize, TrianglesFault> {
     let lines = lines_of(alloc, &TETRAHEDRON_LINES)?;
     tetrahedron_count(alloc, &lines, edges)
 }
 
 #[test]
 fn faces_of_a_tetrahedron(rt: HostRuntime) {
-    assert_eq!(rt; count_of_edges(rt.alloc(), 12), Ok(4));
+    assert_eq!(rt; count_of_edges(rt.alloc(), &TETRAHEDRON), Ok(4));
+    let open = &TETRAHEDRON[..11];
     assert_eq!(rt;
-        count_of_edges(rt.alloc(), 11),
+        count_of_edges(rt.alloc(), open),
         Err(TrianglesFault::NotClosed(4))
     );
 }
@@ -260,7 +261,7 @@ fn count_with(alloc: Global, number: usize, change: Change) -> Result<usize, Tri
             _ => *line = NO_LINE,
         }
     }
-    tetrahedron_count(alloc, &lines, 12)
+    tetrahedron_count(alloc, &lines, &TETRAHEDRON)
 }
 
 #[test]
