@@ -87,23 +87,17 @@ fn solid_of(alloc: Global, scene: &Scene, text: &[u8], keeps: bool) -> Result<Me
     Ok(solid)
 }
 
-// What is looked at of a solid.
-#[derive(Clone, Copy, Debug, PartialEq, Eq)]
-struct Found {
-    triangles: usize,
-    // Whether its faces are as many as the report says.
-    agrees: bool,
-    has_document: bool,
-}
-
-fn found_in(alloc: Global, first: &[u8], second: &[u8], text: &[u8]) -> Result<Found, Fail> {
+// The number of triangles of a solid, whether its faces are as many as its report says, and whether it has a document.
+fn found_in(
+    alloc: Global,
+    first: &[u8],
+    second: &[u8],
+    text: &[u8],
+) -> Result<(usize, bool, bool), Fail> {
     let scene = scene_of(alloc, first, second)?;
     let solid = solid_of(alloc, &scene, text, false)?;
-    Ok(Found {
-        triangles: solid.mesh.triangles.len(),
-        agrees: solid.mesh.faces == solid.report.faces,
-        has_document: solid.document.is_some(),
-    })
+    let agrees = solid.mesh.faces == solid.report.faces;
+    Ok((solid.mesh.triangles.len(), agrees, solid.document.is_some()))
 }
 
 #[test]
@@ -117,13 +111,11 @@ fn solids_of_two_meshes(rt: HostRuntime) -> Result<(), Fail> {
         (LOW_BOX, HIGH_BOX, b"m1&!m2", 24),
         (LOW_BOX, HIGH_BOX, b"m1&!m1", 0),
     ];
-    for (first, second, text, triangles) in rows {
-        let want = Found {
-            triangles,
-            agrees: true,
-            has_document: false,
-        };
-        assert_eq!(rt; found_in(rt.alloc(), first, second, text)?, want);
+    for (first, second, text, want) in rows {
+        assert_eq!(rt;
+            found_in(rt.alloc(), first, second, text)?,
+            (want, true, false)
+        );
     }
     Ok(())
 }
