@@ -1,8 +1,11 @@
 """A folder in which ember-mesh runs over files, and what its results and refusals must be."""
+import pathlib
 import re
+import sys
+import tempfile
 
 from lib.mesh_program import wrong
-from lib.program import run
+from lib.program import Tally, path_of, run
 from lib.stl import Counts, counts_of, exact_volume_of, fault_of_normals, fault_of_written, triangles_of
 
 WORKERS = (1, 2, 7, 64)
@@ -95,3 +98,18 @@ def fault_of_report(err, report):
         return None
     form = "".join(f"ember-mesh: {re.escape(line)}\n" for line in report).replace("N\\ ", r"\d+\ ").replace("move\\ X;", r"move\ \d[\d.e-]*;")
     return None if re.fullmatch(form, err.decode()) else f"report {err.decode()!r}, not {report}"
+
+
+def run_cases(usage, cases):
+    """Runs the cases that the command line names, or all, each in a new folder; ends with the script's status."""
+    if len(sys.argv) < 2:
+        print(usage)
+        return 2
+    program, wanted = path_of(sys.argv[1]), sys.argv[2:]
+    tally = Tally()
+    for function in cases:
+        if not wanted or function.__name__ in wanted:
+            with tempfile.TemporaryDirectory() as folder:
+                function(Room(program, pathlib.Path(folder), function.__name__, tally))
+    tally.end()
+    return 0

@@ -1,9 +1,8 @@
 // Words of the second program's command line, and the commands that they give.
-use ember_mesh_words::{
-    Command, ExportRequest, OutputFormat, Request, SnapRequest, WantedStep, WordsFault, read_words,
-};
+use ember_mesh_words::{Command, OutputFormat, Setting, WantedStep, WordsFault, read_words};
 use ember_words::Text;
 use std::alloc::Global;
+use std::process::Abort;
 use std::test::Fail;
 
 /// The words as strings.
@@ -21,27 +20,28 @@ pub fn read(alloc: Global, words: &[&str]) -> Result<Result<Command, WordsFault>
     Ok(read_words(alloc, &strings))
 }
 
-/// The Boolean of words that give one.
-pub fn request_of(alloc: Global, words: &[&str]) -> Result<Request, Fail> {
+// The command of words that give one.
+fn command_of(alloc: Global, words: &[&str]) -> Result<Command, Fail> {
     match read(alloc, words)? {
-        Ok(Command::Boole(request)) => Ok(request),
-        _ => Err(Fail::from("no Boolean")),
+        Ok(command) => Ok(command),
+        Err(_) => Err(Fail::from("refused")),
     }
 }
 
-// The meshes for the grid of words that give them.
-fn snap_of(alloc: Global, words: &[&str]) -> Result<SnapRequest, Fail> {
-    match read(alloc, words)? {
-        Ok(Command::Snap(request)) => Ok(request),
-        _ => Err(Fail::from("no snap")),
-    }
+/// The words give a Boolean of this many files.
+pub fn is_boolean_of(alloc: Global, words: &[&str], files: usize) -> Result<bool, Fail> {
+    let command = command_of(alloc, words)?;
+    Ok(matches!(&command, Command::Boole(request) if request.files.items().len() == files))
 }
 
-// The document of words that give one.
-fn export_of(alloc: Global, words: &[&str]) -> Result<ExportRequest, Fail> {
-    match read(alloc, words)? {
-        Ok(Command::Export(request)) => Ok(request),
-        _ => Err(Fail::from("no export")),
+// A command is looked at by reference, since parts that are taken out of it cost seconds of proof.
+
+// The step as an option spells it.
+fn step_in(step: &WantedStep) -> &str {
+    match step {
+        WantedStep::Nice => "nice",
+        WantedStep::Finest => "finest",
+        WantedStep::Decimal(text) => text.as_str(),
     }
 }
 
@@ -53,29 +53,96 @@ fn name_in(name: &Option<Text>) -> Option<&str> {
     }
 }
 
+// The text that the command has of a setting, if it has one.
+fn text_of(command: &Command, setting: Setting) -> Option<&str> {
+    match (command, setting) {
+        (Command::Boole(request), Setting::Expression) => Some(request.expression.as_str()),
+        (Command::Boole(request), Setting::Output) => Some(request.output.as_str()),
+        (Command::Boole(request), Setting::Step) => Some(step_in(&request.step)),
+        (Command::Boole(request), Setting::Page) => name_in(&request.view),
+        (Command::Boole(request), Setting::Keep) => name_in(&request.keep),
+        (Command::Snap(request), Setting::Folder) => Some(request.folder.as_str()),
+        (Command::Snap(request), Setting::Step) => Some(step_in(&request.step)),
+        (Command::Export(request), Setting::Output) => Some(request.output.as_str()),
+        (Command::Export(request), Setting::Scene) => name_in(&request.scene),
+        (Command::Export(request), Setting::Page) => name_in(&request.view),
+        (Command::View(request), Setting::Output) => Some(request.output.as_str()),
+        _ => None,
+    }
+}
+
+// Its format, number of workers and digits, and whether it is quiet. What it lacks is none, 0 or false.
+type Settings = (Option<OutputFormat>, u32, Option<u32>, bool);
+
+fn settings_of(command: &Command) -> Settings {
+    match command {
+        Command::Boole(it) => (Some(it.format), it.workers, it.digits, it.quiet),
+        Command::Snap(it) => (None, 0, None, it.quiet),
+        Command::Export(it) => (Some(it.format), 0, it.digits, it.quiet),
+        _ => (None, 0, None, false),
+    }
+}
+
+fn are(texts: &[Text], names: &[&str]) -> bool {
+    if texts.len() != names.len() {
+        return false;
+    }
+    for i in 0..names.len() {
+        if texts[i].as_str() != names[i] {
+            return false;
+        }
+    }
+    true
+}
+
+// Its files, or its document, have these names.
+fn has_files(command: &Command, names: &[&str]) -> bool {
+    match command {
+        Command::Boole(it) => are(it.files.items(), names),
+        Command::Snap(it) => are(it.files.items(), names),
+        Command::Info(files) => are(files.items(), names),
+        Command::View(it) => are(it.files.items(), names),
+        Command::Export(it) => names == [it.document.as_str()].as_slice(),
+        Command::Help | Command::Version => names.is_empty(),
+    }
+}
+
+// The words give a command with these settings, texts and files.
+fn check(
+    rt: &impl Abort,
+    alloc: Global,
+    words: &[&str],
+    settings: Settings,
+    texts: &[(Setting, Option<&str>)],
+    files: &[&str],
+) -> Result<(), Fail> {
+    let command = command_of(alloc, words)?;
+    assert_eq!(rt; settings_of(&command), settings);
+    for (setting, text) in texts {
+        assert_eq!(rt; text_of(&command, *setting), *text);
+    }
+    assert!(rt; has_files(&command, files));
+    Ok(())
+}
+
 #[test]
 fn a_union_of_defaults(rt: HostRuntime) -> Result<(), Fail> {
-    let request = request_of(
+    let words = ["union", "-o", "u.STL", "a.stl", "b.obj", "a.stl"];
+    let texts = [
+        (Setting::Expression, Some("m1|m2|m3")),
+        (Setting::Output, Some("u.STL")),
+        (Setting::Step, Some("nice")),
+        (Setting::Page, None),
+        (Setting::Keep, None),
+    ];
+    check(
+        &rt,
         rt.alloc(),
-        &["union", "-o", "u.STL", "a.stl", "b.obj", "a.stl"],
-    )?;
-    assert_eq!(rt; request.expression.as_str(), "m1|m2|m3");
-    assert_eq!(rt;
-        (request.output.as_str(), request.format),
-        ("u.STL", OutputFormat::Stl)
-    );
-    assert!(rt; matches!(&request.step, WantedStep::Nice));
-    assert_eq!(rt;
-        (request.workers, request.quiet, request.digits),
-        (4, false, None)
-    );
-    assert!(rt; request.view.is_none() && request.keep.is_none());
-    let names = ["a.stl", "b.obj", "a.stl"];
-    assert_eq!(rt; request.files.items().len(), names.len());
-    for (file, name) in request.files.items().iter().zip(&names) {
-        assert_eq!(rt; file.as_str(), *name);
-    }
-    Ok(())
+        &words,
+        (Some(OutputFormat::Stl), 4, None, false),
+        &texts,
+        &["a.stl", "b.obj", "a.stl"],
+    )
 }
 
 #[test]
@@ -95,19 +162,19 @@ fn options_between_and_behind_files(rt: HostRuntime) -> Result<(), Fail> {
         "1e-3",
         "-o=d/x.y.oFf",
     ];
-    let request = request_of(rt.alloc(), &words)?;
-    assert_eq!(rt; request.expression.as_str(), "-w1<0");
-    assert_eq!(rt;
-        (request.output.as_str(), request.format),
-        ("d/x.y.oFf", OutputFormat::Off)
-    );
-    assert!(rt; matches!(&request.step, WantedStep::Decimal(text) if text.as_str() == "1e-3"));
-    assert_eq!(rt;
-        (request.workers, request.quiet, request.digits),
-        (64, true, Some(17))
-    );
-    assert_eq!(rt; request.files.items().len(), 2);
-    Ok(())
+    let texts = [
+        (Setting::Expression, Some("-w1<0")),
+        (Setting::Output, Some("d/x.y.oFf")),
+        (Setting::Step, Some("1e-3")),
+    ];
+    check(
+        &rt,
+        rt.alloc(),
+        &words,
+        (Some(OutputFormat::Off), 64, Some(17), true),
+        &texts,
+        &["a.off", "b.off"],
+    )
 }
 
 #[test]
@@ -150,43 +217,67 @@ fn pages_and_folders_of_a_boolean(rt: HostRuntime) -> Result<(), Fail> {
         ),
     ];
     for (words, view, keep) in rows {
-        let request = request_of(rt.alloc(), words)?;
-        assert_eq!(rt; name_in(&request.view), view);
-        assert_eq!(rt; name_in(&request.keep), keep);
+        let command = command_of(rt.alloc(), words)?;
+        assert_eq!(rt; text_of(&command, Setting::Page), view);
+        assert_eq!(rt; text_of(&command, Setting::Keep), keep);
     }
     Ok(())
 }
 
 #[test]
 fn meshes_for_their_grid(rt: HostRuntime) -> Result<(), Fail> {
-    let words = ["snap", "a.stl", "-d", "grid", "b.obj", "--quiet", "a.stl"];
-    let request = snap_of(rt.alloc(), &words)?;
-    assert_eq!(rt; (request.folder.as_str(), request.quiet), ("grid", true));
-    assert!(rt; matches!(&request.step, WantedStep::Nice));
-    let names = ["a.stl", "b.obj", "a.stl"];
-    assert_eq!(rt; request.files.items().len(), names.len());
-    for (file, name) in request.files.items().iter().zip(&names) {
-        assert_eq!(rt; file.as_str(), *name);
+    let rows: [(&[&str], bool, &str, &str, &[&str]); 3] = [
+        (
+            &["snap", "a.stl", "-d", "grid", "b.obj", "--quiet", "a.stl"],
+            true,
+            "grid",
+            "nice",
+            &["a.stl", "b.obj", "a.stl"],
+        ),
+        (
+            &["snap", "--step=finest", "-d=", "a"],
+            false,
+            "",
+            "finest",
+            &["a"],
+        ),
+        (
+            &["snap", "-d", "-o", "a", "--step", ".5"],
+            false,
+            "-o",
+            ".5",
+            &["a"],
+        ),
+    ];
+    for (words, quiet, folder, step, files) in rows {
+        let texts = [(Setting::Folder, Some(folder)), (Setting::Step, Some(step))];
+        check(
+            &rt,
+            rt.alloc(),
+            words,
+            (None, 0, None, quiet),
+            &texts,
+            files,
+        )?;
     }
-    let request = snap_of(rt.alloc(), &["snap", "--step=finest", "-d=", "a"])?;
-    assert_eq!(rt; (request.folder.as_str(), request.quiet), ("", false));
-    assert!(rt; matches!(&request.step, WantedStep::Finest));
-    let request = snap_of(rt.alloc(), &["snap", "-d", "-o", "a", "--step", ".5"])?;
-    assert_eq!(rt; request.folder.as_str(), "-o");
-    assert!(rt; matches!(&request.step, WantedStep::Decimal(text) if text.as_str() == ".5"));
     Ok(())
 }
 
 #[test]
 fn a_document_to_export(rt: HostRuntime) -> Result<(), Fail> {
-    let request = export_of(rt.alloc(), &["export", "doc.txt", "-o", "x.obj"])?;
-    assert_eq!(rt; request.document.as_str(), "doc.txt");
-    assert_eq!(rt;
-        (request.output.as_str(), request.format),
-        ("x.obj", OutputFormat::Obj)
-    );
-    assert_eq!(rt; (request.digits, request.quiet), (None, false));
-    assert!(rt; request.scene.is_none() && request.view.is_none());
+    let texts = [
+        (Setting::Output, Some("x.obj")),
+        (Setting::Scene, None),
+        (Setting::Page, None),
+    ];
+    check(
+        &rt,
+        rt.alloc(),
+        &["export", "doc.txt", "-o", "x.obj"],
+        (Some(OutputFormat::Obj), 0, None, false),
+        &texts,
+        &["doc.txt"],
+    )?;
     let words = [
         "export",
         "--scene",
@@ -197,15 +288,33 @@ fn a_document_to_export(rt: HostRuntime) -> Result<(), Fail> {
         "-o=x.ply",
         "doc",
     ];
-    let request = export_of(rt.alloc(), &words)?;
-    assert_eq!(rt; request.document.as_str(), "doc");
-    assert_eq!(rt; name_in(&request.scene), Some("d/scene.json"));
-    assert_eq!(rt; name_in(&request.view), Some("p.html"));
-    assert_eq!(rt;
-        (request.format, request.digits, request.quiet),
-        (OutputFormat::Ply, Some(0), true)
-    );
-    Ok(())
+    let texts = [
+        (Setting::Output, Some("x.ply")),
+        (Setting::Scene, Some("d/scene.json")),
+        (Setting::Page, Some("p.html")),
+    ];
+    check(
+        &rt,
+        rt.alloc(),
+        &words,
+        (Some(OutputFormat::Ply), 0, Some(0), true),
+        &texts,
+        &["doc"],
+    )
+}
+
+// The words give a Boolean of this expression and format.
+fn gives(
+    alloc: Global,
+    words: &[&str],
+    expression: &str,
+    format: OutputFormat,
+) -> Result<bool, Fail> {
+    let command = command_of(alloc, words)?;
+    Ok(
+        text_of(&command, Setting::Expression) == Some(expression)
+            && settings_of(&command).0 == Some(format),
+    )
 }
 
 #[test]
@@ -219,20 +328,30 @@ fn expressions_of_operators(rt: HostRuntime) -> Result<(), Fail> {
         let words = [
             name, "-o", ".ply", "a", "b", "c", "d", "e", "f", "g", "h", "i", "j", "k",
         ];
-        let request = request_of(rt.alloc(), &words)?;
-        assert_eq!(rt;
-            (request.expression.as_str(), request.format),
-            (want, OutputFormat::Ply)
+        assert!(rt;
+            gives(rt.alloc(), &words, want, OutputFormat::Ply)?,
+            "{name} of eleven"
         );
-        let one = request_of(rt.alloc(), &[name, "-o", "x.obj", "a"])?;
-        assert_eq!(rt;
-            (one.expression.as_str(), one.format),
-            ("m1", OutputFormat::Obj)
+        let words = [name, "-o", "x.obj", "a"];
+        assert!(rt;
+            gives(rt.alloc(), &words, "m1", OutputFormat::Obj)?,
+            "{name} of one"
         );
-        let one = request_of(rt.alloc(), &[name, "-o", "x.Glb", "a"])?;
-        assert!(rt; one.format == OutputFormat::Glb);
+        let words = [name, "-o", "x.Glb", "a"];
+        assert!(rt;
+            gives(rt.alloc(), &words, "m1", OutputFormat::Glb)?,
+            "{name} as GLB"
+        );
     }
     Ok(())
+}
+
+// Whether the words ask for help, and whether for the version.
+fn asks_for(alloc: Global, words: &[&str]) -> Result<(bool, bool), Fail> {
+    let command = command_of(alloc, words)?;
+    let is_help = matches!(&command, Command::Help);
+    let is_version = matches!(&command, Command::Version);
+    Ok((is_help, is_version))
 }
 
 #[test]
@@ -249,36 +368,28 @@ fn words_that_ask_for_help_or_the_version(rt: HostRuntime) -> Result<(), Fail> {
         &["export", "-h", "a", "b"],
     ];
     for words in helping {
-        assert!(rt; matches!(read(rt.alloc(), words)?, Ok(Command::Help)));
+        assert_eq!(rt; asks_for(rt.alloc(), words)?, (true, false));
     }
-    assert!(rt; matches!(read(rt.alloc(), &["--version"])?, Ok(Command::Version)));
+    assert_eq!(rt; asks_for(rt.alloc(), &["--version"])?, (false, true));
     Ok(())
 }
 
 #[test]
-fn info_of_files(rt: HostRuntime) -> Result<(), Fail> {
-    let Ok(Command::Info(files)) = read(rt.alloc(), &["info", "a.stl", "b=1.obj"])? else {
-        return Err(Fail::from("no info"));
-    };
-    assert_eq!(rt; files.items().len(), 2);
-    assert_eq!(rt; files.items()[0].as_str(), "a.stl");
-    assert_eq!(rt; files.items()[1].as_str(), "b=1.obj");
-    Ok(())
-}
-
-#[test]
-fn a_view_of_files(rt: HostRuntime) -> Result<(), Fail> {
+fn info_and_views_of_files(rt: HostRuntime) -> Result<(), Fail> {
+    let none = (None, 0, None, false);
+    let words = ["info", "a.stl", "b=1.obj"];
+    let texts = [(Setting::Output, None)];
+    check(&rt, rt.alloc(), &words, none, &texts, &["a.stl", "b=1.obj"])?;
     let words = [
         "view", "-o", "x.html", "a.stl", "--quiet", "-o=page", "b.obj", "a.stl",
     ];
-    let Ok(Command::View(request)) = read(rt.alloc(), &words)? else {
-        return Err(Fail::from("no view"));
-    };
-    assert_eq!(rt; request.output.as_str(), "page");
-    let names = ["a.stl", "b.obj", "a.stl"];
-    assert_eq!(rt; request.files.items().len(), names.len());
-    for (file, name) in request.files.items().iter().zip(&names) {
-        assert_eq!(rt; file.as_str(), *name);
-    }
-    Ok(())
+    let texts = [(Setting::Output, Some("page"))];
+    check(
+        &rt,
+        rt.alloc(),
+        &words,
+        none,
+        &texts,
+        &["a.stl", "b.obj", "a.stl"],
+    )
 }

@@ -1,12 +1,12 @@
 // Words of the second program's command line that are refused.
-use crate::command_lines::{read, request_of, strings};
+use crate::command_lines::{is_boolean_of, read, strings};
 use ember_mesh_words::{Refusal, Setting, WordsFault, output_given, step_given};
 use std::alloc::Global;
 use std::test::Fail;
 
 fn refusal(alloc: Global, words: &[&str]) -> Result<Option<Refusal>, Fail> {
-    match read(alloc, words)? {
-        Err(WordsFault::Refused(why)) => Ok(Some(why)),
+    match read(alloc, words)?.err() {
+        Some(WordsFault::Refused(why)) => Ok(Some(why)),
         _ => Ok(None),
     }
 }
@@ -205,7 +205,7 @@ fn at_most_64_files(rt: HostRuntime) -> Result<(), Fail> {
     for _file in 0..64 {
         words.push("a")?;
     }
-    assert_eq!(rt; request_of(rt.alloc(), &words)?.files.items().len(), 64);
+    assert!(rt; is_boolean_of(rt.alloc(), &words, 64)?);
     words.push("a")?;
     assert_eq!(rt; refusal(rt.alloc(), &words)?, Some(Refusal::TooManyFiles));
     Ok(())

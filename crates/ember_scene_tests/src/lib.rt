@@ -1,18 +1,8 @@
-//! Tests of calls that take or make whole scenes: queries of a scene and its solid, and surfaces on grids.
+//! Tests of calls that take or make whole scenes: solids of scenes, surfaces of mesh files, and files of scenes.
 #![tactic(auto)]
 
 #[cfg(test)]
-mod documents;
-#[cfg(test)]
-mod faults;
-#[cfg(test)]
-mod grids;
-#[cfg(test)]
-mod moves;
-#[cfg(test)]
-mod outputs;
-#[cfg(test)]
-mod placed;
+mod files;
 #[cfg(test)]
 mod queries;
 #[cfg(test)]

@@ -1,41 +1,12 @@
-// Files of a scene: its meshes in steps of the grid, and the scene as JSON.
-use crate::scenes::scene_of;
-use crate::texts::{CUBE, SHIFTED_CUBE};
+// Scenes as JSON.
 use ember_grid::Grid;
 use ember_moves::Length;
 use ember_scene::Counts;
-use ember_scene_file::{SceneFileFault, grid_mesh, read_scene, scene_text};
+use ember_scene_file::{SceneFileFault, read_scene, scene_text};
 use ember_snap::{Offset, Step};
 use ember_words::Text;
 use std::alloc::Global;
 use std::test::Fail;
-
-// The cubes again: corners in the order of first use, and two triangles for each face.
-const FIRST_MESH: &[u8] = b"\
-# ember-mesh: on the grid of scene.json\n\
-v 0 0 0\nv 0 4 0\nv 4 4 0\nv 4 0 0\nv 0 0 4\nv 4 0 4\nv 4 4 4\nv 0 4 4\n\
-f 1 2 3\nf 1 3 4\nf 5 6 7\nf 5 7 8\nf 1 4 6\nf 1 6 5\n\
-f 4 3 7\nf 4 7 6\nf 3 2 8\nf 3 8 7\nf 2 1 5\nf 2 5 8\n";
-
-const SECOND_MESH: &[u8] = b"\
-# ember-mesh: on the grid of scene.json\n\
-v 2 2 2\nv 2 6 2\nv 6 6 2\nv 6 2 2\nv 2 2 6\nv 6 2 6\nv 6 6 6\nv 2 6 6\n\
-f 1 2 3\nf 1 3 4\nf 5 6 7\nf 5 7 8\nf 1 4 6\nf 1 6 5\n\
-f 4 3 7\nf 4 7 6\nf 3 2 8\nf 3 8 7\nf 2 1 5\nf 2 5 8\n";
-
-#[test]
-fn meshes_are_written_on_their_grid(rt: HostRuntime) -> Result<(), Fail> {
-    let alloc = rt.alloc();
-    let scene = scene_of(alloc, CUBE, SHIFTED_CUBE)?;
-    let first = grid_mesh(alloc, scene.tris.items(), 1)?;
-    let second = grid_mesh(alloc, scene.tris.items(), 2)?;
-    assert_eq!(rt; first.as_slice(), FIRST_MESH);
-    assert_eq!(rt; second.as_slice(), SECOND_MESH);
-    // They are the meshes that they were written from.
-    let again = scene_of(alloc, &first, &second)?;
-    assert_eq!(rt; again.tris.items(), scene.tris.items());
-    Ok(())
-}
 
 const GRID: Grid = Grid {
     step: Step {

@@ -161,6 +161,48 @@ fn push_side(
     Ok(None)
 }
 
+// The corners of a sheet.
+fn corners_of(alloc: Global, sheet: usize, places: &[(i16, i16)]) -> Result<Vec<SpacePoint>, Fail> {
+    let mut corners = Vec::new(alloc);
+    for place in places {
+        corners.push(corner_at(sheet, *place))?;
+    }
+    Ok(corners)
+}
+
+// Whether the checker certifies the triangles of a sheet's two sides.
+fn are_certified(
+    alloc: Global,
+    sheet: usize,
+    places: &[(i16, i16)],
+    [boundary, reverse]: [&[Segment]; 2],
+    triangles: &[Triangle],
+) -> Result<bool, Fail> {
+    let [front, back] = SHEETS[sheet % 3];
+    let planes = [plane(front), plane(back)];
+    let corners = corners_of(alloc, sheet % 3, places)?;
+    let mut faces = Vec::from_slice(alloc, boundary)?;
+    faces.extend_from_slice(reverse)?;
+    let lines = lines_of(alloc, sheet % 3, places, boundary)?;
+    Ok(is_certified(alloc, &planes, &lines, &corners, &faces, triangles)?)
+}
+
+// Adds the triangles of a sheet's two sides, or gives what has become of one.
+fn push_sides(
+    alloc: Global,
+    sheet: usize,
+    places: &[(i16, i16)],
+    [boundary, reverse]: [&[Segment]; 2],
+    triangles: &mut Vec<Triangle>,
+) -> Result<Option<Outcome>, Fail> {
+    let [front, back] = SHEETS[sheet % 3];
+    let corners = corners_of(alloc, sheet % 3, places)?;
+    match push_side(alloc, &plane(front), &corners, boundary, triangles)? {
+        Some(outcome) => Ok(Some(outcome)),
+        None => push_side(alloc, &plane(back), &corners, reverse, triangles),
+    }
+}
+
 // What becomes of a sheet's two sides.
 fn outcome_of(
     alloc: Global,
@@ -168,24 +210,13 @@ fn outcome_of(
     places: &[(i16, i16)],
     boundary: &[Segment],
 ) -> Result<Outcome, Fail> {
-    let [front, back] = SHEETS[sheet % 3];
-    let planes = [plane(front), plane(back)];
-    let mut corners = Vec::new(alloc);
-    for place in places {
-        corners.push(corner_at(sheet % 3, *place))?;
-    }
     let reverse = reversed(alloc, boundary)?;
+    let sides = [boundary, reverse.as_slice()];
     let mut triangles = Vec::new(alloc);
-    if let Some(outcome) = push_side(alloc, &planes[0], &corners, boundary, &mut triangles)? {
+    if let Some(outcome) = push_sides(alloc, sheet, places, sides, &mut triangles)? {
         return Ok(outcome);
     }
-    if let Some(outcome) = push_side(alloc, &planes[1], &corners, &reverse, &mut triangles)? {
-        return Ok(outcome);
-    }
-    let mut faces = Vec::from_slice(alloc, boundary)?;
-    faces.extend_from_slice(&reverse)?;
-    let lines = lines_of(alloc, sheet % 3, places, boundary)?;
-    if is_certified(alloc, &planes, &lines, &corners, &faces, &triangles)? {
+    if are_certified(alloc, sheet, places, sides, &triangles)? {
         Ok(Outcome::Certified)
     } else {
         Ok(Outcome::Refused)
@@ -209,6 +240,12 @@ const SQUARES: [(i16, i16); 15] = [
     (6, 0),
     (0, 4),
 ];
+
+// What becomes of rings of these corners.
+fn outcome_of_rings(alloc: Global, sheet: usize, rings: &[&[u32]]) -> Result<Outcome, Fail> {
+    let boundary = boundary_of(alloc, rings)?;
+    outcome_of(alloc, sheet, &SQUARES, &boundary)
+}
 
 #[test]
 fn parts_of_squares(rt: HostRuntime) -> Result<(), Fail> {
@@ -252,8 +289,7 @@ fn parts_of_squares(rt: HostRuntime) -> Result<(), Fail> {
     ];
     for sheet in 0..3 {
         for (rings, want) in rows {
-            let boundary = boundary_of(rt.alloc(), rings)?;
-            assert_eq!(rt; outcome_of(rt.alloc(), sheet, &SQUARES, &boundary)?, want);
+            assert_eq!(rt; outcome_of_rings(rt.alloc(), sheet, rings)?, want);
         }
     }
     Ok(())
@@ -283,23 +319,35 @@ fn push_star(places: &mut Vec<(i16, i16)>, seed: u64, least: u8) -> Result<(), F
     Ok(())
 }
 
+// The boundary of a star, or of one with another as its hole.
+fn star_boundary(alloc: Global, has_hole: bool) -> Result<Vec<Segment>, Fail> {
+    let mut outside = Vec::new(alloc);
+    let mut hole = Vec::new(alloc);
+    for k in 0u32..48 {
+        outside.push(k)?;
+        hole.push(95 - k)?;
+    }
+    if has_hole {
+        boundary_of(alloc, &[&outside, &hole])
+    } else {
+        boundary_of(alloc, &[&outside])
+    }
+}
+
+fn outcome_of_star(alloc: Global, seed: u32, has_hole: bool) -> Result<Outcome, Fail> {
+    let mut places = Vec::new(alloc);
+    push_star(&mut places, u64::from(seed), 9)?;
+    push_star(&mut places, u64::from(seed).wrapping_add(100), 1)?;
+    let boundary = star_boundary(alloc, has_hole)?;
+    outcome_of(alloc, seed as usize, &places, &boundary)
+}
+
 #[test]
 fn stars_with_a_hole(rt: HostRuntime) -> Result<(), Fail> {
-    for seed in 0u64..12 {
-        let mut places = Vec::new(rt.alloc());
-        push_star(&mut places, seed, 9)?;
-        push_star(&mut places, seed + 100, 1)?;
-        let mut outside = Vec::new(rt.alloc());
-        let mut hole = Vec::new(rt.alloc());
-        for k in 0u32..48 {
-            outside.push(k)?;
-            hole.push(95 - k)?;
-        }
-        let star = boundary_of(rt.alloc(), &[&outside])?;
-        let ring = boundary_of(rt.alloc(), &[&outside, &hole])?;
-        for boundary in [star, ring] {
-            let outcome = outcome_of(rt.alloc(), seed as usize, &places, &boundary)?;
-            assert_eq!(rt; outcome, Outcome::Certified);
+    for seed in 0u32..12 {
+        for has_hole in [false, true] {
+            let outcome = outcome_of_star(rt.alloc(), seed, has_hole)?;
+            assert_eq!(rt; outcome, Outcome::Certified, "{seed}");
         }
     }
     Ok(())
@@ -324,20 +372,22 @@ fn push_comb(places: &mut Vec<(i16, i16)>, turns: u8) -> Result<(), Fail> {
     Ok(())
 }
 
+fn outcome_of_comb(alloc: Global, turns: u8) -> Result<Outcome, Fail> {
+    let mut places = Vec::new(alloc);
+    push_comb(&mut places, turns)?;
+    let mut ring = Vec::new(alloc);
+    for k in 0u32..402 {
+        ring.push(k)?;
+    }
+    let boundary = boundary_of(alloc, &[&ring])?;
+    outcome_of(alloc, 0, &places, &boundary)
+}
+
 #[test]
 fn combs_in_four_directions(rt: HostRuntime) -> Result<(), Fail> {
     for turns in 0u8..4 {
-        let mut places = Vec::new(rt.alloc());
-        push_comb(&mut places, turns)?;
-        let mut ring = Vec::new(rt.alloc());
-        for k in 0u32..402 {
-            ring.push(k)?;
-        }
-        let boundary = boundary_of(rt.alloc(), &[&ring])?;
-        assert_eq!(rt;
-            outcome_of(rt.alloc(), 0, &places, &boundary)?,
-            Outcome::Certified
-        );
+        let outcome = outcome_of_comb(rt.alloc(), turns)?;
+        assert_eq!(rt; outcome, Outcome::Certified, "{turns}");
     }
     Ok(())
 }

@@ -11,7 +11,6 @@ use ember_triangles::{
     PlaneAnswer, PlaneQuery, TrianglesFault, answer_planes_alone, certified_triangles,
 };
 use std::alloc::Global;
-use std::test::Fail;
 
 // The lines in which pairs of planes meet, by the numbers of the planes.
 fn lines_of(alloc: Global, pairs: &[[[i16; 4]; 2]]) -> Result<Vec<LineKey>, TrianglesFault> {
@@ -205,7 +204,7 @@ const TETRAHEDRON_LINES: [[[i16; 4]; 2]; 6] = [
 fn tetrahedron_count(
     alloc: Global,
     lines: &[LineKey],
-    segments: &[Segment],
+    edges: &[(u32, u32, u32, u32)],
 ) -> Result<usize, TrianglesFault> {
     let planes = [
         plane([0, 0, -1, 0]),
@@ -219,44 +218,67 @@ fn tetrahedron_count(
         thirds(0, 3, 0),
         thirds(0, 0, 3),
     ];
-    count_of(alloc, &planes, lines, &corners, segments)
+    let mut segments = Vec::new(alloc);
+    for (plane, line, start, end) in edges {
+        segments.push(edge_of(*plane, *line, *start, *end))?;
+    }
+    count_of(alloc, &planes, lines, &corners, &segments)
+}
+
+// The count on all lines of the table.
+fn count_of_edges(alloc: Global, edges: &[(u32, u32, u32, u32)]) -> Result<usize, TrianglesFault> {
+    let lines = lines_of(alloc, &TETRAHEDRON_LINES)?;
+    tetrahedron_count(alloc, &lines, edges)
 }
 
 #[test]
-fn faces_of_a_tetrahedron(rt: HostRuntime) -> Result<(), Fail> {
-    let mut segments = Vec::new(rt.alloc());
-    for (plane, line, start, end) in TETRAHEDRON {
-        segments.push(edge_of(plane, line, start, end))?;
-    }
-    let lines = lines_of(rt.alloc(), &TETRAHEDRON_LINES)?;
-    let count = tetrahedron_count(rt.alloc(), &lines, &segments);
-    assert_eq!(rt; count, Ok(4));
-    let _ = segments.pop();
-    let open = tetrahedron_count(rt.alloc(), &lines, &segments);
-    assert_eq!(rt; open, Err(TrianglesFault::NotClosed(4)));
-    Ok(())
+fn faces_of_a_tetrahedron(rt: HostRuntime) {
+    assert_eq!(rt; count_of_edges(rt.alloc(), &TETRAHEDRON), Ok(4));
+    let open = &TETRAHEDRON[..11];
+    assert_eq!(rt;
+        count_of_edges(rt.alloc(), open),
+        Err(TrianglesFault::NotClosed(4))
+    );
 }
 
-#[test]
-fn edges_off_the_lines_of_the_table(rt: HostRuntime) -> Result<(), Fail> {
-    let mut segments = Vec::new(rt.alloc());
-    for (plane, line, start, end) in TETRAHEDRON {
-        segments.push(edge_of(plane, line, start, end))?;
-    }
-    let lines = lines_of(rt.alloc(), &TETRAHEDRON_LINES)?;
-    for number in 0..lines.len() {
-        let mut shifted = lines.clone()?;
-        shifted[number].mx = shifted[number].mx.wrapping_add(1);
-        let mut zeros = lines.clone()?;
-        zeros[number] = NO_LINE;
-        for wrong in [shifted, zeros] {
-            let count = tetrahedron_count(rt.alloc(), &wrong, &segments);
-            assert_eq!(rt; count, Err(TrianglesFault::NotCertified));
+// How a line is changed.
+#[derive(Clone, Copy)]
+enum Change {
+    Shifted,
+    Zeros,
+    // A line of zeros comes behind all others.
+    More,
+}
+
+// The count of all edges with the line of this number changed.
+fn count_with(alloc: Global, number: usize, change: Change) -> Result<usize, TrianglesFault> {
+    let mut lines = lines_of(alloc, &TETRAHEDRON_LINES)?;
+    if let Change::More = change {
+        lines.push(NO_LINE)?;
+    } else if let Some(line) = lines.get_mut(number) {
+        match change {
+            Change::Shifted => line.mx = line.mx.wrapping_add(1),
+            _ => *line = NO_LINE,
         }
     }
+    tetrahedron_count(alloc, &lines, &TETRAHEDRON)
+}
+
+#[test]
+fn edges_off_the_lines_of_the_table(rt: HostRuntime) {
+    let wrong = Err(TrianglesFault::NotCertified);
+    for number in 0..6 {
+        assert_eq!(rt;
+            count_with(rt.alloc(), number, Change::Shifted),
+            wrong,
+            "{number}"
+        );
+        assert_eq!(rt;
+            count_with(rt.alloc(), number, Change::Zeros),
+            wrong,
+            "{number}"
+        );
+    }
     // A line without edges may be anything.
-    let mut more = lines;
-    more.push(NO_LINE)?;
-    assert_eq!(rt; tetrahedron_count(rt.alloc(), &more, &segments), Ok(4));
-    Ok(())
+    assert_eq!(rt; count_with(rt.alloc(), 6, Change::More), Ok(4));
 }

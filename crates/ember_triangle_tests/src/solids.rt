@@ -87,6 +87,19 @@ fn solid_of(alloc: Global, scene: &Scene, text: &[u8], keeps: bool) -> Result<Me
     Ok(solid)
 }
 
+// The number of triangles of a solid, whether its faces are as many as its report says, and whether it has a document.
+fn found_in(
+    alloc: Global,
+    first: &[u8],
+    second: &[u8],
+    text: &[u8],
+) -> Result<(usize, bool, bool), Fail> {
+    let scene = scene_of(alloc, first, second)?;
+    let solid = solid_of(alloc, &scene, text, false)?;
+    let agrees = solid.mesh.faces == solid.report.faces;
+    Ok((solid.mesh.triangles.len(), agrees, solid.document.is_some()))
+}
+
 #[test]
 fn solids_of_two_meshes(rt: HostRuntime) -> Result<(), Fail> {
     // A face of a box that isn't cut has two triangles. One that is cut at a corner has four.
@@ -99,27 +112,32 @@ fn solids_of_two_meshes(rt: HostRuntime) -> Result<(), Fail> {
         (LOW_BOX, HIGH_BOX, b"m1&!m1", 0),
     ];
     for (first, second, text, want) in rows {
-        let scene = scene_of(rt.alloc(), first, second)?;
-        let solid = solid_of(rt.alloc(), &scene, text, false)?;
-        assert_eq!(rt; solid.mesh.triangles.len(), want);
-        assert_eq!(rt; solid.mesh.faces, solid.report.faces);
-        assert!(rt; solid.document.is_none());
+        assert_eq!(rt;
+            found_in(rt.alloc(), first, second, text)?,
+            (want, true, false)
+        );
     }
     Ok(())
 }
 
-// The mesh of a document that is kept is that of the solid.
+// Whether planes, corners, triangles and number of faces of the kept document's mesh are those of the solid.
+fn same_parts(alloc: Global, solid: &MeshedSolid) -> Result<[bool; 4], Fail> {
+    let Some(document) = &solid.document else {
+        return Err(Fail::from("no document"));
+    };
+    let again = mesh_of(alloc, document)?;
+    Ok([
+        again.planes == solid.mesh.planes,
+        again.corners == solid.mesh.corners,
+        again.triangles == solid.mesh.triangles,
+        again.faces == solid.mesh.faces,
+    ])
+}
+
 #[test]
 fn documents_of_solids_have_their_mesh(rt: HostRuntime) -> Result<(), Fail> {
     let scene = scene_of(rt.alloc(), LOW_BOX, HIGH_BOX)?;
-    let MeshedSolid { mesh, document, .. } = solid_of(rt.alloc(), &scene, b"m1&!m2", true)?;
-    let Some(document) = document else {
-        return Err(Fail::from("no document"));
-    };
-    let again = mesh_of(rt.alloc(), &document)?;
-    assert_eq!(rt; again.planes, mesh.planes);
-    assert_eq!(rt; again.corners, mesh.corners);
-    assert_eq!(rt; again.triangles, mesh.triangles);
-    assert_eq!(rt; again.faces, mesh.faces);
+    let solid = solid_of(rt.alloc(), &scene, b"m1&!m2", true)?;
+    assert_eq!(rt; same_parts(rt.alloc(), &solid)?, [true; 4]);
     Ok(())
 }
