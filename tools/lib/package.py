@@ -85,7 +85,7 @@ def crates_of_programs():
 
 
 def last_line_of_check(crate):
-    """Returns what the toolchain said last of the proof of a crate."""
+    """Returns what the toolchain said last of the proof of a program. It says so in each build, and of a crate below only when it proves it."""
     log = Path(builder.room(), f"{crate}.log").read_text(encoding="utf-8")
     said = re.findall(r"^logic=proved .*$", log, re.M)
     if not said:
@@ -96,13 +96,15 @@ def last_line_of_check(crate):
 def proved(folder):
     """Returns the text of PROVED: what the programs in the folder are, and what was proved of them."""
     sums = subprocess.run(["sha256sum", *PROGRAMS], cwd=folder, stdout=subprocess.PIPE, text=True, check=True).stdout
-    lines = [f"  {crate}: {last_line_of_check(crate)}\n" for crate in crates_of_programs()]
+    checks = [f"{place}: {last_line_of_check(crate)}\n" for place, crate in PROGRAMS.items()]
+    libraries = len(crates_of_programs()) - len(PROGRAMS)
     return (
         f"ember {version()}: what these programs are, and what was proved of them\n\n"
         f"commit {output_of('git', 'rev-parse', 'HEAD')}\n"
         f"toolchain {output_of('rt', 'version')}\n\n"
         f"The SHA-256 of each program, as the build made it:\n\n{sums}\n"
-        f"The last line of the check of each crate that is in them, lowest first:\n\n{''.join(lines)}"
+        f"They use {libraries} crates of this commit, each of which the build proved before. The last line of the check of each program:\n\n"
+        f"{''.join(checks)}"
     )
 
 
