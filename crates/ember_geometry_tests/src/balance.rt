@@ -1,8 +1,8 @@
 // Whether the triangles of files are closed.
 use crate::scenes::soup_of;
-use crate::shapes::corner;
 use crate::texts::{LONG, OPEN_TETRA, TETRA};
 use ember_balance::{Loose, balance};
+use ember_model::Corner;
 use std::alloc::Global;
 use std::test::Fail;
 
@@ -11,29 +11,41 @@ fn loose_of(alloc: Global, bytes: &[u8]) -> Result<Option<Loose>, Fail> {
     Ok(balance(alloc, soup.tris.items())?)
 }
 
+// The edges of the turned triangle are there twice.
+const TURNED: Loose = Loose {
+    from: Corner { x: 0, y: 0, z: 1 },
+    to: Corner { x: 0, y: 1, z: 0 },
+    there: 2,
+    back: 0,
+};
+
+const END_TO_END: Loose = Loose {
+    from: Corner {
+        x: -2047,
+        y: 2047,
+        z: -2047,
+    },
+    to: Corner {
+        x: 2047,
+        y: -2047,
+        z: 2047,
+    },
+    there: 1,
+    back: 0,
+};
+
+const FILES: [(&[u8], Option<Loose>); 4] = [
+    (TETRA, None),
+    (b"", None),
+    (OPEN_TETRA, Some(TURNED)),
+    (LONG, Some(END_TO_END)),
+];
+
 #[test]
 fn the_least_loose_edges_of_files(rt: HostRuntime) -> Result<(), Fail> {
-    // The edges of the turned triangle are there twice.
-    let turned = Loose {
-        from: corner([0, 0, 1]),
-        to: corner([0, 1, 0]),
-        there: 2,
-        back: 0,
-    };
-    let long = Loose {
-        from: corner([-2047, 2047, -2047]),
-        to: corner([2047, -2047, 2047]),
-        there: 1,
-        back: 0,
-    };
-    let rows: [(&[u8], Option<Loose>); 4] = [
-        (TETRA, None),
-        (b"", None),
-        (OPEN_TETRA, Some(turned)),
-        (LONG, Some(long)),
-    ];
-    for (bytes, want) in rows {
-        assert_eq!(rt; loose_of(rt.alloc(), bytes)?, want);
+    for i in 0..FILES.len() {
+        let (bytes, want) = FILES[i];
+        assert_eq!(rt; loose_of(rt.alloc(), bytes)?, want, "file {i}");
     }
     Ok(())
 }

@@ -18,32 +18,41 @@ use std::test::Fail;
 
 const AXES: [Axis; 3] = [Axis::X, Axis::Y, Axis::Z];
 
-fn check_root_halves(rt: &impl Abort, k: Axis) {
-    let (low, high) = halves(&root(), k);
-    assert_eq!(rt; (low.path(), high.path()), (2, 3));
-    assert_eq!(rt; (low.low(k), high.low(k)), (-2048, 0));
+// The box is a half of the root along an axis, with this path and this least coordinate there.
+fn is_half(half: &Cell, k: Axis, path: u64, least: i32) -> bool {
     for other in AXES {
-        let want = if other == k { 11 } else { 12 };
-        assert_eq!(rt; (low.log(other), high.log(other)), (want, want));
+        if half.log(other) != if other == k { 11 } else { 12 } {
+            return false;
+        }
     }
+    half.path() == path && half.low(k) == least
 }
 
 #[test]
 fn the_root_is_halved_along_each_axis(rt: HostRuntime) {
-    let whole = root();
-    assert_eq!(rt; (whole.path(), whole.lo()), (1, [-2048, -2048, -2048]));
     for k in AXES {
-        assert_eq!(rt; (whole.log(k), whole.side(k)), (12, 4096));
-        check_root_halves(&rt, k);
+        let (low, high) = halves(&root(), k);
+        assert!(rt; is_half(&low, k, 2, -2048), "{k:?}");
+        assert!(rt; is_half(&high, k, 3, 0), "{k:?}");
+    }
+}
+
+#[test]
+fn the_root_is_all_of_space(rt: HostRuntime) {
+    let whole = root();
+    assert!(rt; whole.path() == 1 && whole.lo() == [-2048, -2048, -2048]);
+    for k in AXES {
+        assert!(rt; whole.log(k) == 12 && whole.side(k) == 4096, "{k:?}");
     }
 }
 
 // The upper half of the root along an axis has these fields.
 fn check_upper_half(rt: &impl Abort, k: Axis, lo: [i32; 3], log: [u8; 3]) {
     let (_, upper) = halves(&root(), k);
-    assert_eq!(rt; upper.lo, lo);
-    assert_eq!(rt; upper.log, log);
-    assert_eq!(rt; upper.path, 3);
+    assert!(rt;
+        upper.lo == lo && upper.log == log && upper.path == 3,
+        "{k:?}"
+    );
 }
 
 #[test]
@@ -70,16 +79,11 @@ fn unit_box() -> Cell {
 #[test]
 fn a_plane_beside_a_box_keeps_its_triangle_away(rt: HostRuntime) {
     let unit = unit_box();
-    assert_eq!(rt; unit.lo(), [0, 0, 0]);
-    let rows = [
-        ([[3, 0, 0], [0, 3, 0], [0, 0, 3]], true),
-        ([[4, 0, 0], [0, 4, 0], [0, 0, 4]], false),
-        // a flat one
-        ([[4, 0, 0], [0, 4, 0], [4, 0, 0]], true),
-    ];
-    for (corners, want) in rows {
-        assert_eq!(rt; near_tri(&unit, &triangle(corners)), want, "{corners:?}");
-    }
+    assert!(rt; unit.lo() == [0, 0, 0]);
+    assert!(rt; near_tri(&unit, &triangle([[3, 0, 0], [0, 3, 0], [0, 0, 3]])));
+    assert!(rt; !near_tri(&unit, &triangle([[4, 0, 0], [0, 4, 0], [0, 0, 4]])));
+    // a flat one
+    assert!(rt; near_tri(&unit, &triangle([[4, 0, 0], [0, 4, 0], [4, 0, 0]])));
 }
 
 // Which of a job's triangles are near a box.
@@ -89,34 +93,52 @@ fn near_in(alloc: Global, s: &Scene, job: &Job, c: &Cell) -> Result<Vec<u32>, Ou
     near_list(alloc, s, job.list.items(), c)
 }
 
+// These triangles of a job are near the box.
+fn are_near(alloc: Global, s: &Scene, job: &Job, c: &Cell, all: &[u32]) -> Result<bool, OutOfMemory>
+    requires { IsJob s.now.tris job.now }
+{
+    let near = near_in(alloc, s, job, c)?;
+    Ok(near.as_slice() == all)
+}
+
+// These triangles of a job are near both halves of the root.
+fn are_near_halves(
+    alloc: Global,
+    s: &Scene,
+    job: &Job,
+    k: Axis,
+    all: &[u32],
+) -> Result<bool, OutOfMemory>
+    requires { IsJob s.now.tris job.now }
+{
+    let (low, high) = halves(&root(), k);
+    Ok(are_near(alloc, s, job, &low, all)? && are_near(alloc, s, job, &high, all)?)
+}
+
 // All triangles of the files, with these indices, are near the root and near each of its halves.
 fn check_near(rt: &impl Abort, alloc: Global, files: &[&[u8]], all: &[u32]) -> Result<(), Fail>
     requires { length files.now ≤ 64 }
 {
     let scene = scene_of_files(alloc, files)?;
     let job = root_job(alloc, &scene)?;
-    assert_eq!(rt; job.list.items(), all);
-    let near = near_in(alloc, &scene, &job, &root())?;
-    assert_eq!(rt; near.as_slice(), all);
+    assert!(rt; job.list.items() == all);
+    assert!(rt; are_near(alloc, &scene, &job, &root(), all)?);
     for k in AXES {
-        let (low, high) = halves(&root(), k);
-        for half in [&low, &high] {
-            let near = near_in(alloc, &scene, &job, half)?;
-            assert_eq!(rt; near.as_slice(), all);
-        }
+        assert!(rt; are_near_halves(alloc, &scene, &job, k, all)?, "{k:?}");
     }
     Ok(())
 }
+
+const TWENTY: [u32; 20] = [
+    0, 1, 2, 3, 4, 5, 6, 7, 8, 9, 10, 11, 12, 13, 14, 15, 16, 17, 18, 19,
+];
 
 #[test]
 fn triangles_that_touch_the_middle_are_near_each_half_of_the_root(
     rt: HostRuntime,
 ) -> Result<(), Fail> {
     check_near(&rt, rt.alloc(), &[TETRA], &[0, 1, 2, 3])?;
-    let all: [u32; 20] = [
-        0, 1, 2, 3, 4, 5, 6, 7, 8, 9, 10, 11, 12, 13, 14, 15, 16, 17, 18, 19,
-    ];
-    check_near(&rt, rt.alloc(), &[STAR, STAR, STAR, STAR, STAR], &all)
+    check_near(&rt, rt.alloc(), &[STAR, STAR, STAR, STAR, STAR], &TWENTY)
 }
 
 // The axis along which a job's box is halved, or none if it is a leaf; whether it is a leaf;
@@ -145,11 +167,9 @@ fn check_halving(
     let scene = scene_of_files(alloc, files)?;
     let job = root_job(alloc, &scene)?;
     let (axis, is_leaf, best) = halving_of(&scene, &job);
-    assert_eq!(rt; axis, want);
-    assert_eq!(rt; is_leaf, want.is_none());
-    if let Some(k) = want {
-        assert_eq!(rt; best, k);
-    }
+    assert!(rt; axis == want);
+    assert!(rt; is_leaf == want.is_none());
+    assert!(rt; is_leaf || want == Some(best));
     Ok(())
 }
 
@@ -185,8 +205,8 @@ fn each_half_keeps_the_triangles_that_reach_it(rt: HostRuntime) -> Result<(), Fa
     let job = root_job(rt.alloc(), &scene)?;
     assert!(rt; job.cell.log(Axis::Y) > 0);
     let (low, high) = lists_of_halves(rt.alloc(), &scene, &job)?;
-    assert_eq!(rt; low.as_slice(), [2, 3].as_slice());
-    assert_eq!(rt; high.as_slice(), [0, 1, 2, 3].as_slice());
+    assert!(rt; low.as_slice() == [2, 3].as_slice());
+    assert!(rt; high.as_slice() == [0, 1, 2, 3].as_slice());
     Ok(())
 }
 
@@ -202,17 +222,12 @@ fn one_look_tells_the_axis_and_the_lists_of_both_halves(rt: HostRuntime) -> Resu
     let alloc = rt.alloc();
     let scene = scene_of_files(alloc, &[APART, APART, APART, APART, APART])?;
     let job = root_job(alloc, &scene)?;
-    let Some(HalvedBox { axis, left, right }) = look_at(alloc, &scene, &job)? else {
+    let found = look_at(alloc, &scene, &job)?;
+    let Some(HalvedBox { axis, left, right }) = &found else {
         return Err(Fail::from("a leaf"));
     };
-    assert_eq!(rt; axis, Axis::Y);
-    assert_eq!(rt;
-        left.as_slice(),
-        [2, 3, 6, 7, 10, 11, 14, 15, 18, 19].as_slice()
-    );
-    assert_eq!(rt;
-        right.as_slice(),
-        [0, 1, 4, 5, 8, 9, 12, 13, 16, 17].as_slice()
-    );
+    assert!(rt; *axis == Axis::Y);
+    assert!(rt; left.as_slice() == [2, 3, 6, 7, 10, 11, 14, 15, 18, 19].as_slice());
+    assert!(rt; right.as_slice() == [0, 1, 4, 5, 8, 9, 12, 13, 16, 17].as_slice());
     Ok(())
 }

@@ -11,19 +11,29 @@ use ember_poly::{Ring, of_tri};
 use std::alloc::Global;
 use std::test::Fail;
 
+const O: [i32; 3] = [0, 0, 0];
+
+const X: [i32; 3] = [1, 0, 0];
+
+const Y: [i32; 3] = [0, 1, 0];
+
+// Two triangles each, and whether they are coplanar.
+const PAIRS: [([[i32; 3]; 3], [[i32; 3]; 3], bool); 5] = [
+    ([O, X, Y], [Y, X, [4, 4, 0]], true),
+    ([O, X, Y], [O, Y, X], true),
+    ([O, X, Y], [O, X, [0, 1, 1]], false),
+    ([O, X, Y], [O, X, X], false),
+    ([O, X, X], [O, X, Y], false),
+];
+
 #[test]
 fn triangles_of_one_plane(rt: HostRuntime) {
-    let [o, x, y, far] = [[0, 0, 0], [1, 0, 0], [0, 1, 0], [4, 4, 0]];
-    let rows = [
-        ([o, x, y], [y, x, far], true),
-        ([o, x, y], [o, y, x], true),
-        ([o, x, y], [o, x, [0, 1, 1]], false),
-        ([o, x, y], [o, x, x], false),
-        ([o, x, x], [o, x, y], false),
-    ];
-    for (one, other, want) in rows {
-        let are_coplanar = same_plane(&triangle(one), &triangle(other));
-        assert_eq!(rt; are_coplanar, want, "{one:?} and {other:?}");
+    for i in 0..PAIRS.len() {
+        let (one, other, want) = PAIRS[i];
+        assert!(rt;
+            same_plane(&triangle(one), &triangle(other)) == want,
+            "row {i}"
+        );
     }
 }
 
@@ -65,21 +75,22 @@ fn holds_and_owns_face(
 const NEAR: &[u8] = b"\
 v 0 0 0\nv 1 0 0\nv 0 1 0\nv 0 1 1\nv 4 4 0\nf 1 2 4\nf 1 5 3\nf 1 2 3\nf 3 2 1\n";
 
+// Nothing before the second triangle contains the third, but neither does it itself.
+const HELD_AND_OWNED: [Option<(bool, bool)>; 4] = [
+    None,
+    Some((false, true)),
+    Some((true, true)),
+    Some((true, false)),
+];
+
 #[test]
 fn the_first_that_contains_a_region_owns_it(rt: HostRuntime) -> Result<(), Fail> {
     let soup = soup_of(rt.alloc(), NEAR, 1)?;
     let near = soup.tris.items();
-    assert_eq!(rt; near.len(), 4);
-    // Nothing before the second triangle contains the third, but neither does it itself.
-    let rows = [
-        None,
-        Some((false, true)),
-        Some((true, true)),
-        Some((true, false)),
-    ];
+    assert!(rt; near.len() == 4);
     for i in 0..4u32 {
         let found = holds_and_owns_face(rt.alloc(), near, i, &near[2])?;
-        assert_eq!(rt; found, rows[i as usize], "triangle {i}");
+        assert!(rt; found == HELD_AND_OWNED[i as usize], "triangle {i}");
     }
     Ok(())
 }

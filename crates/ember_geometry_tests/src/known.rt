@@ -4,6 +4,7 @@ ghost use Rattle.ember_expr.specs.Truth.{AreCounts};
 use crate::scenes::expression;
 use ember_known::{Mask, known};
 use ember_model::Vector;
+use std::alloc::Global;
 use std::test::Fail;
 
 // The winding numbers 1 and 0.
@@ -15,25 +16,32 @@ fn one_and_zero() -> Vector
     Vector { counts }
 }
 
+// Expressions, the mesh that is undecided, and their truth.
+const EXPRESSIONS: [(&str, u32, Option<bool>); 11] = [
+    ("m1|m2", 2, Some(true)),
+    ("m1&m2", 2, None),
+    ("w1+w2=2", 2, None),
+    ("m1", 2, Some(true)),
+    ("m1&1=2", 1, Some(false)),
+    ("0*w1=0", 1, None),
+    ("m2|m1", 2, Some(true)),
+    ("m2&!m1", 2, Some(false)),
+    ("m1^m2", 2, None),
+    ("!m2", 2, None),
+    ("odd(w1+3)^m1", 2, Some(true)),
+];
+
+// What is known of the expression if this mesh is undecided.
+fn known_of(alloc: Global, text: &str, undecided: u32) -> Result<Option<bool>, Fail> {
+    let e = expression(alloc, text.as_bytes(), 2)?;
+    Ok(known(&e, &one_and_zero(), &Mask::none().with(undecided)))
+}
+
 #[test]
 fn decided_or_not(rt: HostRuntime) -> Result<(), Fail> {
-    let rows: [(&str, u32, Option<bool>); 11] = [
-        ("m1|m2", 2, Some(true)),
-        ("m1&m2", 2, None),
-        ("w1+w2=2", 2, None),
-        ("m1", 2, Some(true)),
-        ("m1&1=2", 1, Some(false)),
-        ("0*w1=0", 1, None),
-        ("m2|m1", 2, Some(true)),
-        ("m2&!m1", 2, Some(false)),
-        ("m1^m2", 2, None),
-        ("!m2", 2, None),
-        ("odd(w1+3)^m1", 2, Some(true)),
-    ];
-    for (text, undecided, want) in rows {
-        let e = expression(rt.alloc(), text.as_bytes(), 2)?;
-        let m = Mask::none().with(undecided);
-        assert_eq!(rt; known(&e, &one_and_zero(), &m), want, "{text}");
+    for i in 0..EXPRESSIONS.len() {
+        let (text, undecided, want) = EXPRESSIONS[i];
+        assert!(rt; known_of(rt.alloc(), text, undecided)? == want, "{text}");
     }
     Ok(())
 }

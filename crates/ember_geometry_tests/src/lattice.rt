@@ -18,13 +18,16 @@ fn is_dark(alloc: Global, s: &Scene, e: &Expr) -> Result<bool, OutOfMemory> {
     Ok(matches!(&outcome, Outcome::Leaf(fill) if !fill.bit))
 }
 
+// The same of the first mesh.
+fn is_first_dark(alloc: Global, s: &Scene) -> Result<bool, Fail> {
+    let e = expression(alloc, b"m1", 1)?;
+    Ok(is_dark(alloc, s, &e)?)
+}
+
 #[test]
 fn the_root_is_one_cell(rt: HostRuntime) -> Result<(), Fail> {
-    let alloc = rt.alloc();
-    let e = expression(alloc, b"m1", 1)?;
-    for scene in [scene_of(alloc, 1)?, scene_of_files(alloc, &[TETRA])?] {
-        assert!(rt; is_dark(alloc, &scene, &e)?);
-    }
+    assert!(rt; is_first_dark(rt.alloc(), &scene_of(rt.alloc(), 1)?)?);
+    assert!(rt; is_first_dark(rt.alloc(), &scene_of_files(rt.alloc(), &[TETRA])?)?);
     Ok(())
 }
 
@@ -43,9 +46,6 @@ fn the_lower_half_is_lit(rt: HostRuntime) -> Result<(), Fail> {
         },
     ]?;
     let text = grid_text(alloc, 11, fills.as_slice())?;
-    assert_eq!(rt;
-        text.as_slice(),
-        b"voxels 11 2\n10\n10\n10\n10\nend 4\n".as_slice()
-    );
+    assert!(rt; text.as_slice() == b"voxels 11 2\n10\n10\n10\n10\nend 4\n".as_slice());
     Ok(())
 }

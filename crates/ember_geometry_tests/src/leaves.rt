@@ -22,12 +22,24 @@ fn regions(alloc: Global, s: &Scene, e: &Expr, job: &Job) -> Result<KeptList, Ou
 
 // These are the four triangles, none of them flipped.
 fn are_all_four(kept: &[Kept]) -> bool {
-    let [first, second, third, fourth] = kept else {
+    if kept.len() != 4 {
         return false;
-    };
-    let places = (first.tri, second.tri, third.tri, fourth.tri);
-    let flipped = first.flipped || second.flipped || third.flipped || fourth.flipped;
-    places == (0, 1, 2, 3) && !flipped
+    }
+    for i in 0..4u32 {
+        let region = &kept[i as usize];
+        if region.tri != i || region.flipped {
+            return false;
+        }
+    }
+    true
+}
+
+// The regions are four, and have this document.
+fn is_document(alloc: Global, kept: &[Kept], want: &[u8]) -> Result<bool, OutOfMemory> {
+    let text = faces_text(alloc, kept)?;
+    let count = text.count();
+    let file = document_of(alloc, vec![in alloc; text]?)?;
+    Ok(count == 4 && file.as_slice() == want)
 }
 
 #[test]
@@ -38,9 +50,6 @@ fn a_tetrahedron_is_written_whole(rt: HostRuntime) -> Result<(), Fail> {
     let job = root_job(alloc, &scene)?;
     let kept = regions(alloc, &scene, &e, &job)?;
     assert!(rt; are_all_four(kept.items()));
-    let text = faces_text(alloc, kept.items())?;
-    assert_eq!(rt; text.count(), 4);
-    let file = document_of(alloc, vec![in alloc; text]?)?;
-    assert_eq!(rt; file.as_slice(), TETRA_TEXT);
+    assert!(rt; is_document(alloc, kept.items(), TETRA_TEXT)?);
     Ok(())
 }

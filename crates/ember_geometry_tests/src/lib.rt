@@ -6,15 +6,11 @@ mod balance;
 #[cfg(test)]
 mod boxes;
 #[cfg(test)]
-mod certificates;
-#[cfg(test)]
 mod coplanar;
 #[cfg(test)]
 mod faces;
 #[cfg(test)]
 mod generated;
-#[cfg(test)]
-mod keys;
 #[cfg(test)]
 mod known;
 #[cfg(test)]

@@ -8,11 +8,11 @@ use std::test::Fail;
 #[test]
 fn a_tetrahedron_becomes_a_scene(rt: HostRuntime) -> Result<(), Fail> {
     let scene = scene_of_files(rt.alloc(), &[TETRA])?;
-    assert_eq!(rt; scene.meshes, 1);
+    assert!(rt; scene.meshes == 1);
     let tris = scene.tris.items();
-    assert_eq!(rt; tris.len(), 4);
+    assert!(rt; tris.len() == 4);
     for i in 0..4 {
-        assert_eq!(rt; tris[i], tetra(i));
+        assert!(rt; tris[i] == tetra(i), "triangle {i}");
     }
     Ok(())
 }
@@ -20,11 +20,12 @@ fn a_tetrahedron_becomes_a_scene(rt: HostRuntime) -> Result<(), Fail> {
 #[test]
 fn a_lone_triangle_is_refused_and_handed_back(rt: HostRuntime) -> Result<(), Fail> {
     let soup = soup_of(rt.alloc(), LONG, 1)?;
-    let Err((solid, fault)) = balanced(rt.alloc(), check(soup)) else {
+    let found = balanced(rt.alloc(), check(soup));
+    let Err((solid, fault)) = &found else {
         return Err(Fail::from("no fault"));
     };
     assert!(rt; matches!(fault, MeshFault::Unbalanced(_)));
-    assert_eq!(rt; solid.tris.items().len(), 1);
-    assert_eq!(rt; solid.lines.items(), [4].as_slice());
+    assert!(rt; solid.tris.items().len() == 1);
+    assert!(rt; solid.lines.items() == [4].as_slice());
     Ok(())
 }

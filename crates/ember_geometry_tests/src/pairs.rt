@@ -4,7 +4,7 @@ ghost use Rattle.std.specs.Prelude.{◌≤◌, length};
 use crate::scenes::scene_of_files;
 use crate::texts::{TETRA, WEDGE_A, WEDGE_B};
 use ember_job::Outcome;
-use ember_model::Scene;
+use ember_model::{OutOfMemory, Scene};
 use ember_pairs::{PairList, gather, meeting, pair_step, pairs_text, root_pairs};
 use std::alloc::Global;
 use std::process::Abort;
@@ -14,7 +14,7 @@ use std::test::Fail;
 fn equal_triangles_meet_and_neighbours_do_not(rt: HostRuntime) -> Result<(), Fail> {
     let alloc = rt.alloc();
     let scene = scene_of_files(alloc, &[TETRA, TETRA])?;
-    assert_eq!(rt; scene.tris.items().len(), 8);
+    assert!(rt; scene.tris.items().len() == 8);
     assert!(rt; meeting(alloc, &scene, 0, 4)?);
     assert!(rt; !meeting(alloc, &scene, 0, 5)?);
     Ok(())
@@ -57,44 +57,48 @@ const WITHIN: &[u8] = b"v 1 1 1\nv 2 1 2\nv 1 2 1\nf 1 2 3\nf 1 3 2\n";
 // these differ.
 fn meet(alloc: Global, one: &[u8], other: &[u8]) -> Result<Option<bool>, Fail> {
     let scene = scene_of_files(alloc, &[one, other])?;
-    if scene.tris.items().len() != 4 {
-        return Err(Fail::from("not four triangles"));
+    Ok(meet_each_way(alloc, &scene)?)
+}
+
+// The same of a scene of two such files; none if it has other triangles, too.
+fn meet_each_way(alloc: Global, s: &Scene) -> Result<Option<bool>, OutOfMemory> {
+    if s.tris.items().len() != 4 {
+        return Ok(None);
     }
-    let first = meeting(alloc, &scene, 0, 2)?;
-    let same = meeting(alloc, &scene, 2, 0)? == first
-        && meeting(alloc, &scene, 0, 3)? == first
-        && meeting(alloc, &scene, 2, 1)? == first;
+    let first = meeting(alloc, s, 0, 2)?;
+    let same = meeting(alloc, s, 2, 0)? == first
+        && meeting(alloc, s, 0, 3)? == first
+        && meeting(alloc, s, 2, 1)? == first;
     Ok(if same { Some(first) } else { None })
 }
 
+// Two files each, and whether their triangles meet.
+const PAIRS: [(&[u8], &[u8], bool); 12] = [
+    (LEFT, LEFT, true),
+    // one within the other
+    (LEFT, SMALL, true),
+    (LEANING, WITHIN, true),
+    // six corners of a star
+    (UP, DOWN, true),
+    // a sliver in common, along an edge and in the middle
+    (LARGE, SLIVER, true),
+    (ALONG, ACROSS, true),
+    // one edge in common: on the same side, and on two sides
+    (LEFT, LOW, true),
+    (LEFT, RIGHT, false),
+    // one corner in common, and none
+    (LEFT, CORNER, false),
+    (LEFT, BEYOND, false),
+    // in a parallel plane, and through the plane beside the triangle
+    (LEFT, RAISED, false),
+    (LEFT, PIERCING, false),
+];
+
 #[test]
 fn triangles_of_one_plane_and_of_two(rt: HostRuntime) -> Result<(), Fail> {
-    let rows = [
-        (LEFT, LEFT, true),
-        // one within the other
-        (LEFT, SMALL, true),
-        (LEANING, WITHIN, true),
-        // six corners of a star
-        (UP, DOWN, true),
-        // a sliver in common, along an edge and in the middle
-        (LARGE, SLIVER, true),
-        (ALONG, ACROSS, true),
-        // one edge in common: on the same side, and on two sides
-        (LEFT, LOW, true),
-        (LEFT, RIGHT, false),
-        // one corner in common, and none
-        (LEFT, CORNER, false),
-        (LEFT, BEYOND, false),
-        // in a parallel plane, and through the plane beside the triangle
-        (LEFT, RAISED, false),
-        (LEFT, PIERCING, false),
-    ];
-    for (one, other, want) in rows {
-        assert_eq!(rt;
-            meet(rt.alloc(), one, other)?,
-            Some(want),
-            "{one:?} and {other:?}"
-        );
+    for i in 0..PAIRS.len() {
+        let (one, other, want) = PAIRS[i];
+        assert!(rt; meet(rt.alloc(), one, other)? == Some(want), "row {i}");
     }
     Ok(())
 }
@@ -108,14 +112,22 @@ fn root_item(alloc: Global, s: &Scene) -> Result<PairList, Fail> {
     }
 }
 
-// The text of the pairs of the files' triangles, found twice.
+// The text of the pairs, found twice.
+fn text_of(alloc: Global, s: &Scene) -> Result<Vec<u8>, Fail> {
+    let mut items = Vec::new(alloc);
+    items.push(root_item(alloc, s)?)?;
+    items.push(root_item(alloc, s)?)?;
+    let pairs = gather(alloc, items)?;
+    Ok(pairs_text(alloc, pairs.items())?)
+}
+
+// The files' triangles have pairs with this text.
 fn check(rt: &impl Abort, alloc: Global, files: &[&[u8]], want: &[u8]) -> Result<(), Fail>
     requires { length files.now ≤ 64 }
 {
     let scene = scene_of_files(alloc, files)?;
-    let items = vec![in alloc; root_item(alloc, &scene)?, root_item(alloc, &scene)?]?;
-    let pairs = gather(alloc, items)?;
-    assert_eq!(rt; pairs_text(alloc, pairs.items())?.as_slice(), want);
+    let text = text_of(alloc, &scene)?;
+    assert!(rt; text.as_slice() == want);
     Ok(())
 }
 

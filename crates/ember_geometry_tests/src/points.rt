@@ -58,32 +58,31 @@ fn sides_of_a_meet(rt: HostRuntime) -> Result<(), Fail> {
     ) else {
         return Err(Fail::from("no meet"));
     };
-    assert_eq!(rt; [m.x, m.y, m.z, m.w], [1, 1, 1, 3]);
-    let rows = [
-        ([1, 1, 1, 2], Sign::Neg),
-        ([1, 0, -1, 0], Sign::Zero),
-        ([1, 1, 1, 0], Sign::Pos),
-    ];
-    for (numbers, want) in rows {
-        assert_eq!(rt; side(&plane(numbers), &m), want, "{numbers:?}");
-    }
+    assert!(rt; [m.x, m.y, m.z, m.w] == [1, 1, 1, 3]);
+    assert!(rt; side(&plane([1, 1, 1, 2]), &m) == Sign::Neg);
+    assert!(rt; side(&plane([1, 0, -1, 0]), &m) == Sign::Zero);
+    assert!(rt; side(&plane([1, 1, 1, 0]), &m) == Sign::Pos);
     Ok(())
 }
 
 #[test]
-fn a_slid_plane_and_lowest_terms(rt: HostRuntime) {
+fn a_slid_plane(rt: HostRuntime) {
     let diagonal = Plane {
         a: 1,
         b: 1,
         c: 1,
         d: 1,
     };
-    assert_eq!(rt; slide(&diagonal, Axis::X, 1), plane([0, 1, 1, 0]));
+    assert!(rt; slide(&diagonal, Axis::X, 1) == plane([0, 1, 1, 0]));
+}
+
+#[test]
+fn lowest_terms(rt: HostRuntime) {
     let m = reduce(&Meet {
         x: 6,
         y: 0,
         z: -9,
         w: 3,
     });
-    assert_eq!(rt; [m.x, m.y, m.z, m.w], [2, 0, -3, 1]);
+    assert!(rt; [m.x, m.y, m.z, m.w] == [2, 0, -3, 1]);
 }

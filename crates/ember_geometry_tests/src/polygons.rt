@@ -6,6 +6,7 @@ ghost use Rattle.ember_model.specs.Valid.{IsValidPlane, IsValidTri};
 use crate::shapes::{is_at, plane, tetra, triangle};
 use crate::texts::TETRA_TEXT;
 use ember_model::{Face, OutOfMemory, Plane, Tri, support_of};
+use ember_point::Meet;
 use ember_poly::{
     Cut, Draft, Reach, Ring, above, clip, copy, corners, cut, edges, main_edges, meets, meets_face,
     of_tri, outline, parts, planes, reach, support,
@@ -23,35 +24,63 @@ fn unit_ring(alloc: Global) -> Result<Ring, Fail> {
     }
 }
 
+// These are the planes.
+fn check_row(rt: &impl Abort, found: &[Plane], wanted: &[[i16; 4]]) {
+    assert!(rt; found.len() == wanted.len(), "number of planes");
+    for i in 0..wanted.len() {
+        assert!(rt; found[i] == plane(wanted[i]), "plane {i}");
+    }
+}
+
+// These are the corners.
+fn check_starts(rt: &impl Abort, found: &[Meet], wanted: &[[i128; 4]]) {
+    assert!(rt; found.len() == wanted.len(), "number of corners");
+    for i in 0..wanted.len() {
+        assert!(rt; is_at(&found[i], wanted[i]), "corner {i}");
+    }
+}
+
 // The ring has these edge planes, and at these corners its edges start.
 fn check(rt: &impl Abort, ring: &Ring, planes: &[[i16; 4]], starts: &[[i128; 4]]) {
     let (found_planes, found_starts) = outline(ring);
-    assert_eq!(rt; found_planes.len(), planes.len());
-    for (found, want) in found_planes.iter().zip(planes) {
-        assert_eq!(rt; *found, plane(*want));
-    }
-    assert_eq!(rt; found_starts.len(), starts.len());
-    for (found, want) in found_starts.iter().zip(starts) {
-        assert!(rt; is_at(found, *want), "{want:?}");
-    }
+    check_row(rt, found_planes, planes);
+    check_starts(rt, found_starts, starts);
     assert!(rt; edges(ring) == found_planes && corners(ring) == found_starts);
+}
+
+// The planes and starts of the unit ring.
+const PLANES: [[i16; 4]; 3] = [[0, 0, -1, 0], [0, 1, 1, 1], [0, -1, 0, 0]];
+
+const STARTS: [[i128; 4]; 3] = [[1, 0, 0, 1], [0, 1, 0, 1], [0, 0, 1, 1]];
+
+// The unit ring.
+fn check_whole(rt: &impl Abort, ring: &Ring) {
+    assert!(rt; support(ring) == plane([1, 1, 1, 1]));
+    check(rt, ring, &PLANES, &STARTS);
 }
 
 #[test]
 fn the_ring_of_a_triangle(rt: HostRuntime) -> Result<(), Fail> {
     let ring = unit_ring(rt.alloc())?;
+    check_whole(&rt, &ring);
     let same = copy(rt.alloc(), &ring)?;
-    let planes = [[0, 0, -1, 0], [0, 1, 1, 1], [0, -1, 0, 0]];
-    let starts = [[1, 0, 0, 1], [0, 1, 0, 1], [0, 0, 1, 1]];
-    for ring in [&ring, &same] {
-        assert_eq!(rt; support(ring), plane([1, 1, 1, 1]));
-        check(&rt, ring, &planes, &starts);
-    }
+    check_whole(&rt, &same);
     Ok(())
 }
 
 fn has_planes_of(ring: &Ring, face: &Face) -> bool {
     support(ring) == face.support && edges(ring) == face.edges.items()
+}
+
+// The triangle has a ring, with the planes of the face.
+fn ring_has_planes_of(alloc: Global, t: &Tri, face: &Face) -> Result<bool, OutOfMemory>
+    requires { IsValidTri t.now }
+{
+    let found = of_tri(alloc, t)?;
+    Ok(match &found {
+        Some(ring) => has_planes_of(ring, face),
+        None => false,
+    })
 }
 
 #[test]
@@ -62,12 +91,12 @@ fn the_rings_of_a_tetrahedron_have_the_planes_of_its_face_file(
         return Err(Fail::from("no face file"));
     };
     let faces = faces.items();
-    assert_eq!(rt; faces.len(), 4);
+    assert!(rt; faces.len() == 4);
     for i in 0..4 {
-        let Some(ring) = of_tri(rt.alloc(), &tetra(i))? else {
-            return Err(Fail::from("no ring"));
-        };
-        assert!(rt; has_planes_of(&ring, &faces[i]), "triangle {i}");
+        assert!(rt;
+            ring_has_planes_of(rt.alloc(), &tetra(i), &faces[i])?,
+            "triangle {i}"
+        );
     }
     Ok(())
 }
@@ -79,19 +108,22 @@ fn a_flat_triangle_has_no_ring(rt: HostRuntime) -> Result<(), Fail> {
     Ok(())
 }
 
+// Planes, and on which sides of them the unit ring lies.
+const SIDES: [([i16; 4], Reach); 6] = [
+    ([1, 0, 0, 1], Reach::Below),
+    ([-1, 0, 0, 0], Reach::Below),
+    ([1, 0, 0, -1], Reach::Above),
+    ([2, 2, 2, 2], Reach::On),
+    ([2, 0, 0, 1], Reach::Both),
+    ([1, -1, 0, 0], Reach::Both),
+];
+
 #[test]
 fn on_which_sides_of_a_plane_a_ring_lies(rt: HostRuntime) -> Result<(), Fail> {
-    let rows = [
-        ([1, 0, 0, 1], Reach::Below),
-        ([-1, 0, 0, 0], Reach::Below),
-        ([1, 0, 0, -1], Reach::Above),
-        ([2, 2, 2, 2], Reach::On),
-        ([2, 0, 0, 1], Reach::Both),
-        ([1, -1, 0, 0], Reach::Both),
-    ];
     let ring = unit_ring(rt.alloc())?;
-    for (numbers, want) in rows {
-        assert_eq!(rt; reach(&ring, &plane(numbers)), want, "{numbers:?}");
+    for i in 0..SIDES.len() {
+        let (numbers, want) = SIDES[i];
+        assert!(rt; reach(&ring, &plane(numbers)) == want, "row {i}");
     }
     Ok(())
 }
@@ -105,43 +137,38 @@ const HIGH_PLANES: [[i16; 4]; 3] = [[0, 0, -1, 0], [-2, 0, 0, -1], [0, -1, 0, 0]
 
 const HIGH_STARTS: [[i128; 4]; 3] = [[1, 0, 0, 1], [1, 1, 0, 2], [1, 0, 1, 2]];
 
-#[test]
-fn a_cut_triangle(rt: HostRuntime) -> Result<(), Fail> {
-    let ring = unit_ring(rt.alloc())?;
-    let Cut::Both(low, high) = cut(rt.alloc(), &ring, &plane([2, 0, 0, 1]))? else {
-        return Err(Fail::from("one part"));
-    };
-    check(&rt, &low, &LOW_PLANES, &LOW_STARTS);
-    check(&rt, &high, &HIGH_PLANES, &HIGH_STARTS);
-    Ok(())
+// The part below 2x = 1.
+fn check_low(rt: &impl Abort, ring: &Ring) {
+    check(rt, ring, &LOW_PLANES, &LOW_STARTS);
 }
 
-// The ring keeps these planes, in the order in which they were added.
-fn check_planes(rt: &impl Abort, ring: &Ring, wanted: &[[i16; 4]]) {
-    let found = planes(ring);
-    assert_eq!(rt; found.len(), wanted.len());
-    for (one, want) in found.iter().zip(wanted) {
-        assert_eq!(rt; *one, plane(*want));
-    }
+// The part above it.
+fn check_high(rt: &impl Abort, ring: &Ring) {
+    check(rt, ring, &HIGH_PLANES, &HIGH_STARTS);
 }
 
+// The planes of the part above it, in the order in which they were added.
+const ALL_OF_HIGH: [[i16; 4]; 4] = [[0, 0, -1, 0], [0, 1, 1, 1], [0, -1, 0, 0], [-2, 0, 0, -1]];
+
 #[test]
-fn a_part_of_a_triangle_keeps_all_its_planes(rt: HostRuntime) -> Result<(), Fail> {
+fn the_parts_of_a_cut_triangle_keep_all_its_planes(rt: HostRuntime) -> Result<(), Fail> {
     let ring = unit_ring(rt.alloc())?;
-    let Cut::Both(low, high) = cut(rt.alloc(), &ring, &plane([2, 0, 0, 1]))? else {
+    let found = cut(rt.alloc(), &ring, &plane([2, 0, 0, 1]))?;
+    let Cut::Both(low, high) = &found else {
         return Err(Fail::from("one part"));
     };
-    check_planes(&rt, &low, &LOW_PLANES);
-    let all_of_high = [[0, 0, -1, 0], [0, 1, 1, 1], [0, -1, 0, 0], [-2, 0, 0, -1]];
-    check_planes(&rt, &high, &all_of_high);
+    check_low(&rt, low);
+    check_row(&rt, planes(low), &LOW_PLANES);
+    check_high(&rt, high);
+    check_row(&rt, planes(high), &ALL_OF_HIGH);
     Ok(())
 }
 
 #[test]
 fn a_clipped_triangle(rt: HostRuntime) -> Result<(), Fail> {
     let (side, low) = clip(unit_ring(rt.alloc())?, &plane([2, 0, 0, 1]))?;
-    assert_eq!(rt; side, Reach::Both);
-    check(&rt, &low, &LOW_PLANES, &LOW_STARTS);
+    assert!(rt; side == Reach::Both);
+    check_low(&rt, &low);
     Ok(())
 }
 
@@ -172,11 +199,12 @@ fn left_in_a_draft(alloc: Global, t: &Tri, p: &Plane) -> Result<Option<(Reach, R
 #[test]
 fn a_triangle_clipped_in_a_draft(rt: HostRuntime) -> Result<(), Fail> {
     let tri = triangle([[1, 0, 0], [0, 1, 0], [0, 0, 1]]);
-    let Some((side, low)) = left_in_a_draft(rt.alloc(), &tri, &plane([2, 0, 0, 1]))? else {
+    let found = left_in_a_draft(rt.alloc(), &tri, &plane([2, 0, 0, 1]))?;
+    let Some((side, low)) = &found else {
         return Err(Fail::from("a flat triangle"));
     };
-    assert_eq!(rt; side, Reach::Both);
-    check(&rt, &low, &LOW_PLANES, &LOW_STARTS);
+    assert!(rt; *side == Reach::Both);
+    check_low(&rt, low);
     Ok(())
 }
 
@@ -193,11 +221,12 @@ fn both_parts(alloc: Global, r: Ring, p: &Plane) -> Result<Option<(Ring, Ring)>,
 #[test]
 fn the_parts_of_a_triangle(rt: HostRuntime) -> Result<(), Fail> {
     let ring = unit_ring(rt.alloc())?;
-    let Some((low, high)) = both_parts(rt.alloc(), ring, &plane([2, 0, 0, 1]))? else {
+    let found = both_parts(rt.alloc(), ring, &plane([2, 0, 0, 1]))?;
+    let Some((low, high)) = &found else {
         return Err(Fail::from("one part"));
     };
-    check(&rt, &low, &LOW_PLANES, &LOW_STARTS);
-    check(&rt, &high, &HIGH_PLANES, &HIGH_STARTS);
+    check_low(&rt, low);
+    check_high(&rt, high);
     Ok(())
 }
 
@@ -213,10 +242,11 @@ fn part_above(r: Ring, p: &Plane) -> Result<Option<Ring>, OutOfMemory>
 
 #[test]
 fn the_part_of_a_triangle_above_a_plane(rt: HostRuntime) -> Result<(), Fail> {
-    let Some(high) = part_above(unit_ring(rt.alloc())?, &plane([2, 0, 0, 1]))? else {
+    let found = part_above(unit_ring(rt.alloc())?, &plane([2, 0, 0, 1]))?;
+    let Some(high) = &found else {
         return Err(Fail::from("one part"));
     };
-    check(&rt, &high, &HIGH_PLANES, &HIGH_STARTS);
+    check_high(&rt, high);
     Ok(())
 }
 
@@ -250,45 +280,71 @@ fn meeting(alloc: Global, t: &Tri, u: &Tri) -> Result<Option<bool>, OutOfMemory>
     }
 }
 
-#[test]
-fn rings_and_triangles_of_several_planes(rt: HostRuntime) -> Result<(), Fail> {
-    // The faces of two tetrahedra with right angles at their first corners.
-    let [o, a, b, c] = [[0, 0, 0], [2, 0, 0], [0, 2, 0], [0, 0, 2]];
-    let [p, q, r, s] = [[1, 0, 0], [3, 0, 0], [1, 2, 0], [1, 0, 2]];
-    let rows = [
-        ([a, b, c], [p, r, q], false),
-        ([p, r, q], [a, b, c], true),
-        ([a, b, c], [p, s, r], true),
-        ([o, b, a], [p, r, q], true),
-        ([o, b, a], [o, a, c], false),
-        ([o, b, a], [c, s, [0, 2, 2]], false),
-    ];
-    for (one, other, want) in rows {
-        let meet = meeting(rt.alloc(), &triangle(one), &triangle(other))?;
-        assert_eq!(rt; meet, Some(want), "{one:?} and {other:?}");
+// Two triangles each, by their corners, and whether the ring of the first meets the second.
+type Pair = ([[i32; 3]; 3], [[i32; 3]; 3], bool);
+
+fn check_pairs(rt: &impl Abort, alloc: Global, rows: &[Pair]) -> Result<(), OutOfMemory> {
+    for i in 0..rows.len() {
+        let (one, other, want) = rows[i];
+        let meet = meeting(alloc, &triangle(one), &triangle(other))?;
+        assert!(rt; meet == Some(want), "row {i}");
     }
     Ok(())
 }
 
+// The corners of two tetrahedra with right angles at their first corners.
+const O: [i32; 3] = [0, 0, 0];
+
+const A: [i32; 3] = [2, 0, 0];
+
+const B: [i32; 3] = [0, 2, 0];
+
+const C: [i32; 3] = [0, 0, 2];
+
+const P: [i32; 3] = [1, 0, 0];
+
+const Q: [i32; 3] = [3, 0, 0];
+
+const R: [i32; 3] = [1, 2, 0];
+
+const S: [i32; 3] = [1, 0, 2];
+
+// Their faces.
+const SEVERAL_PLANES: [Pair; 6] = [
+    ([A, B, C], [P, R, Q], false),
+    ([P, R, Q], [A, B, C], true),
+    ([A, B, C], [P, S, R], true),
+    ([O, B, A], [P, R, Q], true),
+    ([O, B, A], [O, A, C], false),
+    ([O, B, A], [C, S, [0, 2, 2]], false),
+];
+
+#[test]
+fn rings_and_triangles_of_several_planes(rt: HostRuntime) -> Result<(), Fail> {
+    check_pairs(&rt, rt.alloc(), &SEVERAL_PLANES)?;
+    Ok(())
+}
+
+const SMALL: [[i32; 3]; 3] = [[0, 0, 0], [1, 0, 0], [0, 1, 0]];
+
+const LARGE: [[i32; 3]; 3] = [[-4, -1, 0], [4, -1, 0], [0, 4, 0]];
+
+// Triangles of the plane z = 0.
+const ONE_PLANE: [Pair; 6] = [
+    (SMALL, SMALL, true),
+    (SMALL, LARGE, true),
+    (LARGE, SMALL, true),
+    (SMALL, [[1, 0, 0], [4, 4, 0], [0, 1, 0]], false),
+    (SMALL, [[1, 0, 0], [2, 0, 0], [4, 4, 0]], false),
+    (
+        [[0, 0, 0], [2, 0, 0], [0, 4, 0]],
+        [[1, 0, 0], [2, 0, 0], [4, 4, 0]],
+        true,
+    ),
+];
+
 #[test]
 fn rings_and_triangles_of_one_plane(rt: HostRuntime) -> Result<(), Fail> {
-    let small = [[0, 0, 0], [1, 0, 0], [0, 1, 0]];
-    let large = [[-4, -1, 0], [4, -1, 0], [0, 4, 0]];
-    let rows = [
-        (small, small, true),
-        (small, large, true),
-        (large, small, true),
-        (small, [[1, 0, 0], [4, 4, 0], [0, 1, 0]], false),
-        (small, [[1, 0, 0], [2, 0, 0], [4, 4, 0]], false),
-        (
-            [[0, 0, 0], [2, 0, 0], [0, 4, 0]],
-            [[1, 0, 0], [2, 0, 0], [4, 4, 0]],
-            true,
-        ),
-    ];
-    for (one, other, want) in rows {
-        let meet = meeting(rt.alloc(), &triangle(one), &triangle(other))?;
-        assert_eq!(rt; meet, Some(want), "{one:?} and {other:?}");
-    }
+    check_pairs(&rt, rt.alloc(), &ONE_PLANE)?;
     Ok(())
 }

@@ -5,7 +5,7 @@ ghost use Rattle.ember_model.specs.declared.point.Axis.TheVariants.{X};
 ghost use Rattle.ember_model.specs.Points.{DifferAlong};
 ghost use Rattle.ember_model.specs.Valid.{IsValidCorner, IsValidPlane, IsValidSpot, IsValidTri};
 
-use ember_model::{Corner, Plane, Spot, Tri, Vector};
+use ember_model::{Corner, Face, Plane, Spot, Tri, Vector};
 use ember_point::{Meet, reduce};
 
 // The coordinate, or 0 in place of one that no corner has.
@@ -62,6 +62,23 @@ pub fn plane(numbers: [i16; 4]) -> Plane
         c: i64::from(numbers[2]),
         d: i64::from(numbers[3]),
     }
+}
+
+/// The numbers of a face: its support plane, and its edge planes in order.
+pub type FaceRow = [[i16; 4]; 4];
+
+/// The faces of the tetrahedron.
+pub const TETRA_FACES: [FaceRow; 4] = [
+    [[0, 0, -1, 0], [-1, 0, 0, 0], [1, 1, 0, 1], [0, -1, 0, 0]],
+    [[0, -1, 0, 0], [0, 0, -1, 0], [1, 0, 1, 1], [-1, 0, 0, 0]],
+    [[-1, 0, 0, 0], [0, -1, 0, 0], [0, 1, 1, 1], [0, 0, -1, 0]],
+    [[1, 1, 1, 1], [0, 0, -1, 0], [0, 1, 1, 1], [0, -1, 0, 0]],
+];
+
+/// The face has these planes.
+pub fn is_row(face: &Face, row: &FaceRow) -> bool {
+    face.support == plane(row[0])
+        && face.edges.items() == [plane(row[1]), plane(row[2]), plane(row[3])].as_slice()
 }
 
 /// The point with these coordinates, each divided by `w`.

@@ -83,26 +83,41 @@ fn face_sides(alloc: Global, s: &Scene, job: &Job, i: usize) -> Result<Option<Si
     }
 }
 
+// The first mesh has this count before the triangle's face and this one after it, and the others 0.
+fn has_counts(
+    alloc: Global,
+    s: &Scene,
+    job: &Job,
+    i: usize,
+    before: i32,
+    after: i32,
+) -> Result<bool, OutOfMemory>
+    requires job { IsJob s.now.tris job.now }
+    requires place { i < length s.now.tris }
+{
+    let found = face_sides(alloc, s, job, i)?;
+    Ok(match &found {
+        Some(sides) => sides.before == one_count(before) && sides.after == one_count(after),
+        None => false,
+    })
+}
+
 #[test]
 fn the_sides_of_a_tetrahedron(rt: HostRuntime) -> Result<(), Fail> {
     let alloc = rt.alloc();
     let scene = scene_of_files(alloc, &[TETRA])?;
-    assert_eq!(rt; scene.tris.items().len(), 4);
+    assert!(rt; scene.tris.items().len() == 4);
     let job = root_job(alloc, &scene)?;
-    let after = [1, 1, 1, 0];
-    for i in 0..4 {
-        let want = Sides {
-            before: one_count(1 - after[i]),
-            after: one_count(after[i]),
-        };
-        assert_eq!(rt; face_sides(alloc, &scene, &job, i)?, Some(want), "face {i}");
+    for i in 0..3 {
+        assert!(rt; has_counts(alloc, &scene, &job, i, 0, 1)?, "face {i}");
     }
+    assert!(rt; has_counts(alloc, &scene, &job, 3, 1, 0)?, "face 3");
     Ok(())
 }
 
 // How many regions were looked at, and of how many the sides differ; and of the last leaf its box
 // and how many triangles are near it.
-#[derive(Clone, Copy, Debug, PartialEq, Eq)]
+#[derive(Clone, Copy)]
 struct Seen {
     regions: u64,
     differing: u64,
@@ -177,7 +192,7 @@ fn see_all(alloc: Global, s: &Scene, text: &[u8]) -> Result<Seen, Fail> {
 // at least so many of them.
 fn check(rt: &impl Abort, alloc: Global, s: &Scene, text: &[u8], least: u64) -> Result<(), Fail> {
     let seen = see_all(alloc, s, text)?;
-    assert_eq!(rt; seen.differing, 0);
+    assert!(rt; seen.differing == 0);
     assert!(rt; seen.regions >= least);
     Ok(())
 }
@@ -213,13 +228,8 @@ fn all_triangles_of_two_cubes_are_near_the_last_leaf(rt: HostRuntime) -> Result<
     let alloc = rt.alloc();
     let scene = scene_of_files(alloc, &[C, D])?;
     let seen = see_all(alloc, &scene, b"m1|m2")?;
-    let want = Seen {
-        regions: 26,
-        differing: 0,
-        corner: [0, 0, 0],
-        sides: [8, 8, 8],
-        near: 24,
-    };
-    assert_eq!(rt; seen, want);
+    assert!(rt; seen.regions == 26 && seen.differing == 0);
+    assert!(rt; seen.corner == [0, 0, 0] && seen.sides == [8, 8, 8]);
+    assert!(rt; seen.near == 24);
     Ok(())
 }

@@ -1,18 +1,21 @@
 // One box of a Boolean: skipped, a leaf or halves.
+ghost use Rattle.ember_visit.specs.Jobs.{IsJob};
+
 use crate::scenes::{expression, scene_of_files};
-use crate::shapes::plane;
+use crate::shapes::{FaceRow, TETRA_FACES, is_row};
 use crate::texts::{C, D, TETRA, TETRA_TEXT};
+use ember_expr::Expr;
 use ember_gen::scene_of;
-use ember_job::Outcome;
-use ember_model::{Face, Scene};
+use ember_job::{Job, Outcome};
+use ember_model::{Face, OutOfMemory, Scene};
 use ember_step::{box_step, count_step, faces_step, root_job, text_step};
-use ember_text::{document_of, face_count};
+use ember_text::{FacesText, document_of, face_count};
 use std::alloc::Global;
 use std::process::Abort;
 use std::test::Fail;
 
 // What becomes of the root: of a leaf, how many regions it has.
-#[derive(Clone, Copy, Debug, PartialEq, Eq)]
+#[derive(Clone, Copy, PartialEq, Eq)]
 enum Root {
     Skipped,
     Leaf(u64),
@@ -20,65 +23,72 @@ enum Root {
 }
 
 // By the step that gives the regions.
-fn root_by_regions(alloc: Global, s: &Scene, text: &str) -> Result<Root, Fail> {
-    let e = expression(alloc, text.as_bytes(), 2)?;
-    let job = root_job(alloc, s)?;
-    match box_step(alloc, s, &e, &job)? {
-        Outcome::Halves(_, _) => Ok(Root::Halved),
-        Outcome::Leaf(kept) => Ok(Root::Leaf(kept.items().len() as u64)),
-        Outcome::Skipped => Ok(Root::Skipped),
-    }
+fn root_by_regions(alloc: Global, s: &Scene, e: &Expr, job: &Job) -> Result<Root, OutOfMemory>
+    requires { IsJob s.now.tris job.now }
+{
+    let outcome = box_step(alloc, s, e, job)?;
+    Ok(match &outcome {
+        Outcome::Halves(_, _) => Root::Halved,
+        Outcome::Leaf(kept) => Root::Leaf(kept.items().len() as u64),
+        Outcome::Skipped => Root::Skipped,
+    })
 }
 
 // By the step that counts them.
-fn root_by_count(alloc: Global, s: &Scene, text: &str) -> Result<Root, Fail> {
-    let e = expression(alloc, text.as_bytes(), 2)?;
-    let job = root_job(alloc, s)?;
-    match count_step(alloc, s, &e, &job)? {
-        Outcome::Halves(_, _) => Ok(Root::Halved),
-        Outcome::Leaf(count) => Ok(Root::Leaf(count)),
-        Outcome::Skipped => Ok(Root::Skipped),
-    }
+fn root_by_count(alloc: Global, s: &Scene, e: &Expr, job: &Job) -> Result<Root, OutOfMemory>
+    requires { IsJob s.now.tris job.now }
+{
+    let outcome = count_step(alloc, s, e, job)?;
+    Ok(match &outcome {
+        Outcome::Halves(_, _) => Root::Halved,
+        Outcome::Leaf(count) => Root::Leaf(*count),
+        Outcome::Skipped => Root::Skipped,
+    })
 }
 
 // By the step that gives their text.
-fn root_by_text(alloc: Global, s: &Scene, text: &str) -> Result<Root, Fail> {
-    let e = expression(alloc, text.as_bytes(), 2)?;
-    let job = root_job(alloc, s)?;
-    match text_step(alloc, s, &e, &job)? {
-        Outcome::Halves(_, _) => Ok(Root::Halved),
-        Outcome::Leaf(text) => Ok(Root::Leaf(text.count())),
-        Outcome::Skipped => Ok(Root::Skipped),
-    }
+fn root_by_text(alloc: Global, s: &Scene, e: &Expr, job: &Job) -> Result<Root, OutOfMemory>
+    requires { IsJob s.now.tris job.now }
+{
+    let outcome = text_step(alloc, s, e, job)?;
+    Ok(match &outcome {
+        Outcome::Halves(_, _) => Root::Halved,
+        Outcome::Leaf(text) => Root::Leaf(text.count()),
+        Outcome::Skipped => Root::Skipped,
+    })
 }
 
 // By the step that gives their faces.
-fn root_by_faces(alloc: Global, s: &Scene, text: &str) -> Result<Root, Fail> {
-    let e = expression(alloc, text.as_bytes(), 2)?;
-    let job = root_job(alloc, s)?;
-    match faces_step(alloc, s, &e, &job)? {
-        Outcome::Halves(_, _) => Ok(Root::Halved),
-        Outcome::Leaf(faces) => Ok(Root::Leaf(faces.items().len() as u64)),
-        Outcome::Skipped => Ok(Root::Skipped),
-    }
+fn root_by_faces(alloc: Global, s: &Scene, e: &Expr, job: &Job) -> Result<Root, OutOfMemory>
+    requires { IsJob s.now.tris job.now }
+{
+    let outcome = faces_step(alloc, s, e, job)?;
+    Ok(match &outcome {
+        Outcome::Halves(_, _) => Root::Halved,
+        Outcome::Leaf(faces) => Root::Leaf(faces.items().len() as u64),
+        Outcome::Skipped => Root::Skipped,
+    })
 }
 
 fn check(rt: &impl Abort, alloc: Global, s: &Scene, text: &str, want: Root) -> Result<(), Fail> {
-    assert_eq!(rt; root_by_regions(alloc, s, text)?, want, "{text}");
-    assert_eq!(rt; root_by_count(alloc, s, text)?, want, "{text}");
-    assert_eq!(rt; root_by_text(alloc, s, text)?, want, "{text}");
-    assert_eq!(rt; root_by_faces(alloc, s, text)?, want, "{text}");
+    let e = expression(alloc, text.as_bytes(), 2)?;
+    let job = root_job(alloc, s)?;
+    assert!(rt;
+        root_by_regions(alloc, s, &e, &job)? == want,
+        "{text}, regions"
+    );
+    assert!(rt; root_by_count(alloc, s, &e, &job)? == want, "{text}, count");
+    assert!(rt; root_by_text(alloc, s, &e, &job)? == want, "{text}, text");
+    assert!(rt; root_by_faces(alloc, s, &e, &job)? == want, "{text}, faces");
     Ok(())
 }
 
 #[test]
 fn the_root_of_one_box(rt: HostRuntime) -> Result<(), Fail> {
     let scene = scene_of(rt.alloc(), 1)?;
-    // The second expression is never true.
-    for (text, want) in [("m1|m2", Root::Leaf(12)), ("m1&1=2", Root::Skipped)] {
-        check(&rt, rt.alloc(), &scene, text, want)?;
-    }
-    Ok(())
+    check(&rt, rt.alloc(), &scene, "m1|m2", Root::Leaf(12))?;
+    // This is never true.
+    check(&rt, rt.alloc(), &scene, "m1&1=2", Root::Skipped)
 }
 
 #[test]
@@ -90,65 +100,60 @@ fn the_roots_of_a_tetrahedron_and_of_two_cubes(rt: HostRuntime) -> Result<(), Fa
     check(&rt, alloc, &cubes, "m1|m2", Root::Halved)
 }
 
+// The text of the first mesh in a scene whose root is a leaf.
+fn text_of(alloc: Global, s: &Scene) -> Result<Vec<FacesText>, Fail> {
+    let e = expression(alloc, b"m1", 1)?;
+    let job = root_job(alloc, s)?;
+    match text_step(alloc, s, &e, &job)? {
+        Outcome::Leaf(text) => Ok(vec![in alloc; text]?),
+        _ => Err(Fail::from("no leaf")),
+    }
+}
+
 #[test]
 fn the_text_of_a_tetrahedron(rt: HostRuntime) -> Result<(), Fail> {
-    let alloc = rt.alloc();
-    let scene = scene_of_files(alloc, &[TETRA])?;
-    let e = expression(alloc, b"m1", 1)?;
-    let job = root_job(alloc, &scene)?;
-    let Outcome::Leaf(text) = text_step(alloc, &scene, &e, &job)? else {
-        return Err(Fail::from("no leaf"));
-    };
-    let texts = vec![in alloc; text]?;
-    assert_eq!(rt; face_count(&texts)?, 4);
-    let file = document_of(alloc, texts)?;
-    assert_eq!(rt; file.as_slice(), TETRA_TEXT);
+    let scene = scene_of_files(rt.alloc(), &[TETRA])?;
+    let texts = text_of(rt.alloc(), &scene)?;
+    assert!(rt; face_count(&texts)? == 4);
+    let file = document_of(rt.alloc(), texts)?;
+    assert!(rt; file.as_slice() == TETRA_TEXT);
     Ok(())
 }
 
-// The faces of the tetrahedron by this expression.
-fn faces_of_tetra(alloc: Global, text: &str) -> Result<Vec<Face>, Fail> {
-    let scene = scene_of_files(alloc, &[TETRA])?;
+// The faces of an expression in a scene whose root is a leaf.
+fn faces_by(alloc: Global, s: &Scene, text: &str) -> Result<Vec<Face>, Fail> {
     let e = expression(alloc, text.as_bytes(), 1)?;
-    let job = root_job(alloc, &scene)?;
-    match faces_step(alloc, &scene, &e, &job)? {
+    let job = root_job(alloc, s)?;
+    match faces_step(alloc, s, &e, &job)? {
         Outcome::Leaf(faces) => Ok(faces.into_vec()),
         _ => Err(Fail::from("no leaf")),
     }
 }
 
-// A support plane, and the edge planes in order.
-type Row = [[i16; 4]; 4];
-
-fn is_row(face: &Face, row: &Row) -> bool {
-    face.support == plane(row[0])
-        && face.edges.items() == [plane(row[1]), plane(row[2]), plane(row[3])].as_slice()
-}
-
-// The faces of the tetrahedron by this expression are these.
-fn check_faces(rt: &impl Abort, alloc: Global, text: &str, rows: &[Row]) -> Result<(), Fail> {
-    let faces = faces_of_tetra(alloc, text)?;
-    assert_eq!(rt; faces.len(), rows.len(), "{text}");
-    for (face, row) in faces.iter().zip(rows.iter()) {
-        assert!(rt; is_row(face, row), "{text}, {:?}", face.support);
+fn are_rows(faces: &[Face], rows: &[FaceRow]) -> bool {
+    if faces.len() != rows.len() {
+        return false;
     }
-    Ok(())
+    for i in 0..rows.len() {
+        if !is_row(&faces[i], &rows[i]) {
+            return false;
+        }
+    }
+    true
 }
+
+// The faces of the tetrahedron, turned over.
+const TURNED_FACES: [FaceRow; 4] = [
+    [[0, 0, 1, 0], [-1, 0, 0, 0], [0, -1, 0, 0], [1, 1, 0, 1]],
+    [[0, 1, 0, 0], [0, 0, -1, 0], [-1, 0, 0, 0], [1, 0, 1, 1]],
+    [[1, 0, 0, 0], [0, -1, 0, 0], [0, 0, -1, 0], [0, 1, 1, 1]],
+    [[-1, -1, -1, -1], [0, 0, -1, 0], [0, -1, 0, 0], [0, 1, 1, 1]],
+];
 
 #[test]
 fn the_faces_of_a_tetrahedron_from_both_sides(rt: HostRuntime) -> Result<(), Fail> {
-    let inside: [Row; 4] = [
-        [[0, 0, -1, 0], [-1, 0, 0, 0], [1, 1, 0, 1], [0, -1, 0, 0]],
-        [[0, -1, 0, 0], [0, 0, -1, 0], [1, 0, 1, 1], [-1, 0, 0, 0]],
-        [[-1, 0, 0, 0], [0, -1, 0, 0], [0, 1, 1, 1], [0, 0, -1, 0]],
-        [[1, 1, 1, 1], [0, 0, -1, 0], [0, 1, 1, 1], [0, -1, 0, 0]],
-    ];
-    let outside: [Row; 4] = [
-        [[0, 0, 1, 0], [-1, 0, 0, 0], [0, -1, 0, 0], [1, 1, 0, 1]],
-        [[0, 1, 0, 0], [0, 0, -1, 0], [-1, 0, 0, 0], [1, 0, 1, 1]],
-        [[1, 0, 0, 0], [0, -1, 0, 0], [0, 0, -1, 0], [0, 1, 1, 1]],
-        [[-1, -1, -1, -1], [0, 0, -1, 0], [0, -1, 0, 0], [0, 1, 1, 1]],
-    ];
-    check_faces(&rt, rt.alloc(), "m1", &inside)?;
-    check_faces(&rt, rt.alloc(), "!m1", &outside)
+    let scene = scene_of_files(rt.alloc(), &[TETRA])?;
+    assert!(rt; are_rows(&faces_by(rt.alloc(), &scene, "m1")?, &TETRA_FACES));
+    assert!(rt; are_rows(&faces_by(rt.alloc(), &scene, "!m1")?, &TURNED_FACES));
+    Ok(())
 }

@@ -69,17 +69,21 @@ fn ordered(parts: Vec<Part<KeptList>>, order: Order) -> Vec<Part<KeptList>> {
     parts
 }
 
+// The documents of a solid's parts, which come in this order.
+fn documents_in(alloc: Global, s: &Scene, e: &Expr, order: Order) -> Result<Vec<u8>, OutOfMemory> {
+    documents(alloc, ordered(parts_of(alloc, s, e)?, order))
+}
+
 #[test]
 fn parts_of_a_union_in_any_order_merge_alike(rt: HostRuntime) -> Result<(), Fail> {
     let alloc = rt.alloc();
     let scene = scene_of_files(alloc, &[C, D])?;
     let e = expression(alloc, b"m1|m2", 2)?;
-    let want = documents(alloc, parts_of(alloc, &scene, &e)?)?;
+    let want = documents_in(alloc, &scene, &e, Order::Found)?;
     for order in [Order::Found, Order::Reversed, Order::Rotated] {
-        let parts = parts_of(alloc, &scene, &e)?;
-        assert_eq!(rt; parts.len(), 4);
-        let text = documents(alloc, ordered(parts, order))?;
-        assert!(rt; text == want);
+        assert!(rt; documents_in(alloc, &scene, &e, order)? == want);
     }
+    let parts = parts_of(alloc, &scene, &e)?;
+    assert!(rt; parts.len() == 4);
     Ok(())
 }

@@ -15,10 +15,10 @@ use std::test::Fail;
 #[test]
 fn all_triangles_are_near_the_root(rt: HostRuntime) -> Result<(), Fail> {
     let alloc = rt.alloc();
-    let root = root_job(alloc, &scene_of_files(alloc, &[TETRA])?)?;
-    assert_eq!(rt; root.list.items(), [0, 1, 2, 3].as_slice());
-    let root = root_job(alloc, &scene_of(alloc, 1)?)?;
-    assert_eq!(rt; root.list.items().len(), 12);
+    let tetra = root_job(alloc, &scene_of_files(alloc, &[TETRA])?)?;
+    assert!(rt; tetra.list.items() == [0, 1, 2, 3].as_slice());
+    let generated = root_job(alloc, &scene_of(alloc, 1)?)?;
+    assert!(rt; generated.list.items().len() == 12);
     Ok(())
 }
 
@@ -29,16 +29,17 @@ fn value_in(s: &Scene, e: &Expr, job: &Job) -> Option<bool>
     box_value(e, s, job)
 }
 
+fn value_at_root(alloc: Global, s: &Scene, text: &[u8]) -> Result<Option<bool>, Fail> {
+    let e = expression(alloc, text, 2)?;
+    let root = root_job(alloc, s)?;
+    Ok(value_in(s, &e, &root))
+}
+
 #[test]
 fn what_is_known_of_the_root_of_one_box(rt: HostRuntime) -> Result<(), Fail> {
-    let alloc = rt.alloc();
-    let scene = scene_of(alloc, 1)?;
-    let root = root_job(alloc, &scene)?;
-    let rows: [(&str, Option<bool>); 2] = [("m1", None), ("m2", Some(false))];
-    for (text, want) in rows {
-        let e = expression(alloc, text.as_bytes(), 2)?;
-        assert_eq!(rt; value_in(&scene, &e, &root), want, "{text}");
-    }
+    let scene = scene_of(rt.alloc(), 1)?;
+    assert!(rt; value_at_root(rt.alloc(), &scene, b"m1")?.is_none());
+    assert!(rt; value_at_root(rt.alloc(), &scene, b"m2")? == Some(false));
     Ok(())
 }
 
@@ -57,18 +58,28 @@ fn listed(alloc: Global, s: &Scene, job: &Job) -> Result<Vec<Tri>, OutOfMemory>
     listed_tris(alloc, s.tris.items(), job.list.items())
 }
 
+// The job has a box with this path, these triangles, and the counts of the root.
+fn is_job_of(job: &Job, path: u64, list: &[u32], root: &Job) -> bool {
+    job.cell.path() == path && job.list.items() == list && job.at == root.at
+}
+
+#[test]
+fn the_triangles_of_the_root_are_those_of_the_scene(rt: HostRuntime) -> Result<(), Fail> {
+    let scene = scene_of_files(rt.alloc(), &[APART])?;
+    let root = root_job(rt.alloc(), &scene)?;
+    assert!(rt; listed(rt.alloc(), &scene, &root)?.as_slice() == scene.tris.items());
+    Ok(())
+}
+
 #[test]
 fn the_halves_of_the_root_part_its_triangles(rt: HostRuntime) -> Result<(), Fail> {
     let alloc = rt.alloc();
     let scene = scene_of_files(alloc, &[APART])?;
     let root = root_job(alloc, &scene)?;
-    assert!(rt; listed(alloc, &scene, &root)?.as_slice() == scene.tris.items());
     assert!(rt; root.cell.log(Axis::Y) > 0);
     let (low, high) = halves_of(alloc, &scene, &root)?;
-    assert_eq!(rt; (low.cell.path(), high.cell.path()), (2, 3));
-    assert_eq!(rt; low.list.items(), [2, 3].as_slice());
-    assert_eq!(rt; high.list.items(), [0, 1].as_slice());
-    assert!(rt; low.at == root.at && high.at == root.at);
+    assert!(rt; is_job_of(&low, 2, &[2, 3], &root));
+    assert!(rt; is_job_of(&high, 3, &[0, 1], &root));
     Ok(())
 }
 
@@ -84,25 +95,22 @@ fn halves_unless_leaf(
 }
 
 #[test]
+fn a_leaf_has_no_halves(rt: HostRuntime) -> Result<(), Fail> {
+    let scene = scene_of_files(rt.alloc(), &[TETRA])?;
+    let root = root_job(rt.alloc(), &scene)?;
+    assert!(rt; halves_unless_leaf(rt.alloc(), &scene, &root)?.is_none());
+    Ok(())
+}
+
+#[test]
 fn a_box_that_is_no_leaf_has_halves(rt: HostRuntime) -> Result<(), Fail> {
-    let alloc = rt.alloc();
-    let leaf = scene_of_files(alloc, &[TETRA])?;
-    let root = root_job(alloc, &leaf)?;
-    assert!(rt; halves_unless_leaf(alloc, &leaf, &root)?.is_none());
-    let scene = scene_of_files(alloc, &[APART, APART, APART, APART, APART])?;
-    let root = root_job(alloc, &scene)?;
-    let Some((low, high)) = halves_unless_leaf(alloc, &scene, &root)? else {
+    let scene = scene_of_files(rt.alloc(), &[APART, APART, APART, APART, APART])?;
+    let root = root_job(rt.alloc(), &scene)?;
+    let found = halves_unless_leaf(rt.alloc(), &scene, &root)?;
+    let Some((low, high)) = &found else {
         return Err(Fail::from("a leaf"));
     };
-    assert_eq!(rt; (low.cell.path(), high.cell.path()), (2, 3));
-    assert_eq!(rt;
-        low.list.items(),
-        [2, 3, 6, 7, 10, 11, 14, 15, 18, 19].as_slice()
-    );
-    assert_eq!(rt;
-        high.list.items(),
-        [0, 1, 4, 5, 8, 9, 12, 13, 16, 17].as_slice()
-    );
-    assert!(rt; low.at == root.at && high.at == root.at);
+    assert!(rt; is_job_of(low, 2, &[2, 3, 6, 7, 10, 11, 14, 15, 18, 19], &root));
+    assert!(rt; is_job_of(high, 3, &[0, 1, 4, 5, 8, 9, 12, 13, 16, 17], &root));
     Ok(())
 }

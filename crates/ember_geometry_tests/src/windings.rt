@@ -47,11 +47,11 @@ fn check(
     let scene = scene_of_files(alloc, files)?;
     let p = spot([1, 2, 3], 16);
     for k in [Axis::X, Axis::Y, Axis::Z] {
-        assert_eq!(rt; counts_along(&scene, &p, k), counts);
+        assert!(rt; counts_along(&scene, &p, k) == counts, "{k:?}");
     }
     let q = slid(&p, 17);
-    assert_eq!(rt; crossings(&scene, &p, &q), out);
-    assert_eq!(rt; crossings(&scene, &q, &p), back);
+    assert!(rt; crossings(&scene, &p, &q) == out);
+    assert!(rt; crossings(&scene, &q, &p) == back);
     Ok(())
 }
 

@@ -1,0 +1,90 @@
+// Keys of planes and of lines; the expected ones are from a program in another language.
+ghost use Rattle.ember_algebra.specs.Size.{Small};
+ghost use Rattle.ember_model.specs.Valid.{IsValidPlane};
+
+use crate::certificates::line;
+use ember_key::{line_key, plane_key};
+use ember_model::Plane;
+
+// The number, or 0 in place of one that no normal has.
+fn entry(x: i64) -> i64
+    ensures { Small 33554431 result }
+{
+    if x > 33554431 || x < -33554431 { 0 } else { x }
+}
+
+// The number, or 0 in place of one that no constant is.
+fn constant(x: i64) -> i64
+    ensures { Small 549755813887 result }
+{
+    if x > 549755813887 || x < -549755813887 {
+        0
+    } else {
+        x
+    }
+}
+
+fn plane(numbers: [i64; 4]) -> Plane
+    ensures { IsValidPlane result }
+{
+    Plane {
+        a: entry(numbers[0]),
+        b: entry(numbers[1]),
+        c: entry(numbers[2]),
+        d: constant(numbers[3]),
+    }
+}
+
+// Planes and their keys.
+const PLANES: [([i64; 4], [i64; 4]); 7] = [
+    ([2, 4, 6, 8], [1, 2, 3, 4]),
+    ([-2, -4, -6, -8], [-1, -2, -3, -4]),
+    ([6, 0, 0, 9], [2, 0, 0, 3]),
+    ([0, 0, -7, 0], [0, 0, -1, 0]),
+    ([33554430, 0, 0, 549755813886], [5592405, 0, 0, 91625968981]),
+    (
+        [33554431, 0, 0, 549755813887],
+        [33554431, 0, 0, 549755813887],
+    ),
+    ([0, 0, 0, 0], [0, 0, 0, 0]),
+];
+
+#[test]
+fn keys_of_planes(rt: HostRuntime) {
+    for i in 0..PLANES.len() {
+        let (numbers, want) = PLANES[i];
+        assert!(rt; plane_key(&plane(numbers)) == plane(want), "row {i}");
+    }
+}
+
+// Two planes each, and the direction and the moment of their line.
+const LINES: [([i64; 4], [i64; 4], [i64; 3], [i128; 3]); 7] = [
+    ([1, 0, 0, 0], [0, 1, 0, 0], [0, 0, 1], [0, 0, 0]),
+    ([0, 1, 0, 0], [1, 0, 0, 0], [0, 0, 1], [0, 0, 0]),
+    ([2, 0, 0, 4], [0, 3, 0, 9], [0, 0, 1], [3, -2, 0]),
+    ([0, -3, 0, -9], [2, 0, 0, 4], [0, 0, 1], [3, -2, 0]),
+    ([1, 1, 1, 1], [1, -1, 0, 0], [1, 1, -2], [-1, 1, 0]),
+    ([0, 2, 4, 6], [3, 0, 0, 3], [0, 2, -1], [-3, 1, 2]),
+    (
+        [33554431, 33554430, 0, 549755813887],
+        [-33554431, 33554431, 33554431, -549755813887],
+        [1125899806179330, -1125899839733761, 2251799645913091],
+        [0, -36893486498084552707, -18446743523920183297],
+    ),
+];
+
+#[test]
+fn keys_of_lines(rt: HostRuntime) {
+    for i in 0..LINES.len() {
+        let (first, second, direction, moment) = LINES[i];
+        let key = line_key(&plane(first), &plane(second));
+        assert!(rt; key == Some(line(direction, moment)), "row {i}");
+    }
+}
+
+#[test]
+fn parallel_planes_have_no_line(rt: HostRuntime) {
+    let first = plane([1, 2, 3, 4]);
+    assert!(rt; line_key(&first, &plane([-2, -4, -6, 5])).is_none());
+    assert!(rt; line_key(&first, &plane([0, 0, 0, 1])).is_none());
+}
