@@ -113,7 +113,7 @@ directed_edges (e ∷ es) = edges_to e.start (e ∷ es)
 abbrev pub IsClosedSurface : List WrittenFace → Type 0
 IsClosedSurface ws = IsClosed (flat_map (λ w. directed_edges w.edges) ws)
 
--- the face with the edge planes of its written edges. `face_in` of ember_reread and `written_face` of ember_run are the
+-- the face with the edge planes of its written edges. `face_in` of ember_reread and `written_face` of ember_verdict are the
 -- same map
 abbrev pub face_from : WrittenFace → Face
 face_from w = face_of_edges w.support w.edges

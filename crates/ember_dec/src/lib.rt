@@ -9,7 +9,7 @@ ghost use Rattle.ember_dec.specs.Decimal.{before_point, behind_point, number_fro
 use thiserror::Error;
 
 /// Why a text is no coordinate, numbered from 1 in the order in which the faults are looked for.
-/// The program doesn't print these texts, but its own: see `src/lines.rt` of ember_run.
+/// The program doesn't print these texts, but its own: see `src/lines.rt` of ember_verdict.
 #[derive(Clone, Copy, Debug, PartialEq, Eq, Error)]
 pub enum DecFault {
     /// It isn't a sign, if there is one, and digits with at most one point among them.

@@ -6,7 +6,7 @@ use std::alloc::{AllocError, AllocFailed};
 use thiserror::Error;
 
 /// Why a text is no expression. Places are those of a token's first byte, counted from 0. The
-/// program doesn't print these texts, but its own: see `src/lines.rt` of ember_run.
+/// program doesn't print these texts, but its own: see `src/lines.rt` of ember_verdict.
 #[derive(Clone, Copy, Debug, PartialEq, Eq, Error)]
 pub enum ExprFault {
     /// The token at this place is wrong there; the text's length if the text ends too early.

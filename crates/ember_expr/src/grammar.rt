@@ -273,7 +273,7 @@ fn comparison(alloc: Global, scope: Scope, tokens: &[Token]) -> Result<(Tree, &[
 
 // How many `(` and `!` may be nested inside this one, if `depth_left` may be nested from this one
 // on. If none may, it is too deep. In the clauses `not` is the grammar's rule, as in
-// docs/FORMATS.md, and not the negation.
+// docs/use/FORMATS.md, and not the negation.
 fn one_deeper(depth_left: u32, place: u32) -> Result<u32, ExprFault>
     ensures rule { (scope : Scope) →
         MatchResult result (λ inner. deeper scope depth_left ≡ Some (not scope inner))

@@ -1,5 +1,5 @@
 // Outputs that take bytes. `WritesAtMost`, `WriteAppends` and `Appends` are words of Rattle's
-// library: docs/TRUST.md explains `Appends`, and `rt lemma NAME` prints their definitions.
+// library: docs/trust/TRUST.md explains `Appends`, and `rt lemma NAME` prints their definitions.
 ghost use Rattle.std.specs.Prelude.{◌≡◌, ◌<◌, ◌≤◌, List, ℕ, length, IfOk, OnOk, OnErr};
 ghost use Rattle.std.specs.declared.option.Option.{Option};
 ghost use Rattle.std.specs.Io.{WritesAtMost};

@@ -7,7 +7,7 @@ use std::alloc::AllocError;
 use thiserror::Error;
 
 /// The triangles of a file aren't closed, or out-of-memory. The program doesn't print these texts,
-/// but its own: see `src/lines.rt` of ember_run.
+/// but its own: see `src/lines.rt` of ember_verdict.
 #[derive(Clone, Copy, Debug, PartialEq, Eq, Error)]
 pub enum MeshFault {
     /// This edge is the least that occurs more often than its reverse.

@@ -4,7 +4,7 @@ use thiserror::Error;
 
 /// The first fault of a file, with its line, or out-of-memory. A line that is joined from several
 /// has the number of the first of them, from 1. The program doesn't print these texts, but its own:
-/// see `src/lines.rt` of ember_run.
+/// see `src/lines.rt` of ember_verdict.
 #[derive(Clone, Copy, Debug, PartialEq, Eq, Error)]
 pub enum ObjFault {
     /// A vertex has fewer than three coordinates, or the index of a reference isn't a number.

@@ -165,7 +165,7 @@ impl Table {
 ///
 /// A joined line has the number of its first physical line, from 1. The fault is that of the first
 /// line with one; if several apply to it, the first by the table "Faults" of the OBJ profile in
-/// `docs/FORMATS.md`. A line that isn't joined from several isn't copied. There are at most 2^28
+/// `docs/use/FORMATS.md`. A line that isn't joined from several isn't copied. There are at most 2^28
 /// bytes.
 #[tactic(auto, using(crate::proofs::Faults::after_fault))]
 pub fn read_obj(alloc: Global, bytes: &[u8], places: u8, mesh: u32) -> Result<Soup, ObjFault>

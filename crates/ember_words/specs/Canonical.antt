@@ -1,5 +1,5 @@
 -- The canonical spelling of a command line: the command's name, its options in the order of the
--- list of commands in docs/FORMATS.md ("The command line"), then the file names or BOXES
+-- list of commands in docs/use/FORMATS.md ("The command line"), then the file names or BOXES
 use Rattle.std.specs.Prelude.{◌≡◌, ◌<◌, ◌-◌, ◌^◌, length, ⊤, ℕ, Bool, false, codes, List, [], ◌∷◌, ◌++◌, Option, Some, None, if◌then◌else◌}
 use Rattle.clap.specs.Walk.{Text}
 use Rattle.ember_words.specs.declared.command.Command.{Command}

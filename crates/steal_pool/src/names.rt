@@ -15,7 +15,7 @@
 // This is sound: `run_alone_named` and `run_named` are proved for every `K`, so also for the `K`
 // whose names mean what that `Invariants.antt` says. `Brand` is the toolchain's name for this `K`
 // at one call. No argument and no result of these two functions has a type that depends on `K`, so
-// no value that was made under one meaning is read under another. See docs/TRUST.md, "What is
+// no value that was made under one meaning is read under another. See docs/trust/TRUST.md, "What is
 // assumed".
 //
 // The compiler wants `Brand` to have the names, as any `K`, so it has impls below. Their meanings
