@@ -1,5 +1,7 @@
 -- Signed code that does not overflow gives the integer that its formula means.
-use Rattle.std.proofs.Common.{◌≡◌, ℕ, zero, suc, ◌+◌, ◌*◌, ◌^◌, refl, sym, ap, ◌∙◌, subst, arith, Bool, true, false, T, ltb, leb, leb→le, List, [], ◌∷◌, ℤ, pos, ◌+ℤ◌, ◌-ℤ◌, ◌*ℤ◌, neg_ℤ, unsigned_abs, SFits, to_z, of_z, to_z-of_z, le_refl}
+use Rattle.std.proofs.Common.{◌≡◌, ℕ, zero, suc, ◌+◌, ◌*◌, ◌^◌, refl, sym, ap, ◌∙◌, subst, arith, Bool, true, false, T}
+use Rattle.std.proofs.Common.{ltb, leb, leb→le, List, [], ◌∷◌, ℤ, pos, ◌+ℤ◌, ◌-ℤ◌, ◌*ℤ◌, neg_ℤ, unsigned_abs, SFits}
+use Rattle.std.proofs.Common.{to_z, of_z, to_z-of_z, le_refl}
 use mir.Syntax.{Width, w64, w128}
 use mir.Val.{hbits}
 use Rattle.ember_algebra.specs.Size.{Small}
@@ -84,7 +86,8 @@ small_at done i = small_zero 0
 small_at (p & ps) zero = p
 small_at (p & ps) (suc i) = small_at ps i
 
-sound : (ms : List ℕ) (env : List ℤ) → ((i : ℕ) → Small (limit ms i) (at env i)) → (e : Code) → T (fit ms e) → (run env e ≡ meant env e) × Small (bound ms e) (meant env e)
+sound : (ms : List ℕ) (env : List ℤ) → ((i : ℕ) → Small (limit ms i) (at env i)) → (e : Code) → T (fit ms e) →
+    (run env e ≡ meant env e) × Small (bound ms e) (meant env e)
 sound ms env a (input i) t = (refl, a i)
 sound ms env a (number z) t = (refl, record { small = le_refl (unsigned_abs z) })
 sound ms env a (e ⊞ f) t =

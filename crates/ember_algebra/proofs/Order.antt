@@ -1,5 +1,6 @@
 -- Order and signs of products of integers.
-use Rattle.std.proofs.Common.{◌≡◌, ◌≢◌, ◌⊎◌, ⊎_elim, inl, inr, ℕ, zero, suc, ◌<◌, refl, sym, ap, ◌∙◌, arith, ℤ, pos, negsuc, ◌+ℤ◌, ◌-ℤ◌, ◌*ℤ◌, neg_ℤ, ◌<ℤ◌, ◌≤ℤ◌, mul-pos}
+use Rattle.std.proofs.Common.{◌≡◌, ◌≢◌, ◌⊎◌, ⊎_elim, inl, inr, ℕ, zero, suc, ◌<◌, refl, sym, ap, ◌∙◌, arith, ℤ, pos}
+use Rattle.std.proofs.Common.{negsuc, ◌+ℤ◌, ◌-ℤ◌, ◌*ℤ◌, neg_ℤ, ◌<ℤ◌, ◌≤ℤ◌, mul-pos}
 use borrow.Author.Differences.{ints}
 use Rattle.std.proofs.lemmas.Int.{by_lt_z}
 use Rattle.ember_algebra.specs.Size.{Small}
@@ -134,9 +135,11 @@ zero_from_sign (negsuc n) e = cc
 pub sign-mul : (a b : ℤ) → sign (a *ℤ b) ≡ sign a *ℤ sign b
 sign-mul a b =
     by_sign a
-    (λ p. by_sign b (λ q. rw (sign_pos p, sign_pos q, sign_pos (pos_mul p q))) (λ z. zero_right z) (λ q. rw (sign_pos p, sign_neg q, sign_neg (mul_pos_neg p q))))
+    (λ p. by_sign b (λ q. rw (sign_pos p, sign_pos q, sign_pos (pos_mul p q))) (λ z. zero_right z)
+    (λ q. rw (sign_pos p, sign_neg q, sign_neg (mul_pos_neg p q))))
     (λ z. zero_left z)
-    (λ p. by_sign b (λ q. rw (sign_neg p, sign_pos q, sign_neg (mul_neg_pos p q))) (λ z. zero_right z) (λ q. rw (sign_neg p, sign_neg q, sign_pos (mul_neg_neg p q))))
+    (λ p. by_sign b (λ q. rw (sign_neg p, sign_pos q, sign_neg (mul_neg_pos p q))) (λ z. zero_right z)
+    (λ q. rw (sign_neg p, sign_neg q, sign_pos (mul_neg_neg p q))))
   where
     zero_right : b ≡ pos 0 → sign (a *ℤ b) ≡ sign a *ℤ sign b
     zero_right z = rw z (ap sign (*ℤ-zero a) ∙ sym (*ℤ-zero (sign a)))
@@ -177,4 +180,12 @@ large_neg {m} {n} {a} {v} s l p = by a p
 pub cross_trans : (a c e : ℤ) {b d f : ℤ} → pos 0 <ℤ b → pos 0 <ℤ d → pos 0 <ℤ f → (a *ℤ d) <ℤ (c *ℤ b) → (c *ℤ f) <ℤ (e *ℤ d) → (a *ℤ f) <ℤ (e *ℤ b)
 cross_trans a c e {b} {d} {f} pb pd pf h k =
     let x = mul_lt pf h in let y = mul_lt pb k in
-    cancel_lt pd (omega (arith, linear, x, y, solve 3 (λ d a f. d ⊗ (a ⊗ f) ≈ f ⊗ (a ⊗ d)) cancels d a f, solve 3 (λ f c b. f ⊗ (c ⊗ b) ≈ b ⊗ (c ⊗ f)) cancels f c b, solve 3 (λ d e b. b ⊗ (e ⊗ d) ≈ d ⊗ (e ⊗ b)) cancels d e b))
+    cancel_lt pd (omega (
+      arith,
+      linear,
+      x,
+      y,
+      solve 3 (λ d a f. d ⊗ (a ⊗ f) ≈ f ⊗ (a ⊗ d)) cancels d a f,
+      solve 3 (λ f c b. f ⊗ (c ⊗ b) ≈ b ⊗ (c ⊗ f)) cancels f c b,
+      solve 3 (λ d e b. b ⊗ (e ⊗ d) ≈ d ⊗ (e ⊗ b)) cancels d e b,
+    ))

@@ -23,11 +23,14 @@ may_h hu hv hw d = not (is_nil d) and not (is_nil hu and is_nil hv and is_nil hw
 
 abbrev pub may_f : Sign → Sign → Sign → Sign → Sign → Sign → Sign → Bool
 may_f hu hv hw u v t n =
-    zero_sum (times hu v) (times hv t) (times hw u) and level_if_null hu hv u and level_if_null hv hw v and level_if_null hw hu t and (is_nil u ⇒ is_nil n) and (is_nil v ⇒ is_nil n) and (is_nil t ⇒ is_nil n) and sum3 u v t n
+    zero_sum (times hu v) (times hv t) (times hw u) and level_if_null hu hv u and level_if_null hv hw v and
+    level_if_null hw hu t and (is_nil u ⇒ is_nil n) and (is_nil v ⇒ is_nil n) and (is_nil t ⇒ is_nil n) and sum3 u v t
+    n
 
 abbrev pub may_both : Sign → Sign → Sign → Sign → Sign → Sign → Sign → Sign → Sign → Sign → Bool
 may_both hu hv hw d uf vf tf ug vg tg =
-    may_sum (times uf vg) (flip (times ug vf)) (times d hv) and may_sum (times vf tg) (flip (times vg tf)) (times d hw) and may_sum (times tf ug) (flip (times tg uf)) (times d hu)
+    may_sum (times uf vg) (flip (times ug vf)) (times d hv) and may_sum (times vf tg) (flip (times vg tf)) (times d hw)
+    and may_sum (times tf ug) (flip (times tg uf)) (times d hu)
 
 -- the two sides of the law
 abbrev pub left : Sign → Sign → Sign → Sign → Sign → Sign → Sign → Sign → Sign → ℤ
@@ -39,7 +42,8 @@ right hu hv hw uf vf tf ug vg tg = edge hu hv uf ug +ℤ edge hv hw vf vg +ℤ e
 -- one direction's signs after the other's, so that what the first rules out is not tried
 abbrev third : Sign → Sign → Sign → Sign → Sign → Sign → Sign → Sign → Sign → Sign → Sign → Sign → Bool
 third hu hv hw d uf vf tf nf ug vg tg ng =
-    given (may_f hu hv hw ug vg tg ng and may_both hu hv hw d uf vf tf ug vg tg) (λ e. same_z (left d uf vf tf nf ug vg tg ng) (right hu hv hw uf vf tf ug vg tg))
+    given (may_f hu hv hw ug vg tg ng and may_both hu hv hw d uf vf tf ug vg tg)
+    (λ e. same_z (left d uf vf tf nf ug vg tg ng) (right hu hv hw uf vf tf ug vg tg))
 
 abbrev second : Sign → Sign → Sign → Sign → Sign → Sign → Sign → Sign → Bool
 second hu hv hw d uf vf tf nf =
@@ -53,9 +57,15 @@ all_first : (hu hv hw d : Sign) → T (first hu hv hw d)
 all_first = signs 4 (λ hu hv hw d. first hu hv hw d) tt
 
 -- for all signs that the identities allow, both sides of the quadrant law are equal
-pub quadrant_law : (hu hv hw d uf vf tf nf ug vg tg ng : Sign) → T (may_h hu hv hw d) → T (may_f hu hv hw uf vf tf nf) → T (may_f hu hv hw ug vg tg ng and may_both hu hv hw d uf vf tf ug vg tg) → left d uf vf tf nf ug vg tg ng ≡ right hu hv hw uf vf tf ug vg tg
+pub quadrant_law : (hu hv hw d uf vf tf nf ug vg tg ng : Sign) → T (may_h hu hv hw d) → T (may_f hu hv hw uf vf tf nf) →
+    T (may_f hu hv hw ug vg tg ng and may_both hu hv hw d uf vf tf ug vg tg) →
+    left d uf vf tf nf ug vg tg ng ≡ right hu hv hw uf vf tf ug vg tg
 quadrant_law hu hv hw d uf vf tf nf ug vg tg ng p q r =
     let a = use_given (may_h hu hv hw d) (λ e. every 4 (λ uf vf tf nf. second hu hv hw d uf vf tf nf)) (all_first hu hv hw d) p in
-    let b = use_given (may_f hu hv hw uf vf tf nf) (λ e. every 4 (λ ug vg tg ng. third hu hv hw d uf vf tf nf ug vg tg ng)) (signs 4 (λ uf vf tf nf. second hu hv hw d uf vf tf nf) a uf vf tf nf) q in
-    let c = use_given (may_f hu hv hw ug vg tg ng and may_both hu hv hw d uf vf tf ug vg tg) (λ e. same_z (left d uf vf tf nf ug vg tg ng) (right hu hv hw uf vf tf ug vg tg)) (signs 4 (λ ug vg tg ng. third hu hv hw d uf vf tf nf ug vg tg ng) b ug vg tg ng) r in
+    let b = use_given (may_f hu hv hw uf vf tf nf)
+    (λ e. every 4 (λ ug vg tg ng. third hu hv hw d uf vf tf nf ug vg tg ng))
+    (signs 4 (λ uf vf tf nf. second hu hv hw d uf vf tf nf) a uf vf tf nf) q in
+    let c = use_given (may_f hu hv hw ug vg tg ng and may_both hu hv hw d uf vf tf ug vg tg)
+    (λ e. same_z (left d uf vf tf nf ug vg tg ng) (right hu hv hw uf vf tf ug vg tg))
+    (signs 4 (λ ug vg tg ng. third hu hv hw d uf vf tf nf ug vg tg ng) b ug vg tg ng) r in
     same_z_out (left d uf vf tf nf ug vg tg ng) (right hu hv hw uf vf tf ug vg tg) c

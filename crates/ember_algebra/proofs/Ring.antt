@@ -122,7 +122,13 @@ same_mono [] (j ∷ n) e = cc
 same_mono (i ∷ m) [] e = cc
 same_mono (i ∷ m) (j ∷ n) e = by (compare i j) refl (same_mono m n) e
   where
-    by : (o : Ordering) → compare i j ≡ o → (cmpM m n ≡ Ordering.eq → m ≡ n) → elim o [ Ordering.lt ↦ by_length m n Ordering.lt | Ordering.eq ↦ cmpM m n | Ordering.gt ↦ by_length m n Ordering.gt ] ≡ Ordering.eq → i ∷ m ≡ j ∷ n
+    by : (o : Ordering) → compare i j ≡ o → (cmpM m n ≡ Ordering.eq → m ≡ n) →
+        elim o [
+          | Ordering.lt ↦ by_length m n Ordering.lt
+          | Ordering.eq ↦ cmpM m n
+          | Ordering.gt ↦ by_length m n
+              Ordering.gt
+        ] ≡ Ordering.eq → i ∷ m ≡ j ∷ n
     by Ordering.lt p r q = let e : Ordering.lt ≡ Ordering.eq = same_length m n Ordering.lt q in cc
     by Ordering.eq p r q =
         let a : i ≡ j = eqb→eq i j (subst (λ (o : Ordering). T (compare_is_eq o)) (sym p) tt) in let b : m ≡ n = r q in cc
@@ -131,11 +137,14 @@ same_mono (i ∷ m) (j ∷ n) e = by (compare i j) refl (same_mono m n) e
 left_comm : (a b c : ℤ) → a *ℤ (b *ℤ c) ≡ b *ℤ (a *ℤ c)
 left_comm a b c = sym (*ℤ_assoc a b c) ∙ ap (λ (z : ℤ). z *ℤ c) (*ℤ_comm a b) ∙ *ℤ_assoc b a c
 
-mono_slide : (env : List ℤ) (i : ℕ) (k : List ℕ → List ℕ) (x : ℤ) → ((n : List ℕ) → mono env (k n) ≡ x *ℤ mono env n) → (n : List ℕ) → mono env (slide i k n) ≡ (at env i *ℤ x) *ℤ mono env n
+mono_slide : (env : List ℤ) (i : ℕ) (k : List ℕ → List ℕ) (x : ℤ) → ((n : List ℕ) → mono env (k n) ≡ x *ℤ mono env n) →
+    (n : List ℕ) → mono env (slide i k n) ≡ (at env i *ℤ x) *ℤ mono env n
 mono_slide env i k x h [] = ap (λ (z : ℤ). at env i *ℤ z) (h []) ∙ sym (*ℤ_assoc (at env i) x (pos 1))
 mono_slide env i k x h (j ∷ n) = by (compare i j) (mono_slide env i k x h n)
   where
-    by : (o : Ordering) → mono env (slide i k n) ≡ (at env i *ℤ x) *ℤ mono env n → mono env (elim o [ Ordering.lt ↦ i ∷ k (j ∷ n) | Ordering.eq ↦ i ∷ k (j ∷ n) | Ordering.gt ↦ j ∷ slide i k n ]) ≡ (at env i *ℤ x) *ℤ mono env (j ∷ n)
+    by : (o : Ordering) → mono env (slide i k n) ≡ (at env i *ℤ x) *ℤ mono env n →
+        mono env (elim o [ Ordering.lt ↦ i ∷ k (j ∷ n) | Ordering.eq ↦ i ∷ k (j ∷ n) | Ordering.gt ↦ j ∷ slide i k n ])
+        ≡ (at env i *ℤ x) *ℤ mono env (j ∷ n)
     by Ordering.lt r = ap (λ (z : ℤ). at env i *ℤ z) (h (j ∷ n)) ∙ sym (*ℤ_assoc (at env i) x (mono env (j ∷ n)))
     by Ordering.eq r = ap (λ (z : ℤ). at env i *ℤ z) (h (j ∷ n)) ∙ sym (*ℤ_assoc (at env i) x (mono env (j ∷ n)))
     by Ordering.gt r = ap (λ (z : ℤ). at env j *ℤ z) r ∙ left_comm (at env j) (at env i *ℤ x) (mono env n)
@@ -149,11 +158,19 @@ value_put env (pos zero) m s = omega (arith, linear, zero-*ℤ (mono env m))
 value_put env (pos (suc c)) m s = refl
 value_put env (negsuc c) m s = refl
 
-value_place : (env : List ℤ) (c : ℤ) (m : List ℕ) (k : Sum → Sum) (v : ℤ) → ((s : Sum) → value env (k s) ≡ v +ℤ value env s) → (s : Sum) → value env (place c m k s) ≡ (c *ℤ mono env m +ℤ v) +ℤ value env s
+value_place : (env : List ℤ) (c : ℤ) (m : List ℕ) (k : Sum → Sum) (v : ℤ) →
+    ((s : Sum) → value env (k s) ≡ v +ℤ value env s) → (s : Sum) →
+    value env (place c m k s) ≡ (c *ℤ mono env m +ℤ v) +ℤ value env s
 value_place env c m k v h none = omega (arith, linear, h none)
 value_place env c m k v h (term d n s) = by (cmpM m n) refl (value_place env c m k v h s)
   where
-    by : (o : Ordering) → cmpM m n ≡ o → value env (place c m k s) ≡ (c *ℤ mono env m +ℤ v) +ℤ value env s → value env (elim o [ Ordering.lt ↦ term c m (k (term d n s)) | Ordering.eq ↦ put (c +ℤ d) m (k s) | Ordering.gt ↦ term d n (place c m k s) ]) ≡ (c *ℤ mono env m +ℤ v) +ℤ value env (term d n s)
+    by : (o : Ordering) → cmpM m n ≡ o → value env (place c m k s) ≡ (c *ℤ mono env m +ℤ v) +ℤ value env s →
+        value env (elim o [
+          | Ordering.lt ↦ term c m (k (term d n s))
+          | Ordering.eq ↦ put (c +ℤ d) m (k s)
+          | Ordering.gt ↦
+              term d n (place c m k s)
+        ]) ≡ (c *ℤ mono env m +ℤ v) +ℤ value env (term d n s)
     by Ordering.lt p r = omega (arith, linear, h (term d n s))
     by Ordering.eq p r =
         omega (arith, linear, value_put env (c +ℤ d) m (k s), +ℤ-*ℤ c d (mono env m), ap (λ (l : List ℕ). d *ℤ mono env l) (same_mono m n p), h s)
@@ -170,7 +187,8 @@ swap_inner c m d n =
 value_scale : (env : List ℤ) (c : ℤ) (m : List ℕ) (s : Sum) → value env (scale c m s) ≡ (c *ℤ mono env m) *ℤ value env s
 value_scale env c m none = sym (*ℤ-zero (c *ℤ mono env m))
 value_scale env c m (term d n s) =
-    let a : (c *ℤ d) *ℤ mono env (mulM m n) ≡ (c *ℤ mono env m) *ℤ (d *ℤ mono env n) = ap (λ (z : ℤ). (c *ℤ d) *ℤ z) (mono_mul env m n) ∙ swap_inner c (mono env m) d (mono env n) in
+    let a : (c *ℤ d) *ℤ mono env (mulM m n) ≡ (c *ℤ mono env m) *ℤ (d *ℤ mono env n) =
+    ap (λ (z : ℤ). (c *ℤ d) *ℤ z) (mono_mul env m n) ∙ swap_inner c (mono env m) d (mono env n) in
     omega (arith, linear, a, value_scale env c m s, *ℤ-+ℤ (c *ℤ mono env m) (d *ℤ mono env n) (value env s))
 
 value_mul : (env : List ℤ) (p q : Sum) → value env (mulS p q) ≡ value env p *ℤ value env q

@@ -1,5 +1,6 @@
 -- What follows from the signs of integers, by trying each.
-use Rattle.std.proofs.Common.{◌≡◌, ◌≢◌, ℕ, zero, suc, refl, sym, ap, ◌∙◌, arith, Bool, true, false, not, T, eqb, eqb→eq, ℤ, pos, negsuc, ◌+ℤ◌, ◌-ℤ◌, ◌*ℤ◌, neg_ℤ, ◌<ℤ◌}
+use Rattle.std.proofs.Common.{◌≡◌, ◌≢◌, ℕ, zero, suc, refl, sym, ap, ◌∙◌, arith, Bool, true, false, not, T, eqb, eqb→eq}
+use Rattle.std.proofs.Common.{ℤ, pos, negsuc, ◌+ℤ◌, ◌-ℤ◌, ◌*ℤ◌, neg_ℤ, ◌<ℤ◌}
 use borrow.Author.Differences.{ints}
 use lib.IntN.{*ℤ-zero, zero-*ℤ}
 use Rattle.ember_algebra.specs.Sign.{Sign, Neg, Zero, Pos, sgn, flip, times, is_pos, is_neg, is_nil, same_sgn}
@@ -86,9 +87,13 @@ same_self Pos = tt
 pub sum_may : (a b : ℤ) → T (may_sum (sgn a) (sgn b) (sgn (a +ℤ b)))
 sum_may a b =
     by_sign a
-    (λ p. by_sign b (λ q. let r : pos 0 <ℤ (a +ℤ b) = omega (arith, linear) in rw (sgn_pos p, sgn_pos q, sgn_pos r) tt) (λ z. let r : pos 0 <ℤ (a +ℤ b) = omega (arith, linear) in rw (sgn_pos p, ap sgn z, sgn_pos r) tt) (λ q. rw (sgn_pos p, sgn_neg q) tt))
+    (λ p. by_sign b (λ q. let r : pos 0 <ℤ (a +ℤ b) = omega (arith, linear) in
+    rw (sgn_pos p, sgn_pos q, sgn_pos r) tt) (λ z. let r : pos 0 <ℤ (a +ℤ b) = omega (arith, linear) in
+    rw (sgn_pos p, ap sgn z, sgn_pos r) tt) (λ q. rw (sgn_pos p, sgn_neg q) tt))
     (λ z. let e : a +ℤ b ≡ b = omega (arith, linear) in rw (ap sgn z, ap sgn e) (same_self (sgn b)))
-    (λ p. by_sign b (λ q. rw (sgn_neg p, sgn_pos q) tt) (λ z. let r : (a +ℤ b) <ℤ pos 0 = omega (arith, linear) in rw (sgn_neg p, ap sgn z, sgn_neg r) tt) (λ q. let r : (a +ℤ b) <ℤ pos 0 = omega (arith, linear) in rw (sgn_neg p, sgn_neg q, sgn_neg r) tt))
+    (λ p. by_sign b (λ q. rw (sgn_neg p, sgn_pos q) tt) (λ z. let r : (a +ℤ b) <ℤ pos 0 = omega (arith, linear) in
+    rw (sgn_neg p, ap sgn z, sgn_neg r) tt) (λ q. let r : (a +ℤ b) <ℤ pos 0 = omega (arith, linear) in
+    rw (sgn_neg p, sgn_neg q, sgn_neg r) tt))
 
 -- ---- each sign in turn
 infixr 4 ◌⇒◌
@@ -196,7 +201,8 @@ products_may a b c d e k h =
     rw (← sgn-mul a b, ← sgn-mul c d, ← sgn-mul e k, ← sgn-neg (c *ℤ d), ← h) (sum_may (a *ℤ b) (neg_ℤ (c *ℤ d)))
 
 -- the signs of three products that add up to 0 fit together
-pub zero_sum_from : (a b c d e k : ℤ) → a *ℤ b +ℤ c *ℤ d +ℤ e *ℤ k ≡ pos 0 → T (zero_sum (times (sgn a) (sgn b)) (times (sgn c) (sgn d)) (times (sgn e) (sgn k)))
+pub zero_sum_from : (a b c d e k : ℤ) → a *ℤ b +ℤ c *ℤ d +ℤ e *ℤ k ≡ pos 0 →
+    T (zero_sum (times (sgn a) (sgn b)) (times (sgn c) (sgn d)) (times (sgn e) (sgn k)))
 zero_sum_from a b c d e k h =
     let m : neg_ℤ (e *ℤ k) ≡ a *ℤ b +ℤ c *ℤ d = omega (arith, linear) in
     rw (← sgn-mul a b, ← sgn-mul c d, ← sgn-mul e k, ← sgn-neg (e *ℤ k), m) (sum_may (a *ℤ b) (c *ℤ d))

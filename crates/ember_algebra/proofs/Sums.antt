@@ -1,5 +1,6 @@
 -- Laws of sums over lists, and: lists in which each element occurs as often have equal sums.
-use Rattle.std.proofs.Common.{◌≡◌, ℕ, ◌+◌, ◌<◌, Bool, true, false, cond, List, [], ◌∷◌, ◌++◌, map, filter, length, take, get_or, ℤ, pos, ◌+ℤ◌, ◌-ℤ◌, ◌*ℤ◌, neg_ℤ, refl, sym, ap, ◌∙◌, arith}
+use Rattle.std.proofs.Common.{◌≡◌, ℕ, ◌+◌, ◌<◌, Bool, true, false, cond, List, [], ◌∷◌, ◌++◌, map, filter, length, take}
+use Rattle.std.proofs.Common.{get_or, ℤ, pos, ◌+ℤ◌, ◌-ℤ◌, ◌*ℤ◌, neg_ℤ, refl, sym, ap, ◌∙◌, arith}
 use Rattle.std.specs.List.{All, flat_map, count_by}
 use Rattle.std.proofs.lemmas.List.{take_more}
 use Rattle.std.proofs.lemmas.List.Elements.{All-head, All-tail}
@@ -26,7 +27,8 @@ total-flat_map f g (x ∷ xs) =
     total-append f (g x) (flat_map g xs) ∙ ap (λ (z : ℤ). total f (g x) +ℤ z) (total-flat_map f g xs)
 
 -- the sum over one member more is greater by the value at that member
-pub total-take_more : {U : Type 0} (f : U → ℤ) (xs : List U) (i : ℕ) (d : U) → i < length xs → total f (take (i + 1) xs) ≡ total f (take i xs) +ℤ f (get_or xs i d)
+pub total-take_more : {U : Type 0} (f : U → ℤ) (xs : List U) (i : ℕ) (d : U) → i < length xs →
+    total f (take (i + 1) xs) ≡ total f (take i xs) +ℤ f (get_or xs i d)
 total-take_more f xs i d lt =
     ap (total f) (take_more xs i d lt) ∙ total-append f (take i xs) (get_or xs i d ∷ []) ∙ omega (arith, linear)
 
@@ -36,7 +38,9 @@ pub total-filter : {U : Type 0} (f : U → ℤ) (p : U → Bool) (xs : List U) �
 total-filter f p [] = refl
 total-filter f p (x ∷ xs) = by (p x) (total-filter f p xs)
   where
-    by : (b : Bool) → total f (filter p xs) ≡ total (λ x. cond (p x) (f x) (pos 0)) xs → total f (cond b (x ∷ filter p xs) (filter p xs)) ≡ cond b (f x) (pos 0) +ℤ total (λ x. cond (p x) (f x) (pos 0)) xs
+    by : (b : Bool) → total f (filter p xs) ≡ total (λ x. cond (p x) (f x) (pos 0)) xs →
+        total f (cond b (x ∷ filter p xs) (filter p xs)) ≡ cond b (f x) (pos 0) +ℤ total (λ x. cond (p x) (f x) (pos 0))
+        xs
     by true e = ap (λ (z : ℤ). f x +ℤ z) e
     by false e = omega (arith, linear, e)
 
@@ -45,7 +49,9 @@ pub total-count_by : {U : Type 0} (p : U → Bool) (xs : List U) → total (λ x
 total-count_by p [] = refl
 total-count_by p (x ∷ xs) = by (p x) (sum_by-cons (λ x. cond (p x) 1 0) x xs) (total-count_by p xs)
   where
-    by : (b : Bool) → count_by p (x ∷ xs) ≡ cond b 1 0 + count_by p xs → total (λ x. cond (p x) (pos 1) (pos 0)) xs ≡ pos (count_by p xs) → cond b (pos 1) (pos 0) +ℤ total (λ x. cond (p x) (pos 1) (pos 0)) xs ≡ pos (count_by p (x ∷ xs))
+    by : (b : Bool) → count_by p (x ∷ xs) ≡ cond b 1 0 + count_by p xs →
+        total (λ x. cond (p x) (pos 1) (pos 0)) xs ≡ pos (count_by p xs) →
+        cond b (pos 1) (pos 0) +ℤ total (λ x. cond (p x) (pos 1) (pos 0)) xs ≡ pos (count_by p (x ∷ xs))
     by true c e = ap (λ (z : ℤ). pos 1 +ℤ z) e ∙ ap pos (sym c)
     by false c e = ap (λ (z : ℤ). pos 0 +ℤ z) e ∙ ap pos (sym c)
 
@@ -99,12 +105,14 @@ occurrences-count_by same x (y ∷ ys) =
     ap (λ (n : ℕ). cond (same x y) 1 0 + n) (occurrences-count_by same x ys) ∙ sym (sum_by-cons (λ y. cond (same x y) 1 0) y ys)
 
 -- a value occurs in two lists together as often as in the first and in the second
-pub occurrences-append : {U : Type 0} (same : U → U → Bool) (x : U) (ys zs : List U) → occurrences same x (ys ++ zs) ≡ occurrences same x ys + occurrences same x zs
+pub occurrences-append : {U : Type 0} (same : U → U → Bool) (x : U) (ys zs : List U) →
+    occurrences same x (ys ++ zs) ≡ occurrences same x ys + occurrences same x zs
 occurrences-append same x [] zs = omega arith
 occurrences-append same x (y ∷ ys) zs = let r = occurrences-append same x ys zs in omega (arith, r)
 
 -- if g is undone by h, the element x occurs under g as often as h x before
-pub occurrences-map : {U : Type 0} (same : U → U → Bool) (g h : U → U) → ((x y : U) → same x (g y) ≡ same (h x) y) → (x : U) (ys : List U) → occurrences same x (map g ys) ≡ occurrences same (h x) ys
+pub occurrences-map : {U : Type 0} (same : U → U → Bool) (g h : U → U) → ((x y : U) → same x (g y) ≡ same (h x) y) →
+    (x : U) (ys : List U) → occurrences same x (map g ys) ≡ occurrences same (h x) ys
 occurrences-map same g h e x [] = refl
 occurrences-map same g h e x (y ∷ ys) =
     rw (e x y) (ap (λ (n : ℕ). cond (same (h x) y) 1 0 + n) (occurrences-map same g h e x ys))
@@ -119,7 +127,9 @@ module _ {U : Type 0} (same : U → U → Bool) (eq : IsEquality U same) where
   total-without f z [] h = absurd (omega arith)
   total-without f z (x ∷ xs) h = by (same z x) refl h (total-without f z xs)
     where
-      by : (b : Bool) → same z x ≡ b → 0 < cond b 1 0 + occurrences same z xs → (0 < occurrences same z xs → total f xs ≡ f z +ℤ total f (without z xs)) → f x +ℤ total f xs ≡ f z +ℤ total f (elim b [ true ↦ xs | false ↦ x ∷ without z xs ])
+      by : (b : Bool) → same z x ≡ b → 0 < cond b 1 0 + occurrences same z xs →
+          (0 < occurrences same z xs → total f xs ≡ f z +ℤ total f (without z xs)) →
+          f x +ℤ total f xs ≡ f z +ℤ total f (elim b [ true ↦ xs | false ↦ x ∷ without z xs ])
       by true e h t = ap (λ (u : U). f u +ℤ total f xs) (sym (eq.sound z x e))
       by false e h t = let r = t (omega arith) in omega (arith, linear, r)
 
@@ -127,7 +137,10 @@ module _ {U : Type 0} (same : U → U → Bool) (eq : IsEquality U same) where
   occurrences-without w z [] h = absurd (omega arith)
   occurrences-without w z (x ∷ xs) h = by (same z x) refl h (occurrences-without w z xs)
     where
-      by : (b : Bool) → same z x ≡ b → 0 < cond b 1 0 + occurrences same z xs → (0 < occurrences same z xs → occurrences same w xs ≡ cond (same w z) 1 0 + occurrences same w (without z xs)) → cond (same w x) 1 0 + occurrences same w xs ≡ cond (same w z) 1 0 + occurrences same w (elim b [ true ↦ xs | false ↦ x ∷ without z xs ])
+      by : (b : Bool) → same z x ≡ b → 0 < cond b 1 0 + occurrences same z xs →
+          (0 < occurrences same z xs → occurrences same w xs ≡ cond (same w z) 1 0 + occurrences same w (without z xs)) →
+          cond (same w x) 1 0 + occurrences same w xs ≡ cond (same w z) 1 0
+          + occurrences same w (elim b [ true ↦ xs | false ↦ x ∷ without z xs ])
       by true e h t = ap (λ (u : U). cond (same w u) 1 0 + occurrences same w xs) (sym (eq.sound z x e))
       by false e h t = let r = t (omega arith) in omega (arith, r)
 
@@ -144,7 +157,9 @@ module _ {U : Type 0} (same : U → U → Bool) (eq : IsEquality U same) where
       ap (λ (t : ℤ). f x +ℤ t) rest ∙ sym (total-without f x ys some)
 
   -- if each element occurs as often as its image under turn, a term that turn negates adds up to 0
-  pub total_odd : (f : U → ℤ) (turn : U → U) → ((x : U) → f (turn x) ≡ neg_ℤ (f x)) → ((x y : U) → same x (turn y) ≡ same (turn x) y) → (xs : List U) → ((z : U) → occurrences same z xs ≡ occurrences same (turn z) xs) → total f xs ≡ pos 0
+  pub total_odd : (f : U → ℤ) (turn : U → U) → ((x : U) → f (turn x) ≡ neg_ℤ (f x)) →
+      ((x y : U) → same x (turn y) ≡ same (turn x) y) → (xs : List U) →
+      ((z : U) → occurrences same z xs ≡ occurrences same (turn z) xs) → total f xs ≡ pos 0
   total_odd f turn odd swaps xs h =
       let e = total_same_occurrences f xs (map turn xs) (λ z. h z ∙ sym (occurrences-map same turn turn swaps z xs)) in
       let r = total-map f turn xs ∙ total_same (λ x. f (turn x)) (λ x. neg_ℤ (f x)) odd xs ∙ total-neg f xs in

@@ -25,17 +25,25 @@ difference_of_squares = solve 2 (λ a b. (a ⊕ b) ⊗ (a ⊖ b) ≈ a ⊗ a ⊖
 power_and_one : (m z : ℤ) → (m *ℤ m *ℤ m *ℤ z +ℤ pos 1) *ℤ m ≡ m *ℤ m *ℤ (m *ℤ z *ℤ m) +ℤ m
 power_and_one = solve 2 (λ m z. (m ⊗ m ⊗ m ⊗ z ⊕ num (pos 1)) ⊗ m ≈ m ⊗ m ⊗ (m ⊗ z ⊗ m) ⊕ m) cancels
 
-cube_and_square : (m x z : ℤ) → (m *ℤ x +ℤ pos 1) *ℤ (m *ℤ m) *ℤ (m *ℤ m *ℤ m *ℤ z +ℤ pos 1) ≡ (m *ℤ m *ℤ m *ℤ x +ℤ m *ℤ m) +ℤ m *ℤ m *ℤ m *ℤ m *ℤ m *ℤ z *ℤ (pos 1 +ℤ x *ℤ m)
+cube_and_square : (m x z : ℤ) → (m *ℤ x +ℤ pos 1) *ℤ (m *ℤ m) *ℤ (m *ℤ m *ℤ m *ℤ z +ℤ pos 1)
+    ≡ (m *ℤ m *ℤ m *ℤ x +ℤ m *ℤ m) +ℤ m *ℤ m *ℤ m *ℤ m *ℤ m *ℤ z *ℤ (pos 1 +ℤ x *ℤ m)
 cube_and_square =
-    solve 3 (λ m x z. (m ⊗ x ⊕ num (pos 1)) ⊗ (m ⊗ m) ⊗ (m ⊗ m ⊗ m ⊗ z ⊕ num (pos 1)) ≈ (m ⊗ m ⊗ m ⊗ x ⊕ m ⊗ m) ⊕ m ⊗ m ⊗ m ⊗ m ⊗ m ⊗ z ⊗ (num (pos 1) ⊕ x ⊗ m)) cancels
+    solve 3 (λ m x z. (m ⊗ x ⊕ num (pos 1)) ⊗ (m ⊗ m) ⊗ (m ⊗ m ⊗ m ⊗ z ⊕ num (pos 1)) ≈ (m ⊗ m ⊗ m ⊗ x ⊕ m ⊗ m) ⊕ m ⊗ m
+    ⊗ m ⊗ m ⊗ m ⊗ z ⊗ (num (pos 1) ⊕ x ⊗ m)) cancels
 
 -- with a definition's twin on expressions: the value of a fourth plane at the meet of three is a determinant of four rows
 abbrev Det4 : Expr → Expr → Expr → Expr → Expr → Expr → Expr → Expr → Expr → Expr → Expr → Expr → Expr → Expr → Expr → Expr → Expr
 Det4 a b c d e f g h i j k l m n o p = a ⊗ Det3 f g h j k l n o p ⊖ b ⊗ Det3 e g h i k l m o p ⊕ c ⊗ Det3 e f h i j l m n p ⊖ d ⊗ Det3 e f g i j k m n o
 
-fourth_plane : (a1 b1 c1 d1 a2 b2 c2 d2 a3 b3 c3 d3 a b c d : ℤ) → a *ℤ det3 d1 b1 c1 d2 b2 c2 d3 b3 c3 +ℤ b *ℤ det3 a1 d1 c1 a2 d2 c2 a3 d3 c3 +ℤ c *ℤ det3 a1 b1 d1 a2 b2 d2 a3 b3 d3 -ℤ d *ℤ det3 a1 b1 c1 a2 b2 c2 a3 b3 c3 ≡ neg_ℤ (a1 *ℤ det3 b2 c2 d2 b3 c3 d3 b c d -ℤ b1 *ℤ det3 a2 c2 d2 a3 c3 d3 a c d +ℤ c1 *ℤ det3 a2 b2 d2 a3 b3 d3 a b d -ℤ d1 *ℤ det3 a2 b2 c2 a3 b3 c3 a b c)
+fourth_plane : (a1 b1 c1 d1 a2 b2 c2 d2 a3 b3 c3 d3 a b c d : ℤ) →
+    a *ℤ det3 d1 b1 c1 d2 b2 c2 d3 b3 c3 +ℤ b *ℤ det3 a1 d1 c1 a2 d2 c2 a3 d3 c3 +ℤ c *ℤ det3 a1 b1 d1 a2 b2 d2 a3 b3 d3
+    -ℤ d *ℤ det3 a1 b1 c1 a2 b2 c2 a3 b3 c3 ≡ neg_ℤ
+    (a1 *ℤ det3 b2 c2 d2 b3 c3 d3 b c d -ℤ b1 *ℤ det3 a2 c2 d2 a3 c3 d3 a c d +ℤ c1 *ℤ det3 a2 b2 d2 a3 b3 d3 a b d -ℤ d1
+    *ℤ det3 a2 b2 c2 a3 b3 c3 a b c)
 fourth_plane =
-    solve 16 (λ a1 b1 c1 d1 a2 b2 c2 d2 a3 b3 c3 d3 a b c d. a ⊗ Det3 d1 b1 c1 d2 b2 c2 d3 b3 c3 ⊕ b ⊗ Det3 a1 d1 c1 a2 d2 c2 a3 d3 c3 ⊕ c ⊗ Det3 a1 b1 d1 a2 b2 d2 a3 b3 d3 ⊖ d ⊗ Det3 a1 b1 c1 a2 b2 c2 a3 b3 c3 ≈ neg (Det4 a1 b1 c1 d1 a2 b2 c2 d2 a3 b3 c3 d3 a b c d)) cancels
+    solve 16 (λ a1 b1 c1 d1 a2 b2 c2 d2 a3 b3 c3 d3 a b c d. a ⊗ Det3 d1 b1 c1 d2 b2 c2 d3 b3 c3 ⊕ b ⊗ Det3 a1 d1 c1 a2
+    d2 c2 a3 d3 c3 ⊕ c ⊗ Det3 a1 b1 d1 a2 b2 d2 a3 b3 d3 ⊖ d ⊗ Det3 a1 b1 c1 a2 b2 c2 a3 b3 c3 ≈ neg
+    (Det4 a1 b1 c1 d1 a2 b2 c2 d2 a3 b3 c3 d3 a b c d)) cancels
 
 -- ---- `ring`: the same at one place, with the variables by number
 square_of_sum : (a b : ℤ) → (a +ℤ b) *ℤ (a +ℤ b) ≡ a *ℤ a +ℤ pos 2 *ℤ (a *ℤ b) +ℤ b *ℤ b
@@ -54,7 +62,8 @@ cross_of_difference = vector_identity (vector ∷ vector ∷ []) (λ u v. crossE
 -- ---- `from_two`: an equation from two others, by their cofactors
 combined : (a b c d x y : ℤ) → a *ℤ x ≡ b *ℤ y → c *ℤ y ≡ d *ℤ x → (a *ℤ c) *ℤ (x *ℤ y) ≡ (b *ℤ d) *ℤ (x *ℤ y)
 combined a b c d x y h k =
-    from_two (c *ℤ y) (b *ℤ y) h k (solve 6 (λ a b c d x y. (a ⊗ c) ⊗ (x ⊗ y) ⊖ (b ⊗ d) ⊗ (x ⊗ y) ≈ (c ⊗ y) ⊗ (a ⊗ x ⊖ b ⊗ y) ⊕ (b ⊗ y) ⊗ (c ⊗ y ⊖ d ⊗ x)) cancels a b c d x y)
+    from_two (c *ℤ y) (b *ℤ y) h k (solve 6 (λ a b c d x y. (a ⊗ c) ⊗ (x ⊗ y) ⊖ (b ⊗ d) ⊗ (x ⊗ y) ≈ (c ⊗ y) ⊗
+    (a ⊗ x ⊖ b ⊗ y) ⊕ (b ⊗ y) ⊗ (c ⊗ y ⊖ d ⊗ x)) cancels a b c d x y)
 
 -- ---- `linear`, `expand`: inequalities with products
 cauchy : (a b c d : ℤ) → ((a *ℤ c +ℤ b *ℤ d) *ℤ (a *ℤ c +ℤ b *ℤ d)) ≤ℤ ((a *ℤ a +ℤ b *ℤ b) *ℤ (c *ℤ c +ℤ d *ℤ d))
@@ -84,7 +93,8 @@ opposites : (a b : ℤ) → T (same_sgn (sgn (neg_ℤ a *ℤ neg_ℤ b)) (sgn (a
 opposites a b = rw (sgn-mul (neg_ℤ a) (neg_ℤ b), sgn-mul a b, sgn-neg a, sgn-neg b) (flip_both (sgn a) (sgn b))
 
 -- ---- `sign-horner`, `Eventually`: a large number
-shifted_sign : {m n : ℕ} (v a b c : ℤ) → m < n → EachSmall m (v ∷ a ∷ b ∷ c ∷ []) → sign (horner (pos n) (pos 0) (v ∷ a ∷ b ∷ c ∷ [])) ≡ first_sign (v ∷ a ∷ b ∷ c ∷ [])
+shifted_sign : {m n : ℕ} (v a b c : ℤ) → m < n → EachSmall m (v ∷ a ∷ b ∷ c ∷ []) →
+    sign (horner (pos n) (pos 0) (v ∷ a ∷ b ∷ c ∷ [])) ≡ first_sign (v ∷ a ∷ b ∷ c ∷ [])
 shifted_sign v a b c l s = sign-horner (v ∷ a ∷ b ∷ c ∷ []) l s
 
 both_positive : {a b : ℤ} (v w : ℤ) → pos 0 <ℤ a → pos 0 <ℤ b → Eventually (λ n. (pos 0 <ℤ (a *ℤ pos n +ℤ v)) × (pos 0 <ℤ (b *ℤ pos n +ℤ w)))
@@ -97,10 +107,12 @@ minor_code = stored w128 (wide 0 ⊠ wide 3) ⊟ stored w128 (wide 1 ⊠ wide 2)
 minor_fits : {a b c d : ℤ} → Small (2 ^ 30) a → Small (2 ^ 30) b → Small (2 ^ 30) c → Small (2 ^ 30) d → SFits w128 (run (a ∷ b ∷ c ∷ d ∷ []) minor_code)
 minor_fits p q r s = no_overflow (p & q & r & s & done) w128 minor_code tt
 
-minor_exact : {a b c d : ℤ} → Small (2 ^ 30) a → Small (2 ^ 30) b → Small (2 ^ 30) c → Small (2 ^ 30) d → run (a ∷ b ∷ c ∷ d ∷ []) (stored w128 minor_code) ≡ det2 a b c d
+minor_exact : {a b c d : ℤ} → Small (2 ^ 30) a → Small (2 ^ 30) b → Small (2 ^ 30) c → Small (2 ^ 30) d →
+    run (a ∷ b ∷ c ∷ d ∷ []) (stored w128 minor_code) ≡ det2 a b c d
 minor_exact p q r s = exact (p & q & r & s & done) (stored w128 minor_code) tt
 
-minor_small : {a b c d : ℤ} → Small (2 ^ 30) a → Small (2 ^ 30) b → Small (2 ^ 30) c → Small (2 ^ 30) d → Small (2 ^ 61) (run (a ∷ b ∷ c ∷ d ∷ []) (stored w128 minor_code))
+minor_small : {a b c d : ℤ} → Small (2 ^ 30) a → Small (2 ^ 30) b → Small (2 ^ 30) c → Small (2 ^ 30) d →
+    Small (2 ^ 61) (run (a ∷ b ∷ c ∷ d ∷ []) (stored w128 minor_code))
 minor_small p q r s = bounded (p & q & r & s & done) (2 ^ 61) (stored w128 minor_code) tt
 
 -- ---- `total`: sums over lists

@@ -1,7 +1,8 @@
 -- Identities of vectors and tuples: `identity (vector ∷ vector ∷ []) (λ u v. dotE u v ≈ dotE v u) cancels`.
 use Rattle.std.proofs.Common.{◌≡◌, ℕ, ◌+◌, List, [], ◌∷◌, reverse, ℤ}
 use Rattle.ember_algebra.specs.Vector.{Vector, Tuple}
-use Rattle.ember_algebra.proofs.Ring.{Expr, var, ◌⊕◌, ◌⊖◌, ◌⊗◌, Equation, Meaning, cancelled_equation_holds, difference, Cancels, cancels, Sum, none, norm, eval, ring}
+use Rattle.ember_algebra.proofs.Ring.{Expr, var, ◌⊕◌, ◌⊖◌, ◌⊗◌, Equation, Meaning, cancelled_equation_holds, difference}
+use Rattle.ember_algebra.proofs.Ring.{Cancels, cancels, Sum, none, norm, eval, ring}
 
 pub data Shape : Type 0 where
   scalar : Shape

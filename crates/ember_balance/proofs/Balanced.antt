@@ -15,7 +15,9 @@ balanced-nil e = refl
 -- balanced triangles together with balanced triangles are balanced
 pub balanced-append : (ts us : List Tri) → IsBalanced ts → IsBalanced us → IsBalanced (ts ++ us)
 balanced-append ts us p q e =
-    ap (edge_count e) (edges_in-append ts us) ∙ occurrences-append same_edge e (edges_in ts) (edges_in us) ∙ (λ i. p e i + q e i) ∙ sym (occurrences-append same_edge (reversed e) (edges_in ts) (edges_in us)) ∙ sym (ap (edge_count (reversed e)) (edges_in-append ts us))
+    ap (edge_count e) (edges_in-append ts us) ∙ occurrences-append same_edge e (edges_in ts) (edges_in us)
+    ∙ (λ i. p e i + q e i) ∙ sym (occurrences-append same_edge (reversed e) (edges_in ts) (edges_in us))
+    ∙ sym (ap (edge_count (reversed e)) (edges_in-append ts us))
 
 -- ---- triangles of one mesh
 all_of_mesh : (m : ℕ) (ts : List Tri) → All (λ t. t.mesh ≡ m) ts → of_mesh m ts ≡ ts

@@ -1,5 +1,7 @@
 -- The numbers of edges: they are one only for one edge, and rise as edges do
-use Rattle.std.proofs.Common.{◌≡◌, ◌⊎◌, inl, inr, ℕ, ◌+◌, ◌*◌, ◌/◌, ◌%◌, ◌^◌, ◌<◌, Bool, true, false, ◌&&◌, ◌||◌, List, [], ◌∷◌, length, get_or, refl, sym, ap, subst, ◌∙◌, arith, SFits, to_z, of_z, zero, suc, ℤ, pos, negsuc, ◌-ℤ◌, ◌<ℤ◌, ◌≤ℤ◌}
+use Rattle.std.proofs.Common.{◌≡◌, ◌⊎◌, inl, inr, ℕ, ◌+◌, ◌*◌, ◌/◌, ◌%◌, ◌^◌, ◌<◌, Bool, true, false, ◌&&◌, ◌||◌, List}
+use Rattle.std.proofs.Common.{[], ◌∷◌, length, get_or, refl, sym, ap, subst, ◌∙◌, arith, SFits, to_z, of_z, zero, suc}
+use Rattle.std.proofs.Common.{ℤ, pos, negsuc, ◌-ℤ◌, ◌<ℤ◌, ◌≤ℤ◌}
 use borrow.Author.Differences.{ints}
 use mir.Syntax.{w32}
 use Rattle.std.proofs.lemmas.Nat.{same_from_place, div-mul-add, mod-mul-add}
@@ -43,7 +45,8 @@ edge_small {e} v = omega (arith, corner_small v.from, corner_small v.to)
 -- valid edges with one number are equal
 pub same_edges : {e f : Edge} → IsValidEdge e → IsValidEdge f → edge_number e ≡ edge_number f → e ≡ f
 same_edges {e} {f} v w h =
-    let p = same_from_place (corner_number e.from) (corner_number e.to) (corner_number f.from) (corner_number f.to) (2 ^ 36) (corner_small v.to) (corner_small w.to) h in
+    let p = same_from_place (corner_number e.from) (corner_number e.to) (corner_number f.from) (corner_number f.to)
+    (2 ^ 36) (corner_small v.to) (corner_small w.to) h in
     let from = same_corners v.from w.from p.0 in let to = same_corners v.to w.to p.1 in
     λ i. record { from = from i; to = to i }
 
@@ -58,21 +61,29 @@ first_difference x y r e = by (or_cases (is_negative (x -ℤ y)) (is_zero (x -�
 
 abbrev corner_precedes : Corner → Corner → Bool → Bool
 corner_precedes c d r =
-    is_negative (c.x -ℤ d.x) || (is_zero (c.x -ℤ d.x) && (is_negative (c.y -ℤ d.y) || (is_zero (c.y -ℤ d.y) && (is_negative (c.z -ℤ d.z) || (is_zero (c.z -ℤ d.z) && r)))))
+    is_negative (c.x -ℤ d.x) || (is_zero (c.x -ℤ d.x)
+    && (is_negative (c.y -ℤ d.y) || (is_zero (c.y -ℤ d.y)
+    && (is_negative (c.z -ℤ d.z) || (is_zero (c.z -ℤ d.z) && r)))))
 
-corners_rise : (c d : Corner) (r : Bool) → IsValidCorner c → IsValidCorner d → corner_precedes c d r ≡ true → (corner_number c < corner_number d) ⊎ ((corner_number c ≡ corner_number d) × (r ≡ true))
+corners_rise : (c d : Corner) (r : Bool) → IsValidCorner c → IsValidCorner d → corner_precedes c d r ≡ true →
+    (corner_number c < corner_number d) ⊎ ((corner_number c ≡ corner_number d) × (r ≡ true))
 corners_rise c d r v w e = by_x (first_difference c.x d.x _ e)
   where
-    by_z : digit c.x ≡ digit d.x → digit c.y ≡ digit d.y → (c.z <ℤ d.z) ⊎ ((c.z ≡ d.z) × (r ≡ true)) → (corner_number c < corner_number d) ⊎ ((corner_number c ≡ corner_number d) × (r ≡ true))
+    by_z : digit c.x ≡ digit d.x → digit c.y ≡ digit d.y → (c.z <ℤ d.z) ⊎ ((c.z ≡ d.z) × (r ≡ true)) →
+        (corner_number c < corner_number d) ⊎ ((corner_number c ≡ corner_number d) × (r ≡ true))
     by_z p q (inl l) = let k = digit_less v.z w.z l in inl (omega (arith, p, q, k))
     by_z p q (inr t) = let k = ap digit t.0 in inr (omega (arith, p, q, k), t.1)
 
-    by_y : digit c.x ≡ digit d.x → (c.y <ℤ d.y) ⊎ ((c.y ≡ d.y) × ((is_negative (c.z -ℤ d.z) || (is_zero (c.z -ℤ d.z) && r)) ≡ true)) → (corner_number c < corner_number d) ⊎ ((corner_number c ≡ corner_number d) × (r ≡ true))
+    by_y : digit c.x ≡ digit d.x → (c.y <ℤ d.y) ⊎
+        ((c.y ≡ d.y) × ((is_negative (c.z -ℤ d.z) || (is_zero (c.z -ℤ d.z) && r)) ≡ true)) →
+        (corner_number c < corner_number d) ⊎ ((corner_number c ≡ corner_number d) × (r ≡ true))
     by_y p (inl l) =
         let k = digit_less v.y w.y l in let z = digit_small v.z in inl (omega (arith, p, k, z))
     by_y p (inr t) = by_z p (ap digit t.0) (first_difference c.z d.z r t.1)
 
-    by_x : (c.x <ℤ d.x) ⊎ ((c.x ≡ d.x) × ((is_negative (c.y -ℤ d.y) || (is_zero (c.y -ℤ d.y) && (is_negative (c.z -ℤ d.z) || (is_zero (c.z -ℤ d.z) && r)))) ≡ true)) → (corner_number c < corner_number d) ⊎ ((corner_number c ≡ corner_number d) × (r ≡ true))
+    by_x : (c.x <ℤ d.x) ⊎ ((c.x ≡ d.x) × ((is_negative (c.y -ℤ d.y)
+        || (is_zero (c.y -ℤ d.y) && (is_negative (c.z -ℤ d.z) || (is_zero (c.z -ℤ d.z) && r)))) ≡ true)) →
+        (corner_number c < corner_number d) ⊎ ((corner_number c ≡ corner_number d) × (r ≡ true))
     by_x (inl l) =
         let k = digit_less v.x w.x l in let y = digit_small v.y in let z = digit_small v.z in inl (omega (arith, k, y, z))
     by_x (inr t) = by_y (ap digit t.0) (first_difference c.y d.y _ t.1)
@@ -81,11 +92,15 @@ corners_rise c d r v w e = by_x (first_difference c.x d.x _ e)
 pub edges_rise : (e f : Edge) → IsValidEdge e → IsValidEdge f → comes_before e f ≡ true → edge_number e < edge_number f
 edges_rise e f v w h = by (corners_rise e.from f.from (corner_precedes e.to f.to false) v.from w.from h)
   where
-    by_end : corner_number e.from ≡ corner_number f.from → (corner_number e.to < corner_number f.to) ⊎ ((corner_number e.to ≡ corner_number f.to) × (false ≡ true)) → edge_number e < edge_number f
+    by_end : corner_number e.from ≡ corner_number f.from →
+        (corner_number e.to < corner_number f.to) ⊎ ((corner_number e.to ≡ corner_number f.to) × (false ≡ true)) →
+        edge_number e < edge_number f
     by_end p (inl l) = omega (arith, p, l)
     by_end p (inr t) = absurd (clash t.1 refl)
 
-    by : (corner_number e.from < corner_number f.from) ⊎ ((corner_number e.from ≡ corner_number f.from) × (corner_precedes e.to f.to false ≡ true)) → edge_number e < edge_number f
+    by : (corner_number e.from < corner_number f.from) ⊎
+        ((corner_number e.from ≡ corner_number f.from) × (corner_precedes e.to f.to false ≡ true)) →
+        edge_number e < edge_number f
     by (inl l) = let s = corner_small v.to in omega (arith, l, s)
     by (inr t) = by_end t.0 (corners_rise e.to f.to false v.to w.to t.1)
 
@@ -117,20 +132,25 @@ same_lists (x ∷ xs) (y ∷ ys) l p q =
 pub one_edge : (e f : Edge) → comes_before e f ≡ false → comes_before f e ≡ false → e ≡ f
 one_edge e f p q =
     let c = same_lists (coordinates e) (coordinates f) refl p q in
-    λ i. record { from = record { x = get_or (c i) 0 (pos 0); y = get_or (c i) 1 (pos 0); z = get_or (c i) 2 (pos 0) }; to = record { x = get_or (c i) 3 (pos 0); y = get_or (c i) 4 (pos 0); z = get_or (c i) 5 (pos 0) } }
+    λ i. record {
+      from = record { x = get_or (c i) 0 (pos 0); y = get_or (c i) 1 (pos 0); z = get_or (c i) 2 (pos 0) };
+      to = record { x = get_or (c i) 3 (pos 0); y = get_or (c i) 4 (pos 0); z = get_or (c i) 5 (pos 0) };
+    }
 
 -- ---- read back
 -- the coordinate that the code reads from its digit
 pub read_digit : (z : ℤ) (n : ℕ) → Small 2047 z → n ≡ digit z → to_z w32 (of_z w32 (to_z w32 n -ℤ pos 2047)) ≡ z
 read_digit z n p e =
     let l = digit_small p in
-    ap (λ (y : ℤ). to_z w32 (of_z w32 (y -ℤ pos 2047))) (to_z_pos w32 n (omega (arith, e, l))) ∙ to_z-of_z w32 (pos n -ℤ pos 2047) (subst (SFits w32) (sym same) (fits_small w32 p tt)) ∙ same
+    ap (λ (y : ℤ). to_z w32 (of_z w32 (y -ℤ pos 2047))) (to_z_pos w32 n (omega (arith, e, l)))
+    ∙ to_z-of_z w32 (pos n -ℤ pos 2047) (subst (SFits w32) (sym same) (fits_small w32 p tt)) ∙ same
   where
     same : pos n -ℤ pos 2047 ≡ z
     same = omega (arith, ints, e, p.small)
 
 -- the three digits of a corner's number are those of its coordinates
-pub digits_of : (c : Corner) → IsValidCorner c → (n : ℕ) → corner_number c ≡ n → (n / 16777216 ≡ digit c.x) × (n / 4096 % 4096 ≡ digit c.y) × (n % 4096 ≡ digit c.z)
+pub digits_of : (c : Corner) → IsValidCorner c → (n : ℕ) → corner_number c ≡ n →
+    (n / 16777216 ≡ digit c.x) × (n / 4096 % 4096 ≡ digit c.y) × (n % 4096 ≡ digit c.z)
 digits_of c v n e =
     let x = digit_small v.x in let y = digit_small v.y in let z = digit_small v.z in
     let a : n / 4096 ≡ digit c.x * 4096 + digit c.y = rw (sym e) (div-mul-add (digit c.x * 4096 + digit c.y) 4096 (digit c.z) z) in
@@ -139,5 +159,7 @@ digits_of c v n e =
 -- the quotient and the rest of an edge's number by 2^36 are the numbers of its ends
 pub ends_from : (e : Edge) → IsValidEdge e → (n : ℕ) → edge_number e ≡ n → (corner_number e.from ≡ n / 2 ^ 36) × (corner_number e.to ≡ n % 2 ^ 36)
 ends_from e v n h =
-    let l = corner_small v.to in
-    (rw (sym h) (sym (div-mul-add (corner_number e.from) (2 ^ 36) (corner_number e.to) l)), rw (sym h) (sym (mod-mul-add (corner_number e.from) (2 ^ 36) (corner_number e.to) l)))
+    let l = corner_small v.to in (
+      rw (sym h) (sym (div-mul-add (corner_number e.from) (2 ^ 36) (corner_number e.to) l)),
+      rw (sym h) (sym (mod-mul-add (corner_number e.from) (2 ^ 36) (corner_number e.to) l)),
+    )

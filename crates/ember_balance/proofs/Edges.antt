@@ -1,5 +1,6 @@
 -- Edges that are equal, how often they occur, and lists of them
-use Rattle.std.proofs.Common.{◌≡◌, ◌⊎◌, inl, inr, ℕ, ◌+◌, ◌*◌, ◌<◌, Bool, true, false, cond, ◌&&◌, List, [], ◌∷◌, ◌++◌, map, length, take, get_or, refl, sym, ap, subst, ◌∙◌, arith, eqb, ℤ, pos, ◌-ℤ◌}
+use Rattle.std.proofs.Common.{◌≡◌, ◌⊎◌, inl, inr, ℕ, ◌+◌, ◌*◌, ◌<◌, Bool, true, false, cond, ◌&&◌, List, [], ◌∷◌, ◌++◌}
+use Rattle.std.proofs.Common.{map, length, take, get_or, refl, sym, ap, subst, ◌∙◌, arith, eqb, ℤ, pos, ◌-ℤ◌}
 use Rattle.std.specs.List.{All, AllByRecursion}
 use Rattle.std.proofs.lemmas.List.{take_more, map-append}
 use Rattle.std.proofs.lemmas.Bool.{and_parts, and_from, eq-eqb, eqb-true, ne_eqb}
@@ -98,29 +99,42 @@ length-edges_in (t ∷ ts) = omega (arith, length-edges_in ts)
 -- the edges of two lists of triangles are those of the first, and then those of the second
 pub edges_in-append : (ts us : List Tri) → edges_in (ts ++ us) ≡ edges_in ts ++ edges_in us
 edges_in-append [] us = refl
-edges_in-append (t ∷ ts) us = let r = edges_in-append ts us in λ i. record { from = t.a; to = t.b } ∷ record { from = t.b; to = t.c } ∷ record { from = t.c; to = t.a } ∷ r i
+edges_in-append (t ∷ ts) us = let r = edges_in-append ts us in
+    λ i. record { from = t.a; to = t.b } ∷ record { from = t.b; to = t.c } ∷ record { from = t.c; to = t.a } ∷ r i
 
 abbrev IsLaidOut : (List Edge → List ℕ) → Type 0
 IsLaidOut f = (es gs : List Edge) → f (es ++ gs) ≡ f es ++ f gs
 
-more : (f : List Edge → List ℕ) → IsLaidOut f → (ts : List Tri) (i : ℕ) (d : Tri) (ns ms : List ℕ) → i < length ts → ns ≡ f (edges_in (take i ts)) → ms ≡ ns ++ f (edges_in (get_or ts i d ∷ [])) → ms ≡ f (edges_in (take (i + 1) ts))
+more : (f : List Edge → List ℕ) → IsLaidOut f → (ts : List Tri) (i : ℕ) (d : Tri) (ns ms : List ℕ) → i < length ts →
+    ns ≡ f (edges_in (take i ts)) → ms ≡ ns ++ f (edges_in (get_or ts i d ∷ [])) → ms ≡ f (edges_in (take (i + 1) ts))
 more f h ts i d ns ms l e g =
     let t = get_or ts i d ∷ [] in
-    let laid : f (edges_in (take (i + 1) ts)) ≡ f (edges_in (take i ts)) ++ f (edges_in t) = ap (λ (us : List Tri). f (edges_in us)) (take_more ts i d l) ∙ ap f (edges_in-append (take i ts) t) ∙ h (edges_in (take i ts)) (edges_in t) in
+    let laid : f (edges_in (take (i + 1) ts)) ≡ f (edges_in (take i ts)) ++ f (edges_in t) =
+    ap (λ (us : List Tri). f (edges_in us)) (take_more ts i d l) ∙ ap f (edges_in-append (take i ts) t)
+    ∙ h (edges_in (take i ts)) (edges_in t) in
     g ∙ ap (λ (ks : List ℕ). ks ++ f (edges_in t)) e ∙ sym laid
 
 -- the numbers of the edges of one triangle more
-pub there_more : (ts : List Tri) (i : ℕ) (d : Tri) (ns ms : List ℕ) → i < length ts → ns ≡ map edge_number (edges_in (take i ts)) → ms ≡ ns ++ map edge_number (edges_in (get_or ts i d ∷ [])) → ms ≡ map edge_number (edges_in (take (i + 1) ts))
+pub there_more : (ts : List Tri) (i : ℕ) (d : Tri) (ns ms : List ℕ) → i < length ts →
+    ns ≡ map edge_number (edges_in (take i ts)) → ms ≡ ns ++ map edge_number (edges_in (get_or ts i d ∷ [])) →
+    ms ≡ map edge_number (edges_in (take (i + 1) ts))
 there_more = more (map edge_number) (map-append edge_number)
 
 -- the two-way numbers of the edges of one triangle more
-pub two_way_more : (ts : List Tri) (i : ℕ) (d : Tri) (ns ms : List ℕ) → i < length ts → ns ≡ map two_way_number (edges_in (take i ts)) → ms ≡ ns ++ map two_way_number (edges_in (get_or ts i d ∷ [])) → ms ≡ map two_way_number (edges_in (take (i + 1) ts))
+pub two_way_more : (ts : List Tri) (i : ℕ) (d : Tri) (ns ms : List ℕ) → i < length ts →
+    ns ≡ map two_way_number (edges_in (take i ts)) → ms ≡ ns ++ map two_way_number (edges_in (get_or ts i d ∷ [])) →
+    ms ≡ map two_way_number (edges_in (take (i + 1) ts))
 two_way_more = more (map two_way_number) (map-append two_way_number)
 
 -- the numbers of the reversed edges of one triangle more
-pub back_more : (ts : List Tri) (i : ℕ) (d : Tri) (ns ms : List ℕ) → i < length ts → ns ≡ map edge_number (map reversed (edges_in (take i ts))) → ms ≡ ns ++ map edge_number (map reversed (edges_in (get_or ts i d ∷ []))) → ms ≡ map edge_number (map reversed (edges_in (take (i + 1) ts)))
+pub back_more : (ts : List Tri) (i : ℕ) (d : Tri) (ns ms : List ℕ) → i < length ts →
+    ns ≡ map edge_number (map reversed (edges_in (take i ts))) →
+    ms ≡ ns ++ map edge_number (map reversed (edges_in (get_or ts i d ∷ []))) →
+    ms ≡ map edge_number (map reversed (edges_in (take (i + 1) ts)))
 back_more =
-    more (λ es. map edge_number (map reversed es)) (λ es gs. ap (map edge_number) (map-append reversed es gs) ∙ map-append edge_number (map reversed es) (map reversed gs))
+    more (λ es. map edge_number (map reversed es))
+    (λ es gs. ap (map edge_number) (map-append reversed es gs)
+    ∙ map-append edge_number (map reversed es) (map reversed gs))
 
 -- ---- members
 -- an edge that occurs at least once is a member
@@ -148,7 +162,8 @@ pub member_from_count : (k : ℕ) (es : List Edge) → 0 < count k (map edge_num
 member_from_count k [] l = absurd (omega (arith, l))
 member_from_count k (f ∷ es) l = by (eqb k (edge_number f)) refl l (member_from_count k es)
   where
-    by : (b : Bool) → eqb k (edge_number f) ≡ b → 0 < cond b 1 0 + count k (map edge_number es) → (0 < count k (map edge_number es) → Numbered k es) → Numbered k (f ∷ es)
+    by : (b : Bool) → eqb k (edge_number f) ≡ b → 0 < cond b 1 0 + count k (map edge_number es) →
+        (0 < count k (map edge_number es) → Numbered k es) → Numbered k (f ∷ es)
     by true h l r = record { edge = f; member = inl refl; number = sym (eqb-true k (edge_number f) h) }
     by false h l r =
         let n = r (omega (arith, l)) in record { edge = n.edge; member = inr n.member; number = n.number }

@@ -55,7 +55,8 @@ least_is e f (g ∷ gs) m h =
     f_not_before : comes_before f e ≡ false
     f_not_before = h f (inl refl)
 
-    by : ((k : Edge) → comes_before k e ≡ false → In e (k ∷ gs) → least_from k gs ≡ e) → (b : Bool) → comes_before g f ≡ b → In e (f ∷ g ∷ gs) → least_from (cond b g f) gs ≡ e
+    by : ((k : Edge) → comes_before k e ≡ false → In e (k ∷ gs) → least_from k gs ≡ e) → (b : Bool) →
+        comes_before g f ≡ b → In e (f ∷ g ∷ gs) → least_from (cond b g f) gs ≡ e
     by next true l (inl p) =
         absurd (clash (subst (λ (k : Edge). comes_before g k ≡ true) (sym p) l) g_not_before)
     by next true l (inr r) = next g g_not_before r
@@ -98,7 +99,8 @@ module _ (ts : List Tri) (l : Loose) (h : IsLeastLoose ts l) where
 
   first : NoneBefore e (filter (is_loose es) es)
   first f m =
-      false_from_ne_true _ (λ b. let more = ltb-true (edge_count (reversed f) es) (edge_count f es) (passes_member (is_loose es) f es m) in let most = h.least f b in omega (arith, more, most))
+      false_from_ne_true _ (λ b. let more = ltb-true (edge_count (reversed f) es) (edge_count f es)
+      (passes_member (is_loose es) f es m) in let most = h.least f b in omega (arith, more, most))
 
   loose_of_least : loose_of ts ≡ Some l
   unfolding loose_of

@@ -13,7 +13,8 @@ use Rattle.ember_balance.specs.Loose.{comes_before, with_counts, edge_of, IsLeas
 use Rattle.ember_balance.specs.Numbers.{edge_number, IsValidEdge, AreNumbers}
 use Rattle.ember_balance.proofs.EdgeNumbers.{edges_rise, edge_small, same_edges}
 use Rattle.ember_balance.proofs.SortedSurplus.{count_permutation}
-use Rattle.ember_balance.proofs.Edges.{times_is_count, times_reversed, valid_edges, valid_reversed, length-edges_in, member_from_times, valid_member, Numbered, member_from_count}
+use Rattle.ember_balance.proofs.Edges.{times_is_count, times_reversed, valid_edges, valid_reversed, length-edges_in}
+use Rattle.ember_balance.proofs.Edges.{member_from_times, valid_member, Numbered, member_from_count}
 
 -- there are three numbers of edges for each triangle
 pub few_there : (ts : List Tri) (there back : List ℕ) → AreNumbers ts there back → length there ≡ 3 * length ts
@@ -26,7 +27,9 @@ few_back ts there back s =
     length_permutation _ _ s.back ∙ length-map (map reversed (edges_in ts)) edge_number ∙ length-map (edges_in ts) reversed ∙ length-edges_in ts
 
 -- an edge that occurs is valid
-pub by_standing : (ts : List Tri) (valid : All IsValidTri ts) (e : Edge) → (IsValidEdge e → edge_count e (edges_in ts) ≤ edge_count (reversed e) (edges_in ts)) → edge_count e (edges_in ts) ≤ edge_count (reversed e) (edges_in ts)
+pub by_standing : (ts : List Tri) (valid : All IsValidTri ts) (e : Edge) →
+    (IsValidEdge e → edge_count e (edges_in ts) ≤ edge_count (reversed e) (edges_in ts)) →
+    edge_count e (edges_in ts) ≤ edge_count (reversed e) (edges_in ts)
 by_standing ts valid e k = by (cases_lt 0 (edge_count e (edges_in ts)))
   where
     by : (0 < edge_count e (edges_in ts)) ⊎ (edge_count e (edges_in ts) ≤ 0) → edge_count e (edges_in ts) ≤ edge_count (reversed e) (edges_in ts)
@@ -40,7 +43,9 @@ module _ (ts : List Tri) (valid : All IsValidTri ts) (there back : List ℕ) (s 
 
   count_back : (e : Edge) → IsValidEdge e → count (edge_number e) back ≡ edge_count (reversed e) (edges_in ts)
   count_back e v =
-      count_permutation _ _ _ s.back ∙ sym (times_is_count edge_number (λ e f v w. same_edges v w) e v (map reversed (edges_in ts)) (valid_reversed (edges_in ts) (valid_edges ts valid))) ∙ times_reversed e (edges_in ts)
+      count_permutation _ _ _ s.back ∙ sym (times_is_count edge_number (λ e f v w. same_edges v w) e v
+      (map reversed (edges_in ts)) (valid_reversed (edges_in ts) (valid_edges ts valid)))
+      ∙ times_reversed e (edges_in ts)
 
   at_most : HasNoSurplus there back → (e : Edge) → edge_count e (edges_in ts) ≤ edge_count (reversed e) (edges_in ts)
   at_most h e =
@@ -70,16 +75,20 @@ module _ (ts : List Tri) (valid : All IsValidTri ts) (there back : List ℕ) (s 
 
       least : (f : Edge) → comes_before f e ≡ true → edge_count f (edges_in ts) ≤ edge_count (reversed f) (edges_in ts)
       least f l =
-          by_standing ts valid f (λ w. let a = count_there f w in let b = count_back f w in let c = h.first (edge_number f) (edges_rise f e w v l) in omega (arith, a, b, c))
+          by_standing ts valid f (λ w. let a = count_there f w in let b = count_back f w in let c =
+          h.first (edge_number f) (edges_rise f e w v l) in omega (arith, a, b, c))
 
   -- the first surplus is the least loose edge
-  pub least_loose_from : (l : Loose) (k : ℕ) → IsFirstSurplus k there back → ((e : Edge) → IsValidEdge e → edge_number e ≡ k → edge_of l ≡ e) → l.there ≡ count k there → l.back ≡ count k back → IsLeastLoose ts l
+  pub least_loose_from : (l : Loose) (k : ℕ) → IsFirstSurplus k there back →
+      ((e : Edge) → IsValidEdge e → edge_number e ≡ k → edge_of l ≡ e) → l.there ≡ count k there → l.back ≡ count k back →
+      IsLeastLoose ts l
   least_loose_from l k h edge a b =
       let n = found_from k h in let v = valid_found n in let q = edge n.edge v n.number in
       let first = subst (λ (m : ℕ). IsFirstSurplus m there back) (sym n.number) h in
       let standing = a ∙ ap (λ (m : ℕ). count m there) (sym n.number) ∙ count_there n.edge v in
       let reverse = b ∙ ap (λ (m : ℕ). count m back) (sym n.number) ∙ count_back n.edge v in
-      let same : with_counts (edges_in ts) n.edge ≡ l = λ i. record { from = (sym q i).from; to = (sym q i).to; there = sym standing i; back = sym reverse i } in
+      let same : with_counts (edges_in ts) n.edge ≡ l =
+      λ i. record { from = (sym q i).from; to = (sym q i).to; there = sym standing i; back = sym reverse i } in
       subst (λ (m : Loose). IsLeastLoose ts m) same (least_from_first n.edge v first)
 
   pub found_small : (k : ℕ) → IsFirstSurplus k there back → k < 2 ^ 72

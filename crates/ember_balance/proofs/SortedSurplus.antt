@@ -1,5 +1,6 @@
 -- Two lists that rise, side by side: the first number that the first has more often
-use Rattle.std.proofs.Common.{◌≡◌, ℕ, suc, ◌+◌, ◌<◌, ◌≤◌, Bool, true, false, cond, Option, Some, None, List, [], ◌∷◌, length, get_or, take, drop, refl, sym, ap, ◌∙◌, arith, eqb, ltb, subst}
+use Rattle.std.proofs.Common.{◌≡◌, ℕ, suc, ◌+◌, ◌<◌, ◌≤◌, Bool, true, false, cond, Option, Some, None, List, [], ◌∷◌}
+use Rattle.std.proofs.Common.{length, get_or, take, drop, refl, sym, ap, ◌∙◌, arith, eqb, ltb, subst}
 use Rattle.std.specs.Option.{MatchOption}
 use Rattle.std.specs.List.{AllByRecursion}
 use Rattle.std.specs.List.Sorted.{IsPermutation, IsNonDecreasing}
@@ -44,8 +45,10 @@ Rises (x ∷ xs) = AllByRecursion (λ y. x ≤ y) xs × Rises xs
 -- a list in order, by recursion
 pub rises : (xs : List ℕ) → IsNonDecreasing xs → Rises xs
 rises [] h = tt
-rises (x ∷ xs) h =
-    (recursion_from_All (λ y. x ≤ y) xs (λ k d l. h 0 (suc k) d (omega arith) (omega (arith, l))), rises xs (λ i j d p l. h (suc i) (suc j) d (omega (arith, p)) (omega (arith, l))))
+rises (x ∷ xs) h = (
+  recursion_from_All (λ y. x ≤ y) xs (λ k d l. h 0 (suc k) d (omega arith) (omega (arith, l))),
+  rises xs (λ i j d p l. h (suc i) (suc j) d (omega (arith, p)) (omega (arith, l))),
+)
 
 -- a number below all of a list isn't in it
 absent : (n m : ℕ) (xs : List ℕ) → n < m → AllByRecursion (λ y. m ≤ y) xs → count n xs ≡ 0
@@ -89,7 +92,8 @@ walk_has_outcome (y ∷ ys) [] p q = record { none = λ n. omega arith }
 walk_has_outcome (y ∷ ys) (x ∷ xs) p q =
     by (walk_has_outcome ys xs p.1 q.1) (walk_has_outcome ys (x ∷ xs) p q.1) (ltb x y) refl (eqb x y) refl
   where
-    by : Outcome (walk ys xs) xs ys → Outcome (walk ys (x ∷ xs)) (x ∷ xs) ys → (b : Bool) → ltb x y ≡ b → (e : Bool) → eqb x y ≡ e → Outcome (cond b (Some x) (walk ys (cond e xs (x ∷ xs)))) (x ∷ xs) (y ∷ ys)
+    by : Outcome (walk ys xs) xs ys → Outcome (walk ys (x ∷ xs)) (x ∷ xs) ys → (b : Bool) → ltb x y ≡ b → (e : Bool) →
+        eqb x y ≡ e → Outcome (cond b (Some x) (walk ys (cond e xs (x ∷ xs)))) (x ∷ xs) (y ∷ ys)
     by both_on one_on true l e h =
         let l' = ltb-true x y l in
         record { more = rw (absent_below x y ys l' q) (head_is_counted x xs); first = λ n m. omega (arith, absent_below n x xs m p) }

@@ -1,5 +1,6 @@
 -- Two-way numbers: where each edge has one direction as often as the other, the triangles are balanced
-use Rattle.std.proofs.Common.{◌≡◌, ◌⊎◌, inl, inr, ℕ, ◌+◌, ◌-◌, ◌*◌, ◌/◌, ◌%◌, ◌<◌, ◌≤◌, Bool, true, false, cond, ◌||◌, List, [], ◌∷◌, ◌++◌, map, refl, sym, ap, subst, ◌∙◌, arith, eqb}
+use Rattle.std.proofs.Common.{◌≡◌, ◌⊎◌, inl, inr, ℕ, ◌+◌, ◌-◌, ◌*◌, ◌/◌, ◌%◌, ◌<◌, ◌≤◌, Bool, true, false, cond, ◌||◌}
+use Rattle.std.proofs.Common.{List, [], ◌∷◌, ◌++◌, map, refl, sym, ap, subst, ◌∙◌, arith, eqb}
 use Rattle.std.specs.List.{All}
 use Rattle.std.specs.List.Sorted.{IsPermutation}
 use Rattle.std.proofs.lemmas.Bool.{cases_lt, or_cases, lt-ltb, le-ltb, eqb-true, eqb-false, ne_eqb, eq-eqb}
@@ -24,7 +25,8 @@ count_push n ks k = let a = occurrences-append eqb n ks (k ∷ []) in omega (ari
 one_more : (n k : ℕ) → cond (eqb (2 * n) k) 1 0 + cond (eqb n (k / 2)) (k % 2) 0 ≡ cond (eqb (2 * n + 1) k) 1 0 + cond (eqb n (k / 2)) (1 - k % 2) 0
 one_more n k = by (eqb n (k / 2)) (eqb (k % 2) 0) refl refl
   where
-    by : (b r : Bool) → eqb n (k / 2) ≡ b → eqb (k % 2) 0 ≡ r → cond (eqb (2 * n) k) 1 0 + cond b (k % 2) 0 ≡ cond (eqb (2 * n + 1) k) 1 0 + cond b (1 - k % 2) 0
+    by : (b r : Bool) → eqb n (k / 2) ≡ b → eqb (k % 2) 0 ≡ r →
+        cond (eqb (2 * n) k) 1 0 + cond b (k % 2) 0 ≡ cond (eqb (2 * n + 1) k) 1 0 + cond b (1 - k % 2) 0
     by true true p q =
         let a = eqb-true n (k / 2) p in let z = eqb-true (k % 2) 0 q in
         rw (eq-eqb (2 * n) k (omega (arith, a, z)), ne_eqb (2 * n + 1) k (λ e. omega (arith, a, z, e))) (omega (arith, z))
@@ -37,11 +39,18 @@ one_more n k = by (eqb n (k / 2)) (eqb (k % 2) 0) refl refl
 
 module _ (ks : List ℕ) (t : Tally) (k : ℕ) (h : IsTallied ks t) where
   -- where the edge is that of the tally
-  pub tallied_same : {there back : ℕ} → k / 2 ≡ t.number → there ≡ t.there + (1 - k % 2) → back ≡ t.back + k % 2 → IsTallied (ks ++ k ∷ []) (record { number = k / 2; there = there; back = back })
+  pub tallied_same : {there back : ℕ} → k / 2 ≡ t.number → there ≡ t.there + (1 - k % 2) → back ≡ t.back + k % 2 →
+      IsTallied (ks ++ k ∷ []) (record { number = k / 2; there = there; back = back })
   tallied_same {there} {back} e p q =
-      record { each = λ n two. by n (eqb n (k / 2)) (subst (λ (m : ℕ). count (2 * n) ks + cond (eqb n m) t.back 0 ≡ count (2 * n + 1) ks + cond (eqb n m) t.there 0) (sym e) (h.each n two)) (one_more n k) }
+      record {
+        each = λ n two. by n (eqb n (k / 2))
+            (subst (λ (m : ℕ). count (2 * n) ks + cond (eqb n m) t.back 0 ≡ count (2 * n + 1) ks + cond (eqb n m) t.there 0)
+            (sym e) (h.each n two)) (one_more n k);
+      }
     where
-      by : (n : ℕ) (b : Bool) → count (2 * n) ks + cond b t.back 0 ≡ count (2 * n + 1) ks + cond b t.there 0 → cond (eqb (2 * n) k) 1 0 + cond b (k % 2) 0 ≡ cond (eqb (2 * n + 1) k) 1 0 + cond b (1 - k % 2) 0 → count (2 * n) (ks ++ k ∷ []) + cond b back 0 ≡ count (2 * n + 1) (ks ++ k ∷ []) + cond b there 0
+      by : (n : ℕ) (b : Bool) → count (2 * n) ks + cond b t.back 0 ≡ count (2 * n + 1) ks + cond b t.there 0 →
+          cond (eqb (2 * n) k) 1 0 + cond b (k % 2) 0 ≡ cond (eqb (2 * n + 1) k) 1 0 + cond b (1 - k % 2) 0 →
+          count (2 * n) (ks ++ k ∷ []) + cond b back 0 ≡ count (2 * n + 1) (ks ++ k ∷ []) + cond b there 0
       by n true r s =
           let a = count_push (2 * n) ks k in let d = count_push (2 * n + 1) ks k in omega (arith, a, d, r, s, p, q)
       by n false r s =
@@ -55,17 +64,21 @@ module _ (ks : List ℕ) (t : Tally) (k : ℕ) (h : IsTallied ks t) where
       same q (inl r) = eqb-true t.there t.back r
       same q (inr r) = absurd (clash r (subst (λ (m : ℕ). has_one_end m ≡ false) q two))
 
-      by : (b : Bool) → eqb n t.number ≡ b → count (2 * n) ks + cond b t.back 0 ≡ count (2 * n + 1) ks + cond b t.there 0 → count (2 * n) ks ≡ count (2 * n + 1) ks
+      by : (b : Bool) → eqb n t.number ≡ b → count (2 * n) ks + cond b t.back 0 ≡ count (2 * n + 1) ks
+          + cond b t.there 0 → count (2 * n) ks ≡ count (2 * n + 1) ks
       by true q r =
           let s = same (eqb-true n t.number q) (or_cases (eqb t.there t.back) (has_one_end t.number) e) in omega (arith, r, s)
       by false q r = omega (arith, r)
 
   -- where it is another one
-  pub tallied_other : {there back : ℕ} → eqb t.there t.back || has_one_end t.number ≡ true → there ≡ 1 - k % 2 → back ≡ k % 2 → IsTallied (ks ++ k ∷ []) (record { number = k / 2; there = there; back = back })
+  pub tallied_other : {there back : ℕ} → eqb t.there t.back || has_one_end t.number ≡ true → there ≡ 1 - k % 2 →
+      back ≡ k % 2 → IsTallied (ks ++ k ∷ []) (record { number = k / 2; there = there; back = back })
   tallied_other {there} {back} e p q =
       record { each = λ n two. by n (eqb n (k / 2)) (even_counts e n two) (one_more n k) }
     where
-      by : (n : ℕ) (b : Bool) → count (2 * n) ks ≡ count (2 * n + 1) ks → cond (eqb (2 * n) k) 1 0 + cond b (k % 2) 0 ≡ cond (eqb (2 * n + 1) k) 1 0 + cond b (1 - k % 2) 0 → count (2 * n) (ks ++ k ∷ []) + cond b back 0 ≡ count (2 * n + 1) (ks ++ k ∷ []) + cond b there 0
+      by : (n : ℕ) (b : Bool) → count (2 * n) ks ≡ count (2 * n + 1) ks →
+          cond (eqb (2 * n) k) 1 0 + cond b (k % 2) 0 ≡ cond (eqb (2 * n + 1) k) 1 0 + cond b (1 - k % 2) 0 →
+          count (2 * n) (ks ++ k ∷ []) + cond b back 0 ≡ count (2 * n + 1) (ks ++ k ∷ []) + cond b there 0
       by n true r s =
           let a = count_push (2 * n) ks k in let d = count_push (2 * n + 1) ks k in omega (arith, a, d, r, s, p, q)
       by n false r s =
@@ -89,7 +102,8 @@ one_two_way : (e f : Edge) → IsValidEdge e → IsValidEdge f → two_way_numbe
 one_two_way e f v w h =
     by (cases_lt (corner_number e.to) (corner_number e.from)) (cases_lt (corner_number f.to) (corner_number f.from))
   where
-    by : (corner_number e.to < corner_number e.from) ⊎ (corner_number e.from ≤ corner_number e.to) → (corner_number f.to < corner_number f.from) ⊎ (corner_number f.from ≤ corner_number f.to) → e ≡ f
+    by : (corner_number e.to < corner_number e.from) ⊎ (corner_number e.from ≤ corner_number e.to) →
+        (corner_number f.to < corner_number f.from) ⊎ (corner_number f.from ≤ corner_number f.to) → e ≡ f
     by (inl l) (inl m) =
         let a = falling_number e l in let b = falling_number f m in
         ap reversed (same_edges (valid_turned v) (valid_turned w) (omega (arith, a, b, h)))
@@ -116,7 +130,9 @@ module _ (ts : List Tri) (valid : All IsValidTri ts) (ks : List ℕ) (p : IsPerm
   even : (e : Edge) → IsValidEdge e → edge_count e (edges_in ts) ≡ edge_count (reversed e) (edges_in ts)
   even e v = by (cases_lt (corner_number e.from) (corner_number e.to)) (cases_lt (corner_number e.to) (corner_number e.from))
     where
-      by : (corner_number e.from < corner_number e.to) ⊎ (corner_number e.to ≤ corner_number e.from) → (corner_number e.to < corner_number e.from) ⊎ (corner_number e.from ≤ corner_number e.to) → edge_count e (edges_in ts) ≡ edge_count (reversed e) (edges_in ts)
+      by : (corner_number e.from < corner_number e.to) ⊎ (corner_number e.to ≤ corner_number e.from) →
+          (corner_number e.to < corner_number e.from) ⊎ (corner_number e.from ≤ corner_number e.to) →
+          edge_count e (edges_in ts) ≡ edge_count (reversed e) (edges_in ts)
       by (inl l) m = rising e v l
       by (inr l) (inl m) = sym (rising (reversed e) (valid_turned v) m)
       by (inr l) (inr m) =

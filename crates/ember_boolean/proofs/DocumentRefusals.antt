@@ -13,7 +13,8 @@ use Rattle.ember_boolean.specs.DocumentFiles.{IsDocumentFileFault, of_document_f
 use Rattle.ember_boolean.specs.WritingFaults.{IsWritingFault}
 
 -- a fault of the document's mesh
-pub document_fault_is : (bytes : List ℕ) (grid : Grid) (format : MeshFormat) (cause : DocumentFault) → IsDocumentFault bytes cause → IsDocumentFileFault bytes grid format (of_document_fault cause)
+pub document_fault_is : (bytes : List ℕ) (grid : Grid) (format : MeshFormat) (cause : DocumentFault) →
+    IsDocumentFault bytes cause → IsDocumentFileFault bytes grid format (of_document_fault cause)
 document_fault_is bytes grid format document_fault.NotADocument h = record { is_fault = h; of_document = λ e. cc }
 document_fault_is bytes grid format (document_fault.OffPlane face) h = record { is_fault = h; of_document = λ e. cc }
 document_fault_is bytes grid format (document_fault.OffEdge face) h = record { is_fault = h; of_document = λ e. cc }
@@ -23,7 +24,9 @@ document_fault_is bytes grid format (document_fault.NotCut fault) h = record { i
 document_fault_is bytes grid format document_fault.OutOfMemory h = tt
 
 -- a fault of the mesh's file
-pub unwritten_fault_is : (bytes : List ℕ) (grid : Grid) (format : MeshFormat) (mesh : SolidMesh) → IsOutlinedMesh bytes mesh → (cause : WritingFault) → IsWritingFault format grid mesh cause → IsDocumentFileFault bytes grid format (of_unwritten_fault cause)
+pub unwritten_fault_is : (bytes : List ℕ) (grid : Grid) (format : MeshFormat) (mesh : SolidMesh) →
+    IsOutlinedMesh bytes mesh → (cause : WritingFault) → IsWritingFault format grid mesh cause →
+    IsDocumentFileFault bytes grid format (of_unwritten_fault cause)
 unwritten_fault_is bytes grid format mesh of_document TooFar h =
     record { mesh = mesh; of_document = of_document; is_fault = h }
 unwritten_fault_is bytes grid format mesh of_document TooManyTriangles h =

@@ -11,7 +11,8 @@ use Rattle.ember_boolean.specs.declared.wanted.WantedFile.{WantedFile}
 use Rattle.ember_boolean.specs.declared.output.Output.{Output}
 use Rattle.ember_boolean.specs.Outputs.{IsOutput}
 
-module _ (files : List MeshFile) (formula : Formula) (wanted : WantedFile) (out : Output) (outside : IsFalseOutside formula) (is : IsOutput files formula wanted out) where
+module _ (files : List MeshFile) (formula : Formula) (wanted : WantedFile) (out : Output)
+    (outside : IsFalseOutside formula) (is : IsOutput files formula wanted out) where
   pub output_means : HaveMeaning (images_of out.grid is.surfaces) formula (faces_of_mesh is.mesh)
   output_means = mesh_means (images_of out.grid is.surfaces) (length is.surfaces) formula is.mesh is.are_placed.scene outside is.solid
 

@@ -51,7 +51,8 @@ use Rattle.ember_boolean.specs.declared.wanted.WantedFile.{WantedFile}
 use Rattle.ember_boolean.specs.declared.writing.Written.{Written}
 use Rattle.ember_boolean.specs.Files.{IsPlaced}
 use Rattle.ember_boolean.specs.Effects.{over_vertices, decimals_of}
-use Rattle.ember_boolean.specs.Outputs.{AreKept, AreRounded, AreShownIf, IsTextOver, IsOfFloats, IsText, IsWritten, IsClosedOfFloats, IsClosedText, IsClosedAs, IsOutput}
+use Rattle.ember_boolean.specs.Outputs.{AreKept, AreRounded, AreShownIf, IsTextOver, IsOfFloats, IsText, IsWritten}
+use Rattle.ember_boolean.specs.Outputs.{IsClosedOfFloats, IsClosedText, IsClosedAs, IsOutput}
 
 twice : (b : Bool) → b ≡ not (not b)
 twice true = refl
@@ -62,7 +63,8 @@ kept_are_fewer ws =
     let e = length-filter_both (λ t. not (vanishes t)) vanishes (λ t. twice (vanishes t)) ws in omega (arith, e)
 
 -- no more triangles are written than there are
-pub written_are_fewer : (s : Step) (o : Offset) (planes : List Plane) (corners : List SpacePoint) (ts : List Triangle) (ws : List WrittenTriangle) → AreWritten s o planes corners ts ws → length ws ≤ length ts
+pub written_are_fewer : (s : Step) (o : Offset) (planes : List Plane) (corners : List SpacePoint) (ts : List Triangle)
+    (ws : List WrittenTriangle) → AreWritten s o planes corners ts ws → length ws ≤ length ts
 written_are_fewer s o planes corners ts ws h =
     let all = map (triangle_at planes h.points) ts in
     let e = ap length h.written in
@@ -71,16 +73,25 @@ written_are_fewer s o planes corners ts ws h =
     omega (arith, e, n, k)
 
 -- the corners of proper triangles are in the table, by lists that equal theirs
-pub corners_are_there : (planes : List Plane) {corners cs : List SpacePoint} {triangles ts : List Triangle} → cs ≡ corners → ts ≡ triangles → All (IsProper planes corners) triangles → list_all (has_corners (length cs)) ts ≡ true
+pub corners_are_there : (planes : List Plane) {corners cs : List SpacePoint} {triangles ts : List Triangle} →
+    cs ≡ corners → ts ≡ triangles → All (IsProper planes corners) triangles → list_all (has_corners (length cs)) ts ≡ true
 corners_are_there planes {corners} {cs} {triangles} {ts} a b proper =
-    let by_corners : list_all (has_corners (length cs)) triangles ≡ true = subst (λ (us : List SpacePoint). list_all (has_corners (length us)) triangles ≡ true) (sym a) (proper_corners planes corners triangles proper) in
+    let by_corners : list_all (has_corners (length cs)) triangles ≡ true =
+    subst (λ (us : List SpacePoint). list_all (has_corners (length us)) triangles ≡ true) (sym a)
+    (proper_corners planes corners triangles proper) in
     subst (λ (us : List Triangle). list_all (has_corners (length cs)) us ≡ true) (sym b) by_corners
 
 -- triangles are those of the mesh, rounded, by lists that equal those of the mesh
-pub mesh_is_rounded : (grid : Grid) (mesh : SolidMesh) (written : List WrittenTriangle) {planes : List Plane} {corners : List SpacePoint} {triangles : List Triangle} → planes ≡ mesh.planes.items → corners ≡ mesh.corners.items → triangles ≡ mesh.triangles.items → AreWritten grid.step grid.offset planes corners triangles written → AreRounded grid mesh written
+pub mesh_is_rounded : (grid : Grid) (mesh : SolidMesh) (written : List WrittenTriangle) {planes : List Plane}
+    {corners : List SpacePoint} {triangles : List Triangle} → planes ≡ mesh.planes.items → corners ≡ mesh.corners.items →
+    triangles ≡ mesh.triangles.items → AreWritten grid.step grid.offset planes corners triangles written →
+    AreRounded grid mesh written
 mesh_is_rounded grid mesh written {planes} {corners} {triangles} a b d h =
-    let on_planes : AreWritten grid.step grid.offset mesh.planes.items corners triangles written = subst (λ (ps : List Plane). AreWritten grid.step grid.offset ps corners triangles written) a h in
-    let on_corners : AreWritten grid.step grid.offset mesh.planes.items mesh.corners.items triangles written = subst (λ (cs : List SpacePoint). AreWritten grid.step grid.offset mesh.planes.items cs triangles written) b on_planes in
+    let on_planes : AreWritten grid.step grid.offset mesh.planes.items corners triangles written =
+    subst (λ (ps : List Plane). AreWritten grid.step grid.offset ps corners triangles written) a h in
+    let on_corners : AreWritten grid.step grid.offset mesh.planes.items mesh.corners.items triangles written =
+    subst (λ (cs : List SpacePoint). AreWritten grid.step grid.offset mesh.planes.items cs triangles written) b
+    on_planes in
     subst (λ (ts : List Triangle). AreWritten grid.step grid.offset mesh.planes.items mesh.corners.items ts written) d on_corners
 
 -- ---- texts
@@ -103,7 +114,13 @@ pub shown_are_written : (ts : List DecimalTriangle) (shown : List IndexedTriangl
 shown_are_written ts shown e = ap length e ∙ length-map ts (indexed (vertices_of ts))
 
 -- the text of a split mesh, by lists that equal its own
-pub split_is_text : (format : TextFormat) (places : ℕ) (ts cut : List DecimalTriangle) (split : SplitMesh) (faces : List IndexedTriangle) (points vertices written : List DecimalPoint) (origins : List ℕ) (bytes : List ℕ) (count : ℕ) (is_manifold : Bool) → AreCutOf ts cut → points ≡ vertices_of cut → AreSplitOf split (over_vertices cut) → (is_manifold ≡ true → IsManifold split.triangles.items) → (is_manifold ≡ false → cut ≡ ts) → origins ≡ split.origins.items → vertices ≡ map (point_at points) origins → written ≡ vertices → faces ≡ split.triangles.items → bytes ≡ text_of format places written faces → count ≡ length split.triangles.items → IsTextOver format places ts bytes count is_manifold
+pub split_is_text : (format : TextFormat) (places : ℕ) (ts cut : List DecimalTriangle) (split : SplitMesh)
+    (faces : List IndexedTriangle) (points vertices written : List DecimalPoint) (origins : List ℕ) (bytes : List ℕ)
+    (count : ℕ) (is_manifold : Bool) → AreCutOf ts cut → points ≡ vertices_of cut → AreSplitOf split (over_vertices cut) →
+    (is_manifold ≡ true → IsManifold split.triangles.items) → (is_manifold ≡ false → cut ≡ ts) →
+    origins ≡ split.origins.items → vertices ≡ map (point_at points) origins → written ≡ vertices →
+    faces ≡ split.triangles.items → bytes ≡ text_of format places written faces → count ≡ length split.triangles.items →
+    IsTextOver format places ts bytes count is_manifold
 split_is_text format places ts cut split faces points vertices written origins bytes count is_manifold are_cut b are manifold whole d e f g h k = record {
   cut = cut;
   are_cut = are_cut;
@@ -127,13 +144,17 @@ mesh_is_closed bytes mesh is =
     certified_are_closed mesh.planes.items is.tables.lines.items mesh.corners.items is.tables.segments.items mesh.triangles.items is.cut.certified
 
 -- and so are those of its STL and its GLB
-floats_are_closed : (format : FloatFormat) (grid : Grid) (mesh : SolidMesh) (file : Written) → AreRoundAndClosed mesh.triangles.items → IsOfFloats format grid mesh file → IsClosedOfFloats format grid mesh file
+floats_are_closed : (format : FloatFormat) (grid : Grid) (mesh : SolidMesh) (file : Written) →
+    AreRoundAndClosed mesh.triangles.items → IsOfFloats format grid mesh file → IsClosedOfFloats format grid mesh file
 floats_are_closed format grid mesh file round floats =
-    let closed = written_are_closed grid.step grid.offset mesh.planes.items mesh.corners.items mesh.triangles.items floats.written floats.rounded.rounded round in
+    let closed = written_are_closed grid.step grid.offset mesh.planes.items mesh.corners.items mesh.triangles.items
+    floats.written floats.rounded.rounded round in
     record { floats = floats; closed = closed; shared = floats.shared closed }
 
 -- and of its text
-text_is_closed : (format : TextFormat) (digits : Option ℕ) (grid : Grid) (mesh : SolidMesh) (file : Written) → AreRoundAndClosed mesh.triangles.items → IsText format digits grid mesh file → IsClosedText format digits grid mesh file
+text_is_closed : (format : TextFormat) (digits : Option ℕ) (grid : Grid) (mesh : SolidMesh) (file : Written) →
+    AreRoundAndClosed mesh.triangles.items → IsText format digits grid mesh file →
+    IsClosedText format digits grid mesh file
 text_is_closed format digits grid mesh file round text = record {
   text = text;
   closed = decimals_are_closed (written_places digits grid.step) grid.step grid.offset mesh.corners.items mesh.triangles.items round;
@@ -141,12 +162,14 @@ text_is_closed format digits grid mesh file round text = record {
 }
 
 -- and so are those of its file
-file_is_closed : (format : MeshFormat) (grid : Grid) (mesh : SolidMesh) (file : Written) → AreRoundAndClosed mesh.triangles.items → IsWritten format grid mesh file → IsClosedAs format grid mesh file
+file_is_closed : (format : MeshFormat) (grid : Grid) (mesh : SolidMesh) (file : Written) →
+    AreRoundAndClosed mesh.triangles.items → IsWritten format grid mesh file → IsClosedAs format grid mesh file
 file_is_closed (Floats format) grid mesh file round floats = floats_are_closed format grid mesh file round floats
 file_is_closed (Text format digits) grid mesh file round text = text_is_closed format digits grid mesh file round text
 
 -- the file of a document's mesh is closed
-pub written_is_closed : (bytes : List ℕ) (format : MeshFormat) (grid : Grid) (mesh : SolidMesh) (file : Written) → IsDocumentMesh bytes mesh → IsWritten format grid mesh file → IsClosedAs format grid mesh file
+pub written_is_closed : (bytes : List ℕ) (format : MeshFormat) (grid : Grid) (mesh : SolidMesh) (file : Written) →
+    IsDocumentMesh bytes mesh → IsWritten format grid mesh file → IsClosedAs format grid mesh file
 written_is_closed bytes format grid mesh file is written =
     file_is_closed format grid mesh file (mesh_is_closed bytes mesh is) written
 
@@ -160,13 +183,27 @@ shown_if_asked false written = tt
 abbrev kept_with : Scene → Option (Vec ℕ) → Option Kept
 kept_with scene document = option_map (λ (d : Vec ℕ). record { scene = scene; document = d }) document
 
-both_are_kept : (keeps : Bool) (tris : List Tri) (bytes : List ℕ) (scene : Scene) (document : Option (Vec ℕ)) → scene.tris ≡ tris → IsThereIf keeps (λ (d : Vec ℕ). d.items ≡ bytes) document → IsThereIf keeps (AreKept tris bytes) (kept_with scene document)
+both_are_kept : (keeps : Bool) (tris : List Tri) (bytes : List ℕ) (scene : Scene) (document : Option (Vec ℕ)) →
+    scene.tris ≡ tris → IsThereIf keeps (λ (d : Vec ℕ). d.items ≡ bytes) document →
+    IsThereIf keeps (AreKept tris bytes) (kept_with scene document)
 both_are_kept keeps tris bytes scene (Some document) e h = (h.0, record { scene = e; document = h.1 })
 both_are_kept keeps tris bytes scene None e h = h
 
 -- the file of the mesh of the files' scene is an output for them
 module _ (files : List MeshFile) (formula : Formula) (wanted : WantedFile) (placed : Placed) (is : IsPlaced files wanted.grid placed) where
-  pub output_is : (meshed : MeshedSolid) → IsMeshedSolid placed.scene.tris formula wanted.keeps meshed → (file : Written) → IsWritten wanted.format placed.grid meshed.mesh file → AreShownIf wanted.shows placed.grid meshed.mesh file.shown → (kept : Option Kept) → kept ≡ kept_with placed.scene meshed.document → IsOutput files formula wanted (record { written = file; grid = placed.grid; counts = placed.counts; moves = placed.moves; report = meshed.report; kept = kept })
+  pub output_is : (meshed : MeshedSolid) → IsMeshedSolid placed.scene.tris formula wanted.keeps meshed →
+      (file : Written) → IsWritten wanted.format placed.grid meshed.mesh file →
+      AreShownIf wanted.shows placed.grid meshed.mesh file.shown → (kept : Option Kept) →
+      kept ≡ kept_with placed.scene meshed.document →
+      IsOutput files formula wanted (record {
+        written = file;
+        grid = placed.grid;
+        counts = placed.counts;
+        moves =
+            placed.moves;
+        report = meshed.report;
+        kept = kept;
+      })
   output_is meshed solid file written shown kept e =
       let of_images = subst (λ (tris : List Tri). IsMeshedSolid tris formula wanted.keeps meshed) is.tris solid in
       record {
@@ -179,5 +216,7 @@ module _ (files : List MeshFile) (formula : Formula) (wanted : WantedFile) (plac
         report = of_images.report;
         written = written_is_closed of_images.mesh.bytes wanted.format placed.grid meshed.mesh file of_images.mesh.of_document written;
         shown = shown;
-        kept = subst (IsThereIf wanted.keeps (AreKept (images_of placed.grid is.surfaces) of_images.mesh.bytes)) (sym e) (both_are_kept wanted.keeps (images_of placed.grid is.surfaces) of_images.mesh.bytes placed.scene meshed.document is.tris of_images.document);
+        kept = subst (IsThereIf wanted.keeps (AreKept (images_of placed.grid is.surfaces) of_images.mesh.bytes)) (sym e)
+            (both_are_kept wanted.keeps (images_of placed.grid is.surfaces) of_images.mesh.bytes placed.scene
+            meshed.document is.tris of_images.document);
       }

@@ -26,15 +26,19 @@ use Rattle.ember_boolean.specs.declared.writing_fault.WritingFault.{WritingFault
 use Rattle.ember_boolean.specs.declared.writing_fault.WritingFault.TheVariants as writing_fault
 use Rattle.ember_boolean.specs.Files.{reading, AreReadings, ArePlaced}
 use Rattle.ember_boolean.specs.WritingFaults.{IsWritingFault}
-use Rattle.ember_boolean.specs.Faults.{HasFault, IsRefusal, IsReadFault, IsPlacingFault, IsBooleanFault, of_file_fault, of_scene_fault, of_solid_fault, of_writing_fault}
+use Rattle.ember_boolean.specs.Faults.{HasFault, IsRefusal, IsReadFault, IsPlacingFault, IsBooleanFault, of_file_fault}
+use Rattle.ember_boolean.specs.Faults.{of_scene_fault, of_solid_fault, of_writing_fault}
 
 -- ---- files
-has_fault : (file : MeshFile) (fault : FileFault) → (fault ≡ file_fault.OutOfMemory → ⊥) → (fault ≡ file_fault.OutOfMemory) ⊎ (reading file ≡ Err (fault_of fault)) → is_plain fault ≡ true → HasFault file fault
+has_fault : (file : MeshFile) (fault : FileFault) → (fault ≡ file_fault.OutOfMemory → ⊥) →
+    (fault ≡ file_fault.OutOfMemory) ⊎ (reading file ≡ Err (fault_of fault)) → is_plain fault ≡ true → HasFault file fault
 has_fault file fault other (inl memory) plain = absurd (other memory)
 has_fault file fault other (inr gives) plain = record { gives = gives; plain = plain; of_file = other }
 
 -- the fault of a file is that of the file with its index
-pub file_fault_is : (file : MeshFile) (index : ℕ) (fault : FileFault) → (fault ≡ file_fault.OutOfMemory) ⊎ (reading file ≡ Err (fault_of fault)) → is_plain fault ≡ true → IsRefusal file index (of_file_fault index fault)
+pub file_fault_is : (file : MeshFile) (index : ℕ) (fault : FileFault) →
+    (fault ≡ file_fault.OutOfMemory) ⊎ (reading file ≡ Err (fault_of fault)) → is_plain fault ≡ true →
+    IsRefusal file index (of_file_fault index fault)
 file_fault_is file index (file_fault.CutOff facets) h plain =
     (refl, has_fault file (file_fault.CutOff facets) other h plain)
   where
@@ -63,7 +67,9 @@ file_fault_is file index (file_fault.Wavefront fault) h plain =
 file_fault_is file index file_fault.OutOfMemory h plain = tt
 
 -- the fault of a file after files that are read is the first
-pub refused_file_is_first : (files : List MeshFile) (i : ℕ) (d : MeshFile) (surfaces : List Surface) (fault : BooleanFault) → i < length files → AreReadings (take i files) surfaces → IsRefusal (get_or files i d) i fault → IsReadFault files fault
+pub refused_file_is_first : (files : List MeshFile) (i : ℕ) (d : MeshFile) (surfaces : List Surface)
+    (fault : BooleanFault) → i < length files → AreReadings (take i files) surfaces →
+    IsRefusal (get_or files i d) i fault → IsReadFault files fault
 refused_file_is_first files i d surfaces (File index fault) l h r = record {
   file = get_or files i d;
   found = ap (slice_get files) r.0 ∙ slice_get-get_or files i d l;
@@ -88,7 +94,8 @@ read_fault_is files wanted OutOfMemory h = tt
 
 -- ---- the scene
 -- a fault of the scene of the files' surfaces
-pub scene_fault_is : (files : List MeshFile) (wanted : Wanted) (surfaces : List Surface) (cause : SceneFault) → AreReadings files surfaces → IsSceneFault surfaces wanted cause → IsPlacingFault files wanted (of_scene_fault cause)
+pub scene_fault_is : (files : List MeshFile) (wanted : Wanted) (surfaces : List Surface) (cause : SceneFault) →
+    AreReadings files surfaces → IsSceneFault surfaces wanted cause → IsPlacingFault files wanted (of_scene_fault cause)
 scene_fault_is files wanted surfaces scene_fault.NoTriangles read h =
     record { surfaces = surfaces; read = read; is_fault = h; of_scene = other }
   where
@@ -112,7 +119,8 @@ scene_fault_is files wanted surfaces (scene_fault.TooManyTriangles n) read h =
 scene_fault_is files wanted surfaces scene_fault.OutOfMemory read h = tt
 
 -- files that are no scene have no solid
-pub placing_fault_is : (files : List MeshFile) (formula : Formula) (wanted : WantedFile) (fault : BooleanFault) → IsPlacingFault files wanted.grid fault → IsBooleanFault files formula wanted fault
+pub placing_fault_is : (files : List MeshFile) (formula : Formula) (wanted : WantedFile) (fault : BooleanFault) →
+    IsPlacingFault files wanted.grid fault → IsBooleanFault files formula wanted fault
 placing_fault_is files formula wanted (File index fault) h = h
 placing_fault_is files formula wanted (Scene fault) h = h
 placing_fault_is files formula wanted (Solid fault) h = absurd h
@@ -121,7 +129,8 @@ placing_fault_is files formula wanted TooManyTriangles h = absurd h
 placing_fault_is files formula wanted OutOfMemory h = tt
 
 -- ---- the solid and its file
-module _ (files : List MeshFile) (formula : Formula) (wanted : WantedFile) (surfaces : List Surface) (grid : Grid) (are : ArePlaced files wanted.grid surfaces grid) where
+module _ (files : List MeshFile) (formula : Formula) (wanted : WantedFile) (surfaces : List Surface) (grid : Grid)
+    (are : ArePlaced files wanted.grid surfaces grid) where
   -- a fault of the solid of the files' scene
   pub solid_fault_is : (cause : SolidFault) → IsSolidFault (images_of grid surfaces) formula cause → IsBooleanFault files formula wanted (of_solid_fault cause)
   solid_fault_is (solid_fault.NoTables fault) h =
@@ -137,7 +146,9 @@ module _ (files : List MeshFile) (formula : Formula) (wanted : WantedFile) (surf
   solid_fault_is solid_fault.OutOfMemory h = tt
 
   -- a fault of the mesh of their solid
-  pub writing_fault_is : (mesh : SolidMesh) → IsSolidMesh (images_of grid surfaces) formula mesh → (cause : WritingFault) → IsWritingFault wanted.format grid mesh cause → IsBooleanFault files formula wanted (of_writing_fault cause)
+  pub writing_fault_is : (mesh : SolidMesh) → IsSolidMesh (images_of grid surfaces) formula mesh →
+      (cause : WritingFault) → IsWritingFault wanted.format grid mesh cause →
+      IsBooleanFault files formula wanted (of_writing_fault cause)
   writing_fault_is mesh solid writing_fault.TooFar h =
       record { surfaces = surfaces; grid = grid; are_placed = are; mesh = mesh; solid = solid; is_fault = h }
   writing_fault_is mesh solid writing_fault.TooManyTriangles h =

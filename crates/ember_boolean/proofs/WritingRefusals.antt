@@ -24,17 +24,23 @@ use Rattle.ember_boolean.specs.WritingFaults.{IsFloatFileFault, IsWritingFault, 
 
 -- ---- floats
 -- a corner that rounds to infinity
-pub float_fault_is : (format : FloatFormat) (grid : Grid) (mesh : SolidMesh) (cause : PlaceFault) → IsFloatFault grid.step grid.offset mesh.corners.items cause → IsWritingFault (Floats format) grid mesh (of_place_fault cause)
+pub float_fault_is : (format : FloatFormat) (grid : Grid) (mesh : SolidMesh) (cause : PlaceFault) →
+    IsFloatFault grid.step grid.offset mesh.corners.items cause →
+    IsWritingFault (Floats format) grid mesh (of_place_fault cause)
 float_fault_is format grid mesh place_fault.TooFar h = h
 float_fault_is format grid mesh place_fault.OutOfMemory h = tt
 
 -- too many triangles for a GLB
-pub glb_fault_is : {T : Type 0} (written : List WrittenTriangle) (result : Result T GlbWriteFault) (cause : GlbWriteFault) → result ≡ Err cause → (result ≡ Err glb_fault.TooManyTriangles → IsTooLong written) → IsFloatFileFault Glb written (of_glb_fault cause)
+pub glb_fault_is : {T : Type 0} (written : List WrittenTriangle) (result : Result T GlbWriteFault)
+    (cause : GlbWriteFault) → result ≡ Err cause → (result ≡ Err glb_fault.TooManyTriangles → IsTooLong written) →
+    IsFloatFileFault Glb written (of_glb_fault cause)
 glb_fault_is written result glb_fault.TooManyTriangles e many = many e
 glb_fault_is written result glb_fault.OutOfMemory e many = tt
 
 -- a fault of the file of the mesh's triangles
-pub file_of_floats_fault_is : (format : FloatFormat) (grid : Grid) (mesh : SolidMesh) (written : List WrittenTriangle) (fault : WritingFault) → AreRounded grid mesh written → IsFloatFileFault format written fault → IsWritingFault (Floats format) grid mesh fault
+pub file_of_floats_fault_is : (format : FloatFormat) (grid : Grid) (mesh : SolidMesh) (written : List WrittenTriangle)
+    (fault : WritingFault) → AreRounded grid mesh written → IsFloatFileFault format written fault →
+    IsWritingFault (Floats format) grid mesh fault
 file_of_floats_fault_is format grid mesh written TooFar rounded h = absurd h
 file_of_floats_fault_is format grid mesh written TooManyTriangles rounded h =
     record { written = written; rounded = rounded; many = h }
@@ -42,7 +48,9 @@ file_of_floats_fault_is format grid mesh written OutOfMemory rounded h = tt
 
 -- ---- a text
 -- a corner that is too far out for a decimal
-pub decimal_fault_is : (format : TextFormat) (digits : Option ℕ) (grid : Grid) (mesh : SolidMesh) (cause : PlaceFault) → IsDecimalFault grid.step grid.offset mesh.corners.items cause → IsWritingFault (Text format digits) grid mesh (of_place_fault cause)
+pub decimal_fault_is : (format : TextFormat) (digits : Option ℕ) (grid : Grid) (mesh : SolidMesh) (cause : PlaceFault) →
+    IsDecimalFault grid.step grid.offset mesh.corners.items cause →
+    IsWritingFault (Text format digits) grid mesh (of_place_fault cause)
 decimal_fault_is format digits grid mesh place_fault.TooFar h = h
 decimal_fault_is format digits grid mesh place_fault.OutOfMemory h = tt
 
@@ -51,7 +59,9 @@ far_for_decimals : (s : Step) (o : Offset) (c : SpacePoint) → IsTooFar s o c �
 far_for_decimals s o c h = record { axis = h.axis; long = omega (arith, h.infinite) }
 
 -- a corner that is too far out for the triangles that are shown
-pub shown_fault_is : (format : TextFormat) (digits : Option ℕ) (grid : Grid) (mesh : SolidMesh) (cause : PlaceFault) → IsFloatFault grid.step grid.offset mesh.corners.items cause → IsWritingFault (Text format digits) grid mesh (of_place_fault cause)
+pub shown_fault_is : (format : TextFormat) (digits : Option ℕ) (grid : Grid) (mesh : SolidMesh) (cause : PlaceFault) →
+    IsFloatFault grid.step grid.offset mesh.corners.items cause →
+    IsWritingFault (Text format digits) grid mesh (of_place_fault cause)
 shown_fault_is format digits grid mesh place_fault.TooFar h =
     (h.0, h.1, h.2, h.3, far_for_decimals grid.step grid.offset h.1 h.4)
 shown_fault_is format digits grid mesh place_fault.OutOfMemory h = tt

@@ -7,7 +7,9 @@ use Rattle.ember_solid_mesh.specs.declared.mesh.SolidMesh.{SolidMesh}
 use Rattle.ember_solid_mesh.specs.Faults.{IsDocumentFault}
 use Rattle.ember_solid_mesh.specs.Meshes.{IsOutlinedMesh}
 use Rattle.ember_boolean.specs.declared.document.DocumentFileFault.{DocumentFileFault}
-use Rattle.ember_boolean.specs.declared.document.DocumentFileFault.TheVariants.{Document, TooFar, TooManyTriangles, OutOfMemory}
+use Rattle.ember_boolean.specs.declared.document.DocumentFileFault.TheVariants.{Document, TooFar}
+use Rattle.ember_boolean.specs.declared.document.DocumentFileFault.TheVariants.{TooManyTriangles}
+use Rattle.ember_boolean.specs.declared.document.DocumentFileFault.TheVariants.{OutOfMemory}
 use Rattle.ember_boolean.specs.declared.wanted.MeshFormat.{MeshFormat}
 use Rattle.ember_boolean.specs.declared.writing.Written.{Written}
 use Rattle.ember_boolean.specs.declared.writing_fault.WritingFault.{WritingFault}
@@ -16,7 +18,8 @@ use Rattle.ember_boolean.specs.Outputs.{AreShownIf, IsClosedAs}
 use Rattle.ember_boolean.specs.WritingFaults.{HasFarCorner, HasTooMany}
 
 -- ---- the file
--- there is a mesh of the document; the file is this mesh on the grid, in this format, closed; and the triangles that are
+-- there is a mesh of the document; the file is this mesh on the grid, in this format, closed; and the
+-- triangles that are
 -- shown are there if they are asked for
 pub record IsDocumentOutput (bytes : List ℕ) (grid : Grid) (format : MeshFormat) (shows : Bool) (file : Written) :
     Type 0 where

@@ -49,7 +49,8 @@ pub record IsFloatEffect (grid : Grid) (mesh : SolidMesh) (points : List FloatPo
 pub record IsDecimalEffect (digits : Option ℕ) (grid : Grid) (mesh : SolidMesh) (effect : RoundingEffect) :
     Type 0 where
   pub greatest : rounded_of effect.greatest ≡
-      greatest_decimal_move (written_places digits grid.step) grid.step grid.offset mesh.corners.items mesh.triangles.items
+      greatest_decimal_move (written_places digits grid.step) grid.step grid.offset mesh.corners.items
+      mesh.triangles.items
   pub coarse : effect.is_coarse ≡ is_above_hundredth effect.greatest grid.step
   pub facings : AreDecimalFacings mesh.planes.items (planes_of_decimals digits grid mesh)
       (vertices_of (decimals_of digits grid mesh)) (over_vertices (decimals_of digits grid mesh)) effect.facings

@@ -17,7 +17,8 @@ use Rattle.ember_solid_mesh.specs.Faults.{IsSolidFault}
 use Rattle.ember_solid_mesh.specs.Meshes.{IsSolidMesh}
 use Rattle.ember_surface.specs.declared.surface.Surface.{Surface}
 use Rattle.ember_boolean.specs.declared.fault.BooleanFault.{BooleanFault}
-use Rattle.ember_boolean.specs.declared.fault.BooleanFault.TheVariants.{File, Scene, Solid, TooFar, TooManyTriangles, OutOfMemory}
+use Rattle.ember_boolean.specs.declared.fault.BooleanFault.TheVariants.{File, Scene, Solid, TooFar}
+use Rattle.ember_boolean.specs.declared.fault.BooleanFault.TheVariants.{TooManyTriangles, OutOfMemory}
 use Rattle.ember_boolean.specs.declared.files.MeshFile.{MeshFile}
 use Rattle.ember_boolean.specs.declared.wanted.WantedFile.{WantedFile}
 use Rattle.ember_boolean.specs.declared.writing_fault.WritingFault.{WritingFault}

@@ -80,7 +80,8 @@ pub record AreRoundedWith (grid : Grid) (mesh : SolidMesh) (written : List Writt
   pub is_effect : IsFloatEffect grid mesh rounded.points effect
 
 -- the bytes are the file of the mesh's rounded triangles, which are also those that are shown, if any are; the numbers
--- are those of the mesh, of what rounding did to it, of its triangles that aren't written, and of the edges of more than
+-- are those of the mesh, of what rounding did to it, of its triangles that aren't written, and of the
+-- edges of more than
 -- two written triangles, if these are closed
 pub record IsOfFloats (format : FloatFormat) (grid : Grid) (mesh : SolidMesh) (file : Written) : Type 0 where
   pub written : List WrittenTriangle
@@ -110,8 +111,10 @@ pub record IsTextOver (format : TextFormat) (places : ℕ) (ts : List DecimalTri
   pub manifold : is_manifold ≡ true → IsManifold split.triangles.items
   pub whole : is_manifold ≡ false → cut ≡ ts
 
--- the bytes are the text of the mesh's rounded triangles; the numbers are those of the mesh, of what rounding did to it,
--- of its triangles that aren't written, and, if the others are closed, of their edges of more than two, where each point
+-- the bytes are the text of the mesh's rounded triangles; the numbers are those of the mesh, of what
+-- rounding did to it,
+-- of its triangles that aren't written, and, if the others are closed, of their edges of more than two,
+-- where each point
 -- is one vertex
 pub record IsText (format : TextFormat) (digits : Option ℕ) (grid : Grid) (mesh : SolidMesh) (file : Written) :
     Type 0 where
@@ -156,7 +159,8 @@ pub record AreKept (images : List Tri) (bytes : List ℕ) (kept : Kept) : Type 0
   pub document : kept.document.items ≡ bytes
 
 -- the surfaces of the files are a scene on the wanted grid, with these counts and moves; there is a mesh of the solid
--- of their triangles, with this report of the run; the file is this mesh in the wanted format, closed; and the triangles
+-- of their triangles, with this report of the run; the file is this mesh in the wanted format, closed;
+-- and the triangles
 -- that are shown, and the scene and the document of the solid, are there if they are wanted
 pub record IsOutput (files : List MeshFile) (formula : Formula) (wanted : WantedFile) (out : Output) : Type 0 where
   pub surfaces : List Surface

@@ -1,5 +1,6 @@
 -- Triangles near a box and its halves, counted one triangle after another.
-use Rattle.std.proofs.Common.{◌≡◌, ℕ, ◌+◌, ◌*◌, ◌<◌, ◌≤◌, refl, sym, ap, ◌∙◌, subst, arith, Bool, true, false, not, ◌&&◌, ◌||◌, if◌then◌else◌, nat_lt, nat_le, List, length, take, get_or}
+use Rattle.std.proofs.Common.{◌≡◌, ℕ, ◌+◌, ◌*◌, ◌<◌, ◌≤◌, refl, sym, ap, ◌∙◌, subst, arith, Bool, true, false, not}
+use Rattle.std.proofs.Common.{◌&&◌, ◌||◌, if◌then◌else◌, nat_lt, nat_le, List, length, take, get_or}
 use Rattle.std.proofs.lemmas.List.{length-take, take_all}
 use Rattle.std.proofs.lemmas.List.Filters.{length-filter_more}
 use Rattle.std.proofs.lemmas.List.Sums.{length-filter, count_by-le-length}
@@ -14,7 +15,8 @@ use Rattle.ember_box.specs.Halving.{half_sum, is_no_better, halving_axis, is_unp
 use Rattle.ember_box.specs.Sums.{number, near_half_count, IsSumOf, AreSums}
 
 -- ---- a list
-half_sum_more : (ts : List Tri) (c : Cell) (k : Axis) (i : ℕ) → i < length ts → half_sum (take (i + 1) ts) c k ≡ half_sum (take i ts) c k + near_half_count c k (get_or ts i no_tri)
+half_sum_more : (ts : List Tri) (c : Cell) (k : Axis) (i : ℕ) → i < length ts →
+    half_sum (take (i + 1) ts) c k ≡ half_sum (take i ts) c k + near_half_count c k (get_or ts i no_tri)
 unfolding half_sum near_half_count
 half_sum_more ts c k i l =
     omega (arith, length-filter_more (λ t. is_near (left_half c k) t) ts i no_tri l, length-filter_more (λ t. is_near (right_half c k) t) ts i no_tri l)
@@ -33,7 +35,8 @@ sums_none ts c = record { near = refl; bound = omega arith; x = at X; y = at Y; 
     at : (k : Axis) → IsSumOf (take 0 ts) c k 0
     at k = record { value = λ _. sym (none_yet ts c k); bound = omega arith }
 
-sum_more : (ts : List Tri) (c : Cell) (k : Axis) (i n d : ℕ) → i < length ts → IsSumOf (take i ts) c k n → (0 < c.log k → d ≡ near_half_count c k (get_or ts i no_tri)) → d ≤ 2 → IsSumOf (take (i + 1) ts) c k (n + d)
+sum_more : (ts : List Tri) (c : Cell) (k : Axis) (i n d : ℕ) → i < length ts → IsSumOf (take i ts) c k n →
+    (0 < c.log k → d ≡ near_half_count c k (get_or ts i no_tri)) → d ≤ 2 → IsSumOf (take (i + 1) ts) c k (n + d)
 sum_more ts c k i n d l s e b =
     record {
       value = λ p. (λ j. s.value p j + e p j) ∙ sym (half_sum_more ts c k i l);
@@ -41,7 +44,12 @@ sum_more ts c k i n d l s e b =
     }
 
 -- one more triangle, with what it adds to the sums
-pub sums_more : (ts : List Tri) (c : Cell) (i n x y z m dx dy dz : ℕ) → i < length ts → AreSums (take i ts) c (sums_of n x y z) → m ≡ number (is_near c (get_or ts i no_tri)) → m ≤ 1 → (0 < c.log X → dx ≡ near_half_count c X (get_or ts i no_tri)) → dx ≤ 2 → (0 < c.log Y → dy ≡ near_half_count c Y (get_or ts i no_tri)) → dy ≤ 2 → (0 < c.log Z → dz ≡ near_half_count c Z (get_or ts i no_tri)) → dz ≤ 2 → AreSums (take (i + 1) ts) c (sums_of (n + m) (x + dx) (y + dy) (z + dz))
+pub sums_more : (ts : List Tri) (c : Cell) (i n x y z m dx dy dz : ℕ) → i < length ts →
+    AreSums (take i ts) c (sums_of n x y z) → m ≡ number (is_near c (get_or ts i no_tri)) → m ≤ 1 →
+    (0 < c.log X → dx ≡ near_half_count c X (get_or ts i no_tri)) → dx ≤ 2 →
+    (0 < c.log Y → dy ≡ near_half_count c Y (get_or ts i no_tri)) → dy ≤ 2 →
+    (0 < c.log Z → dz ≡ near_half_count c Z (get_or ts i no_tri)) → dz ≤ 2 →
+    AreSums (take (i + 1) ts) c (sums_of (n + m) (x + dx) (y + dy) (z + dz))
 sums_more ts c i n x y z m dx dy dz l s em bm ex bx ey by' ez bz =
     record {
       near = (λ j. s.near j + em j) ∙ sym (length-filter_more (λ t. is_near c t) ts i no_tri l);
@@ -56,19 +64,22 @@ pub sums_all : (ts : List Tri) (c : Cell) (i : ℕ) (s : Sums) → length ts ≤
 sums_all ts c i s l a = subst (λ xs. AreSums xs c s) (take_all i ts l) a
 
 -- ---- what is decided by the sums
-no_better : (ts : List Tri) (c : Cell) (j k : Axis) (a b : ℕ) → IsSumOf ts c j a → IsSumOf ts c k b → (not (nat_lt 0 (c.log k)) || (nat_lt 0 (c.log j) && nat_le a b)) ≡ is_no_better ts c j k
+no_better : (ts : List Tri) (c : Cell) (j k : Axis) (a b : ℕ) → IsSumOf ts c j a → IsSumOf ts c k b →
+    (not (nat_lt 0 (c.log k)) || (nat_lt 0 (c.log j) && nat_le a b)) ≡ is_no_better ts c j k
 no_better ts c j k a b s t =
     by (nat_lt 0 (c.log k)) (nat_lt 0 (c.log j)) (λ e. t.value (positive (c.log k) e)) (λ e. s.value (positive (c.log j) e))
   where
     positive : (n : ℕ) → nat_lt 0 n ≡ true → 0 < n
     positive n e = grind arith
 
-    by : (p q : Bool) → (p ≡ true → b ≡ half_sum ts c k) → (q ≡ true → a ≡ half_sum ts c j) → (not p || (q && nat_le a b)) ≡ (not p || (q && nat_le (half_sum ts c j) (half_sum ts c k)))
+    by : (p q : Bool) → (p ≡ true → b ≡ half_sum ts c k) → (q ≡ true → a ≡ half_sum ts c j) →
+        (not p || (q && nat_le a b)) ≡ (not p || (q && nat_le (half_sum ts c j) (half_sum ts c k)))
     by false q f g = refl
     by true false f g = refl
     by true true f g = λ i. nat_le (g refl i) (f refl i)
 
-unprofitable_by_counts : (ts : List Tri) (c : Cell) (k : Axis) (n a : ℕ) → n ≡ length (near ts c) → IsSumOf ts c k a → (not (nat_lt 0 (c.log k)) || nat_le (7 * n) (4 * a)) ≡ is_unprofitable ts c k
+unprofitable_by_counts : (ts : List Tri) (c : Cell) (k : Axis) (n a : ℕ) → n ≡ length (near ts c) → IsSumOf ts c k a →
+    (not (nat_lt 0 (c.log k)) || nat_le (7 * n) (4 * a)) ≡ is_unprofitable ts c k
 unprofitable_by_counts ts c k n a e s = by (nat_lt 0 (c.log k)) (λ p. s.value (positive (c.log k) p))
   where
     positive : (n : ℕ) → nat_lt 0 n ≡ true → 0 < n
@@ -79,7 +90,11 @@ unprofitable_by_counts ts c k n a e s = by (nat_lt 0 (c.log k)) (λ p. s.value (
     by true f = λ i. nat_le (7 * e i) (4 * f refl i)
 
 -- the code's comparisons of the sums give the halving axis
-pub halving_axis_is : (ts : List Tri) (c : Cell) (s : Sums) (p q r : Bool) → AreSums ts c s → p ≡ (not (nat_lt 0 (c.log Y)) || (nat_lt 0 (c.log X) && nat_le s.x s.y)) → q ≡ (not (nat_lt 0 (c.log Z)) || (nat_lt 0 (c.log X) && nat_le s.x s.z)) → r ≡ (not (nat_lt 0 (c.log Z)) || (nat_lt 0 (c.log Y) && nat_le s.y s.z)) → (if p && q then X else (if r then Y else Z)) ≡ halving_axis ts c
+pub halving_axis_is : (ts : List Tri) (c : Cell) (s : Sums) (p q r : Bool) → AreSums ts c s →
+    p ≡ (not (nat_lt 0 (c.log Y)) || (nat_lt 0 (c.log X) && nat_le s.x s.y)) →
+    q ≡ (not (nat_lt 0 (c.log Z)) || (nat_lt 0 (c.log X) && nat_le s.x s.z)) →
+    r ≡ (not (nat_lt 0 (c.log Z)) || (nat_lt 0 (c.log Y) && nat_le s.y s.z)) →
+    (if p && q then X else (if r then Y else Z)) ≡ halving_axis ts c
 unfolding halving_axis
 halving_axis_is ts c s p q r a e f g =
     let xy = e ∙ no_better ts c X Y s.x s.y a.x a.y in let xz = f ∙ no_better ts c X Z s.x s.z a.x a.z in
@@ -87,7 +102,10 @@ halving_axis_is ts c s p q r a e f g =
     λ i. if xy i && xz i then X else (if yz i then Y else Z)
 
 -- the code's comparisons of the sums say whether the box is a leaf
-pub is_leaf_is : (ts : List Tri) (c : Cell) (s : Sums) (few x y z : Bool) → AreSums ts c s → few ≡ nat_le s.near 16 → x ≡ (not (nat_lt 0 (c.log X)) || nat_le (7 * s.near) (4 * s.x)) → y ≡ (not (nat_lt 0 (c.log Y)) || nat_le (7 * s.near) (4 * s.y)) → z ≡ (not (nat_lt 0 (c.log Z)) || nat_le (7 * s.near) (4 * s.z)) → (few || x && y && z) ≡ is_leaf ts c
+pub is_leaf_is : (ts : List Tri) (c : Cell) (s : Sums) (few x y z : Bool) → AreSums ts c s → few ≡ nat_le s.near 16 →
+    x ≡ (not (nat_lt 0 (c.log X)) || nat_le (7 * s.near) (4 * s.x)) →
+    y ≡ (not (nat_lt 0 (c.log Y)) || nat_le (7 * s.near) (4 * s.y)) →
+    z ≡ (not (nat_lt 0 (c.log Z)) || nat_le (7 * s.near) (4 * s.z)) → (few || x && y && z) ≡ is_leaf ts c
 unfolding is_leaf
 is_leaf_is ts c s few x y z a e ex ey ez =
     let n = e ∙ ap (λ m. nat_le m 16) a.near in
@@ -99,5 +117,11 @@ is_leaf_is ts c s few x y z a e ex ey ez =
 pub few_end : (ts : List Tri) (c : Cell) → length ts ≤ 16 → is_leaf ts c ≡ true
 unfolding is_leaf
 few_end ts c few =
-    let n : nat_le (length (near ts c)) 16 ≡ true = le-leb (length (near ts c)) 16 (omega (arith, few, length-filter (λ t. is_near c t) ts, count_by-le-length (λ t. is_near c t) ts)) in
+    let n : nat_le (length (near ts c)) 16 ≡ true =
+    le-leb (length (near ts c)) 16 (omega (
+      arith,
+      few,
+      length-filter (λ t. is_near c t) ts,
+      count_by-le-length (λ t. is_near c t) ts,
+    )) in
     or_left (nat_le (length (near ts c)) 16) (is_unprofitable ts c X && is_unprofitable ts c Y && is_unprofitable ts c Z) n

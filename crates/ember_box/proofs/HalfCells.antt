@@ -1,5 +1,7 @@
 -- The halves of a box are boxes, and what the code writes is those halves.
-use Rattle.std.proofs.Common.{◌≡◌, ℕ, zero, suc, pred, ◌+◌, ◌-◌, ◌*◌, ◌^◌, ◌<◌, ◌≤◌, List, [], ◌∷◌, ℤ, pos, negsuc, ◌+ℤ◌, unsigned_abs, to_z, of_z, to_z-of_z, SFits, length, slice_index_or, slice_set, refl, sym, ap, ap₂, ◌∙◌, subst, arith}
+use Rattle.std.proofs.Common.{◌≡◌, ℕ, zero, suc, pred, ◌+◌, ◌-◌, ◌*◌, ◌^◌, ◌<◌, ◌≤◌, List, [], ◌∷◌, ℤ, pos, negsuc}
+use Rattle.std.proofs.Common.{◌+ℤ◌, unsigned_abs, to_z, of_z, to_z-of_z, SFits, length, slice_index_or, slice_set, refl}
+use Rattle.std.proofs.Common.{sym, ap, ap₂, ◌∙◌, subst, arith}
 use Rattle.std.proofs.Math.Path.{fun_ext}
 use Rattle.std.proofs.Math.Nat.{pow-succ'}
 use mir.Syntax.{w32}
@@ -21,7 +23,12 @@ log_at log Y = refl
 log_at log Z = refl
 
 -- the logarithms after one was lowered
-lowered : (log : List ℕ) (k : Axis) → length log ≡ 3 → (i : Axis) → three (slice_index_or (slice_set log (axis_index k) (slice_index_or log (axis_index k) 0 - 1)) 0 0) (slice_index_or (slice_set log (axis_index k) (slice_index_or log (axis_index k) 0 - 1)) 1 0) (slice_index_or (slice_set log (axis_index k) (slice_index_or log (axis_index k) 0 - 1)) 2 0) i ≡ put k (pred (three (slice_index_or log 0 0) (slice_index_or log 1 0) (slice_index_or log 2 0) k)) (three (slice_index_or log 0 0) (slice_index_or log 1 0) (slice_index_or log 2 0)) i
+lowered : (log : List ℕ) (k : Axis) → length log ≡ 3 → (i : Axis) →
+    three (slice_index_or (slice_set log (axis_index k) (slice_index_or log (axis_index k) 0 - 1)) 0 0)
+    (slice_index_or (slice_set log (axis_index k) (slice_index_or log (axis_index k) 0 - 1)) 1 0)
+    (slice_index_or (slice_set log (axis_index k) (slice_index_or log (axis_index k) 0 - 1)) 2 0) i ≡ put k
+    (pred (three (slice_index_or log 0 0) (slice_index_or log 1 0) (slice_index_or log 2 0) k))
+    (three (slice_index_or log 0 0) (slice_index_or log 1 0) (slice_index_or log 2 0)) i
 lowered [] k e i = absurd (omega arith)
 lowered (a ∷ []) k e i = absurd (omega arith)
 lowered (a ∷ b ∷ []) k e i = absurd (omega arith)
@@ -37,21 +44,48 @@ lowered (a ∷ b ∷ d ∷ []) Z e Z = minus_pred d
 lowered (a ∷ b ∷ d ∷ x ∷ log) k e i = absurd (omega arith)
 
 -- what the code writes is the left half
-pub is_lower : (lo : List ℤ) (log : List ℕ) (path : ℕ) (k : Axis) → length log ≡ 3 → cell_of lo (slice_set log (axis_index k) (slice_index_or log (axis_index k) 0 - 1)) (2 * path) ≡ left_half (cell_of lo log path) k
-is_lower lo log path k e = ap (λ f. record { lo = record { x = slice_index_or lo 0 (pos 0); y = slice_index_or lo 1 (pos 0); z = slice_index_or lo 2 (pos 0) }; log = f; path = 2 * path }) (fun_ext (lowered log k e))
+pub is_lower : (lo : List ℤ) (log : List ℕ) (path : ℕ) (k : Axis) → length log ≡ 3 →
+    cell_of lo (slice_set log (axis_index k) (slice_index_or log (axis_index k) 0 - 1)) (2 * path) ≡ left_half
+    (cell_of lo log path) k
+is_lower lo log path k e = ap (λ f. record {
+  lo =
+      record { x = slice_index_or lo 0 (pos 0); y = slice_index_or lo 1 (pos 0); z = slice_index_or lo 2 (pos 0) };
+  log =
+      f;
+  path = 2 * path;
+}) (fun_ext (lowered log k e))
 
 -- half a side further on
 onward : (x : ℤ) (a : ℕ) → x +ℤ pos (2 ^ (a - 1)) ≡ x +ℤ pos (2 ^ pred a)
 onward x a = ap (λ k. x +ℤ pos (2 ^ k)) (minus_pred a)
 
 -- the fields that the code sets are those of the right half
-pub is_upper : (lo : List ℤ) (log : List ℕ) (path : ℕ) (k : Axis) → length lo ≡ 3 → length log ≡ 3 → cell_of (slice_set lo (axis_index k) (slice_index_or lo (axis_index k) (pos 0) +ℤ pos (2 ^ (slice_index_or log (axis_index k) 0 - 1)))) (slice_set log (axis_index k) (slice_index_or log (axis_index k) 0 - 1)) (2 * path + 1) ≡ right_half (cell_of lo log path) k
+pub is_upper : (lo : List ℤ) (log : List ℕ) (path : ℕ) (k : Axis) → length lo ≡ 3 → length log ≡ 3 →
+    cell_of (slice_set lo (axis_index k) (slice_index_or lo (axis_index k) (pos 0) +ℤ pos
+    (2 ^ (slice_index_or log (axis_index k) 0 - 1))))
+    (slice_set log (axis_index k) (slice_index_or log (axis_index k) 0 - 1)) (2 * path + 1) ≡ right_half
+    (cell_of lo log path) k
 is_upper [] log path k e l = absurd (omega arith)
 is_upper (x ∷ []) log path k e l = absurd (omega arith)
 is_upper (x ∷ y ∷ []) log path k e l = absurd (omega arith)
-is_upper (x ∷ y ∷ z ∷ []) log path X e l = ap₂ (λ n f. record { lo = record { x = n; y = y; z = z }; log = f; path = 2 * path + 1 }) (onward x (slice_index_or log 0 0)) (fun_ext (lowered log X l))
-is_upper (x ∷ y ∷ z ∷ []) log path Y e l = ap₂ (λ n f. record { lo = record { x = x; y = n; z = z }; log = f; path = 2 * path + 1 }) (onward y (slice_index_or log 1 0)) (fun_ext (lowered log Y l))
-is_upper (x ∷ y ∷ z ∷ []) log path Z e l = ap₂ (λ n f. record { lo = record { x = x; y = y; z = n }; log = f; path = 2 * path + 1 }) (onward z (slice_index_or log 2 0)) (fun_ext (lowered log Z l))
+is_upper (x ∷ y ∷ z ∷ []) log path X e l = ap₂ (λ n f. record {
+  lo = record { x = n; y = y; z = z };
+  log = f;
+  path =
+      2 * path + 1;
+}) (onward x (slice_index_or log 0 0)) (fun_ext (lowered log X l))
+is_upper (x ∷ y ∷ z ∷ []) log path Y e l = ap₂ (λ n f. record {
+  lo = record { x = x; y = n; z = z };
+  log = f;
+  path =
+      2 * path + 1;
+}) (onward y (slice_index_or log 1 0)) (fun_ext (lowered log Y l))
+is_upper (x ∷ y ∷ z ∷ []) log path Z e l = ap₂ (λ n f. record {
+  lo = record { x = x; y = y; z = n };
+  log = f;
+  path =
+      2 * path + 1;
+}) (onward z (slice_index_or log 2 0)) (fun_ext (lowered log Z l))
 is_upper (x ∷ y ∷ z ∷ w ∷ lo) log path k e l = absurd (omega arith)
 
 -- twice as many of half the size
@@ -81,8 +115,17 @@ upper_sits l zero above s = absurd (omega arith)
 upper_sits l (suc m) above s = record {
   small = omega (arith, s.small);
   index = 2 * s.index + 1;
-  at = turn l (pos (2 ^ m)) (pos 2048) ∙ ap (λ x. x +ℤ pos (2 ^ m)) s.at ∙ ap pos (omega (arith, double s.index m, even s.index (2 ^ m), next (2 * s.index) (2 ^ m)));
-  within = omega (arith, s.within, double (s.index + 1) m, even s.index (2 ^ m), next s.index (2 ^ m), next (2 * s.index) (2 ^ m), next (2 * s.index + 1) (2 ^ m));
+  at = turn l (pos (2 ^ m)) (pos 2048) ∙ ap (λ x. x +ℤ pos (2 ^ m)) s.at
+      ∙ ap pos (omega (arith, double s.index m, even s.index (2 ^ m), next (2 * s.index) (2 ^ m)));
+  within = omega (
+    arith,
+    s.within,
+    double (s.index + 1) m,
+    even s.index (2 ^ m),
+    next s.index (2 ^ m),
+    next (2 * s.index) (2 ^ m),
+    next (2 * s.index + 1) (2 ^ m),
+  );
 }
 
 less_one : (n : ℕ) → 0 < n → pred n + 1 ≡ n
@@ -152,13 +195,15 @@ within : (x : ℤ) (n : ℕ) → IsOnGrid x n → Small 2048 x
 within x n s = between x (s.index * 2 ^ n) (omega (arith, s.within, next s.index (2 ^ n))) s.at
 
 -- the least coordinate and the side of a box are small
-pub cell_side_is_small : (lo : List ℤ) (log : List ℕ) (path : ℕ) (k : Axis) → IsCell (cell_of lo log path) → Small 2048 (slice_index_or lo (axis_index k) (pos 0)) × (slice_index_or log (axis_index k) 0 ≤ 12)
+pub cell_side_is_small : (lo : List ℤ) (log : List ℕ) (path : ℕ) (k : Axis) → IsCell (cell_of lo log path) →
+    Small 2048 (slice_index_or lo (axis_index k) (pos 0)) × (slice_index_or log (axis_index k) 0 ≤ 12)
 cell_side_is_small lo log path X s = (within (slice_index_or lo 0 (pos 0)) (slice_index_or log 0 0) (s.sits X), (s.sits X).small)
 cell_side_is_small lo log path Y s = (within (slice_index_or lo 1 (pos 0)) (slice_index_or log 1 0) (s.sits Y), (s.sits Y).small)
 cell_side_is_small lo log path Z s = (within (slice_index_or lo 2 (pos 0)) (slice_index_or log 2 0) (s.sits Z), (s.sits Z).small)
 
 -- the least coordinates of a box are small
-pub low_small : (lo : List ℤ) (log : List ℕ) (path : ℕ) (k : Axis) {i : ℕ} → i ≡ axis_index k → IsCell (cell_of lo log path) → Small 2048 (slice_index_or lo i (pos 0))
+pub low_small : (lo : List ℤ) (log : List ℕ) (path : ℕ) (k : Axis) {i : ℕ} → i ≡ axis_index k →
+    IsCell (cell_of lo log path) → Small 2048 (slice_index_or lo i (pos 0))
 low_small lo log path k e s = subst (λ j. Small 2048 (slice_index_or lo j (pos 0))) (sym e) (cell_side_is_small lo log path k s).0
 
 -- a coordinate and a side are stored as they are, and so is their sum

@@ -45,13 +45,17 @@ margins_cross p b m a =
     λ i. above i && below i
 
 -- the least and the greatest value of a half, by those of the whole: l and g, and by the growth q over a half
-low_test : (s : Bool) (l g d q above below l' g' : ℤ) → above ≡ d -ℤ l → below ≡ g -ℤ d → l' ≡ l -ℤ (if s then q else pos 0) → g' ≡ g -ℤ (if s then pos 0 else q) → int_le l d ≡ true → int_le d g ≡ true → int_le (if s then neg_ℤ q else q) (if s then above else below) ≡ int_le l' d && int_le d g'
+low_test : (s : Bool) (l g d q above below l' g' : ℤ) → above ≡ d -ℤ l → below ≡ g -ℤ d →
+    l' ≡ l -ℤ (if s then q else pos 0) → g' ≡ g -ℤ (if s then pos 0 else q) → int_le l d ≡ true → int_le d g ≡ true →
+    int_le (if s then neg_ℤ q else q) (if s then above else below) ≡ int_le l' d && int_le d g'
 low_test true l g d q above below l' g' a b e f m n =
     same_le (neg_ℤ q) above l' d (omega (arith, linear, a, e)) ∙ with_true (int_le l' d) (int_le d g') (same_le d g' d g (omega (arith, linear, f)) ∙ n)
 low_test false l g d q above below l' g' a b e f m n =
     same_le q below d g' (omega (arith, linear, b, f)) ∙ true_with (int_le d g') (int_le l' d) (same_le l' d l d (omega (arith, linear, e)) ∙ m)
 
-high_test : (s : Bool) (l g d q above below l' g' : ℤ) → above ≡ d -ℤ l → below ≡ g -ℤ d → l' ≡ l +ℤ (if s then pos 0 else q) → g' ≡ g +ℤ (if s then q else pos 0) → int_le l d ≡ true → int_le d g ≡ true → int_le (if s then neg_ℤ q else q) (if s then below else above) ≡ int_le l' d && int_le d g'
+high_test : (s : Bool) (l g d q above below l' g' : ℤ) → above ≡ d -ℤ l → below ≡ g -ℤ d →
+    l' ≡ l +ℤ (if s then pos 0 else q) → g' ≡ g +ℤ (if s then q else pos 0) → int_le l d ≡ true → int_le d g ≡ true →
+    int_le (if s then neg_ℤ q else q) (if s then below else above) ≡ int_le l' d && int_le d g'
 high_test true l g d q above below l' g' a b e f m n =
     same_le (neg_ℤ q) below d g' (omega (arith, linear, b, f)) ∙ true_with (int_le d g') (int_le l' d) (same_le l' d l d (omega (arith, linear, e)) ∙ m)
 high_test false l g d q above below l' g' a b e f m n =
@@ -93,40 +97,60 @@ module _ (p : Plane) (c : Cell) (m : Margins) (a : AreMargins p (aabb_of_cell c)
   unfolding crosses
   over = and_parts (int_le (least_value p (aabb_of_cell c)) p.d) (int_le p.d (greatest_value p (aabb_of_cell c))) o
 
-  low_by : (n half : ℤ) (k : Axis) → least_value p (aabb_of_cell (left_half c k)) ≡ least_value p (aabb_of_cell c) -ℤ (if is_negative n then n *ℤ half else pos 0) → greatest_value p (aabb_of_cell (left_half c k)) ≡ greatest_value p (aabb_of_cell c) -ℤ (if is_negative n then pos 0 else n *ℤ half) → int_le (change_size n half) (margin_of_left n m) ≡ crosses p (aabb_of_cell (left_half c k))
+  low_by : (n half : ℤ) (k : Axis) → least_value p (aabb_of_cell (left_half c k)) ≡ least_value p (aabb_of_cell c) -ℤ
+      (if is_negative n then n *ℤ half else pos 0) →
+      greatest_value p (aabb_of_cell (left_half c k)) ≡ greatest_value p (aabb_of_cell c) -ℤ
+      (if is_negative n then pos 0 else n *ℤ half) →
+      int_le (change_size n half) (margin_of_left n m) ≡ crosses p (aabb_of_cell (left_half c k))
   unfolding crosses
   low_by n half k e f =
-      low_test (is_negative n) (least_value p (aabb_of_cell c)) (greatest_value p (aabb_of_cell c)) p.d (n *ℤ half) m.above m.below (least_value p (aabb_of_cell (left_half c k))) (greatest_value p (aabb_of_cell (left_half c k))) a.above a.below e f over.0 over.1
+      low_test (is_negative n) (least_value p (aabb_of_cell c)) (greatest_value p (aabb_of_cell c)) p.d (n *ℤ half)
+      m.above m.below (least_value p (aabb_of_cell (left_half c k))) (greatest_value p (aabb_of_cell (left_half c k)))
+      a.above a.below e f over.0 over.1
 
-  high_by : (n half : ℤ) (k : Axis) → least_value p (aabb_of_cell (right_half c k)) ≡ least_value p (aabb_of_cell c) +ℤ (if is_negative n then pos 0 else n *ℤ half) → greatest_value p (aabb_of_cell (right_half c k)) ≡ greatest_value p (aabb_of_cell c) +ℤ (if is_negative n then n *ℤ half else pos 0) → int_le (change_size n half) (margin_of_right n m) ≡ crosses p (aabb_of_cell (right_half c k))
+  high_by : (n half : ℤ) (k : Axis) → least_value p (aabb_of_cell (right_half c k)) ≡ least_value p (aabb_of_cell c) +ℤ
+      (if is_negative n then pos 0 else n *ℤ half) →
+      greatest_value p (aabb_of_cell (right_half c k)) ≡ greatest_value p (aabb_of_cell c) +ℤ
+      (if is_negative n then n *ℤ half else pos 0) →
+      int_le (change_size n half) (margin_of_right n m) ≡ crosses p (aabb_of_cell (right_half c k))
   unfolding crosses
   high_by n half k e f =
-      high_test (is_negative n) (least_value p (aabb_of_cell c)) (greatest_value p (aabb_of_cell c)) p.d (n *ℤ half) m.above m.below (least_value p (aabb_of_cell (right_half c k))) (greatest_value p (aabb_of_cell (right_half c k))) a.above a.below e f over.0 over.1
+      high_test (is_negative n) (least_value p (aabb_of_cell c)) (greatest_value p (aabb_of_cell c)) p.d (n *ℤ half)
+      m.above m.below (least_value p (aabb_of_cell (right_half c k)))
+      (greatest_value p (aabb_of_cell (right_half c k))) a.above a.below e f over.0 over.1
 
-  pub low_crossed : (k : Axis) (i : Middle) → 0 < c.log k → IsMiddle c k i → int_le (change_size (along p k) i.half) (margin_of_left (along p k) m) ≡ crosses p (aabb_of_cell (left_half c k))
+  pub low_crossed : (k : Axis) (i : Middle) → 0 < c.log k → IsMiddle c k i →
+      int_le (change_size (along p k) i.half) (margin_of_left (along p k) m) ≡ crosses p (aabb_of_cell (left_half c k))
   low_crossed X i may are =
       let n = p.a in let l = low c X in let g = pos (2 ^ pred (c.log X)) in
       let e = sym (halves_end l (c.log X) may) in let q = ap (λ (x : ℤ). n *ℤ x) (half_is l g i.half are.length) in
-      low_by n i.half X (omega (arith, linear, low_least n l g (high c X) (n *ℤ i.half) e q (is_negative n))) (omega (arith, linear, low_greatest n l g (high c X) (n *ℤ i.half) e q (is_negative n)))
+      low_by n i.half X (omega (arith, linear, low_least n l g (high c X) (n *ℤ i.half) e q (is_negative n)))
+      (omega (arith, linear, low_greatest n l g (high c X) (n *ℤ i.half) e q (is_negative n)))
   low_crossed Y i may are =
       let n = p.b in let l = low c Y in let g = pos (2 ^ pred (c.log Y)) in
       let e = sym (halves_end l (c.log Y) may) in let q = ap (λ (x : ℤ). n *ℤ x) (half_is l g i.half are.length) in
-      low_by n i.half Y (omega (arith, linear, low_least n l g (high c Y) (n *ℤ i.half) e q (is_negative n))) (omega (arith, linear, low_greatest n l g (high c Y) (n *ℤ i.half) e q (is_negative n)))
+      low_by n i.half Y (omega (arith, linear, low_least n l g (high c Y) (n *ℤ i.half) e q (is_negative n)))
+      (omega (arith, linear, low_greatest n l g (high c Y) (n *ℤ i.half) e q (is_negative n)))
   low_crossed Z i may are =
       let n = p.c in let l = low c Z in let g = pos (2 ^ pred (c.log Z)) in
       let e = sym (halves_end l (c.log Z) may) in let q = ap (λ (x : ℤ). n *ℤ x) (half_is l g i.half are.length) in
-      low_by n i.half Z (omega (arith, linear, low_least n l g (high c Z) (n *ℤ i.half) e q (is_negative n))) (omega (arith, linear, low_greatest n l g (high c Z) (n *ℤ i.half) e q (is_negative n)))
+      low_by n i.half Z (omega (arith, linear, low_least n l g (high c Z) (n *ℤ i.half) e q (is_negative n)))
+      (omega (arith, linear, low_greatest n l g (high c Z) (n *ℤ i.half) e q (is_negative n)))
 
-  pub high_crossed : (k : Axis) (i : Middle) → 0 < c.log k → IsMiddle c k i → int_le (change_size (along p k) i.half) (margin_of_right (along p k) m) ≡ crosses p (aabb_of_cell (right_half c k))
+  pub high_crossed : (k : Axis) (i : Middle) → 0 < c.log k → IsMiddle c k i →
+      int_le (change_size (along p k) i.half) (margin_of_right (along p k) m) ≡ crosses p (aabb_of_cell (right_half c k))
   high_crossed X i may are =
       let n = p.a in let l = low c X in let g = pos (2 ^ pred (c.log X)) in
       let e = sym (halves_end l (c.log X) may) in let q = ap (λ (x : ℤ). n *ℤ x) (half_is l g i.half are.length) in
-      high_by n i.half X (omega (arith, linear, high_least n l g (high c X) (n *ℤ i.half) e q (is_negative n))) (omega (arith, linear, high_greatest n l g (high c X) (n *ℤ i.half) e q (is_negative n)))
+      high_by n i.half X (omega (arith, linear, high_least n l g (high c X) (n *ℤ i.half) e q (is_negative n)))
+      (omega (arith, linear, high_greatest n l g (high c X) (n *ℤ i.half) e q (is_negative n)))
   high_crossed Y i may are =
       let n = p.b in let l = low c Y in let g = pos (2 ^ pred (c.log Y)) in
       let e = sym (halves_end l (c.log Y) may) in let q = ap (λ (x : ℤ). n *ℤ x) (half_is l g i.half are.length) in
-      high_by n i.half Y (omega (arith, linear, high_least n l g (high c Y) (n *ℤ i.half) e q (is_negative n))) (omega (arith, linear, high_greatest n l g (high c Y) (n *ℤ i.half) e q (is_negative n)))
+      high_by n i.half Y (omega (arith, linear, high_least n l g (high c Y) (n *ℤ i.half) e q (is_negative n)))
+      (omega (arith, linear, high_greatest n l g (high c Y) (n *ℤ i.half) e q (is_negative n)))
   high_crossed Z i may are =
       let n = p.c in let l = low c Z in let g = pos (2 ^ pred (c.log Z)) in
       let e = sym (halves_end l (c.log Z) may) in let q = ap (λ (x : ℤ). n *ℤ x) (half_is l g i.half are.length) in
-      high_by n i.half Z (omega (arith, linear, high_least n l g (high c Z) (n *ℤ i.half) e q (is_negative n))) (omega (arith, linear, high_greatest n l g (high c Z) (n *ℤ i.half) e q (is_negative n)))
+      high_by n i.half Z (omega (arith, linear, high_least n l g (high c Z) (n *ℤ i.half) e q (is_negative n)))
+      (omega (arith, linear, high_greatest n l g (high c Z) (n *ℤ i.half) e q (is_negative n)))

@@ -14,7 +14,9 @@ not_zero : (n : ℕ) → 0 < n → nat_lt 0 n ≡ false → ⊥
 not_zero n p e = grind arith
 
 -- whichever axis is chosen can be halved, if one can: p, q and r compare the sums
-chosen : (P : Axis → Type 0) (x y z p q r : Bool) → (x ≡ true → P X) → (y ≡ true → P Y) → (z ≡ true → P Z) → (x ≡ false → y ≡ false → z ≡ false → ⊥) → P (if (not y || (x && p)) && (not z || (x && q)) then X else (if not z || (y && r) then Y else Z))
+chosen : (P : Axis → Type 0) (x y z p q r : Bool) → (x ≡ true → P X) → (y ≡ true → P Y) → (z ≡ true → P Z) →
+    (x ≡ false → y ≡ false → z ≡ false → ⊥) → P (if (not y || (x && p))
+    && (not z || (x && q)) then X else (if not z || (y && r) then Y else Z))
 chosen P false false false p q r f g h n = absurd (n refl refl refl)
 chosen P false false true p q r f g h n = h refl
 chosen P false true false p q r f g h n = g refl
@@ -31,10 +33,13 @@ chosen P true true true true false false f g h n = h refl
 chosen P true true true false q true f g h n = g refl
 chosen P true true true false q false f g h n = h refl
 
-halvable : (ts : List Tri) (c : Cell) → (nat_lt 0 (c.log X) ≡ false → nat_lt 0 (c.log Y) ≡ false → nat_lt 0 (c.log Z) ≡ false → ⊥) → 0 < c.log (halving_axis ts c)
+halvable : (ts : List Tri) (c : Cell) → (nat_lt 0 (c.log X) ≡ false → nat_lt 0 (c.log Y) ≡ false →
+    nat_lt 0 (c.log Z) ≡ false → ⊥) → 0 < c.log (halving_axis ts c)
 unfolding halving_axis
 halvable ts c none =
-    chosen (λ k. 0 < c.log k) (nat_lt 0 (c.log X)) (nat_lt 0 (c.log Y)) (nat_lt 0 (c.log Z)) (nat_le (half_sum ts c X) (half_sum ts c Y)) (nat_le (half_sum ts c X) (half_sum ts c Z)) (nat_le (half_sum ts c Y) (half_sum ts c Z)) (positive (c.log X)) (positive (c.log Y)) (positive (c.log Z)) none
+    chosen (λ k. 0 < c.log k) (nat_lt 0 (c.log X)) (nat_lt 0 (c.log Y)) (nat_lt 0 (c.log Z))
+    (nat_le (half_sum ts c X) (half_sum ts c Y)) (nat_le (half_sum ts c X) (half_sum ts c Z))
+    (nat_le (half_sum ts c Y) (half_sum ts c Z)) (positive (c.log X)) (positive (c.log Y)) (positive (c.log Z)) none
 
 -- where some side is above 1
 pub halvable_along : (ts : List Tri) (c : Cell) (k : Axis) → 0 < c.log k → 0 < c.log (halving_axis ts c)
@@ -46,7 +51,10 @@ halvable_along ts c Z p = halvable ts c (λ x y z. not_zero (c.log Z) p z)
 pub halvable_unless_leaf : (ts : List Tri) (c : Cell) → is_leaf ts c ≡ false → 0 < c.log (halving_axis ts c)
 unfolding is_leaf
 halvable_unless_leaf ts c e =
-    halvable ts c (λ x y z. clash (nat_le (length (near ts c)) 16) (nat_le (7 * length (near ts c)) (4 * half_sum ts c X)) (nat_le (7 * length (near ts c)) (4 * half_sum ts c Y)) (nat_le (7 * length (near ts c)) (4 * half_sum ts c Z)) (nat_lt 0 (c.log X)) (nat_lt 0 (c.log Y)) (nat_lt 0 (c.log Z)) x y z e)
+    halvable ts c (λ x y z. clash (nat_le (length (near ts c)) 16)
+    (nat_le (7 * length (near ts c)) (4 * half_sum ts c X)) (nat_le (7 * length (near ts c)) (4 * half_sum ts c Y))
+    (nat_le (7 * length (near ts c)) (4 * half_sum ts c Z)) (nat_lt 0 (c.log X)) (nat_lt 0 (c.log Y))
+    (nat_lt 0 (c.log Z)) x y z e)
   where
     always : (few : Bool) → (few || true) ≡ false → ⊥
     always true e = cc

@@ -53,34 +53,44 @@ beside_y true true false false = refl
 
 -- ---- a box
 -- a bounding box meets the left half exactly if it meets the box and reaches the middle from below
-pub left_meets : (c : Cell) (k : Axis) (a : Aabb) → 0 < c.log k → aabbs_meet a (aabb_of_cell c) && int_le (interval_along a k).low (low (right_half c k) k) ≡ aabbs_meet a (aabb_of_cell (left_half c k))
+pub left_meets : (c : Cell) (k : Axis) (a : Aabb) → 0 < c.log k →
+    aabbs_meet a (aabb_of_cell c) && int_le (interval_along a k).low (low (right_half c k) k) ≡ aabbs_meet a
+    (aabb_of_cell (left_half c k))
 left_meets c X a p =
     let b = aabb_of_cell c in let m = low (right_half c X) X in let e = halves_end (low c X) (c.log X) p in
     let h : m ≤ℤ high c X = omega (arith, ints, e) in
-    beside_x (intervals_meet a.x b.x) (intervals_meet a.y b.y) (intervals_meet a.z b.z) (int_le a.x.low m) ∙ (λ i. lower_part a.x b.x m h i && intervals_meet a.y b.y && intervals_meet a.z b.z)
+    beside_x (intervals_meet a.x b.x) (intervals_meet a.y b.y) (intervals_meet a.z b.z) (int_le a.x.low m)
+    ∙ (λ i. lower_part a.x b.x m h i && intervals_meet a.y b.y && intervals_meet a.z b.z)
 left_meets c Y a p =
     let b = aabb_of_cell c in let m = low (right_half c Y) Y in let e = halves_end (low c Y) (c.log Y) p in
     let h : m ≤ℤ high c Y = omega (arith, ints, e) in
-    beside_y (intervals_meet a.x b.x) (intervals_meet a.y b.y) (intervals_meet a.z b.z) (int_le a.y.low m) ∙ (λ i. intervals_meet a.x b.x && lower_part a.y b.y m h i && intervals_meet a.z b.z)
+    beside_y (intervals_meet a.x b.x) (intervals_meet a.y b.y) (intervals_meet a.z b.z) (int_le a.y.low m)
+    ∙ (λ i. intervals_meet a.x b.x && lower_part a.y b.y m h i && intervals_meet a.z b.z)
 left_meets c Z a p =
     let b = aabb_of_cell c in let m = low (right_half c Z) Z in let e = halves_end (low c Z) (c.log Z) p in
     let h : m ≤ℤ high c Z = omega (arith, ints, e) in
-    and_assoc (intervals_meet a.x b.x && intervals_meet a.y b.y) (intervals_meet a.z b.z) (int_le a.z.low m) ∙ (λ i. intervals_meet a.x b.x && intervals_meet a.y b.y && lower_part a.z b.z m h i)
+    and_assoc (intervals_meet a.x b.x && intervals_meet a.y b.y) (intervals_meet a.z b.z) (int_le a.z.low m)
+    ∙ (λ i. intervals_meet a.x b.x && intervals_meet a.y b.y && lower_part a.z b.z m h i)
 
 -- a bounding box meets the right half if it meets the box and reaches the half
-pub right_meets : (c : Cell) (k : Axis) (a : Aabb) → 0 < c.log k → aabbs_meet a (aabb_of_cell c) && int_le (low (right_half c k) k) (interval_along a k).high ≡ aabbs_meet a (aabb_of_cell (right_half c k))
+pub right_meets : (c : Cell) (k : Axis) (a : Aabb) → 0 < c.log k →
+    aabbs_meet a (aabb_of_cell c) && int_le (low (right_half c k) k) (interval_along a k).high ≡ aabbs_meet a
+    (aabb_of_cell (right_half c k))
 right_meets c X a p =
     let b = aabb_of_cell c in let m = low (right_half c X) X in let e = halves_end (low c X) (c.log X) p in
     let h : low c X ≤ℤ m = omega (arith, ints) in
     let part = upper_part a.x b.x m h ∙ ap (λ (n : ℤ). intervals_meet a.x (interval_between m n)) (sym e) in
-    beside_x (intervals_meet a.x b.x) (intervals_meet a.y b.y) (intervals_meet a.z b.z) (int_le m a.x.high) ∙ (λ i. part i && intervals_meet a.y b.y && intervals_meet a.z b.z)
+    beside_x (intervals_meet a.x b.x) (intervals_meet a.y b.y) (intervals_meet a.z b.z) (int_le m a.x.high)
+    ∙ (λ i. part i && intervals_meet a.y b.y && intervals_meet a.z b.z)
 right_meets c Y a p =
     let b = aabb_of_cell c in let m = low (right_half c Y) Y in let e = halves_end (low c Y) (c.log Y) p in
     let h : low c Y ≤ℤ m = omega (arith, ints) in
     let part = upper_part a.y b.y m h ∙ ap (λ (n : ℤ). intervals_meet a.y (interval_between m n)) (sym e) in
-    beside_y (intervals_meet a.x b.x) (intervals_meet a.y b.y) (intervals_meet a.z b.z) (int_le m a.y.high) ∙ (λ i. intervals_meet a.x b.x && part i && intervals_meet a.z b.z)
+    beside_y (intervals_meet a.x b.x) (intervals_meet a.y b.y) (intervals_meet a.z b.z) (int_le m a.y.high)
+    ∙ (λ i. intervals_meet a.x b.x && part i && intervals_meet a.z b.z)
 right_meets c Z a p =
     let b = aabb_of_cell c in let m = low (right_half c Z) Z in let e = halves_end (low c Z) (c.log Z) p in
     let h : low c Z ≤ℤ m = omega (arith, ints) in
     let part = upper_part a.z b.z m h ∙ ap (λ (n : ℤ). intervals_meet a.z (interval_between m n)) (sym e) in
-    and_assoc (intervals_meet a.x b.x && intervals_meet a.y b.y) (intervals_meet a.z b.z) (int_le m a.z.high) ∙ (λ i. intervals_meet a.x b.x && intervals_meet a.y b.y && part i)
+    and_assoc (intervals_meet a.x b.x && intervals_meet a.y b.y) (intervals_meet a.z b.z) (int_le m a.z.high)
+    ∙ (λ i. intervals_meet a.x b.x && intervals_meet a.y b.y && part i)

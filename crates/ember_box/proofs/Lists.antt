@@ -1,6 +1,7 @@
 -- Lists of near triangles that shrink with the box: what is near a half is found among what is near the
 -- whole, and at the root every triangle is near.
-use Rattle.std.proofs.Common.{◌≡◌, ℕ, suc, ◌+◌, ◌*◌, ◌<◌, refl, sym, ap, ◌∙◌, arith, Bool, true, false, not, ◌&&◌, ◌||◌, cond, if◌then◌else◌, nat_lt, nat_le, List, [], ◌∷◌, filter, map, length, All}
+use Rattle.std.proofs.Common.{◌≡◌, ℕ, suc, ◌+◌, ◌*◌, ◌<◌, refl, sym, ap, ◌∙◌, arith, Bool, true, false, not, ◌&&◌, ◌||◌}
+use Rattle.std.proofs.Common.{cond, if◌then◌else◌, nat_lt, nat_le, List, [], ◌∷◌, filter, map, length, All}
 use Rattle.std.specs.List.{range_with_len}
 use Rattle.std.proofs.lemmas.List.Elements.{All-filter}
 use Rattle.ember_model.specs.declared.tri.Tri.{Tri}
@@ -22,7 +23,8 @@ filter_within : {X : Type 0} (p q : X → Bool) → ((x : X) → p x ≡ true �
 filter_within {X} p q f [] = refl
 filter_within {X} p q f (x ∷ xs) = by (q x) refl (filter_within p q f xs)
   where
-    by : (t : Bool) → q x ≡ t → filter p (filter q xs) ≡ filter p xs → filter p (cond t (x ∷ filter q xs) (filter q xs)) ≡ cond (p x) (x ∷ filter p xs) (filter p xs)
+    by : (t : Bool) → q x ≡ t → filter p (filter q xs) ≡ filter p xs →
+        filter p (cond t (x ∷ filter q xs) (filter q xs)) ≡ cond (p x) (x ∷ filter p xs) (filter p xs)
     by true e h = ap (λ (l : List X). cond (p x) (x ∷ l) l) h
     by false e h = h ∙ ap (λ (b : Bool). cond b (x ∷ filter p xs) (filter p xs)) (sym (false_by (p x) (q x) (f x) e))
 
@@ -30,7 +32,9 @@ map-filter : {X Y : Type 0} (f : X → Y) (p : Y → Bool) (xs : List X) → map
 map-filter f p [] = refl
 map-filter {X} {Y} f p (x ∷ xs) = by (p (f x)) (map-filter f p xs)
   where
-    by : (t : Bool) → map f (filter (λ x. p (f x)) xs) ≡ filter p (map f xs) → map f (cond t (x ∷ filter (λ x. p (f x)) xs) (filter (λ x. p (f x)) xs)) ≡ cond t (f x ∷ filter p (map f xs)) (filter p (map f xs))
+    by : (t : Bool) → map f (filter (λ x. p (f x)) xs) ≡ filter p (map f xs) →
+        map f (cond t (x ∷ filter (λ x. p (f x)) xs) (filter (λ x. p (f x)) xs)) ≡ cond t (f x ∷ filter p (map f xs))
+        (filter p (map f xs))
     by true h = ap (λ (l : List Y). f x ∷ l) h
     by false h = h
 
@@ -44,12 +48,14 @@ right_list ts c k p =
     filter_within (λ t. is_near (right_half c k) t) (λ t. is_near c t) (λ t. right_near c k t p) ts
 
 -- what is near the left half is found among what is near the box
-pub left_places : (ts : List Tri) (c : Cell) (k : Axis) (is : List ℕ) → 0 < c.log k → near_indices ts (left_half c k) (near_indices ts c is) ≡ near_indices ts (left_half c k) is
+pub left_places : (ts : List Tri) (c : Cell) (k : Axis) (is : List ℕ) → 0 < c.log k →
+    near_indices ts (left_half c k) (near_indices ts c is) ≡ near_indices ts (left_half c k) is
 left_places ts c k is p =
     filter_within (λ i. is_near (left_half c k) (tri_at ts i)) (λ i. is_near c (tri_at ts i)) (λ i. left_near c k (tri_at ts i) p) is
 
 -- what is near the right half is found among what is near the box
-pub right_places : (ts : List Tri) (c : Cell) (k : Axis) (is : List ℕ) → 0 < c.log k → near_indices ts (right_half c k) (near_indices ts c is) ≡ near_indices ts (right_half c k) is
+pub right_places : (ts : List Tri) (c : Cell) (k : Axis) (is : List ℕ) → 0 < c.log k →
+    near_indices ts (right_half c k) (near_indices ts c is) ≡ near_indices ts (right_half c k) is
 right_places ts c k is p =
     filter_within (λ i. is_near (right_half c k) (tri_at ts i)) (λ i. is_near c (tri_at ts i)) (λ i. right_near c k (tri_at ts i) p) is
 
@@ -68,7 +74,10 @@ no_better_near : (ts : List Tri) (c : Cell) (j k : Axis) → is_no_better (near 
 no_better_near ts c j k =
     by (nat_lt 0 (c.log k)) (nat_lt 0 (c.log j)) (λ e. half_sum_near ts c k (positive (c.log k) e)) (λ e. half_sum_near ts c j (positive (c.log j) e))
   where
-    by : (p q : Bool) → (p ≡ true → half_sum (near ts c) c k ≡ half_sum ts c k) → (q ≡ true → half_sum (near ts c) c j ≡ half_sum ts c j) → (not p || (q && nat_le (half_sum (near ts c) c j) (half_sum (near ts c) c k))) ≡ (not p || (q && nat_le (half_sum ts c j) (half_sum ts c k)))
+    by : (p q : Bool) → (p ≡ true → half_sum (near ts c) c k ≡ half_sum ts c k) →
+        (q ≡ true → half_sum (near ts c) c j ≡ half_sum ts c j) →
+        (not p || (q && nat_le (half_sum (near ts c) c j) (half_sum (near ts c) c k)))
+        ≡ (not p || (q && nat_le (half_sum ts c j) (half_sum ts c k)))
     by false q f g = refl
     by true false f g = refl
     by true true f g = λ i. nat_le (g refl i) (f refl i)
@@ -76,7 +85,9 @@ no_better_near ts c j k =
 spreads_near : (ts : List Tri) (c : Cell) (k : Axis) → is_unprofitable (near ts c) c k ≡ is_unprofitable ts c k
 spreads_near ts c k = by (nat_lt 0 (c.log k)) (λ e. half_sum_near ts c k (positive (c.log k) e))
   where
-    by : (p : Bool) → (p ≡ true → half_sum (near ts c) c k ≡ half_sum ts c k) → (not p || nat_le (7 * length (near (near ts c) c)) (4 * half_sum (near ts c) c k)) ≡ (not p || nat_le (7 * length (near ts c)) (4 * half_sum ts c k))
+    by : (p : Bool) → (p ≡ true → half_sum (near ts c) c k ≡ half_sum ts c k) →
+        (not p || nat_le (7 * length (near (near ts c) c)) (4 * half_sum (near ts c) c k))
+        ≡ (not p || nat_le (7 * length (near ts c)) (4 * half_sum ts c k))
     by false f = refl
     by true f = λ i. nat_le (7 * length (near_again ts c i)) (4 * f refl i)
 

@@ -10,7 +10,8 @@ use Rattle.ember_model.specs.Faces.{Cuts}
 use Rattle.ember_model.proofs.SignTests.{negative_out, positive_out, zero_out}
 use Rattle.ember_box.specs.Boxes.{Cell}
 use Rattle.ember_box.specs.Near.{tri_at}
-use Rattle.ember_box.specs.Regions.{Wall, FaceIsAbove, FaceLiesOn, AreLeftByWall, cut, outside, in_high, stays, IsStart, CuttingPlane, AreLeftByCuttingPlane, splits, whole, cutting_planes, IsRegions}
+use Rattle.ember_box.specs.Regions.{Wall, FaceIsAbove, FaceLiesOn, AreLeftByWall, cut, outside, in_high, stays, IsStart}
+use Rattle.ember_box.specs.Regions.{CuttingPlane, AreLeftByCuttingPlane, splits, whole, cutting_planes, IsRegions}
 
 -- a face that a plane cuts doesn't lie above it, nor on it
 cut_not_above : (f : Face) (w : Wall) → Cuts f w.plane → FaceIsAbove f w.plane → ⊥
@@ -54,4 +55,6 @@ start_unique c t fs gs r q =
 -- the regions of a triangle in a box are one list
 pub regions_unique : (c : Cell) (ts : List Tri) (i : ℕ) (fs gs : List Face) → IsRegions c ts i fs → IsRegions c ts i gs → fs ≡ gs
 regions_unique c ts i fs gs r q =
-    chain_unique (λ b x y z. each_unique (cutting_plane_unique b)) r.cuts (subst (λ s. Chain (λ b. Each (AreLeftByCuttingPlane b)) (cutting_planes ts i) s gs) (sym (start_unique c (tri_at ts i) r.start q.start r.is_start q.is_start)) q.cuts)
+    chain_unique (λ b x y z. each_unique (cutting_plane_unique b)) r.cuts
+    (subst (λ s. Chain (λ b. Each (AreLeftByCuttingPlane b)) (cutting_planes ts i) s gs)
+    (sym (start_unique c (tri_at ts i) r.start q.start r.is_start q.is_start)) q.cuts)

@@ -1,5 +1,6 @@
 -- Whether a triangle is near a box, and near its halves along each axis, from its near parts.
-use Rattle.std.proofs.Common.{◌≡◌, ◌⊎◌, inl, inr, refl, sym, ap, subst, ◌∙◌, arith, ℕ, ◌<◌, ◌≤◌, true, false, ◌&&◌, int_le, None, List, [], ◌∷◌, ◌++◌, length, get_or}
+use Rattle.std.proofs.Common.{◌≡◌, ◌⊎◌, inl, inr, refl, sym, ap, subst, ◌∙◌, arith, ℕ, ◌<◌, ◌≤◌, true, false, ◌&&◌}
+use Rattle.std.proofs.Common.{int_le, None, List, [], ◌∷◌, ◌++◌, length, get_or}
 use Rattle.std.proofs.Math.Seq.{get_or-append_seam}
 use Rattle.std.proofs.lemmas.Bool.{cases_lt}
 use Rattle.std.proofs.lemmas.List.{get_or_append_left, length-append}
@@ -16,7 +17,8 @@ use Rattle.ember_box.specs.Boxes.{Cell, low, left_half, right_half}
 use Rattle.ember_box.specs.Near.{is_near, tri_at}
 use Rattle.ember_box.specs.Aabbs.{interval_along, aabb_of_cell, aabb_of_tri, aabbs_meet, crosses}
 use Rattle.ember_box.specs.Sums.{IsPlaneOf, AreHalves}
-use Rattle.ember_box.specs.NearParts.{IsMiddle, AreMargins, change_size, margin_of_left, margin_of_right, IsNearPair, AreNearParts, AreNearPartsAt, no_pair, no_parts, pair_on}
+use Rattle.ember_box.specs.NearParts.{IsMiddle, AreMargins, change_size, margin_of_left, margin_of_right, IsNearPair}
+use Rattle.ember_box.specs.NearParts.{AreNearParts, AreNearPartsAt, no_pair, no_parts, pair_on}
 use Rattle.ember_box.proofs.NearByAabbs.{near_is, left_near, right_near}
 use Rattle.ember_box.proofs.HalvesMet.{left_meets, right_meets}
 use Rattle.ember_box.proofs.HalfNearness.{seen_low, seen_high}
@@ -30,7 +32,11 @@ none_near c t e = record { whole = sym e; x = pair X; y = pair Y; z = pair Z }
   where
     pair : (k : Axis) → 0 < c.log k → IsNearPair c k t no_pair
     pair k may =
-        record { left = sym (false_by (is_near (left_half c k) t) (is_near c t) (left_near c k t may) e); right = sym (false_by (is_near (right_half c k) t) (is_near c t) (right_near c k t may) e) }
+        record {
+          left = sym (false_by (is_near (left_half c k) t) (is_near c t) (left_near c k t may) e);
+          right =
+              sym (false_by (is_near (right_half c k) t) (is_near c t) (right_near c k t may) e);
+        }
 
 -- ---- one whose bounding box meets the box
 module _ (c : Cell) (t : Tri) (o : aabbs_meet (aabb_of_tri t) (aabb_of_cell c) ≡ true) where
@@ -41,18 +47,41 @@ module _ (c : Cell) (t : Tri) (o : aabbs_meet (aabb_of_tri t) (aabb_of_cell c) �
   are_halves k = record { is_left = refl; is_right = refl; is_middle = refl }
 
   -- by its bounding box alone
-  pub pair_by_span : (k : Axis) (i : Middle) (p : NearPair) → IsPlaneOf (aabb_of_cell c) t None → 0 < c.log k → IsMiddle c k i → p.left ≡ int_le (interval_along (aabb_of_tri t) k).low i.at → p.right ≡ int_le i.at (interval_along (aabb_of_tri t) k).high → IsNearPair c k t p
+  pub pair_by_span : (k : Axis) (i : Middle) (p : NearPair) → IsPlaneOf (aabb_of_cell c) t None → 0 < c.log k →
+      IsMiddle c k i → p.left ≡ int_le (interval_along (aabb_of_tri t) k).low i.at →
+      p.right ≡ int_le i.at (interval_along (aabb_of_tri t) k).high → IsNearPair c k t p
   pair_by_span k i p plane may are e f =
-      record { left = e ∙ ap (λ m. int_le (interval_along (aabb_of_tri t) k).low m) are.place ∙ seen_low c t None o plane k (halves_at k) may (are_halves k); right = f ∙ ap (λ m. int_le m (interval_along (aabb_of_tri t) k).high) are.place ∙ seen_high c t None o plane k (halves_at k) may (are_halves k) }
+      record {
+        left = e ∙ ap (λ m. int_le (interval_along (aabb_of_tri t) k).low m) are.place
+            ∙ seen_low c t None o plane k (halves_at k) may (are_halves k);
+        right =
+            f ∙ ap (λ m. int_le m (interval_along (aabb_of_tri t) k).high) are.place
+            ∙ seen_high c t None o plane k (halves_at k) may (are_halves k);
+      }
 
   -- by its plane, which crosses the box
   module _ (m : Margins) (a : AreMargins (support_of t) (aabb_of_cell c) m) (x : crosses (support_of t) (aabb_of_cell c) ≡ true) where
     pub whole_by_plane : true ≡ is_near c t
     whole_by_plane = sym (near_is c t ∙ (λ i. o i && x i))
 
-    pub pair_by_plane : (k : Axis) (i : Middle) (p : NearPair) → 0 < c.log k → IsMiddle c k i → p.left ≡ int_le (interval_along (aabb_of_tri t) k).low i.at && int_le (change_size (along (support_of t) k) i.half) (margin_of_left (along (support_of t) k) m) → p.right ≡ int_le i.at (interval_along (aabb_of_tri t) k).high && int_le (change_size (along (support_of t) k) i.half) (margin_of_right (along (support_of t) k) m) → IsNearPair c k t p
+    pub pair_by_plane : (k : Axis) (i : Middle) (p : NearPair) → 0 < c.log k → IsMiddle c k i →
+        p.left ≡ int_le (interval_along (aabb_of_tri t) k).low i.at
+        && int_le (change_size (along (support_of t) k) i.half) (margin_of_left (along (support_of t) k) m) →
+        p.right ≡ int_le i.at (interval_along (aabb_of_tri t) k).high
+        && int_le (change_size (along (support_of t) k) i.half) (margin_of_right (along (support_of t) k) m) →
+        IsNearPair c k t p
     pair_by_plane k i p may are e f =
-        record { left = e ∙ (λ j. int_le (interval_along (aabb_of_tri t) k).low (are.place j) && low_crossed (support_of t) c m a x k i may are j) ∙ sym (near_is (left_half c k) t ∙ (λ j. left_meet j && crosses (support_of t) (aabb_of_cell (left_half c k)))); right = f ∙ (λ j. int_le (are.place j) (interval_along (aabb_of_tri t) k).high && high_crossed (support_of t) c m a x k i may are j) ∙ sym (near_is (right_half c k) t ∙ (λ j. right_meet j && crosses (support_of t) (aabb_of_cell (right_half c k)))) }
+        record {
+          left = e ∙ (λ j. int_le (interval_along (aabb_of_tri t) k).low (are.place j)
+              && low_crossed (support_of t) c m a x k i may are j)
+              ∙ sym (near_is (left_half c k) t ∙ (λ j. left_meet j
+              && crosses (support_of t) (aabb_of_cell (left_half c k))));
+          right =
+              f ∙ (λ j. int_le (are.place j) (interval_along (aabb_of_tri t) k).high
+              && high_crossed (support_of t) c m a x k i may are j)
+              ∙ sym (near_is (right_half c k) t ∙ (λ j. right_meet j
+              && crosses (support_of t) (aabb_of_cell (right_half c k))));
+        }
       where
         left_meet : aabbs_meet (aabb_of_tri t) (aabb_of_cell (left_half c k)) ≡ int_le (interval_along (aabb_of_tri t) k).low (low (right_half c k) k)
         left_meet =
@@ -70,7 +99,9 @@ pair_at c t p Z a may = a.z may
 
 -- ---- one more place of a list
 -- the near parts of one triangle more
-pub parts_more : (ts : List Tri) (c : Cell) (is : List ℕ) (ps : List NearParts) (p : NearParts) → AreNearPartsAt ts c is ps → AreNearParts c (tri_at ts (get_or is (length ps) 0)) p → AreNearPartsAt ts c is (ps ++ p ∷ [])
+pub parts_more : (ts : List Tri) (c : Cell) (is : List ℕ) (ps : List NearParts) (p : NearParts) →
+    AreNearPartsAt ts c is ps → AreNearParts c (tri_at ts (get_or is (length ps) 0)) p →
+    AreNearPartsAt ts c is (ps ++ p ∷ [])
 parts_more ts c is ps p h one = record { each = λ i l. by i l (cases_lt i (length ps)) }
   where
     by : (i : ℕ) → i < length (ps ++ p ∷ []) → (i < length ps) ⊎ (length ps ≤ i) → AreNearParts c (tri_at ts (get_or is i 0)) (get_or (ps ++ p ∷ []) i no_parts)

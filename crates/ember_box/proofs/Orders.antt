@@ -86,7 +86,8 @@ greatest_of a b c l =
 
 -- the interval over three numbers meets another one exactly if some number isn't above its end and some isn't below its
 -- start
-pub reaches_is : (a b c : ℤ) (s : Interval) → intervals_meet (interval_over a b c) s ≡ (int_le a s.high || (int_le b s.high || int_le c s.high)) && (int_le s.low a || (int_le s.low b || int_le s.low c))
+pub reaches_is : (a b c : ℤ) (s : Interval) → intervals_meet (interval_over a b c) s
+    ≡ (int_le a s.high || (int_le b s.high || int_le c s.high)) && (int_le s.low a || (int_le s.low b || int_le s.low c))
 reaches_is a b c s = λ i. least_of a b c s.high i && greatest_of a b c s.low i
 
 -- ---- tests of several

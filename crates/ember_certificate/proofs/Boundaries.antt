@@ -4,7 +4,8 @@ use Rattle.std.proofs.lemmas.Bool.{cases_lt, eqb-true, eq-eqb, ne_eqb}
 use borrow.Author.Differences.{ints}
 use Rattle.ember_algebra.specs.Sums.{total}
 use Rattle.ember_algebra.proofs.Laws.{linear}
-use Rattle.ember_algebra.proofs.Sums.{IsEquality, total-append, total-map, total-sub, total-count_by, total_same, total_same_occurrences, occurrences-append, occurrences-count_by}
+use Rattle.ember_algebra.proofs.Sums.{IsEquality, total-append, total-map, total-sub, total-count_by, total_same}
+use Rattle.ember_algebra.proofs.Sums.{total_same_occurrences, occurrences-append, occurrences-count_by}
 use Rattle.ember_model.proofs.SignTests.{negative_in, negative_not}
 use Rattle.ember_balance.specs.Counts.{count}
 use Rattle.ember_certificate.specs.declared.segment.Segment.{Segment}
@@ -62,7 +63,10 @@ module _ (ss ts : List Segment) (h : (c : ℕ) → total (ended_at c) ss ≡ tot
 -- segments with the same boundary have the same chains
 pub chains_from_boundary : (ss ts : List Segment) → HaveSameBoundary ss ts → HaveSameChains ss ts
 chains_from_boundary ss ts h =
-    record { each = λ plane line rank x. sums_agree (filter (is_on plane line) ss) (filter (is_on plane line) ts) (h.each plane line) (λ u. reached (rank u) x) }
+    record {
+      each = λ plane line rank x. sums_agree (filter (is_on plane line) ss) (filter (is_on plane line) ts)
+          (h.each plane line) (λ u. reached (rank u) x);
+    }
 
 -- ---- from chains to boundaries: corners in the order of their numbers
 reached_from : (u : ℕ) (x : ℤ) → pos u ≤ℤ x → reached (pos u) x ≡ pos 1
@@ -76,25 +80,43 @@ reached_at c u = by (cases_lt c u) (cases_lt u c)
   where
     by : (c < u) ⊎ (u ≤ c) → (u < c) ⊎ (c ≤ u) → reached (pos u) (pos c) -ℤ reached (pos u) (pos c -ℤ pos 1) ≡ one_at c u
     by (inl l) r =
-        rw (unreached_before u (pos c) (omega (arith, ints, l)), unreached_before u (pos c -ℤ pos 1) (omega (arith, ints, l)), ne_eqb c u (λ e. omega (arith, l, e))) refl
+        rw (
+          unreached_before u (pos c) (omega (arith, ints, l)),
+          unreached_before u (pos c -ℤ pos 1) (omega (arith, ints, l)),
+          ne_eqb c u (λ e. omega (arith, l, e)),
+        ) refl
     by (inr l) (inl m) =
-        rw (reached_from u (pos c) (omega (arith, ints, l)), reached_from u (pos c -ℤ pos 1) (omega (arith, ints, m)), ne_eqb c u (λ e. omega (arith, m, e))) refl
+        rw (
+          reached_from u (pos c) (omega (arith, ints, l)),
+          reached_from u (pos c -ℤ pos 1) (omega (arith, ints, m)),
+          ne_eqb c u (λ e. omega (arith, m, e)),
+        ) refl
     by (inr l) (inr m) =
-        rw (reached_from u (pos c) (omega (arith, ints, l)), unreached_before u (pos c -ℤ pos 1) (omega (arith, ints, m)), eq-eqb c u (omega (arith, l, m))) refl
+        rw (
+          reached_from u (pos c) (omega (arith, ints, l)),
+          unreached_before u (pos c -ℤ pos 1) (omega (arith, ints, m)),
+          eq-eqb c u (omega (arith, l, m)),
+        ) refl
 
 ended_is : (c : ℕ) (s : Segment) → ended_at c s ≡ coverage pos (pos c -ℤ pos 1) s -ℤ coverage pos (pos c) s
 ended_is c s =
     let a = reached_at c s.start in let b = reached_at c s.end in
-    difference (reached (pos s.start) (pos c)) (reached (pos s.start) (pos c -ℤ pos 1)) (reached (pos s.end) (pos c)) (reached (pos s.end) (pos c -ℤ pos 1)) (one_at c s.start) (one_at c s.end) a b
+    difference (reached (pos s.start) (pos c)) (reached (pos s.start) (pos c -ℤ pos 1)) (reached (pos s.end) (pos c))
+    (reached (pos s.end) (pos c -ℤ pos 1)) (one_at c s.start) (one_at c s.end) a b
   where
     difference : (i j k l m n : ℤ) → i -ℤ j ≡ m → k -ℤ l ≡ n → n -ℤ m ≡ (j -ℤ l) -ℤ (i -ℤ k)
     difference i j k l m n e f = omega (arith, linear, e, f)
 
 boundary_of_chain : (c : ℕ) (ss : List Segment) → total (ended_at c) ss ≡ total (coverage pos (pos c -ℤ pos 1)) ss -ℤ total (coverage pos (pos c)) ss
 boundary_of_chain c ss =
-    total_same (ended_at c) (λ s. coverage pos (pos c -ℤ pos 1) s -ℤ coverage pos (pos c) s) (ended_is c) ss ∙ total-sub (coverage pos (pos c -ℤ pos 1)) (coverage pos (pos c)) ss
+    total_same (ended_at c) (λ s. coverage pos (pos c -ℤ pos 1) s -ℤ coverage pos (pos c) s) (ended_is c) ss
+    ∙ total-sub (coverage pos (pos c -ℤ pos 1)) (coverage pos (pos c)) ss
 
 -- segments with the same chains have the same boundary
 pub boundary_from_chains : (ss ts : List Segment) → HaveSameChains ss ts → HaveSameBoundary ss ts
 boundary_from_chains ss ts h =
-    record { each = λ plane line c. let a = h.each plane line pos (pos c -ℤ pos 1) in let b = h.each plane line pos (pos c) in boundary_of_chain c (filter (is_on plane line) ss) ∙ (λ i. a i -ℤ b i) ∙ sym (boundary_of_chain c (filter (is_on plane line) ts)) }
+    record {
+      each = λ plane line c. let a = h.each plane line pos (pos c -ℤ pos 1) in let b =
+          h.each plane line pos (pos c) in boundary_of_chain c (filter (is_on plane line) ss) ∙ (λ i. a i -ℤ b i)
+          ∙ sym (boundary_of_chain c (filter (is_on plane line) ts));
+    }

@@ -32,7 +32,9 @@ module _ (g : ℕ → ℕ → ℤ) (odd : (u v : ℕ) → g v u ≡ neg_ℤ (g u
 
   back : total of_key (map reverse_key ss) ≡ neg_ℤ (total (λ s. g s.start s.end) ss)
   back =
-      total-map of_key reverse_key ss ∙ total_same (λ s. of_key (reverse_key s)) (λ s. neg_ℤ (g s.start s.end)) (λ s. (λ i. g (reverse_high s i) (reverse_low s i)) ∙ odd s.start s.end) ss ∙ total-neg (λ s. g s.start s.end) ss
+      total-map of_key reverse_key ss ∙ total_same (λ s. of_key (reverse_key s)) (λ s. neg_ℤ (g s.start s.end))
+      (λ s. (λ i. g (reverse_high s i) (reverse_low s i)) ∙ odd s.start s.end) ss
+      ∙ total-neg (λ s. g s.start s.end) ss
 
   pub closed_cancels : total (λ s. g s.start s.end) ss ≡ pos 0
   closed_cancels =

@@ -1,5 +1,6 @@
 -- The keys of directed edges: a key occurs as often as segments run so
-use Rattle.std.proofs.Common.{◌≡◌, ◌⊎◌, inl, inr, ℕ, ◌+◌, ◌*◌, ◌/◌, ◌%◌, ◌<◌, ◌≤◌, Bool, true, false, ◌&&◌, cond, List, [], ◌∷◌, map, filter, refl, sym, subst, ◌∙◌, arith, eqb}
+use Rattle.std.proofs.Common.{◌≡◌, ◌⊎◌, inl, inr, ℕ, ◌+◌, ◌*◌, ◌/◌, ◌%◌, ◌<◌, ◌≤◌, Bool, true, false, ◌&&◌, cond, List}
+use Rattle.std.proofs.Common.{[], ◌∷◌, map, filter, refl, sym, subst, ◌∙◌, arith, eqb}
 use Rattle.std.proofs.lemmas.Bool.{cases_lt, and_parts, eqb-true, eqb-false, eq-eqb, ne_eqb}
 use Rattle.std.proofs.lemmas.List.Sums.{sum_by-cons}
 use Rattle.std.proofs.Math.Bool.{and_comm}
@@ -80,7 +81,9 @@ module _ (ss : List Segment) where
       upward : (u v : ℕ) → u < v → (v < 4294967296) ⊎ (4294967296 ≤ v) → runs u v ss ≡ runs v u ss
       upward u v l (inr lv) = none_to u v lv ss ∙ sym (none_from u v lv ss)
       upward u v l (inl sv) =
-          sym (all_rise u v (between u v) (ends_between u v) l ss) ∙ sym (edges_are u v sv (filter rises ss)) ∙ h (u * 4294967296 + v) ∙ reverses_are u v sv (filter falls ss) ∙ all_fall v u (between v u) (ends_between v u) l ss
+          sym (all_rise u v (between u v) (ends_between u v) l ss) ∙ sym (edges_are u v sv (filter rises ss))
+          ∙ h (u * 4294967296 + v) ∙ reverses_are u v sv (filter falls ss)
+          ∙ all_fall v u (between v u) (ends_between v u) l ss
 
       by : (u v : ℕ) → (u < v) ⊎ (v ≤ u) → (v < u) ⊎ (u ≤ v) → runs u v ss ≡ runs v u ss
       by u v (inl l) m = upward u v l (cases_lt v 4294967296)
@@ -90,10 +93,15 @@ module _ (ss : List Segment) where
   -- and the other way round
   pub halves_from_closed : AreSegmentsClosed ss → AreHalvesAlike
   halves_from_closed h n =
-      subst (λ (m : ℕ). count m (map edge_key (filter rises ss)) ≡ count m (map reverse_key (filter falls ss))) (digits n) (at (n / 4294967296) (n % 4294967296) (omega arith) (cases_lt (n / 4294967296) (n % 4294967296)))
+      subst (λ (m : ℕ). count m (map edge_key (filter rises ss)) ≡ count m (map reverse_key (filter falls ss)))
+      (digits n) (at (n / 4294967296) (n % 4294967296) (omega arith) (cases_lt (n / 4294967296) (n % 4294967296)))
     where
-      at : (u v : ℕ) → v < 4294967296 → (u < v) ⊎ (v ≤ u) → count (u * 4294967296 + v) (map edge_key (filter rises ss)) ≡ count (u * 4294967296 + v) (map reverse_key (filter falls ss))
+      at : (u v : ℕ) → v < 4294967296 → (u < v) ⊎ (v ≤ u) →
+          count (u * 4294967296 + v) (map edge_key (filter rises ss)) ≡ count (u * 4294967296 + v)
+          (map reverse_key (filter falls ss))
       at u v sv (inl l) =
-          edges_are u v sv (filter rises ss) ∙ all_rise u v (between u v) (ends_between u v) l ss ∙ h.each u v ∙ sym (all_fall v u (between v u) (ends_between v u) l ss) ∙ sym (reverses_are u v sv (filter falls ss))
+          edges_are u v sv (filter rises ss) ∙ all_rise u v (between u v) (ends_between u v) l ss ∙ h.each u v
+          ∙ sym (all_fall v u (between v u) (ends_between v u) l ss) ∙ sym (reverses_are u v sv (filter falls ss))
       at u v sv (inr l) =
-          edges_are u v sv (filter rises ss) ∙ none_rises u v (between u v) (ends_between u v) l ss ∙ sym (none_falls v u (between v u) (ends_between v u) l ss) ∙ sym (reverses_are u v sv (filter falls ss))
+          edges_are u v sv (filter rises ss) ∙ none_rises u v (between u v) (ends_between u v) l ss
+          ∙ sym (none_falls v u (between v u) (ends_between v u) l ss) ∙ sym (reverses_are u v sv (filter falls ss))

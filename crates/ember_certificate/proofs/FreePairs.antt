@@ -1,5 +1,6 @@
 -- Segments on free lines that are paired: their keys, and what changes its sign with the direction cancels.
-use Rattle.std.proofs.Common.{◌≡◌, ◌⊎◌, inl, inr, ℕ, ◌+◌, ◌/◌, ◌%◌, ◌<◌, ◌≤◌, Bool, true, false, ◌&&◌, cond, List, [], ◌∷◌, map, filter, ℤ, pos, neg_ℤ, refl, sym, ap, subst, ◌∙◌, arith, eqb}
+use Rattle.std.proofs.Common.{◌≡◌, ◌⊎◌, inl, inr, ℕ, ◌+◌, ◌/◌, ◌%◌, ◌<◌, ◌≤◌, Bool, true, false, ◌&&◌, cond, List, []}
+use Rattle.std.proofs.Common.{◌∷◌, map, filter, ℤ, pos, neg_ℤ, refl, sym, ap, subst, ◌∙◌, arith, eqb}
 use Rattle.std.proofs.lemmas.Bool.{cases_lt, and_parts, eqb-true, ne_eqb}
 use Rattle.std.proofs.lemmas.List.Sums.{sum_by-cons}
 use Rattle.std.proofs.Math.Bool.{and_comm}
@@ -31,7 +32,9 @@ module _ (p u v : ℕ) (su : u < 4294967296) (sv : v < 4294967296) where
   backs_are : (ss : List Segment) → count (key p u v) (map run_back_key ss) ≡ runs_in p v u ss
   backs_are [] = refl
   backs_are (s ∷ ss) =
-      let e = key_same p u v s.plane s.end s.start su sv s.sized.end_small s.sized.start_small ∙ and_assoc (eqb p s.plane) (eqb u s.end) (eqb v s.start) ∙ ap (λ (b : Bool). eqb p s.plane && b) (and_comm (eqb u s.end) (eqb v s.start)) in
+      let e = key_same p u v s.plane s.end s.start su sv s.sized.end_small s.sized.start_small
+      ∙ and_assoc (eqb p s.plane) (eqb u s.end) (eqb v s.start)
+      ∙ ap (λ (b : Bool). eqb p s.plane && b) (and_comm (eqb u s.end) (eqb v s.start)) in
       let r = backs_are ss in
       (λ i. cond (e i) 1 0 + r i) ∙ sym (sum_by-cons (λ (t : Segment). cond (eqb p t.plane && (eqb v t.start && eqb u t.end)) 1 0) s ss)
 
@@ -63,7 +66,8 @@ module _ (ss : List Segment) where
   -- paired segments have the keys of their reverses
   pub keys_from_paired : ArePaired → (n : ℕ) → count n (map run_key ss) ≡ count n (map run_back_key ss)
   keys_from_paired h n =
-      subst (λ (m : ℕ). count m (map run_key ss) ≡ count m (map run_back_key ss)) (digits n) (at (n / 4294967296 / 4294967296) (n / 4294967296 % 4294967296) (n % 4294967296) (omega arith) (omega arith))
+      subst (λ (m : ℕ). count m (map run_key ss) ≡ count m (map run_back_key ss)) (digits n)
+      (at (n / 4294967296 / 4294967296) (n / 4294967296 % 4294967296) (n % 4294967296) (omega arith) (omega arith))
     where
       at : (p u v : ℕ) → u < 4294967296 → v < 4294967296 → count (key p u v) (map run_key ss) ≡ count (key p u v) (map run_back_key ss)
       at p u v su sv = runs_are p u v su sv ss ∙ h p u v ∙ sym (backs_are p u v su sv ss)
@@ -90,7 +94,9 @@ module _ (ss : List Segment) where
           none_runs p u v (λ x y. omega (arith, y, m)) ss ∙ sym (none_runs p v u (λ x y. omega (arith, x, m)) ss)
       upward u v l (inl sv) =
           let su : u < 4294967296 = omega (arith, l, sv) in
-          sym (all_rise u v (between p u v) (ends_between p u v) l ss) ∙ sym (runs_are p u v su sv (filter rises ss)) ∙ h (key p u v) ∙ backs_are p u v su sv (filter falls ss) ∙ all_fall v u (between p v u) (ends_between p v u) l ss
+          sym (all_rise u v (between p u v) (ends_between p u v) l ss) ∙ sym (runs_are p u v su sv (filter rises ss))
+          ∙ h (key p u v) ∙ backs_are p u v su sv (filter falls ss)
+          ∙ all_fall v u (between p v u) (ends_between p v u) l ss
 
       by : (u < v) ⊎ (v ≤ u) → (v < u) ⊎ (u ≤ v) → runs_in p u v ss ≡ runs_in p v u ss
       by (inl l) m = upward u v l (cases_lt v 4294967296)
@@ -100,13 +106,20 @@ module _ (ss : List Segment) where
   -- and the other way round
   pub halves_from_paired : ((p u v : ℕ) → runs_in p u v ss ≡ runs_in p v u ss) → AreHalvesAlike
   halves_from_paired h n =
-      subst (λ (m : ℕ). count m (map run_key (filter rises ss)) ≡ count m (map run_back_key (filter falls ss))) (digits n) (at (n / 4294967296 / 4294967296) (n / 4294967296 % 4294967296) (n % 4294967296) (omega arith) (omega arith) (cases_lt (n / 4294967296 % 4294967296) (n % 4294967296)))
+      subst (λ (m : ℕ). count m (map run_key (filter rises ss)) ≡ count m (map run_back_key (filter falls ss)))
+      (digits n) (at (n / 4294967296 / 4294967296) (n / 4294967296 % 4294967296) (n % 4294967296) (omega arith)
+      (omega arith) (cases_lt (n / 4294967296 % 4294967296) (n % 4294967296)))
     where
-      at : (p u v : ℕ) → u < 4294967296 → v < 4294967296 → (u < v) ⊎ (v ≤ u) → count (key p u v) (map run_key (filter rises ss)) ≡ count (key p u v) (map run_back_key (filter falls ss))
+      at : (p u v : ℕ) → u < 4294967296 → v < 4294967296 → (u < v) ⊎ (v ≤ u) →
+          count (key p u v) (map run_key (filter rises ss)) ≡ count (key p u v) (map run_back_key (filter falls ss))
       at p u v su sv (inl l) =
-          runs_are p u v su sv (filter rises ss) ∙ all_rise u v (between p u v) (ends_between p u v) l ss ∙ h p u v ∙ sym (all_fall v u (between p v u) (ends_between p v u) l ss) ∙ sym (backs_are p u v su sv (filter falls ss))
+          runs_are p u v su sv (filter rises ss) ∙ all_rise u v (between p u v) (ends_between p u v) l ss ∙ h p u v
+          ∙ sym (all_fall v u (between p v u) (ends_between p v u) l ss)
+          ∙ sym (backs_are p u v su sv (filter falls ss))
       at p u v su sv (inr l) =
-          runs_are p u v su sv (filter rises ss) ∙ none_rises u v (between p u v) (ends_between p u v) l ss ∙ sym (none_falls v u (between p v u) (ends_between p v u) l ss) ∙ sym (backs_are p u v su sv (filter falls ss))
+          runs_are p u v su sv (filter rises ss) ∙ none_rises u v (between p u v) (ends_between p u v) l ss
+          ∙ sym (none_falls v u (between p v u) (ends_between p v u) l ss)
+          ∙ sym (backs_are p u v su sv (filter falls ss))
 
 -- ---- sums
 run_plane : (s : Segment) → run_key s / 4294967296 / 4294967296 ≡ s.plane
@@ -137,7 +150,10 @@ module _ (g : ℕ → ℕ → ℕ → ℤ) (odd : (plane u v : ℕ) → g plane 
   paired_cancel : (ss : List Segment) → ((plane u v : ℕ) → runs_in plane u v ss ≡ runs_in plane v u ss) → total value_of ss ≡ pos 0
   paired_cancel ss h =
       let there = total-map of_run run_key ss ∙ total_same (λ s. of_run (run_key s)) value_of (λ s i. g (run_plane s i) (run_start s i) (run_end s i)) ss in
-      let back = total-map of_run run_back_key ss ∙ total_same (λ s. of_run (run_back_key s)) (λ s. neg_ℤ (value_of s)) (λ s. (λ i. g (back_plane s i) (back_end s i) (back_start s i)) ∙ odd s.plane s.start s.end) ss ∙ total-neg value_of ss in
+      let back = total-map of_run run_back_key ss
+      ∙ total_same (λ s. of_run (run_back_key s)) (λ s. neg_ℤ (value_of s))
+      (λ s. (λ i. g (back_plane s i) (back_end s i) (back_start s i)) ∙ odd s.plane s.start s.end) ss
+      ∙ total-neg value_of ss in
       let e = sym there ∙ total_same_occurrences eqb numbers_are_equal of_run (map run_key ss) (map run_back_key ss) (keys_from_paired ss h) ∙ back in
       half (total value_of ss) e
     where
@@ -145,6 +161,7 @@ module _ (g : ℕ → ℕ → ℕ → ℤ) (odd : (plane u v : ℕ) → g plane 
       half z e = omega (arith, linear, e)
 
   -- over the segments on free lines it adds up to 0
-  pub free_cancel : (ls : List LineKey) (ss : List Segment) → AreFreePaired ls ss → total (λ s. cond (is_free ls s) (g s.plane s.start s.end) (pos 0)) ss ≡ pos 0
+  pub free_cancel : (ls : List LineKey) (ss : List Segment) → AreFreePaired ls ss →
+      total (λ s. cond (is_free ls s) (g s.plane s.start s.end) (pos 0)) ss ≡ pos 0
   free_cancel ls ss h =
       sym (total-filter value_of (is_free ls) ss) ∙ paired_cancel (filter (is_free ls) ss) h.each

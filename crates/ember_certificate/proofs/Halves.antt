@@ -19,7 +19,8 @@ module _ (q r : Segment → Bool) where
   count_kept h [] = refl
   count_kept h (s ∷ ss) = by (q s) refl (r s) refl (count_kept h ss)
     where
-      by : (a : Bool) → q s ≡ a → (b : Bool) → r s ≡ b → count_by q (filter r ss) ≡ count_by q ss → count_by q (cond b (s ∷ filter r ss) (filter r ss)) ≡ count_by q (s ∷ ss)
+      by : (a : Bool) → q s ≡ a → (b : Bool) → r s ≡ b → count_by q (filter r ss) ≡ count_by q ss →
+          count_by q (cond b (s ∷ filter r ss) (filter r ss)) ≡ count_by q (s ∷ ss)
       by a e true f t = sum_by-cons times s (filter r ss) ∙ (λ i. times s + t i) ∙ sym (sum_by-cons times s ss)
       by true e false f t = absurd (both_ways (r s) f (h s e))
       by false e false f t =
@@ -64,11 +65,20 @@ module _ (k : Segment → ℕ) (p : Segment → Bool) where
   keys-append ss ts = ap (map k) (filter-append p ss ts) ∙ map-append k (filter p ss) (filter p ts)
 
   -- the keys of those that pass a test
-  pub keys_more : (ss : List Segment) (i : ℕ) (s : Segment) {before after : List ℕ} → i < length ss → s ≡ get_or ss i s → before ≡ map k (filter p (take i ss)) → after ≡ before ++ map k (filter p (s ∷ [])) → after ≡ map k (filter p (take (i + 1) ss))
+  pub keys_more : (ss : List Segment) (i : ℕ) (s : Segment) {before after : List ℕ} → i < length ss →
+      s ≡ get_or ss i s → before ≡ map k (filter p (take i ss)) → after ≡ before ++ map k (filter p (s ∷ [])) →
+      after ≡ map k (filter p (take (i + 1) ss))
   keys_more ss i s l e b a =
-      a ∙ ap (λ (ns : List ℕ). ns ++ map k (filter p (s ∷ []))) b ∙ sym (ap (λ (ts : List Segment). map k (filter p ts)) (with_next ss i s l e) ∙ keys-append (take i ss) (s ∷ []))
+      a ∙ ap (λ (ns : List ℕ). ns ++ map k (filter p (s ∷ []))) b
+      ∙ sym (ap (λ (ts : List Segment). map k (filter p ts)) (with_next ss i s l e)
+      ∙ keys-append (take i ss) (s ∷ []))
 
   -- the keys of those that pass two tests
-  pub keys_of_both_more : (q : Segment → Bool) (ss : List Segment) (i : ℕ) (s : Segment) {before after : List ℕ} → i < length ss → s ≡ get_or ss i s → before ≡ map k (filter p (filter q (take i ss))) → after ≡ before ++ map k (filter p (filter q (s ∷ []))) → after ≡ map k (filter p (filter q (take (i + 1) ss)))
+  pub keys_of_both_more : (q : Segment → Bool) (ss : List Segment) (i : ℕ) (s : Segment) {before after : List ℕ} →
+      i < length ss → s ≡ get_or ss i s → before ≡ map k (filter p (filter q (take i ss))) →
+      after ≡ before ++ map k (filter p (filter q (s ∷ []))) → after ≡ map k (filter p (filter q (take (i + 1) ss)))
   keys_of_both_more q ss i s l e b a =
-      a ∙ ap (λ (ns : List ℕ). ns ++ map k (filter p (filter q (s ∷ [])))) b ∙ sym (ap (λ (ts : List Segment). map k (filter p ts)) (ap (filter q) (with_next ss i s l e) ∙ filter-append q (take i ss) (s ∷ [])) ∙ keys-append (filter q (take i ss)) (filter q (s ∷ [])))
+      a ∙ ap (λ (ns : List ℕ). ns ++ map k (filter p (filter q (s ∷ [])))) b
+      ∙ sym (ap (λ (ts : List Segment). map k (filter p ts))
+      (ap (filter q) (with_next ss i s l e) ∙ filter-append q (take i ss) (s ∷ []))
+      ∙ keys-append (filter q (take i ss)) (filter q (s ∷ [])))

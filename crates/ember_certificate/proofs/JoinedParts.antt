@@ -17,17 +17,24 @@ use Rattle.ember_certificate.specs.OnLines.{is_free, runs_in, AreFreePaired, IsO
 use Rattle.ember_certificate.proofs.Triangles.{edges_in-append}
 
 -- ---- chains
-chain-append : (plane line : ℕ) (rank : ℕ → ℤ) (x : ℤ) (ss ts : List Segment) → chain plane line rank x (ss ++ ts) ≡ chain plane line rank x ss +ℤ chain plane line rank x ts
+chain-append : (plane line : ℕ) (rank : ℕ → ℤ) (x : ℤ) (ss ts : List Segment) →
+    chain plane line rank x (ss ++ ts) ≡ chain plane line rank x ss +ℤ chain plane line rank x ts
 chain-append plane line rank x ss ts =
-    ap (total (coverage rank x)) (filter-append (is_on plane line) ss ts) ∙ total-append (coverage rank x) (filter (is_on plane line) ss) (filter (is_on plane line) ts)
+    ap (total (coverage rank x)) (filter-append (is_on plane line) ss ts)
+    ∙ total-append (coverage rank x) (filter (is_on plane line) ss) (filter (is_on plane line) ts)
 
 -- lists with the same chains, one after another
 pub same_chains-append : (ss ts us vs : List Segment) → HaveSameChains ss us → HaveSameChains ts vs → HaveSameChains (ss ++ ts) (us ++ vs)
 same_chains-append ss ts us vs h k =
-    record { each = λ plane line rank x. chain-append plane line rank x ss ts ∙ (λ i. h.each plane line rank x i +ℤ k.each plane line rank x i) ∙ sym (chain-append plane line rank x us vs) }
+    record {
+      each = λ plane line rank x. chain-append plane line rank x ss ts
+          ∙ (λ i. h.each plane line rank x i +ℤ k.each plane line rank x i) ∙ sym (chain-append plane line rank x us vs);
+    }
 
 -- ---- pairs on free lines
-runs_in-append : (plane u v : ℕ) (ls : List LineKey) (ss ts : List Segment) → runs_in plane u v (filter (is_free ls) (ss ++ ts)) ≡ runs_in plane u v (filter (is_free ls) ss) + runs_in plane u v (filter (is_free ls) ts)
+runs_in-append : (plane u v : ℕ) (ls : List LineKey) (ss ts : List Segment) →
+    runs_in plane u v (filter (is_free ls) (ss ++ ts)) ≡ runs_in plane u v (filter (is_free ls) ss)
+    + runs_in plane u v (filter (is_free ls) ts)
 runs_in-append plane u v ls ss ts =
     ap (runs_in plane u v) (filter-append (is_free ls) ss ts) ∙ sum_by-append _ (filter (is_free ls) ss) (filter (is_free ls) ts)
 
@@ -47,7 +54,8 @@ module _ (ps : List Plane) (ls : List LineKey) (cs : List SpacePoint) where
   }
 
   -- the triangles of some parts and of others cut up the faces of both
-  pub parts_certified-append : (ss ts : List Segment) (us vs : List Triangle) → ArePartsCertified ps ls cs ss us → ArePartsCertified ps ls cs ts vs → ArePartsCertified ps ls cs (ss ++ ts) (us ++ vs)
+  pub parts_certified-append : (ss ts : List Segment) (us vs : List Triangle) → ArePartsCertified ps ls cs ss us →
+      ArePartsCertified ps ls cs ts vs → ArePartsCertified ps ls cs (ss ++ ts) (us ++ vs)
   parts_certified-append ss ts us vs h k =
       let edges = edges_in-append us vs in
       record {

@@ -26,7 +26,8 @@ found_out : (l : Option LineKey) (c : Option SpacePoint) → ((k : LineKey) (d :
 found_out l c h =
     of_each (λ k. IfSome c (λ d. IsCornerOnLine k d)) l (λ k p. of_each (λ d. IsCornerOnLine k d) c (λ d q. h k d p q))
 
-module _ (ls : List LineKey) (cs : List SpacePoint) (s : Segment) (l : Option LineKey) (u v : Option SpacePoint) (el : l ≡ slice_get ls s.line) (eu : u ≡ slice_get cs s.start) (ev : v ≡ slice_get cs s.end) where
+module _ (ls : List LineKey) (cs : List SpacePoint) (s : Segment) (l : Option LineKey) (u v : Option SpacePoint)
+    (el : l ≡ slice_get ls s.line) (eu : u ≡ slice_get cs s.start) (ev : v ≡ slice_get cs s.end) where
   -- a segment both of whose corners pass the test is on its line
   pub on_its_line : AreFound l u → AreFound l v → IsOnItsLine ls cs s
   on_its_line h i =

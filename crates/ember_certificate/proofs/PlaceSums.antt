@@ -47,9 +47,12 @@ module _ (g : ℕ → ℕ → ℕ → ℤ) where
       total-map of_key end_key ss ∙ total_same (λ s. of_key (end_key s)) at_end (λ s i. g (end_plane s i) (end_line s i) (end_corner s i)) ss
 
   -- both lists have one sum over the starts less over the ends
-  pub places_agree : (ss ts : List Segment) → HaveSameBoundary ss ts → total (λ s. g s.plane s.line s.start -ℤ g s.plane s.line s.end) ss ≡ total (λ s. g s.plane s.line s.start -ℤ g s.plane s.line s.end) ts
+  pub places_agree : (ss ts : List Segment) → HaveSameBoundary ss ts →
+      total (λ s. g s.plane s.line s.start -ℤ g s.plane s.line s.end) ss ≡ total
+      (λ s. g s.plane s.line s.start -ℤ g s.plane s.line s.end) ts
   places_agree ss ts h =
-      let e = total_same_occurrences eqb numbers_are_equal of_key (map start_key ss ++ map end_key ts) (map start_key ts ++ map end_key ss) (keys_from_boundary ss ts h) in
+      let e = total_same_occurrences eqb numbers_are_equal of_key (map start_key ss ++ map end_key ts)
+      (map start_key ts ++ map end_key ss) (keys_from_boundary ss ts h) in
       let a = total-append of_key (map start_key ss) (map end_key ts) in
       let b = total-append of_key (map start_key ts) (map end_key ss) in
       let c = starts_by_key ss in let d = ends_by_key ss in let i = starts_by_key ts in let j = ends_by_key ts in

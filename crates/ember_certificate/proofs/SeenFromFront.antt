@@ -15,7 +15,8 @@ use Rattle.ember_model.specs.declared.point.Axis.TheVariants.{X, Y, Z}
 use Rattle.ember_model.specs.Planes.{value_at, along, main_axis, unit}
 use Rattle.ember_model.specs.Edges.{normal}
 use Rattle.ember_model.proofs.SeenCrossings.{main_zero}
-use Rattle.ember_model.proofs.SignTests.{sgn_scaled, zero_scaled, zero_times, zero_out, positive_in, positive_out, positive_nonzero, negative_nonzero, and_parts}
+use Rattle.ember_model.proofs.SignTests.{sgn_scaled, zero_scaled, zero_times, zero_out, positive_in, positive_out}
+use Rattle.ember_model.proofs.SignTests.{positive_nonzero, negative_nonzero, and_parts}
 use Rattle.ember_model.proofs.Tuples.{plane_tuple, spot_tuple, normalE}
 use Rattle.ember_certificate.specs.Facing.{displacement, triangle_normal, turn_along, FacesFront}
 
@@ -27,12 +28,16 @@ displacementE u v =
 value_changes : (h : Plane) (u v : Spot) → u.w *ℤ value_at h v -ℤ v.w *ℤ value_at h u ≡ dot (normal h) (displacement u v)
 unfolding displacementE
 value_changes h u v =
-    identity (tuple ∷ tuple ∷ tuple ∷ []) (λ h u v. u.w ⊗ valueE h v ⊖ v.w ⊗ valueE h u ≈ dotE (normalE h) (displacementE u v)) cancels (plane_tuple h) (spot_tuple u) (spot_tuple v)
+    identity (tuple ∷ tuple ∷ tuple ∷ []) (λ h u v. u.w ⊗ valueE h v ⊖ v.w ⊗ valueE h u ≈ dotE (normalE h)
+    (displacementE u v)) cancels (plane_tuple h) (spot_tuple u) (spot_tuple v)
 
 -- the determinant of three points of a plane, times the first weight, is the product of two displacements
-minor : (ux uy uw vx vy vw wx wy ww : ℤ) → uw *ℤ det3 ux uy uw vx vy vw wx wy ww ≡ (uw *ℤ vx -ℤ vw *ℤ ux) *ℤ (uw *ℤ wy -ℤ ww *ℤ uy) -ℤ (uw *ℤ vy -ℤ vw *ℤ uy) *ℤ (uw *ℤ wx -ℤ ww *ℤ ux)
+minor : (ux uy uw vx vy vw wx wy ww : ℤ) → uw *ℤ det3 ux uy uw vx vy vw wx wy ww ≡ (uw *ℤ vx -ℤ vw *ℤ ux) *ℤ
+    (uw *ℤ wy -ℤ ww *ℤ uy) -ℤ (uw *ℤ vy -ℤ vw *ℤ uy) *ℤ (uw *ℤ wx -ℤ ww *ℤ ux)
 minor =
-    solve 9 (λ ux uy uw vx vy vw wx wy ww. uw ⊗ (ux ⊗ (vy ⊗ ww ⊖ vw ⊗ wy) ⊖ uy ⊗ (vx ⊗ ww ⊖ vw ⊗ wx) ⊕ uw ⊗ (vx ⊗ wy ⊖ vy ⊗ wx)) ≈ (uw ⊗ vx ⊖ vw ⊗ ux) ⊗ (uw ⊗ wy ⊖ ww ⊗ uy) ⊖ (uw ⊗ vy ⊖ vw ⊗ uy) ⊗ (uw ⊗ wx ⊖ ww ⊗ ux)) cancels
+    solve 9 (λ ux uy uw vx vy vw wx wy ww. uw ⊗ (ux ⊗ (vy ⊗ ww ⊖ vw ⊗ wy) ⊖ uy ⊗ (vx ⊗ ww ⊖ vw ⊗ wx) ⊕ uw ⊗
+    (vx ⊗ wy ⊖ vy ⊗ wx)) ≈ (uw ⊗ vx ⊖ vw ⊗ ux) ⊗ (uw ⊗ wy ⊖ ww ⊗ uy) ⊖ (uw ⊗ vy ⊖ vw ⊗ uy) ⊗ (uw ⊗ wx ⊖ ww ⊗ ux))
+    cancels
 
 along_x : (v : Vector) → dot (unit X) v ≡ v.x
 along_x v = omega (arith, linear)
@@ -49,7 +54,8 @@ both_zero p q = omega (arith, linear, p, q)
 -- two factors that are moved
 moved_factor : (a d u t n : ℤ) → a *ℤ d ≡ (u *ℤ t) *ℤ n → (a *ℤ a) *ℤ d ≡ (u *ℤ n) *ℤ (a *ℤ t)
 moved_factor a d u t n e =
-    solve 2 (λ a d. (a ⊗ a) ⊗ d ≈ a ⊗ (a ⊗ d)) cancels a d ∙ ap (λ (z : ℤ). a *ℤ z) e ∙ solve 4 (λ a u t n. a ⊗ ((u ⊗ t) ⊗ n) ≈ (u ⊗ n) ⊗ (a ⊗ t)) cancels a u t n
+    solve 2 (λ a d. (a ⊗ a) ⊗ d ≈ a ⊗ (a ⊗ d)) cancels a d ∙ ap (λ (z : ℤ). a *ℤ z) e
+    ∙ solve 4 (λ a u t n. a ⊗ ((u ⊗ t) ⊗ n) ≈ (u ⊗ n) ⊗ (a ⊗ t)) cancels a u t n
 
 positive_square : (p : Plane) (k : Axis) → along p k ≢ pos 0 → pos 0 <ℤ dot (normal p) (normal p)
 positive_square p X h =
@@ -70,11 +76,20 @@ module _ (p : Plane) (u v w : Spot) (positive : pos 0 <ℤ u.w) (zu : value_at p
 
   products : (k : Axis) → along p k *ℤ dot (normal p) (triangle_normal u v w) ≡ (u.w *ℤ turn_along k u v w) *ℤ dot (normal p) (normal p)
   products X =
-      ap (λ (z : ℤ). z *ℤ dot (normal p) (triangle_normal u v w)) (sym (along_x (normal p))) ∙ parallel_products (unit X) (normal p) (normal p) (triangle_normal u v w) parallel ∙ ap (λ (z : ℤ). z *ℤ dot (normal p) (normal p)) (along_x (triangle_normal u v w) ∙ sym (minor u.y u.z u.w v.y v.z v.w w.y w.z w.w))
+      ap (λ (z : ℤ). z *ℤ dot (normal p) (triangle_normal u v w)) (sym (along_x (normal p)))
+      ∙ parallel_products (unit X) (normal p) (normal p) (triangle_normal u v w) parallel
+      ∙ ap (λ (z : ℤ). z *ℤ dot (normal p) (normal p))
+      (along_x (triangle_normal u v w) ∙ sym (minor u.y u.z u.w v.y v.z v.w w.y w.z w.w))
   products Y =
-      ap (λ (z : ℤ). z *ℤ dot (normal p) (triangle_normal u v w)) (sym (along_y (normal p))) ∙ parallel_products (unit Y) (normal p) (normal p) (triangle_normal u v w) parallel ∙ ap (λ (z : ℤ). z *ℤ dot (normal p) (normal p)) (along_y (triangle_normal u v w) ∙ sym (minor u.z u.x u.w v.z v.x v.w w.z w.x w.w))
+      ap (λ (z : ℤ). z *ℤ dot (normal p) (triangle_normal u v w)) (sym (along_y (normal p)))
+      ∙ parallel_products (unit Y) (normal p) (normal p) (triangle_normal u v w) parallel
+      ∙ ap (λ (z : ℤ). z *ℤ dot (normal p) (normal p))
+      (along_y (triangle_normal u v w) ∙ sym (minor u.z u.x u.w v.z v.x v.w w.z w.x w.w))
   products Z =
-      ap (λ (z : ℤ). z *ℤ dot (normal p) (triangle_normal u v w)) (sym (along_z (normal p))) ∙ parallel_products (unit Z) (normal p) (normal p) (triangle_normal u v w) parallel ∙ ap (λ (z : ℤ). z *ℤ dot (normal p) (normal p)) (along_z (triangle_normal u v w) ∙ sym (minor u.x u.y u.w v.x v.y v.w w.x w.y w.w))
+      ap (λ (z : ℤ). z *ℤ dot (normal p) (triangle_normal u v w)) (sym (along_z (normal p)))
+      ∙ parallel_products (unit Z) (normal p) (normal p) (triangle_normal u v w) parallel
+      ∙ ap (λ (z : ℤ). z *ℤ dot (normal p) (normal p))
+      (along_z (triangle_normal u v w) ∙ sym (minor u.x u.y u.w v.x v.y v.w w.x w.y w.w))
 
   abbrev k : Axis
   k = main_axis p
@@ -89,7 +104,10 @@ module _ (p : Plane) (u v w : Spot) (positive : pos 0 <ℤ u.w) (zu : value_at p
 
   with_normal : along p k ≢ pos 0 → sgn (dot (normal p) (triangle_normal u v w)) ≡ sgn (along p k *ℤ turn_along k u v w)
   with_normal h =
-      sym (sgn_scaled (dot (normal p) (triangle_normal u v w)) (square_pos h)) ∙ ap sgn (moved_factor (along p k) (dot (normal p) (triangle_normal u v w)) u.w (turn_along k u v w) (dot (normal p) (normal p)) (products k)) ∙ sgn_scaled (along p k *ℤ turn_along k u v w) (pos_mul positive (positive_square p k h))
+      sym (sgn_scaled (dot (normal p) (triangle_normal u v w)) (square_pos h))
+      ∙ ap sgn (moved_factor (along p k) (dot (normal p) (triangle_normal u v w)) u.w (turn_along k u v w)
+      (dot (normal p) (normal p)) (products k))
+      ∙ sgn_scaled (along p k *ℤ turn_along k u v w) (pos_mul positive (positive_square p k h))
 
   seen_from_front : sgn (dot (normal p) (triangle_normal u v w)) ≡ sgn (along p k *ℤ turn_along k u v w)
   seen_from_front =
@@ -97,7 +115,8 @@ module _ (p : Plane) (u v w : Spot) (positive : pos 0 <ℤ u.w) (zu : value_at p
 
 module _ (p : Plane) (u v w : Spot) (positive : pos 0 <ℤ u.w) where
   -- a triangle that passes the tests faces the front
-  pub front_from_tests : is_zero (value_at p u) && (is_zero (value_at p v) && is_zero (value_at p w)) ≡ true → is_positive (along p (main_axis p) *ℤ turn_along (main_axis p) u v w) ≡ true → FacesFront p u v w
+  pub front_from_tests : is_zero (value_at p u) && (is_zero (value_at p v) && is_zero (value_at p w)) ≡ true →
+      is_positive (along p (main_axis p) *ℤ turn_along (main_axis p) u v w) ≡ true → FacesFront p u v w
   front_from_tests on left =
       let a = and_parts (is_zero (value_at p u)) (is_zero (value_at p v) && is_zero (value_at p w)) on in
       let b = and_parts (is_zero (value_at p v)) (is_zero (value_at p w)) a.1 in

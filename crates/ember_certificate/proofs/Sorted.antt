@@ -24,7 +24,9 @@ one_list (x ∷ xs) (y ∷ ys) p q h = let r = one_list xs ys p.1 q.1 rest in λ
   where
     same : x ≡ y
     same =
-        equal_from x y (λ l. let z = absent_below x y ys l q in let o = head_is_counted x xs in let e = h x in omega (arith, z, o, e)) (λ l. let z = absent_below y x xs l p in let o = head_is_counted y ys in let e = h y in omega (arith, z, o, e))
+        equal_from x y (λ l. let z = absent_below x y ys l q in let o = head_is_counted x xs in let e = h x in
+        omega (arith, z, o, e)) (λ l. let z = absent_below y x xs l p in let o = head_is_counted y ys in let e =
+        h y in omega (arith, z, o, e))
 
     rest : (n : ℕ) → count n xs ≡ count n ys
     rest n = let e = h n in let a = ap {B = ℕ} (λ (z : ℕ). cond (eqb n z) 1 0) same in omega (arith, e, a)
@@ -41,17 +43,21 @@ module _ (us vs xs ys : List ℕ) (p : IsPermutation us xs) (q : IsPermutation v
       one_list xs ys (rises xs r) (rises ys s) (λ n. count_permutation n us xs p ∙ h n ∙ sym (count_permutation n vs ys q))
 
 -- whether the lists in order are equal tells whether each number occurs as often
-pub same_counts_decided : {us vs xs ys : List ℕ} {equal : Bool} → IsPermutation us xs → IsPermutation vs ys → IsNonDecreasing xs → IsNonDecreasing ys → Decides equal (xs ≡ ys) → Decides equal ((n : ℕ) → count n us ≡ count n vs)
+pub same_counts_decided : {us vs xs ys : List ℕ} {equal : Bool} → IsPermutation us xs → IsPermutation vs ys →
+    IsNonDecreasing xs → IsNonDecreasing ys → Decides equal (xs ≡ ys) → Decides equal ((n : ℕ) → count n us ≡ count n vs)
 same_counts_decided p q r s d =
     (λ t. counts_from_one_list _ _ _ _ p q (d.0 t), λ h. d.1 (one_list_from_counts _ _ _ _ p q r s h))
 
 -- a list in another order stands where the first n members were that it had
-pub order_written : (us ws xs ys zs : List ℕ) (n : ℕ) → xs ≡ ws → length xs ≡ n → IsPermutation xs ys → IsPermutation (take n (ys ++ us)) zs → IsPermutation ws zs
+pub order_written : (us ws xs ys zs : List ℕ) (n : ℕ) → xs ≡ ws → length xs ≡ n → IsPermutation xs ys →
+    IsPermutation (take n (ys ++ us)) zs → IsPermutation ws zs
 order_written us ws xs ys zs n v l p q =
     let e : take n (ys ++ us) ≡ ys = ap (λ (m : ℕ). take m (ys ++ us)) (sym l ∙ sym (length_permutation xs ys p)) ∙ take-append_seam ys us in
     subst (λ (ts : List ℕ). IsPermutation ts zs) v (IsPermutation-trans xs ys zs p (subst (λ (ts : List ℕ). IsPermutation ts zs) e q))
 
 -- equal lists have the same numbers as often
-pub same_lists_count : {us vs xs ys : List ℕ} → us ≡ xs → vs ≡ ys → (((n : ℕ) → count n us ≡ count n vs) → (n : ℕ) → count n xs ≡ count n ys) × (((n : ℕ) → count n xs ≡ count n ys) → (n : ℕ) → count n us ≡ count n vs)
+pub same_lists_count : {us vs xs ys : List ℕ} → us ≡ xs → vs ≡ ys →
+    (((n : ℕ) → count n us ≡ count n vs) → (n : ℕ) → count n xs ≡ count n ys) × (((n : ℕ) → count n xs ≡ count n ys) →
+    (n : ℕ) → count n us ≡ count n vs)
 same_lists_count e f =
     (λ h n. sym (ap (count n) e) ∙ h n ∙ ap (count n) f, λ h n. ap (count n) e ∙ h n ∙ sym (ap (count n) f))

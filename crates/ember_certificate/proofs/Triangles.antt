@@ -18,10 +18,13 @@ pub with_next : {X : Type 0} (ts : List X) (i : ℕ) (t : X) → i < length ts �
 with_next {X} ts i t l e = take_more ts i t l ∙ ap (λ (u : X). take i ts ++ u ∷ []) (sym e)
 
 -- the edges of one triangle more
-pub edges_pushed : (ts : List Triangle) (i : ℕ) (t : Triangle) {before after : List Segment} → i < length ts → t ≡ get_or ts i t → before ≡ edges_in (take i ts) → after ≡ before ++ edges_in (t ∷ []) → after ≡ edges_in (take (i + 1) ts)
+pub edges_pushed : (ts : List Triangle) (i : ℕ) (t : Triangle) {before after : List Segment} → i < length ts →
+    t ≡ get_or ts i t → before ≡ edges_in (take i ts) → after ≡ before ++ edges_in (t ∷ []) →
+    after ≡ edges_in (take (i + 1) ts)
 edges_pushed ts i t l e b a =
     a ∙ ap (λ (ss : List Segment). ss ++ edges_in (t ∷ [])) b ∙ sym (ap edges_in (with_next ts i t l e) ∙ edges_in-append (take i ts) (t ∷ []))
 
 -- what holds of the members so far and of one more holds of all of them
-pub all_more : {X : Type 0} (P : X → Type 0) (ts : List X) (i : ℕ) (t : X) → i < length ts → t ≡ get_or ts i t → All P (take i ts) → P t → All P (take (i + 1) ts)
+pub all_more : {X : Type 0} (P : X → Type 0) (ts : List X) (i : ℕ) (t : X) → i < length ts → t ≡ get_or ts i t →
+    All P (take i ts) → P t → All P (take (i + 1) ts)
 all_more P ts i t l e h p = subst (All P) (sym (with_next ts i t l e)) (All-push P (take i ts) t h p)

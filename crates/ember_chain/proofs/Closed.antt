@@ -11,10 +11,14 @@ use Rattle.ember_chain.proofs.EdgeForm.{outline_weights}
 use Rattle.ember_chain.proofs.Pieces.{pieces_are_paired}
 use Rattle.ember_chain.proofs.Starts.{starts_are_ends}
 
-edge_weights : (ws : List WrittenFace) → AllByRecursion IsOutlined ws → AllByRecursion (λ e. (pos 0 <ℤ e.from.w) × (pos 0 <ℤ e.to.w)) (flat_map (λ w. directed_edges w.edges) ws)
+edge_weights : (ws : List WrittenFace) → AllByRecursion IsOutlined ws →
+    AllByRecursion (λ e. (pos 0 <ℤ e.from.w) × (pos 0 <ℤ e.to.w)) (flat_map (λ w. directed_edges w.edges) ws)
 edge_weights [] lines = tt
 edge_weights (w ∷ ws) lines =
-    subst (λ es. AllByRecursion (λ e. (pos 0 <ℤ e.from.w) × (pos 0 <ℤ e.to.w)) es) (sym (flat_map-cons (λ w. directed_edges w.edges) w ws)) (each-join (λ e. (pos 0 <ℤ e.from.w) × (pos 0 <ℤ e.to.w)) (directed_edges w.edges) (flat_map (λ w. directed_edges w.edges) ws) (outline_weights w lines.0) (edge_weights ws lines.1))
+    subst (λ es. AllByRecursion (λ e. (pos 0 <ℤ e.from.w) × (pos 0 <ℤ e.to.w)) es)
+    (sym (flat_map-cons (λ w. directed_edges w.edges) w ws))
+    (each-join (λ e. (pos 0 <ℤ e.from.w) × (pos 0 <ℤ e.to.w)) (directed_edges w.edges)
+    (flat_map (λ w. directed_edges w.edges) ws) (outline_weights w lines.0) (edge_weights ws lines.1))
 
 -- each point is as often a start as an end
 pub closed_faces : (ts : List Tri) (ws : List WrittenFace) → AllByRecursion IsOutlined ws → AxesAgreeOffScene ts (map face_from ws) → IsClosedSurface ws
@@ -22,6 +26,7 @@ closed_faces ts ws lines agree =
     starts_are_ends (flat_map (λ w. directed_edges w.edges) ws) (edge_weights ws lines) (agreeing_faces_cover_evenly ts ws lines agree)
 
 -- each piece of a line is led over as often one way as the other
-pub paired_faces : (ts : List Tri) (ws : List WrittenFace) → AllByRecursion IsOutlined ws → AxesAgreeOffScene ts (map face_from ws) → ArePiecesPaired (flat_map (λ w. directed_edges w.edges) ws)
+pub paired_faces : (ts : List Tri) (ws : List WrittenFace) → AllByRecursion IsOutlined ws →
+    AxesAgreeOffScene ts (map face_from ws) → ArePiecesPaired (flat_map (λ w. directed_edges w.edges) ws)
 paired_faces ts ws lines agree =
     pieces_are_paired (flat_map (λ w. directed_edges w.edges) ws) (edge_weights ws lines) (agreeing_faces_cover_evenly ts ws lines agree)

@@ -5,7 +5,8 @@ use Rattle.ember_algebra.specs.Sign.{is_zero}
 use Rattle.ember_algebra.proofs.Laws.{linear}
 use Rattle.ember_algebra.proofs.Order.{by_sign, square_nonneg, square_pos, zero_product}
 use Rattle.ember_algebra.proofs.Ring.{◌⊖◌, ◌⊗◌, ◌≈◌, num, cancels}
-use Rattle.ember_algebra.proofs.Vectors.{vector, tuple, scalar, identity, vector_identity, same_v, TupleE, VectorE, dotE, crossE, valueE, scaleE, plusE, minusE, ◌≈v◌, cancels_v}
+use Rattle.ember_algebra.proofs.Vectors.{vector, tuple, scalar, identity, vector_identity, same_v, TupleE, VectorE}
+use Rattle.ember_algebra.proofs.Vectors.{dotE, crossE, valueE, scaleE, plusE, minusE, ◌≈v◌, cancels_v}
 use Rattle.ember_algebra.proofs.Identities.{dot_zero, parallel_products}
 use Rattle.ember_model.specs.declared.plane.Plane.{Plane}
 use Rattle.ember_model.specs.declared.point.Spot.{Spot}
@@ -44,7 +45,8 @@ displacementE u v =
 -- how a plane's value changes over a displacement
 pub displacement_value : (h : Plane) (u v : Spot) → u.w *ℤ value_at h v -ℤ v.w *ℤ value_at h u ≡ dot (normal h) (displacement u v)
 displacement_value h u v =
-    identity (tuple ∷ tuple ∷ tuple ∷ []) (λ h u v. u.w ⊗ valueE h v ⊖ v.w ⊗ valueE h u ≈ dotE (normalE h) (displacementE u v)) cancels (plane_tuple h) (spot_tuple u) (spot_tuple v)
+    identity (tuple ∷ tuple ∷ tuple ∷ []) (λ h u v. u.w ⊗ valueE h v ⊖ v.w ⊗ valueE h u ≈ dotE (normalE h)
+    (displacementE u v)) cancels (plane_tuple h) (spot_tuple u) (spot_tuple v)
 
 -- a plane that is 0 at u is 0 if its normal has no product with the way
 pub zero_carried : (h : Plane) (u v : Spot) → pos 0 <ℤ u.w → value_at h u ≡ pos 0 → dot (normal h) (displacement u v) ≡ pos 0 → value_at h v ≡ pos 0
@@ -73,14 +75,17 @@ dot_swap = identity (vector ∷ vector ∷ []) (λ u v. dotE u v ≈ dotE v u) c
 -- parallel vectors are parallel in either order
 pub parallel_swap : (u v : Vector) → Parallel u v → Parallel v u
 parallel_swap u v e =
-    vector_identity (vector ∷ vector ∷ []) (λ u v. crossE v u ≈v minusE (minusE (crossE u v) (crossE u v)) (crossE u v)) cancels_v u v ∙ ap (λ (k : Vector). minus_v (minus_v k k) k) e
+    vector_identity (vector ∷ vector ∷ []) (λ u v. crossE v u ≈v minusE (minusE (crossE u v) (crossE u v)) (crossE u v))
+    cancels_v u v ∙ ap (λ (k : Vector). minus_v (minus_v k k) k) e
 
 -- the square of a vector that isn't 0
 pub square_positive : (v : Vector) → v ≢ zero_v → pos 0 <ℤ dot v v
 square_positive v n =
     by_sign v.x
     (λ l. one (square_pos (positive_nonzero l)))
-    (λ x. by_sign v.y (λ l. two (square_pos (positive_nonzero l))) (λ y. by_sign v.z (λ l. three (square_pos (positive_nonzero l))) (λ z. absurd (n (same_v x y z))) (λ l. three (square_pos (negative_nonzero l)))) (λ l. two (square_pos (negative_nonzero l))))
+    (λ x. by_sign v.y (λ l. two (square_pos (positive_nonzero l)))
+    (λ y. by_sign v.z (λ l. three (square_pos (positive_nonzero l))) (λ z. absurd (n (same_v x y z)))
+    (λ l. three (square_pos (negative_nonzero l)))) (λ l. two (square_pos (negative_nonzero l))))
     (λ l. one (square_pos (negative_nonzero l)))
   where
     one : pos 0 <ℤ (v.x *ℤ v.x) → pos 0 <ℤ dot v v
@@ -113,7 +118,13 @@ parallel_both u v k n p q =
   where
     whole : scale_v (dot k k) (cross u v) ≡ zero_v
     whole =
-        vector_identity (vector ∷ vector ∷ vector ∷ []) (λ u v k. scaleE (dotE k k) (crossE u v) ≈v plusE (crossE (crossE k (crossE u k)) v) (scaleE (dotE u k) (minusE (minusE (crossE v k) (crossE v k)) (crossE v k)))) cancels_v u v k ∙ (λ i. plus_v (cross (cross k (p i)) v) (scale_v (dot u k) (minus_v (minus_v (q i) (q i)) (q i)))) ∙ vector_identity (vector ∷ vector ∷ vector ∷ []) (λ u v k. plusE (crossE (crossE k zeroE) v) (scaleE (dotE u k) (minusE (minusE zeroE zeroE) zeroE)) ≈v zeroE) cancels_v u v k
+        vector_identity (vector ∷ vector ∷ vector ∷ [])
+        (λ u v k. scaleE (dotE k k) (crossE u v) ≈v plusE (crossE (crossE k (crossE u k)) v)
+        (scaleE (dotE u k) (minusE (minusE (crossE v k) (crossE v k)) (crossE v k)))) cancels_v u v k
+        ∙ (λ i. plus_v (cross (cross k (p i)) v) (scale_v (dot u k) (minus_v (minus_v (q i) (q i)) (q i))))
+        ∙ vector_identity (vector ∷ vector ∷ vector ∷ [])
+        (λ u v k. plusE (crossE (crossE k zeroE) v) (scaleE (dotE u k) (minusE (minusE zeroE zeroE) zeroE)) ≈v zeroE)
+        cancels_v u v k
 
     entry : {a : ℤ} → dot k k *ℤ a ≡ pos 0 → a ≡ pos 0
     entry {a} e = ⊎_elim (λ z. absurd (positive_nonzero (square_positive k n) z)) (λ z. z) (zero_product e)
@@ -125,7 +136,12 @@ parallel_onward u v r d w p q =
   where
     whole : scale_v u.w (cross (displacement v r) d) ≡ zero_v
     whole =
-        vector_identity (tuple ∷ tuple ∷ tuple ∷ vector ∷ []) (λ u v r d. scaleE u.w (crossE (displacementE v r) d) ≈v minusE (scaleE v.w (crossE (displacementE u r) d)) (scaleE r.w (crossE (displacementE u v) d))) cancels_v (spot_tuple u) (spot_tuple v) (spot_tuple r) d ∙ (λ i. minus_v (scale_v v.w (q i)) (scale_v r.w (p i))) ∙ vector_identity (scalar ∷ scalar ∷ []) (λ a b. minusE (scaleE a zeroE) (scaleE b zeroE) ≈v zeroE) cancels_v v.w r.w
+        vector_identity (tuple ∷ tuple ∷ tuple ∷ vector ∷ [])
+        (λ u v r d. scaleE u.w (crossE (displacementE v r) d) ≈v minusE (scaleE v.w (crossE (displacementE u r) d))
+        (scaleE r.w (crossE (displacementE u v) d))) cancels_v (spot_tuple u) (spot_tuple v) (spot_tuple r) d
+        ∙ (λ i. minus_v (scale_v v.w (q i)) (scale_v r.w (p i)))
+        ∙ vector_identity (scalar ∷ scalar ∷ []) (λ a b. minusE (scaleE a zeroE) (scaleE b zeroE) ≈v zeroE) cancels_v
+        v.w r.w
 
     entry : {a : ℤ} → u.w *ℤ a ≡ pos 0 → a ≡ pos 0
     entry {a} e = cancel_zero u.w a w e
@@ -133,4 +149,7 @@ parallel_onward u v r d w p q =
 -- the way back is parallel to what the way is parallel to
 pub parallel_back : (u v : Spot) (d : Vector) → Parallel (displacement u v) d → Parallel (displacement v u) d
 parallel_back u v d p =
-    vector_identity (tuple ∷ tuple ∷ vector ∷ []) (λ u v d. crossE (displacementE v u) d ≈v minusE (minusE (crossE (displacementE u v) d) (crossE (displacementE u v) d)) (crossE (displacementE u v) d)) cancels_v (spot_tuple u) (spot_tuple v) d ∙ ap (λ (k : Vector). minus_v (minus_v k k) k) p
+    vector_identity (tuple ∷ tuple ∷ vector ∷ [])
+    (λ u v d. crossE (displacementE v u) d ≈v minusE
+    (minusE (crossE (displacementE u v) d) (crossE (displacementE u v) d)) (crossE (displacementE u v) d)) cancels_v
+    (spot_tuple u) (spot_tuple v) d ∙ ap (λ (k : Vector). minus_v (minus_v k k) k) p

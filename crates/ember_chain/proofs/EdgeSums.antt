@@ -40,11 +40,14 @@ turns_under d t f (e ∷ es) us =
     let x = turn_under d t f e us.0 in let y = turns_under d t f es us.1 in omega (arith, linear, x, y)
 
 -- where one edge is met its turn is their sum
-pub turns_only_met : (d : Vector) (t : Spot) (f : Face) (g : Plane) (es : List RingEdge) → is_in_closed f t ≡ true → IsOnlyMet t g es → total (edge_turn d t f) es ≡ sign (dot (cross (normal f.support) (normal g)) d)
+pub turns_only_met : (d : Vector) (t : Spot) (f : Face) (g : Plane) (es : List RingEdge) → is_in_closed f t ≡ true →
+    IsOnlyMet t g es → total (edge_turn d t f) es ≡ sign (dot (cross (normal f.support) (normal g)) d)
 turns_only_met d t f g [] c o = absurd o
 turns_only_met d t f g (e ∷ es) c (inl o) =
     let turn = sign (dot (cross (normal f.support) (normal g)) d) in
-    let x : edge_turn d t f e ≡ turn = ap (λ (h : Plane). cond (is_on_edge f h t) (sign (dot (cross (normal f.support) (normal h)) d)) (pos 0)) o.0 ∙ (λ i. cond (c i && is_zero (o.1 i)) turn (pos 0)) in
+    let x : edge_turn d t f e ≡ turn = ap (λ (h : Plane). cond (is_on_edge f h t)
+    (sign (dot (cross (normal f.support) (normal h)) d)) (pos 0)) o.0
+    ∙ (λ i. cond (c i && is_zero (o.1 i)) turn (pos 0)) in
     let y = turns_under d t f es o.2 in omega (arith, linear, x, y)
 turns_only_met d t f g (e ∷ es) c (inr o) =
     let x = turn_under d t f e o.0 in let y = turns_only_met d t f g es c o.1 in omega (arith, linear, x, y)

@@ -1,5 +1,6 @@
 -- One face: the legs over the four sides of the rectangle, by the turns of its edges at the middle.
-use Rattle.std.proofs.Common.{◌≡◌, ◌≢◌, inl, inr, ⊎_elim, refl, sym, ap, subst, ◌∙◌, arith, Bool, true, false, List, [], ◌∷◌, map, ℤ, pos, negsuc, ◌+ℤ◌, ◌-ℤ◌, ◌*ℤ◌, neg_ℤ, ◌<ℤ◌}
+use Rattle.std.proofs.Common.{◌≡◌, ◌≢◌, inl, inr, ⊎_elim, refl, sym, ap, subst, ◌∙◌, arith, Bool, true, false, List, []}
+use Rattle.std.proofs.Common.{◌∷◌, map, ℤ, pos, negsuc, ◌+ℤ◌, ◌-ℤ◌, ◌*ℤ◌, neg_ℤ, ◌<ℤ◌}
 use Rattle.std.specs.List.{AllByRecursion}
 use borrow.Author.Differences.{ints}
 use lib.IntN.{*ℤ_comm, *ℤ-zero}
@@ -41,30 +42,43 @@ use Rattle.ember_chain.proofs.EdgeSums.{turns_off_face, turns_under, turns_only_
 
 -- ---- values at the corners
 -- of a plane that is 0 at the middle
-value_flat : (h : Plane) (c : Axis) (t : Spot) (m sa sb : ℤ) → value_at h t ≡ pos 0 → value_at h (corner c t m sa sb) ≡ m *ℤ (sb *ℤ along h (next (next c))) +ℤ sa *ℤ along h (next c)
+value_flat : (h : Plane) (c : Axis) (t : Spot) (m sa sb : ℤ) → value_at h t ≡ pos 0 →
+    value_at h (corner c t m sa sb) ≡ m *ℤ (sb *ℤ along h (next (next c))) +ℤ sa *ℤ along h (next c)
 value_flat h c t m sa sb z =
-    value_corner h c t m sa sb ∙ (λ i. m *ℤ (m *ℤ z i +ℤ sb *ℤ along h (next (next c))) +ℤ sa *ℤ along h (next c)) ∙ solve 3 (λ m b a. m ⊗ (m ⊗ num (pos 0) ⊕ b) ⊕ a ≈ m ⊗ b ⊕ a) cancels m (sb *ℤ along h (next (next c))) (sa *ℤ along h (next c))
+    value_corner h c t m sa sb ∙ (λ i. m *ℤ (m *ℤ z i +ℤ sb *ℤ along h (next (next c))) +ℤ sa *ℤ along h (next c))
+    ∙ solve 3 (λ m b a. m ⊗ (m ⊗ num (pos 0) ⊕ b) ⊕ a ≈ m ⊗ b ⊕ a) cancels m (sb *ℤ along h (next (next c)))
+    (sa *ℤ along h (next c))
 
 -- corners across from each other
-value_across : (h : Plane) (c : Axis) (t : Spot) (m sa sb : ℤ) → value_at h t ≡ pos 0 → value_at h (corner c t m (neg_ℤ sa) (neg_ℤ sb)) ≡ neg_ℤ (value_at h (corner c t m sa sb))
+value_across : (h : Plane) (c : Axis) (t : Spot) (m sa sb : ℤ) → value_at h t ≡ pos 0 →
+    value_at h (corner c t m (neg_ℤ sa) (neg_ℤ sb)) ≡ neg_ℤ (value_at h (corner c t m sa sb))
 value_across h c t m sa sb z =
-    value_flat h c t m (neg_ℤ sa) (neg_ℤ sb) z ∙ solve 5 (λ m a b x y. m ⊗ (neg b ⊗ y) ⊕ neg a ⊗ x ≈ neg (m ⊗ (b ⊗ y) ⊕ a ⊗ x)) cancels m sa sb (along h (next c)) (along h (next (next c))) ∙ ap neg_ℤ (sym (value_flat h c t m sa sb z))
+    value_flat h c t m (neg_ℤ sa) (neg_ℤ sb) z ∙ solve 5
+    (λ m a b x y. m ⊗ (neg b ⊗ y) ⊕ neg a ⊗ x ≈ neg (m ⊗ (b ⊗ y) ⊕ a ⊗ x)) cancels m sa sb (along h (next c))
+    (along h (next (next c))) ∙ ap neg_ℤ (sym (value_flat h c t m sa sb z))
 
 -- the turn from one plane to another, as the corners see it
 abbrev seen_turn : Plane → Plane → Axis → Spot → ℤ → ℤ
 seen_turn n g c t m =
-    value_at n (corner c t m (pos 1) (pos 1)) *ℤ value_at g (corner c t m (negsuc 0) (pos 1)) -ℤ value_at n (corner c t m (negsuc 0) (pos 1)) *ℤ value_at g (corner c t m (pos 1) (pos 1))
+    value_at n (corner c t m (pos 1) (pos 1)) *ℤ value_at g (corner c t m (negsuc 0) (pos 1)) -ℤ value_at n
+    (corner c t m (negsuc 0) (pos 1)) *ℤ value_at g (corner c t m (pos 1) (pos 1))
 
-component_cross : (n g : Plane) (c : Axis) → along n (next c) *ℤ along g (next (next c)) -ℤ along n (next (next c)) *ℤ along g (next c) ≡ component (cross (normal n) (normal g)) c
+component_cross : (n g : Plane) (c : Axis) → along n (next c) *ℤ along g (next (next c)) -ℤ along n (next (next c)) *ℤ
+    along g (next c) ≡ component (cross (normal n) (normal g)) c
 component_cross n g X = refl
 component_cross n g Y = refl
 component_cross n g Z = refl
 
-turn_seen : (n g : Plane) (c : Axis) (t : Spot) (m : ℤ) → value_at n t ≡ pos 0 → value_at g t ≡ pos 0 → seen_turn n g c t m ≡ (pos 2 *ℤ m) *ℤ component (cross (normal n) (normal g)) c
+turn_seen : (n g : Plane) (c : Axis) (t : Spot) (m : ℤ) → value_at n t ≡ pos 0 → value_at g t ≡ pos 0 →
+    seen_turn n g c t m ≡ (pos 2 *ℤ m) *ℤ component (cross (normal n) (normal g)) c
 turn_seen n g c t m zn zg =
     let x = value_flat n c t m (pos 1) (pos 1) zn in let y = value_flat n c t m (negsuc 0) (pos 1) zn in
     let u = value_flat g c t m (pos 1) (pos 1) zg in let v = value_flat g c t m (negsuc 0) (pos 1) zg in
-    (λ i. x i *ℤ v i -ℤ y i *ℤ u i) ∙ solve 5 (λ m na nb ga gb. (m ⊗ (num (pos 1) ⊗ nb) ⊕ num (pos 1) ⊗ na) ⊗ (m ⊗ (num (pos 1) ⊗ gb) ⊕ num (negsuc 0) ⊗ ga) ⊖ (m ⊗ (num (pos 1) ⊗ nb) ⊕ num (negsuc 0) ⊗ na) ⊗ (m ⊗ (num (pos 1) ⊗ gb) ⊕ num (pos 1) ⊗ ga) ≈ num (pos 2) ⊗ m ⊗ (na ⊗ gb ⊖ nb ⊗ ga)) cancels m (along n (next c)) (along n (next (next c))) (along g (next c)) (along g (next (next c))) ∙ ap (λ (z : ℤ). pos 2 *ℤ m *ℤ z) (component_cross n g c)
+    (λ i. x i *ℤ v i -ℤ y i *ℤ u i) ∙ solve 5 (λ m na nb ga gb. (m ⊗ (num (pos 1) ⊗ nb) ⊕ num (pos 1) ⊗ na) ⊗
+    (m ⊗ (num (pos 1) ⊗ gb) ⊕ num (negsuc 0) ⊗ ga) ⊖ (m ⊗ (num (pos 1) ⊗ nb) ⊕ num (negsuc 0) ⊗ na) ⊗
+    (m ⊗ (num (pos 1) ⊗ gb) ⊕ num (pos 1) ⊗ ga) ≈ num (pos 2) ⊗ m ⊗ (na ⊗ gb ⊖ nb ⊗ ga)) cancels m (along n (next c))
+    (along n (next (next c))) (along g (next c)) (along g (next (next c)))
+    ∙ ap (λ (z : ℤ). pos 2 *ℤ m *ℤ z) (component_cross n g c)
 
 -- ---- the line's direction and the course of an edge
 component_dot : (v : Vector) (c : Axis) → component v c ≡ dot (unit c) v
@@ -74,17 +88,23 @@ component_dot v Z = solve 3 (λ x y z. z ≈ num (pos 0) ⊗ x ⊕ num (pos 0) �
 
 sign_component : (d k : Vector) (c : Axis) → d ≢ zero_v → Parallel d k → sign (component k c) ≡ sign (component d c) *ℤ sign (dot k d)
 sign_component d k c nd p =
-    let e : dot d d *ℤ component k c ≡ component d c *ℤ dot k d = *ℤ_comm (dot d d) (component k c) ∙ ap (λ (z : ℤ). z *ℤ dot d d) (component_dot k c) ∙ sym (parallel_products (unit c) d d k p) ∙ (let x = sym (component_dot d c) in let y = dot_swap d k in λ i. x i *ℤ y i) in
+    let e : dot d d *ℤ component k c ≡ component d c *ℤ dot k d =
+    *ℤ_comm (dot d d) (component k c) ∙ ap (λ (z : ℤ). z *ℤ dot d d) (component_dot k c)
+    ∙ sym (parallel_products (unit c) d d k p)
+    ∙ (let x = sym (component_dot d c) in let y = dot_swap d k in λ i. x i *ℤ y i) in
     sym (sign_scaled (component k c) (square_positive d nd)) ∙ ap sign e ∙ sign-mul (component d c) (dot k d)
 
 -- ---- what is known of the edges at t
-edges_at : (f : Face) (d : Vector) (t : Spot) (es : List RingEdge) → AllByRecursion (λ e. Ended f e) es → AllByRecursion (λ h. IsGeneral d t h) (map (λ e. e.plane) es) → AllByRecursion (λ h. IsNotAbove h t) (map (λ e. e.plane) es) → AllByRecursion (λ e. EdgeAt f d t e) es
+edges_at : (f : Face) (d : Vector) (t : Spot) (es : List RingEdge) → AllByRecursion (λ e. Ended f e) es →
+    AllByRecursion (λ h. IsGeneral d t h) (map (λ e. e.plane) es) →
+    AllByRecursion (λ h. IsNotAbove h t) (map (λ e. e.plane) es) → AllByRecursion (λ e. EdgeAt f d t e) es
 edges_at f d t [] ends gs ms = tt
 edges_at f d t (e ∷ es) ends gs ms =
     (record { end = ends.0; general = gs.0; at_most = ms.0 }, edges_at f d t es ends.1 gs.1 ms.1)
 
 -- the plane that is met, which contains the line
-only_met_contains : (f : Face) (d : Vector) (t : Spot) (g : Plane) (es : List RingEdge) → AllByRecursion (λ e. EdgeAt f d t e) es → IsOnlyMet t g es → (value_at g t ≡ pos 0) × (dot (normal g) d ≡ pos 0)
+only_met_contains : (f : Face) (d : Vector) (t : Spot) (g : Plane) (es : List RingEdge) →
+    AllByRecursion (λ e. EdgeAt f d t e) es → IsOnlyMet t g es → (value_at g t ≡ pos 0) × (dot (normal g) d ≡ pos 0)
 only_met_contains f d t g [] k o = absurd o
 only_met_contains f d t g (e ∷ es) k (inl o) =
     (o.1, subst (λ h. dot (normal h) d ≡ pos 0) o.0 (k.0.general.contains (ap (λ (h : Plane). value_at h t) o.0 ∙ o.1)))
@@ -97,7 +117,9 @@ pub record AreBeside (f : Face) (c : Axis) (t : Spot) (m : ℤ) : Type 0 where
   pub third : IsBeside f t (corner c t m (negsuc 0) (pos 1))
   pub fourth : IsBeside f t (corner c t m (negsuc 0) (negsuc 0))
 
-module _ (c : Axis) (d : Vector) (t : Spot) (w : WrittenFace) (m : ℤ) (wt : pos 0 <ℤ t.w) (nc : component d c ≢ pos 0) (general : IsGeneralFace d t (face_from w)) (line : IsOutlined w) (pm : pos 0 <ℤ m) (b : AreBeside (face_from w) c t m) where
+module _ (c : Axis) (d : Vector) (t : Spot) (w : WrittenFace) (m : ℤ) (wt : pos 0 <ℤ t.w) (nc : component d c ≢ pos 0)
+    (general : IsGeneralFace d t (face_from w)) (line : IsOutlined w) (pm : pos 0 <ℤ m)
+    (b : AreBeside (face_from w) c t m) where
   abbrev f : Face
   f = face_from w
 
@@ -130,11 +152,15 @@ module _ (c : Axis) (d : Vector) (t : Spot) (w : WrittenFace) (m : ℤ) (wt : po
 
   off_plane : value_at f.support t ≢ pos 0 → is_in_closed f t ≡ false → loop c t m f ≡ sign (component d c) *ℤ sum
   off_plane n h =
-      four_none (leg_off_plane f t p1 p2 b.first b.second n) (leg_off_plane f t p2 p3 b.second b.third n) (leg_off_plane f t p3 p4 b.third b.fourth n) (leg_off_plane f t p4 p1 b.fourth b.first n) (turns_off_face d t f w.edges h)
+      four_none (leg_off_plane f t p1 p2 b.first b.second n) (leg_off_plane f t p2 p3 b.second b.third n)
+      (leg_off_plane f t p3 p4 b.third b.fourth n) (leg_off_plane f t p4 p1 b.fourth b.first n)
+      (turns_off_face d t f w.edges h)
 
   beyond : none_positive f.edges t ≡ false → is_in_closed f t ≡ false → loop c t m f ≡ sign (component d c) *ℤ sum
   beyond n h =
-      four_none (leg_beyond f t p1 p2 b.first b.second n) (leg_beyond f t p2 p3 b.second b.third n) (leg_beyond f t p3 p4 b.third b.fourth n) (leg_beyond f t p4 p1 b.fourth b.first n) (turns_off_face d t f w.edges h)
+      four_none (leg_beyond f t p1 p2 b.first b.second n) (leg_beyond f t p2 p3 b.second b.third n)
+      (leg_beyond f t p3 p4 b.third b.fourth n) (leg_beyond f t p4 p1 b.fourth b.first n)
+      (turns_off_face d t f w.edges h)
 
   off_face : is_in_closed f t ≡ false → loop c t m f ≡ sign (component d c) *ℤ sum
   off_face h = by (is_zero (value_at f.support t)) refl
@@ -182,12 +208,15 @@ module _ (c : Axis) (d : Vector) (t : Spot) (w : WrittenFace) (m : ℤ) (wt : po
         let l3 = side p3 p4 b.third b.fourth ∙ (λ i. cut y (s4 i) v (g4 i)) in
         let l4 = side p4 p1 b.fourth b.first ∙ (λ i. cut (s4 i) (s1 i) (g4 i) (g1 i)) in
         let k = cross (normal f.support) (normal g) in
-        let p = orthogonal_parallel d (normal f.support) (normal g) (dot_swap d (normal f.support) ∙ general.support.contains closed.flat) (dot_swap d (normal g) ∙ gd.1) in
-        let q = quad_turns x y u v b.second.off b.third.off ∙ ap sign (turn_seen f.support g c t m closed.flat gd.0) ∙ sign_scaled (component k c) (pos_mul two pm) ∙ sign_component d k c nd p in
+        let p = orthogonal_parallel d (normal f.support) (normal g)
+        (dot_swap d (normal f.support) ∙ general.support.contains closed.flat) (dot_swap d (normal g) ∙ gd.1) in
+        let q = quad_turns x y u v b.second.off b.third.off ∙ ap sign (turn_seen f.support g c t m closed.flat gd.0)
+        ∙ sign_scaled (component k c) (pos_mul two pm) ∙ sign_component d k c nd p in
         let r = turns_only_met d t f g w.edges (closed_in f t closed) o.only in
         (λ i. l1 i +ℤ l2 i +ℤ l3 i +ℤ l4 i) ∙ q ∙ sym (ap (λ (v : ℤ). sign (component d c) *ℤ v) r)
       where
-        side : (p q : Spot) (bp : IsBeside f t p) (bq : IsBeside f t q) → leg f p q ≡ cut (value_at f.support p) (value_at f.support q) (value_at o.plane p) (value_at o.plane q)
+        side : (p q : Spot) (bp : IsBeside f t p) (bq : IsBeside f t q) →
+            leg f p q ≡ cut (value_at f.support p) (value_at f.support q) (value_at o.plane p) (value_at o.plane q)
         side p q bp bq =
             leg_on_edge f t p q bp bq o.plane (only_met_decides t (between f.support p q) o.plane w.edges o.only (middle_follows f t p q bp bq))
 
@@ -209,14 +238,25 @@ follow_corner : (c : Axis) (t : Spot) (sa sb : ℤ) (hs : List Plane) → Eventu
 follow_corner c t sa sb [] = eventually_true (λ m. tt)
 follow_corner c t sa sb (h ∷ hs) = eventually_both (follows_corner h c t sa sb) (follow_corner c t sa sb hs)
 
-beside_corner : (c : Axis) (d : Vector) (t : Spot) (f : Face) (sa sb : ℤ) → pos 0 <ℤ t.w → component d c ≢ pos 0 → sa ≢ pos 0 → sb ≢ pos 0 → IsGeneral d t f.support → (NoNormal f.support → ⊥) → Eventually (λ m. IsBeside f t (corner c t (pos m) sa sb))
+beside_corner : (c : Axis) (d : Vector) (t : Spot) (f : Face) (sa sb : ℤ) → pos 0 <ℤ t.w → component d c ≢ pos 0 →
+    sa ≢ pos 0 → sb ≢ pos 0 → IsGeneral d t f.support → (NoNormal f.support → ⊥) →
+    Eventually (λ m. IsBeside f t (corner c t (pos m) sa sb))
 beside_corner c d t f sa sb wt nc na nb g n =
-    eventually_map (λ m h. record { weight = h.0; off = λ z. n (h.1.0 z); support = h.1.1.0; edges = h.1.1.1 }) (eventually_both (weight_corner c t sa sb wt) (eventually_both (off_corner f.support c d t sa sb nc na nb g) (eventually_both (follows_corner f.support c t sa sb) (follow_corner c t sa sb f.edges))))
+    eventually_map (λ m h. record { weight = h.0; off = λ z. n (h.1.0 z); support = h.1.1.0; edges = h.1.1.1 })
+    (eventually_both (weight_corner c t sa sb wt)
+    (eventually_both (off_corner f.support c d t sa sb nc na nb g)
+    (eventually_both (follows_corner f.support c t sa sb) (follow_corner c t sa sb f.edges))))
 
 -- the legs over the four sides of a small rectangle are the turns of the edges that its middle lies on
-pub face_loop : (c : Axis) (d : Vector) (t : Spot) (w : WrittenFace) → pos 0 <ℤ t.w → component d c ≢ pos 0 → IsGeneralFace d t (face_from w) → IsOutlined w → Eventually (λ m. loop c t (pos m) (face_from w) ≡ sign (component d c) *ℤ total (edge_turn d t (face_from w)) w.edges)
+pub face_loop : (c : Axis) (d : Vector) (t : Spot) (w : WrittenFace) → pos 0 <ℤ t.w → component d c ≢ pos 0 →
+    IsGeneralFace d t (face_from w) → IsOutlined w →
+    Eventually (λ m. loop c t (pos m) (face_from w) ≡ sign (component d c) *ℤ total (edge_turn d t (face_from w)) w.edges)
 face_loop c d t w wt nc general line =
-    eventually_map (λ m h. loop_near c d t w (pos m) wt nc general line h.0 (record { first = h.1.0; second = h.1.1.0; third = h.1.1.1.0; fourth = h.1.1.1.1 })) (eventually_both positive (eventually_both (beside (pos 1) (negsuc 0) one minus) (eventually_both (beside (pos 1) (pos 1) one one) (eventually_both (beside (negsuc 0) (pos 1) minus one) (beside (negsuc 0) (negsuc 0) minus minus)))))
+    eventually_map (λ m h. loop_near c d t w (pos m) wt nc general line h.0
+    (record { first = h.1.0; second = h.1.1.0; third = h.1.1.1.0; fourth = h.1.1.1.1 }))
+    (eventually_both positive (eventually_both (beside (pos 1) (negsuc 0) one minus)
+    (eventually_both (beside (pos 1) (pos 1) one one)
+    (eventually_both (beside (negsuc 0) (pos 1) minus one) (beside (negsuc 0) (negsuc 0) minus minus)))))
   where
     positive : Eventually (λ m. pos 0 <ℤ pos m)
     positive = record { from = 1; holds = λ m l. omega (arith, ints) }

@@ -39,15 +39,23 @@ side_first Z t m sa sb sc = (refl, refl)
 
 -- ---- all faces
 -- the sums over the faces of their legs over the four sides
-loops_are_legs : (c : Axis) (t : Spot) (m : ℤ) (fs : List Face) → total (loop c t m) fs ≡ leg_wind fs (corner c t m (pos 1) (negsuc 0)) (corner c t m (pos 1) (pos 1)) +ℤ leg_wind fs (corner c t m (pos 1) (pos 1)) (corner c t m (negsuc 0) (pos 1)) +ℤ leg_wind fs (corner c t m (negsuc 0) (pos 1)) (corner c t m (negsuc 0) (negsuc 0)) +ℤ leg_wind fs (corner c t m (negsuc 0) (negsuc 0)) (corner c t m (pos 1) (negsuc 0))
+loops_are_legs : (c : Axis) (t : Spot) (m : ℤ) (fs : List Face) →
+    total (loop c t m) fs ≡ leg_wind fs (corner c t m (pos 1) (negsuc 0)) (corner c t m (pos 1) (pos 1)) +ℤ leg_wind fs
+    (corner c t m (pos 1) (pos 1)) (corner c t m (negsuc 0) (pos 1)) +ℤ leg_wind fs (corner c t m (negsuc 0) (pos 1))
+    (corner c t m (negsuc 0) (negsuc 0)) +ℤ leg_wind fs (corner c t m (negsuc 0) (negsuc 0))
+    (corner c t m (pos 1) (negsuc 0))
 loops_are_legs c t m [] = refl
 loops_are_legs c t m (f ∷ fs) = let r = loops_are_legs c t m fs in omega (arith, linear, r)
 
 -- if all axes count alike at the corners, they cancel
-loops_cancel : (ts : List Tri) (ws : List WrittenFace) (c : Axis) (t : Spot) (m : ℤ) → AxesAgreeOffScene ts (map face_from ws) → IsClearCorner ts ws (corner c t m (pos 1) (negsuc 0)) → IsClearCorner ts ws (corner c t m (pos 1) (pos 1)) → IsClearCorner ts ws (corner c t m (negsuc 0) (pos 1)) → IsClearCorner ts ws (corner c t m (negsuc 0) (negsuc 0)) → total (loop c t m) (map face_from ws) ≡ pos 0
+loops_cancel : (ts : List Tri) (ws : List WrittenFace) (c : Axis) (t : Spot) (m : ℤ) →
+    AxesAgreeOffScene ts (map face_from ws) → IsClearCorner ts ws (corner c t m (pos 1) (negsuc 0)) →
+    IsClearCorner ts ws (corner c t m (pos 1) (pos 1)) → IsClearCorner ts ws (corner c t m (negsuc 0) (pos 1)) →
+    IsClearCorner ts ws (corner c t m (negsuc 0) (negsuc 0)) → total (loop c t m) (map face_from ws) ≡ pos 0
 loops_cancel ts ws c t m agree k1 k2 k3 k4 =
     let fs = map face_from ws in let a = next c in let b = next (next c) in
-    let p1 = corner c t m (pos 1) (negsuc 0) in let p2 = corner c t m (pos 1) (pos 1) in let p3 = corner c t m (negsuc 0) (pos 1) in let p4 = corner c t m (negsuc 0) (negsuc 0) in
+    let p1 = corner c t m (pos 1) (negsuc 0) in let p2 = corner c t m (pos 1) (pos 1) in let p3 =
+    corner c t m (negsuc 0) (pos 1) in let p4 = corner c t m (negsuc 0) (negsuc 0) in
     let s1 = along_itself b p1 p2 fs k1.weight k2.weight (side_second c t m (pos 1) (negsuc 0) (pos 1)) k1.faces k2.faces in
     let s2 = along_itself a p2 p3 fs k2.weight k3.weight (side_first c t m (pos 1) (pos 1) (negsuc 0)) k2.faces k3.faces in
     let s3 = along_itself b p3 p4 fs k3.weight k4.weight (side_second c t m (negsuc 0) (pos 1) (negsuc 0)) k3.faces k4.faces in
@@ -61,8 +69,10 @@ loops_cancel ts ws c t m agree k1 k2 k3 k4 =
 abbrev covered : Spot → Vector → WrittenFace → ℤ
 covered x d w = total (coverage x d) (directed_edges w.edges)
 
-module _ (x : Spot) (d : Vector) (ts : List Tri) (t : Spot) (c : Axis) (direction : is_zero_vector d ≡ false) (nc : component d c ≢ pos 0) (heavy : pos 0 <ℤ t.w) where
-  same_covers : (es : List DirectedEdge) → AllByRecursion (λ e. (coverage x d e ≡ coverage t d e) × IsOffEnds d t e) es → total (coverage t d) es ≡ total (coverage x d) es
+module _ (x : Spot) (d : Vector) (ts : List Tri) (t : Spot) (c : Axis) (direction : is_zero_vector d ≡ false)
+    (nc : component d c ≢ pos 0) (heavy : pos 0 <ℤ t.w) where
+  same_covers : (es : List DirectedEdge) → AllByRecursion (λ e. (coverage x d e ≡ coverage t d e) × IsOffEnds d t e) es
+      → total (coverage t d) es ≡ total (coverage x d) es
   same_covers [] h = refl
   same_covers (e ∷ es) h = let p = h.0.0 in let r = same_covers es h.1 in omega (arith, linear, p, r)
 
@@ -71,28 +81,39 @@ module _ (x : Spot) (d : Vector) (ts : List Tri) (t : Spot) (c : Axis) (directio
   off_ends (e ∷ es) h = (h.0.1, off_ends es h.1)
 
   -- the loop of a face is its coverage, with the sign of d along c
-  loop_covers : (w : WrittenFace) → IsOutlined w → IsReadyFace x d t w → Eventually (λ m. loop c t (pos m) (face_from w) ≡ sign (component d c) *ℤ covered x d w)
+  loop_covers : (w : WrittenFace) → IsOutlined w → IsReadyFace x d t w →
+      Eventually (λ m. loop c t (pos m) (face_from w) ≡ sign (component d c) *ℤ covered x d w)
   loop_covers w line r =
-      let form = sym (outline_form d t w heavy direction r.planes line (off_ends (directed_edges w.edges) r.edges)) ∙ same_covers (directed_edges w.edges) r.edges in
+      let form = sym (outline_form d t w heavy direction r.planes line (off_ends (directed_edges w.edges) r.edges))
+      ∙ same_covers (directed_edges w.edges) r.edges in
       eventually_map (λ m e. e ∙ ap (λ (z : ℤ). sign (component d c) *ℤ z) form) (face_loop c d t w heavy nc r.planes line)
 
-  loops_cover : (ws : List WrittenFace) → AllByRecursion IsOutlined ws → AllByRecursion (λ w. IsReadyFace x d t w) ws → Eventually (λ m. total (loop c t (pos m)) (map face_from ws) ≡ total (λ w. sign (component d c) *ℤ covered x d w) ws)
+  loops_cover : (ws : List WrittenFace) → AllByRecursion IsOutlined ws → AllByRecursion (λ w. IsReadyFace x d t w) ws →
+      Eventually (λ m. total (loop c t (pos m)) (map face_from ws) ≡ total (λ w. sign (component d c) *ℤ covered x d w)
+      ws)
   loops_cover [] lines r = record { from = 0; holds = λ m l. refl }
   loops_cover (w ∷ ws) lines r =
       eventually_map (λ m h. λ i. h.0 i +ℤ h.1 i) (eventually_both (loop_covers w lines.0 r.0) (loops_cover ws lines.1 r.1))
 
   -- beside t, which is ready, the coverage adds up to 0
-  covers_cancel : (ws : List WrittenFace) → AllByRecursion IsOutlined ws → IsReady x d ts ws t → AxesAgreeOffScene ts (map face_from ws) → total (covered x d) ws ≡ pos 0
+  covers_cancel : (ws : List WrittenFace) → AllByRecursion IsOutlined ws → IsReady x d ts ws t →
+      AxesAgreeOffScene ts (map face_from ws) → total (covered x d) ws ≡ pos 0
   covers_cancel ws lines ready agree =
       let at = λ (sa sb : ℤ). λ (na : sa ≢ pos 0). λ (nb : sb ≢ pos 0). clear_corner x d t c sa sb heavy nc na nb ts ws lines ready in
       let one : pos 1 ≢ pos 0 = λ e. omega (arith, ints, e) in let minus : negsuc 0 ≢ pos 0 = λ e. omega (arith, ints, e) in
-      let all = eventually_both (at (pos 1) (negsuc 0) one minus) (eventually_both (at (pos 1) (pos 1) one one) (eventually_both (at (negsuc 0) (pos 1) minus one) (eventually_both (at (negsuc 0) (negsuc 0) minus minus) (loops_cover ws lines ready.faces)))) in
+      let all = eventually_both (at (pos 1) (negsuc 0) one minus)
+      (eventually_both (at (pos 1) (pos 1) one one)
+      (eventually_both (at (negsuc 0) (pos 1) minus one)
+      (eventually_both (at (negsuc 0) (negsuc 0) minus minus) (loops_cover ws lines ready.faces)))) in
       let h = all.holds all.from (le_refl all.from) in
-      let zero = sym (total-scale (sign (component d c)) (covered x d) ws) ∙ sym h.1.1.1.1 ∙ loops_cancel ts ws c t (pos all.from) agree h.0 h.1.0 h.1.1.0 h.1.1.1.0 in
+      let zero = sym (total-scale (sign (component d c)) (covered x d) ws) ∙ sym h.1.1.1.1
+      ∙ loops_cancel ts ws c t (pos all.from) agree h.0 h.1.0 h.1.1.0 h.1.1.1.0 in
       ⊎_elim (λ z. absurd (nc (zero_from_sign (component d c) z))) (λ z. z) (zero_product zero)
 
 -- faces that wind alike along all axes cover each place evenly
-pub agreeing_faces_cover_evenly : (ts : List Tri) (ws : List WrittenFace) → AllByRecursion IsOutlined ws → AxesAgreeOffScene ts (map face_from ws) → IsEvenlyCovered (flat_map (λ w. directed_edges w.edges) ws)
+pub agreeing_faces_cover_evenly : (ts : List Tri) (ws : List WrittenFace) → AllByRecursion IsOutlined ws →
+    AxesAgreeOffScene ts (map face_from ws) → IsEvenlyCovered (flat_map (λ w. directed_edges w.edges) ws)
 agreeing_faces_cover_evenly ts ws lines agree x d weight direction =
     let c = has_component d direction in let e = ready_ahead x d weight direction ts ws lines in let r = e.holds e.from (le_refl e.from) in
-    total-flat_map (coverage x d) (λ w. directed_edges w.edges) ws ∙ covers_cancel x d ts (ahead x d (pos e.from)) c.axis direction c.nonzero r.weight ws lines r agree
+    total-flat_map (coverage x d) (λ w. directed_edges w.edges) ws
+    ∙ covers_cancel x d ts (ahead x d (pos e.from)) c.axis direction c.nonzero r.weight ws lines r agree

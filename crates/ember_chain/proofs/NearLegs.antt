@@ -35,7 +35,14 @@ module _ (f : Face) (t p q : Spot) (bp : IsBeside f t p) (bq : IsBeside f t q) w
   -- ---- the point between
   follows_middle : (h : Plane) → Follows t p h → Follows t q h → Follows t middle h
   follows_middle h fp fq =
-      record { up = λ l. rw (value_between h f.support p q) (sum (size_positive (value_at f.support q) bq.off) (size_positive (value_at f.support p) bp.off) (fp.up l) (fq.up l)); down = λ l. rw (value_between h f.support p q) (fall (size_positive (value_at f.support q) bq.off) (size_positive (value_at f.support p) bp.off) (fp.down l) (fq.down l)) }
+      record {
+        up = λ l. rw (value_between h f.support p q)
+            (sum (size_positive (value_at f.support q) bq.off) (size_positive (value_at f.support p) bp.off) (fp.up l)
+            (fq.up l));
+        down = λ l. rw (value_between h f.support p q)
+            (fall (size_positive (value_at f.support q) bq.off) (size_positive (value_at f.support p) bp.off) (fp.down l)
+            (fq.down l));
+      }
     where
       sum : {a b x y : ℤ} → pos 0 <ℤ a → pos 0 <ℤ b → pos 0 <ℤ x → pos 0 <ℤ y → pos 0 <ℤ (a *ℤ x +ℤ b *ℤ y)
       sum la lb lx ly = omega (arith, linear, pos_mul la lx, pos_mul lb ly)
@@ -56,14 +63,17 @@ module _ (f : Face) (t p q : Spot) (bp : IsBeside f t p) (bq : IsBeside f t q) w
     where
       by : (k : Bool) → crosses ≡ k → leg f p q ≡ cond (crosses && b) (sign (value_at f.support q)) (pos 0)
       by true k =
-          leg_on f p q b (sign (value_at f.support q)) bp.weight bq.weight k e refl ∙ sym (ap (λ (k : Bool). cond (k && b) (sign (value_at f.support q)) (pos 0)) k)
+          leg_on f p q b (sign (value_at f.support q)) bp.weight bq.weight k e refl
+          ∙ sym (ap (λ (k : Bool). cond (k && b) (sign (value_at f.support q)) (pos 0)) k)
       by false k =
           leg_off f p q k ∙ sym (ap (λ (k : Bool). cond (k && b) (sign (value_at f.support q)) (pos 0)) k)
 
   -- off the support plane
   pub leg_off_plane : value_at f.support t ≢ pos 0 → leg f p q ≡ pos 0
   leg_off_plane n =
-      leg_off f p q (negative_not (value_at f.support p *ℤ value_at f.support q) (by_sign (value_at f.support t) (λ l. weak (pos_mul (bp.support.up l) (bq.support.up l))) (λ z. absurd (n z)) (λ l. weak (mul_neg_neg (bp.support.down l) (bq.support.down l)))))
+      leg_off f p q (negative_not (value_at f.support p *ℤ value_at f.support q)
+      (by_sign (value_at f.support t) (λ l. weak (pos_mul (bp.support.up l) (bq.support.up l))) (λ z. absurd (n z))
+      (λ l. weak (mul_neg_neg (bp.support.down l) (bq.support.down l)))))
     where
       weak : {z : ℤ} → pos 0 <ℤ z → pos 0 ≤ℤ z
       weak l = omega (arith, linear)
@@ -83,9 +93,12 @@ module _ (f : Face) (t p q : Spot) (bp : IsBeside f t p) (bq : IsBeside f t q) w
       leg_by true (all_below t middle f.edges middle_follows h) ∙ ap (λ (b : Bool). cond b (sign (value_at f.support q)) (pos 0)) (and_true crosses)
 
   -- on one
-  pub leg_on_edge : (g : Plane) → all_negative f.edges middle ≡ is_negative (value_at g middle) → leg f p q ≡ cut (value_at f.support p) (value_at f.support q) (value_at g p) (value_at g q)
+  pub leg_on_edge : (g : Plane) → all_negative f.edges middle ≡ is_negative (value_at g middle) →
+      leg f p q ≡ cut (value_at f.support p) (value_at f.support q) (value_at g p) (value_at g q)
   leg_on_edge g e =
-      leg_by (is_negative (value_at g middle)) e ∙ ap (λ (v : ℤ). cond (crosses && is_negative v) (sign (value_at f.support q)) (pos 0)) (value_between g f.support p q)
+      leg_by (is_negative (value_at g middle)) e
+      ∙ ap (λ (v : ℤ). cond (crosses && is_negative v) (sign (value_at f.support q)) (pos 0))
+      (value_between g f.support p q)
 
 -- ---- the planes of edges at a point that follows t
 -- if a point is below all edge planes, they are negative there
@@ -95,7 +108,8 @@ under_negative t (e ∷ es) us =
     let x = negative_in us.0.under in let y = under_negative t es us.1 in λ i. x i && y i
 
 -- where one plane is met it decides
-pub only_met_decides : (t x : Spot) (g : Plane) (es : List RingEdge) → IsOnlyMet t g es → FollowsEach t x (map (λ e. e.plane) es) → all_negative (map (λ e. e.plane) es) x ≡ is_negative (value_at g x)
+pub only_met_decides : (t x : Spot) (g : Plane) (es : List RingEdge) → IsOnlyMet t g es →
+    FollowsEach t x (map (λ e. e.plane) es) → all_negative (map (λ e. e.plane) es) x ≡ is_negative (value_at g x)
 only_met_decides t x g [] o fs = absurd o
 only_met_decides t x g (e ∷ es) (inl o) fs =
     let y = ap (λ (h : Plane). is_negative (value_at h x)) o.0 in

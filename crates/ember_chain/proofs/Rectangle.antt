@@ -21,9 +21,15 @@ use Rattle.ember_law.proofs.Shifted.{NoNormal}
 use Rattle.ember_chain.proofs.RectangleRound.{IsGeneral, component, next, corner}
 
 -- the value of a plane at a corner
-pub value_corner : (h : Plane) (c : Axis) (t : Spot) (m sa sb : ℤ) → value_at h (corner c t m sa sb) ≡ m *ℤ (m *ℤ value_at h t +ℤ sb *ℤ along h (next (next c))) +ℤ sa *ℤ along h (next c)
+pub value_corner : (h : Plane) (c : Axis) (t : Spot) (m sa sb : ℤ) →
+    value_at h (corner c t m sa sb) ≡ m *ℤ (m *ℤ value_at h t +ℤ sb *ℤ along h (next (next c))) +ℤ sa *ℤ along h (next c)
 value_corner h c t m sa sb =
-    value_moved h (moved (scaled (m *ℤ m) t) (next (next c)) (m *ℤ sb)) (next c) sa ∙ ap (λ (v : ℤ). v +ℤ sa *ℤ along h (next c)) (value_moved h (scaled (m *ℤ m) t) (next (next c)) (m *ℤ sb) ∙ ap (λ (v : ℤ). v +ℤ m *ℤ sb *ℤ along h (next (next c))) (value_scaled (m *ℤ m) h t) ∙ solve 4 (λ m v s k. m ⊗ m ⊗ v ⊕ m ⊗ s ⊗ k ≈ m ⊗ (m ⊗ v ⊕ s ⊗ k)) cancels m (value_at h t) sb (along h (next (next c))))
+    value_moved h (moved (scaled (m *ℤ m) t) (next (next c)) (m *ℤ sb)) (next c) sa
+    ∙ ap (λ (v : ℤ). v +ℤ sa *ℤ along h (next c))
+    (value_moved h (scaled (m *ℤ m) t) (next (next c)) (m *ℤ sb)
+    ∙ ap (λ (v : ℤ). v +ℤ m *ℤ sb *ℤ along h (next (next c))) (value_scaled (m *ℤ m) h t)
+    ∙ solve 4 (λ m v s k. m ⊗ m ⊗ v ⊕ m ⊗ s ⊗ k ≈ m ⊗ (m ⊗ v ⊕ s ⊗ k)) cancels m (value_at h t) sb
+    (along h (next (next c))))
 
 abbrev step_one : Plane → Axis → ℤ → ℤ
 step_one h c sb = sb *ℤ along h (next (next c))
@@ -69,15 +75,22 @@ lone k x b y c z n eb ec e =
     let r : k *ℤ x ≡ pos 0 = omega (arith, linear, e, p, q) in ⊎_elim (λ z. z) (λ z. absurd (n z)) (zero_product r)
 
 -- a normal with no part along two axes and no product with d
-no_normal : (h : Plane) (c : Axis) (d : Vector) → component d c ≢ pos 0 → dot (normal h) d ≡ pos 0 → along h (next (next c)) ≡ pos 0 → along h (next c) ≡ pos 0 → NoNormal h
+no_normal : (h : Plane) (c : Axis) (d : Vector) → component d c ≢ pos 0 → dot (normal h) d ≡ pos 0 →
+    along h (next (next c)) ≡ pos 0 → along h (next c) ≡ pos 0 → NoNormal h
 no_normal h X d n z b a = (lone h.a d.x h.b d.y h.c d.z n a b z, a, b)
 no_normal h Y d n z b a = (b, lone h.b d.y h.a d.x h.c d.z n b a (omega (arith, linear, z)), a)
 no_normal h Z d n z b a = (a, b, lone h.c d.z h.a d.x h.b d.y n a b (omega (arith, linear, z)))
 
 -- a plane that is 0 at a corner has no normal
-pub off_corner : (h : Plane) (c : Axis) (d : Vector) (t : Spot) (sa sb : ℤ) → component d c ≢ pos 0 → sa ≢ pos 0 → sb ≢ pos 0 → IsGeneral d t h → Eventually (λ m. value_at h (corner c t (pos m) sa sb) ≡ pos 0 → NoNormal h)
+pub off_corner : (h : Plane) (c : Axis) (d : Vector) (t : Spot) (sa sb : ℤ) → component d c ≢ pos 0 → sa ≢ pos 0 →
+    sb ≢ pos 0 → IsGeneral d t h → Eventually (λ m. value_at h (corner c t (pos m) sa sb) ≡ pos 0 → NoNormal h)
 off_corner h c d t sa sb n na nb g =
-    record { from = reach h c sa sb + 1; holds = λ m l e. from (off_two m (value_at h t) (step_one h c sb) (step_two h c sa) (omega arith) (sizes h c sa sb) (sym (as_horner h c t (pos m) sa sb) ∙ e)) }
+    record {
+      from = reach h c sa sb + 1;
+      holds =
+          λ m l e. from (off_two m (value_at h t) (step_one h c sb) (step_two h c sa) (omega arith) (sizes h c sa sb)
+          (sym (as_horner h c t (pos m) sa sb) ∙ e));
+    }
   where
     off_two : {k : ℕ} (m : ℕ) (v a b : ℤ) → k < m → EachSmall k (a ∷ b ∷ []) → horner (pos m) v (a ∷ b ∷ []) ≡ pos 0 → (v ≡ pos 0) × (a ≡ pos 0) × (b ≡ pos 0)
     off_two m v a b l s e =

@@ -49,9 +49,11 @@ passed_down s t l m = let n = negative_in (mul_pos_neg l m) in let k = sign_neg 
 two_halves : (e : ℤ) → cond (is_negative (neg_ℤ e)) (pos 1) (pos 0) +ℤ cond (is_negative e) (negsuc 0) (pos 0) ≡ sign e
 two_halves e =
     by_sign e
-    (λ l. let x : is_negative (neg_ℤ e) ≡ true = negative_in (omega (arith, linear)) in let y = one_sign l in (λ i. cond (x i) (pos 1) (pos 0) +ℤ cond (y i) (negsuc 0) (pos 0)) ∙ sym (sign_pos l))
+    (λ l. let x : is_negative (neg_ℤ e) ≡ true = negative_in (omega (arith, linear)) in let y = one_sign l in
+    (λ i. cond (x i) (pos 1) (pos 0) +ℤ cond (y i) (negsuc 0) (pos 0)) ∙ sym (sign_pos l))
     (λ z. (λ i. cond (is_negative (neg_ℤ (z i))) (pos 1) (pos 0) +ℤ cond (is_negative (z i)) (negsuc 0) (pos 0)) ∙ ap sign (sym z))
-    (λ l. let x : is_negative (neg_ℤ e) ≡ false = one_sign (omega (arith, linear)) in let y = negative_in l in (λ i. cond (x i) (pos 1) (pos 0) +ℤ cond (y i) (negsuc 0) (pos 0)) ∙ sym (sign_neg l))
+    (λ l. let x : is_negative (neg_ℤ e) ≡ false = one_sign (omega (arith, linear)) in let y = negative_in l in
+    (λ i. cond (x i) (pos 1) (pos 0) +ℤ cond (y i) (negsuc 0) (pos 0)) ∙ sym (sign_neg l))
 
 -- ---- four sides: the support plane is -y, x, y, -x at the corners, and the edge plane -v, u, v, -u
 abbrev pub cuts_round : ℤ → ℤ → ℤ → ℤ → ℤ
@@ -74,7 +76,9 @@ module _ (x y u v : ℤ) where
 
   cuts_high : pos 0 <ℤ x → pos 0 <ℤ y → cuts_round x y u v ≡ sign turn
   cuts_high l m =
-      let a = cut_up (neg_ℤ y) x (neg_ℤ v) u {e = neg_ℤ turn} (below m) l (solve 4 (λ x y u v. x ⊗ neg v ⊕ neg (neg y) ⊗ u ≈ neg (x ⊗ v ⊖ y ⊗ u)) cancels x y u v) in
+      let a = cut_up (neg_ℤ y) x (neg_ℤ v) u {e =
+      neg_ℤ turn} (below m) l (solve 4 (λ x y u v. x ⊗ neg v ⊕ neg (neg y) ⊗ u ≈ neg (x ⊗ v ⊖ y ⊗ u)) cancels x y u v)
+      in
       let b = cut_off x y u v (pos_mul l m) in
       let c = cut_down y (neg_ℤ x) v (neg_ℤ u) {e = turn} m (below l) (solve 4 (λ x y u v. neg (neg x) ⊗ v ⊕ y ⊗ neg u ≈ x ⊗ v ⊖ y ⊗ u) cancels x y u v) in
       let d = cut_off (neg_ℤ x) (neg_ℤ y) (neg_ℤ u) (neg_ℤ v) (mul_neg_neg (below l) (below m)) in
@@ -84,7 +88,9 @@ module _ (x y u v : ℤ) where
   cuts_low l m =
       let a = cut_down (neg_ℤ y) x (neg_ℤ v) u {e = turn} (above m) l (solve 4 (λ x y u v. neg x ⊗ neg v ⊕ neg y ⊗ u ≈ x ⊗ v ⊖ y ⊗ u) cancels x y u v) in
       let b = cut_off x y u v (mul_neg_neg l m) in
-      let c = cut_up y (neg_ℤ x) v (neg_ℤ u) {e = neg_ℤ turn} m (above l) (solve 4 (λ x y u v. neg x ⊗ v ⊕ neg y ⊗ neg u ≈ neg (x ⊗ v ⊖ y ⊗ u)) cancels x y u v) in
+      let c = cut_up y (neg_ℤ x) v (neg_ℤ u) {e =
+      neg_ℤ turn} m (above l) (solve 4 (λ x y u v. neg x ⊗ v ⊕ neg y ⊗ neg u ≈ neg (x ⊗ v ⊖ y ⊗ u)) cancels x y u v)
+      in
       let d = cut_off (neg_ℤ x) (neg_ℤ y) (neg_ℤ u) (neg_ℤ v) (pos_mul (above l) (above m)) in
       omega (arith, linear, a, b, c, d, two_halves turn)
 
@@ -93,7 +99,9 @@ module _ (x y u v : ℤ) where
       let a = cut_off (neg_ℤ y) x (neg_ℤ v) u (pos_mul (above m) l) in
       let b = cut_down x y u v {e = turn} l m (solve 4 (λ x y u v. neg y ⊗ u ⊕ x ⊗ v ≈ x ⊗ v ⊖ y ⊗ u) cancels x y u v) in
       let c = cut_off y (neg_ℤ x) v (neg_ℤ u) (mul_neg_neg m (below l)) in
-      let d = cut_up (neg_ℤ x) (neg_ℤ y) (neg_ℤ u) (neg_ℤ v) {e = neg_ℤ turn} (below l) (above m) (solve 4 (λ x y u v. neg y ⊗ neg u ⊕ neg (neg x) ⊗ neg v ≈ neg (x ⊗ v ⊖ y ⊗ u)) cancels x y u v) in
+      let d = cut_up (neg_ℤ x) (neg_ℤ y) (neg_ℤ u) (neg_ℤ v) {e =
+      neg_ℤ turn} (below l) (above m) (solve 4 (λ x y u v. neg y ⊗ neg u ⊕ neg (neg x) ⊗ neg v ≈ neg (x ⊗ v ⊖ y ⊗ u))
+      cancels x y u v) in
       omega (arith, linear, a, b, c, d, two_halves turn)
 
   cuts_left : x <ℤ pos 0 → pos 0 <ℤ y → cuts_round x y u v ≡ sign turn
@@ -101,7 +109,9 @@ module _ (x y u v : ℤ) where
       let a = cut_off (neg_ℤ y) x (neg_ℤ v) u (mul_neg_neg (below m) l) in
       let b = cut_up x y u v {e = neg_ℤ turn} l m (solve 4 (λ x y u v. y ⊗ u ⊕ neg x ⊗ v ≈ neg (x ⊗ v ⊖ y ⊗ u)) cancels x y u v) in
       let c = cut_off y (neg_ℤ x) v (neg_ℤ u) (pos_mul m (above l)) in
-      let d = cut_down (neg_ℤ x) (neg_ℤ y) (neg_ℤ u) (neg_ℤ v) {e = turn} (above l) (below m) (solve 4 (λ x y u v. neg (neg y) ⊗ neg u ⊕ neg x ⊗ neg v ≈ x ⊗ v ⊖ y ⊗ u) cancels x y u v) in
+      let d = cut_down (neg_ℤ x) (neg_ℤ y) (neg_ℤ u) (neg_ℤ v) {e =
+      turn} (above l) (below m) (solve 4 (λ x y u v. neg (neg y) ⊗ neg u ⊕ neg x ⊗ neg v ≈ x ⊗ v ⊖ y ⊗ u) cancels x y
+      u v) in
       omega (arith, linear, a, b, c, d, two_halves turn)
 
 -- round a rectangle whose corners are off the support plane, the crossings with a half of it add up to the sign of the turn
@@ -117,11 +127,19 @@ pub quad_passes : (x y : ℤ) → x ≢ pos 0 → y ≢ pos 0 → passed_round x
 quad_passes x y nx ny =
     by_sign x
     (λ l. by_sign y
-    (λ m. let a = passed_up (neg_ℤ y) x (below m) l in let b = passed_off x y (pos_mul l m) in let c = passed_down y (neg_ℤ x) m (below l) in let d = passed_off (neg_ℤ x) (neg_ℤ y) (mul_neg_neg (below l) (below m)) in omega (arith, linear, a, b, c, d))
+    (λ m. let a = passed_up (neg_ℤ y) x (below m) l in let b = passed_off x y (pos_mul l m) in let c =
+    passed_down y (neg_ℤ x) m (below l) in let d = passed_off (neg_ℤ x) (neg_ℤ y) (mul_neg_neg (below l) (below m)) in
+    omega (arith, linear, a, b, c, d))
     (λ z. absurd (ny z))
-    (λ m. let a = passed_off (neg_ℤ y) x (pos_mul (above m) l) in let b = passed_down x y l m in let c = passed_off y (neg_ℤ x) (mul_neg_neg m (below l)) in let d = passed_up (neg_ℤ x) (neg_ℤ y) (below l) (above m) in omega (arith, linear, a, b, c, d)))
+    (λ m. let a = passed_off (neg_ℤ y) x (pos_mul (above m) l) in let b = passed_down x y l m in let c =
+    passed_off y (neg_ℤ x) (mul_neg_neg m (below l)) in let d = passed_up (neg_ℤ x) (neg_ℤ y) (below l) (above m) in
+    omega (arith, linear, a, b, c, d)))
     (λ z. absurd (nx z))
     (λ l. by_sign y
-    (λ m. let a = passed_off (neg_ℤ y) x (mul_neg_neg (below m) l) in let b = passed_up x y l m in let c = passed_off y (neg_ℤ x) (pos_mul m (above l)) in let d = passed_down (neg_ℤ x) (neg_ℤ y) (above l) (below m) in omega (arith, linear, a, b, c, d))
+    (λ m. let a = passed_off (neg_ℤ y) x (mul_neg_neg (below m) l) in let b = passed_up x y l m in let c =
+    passed_off y (neg_ℤ x) (pos_mul m (above l)) in let d = passed_down (neg_ℤ x) (neg_ℤ y) (above l) (below m) in
+    omega (arith, linear, a, b, c, d))
     (λ z. absurd (ny z))
-    (λ m. let a = passed_down (neg_ℤ y) x (above m) l in let b = passed_off x y (mul_neg_neg l m) in let c = passed_up y (neg_ℤ x) m (above l) in let d = passed_off (neg_ℤ x) (neg_ℤ y) (pos_mul (above l) (above m)) in omega (arith, linear, a, b, c, d)))
+    (λ m. let a = passed_down (neg_ℤ y) x (above m) l in let b = passed_off x y (mul_neg_neg l m) in let c =
+    passed_up y (neg_ℤ x) m (above l) in let d = passed_off (neg_ℤ x) (neg_ℤ y) (pos_mul (above l) (above m)) in
+    omega (arith, linear, a, b, c, d)))

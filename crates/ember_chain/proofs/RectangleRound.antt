@@ -53,7 +53,9 @@ corner c t m sa sb = moved (moved (scaled (m *ℤ m) t) (next (next c)) (m *ℤ 
 -- the legs over its four sides, counter-clockwise seen from the end of c
 abbrev pub loop : Axis → Spot → ℤ → Face → ℤ
 loop c t m f =
-    leg f (corner c t m (pos 1) (negsuc 0)) (corner c t m (pos 1) (pos 1)) +ℤ leg f (corner c t m (pos 1) (pos 1)) (corner c t m (negsuc 0) (pos 1)) +ℤ leg f (corner c t m (negsuc 0) (pos 1)) (corner c t m (negsuc 0) (negsuc 0)) +ℤ leg f (corner c t m (negsuc 0) (negsuc 0)) (corner c t m (pos 1) (negsuc 0))
+    leg f (corner c t m (pos 1) (negsuc 0)) (corner c t m (pos 1) (pos 1)) +ℤ leg f (corner c t m (pos 1) (pos 1))
+    (corner c t m (negsuc 0) (pos 1)) +ℤ leg f (corner c t m (negsuc 0) (pos 1)) (corner c t m (negsuc 0) (negsuc 0))
+    +ℤ leg f (corner c t m (negsuc 0) (negsuc 0)) (corner c t m (pos 1) (negsuc 0))
 
 -- 1 or -1 where t lies on the edge of e, which runs along d or against it
 abbrev pub edge_turn : Vector → Spot → Face → RingEdge → ℤ

@@ -19,11 +19,19 @@ use Rattle.ember_chain.proofs.ClearRectangle.{all_of, each_axis}
 module _ (p : Spot) (weight : pos 0 <ℤ p.w) where
   clear_shifted_face : (w : WrittenFace) → IsOutlined w → Eventually (λ k. IsClear (face_from w) (offset_by p (pos k)))
   clear_shifted_face w line =
-      eventually_map (λ k h. off_face_is_clear w (offset_by p (pos k)) line (record { weight = h.0; support = h.1.0; hits = h.1.1 })) (eventually_both (weight_shifted p weight) (eventually_both (off_shifted p w.support) (each_axis off_hits)))
+      eventually_map (λ k h. off_face_is_clear w (offset_by p (pos k)) line
+      (record { weight = h.0; support = h.1.0; hits = h.1.1 }))
+      (eventually_both (weight_shifted p weight) (eventually_both (off_shifted p w.support) (each_axis off_hits)))
     where
-      off_hits : (a : Axis) → Eventually (λ k. AllByRecursion (λ g. value_at (at_hit_of g w.support a) (offset_by p (pos k)) ≡ pos 0 → NoNormal (at_hit_of g w.support a)) (map (λ e. e.plane) w.edges))
+      off_hits : (a : Axis) → Eventually (λ k. AllByRecursion
+          (λ g. value_at (at_hit_of g w.support a) (offset_by p (pos k)) ≡ pos 0 →
+          NoNormal (at_hit_of g w.support a)) (map (λ e. e.plane) w.edges))
       off_hits a =
-          eventually_each (λ g k. value_at (at_hit_of g w.support a) (offset_by p (pos k)) ≡ pos 0 → NoNormal (at_hit_of g w.support a)) (map (λ e. e.plane) w.edges) (all_of (λ g. Eventually (λ k. value_at (at_hit_of g w.support a) (offset_by p (pos k)) ≡ pos 0 → NoNormal (at_hit_of g w.support a))) (map (λ e. e.plane) w.edges) (λ g. off_shifted p (at_hit_of g w.support a)))
+          eventually_each (λ g k. value_at (at_hit_of g w.support a) (offset_by p (pos k)) ≡ pos 0 →
+          NoNormal (at_hit_of g w.support a)) (map (λ e. e.plane) w.edges)
+          (all_of (λ g. Eventually (λ k. value_at (at_hit_of g w.support a) (offset_by p (pos k)) ≡ pos 0 →
+          NoNormal (at_hit_of g w.support a))) (map (λ e. e.plane) w.edges)
+          (λ g. off_shifted p (at_hit_of g w.support a)))
 
   -- near every point there are points that are clear of outlined faces
   pub clear_shifted_faces : (ws : List WrittenFace) → AllByRecursion IsOutlined ws → Eventually (λ k. AreClear (map face_from ws) (offset_by p (pos k)))

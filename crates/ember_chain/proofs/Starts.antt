@@ -1,5 +1,6 @@
 -- If the points just after each point are covered evenly, as many edges start at each point as end there.
-use Rattle.std.proofs.Common.{◌≡◌, ◌≢◌, refl, sym, ap, ◌∙◌, arith, ℕ, zero, suc, Bool, true, false, cond, ◌&&◌, List, [], ◌∷◌, ℤ, pos, negsuc, ◌+ℤ◌, ◌-ℤ◌, neg_ℤ, ◌<ℤ◌}
+use Rattle.std.proofs.Common.{◌≡◌, ◌≢◌, refl, sym, ap, ◌∙◌, arith, ℕ, zero, suc, Bool, true, false, cond, ◌&&◌, List}
+use Rattle.std.proofs.Common.{[], ◌∷◌, ℤ, pos, negsuc, ◌+ℤ◌, ◌-ℤ◌, neg_ℤ, ◌<ℤ◌}
 use Rattle.std.specs.List.{AllByRecursion}
 use borrow.Author.Differences.{ints}
 use Rattle.ember_algebra.specs.Vector.{Vector, zero_v, dot, cross}
@@ -12,8 +13,10 @@ use Rattle.ember_algebra.proofs.Vectors.{VectorE, vector, identity, vector_ident
 use Rattle.ember_model.specs.declared.point.Spot.{Spot}
 use Rattle.ember_model.proofs.SignTests.{and_parts, clash, zero_out, and_true}
 use Rattle.ember_poly.proofs.FaceTests.{same_test}
-use Rattle.ember_chain.specs.Chains.{DirectedEdge, displacement, is_zero_vector, is_same_point, is_parallel, is_on_line, reached, coverage, IsEvenlyCovered, IsClosed}
-use Rattle.ember_chain.proofs.Displacements.{Parallel, parallel_none, none_parallel, parallel_back, parallel_onward, orthogonal_to_none, dot_swap, zero_vector_in, zero_vector_out, zero_not}
+use Rattle.ember_chain.specs.Chains.{DirectedEdge, displacement, is_zero_vector, is_same_point, is_parallel, is_on_line}
+use Rattle.ember_chain.specs.Chains.{reached, coverage, IsEvenlyCovered, IsClosed}
+use Rattle.ember_chain.proofs.Displacements.{Parallel, parallel_none, none_parallel, parallel_back, parallel_onward}
+use Rattle.ember_chain.proofs.Displacements.{orthogonal_to_none, dot_swap, zero_vector_in, zero_vector_out, zero_not}
 
 -- ---- the other direction
 -- the vector with the opposite direction
@@ -56,7 +59,9 @@ both_ways d u x =
 -- on the line through x the end is x where it isn't beside x along d
 same_where_zero : (d : Vector) (u x : Spot) → d ≢ zero_v → Parallel (displacement u x) d → is_zero (dot (displacement u x) d) ≡ is_same_point u x
 same_where_zero d u x nd p =
-    same_test (is_zero (dot (displacement u x) d)) (is_same_point u x) (λ e. zero_vector_in (parallel_none (displacement u x) d nd p (zero_out (dot (displacement u x) d) e))) (λ e. ap is_zero (dot_swap (displacement u x) d ∙ orthogonal_to_none d (zero_vector_out e)))
+    same_test (is_zero (dot (displacement u x) d)) (is_same_point u x)
+    (λ e. zero_vector_in (parallel_none (displacement u x) d nd p (zero_out (dot (displacement u x) d) e)))
+    (λ e. ap is_zero (dot_swap (displacement u x) d ∙ orthogonal_to_none d (zero_vector_out e)))
 
 -- ---- one edge
 module _ (x : Spot) (d : Vector) (nd : d ≢ zero_v) (e : DirectedEdge) (wf : pos 0 <ℤ e.from.w) (wt : pos 0 <ℤ e.to.w) where
@@ -78,7 +83,8 @@ module _ (x : Spot) (d : Vector) (nd : d ≢ zero_v) (e : DirectedEdge) (wf : po
       let c = and_parts (is_parallel d e) (is_on_line x d e.from) h in
       let p = zero_vector_out c.0 in let q = zero_vector_out c.1 in let k = covers_against ∙ h in
       let r : coverage x d e ≡ reached d e.from x -ℤ reached d e.to x = λ i. cond (h i) (reached d e.from x -ℤ reached d e.to x) (pos 0) in
-      let s : coverage x (against d) e ≡ reached (against d) e.from x -ℤ reached (against d) e.to x = λ i. cond (k i) (reached (against d) e.from x -ℤ reached (against d) e.to x) (pos 0) in
+      let s : coverage x (against d) e ≡ reached (against d) e.from x -ℤ reached (against d) e.to x =
+      λ i. cond (k i) (reached (against d) e.from x -ℤ reached (against d) e.to x) (pos 0) in
       let a = both_ways d e.from x ∙ (let z = same_where_zero d e.from x nd q in λ i. pos 1 +ℤ one_if (one c.0 z i)) in
       let b = both_ways d e.to x ∙ (let z = same_where_zero d e.to x nd (parallel_onward e.from e.to x d wf p q) in λ i. pos 1 +ℤ one_if (one c.0 z i)) in
       omega (arith, linear, r, s, a, b)
@@ -91,8 +97,11 @@ module _ (x : Spot) (d : Vector) (nd : d ≢ zero_v) (e : DirectedEdge) (wf : po
       let k = covers_against ∙ h in
       let r : coverage x d e ≡ pos 0 = λ i. cond (h i) (reached d e.from x -ℤ reached d e.to x) (pos 0) in
       let s : coverage x (against d) e ≡ pos 0 = λ i. cond (k i) (reached (against d) e.from x -ℤ reached (against d) e.to x) (pos 0) in
-      let a = none starts (λ t. let c = and_parts (is_same_point e.from x) (is_parallel d e) t in refuted (zero_vector_out c.1) (none_parallel d (zero_vector_out c.0))) in
-      let b = none stops (λ t. let c = and_parts (is_same_point e.to x) (is_parallel d e) t in let p = zero_vector_out c.1 in refuted p (parallel_onward e.to e.from x d wt (parallel_back e.from e.to d p) (none_parallel d (zero_vector_out c.0)))) in
+      let a = none starts (λ t. let c = and_parts (is_same_point e.from x) (is_parallel d e) t in
+      refuted (zero_vector_out c.1) (none_parallel d (zero_vector_out c.0))) in
+      let b = none stops (λ t. let c = and_parts (is_same_point e.to x) (is_parallel d e) t in let p =
+      zero_vector_out c.1 in refuted p (parallel_onward e.to e.from x d wt (parallel_back e.from e.to d p)
+      (none_parallel d (zero_vector_out c.0)))) in
       omega (arith, linear, r, s, a, b)
     where
       refuted : Parallel (displacement e.from e.to) d → Parallel (displacement e.from x) d → ⊥
@@ -114,7 +123,10 @@ module _ (x : Spot) (d : Vector) (nd : d ≢ zero_v) (e : DirectedEdge) (wf : po
 abbrev HasWeights : DirectedEdge → Type 0
 HasWeights e = (pos 0 <ℤ e.from.w) × (pos 0 <ℤ e.to.w)
 
-both_totals : (x : Spot) (d : Vector) → d ≢ zero_v → (es : List DirectedEdge) → AllByRecursion HasWeights es → total (coverage x d) es +ℤ total (coverage x (against d)) es ≡ total (λ e. one_if (is_same_point e.from x && is_parallel d e)) es -ℤ total (λ e. one_if (is_same_point e.to x && is_parallel d e)) es
+both_totals : (x : Spot) (d : Vector) → d ≢ zero_v → (es : List DirectedEdge) → AllByRecursion HasWeights es →
+    total (coverage x d) es +ℤ total (coverage x (against d)) es ≡ total
+    (λ e. one_if (is_same_point e.from x && is_parallel d e)) es -ℤ total
+    (λ e. one_if (is_same_point e.to x && is_parallel d e)) es
 both_totals x d nd [] w = refl
 both_totals x d nd (e ∷ es) w =
     let r = both_coverages x d nd e w.0.0 w.0.1 in let s = both_totals x d nd es w.1 in omega (arith, linear, r, s)

@@ -1,5 +1,6 @@
 -- Directed edges, and closed lists of them
-use Rattle.std.specs.Prelude.{◌≡◌, ℕ, ℤ, pos, ◌-ℤ◌, ◌*ℤ◌, ◌<ℤ◌, Bool, false, not, ◌&&◌, cond, if◌then◌else◌, List, [], ◌∷◌}
+use Rattle.std.specs.Prelude.{◌≡◌, ℕ, ℤ, pos, ◌-ℤ◌, ◌*ℤ◌, ◌<ℤ◌, Bool, false, not, ◌&&◌, cond}
+use Rattle.std.specs.Prelude.{if◌then◌else◌, List, [], ◌∷◌}
 use Rattle.std.specs.List.{AllByRecursion, count_by, flat_map}
 use Rattle.ember_algebra.specs.Vector.{Vector, dot, cross}
 use Rattle.ember_algebra.specs.Sign.{is_negative, is_zero, is_positive}
@@ -113,7 +114,8 @@ directed_edges (e ∷ es) = edges_to e.start (e ∷ es)
 abbrev pub IsClosedSurface : List WrittenFace → Type 0
 IsClosedSurface ws = IsClosed (flat_map (λ w. directed_edges w.edges) ws)
 
--- the face with the edge planes of its written edges. `face_in` of ember_reread and `written_face` of ember_verdict are the
+-- the face with the edge planes of its written edges. `face_in` of ember_reread and `written_face` of
+-- ember_verdict are the
 -- same map
 abbrev pub face_from : WrittenFace → Face
 face_from w = face_of_edges w.support w.edges

@@ -26,7 +26,8 @@ pub some_inj : {A : Type 0} {x y : A} → Some x ≡ Some y → x ≡ y
 some_inj {A} {x} {y} e = ap (λ (o : Option A). elim o as (λ _. A) [ None ↦ x | Some z ↦ z ]) e
 
 -- the i-th edge plane along the main axis is the i-th edge
-pub edge_at : (t : Tri) {k : Axis} {n p : Plane} (i : ℕ) → n ≡ support_of t → k ≡ main_axis n → slice_get (edge_planes t k) i ≡ Some p → slice_get (edges_of t) i ≡ Some p
+pub edge_at : (t : Tri) {k : Axis} {n p : Plane} (i : ℕ) → n ≡ support_of t → k ≡ main_axis n →
+    slice_get (edge_planes t k) i ≡ Some p → slice_get (edges_of t) i ≡ Some p
 edge_at t {k} {n} {p} i s e h =
     subst (λ (a : Axis). slice_get (edge_planes t a) i ≡ Some p) (e ∙ ap main_axis s) h
 
@@ -43,13 +44,19 @@ module _ (t : Tri) {f : Face} where
   pub below_edge : Contains (face_of t) f → (i : ℕ) {g : Plane} → slice_get (edges_of t) i ≡ Some g → IsBelow f g
   unfolding face_of
   below_edge h i {g} e = record {
-    holds = λ v o. all_at (λ k. is_negative (value_at k v)) (edges_of t) i g (and_parts (is_zero (value_at (support_of t) v)) _ (and_parts (is_positive v.w) _ (h.holds v o)).1).1 e;
+    holds = λ v o. all_at (λ k. is_negative (value_at k v)) (edges_of t) i g
+        (and_parts (is_zero (value_at (support_of t) v)) _ (and_parts (is_positive v.w) _ (h.holds v o)).1).1 e;
   }
 
-  pub below_edges_is_contained : LiesOn t f → {p q r : Plane} → slice_get (edges_of t) 0 ≡ Some p → slice_get (edges_of t) 1 ≡ Some q → slice_get (edges_of t) 2 ≡ Some r → IsBelow f p → IsBelow f q → IsBelow f r → Contains (face_of t) f
+  pub below_edges_is_contained : LiesOn t f → {p q r : Plane} → slice_get (edges_of t) 0 ≡ Some p →
+      slice_get (edges_of t) 1 ≡ Some q → slice_get (edges_of t) 2 ≡ Some r → IsBelow f p → IsBelow f q → IsBelow f r →
+      Contains (face_of t) f
   unfolding face_of
   below_edges_is_contained on {p} {q} {r} ep eq er a b c = record {
-    holds = λ v o. and_from _ _ (and_parts (is_positive v.w) _ o).0 (and_from _ _ (ap is_zero (on.plane v o)) (subst (λ (gs : List Plane). list_all (λ g. is_negative (value_at g v)) gs ≡ true) (sym edges) (and_from _ _ (a.holds v o) (and_from _ _ (b.holds v o) (and_from _ _ (c.holds v o) refl)))));
+    holds = λ v o. and_from _ _ (and_parts (is_positive v.w) _ o).0
+        (and_from _ _ (ap is_zero (on.plane v o)) (subst
+        (λ (gs : List Plane). list_all (λ g. is_negative (value_at g v)) gs ≡ true) (sym edges)
+        (and_from _ _ (a.holds v o) (and_from _ _ (b.holds v o) (and_from _ _ (c.holds v o) refl)))));
   }
     where
       edges : edges_of t ≡ p ∷ q ∷ r ∷ []

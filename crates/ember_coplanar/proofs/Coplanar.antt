@@ -22,9 +22,12 @@ use Rattle.ember_model.proofs.Tuples.{plane_tuple, spot_tuple}
 use Rattle.ember_coplanar.specs.TrianglePlane.{LiesOn}
 
 -- ---- vectors: what is orthogonal to two sides is so to all that is orthogonal to their normal
-both_orthogonal : (p e f q : Vector) → dot (cross e f) (cross e f) *ℤ dot p q ≡ dot p (cross e f) *ℤ dot (cross e f) q +ℤ dot p e *ℤ dot f (cross (cross e f) q) -ℤ dot p f *ℤ dot e (cross (cross e f) q)
+both_orthogonal : (p e f q : Vector) → dot (cross e f) (cross e f) *ℤ dot p q ≡ dot p (cross e f) *ℤ dot (cross e f) q
+    +ℤ dot p e *ℤ dot f (cross (cross e f) q) -ℤ dot p f *ℤ dot e (cross (cross e f) q)
 both_orthogonal =
-    identity (vector ∷ vector ∷ vector ∷ vector ∷ []) (λ p e f q. dotE (crossE e f) (crossE e f) ⊗ dotE p q ≈ dotE p (crossE e f) ⊗ dotE (crossE e f) q ⊕ dotE p e ⊗ dotE f (crossE (crossE e f) q) ⊖ dotE p f ⊗ dotE e (crossE (crossE e f) q)) cancels
+    identity (vector ∷ vector ∷ vector ∷ vector ∷ [])
+    (λ p e f q. dotE (crossE e f) (crossE e f) ⊗ dotE p q ≈ dotE p (crossE e f) ⊗ dotE (crossE e f) q ⊕ dotE p e ⊗
+    dotE f (crossE (crossE e f) q) ⊖ dotE p f ⊗ dotE e (crossE (crossE e f) q)) cancels
 
 abbrev cornerE : VectorE → TupleE
 cornerE c = record { x = c.x; y = c.y; z = c.z; w = num (pos 1) }
@@ -38,15 +41,18 @@ awayE c v = minusE (vector_partE v) (scaleE v.w c)
 
 along_side : (p : Plane) (c d : Corner) → dot (normal p) (vector_between c d) ≡ value_at p (spot_of_corner d) -ℤ value_at p (spot_of_corner c)
 along_side p c d =
-    identity (tuple ∷ vector ∷ vector ∷ []) (λ p c d. dotE (vector_partE p) (minusE d c) ≈ valueE p (cornerE d) ⊖ valueE p (cornerE c)) cancels (plane_tuple p) (vector_of c) (vector_of d)
+    identity (tuple ∷ vector ∷ vector ∷ []) (λ p c d. dotE (vector_partE p) (minusE d c) ≈ valueE p (cornerE d) ⊖ valueE
+    p (cornerE c)) cancels (plane_tuple p) (vector_of c) (vector_of d)
 
 value_away : (p : Plane) (c : Corner) (v : Spot) → value_at p v ≡ dot (normal p) (away c v) +ℤ v.w *ℤ value_at p (spot_of_corner c)
 value_away p c v =
-    identity (tuple ∷ vector ∷ tuple ∷ []) (λ p c v. valueE p v ≈ dotE (vector_partE p) (awayE c v) ⊕ v.w ⊗ valueE p (cornerE c)) cancels (plane_tuple p) (vector_of c) (spot_tuple v)
+    identity (tuple ∷ vector ∷ tuple ∷ []) (λ p c v. valueE p v ≈ dotE (vector_partE p) (awayE c v) ⊕ v.w ⊗ valueE p
+    (cornerE c)) cancels (plane_tuple p) (vector_of c) (spot_tuple v)
 
 through_away : (n : Vector) (c : Corner) (v : Spot) → dot n (away c v) ≡ value_at (plane_through n c) v
 through_away n c v =
-    identity (vector ∷ vector ∷ tuple ∷ []) (λ n c v. dotE n (awayE c v) ≈ valueE (record { x = n.x; y = n.y; z = n.z; w = dotE n c }) v) cancels n (vector_of c) (spot_tuple v)
+    identity (vector ∷ vector ∷ tuple ∷ []) (λ n c v. dotE n (awayE c v) ≈ valueE
+    (record { x = n.x; y = n.y; z = n.z; w = dotE n c }) v) cancels n (vector_of c) (spot_tuple v)
 
 -- ---- planes
 zero_square : (x : ℤ) → x *ℤ x ≡ pos 0 → x ≡ pos 0
@@ -64,7 +70,9 @@ square_not_zero n h e =
     let z = zero_square n.z (omega (arith, linear, a, b, c, e)) in
     clash ((λ i. is_zero (x i) && (is_zero (y i) && is_zero (z i)))) h
 
-module _ (p : Plane) (u : Tri) (a : value_at p (spot_of_corner u.a) ≡ pos 0) (b : value_at p (spot_of_corner u.b) ≡ pos 0) (c : value_at p (spot_of_corner u.c) ≡ pos 0) (v : Spot) (s : value_at (support_of u) v ≡ pos 0) where
+module _ (p : Plane) (u : Tri) (a : value_at p (spot_of_corner u.a) ≡ pos 0)
+    (b : value_at p (spot_of_corner u.b) ≡ pos 0) (c : value_at p (spot_of_corner u.c) ≡ pos 0) (v : Spot)
+    (s : value_at (support_of u) v ≡ pos 0) where
   abbrev e : Vector
   e = vector_between u.a u.b
 
@@ -117,7 +125,16 @@ coplanar_out t u e =
     let p = and_parts (not (is_flat t)) _ e in let q = and_parts (not (is_flat u)) _ p.1 in
     let x = and_parts (is_zero (value_at (support_of t) (spot_of_corner u.a))) _ q.1 in
     let y = and_parts (is_zero (value_at (support_of t) (spot_of_corner u.b))) _ x.1 in
-    record { first = not-true (is_flat t) p.0; second = not-true (is_flat u) q.0; a = zero_out (value_at (support_of t) (spot_of_corner u.a)) x.0; b = zero_out (value_at (support_of t) (spot_of_corner u.b)) y.0; c = zero_out (value_at (support_of t) (spot_of_corner u.c)) y.1 }
+    record {
+      first = not-true (is_flat t) p.0;
+      second = not-true (is_flat u) q.0;
+      a =
+          zero_out (value_at (support_of t) (spot_of_corner u.a)) x.0;
+      b =
+          zero_out (value_at (support_of t) (spot_of_corner u.b)) y.0;
+      c =
+          zero_out (value_at (support_of t) (spot_of_corner u.c)) y.1;
+    }
 
 -- what lies in the plane of one lies in that of the other
 pub lies_on_both : (t u : Tri) (f : Face) → is_coplanar t u ≡ true → LiesOn u f → LiesOn t f
@@ -132,9 +149,12 @@ unfolding is_flat
 has_normal_is t e h = h ∙ ap (λ (n : Plane). not (is_zero n.a && (is_zero n.b && is_zero n.c))) e
 
 -- a triangle lies on a plane if the plane's values at its corners are 0
-pub lies_on_is : (t u : Tri) {n : Plane} {b : Bool} → n ≡ support_of t → b ≡ is_zero (value_at n (spot_of_corner u.a)) && (is_zero (value_at n (spot_of_corner u.b)) && is_zero (value_at n (spot_of_corner u.c))) → b ≡ lies_in_plane_of t u
+pub lies_on_is : (t u : Tri) {n : Plane} {b : Bool} → n ≡ support_of t →
+    b ≡ is_zero (value_at n (spot_of_corner u.a)) &&
+    (is_zero (value_at n (spot_of_corner u.b)) && is_zero (value_at n (spot_of_corner u.c))) → b ≡ lies_in_plane_of t u
 lies_on_is t u e h =
-    h ∙ ap (λ (n : Plane). is_zero (value_at n (spot_of_corner u.a)) && (is_zero (value_at n (spot_of_corner u.b)) && is_zero (value_at n (spot_of_corner u.c)))) e
+    h ∙ ap (λ (n : Plane). is_zero (value_at n (spot_of_corner u.a))
+    && (is_zero (value_at n (spot_of_corner u.b)) && is_zero (value_at n (spot_of_corner u.c)))) e
 
 coplanar_is : (t u : Tri) → not (is_flat t) && (lies_in_plane_of t u && not (is_flat u)) ≡ is_coplanar t u
 unfolding is_coplanar

@@ -1,5 +1,6 @@
 -- A triangle owns a face if none index_in_take_is_less it contains the face
-use Rattle.std.proofs.Common.{◌≡◌, ◌⊎◌, inl, inr, ℕ, ◌+◌, ◌<◌, ◌≤◌, refl, sym, ap, subst, ◌∙◌, arith, Bool, true, false, cond, None, Some, pos, List, length, length-take, take, get_or, slice_get}
+use Rattle.std.proofs.Common.{◌≡◌, ◌⊎◌, inl, inr, ℕ, ◌+◌, ◌<◌, ◌≤◌, refl, sym, ap, subst, ◌∙◌, arith, Bool, true, false}
+use Rattle.std.proofs.Common.{cond, None, Some, pos, List, length, length-take, take, get_or, slice_get}
 use Rattle.std.specs.Option.{IfSome}
 use Rattle.std.proofs.lemmas.Bool.{cases_lt, and_parts}
 use Rattle.std.proofs.lemmas.Option.{slice_get-get_or}
@@ -22,7 +23,9 @@ lies_by_support t f n e = record { normal = n; plane = plane }
   where
     plane : (v : Spot) → is_inside f v ≡ true → value_at (support_of t) v ≡ pos 0
     plane v i =
-        ap (λ (p : Plane). value_at p v) (sym e) ∙ zero_out (value_at f.support v) (and_parts (is_zero (value_at f.support v)) _ (and_parts (is_positive v.w) _ i).1).0
+        ap (λ (p : Plane). value_at p v) (sym e)
+        ∙ zero_out (value_at f.support v) (and_parts (is_zero (value_at f.support v)) _
+        (and_parts (is_positive v.w) _ i).1).0
 
 -- a triangle's own face lies on it
 pub own_face : (t : Tri) (f : Face) → Some f ≡ cond (is_flat t) None (Some (face_of t)) → LiesOn t f
@@ -59,7 +62,9 @@ before_is ts i k d l =
     slice_get-get_or ts k d (omega (arith, l, length-take i ts)) ∙ ap (λ (t : Tri). Some t) (sym (get_or-take i ts k d b))
 
 -- the places up to k hold what those below k hold and what is at k
-pub next_place : (P : Tri → Type 0) (ts : List Tri) (i k : ℕ) (d : Tri) → k < length (take i ts) → ((j : ℕ) (t : Tri) → j < k → slice_get ts j ≡ Some t → P t) → P (get_or (take i ts) k d) → (j : ℕ) (t : Tri) → j < k + 1 → slice_get ts j ≡ Some t → P t
+pub next_place : (P : Tri → Type 0) (ts : List Tri) (i k : ℕ) (d : Tri) → k < length (take i ts) →
+    ((j : ℕ) (t : Tri) → j < k → slice_get ts j ≡ Some t → P t) → P (get_or (take i ts) k d) → (j : ℕ) (t : Tri) →
+    j < k + 1 → slice_get ts j ≡ Some t → P t
 next_place P ts i k d l h p j t m e = by (cases_lt j k)
   where
     by : (j < k) ⊎ (k ≤ j) → P t

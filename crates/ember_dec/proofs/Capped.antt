@@ -1,6 +1,7 @@
 -- Decimal digits read with a limit.
 use Rattle.std.specs.List.{list_all}
-use Rattle.std.proofs.Common.{Bool, true, false, ◌&&◌, take, ◌≡◌, ◌<◌, ℕ, zero, suc, length, drop, get_or, ◌+◌, ◌-◌, ◌*◌, min, List, [], ◌∷◌, ◌++◌, replicate, refl, ◌∙◌, sym, ap, arith}
+use Rattle.std.proofs.Common.{Bool, true, false, ◌&&◌, take, ◌≡◌, ◌<◌, ℕ, zero, suc, length, drop, get_or, ◌+◌, ◌-◌}
+use Rattle.std.proofs.Common.{◌*◌, min, List, [], ◌∷◌, ◌++◌, replicate, refl, ◌∙◌, sym, ap, arith}
 use Rattle.ember_dec.specs.Decimal.{number_from}
 use Rattle.ember_dec.proofs.Numbers.{number_from-append, number_from-drop}
 
@@ -14,17 +15,23 @@ pub number_from_capped : (limit v : ℕ) (ds : List ℕ) → min limit (number_f
 number_from_capped limit v ds = same_capped limit (min v limit) v ds (omega arith)
 
 -- one digit more
-pub digit_more : (limit v i : ℕ) (text : List ℕ) → i < length text → min limit (number_from v (drop i text)) ≡ min limit (number_from (min (v * 10 + (get_or text i 0 - 48)) limit) (drop (suc i) text))
-digit_more limit v i text h = ap (λ n. min limit n) (number_from-drop v i text h) ∙ sym (number_from_capped limit (v * 10 + (get_or text i 0 - 48)) (drop (suc i) text))
+pub digit_more : (limit v i : ℕ) (text : List ℕ) → i < length text →
+    min limit (number_from v (drop i text)) ≡ min limit
+    (number_from (min (v * 10 + (get_or text i 0 - 48)) limit) (drop (suc i) text))
+digit_more limit v i text h = ap (λ n. min limit n) (number_from-drop v i text h)
+    ∙ sym (number_from_capped limit (v * 10 + (get_or text i 0 - 48)) (drop (suc i) text))
 
 -- one zero more
 pub zero_more : (limit v n : ℕ) → min limit (number_from v (replicate (suc n) 48)) ≡ min limit (number_from (min (v * 10) limit) (replicate n 48))
 zero_more limit v n = same_capped limit (v * 10 + (48 - 48)) (min (v * 10) limit) (replicate n 48) (omega arith)
 
 -- three parts read one after another, each with the limit
-pub capped_parts : (limit : ℕ) (w f z : List ℕ) → min limit (number_from (min limit (number_from (min limit (number_from 0 w)) f)) z) ≡ min limit (number_from 0 (w ++ (f ++ z)))
+pub capped_parts : (limit : ℕ) (w f z : List ℕ) →
+    min limit (number_from (min limit (number_from (min limit (number_from 0 w)) f)) z) ≡ min limit
+    (number_from 0 (w ++ (f ++ z)))
 capped_parts limit w f z =
-    let front : min limit (number_from (min limit (number_from 0 w)) f) ≡ min limit (number_from (number_from 0 w) f) = same_capped limit (min limit (number_from 0 w)) (number_from 0 w) f (omega arith) in
+    let front : min limit (number_from (min limit (number_from 0 w)) f) ≡ min limit (number_from (number_from 0 w) f) =
+    same_capped limit (min limit (number_from 0 w)) (number_from 0 w) f (omega arith) in
     same_capped limit (min limit (number_from (min limit (number_from 0 w)) f)) (number_from (number_from 0 w) f) z (omega arith)
     ∙ ap (λ x. min limit x) (sym (number_from-append (number_from 0 w) f z) ∙ sym (number_from-append 0 w (f ++ z)))
 

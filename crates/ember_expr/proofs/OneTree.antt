@@ -1,5 +1,6 @@
 -- A text within the limits has the tree of the grammar, and words have at most one tree.
-use Rattle.std.proofs.Common.{◌≡◌, ℕ, ◌≤◌, max, Bool, true, false, if◌then◌else◌, nat_le, List, [], ◌∷◌, map, length, refl, ap, sym, subst, ◌∙◌, arith, rules, Ok, Err, Result, inl, inr}
+use Rattle.std.proofs.Common.{◌≡◌, ℕ, ◌≤◌, max, Bool, true, false, if◌then◌else◌, nat_le, List, [], ◌∷◌, map, length}
+use Rattle.std.proofs.Common.{refl, ap, sym, subst, ◌∙◌, arith, rules, Ok, Err, Result, inl, inr}
 use Rattle.ember_algebra.specs.Relations.{Every}
 use Rattle.ember_expr.specs.declared.fault.ExprFault.{ExprFault}
 use Rattle.ember_expr.specs.declared.fault.ExprFault.TheVariants.{Syntax, NoMesh, Long}
@@ -57,10 +58,13 @@ ends_with : (f : Formula) (r : Result (Read Formula) ExprFault) → Accepts Neve
 ends_with f (Ok x) h = all_read f x.part x.rest h.0 h.1
 ends_with f (Err fault) h = absurd h
 
-whole_of : (scope : Scope) (left : ℕ) (ts : List Token) (f : Formula) (d : IsExpression (words ts) f) → depth d ≤ left → Every (IsFitWord scope.meshes) (words ts) → whole scope left ts ≡ Ok f
+whole_of : (scope : Scope) (left : ℕ) (ts : List Token) (f : Formula) (d : IsExpression (words ts) f) → depth d ≤ left →
+    Every (IsFitWord scope.meshes) (words ts) → whole scope left ts ≡ Ok f
 unfolding whole
 whole_of scope left ts f d shallow fit =
-    ends_with f (or (not scope left) ts) (subst (λ rule. Accepts Never f [] (or rule ts)) (sym (not_same scope left)) (text_accepts Never (limits scope) scope left (words ts) f d (inl shallow) (every_of (IsFitWord scope.meshes) (Passes Never (limits scope)) (fit_passes scope) (words ts) fit) ts refl))
+    ends_with f (or (not scope left) ts) (subst (λ rule. Accepts Never f [] (or rule ts)) (sym (not_same scope left))
+    (text_accepts Never (limits scope) scope left (words ts) f d (inl shallow)
+    (every_of (IsFitWord scope.meshes) (Passes Never (limits scope)) (fit_passes scope) (words ts) fit) ts refl))
 
 -- a text of the grammar within the limits is parsed as its tree
 pub text_is_parsed : (text : List ℕ) (meshes : ℕ) (f : Formula) → HasTree text meshes f → expr_of text meshes ≡ Ok f
@@ -74,9 +78,14 @@ is_read P r x e h = subst (IfReads P) e h
 tree_of : (text : List ℕ) (meshes : ℕ) (f : Formula) → length text ≤ 4096 → IsWithin meshes 64 grammar.or (words (tokens_of text)) f → HasTree text meshes f
 tree_of text meshes f short h = record { short = short; derived = h.derived; shallow = h.shallow; fit = h.fit }
 
-parsed_by : (text : List ℕ) (meshes : ℕ) (f : Formula) (short : Bool) → nat_le (length text) 4096 ≡ short → ◌≡◌ {A = Result Formula ExprFault} (if short then whole (record { meshes = meshes; end = length text }) 64 (tokens_of text) else Err Long) (Ok f) → HasTree text meshes f
+parsed_by : (text : List ℕ) (meshes : ℕ) (f : Formula) (short : Bool) → nat_le (length text) 4096 ≡ short →
+    ◌≡◌ {A = Result Formula ExprFault} (if short then whole (record { meshes = meshes; end = length text }) 64
+    (tokens_of text) else Err Long) (Ok f) → HasTree text meshes f
 parsed_by text meshes f true short e =
-    tree_of text meshes f (search (rules, short)) (is_read (λ g. IsWithin meshes 64 grammar.or (words (tokens_of text)) g) (whole (record { meshes = meshes; end = length text }) 64 (tokens_of text)) f e (whole_derived (record { meshes = meshes; end = length text }) 64 (tokens_of text)))
+    tree_of text meshes f (search (rules, short))
+    (is_read (λ g. IsWithin meshes 64 grammar.or (words (tokens_of text)) g)
+    (whole (record { meshes = meshes; end = length text }) 64 (tokens_of text)) f e
+    (whole_derived (record { meshes = meshes; end = length text }) 64 (tokens_of text)))
 parsed_by text meshes f false short e = cc
 
 -- what is parsed is a text of the grammar within the limits
@@ -96,7 +105,8 @@ existing_passes : (n : ℕ) (exists : Bool) → PassesAs IsLimit n (if exists th
 existing_passes n true = refl
 existing_passes n false = tt
 
-mesh_limited : (scope : Scope) (place n : ℕ) (small exists : Bool) → PassesAs IsLimit n ((if small then Ok n else Err (fault.Number place)) >>= λ k. existing scope k)
+mesh_limited : (scope : Scope) (place n : ℕ) (small exists : Bool) →
+    PassesAs IsLimit n ((if small then Ok n else Err (fault.Number place)) >>= λ k. existing scope k)
 mesh_limited scope place n true exists = existing_passes n _
 mesh_limited scope place n false exists = tt
 
@@ -115,22 +125,31 @@ at_end f g (t ∷ ts) place none e = cc
 pub err_same : (a b : ExprFault) → ◌≡◌ {A = Result Formula ExprFault} (Err a) (Err b) → a ≡ b
 err_same a b e = cc
 
-not_misplaced : (f : Formula) (place : ℕ) (r : Result (Read Formula) ExprFault) → Accepts IsLimit f [] r → (r >>= λ e. ended e.part e.rest) ≡ Err (Syntax place) → ⊥
+not_misplaced : (f : Formula) (place : ℕ) (r : Result (Read Formula) ExprFault) → Accepts IsLimit f [] r →
+    (r >>= λ e. ended e.part e.rest) ≡ Err (Syntax place) → ⊥
 not_misplaced f place (Ok x) h e = at_end f x.part x.rest place h.1 e
 not_misplaced f place (Err fault) h e = subst IsLimit (err_same fault (Syntax place) e) h
 
 -- a text that the grammar derives has no fault of syntax
-pub whole_no_syntax : (scope : Scope) (left : ℕ) (ts : List Token) (f : Formula) (place : ℕ) → IsExpression (words ts) f → whole scope left ts ≡ Err (Syntax place) → ⊥
+pub whole_no_syntax : (scope : Scope) (left : ℕ) (ts : List Token) (f : Formula) (place : ℕ) →
+    IsExpression (words ts) f → whole scope left ts ≡ Err (Syntax place) → ⊥
 unfolding whole
 whole_no_syntax scope left ts f place d e =
-    not_misplaced f place (or (not scope left) ts) (subst (λ rule. Accepts IsLimit f [] (or rule ts)) (sym (not_same scope left)) (text_accepts IsLimit (limits scope) scope left (words ts) f d (inr (λ place. tt)) (every_one (Passes IsLimit (limits scope)) (limits_pass scope) (words ts)) ts refl)) e
+    not_misplaced f place (or (not scope left) ts)
+    (subst (λ rule. Accepts IsLimit f [] (or rule ts)) (sym (not_same scope left))
+    (text_accepts IsLimit (limits scope) scope left (words ts) f d (inr (λ place. tt))
+    (every_one (Passes IsLimit (limits scope)) (limits_pass scope) (words ts)) ts refl)) e
 
-no_syntax_by : (text : List ℕ) (meshes place : ℕ) (f : Formula) (short : Bool) → IsExpression (words (tokens_of text)) f → ◌≡◌ {A = Result Formula ExprFault} (if short then whole (record { meshes = meshes; end = length text }) 64 (tokens_of text) else Err Long) (Err (Syntax place)) → ⊥
+no_syntax_by : (text : List ℕ) (meshes place : ℕ) (f : Formula) (short : Bool) →
+    IsExpression (words (tokens_of text)) f → ◌≡◌ {A =
+    Result Formula ExprFault} (if short then whole (record { meshes = meshes; end = length text }) 64 (tokens_of text)
+    else Err Long) (Err (Syntax place)) → ⊥
 no_syntax_by text meshes place f true d e = whole_no_syntax (record { meshes = meshes; end = length text }) 64 (tokens_of text) f place d e
 no_syntax_by text meshes place f false d e = cc
 
 -- a text of the grammar has no syntax fault
-pub text_has_no_syntax_fault : (text : List ℕ) (meshes place : ℕ) (f : Formula) → IsExpression (words (tokens_of text)) f → expr_of text meshes ≡ Err (Syntax place) → ⊥
+pub text_has_no_syntax_fault : (text : List ℕ) (meshes place : ℕ) (f : Formula) →
+    IsExpression (words (tokens_of text)) f → expr_of text meshes ≡ Err (Syntax place) → ⊥
 text_has_no_syntax_fault text meshes place f d e = no_syntax_by text meshes place f (nat_le (length text) 4096) d e
 
 -- ---- one tree
@@ -154,7 +173,11 @@ one_result f g (Err fault) h k = absurd h
 
 one_tree : (ws : List Word) (f g : Formula) → IsExpression ws f → IsExpression ws g → f ≡ g
 one_tree ws f g d e =
-    one_result f g (or (not_by no_limits (record { meshes = 0; end = 0 }) (max (depth d) (depth e))) (unplaced ws)) (text_accepts Never no_limits (record { meshes = 0; end = 0 }) (max (depth d) (depth e)) ws f d (inl (omega arith)) (every_one (Passes Never no_limits) all_pass ws) (unplaced ws) (unplaced_words ws)) (text_accepts Never no_limits (record { meshes = 0; end = 0 }) (max (depth d) (depth e)) ws g e (inl (omega arith)) (every_one (Passes Never no_limits) all_pass ws) (unplaced ws) (unplaced_words ws))
+    one_result f g (or (not_by no_limits (record { meshes = 0; end = 0 }) (max (depth d) (depth e))) (unplaced ws))
+    (text_accepts Never no_limits (record { meshes = 0; end = 0 }) (max (depth d) (depth e)) ws f d
+    (inl (omega arith)) (every_one (Passes Never no_limits) all_pass ws) (unplaced ws) (unplaced_words ws))
+    (text_accepts Never no_limits (record { meshes = 0; end = 0 }) (max (depth d) (depth e)) ws g e
+    (inl (omega arith)) (every_one (Passes Never no_limits) all_pass ws) (unplaced ws) (unplaced_words ws))
 
 as_expression : {p : Phrase} {ws : List Word} {f : Formula} → Derives p ws f → IsExpression ws f
 as_expression {p = grammar.or} d = d

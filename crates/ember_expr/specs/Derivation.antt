@@ -4,7 +4,8 @@ use Rattle.ember_algebra.specs.Relations.{Every}
 use Rattle.ember_expr.specs.declared.trees.Rel.{Rel}
 use Rattle.ember_expr.specs.declared.trees.Term.{Term}
 use Rattle.ember_expr.specs.declared.token.Word.{Word}
-use Rattle.ember_expr.specs.declared.token.Word.TheVariants.{Bar, Hat, Amp, Bang, Open, Close, Plus, Minus, Star, Number, Wind}
+use Rattle.ember_expr.specs.declared.token.Word.TheVariants.{Bar, Hat, Amp, Bang, Open, Close, Plus}
+use Rattle.ember_expr.specs.declared.token.Word.TheVariants.{Minus, Star, Number, Wind}
 use Rattle.ember_expr.specs.declared.token.Word.TheVariants as word
 use Rattle.ember_expr.specs.declared.token.Token.{Token}
 use Rattle.ember_expr.specs.Formula.{Formula, Or, Xor, And, Not, Mesh, Odd, Compare}

@@ -4,7 +4,9 @@ use Rattle.std.specs.Char.{is_ascii_digit}
 use Rattle.ember_expr.specs.declared.trees.Rel.{Rel}
 use Rattle.ember_expr.specs.declared.trees.Rel.TheVariants.{Less, LessEqual, Equal, NotEqual, GreaterEqual, Greater}
 use Rattle.ember_expr.specs.declared.token.Word.{Word}
-use Rattle.ember_expr.specs.declared.token.Word.TheVariants.{Bar, Hat, Amp, Bang, Open, Close, Plus, Minus, Star, Compare, Odd, Number, Mesh, Wind, Unknown}
+use Rattle.ember_expr.specs.declared.token.Word.TheVariants.{Bar, Hat, Amp, Bang, Open, Close, Plus}
+use Rattle.ember_expr.specs.declared.token.Word.TheVariants.{Minus, Star, Compare, Odd, Number, Mesh}
+use Rattle.ember_expr.specs.declared.token.Word.TheVariants.{Wind, Unknown}
 use Rattle.ember_expr.specs.declared.token.Token.{Token}
 use Rattle.ember_expr.specs.declared.token.Lexeme.{Lexeme}
 

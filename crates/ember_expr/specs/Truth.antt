@@ -1,5 +1,7 @@
 -- The truth of an expression at the winding numbers of all meshes
-use Rattle.std.specs.Prelude.{ℕ, ◌-◌, ◌%◌, ◌==◌, ℤ, pos, neg_ℤ, ◌+ℤ◌, ◌*ℤ◌, Bool, not, ◌&&◌, ◌||◌, if◌then◌else◌, List, [], ◌∷◌, All, slice_index_or, unsigned_abs, int_lt, int_le}
+use Rattle.std.specs.Prelude.{ℕ, ◌-◌, ◌%◌, ◌==◌, ℤ, pos, neg_ℤ, ◌+ℤ◌, ◌*ℤ◌, Bool, not, ◌&&◌, ◌||◌}
+use Rattle.std.specs.Prelude.{if◌then◌else◌, List, [], ◌∷◌, All, slice_index_or, unsigned_abs, int_lt}
+use Rattle.std.specs.Prelude.{int_le}
 use Rattle.ember_algebra.specs.Size.{Small}
 use Rattle.ember_expr.specs.declared.trees.Rel.{Rel}
 use Rattle.ember_expr.specs.declared.trees.Rel.TheVariants.{Less, LessEqual, Equal, NotEqual, GreaterEqual, Greater}

@@ -19,10 +19,16 @@ one_more : (b : Bool) (n m k i t : ℕ) → n + (one_if b + k) ≡ t → n ≤ i
 one_more true n m k i t e l h = (omega arith, omega arith)
 one_more false n m k i t e l h = (omega arith, omega arith)
 
-pub counted_more : (s : Option Sign) (rest all : List (Option Sign)) (i : ℕ) (f g : Facings) → HaveCounted (s ∷ rest) all i f → g.without_area ≡ f.without_area + one_if (has_no_area s) → g.turned_over ≡ f.turned_over + one_if (is_turned_over s) → HaveCounted rest all (i + 1) g
+pub counted_more : (s : Option Sign) (rest all : List (Option Sign)) (i : ℕ) (f g : Facings) →
+    HaveCounted (s ∷ rest) all i f → g.without_area ≡ f.without_area + one_if (has_no_area s) →
+    g.turned_over ≡ f.turned_over + one_if (is_turned_over s) → HaveCounted rest all (i + 1) g
 counted_more s rest all i f g h ea et =
-    let a = one_more (has_no_area s) f.without_area g.without_area (count_by has_no_area rest) i (count_by has_no_area all) (ap (λ (n : ℕ). f.without_area + n) (sym (sum_by-cons (λ (x : Option Sign). one_if (has_no_area x)) s rest)) ∙ h.without_area) h.few_without ea in
-    let t = one_more (is_turned_over s) f.turned_over g.turned_over (count_by is_turned_over rest) i (count_by is_turned_over all) (ap (λ (n : ℕ). f.turned_over + n) (sym (sum_by-cons (λ (x : Option Sign). one_if (is_turned_over x)) s rest)) ∙ h.turned_over) h.few_turned et in
+    let a = one_more (has_no_area s) f.without_area g.without_area (count_by has_no_area rest) i
+    (count_by has_no_area all) (ap (λ (n : ℕ). f.without_area + n)
+    (sym (sum_by-cons (λ (x : Option Sign). one_if (has_no_area x)) s rest)) ∙ h.without_area) h.few_without ea in
+    let t = one_more (is_turned_over s) f.turned_over g.turned_over (count_by is_turned_over rest) i
+    (count_by is_turned_over all) (ap (λ (n : ℕ). f.turned_over + n)
+    (sym (sum_by-cons (λ (x : Option Sign). one_if (is_turned_over x)) s rest)) ∙ h.turned_over) h.few_turned et in
     record { without_area = a.0; turned_over = t.0; few_without = a.1; few_turned = t.1 }
 
 -- what is left at an index begins with the element there

@@ -1,5 +1,6 @@
 -- How many triangles have no area, and how many are turned over
-use Rattle.std.specs.Prelude.{◌≡◌, ℕ, suc, Bool, false, List, [], ◌∷◌, map, count_by, Option, Some, None, pos, slice_get, slice_index_or, if◌then◌else◌}
+use Rattle.std.specs.Prelude.{◌≡◌, ℕ, suc, Bool, false, List, [], ◌∷◌, map, count_by, Option, Some, None}
+use Rattle.std.specs.Prelude.{pos, slice_get, slice_index_or, if◌then◌else◌}
 use Rattle.ember_algebra.specs.declared.Sign.{Sign}
 use Rattle.ember_algebra.specs.Sign.{sgn, is_nil, is_neg}
 use Rattle.ember_model.specs.declared.plane.Plane.{Plane}
@@ -63,7 +64,8 @@ decimal_facing p vs t = Some (sgn (signed_area p (decimal_point (vertices.point_
     (decimal_point (vertices.point_at vs t.b)) (decimal_point (vertices.point_at vs t.c))))
 
 -- the signs of triangles of which the first has the plane whose number has this index
-abbrev pub decimal_facings_from : List Plane → List ℕ → List DecimalPoint → ℕ → List IndexedTriangle → List (Option Sign)
+abbrev pub decimal_facings_from : List Plane → List ℕ → List DecimalPoint → ℕ → List IndexedTriangle →
+    List (Option Sign)
 decimal_facings_from planes numbers vs index [] = []
 decimal_facings_from planes numbers vs index (t ∷ ts) =
     decimal_facing (numbered_plane planes numbers index) vs t ∷ decimal_facings_from planes numbers vs (suc index) ts

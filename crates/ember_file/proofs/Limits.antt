@@ -44,7 +44,8 @@ ply_mesh (Err fault) d e = cc
 ply_mesh (Ok c) d e = ply_triangles c d c.facets e
 
 -- a PLY file that is read has no far triangle
-pub ply_is_within : (bytes : List ℕ) (s : Surface) → ply.read_ply_of bytes ≡ Ok (content_of s) → find (is_facet_too_large s.vertices.items) s.facets.items ≡ None
+pub ply_is_within : (bytes : List ℕ) (s : Surface) → ply.read_ply_of bytes ≡ Ok (content_of s) →
+    find (is_facet_too_large s.vertices.items) s.facets.items ≡ None
 ply_is_within bytes s e = within s (ply_mesh (ply.content_of_file bytes) (content_of s) e)
 
 -- ---- OFF
@@ -61,7 +62,8 @@ off_mesh (Err fault) d e = cc
 off_mesh (Ok c) d e = off_triangles c d c.facets e
 
 -- an OFF file that is read has no far triangle
-pub off_is_within : (bytes : List ℕ) (s : Surface) → off.read_off_of bytes ≡ Ok (content_of s) → find (is_facet_too_large s.vertices.items) s.facets.items ≡ None
+pub off_is_within : (bytes : List ℕ) (s : Surface) → off.read_off_of bytes ≡ Ok (content_of s) →
+    find (is_facet_too_large s.vertices.items) s.facets.items ≡ None
 off_is_within bytes s e = within s (off_mesh (off.content_in (off_rows.rows_of bytes)) (content_of s) e)
 
 -- ---- OBJ
@@ -78,7 +80,8 @@ wavefront_mesh (Err fault) d e = cc
 wavefront_mesh (Ok c) d e = wavefront_triangles c d c.facets e
 
 -- an OBJ file that is read has no far triangle
-pub wavefront_is_within : (bytes : List ℕ) (s : Surface) → wavefront.read_wavefront_of bytes ≡ Ok (content_of s) → find (is_facet_too_large s.vertices.items) s.facets.items ≡ None
+pub wavefront_is_within : (bytes : List ℕ) (s : Surface) → wavefront.read_wavefront_of bytes ≡ Ok (content_of s) →
+    find (is_facet_too_large s.vertices.items) s.facets.items ≡ None
 wavefront_is_within bytes s e = within s (wavefront_mesh (wavefront.content_in (wavefront_rows.rows_of bytes)) (content_of s) e)
 
 -- ---- STL
@@ -86,7 +89,8 @@ stl_near : (binary : Bool) (c d : Content) (o : Option Facet) → stl.first_far 
 stl_near binary c d None far e = let same : c ≡ d = cc in ap stl.first_far (sym same) ∙ far
 stl_near binary c d (Some f) far e = cc
 
-stl_triangles : (binary none : Bool) (c d : Content) (fault : StlFault) → (if none then Err fault else unless_far binary c (stl.first_far c)) ≡ Ok d → stl.first_far d ≡ None
+stl_triangles : (binary none : Bool) (c d : Content) (fault : StlFault) →
+    (if none then Err fault else unless_far binary c (stl.first_far c)) ≡ Ok d → stl.first_far d ≡ None
 stl_triangles binary true c d fault e = cc
 stl_triangles binary false c d fault e = stl_near binary c d (stl.first_far c) refl e
 
@@ -94,7 +98,8 @@ stl_mesh : (binary : Bool) (r : Result Content StlFault) (d : Content) → check
 stl_mesh binary (Err fault) d e = cc
 stl_mesh binary (Ok c) d e = stl_triangles binary (length c.facets == 0) c d NoTriangles e
 
-stl_kinds : (b a : Bool) (x y : Result Content StlFault) (fault : StlFault) (d : Content) → (if b then checked true x else (if a then checked false y else Err fault)) ≡ Ok d → stl.first_far d ≡ None
+stl_kinds : (b a : Bool) (x y : Result Content StlFault) (fault : StlFault) (d : Content) →
+    (if b then checked true x else (if a then checked false y else Err fault)) ≡ Ok d → stl.first_far d ≡ None
 stl_kinds true a x y fault d e = stl_mesh true x d e
 stl_kinds false true x y fault d e = stl_mesh false y d e
 stl_kinds false false x y fault d e = cc
@@ -102,4 +107,6 @@ stl_kinds false false x y fault d e = cc
 -- an STL file that is read has no far triangle
 pub stl_is_within : (bytes : List ℕ) (s : Surface) → read_stl_of bytes ≡ Ok (content_of s) → find (is_facet_too_large s.vertices.items) s.facets.items ≡ None
 stl_is_within bytes s e =
-    same_first_far s.vertices.items s.facets.items ∙ stl_kinds (is_binary bytes) (is_ascii bytes) (binary_of bytes) (ascii_of bytes) (CutOff (facets_said bytes)) (content_of s) e
+    same_first_far s.vertices.items s.facets.items
+    ∙ stl_kinds (is_binary bytes) (is_ascii bytes) (binary_of bytes) (ascii_of bytes) (CutOff (facets_said bytes))
+    (content_of s) e

@@ -23,11 +23,16 @@ neither false false false o s x y n e = refl
 
 cut_off : (name bytes : List ℕ) → format_said name bytes ≡ CutOffStl → with_faults of_stl (read_stl_of bytes) ≡ Err (CutOff (facets_said bytes))
 cut_off name bytes e =
-    let refused : read_stl_of bytes ≡ Err (stl.CutOff (facets_said bytes)) = neither (is_ply bytes) (is_binary bytes) (is_ascii bytes) (is_off bytes) (has_stl_name name) (binary_of bytes) (ascii_of bytes) (facets_said bytes) e in
+    let refused : read_stl_of bytes ≡ Err (stl.CutOff (facets_said bytes)) =
+    neither (is_ply bytes) (is_binary bytes) (is_ascii bytes) (is_off bytes) (has_stl_name name) (binary_of bytes)
+    (ascii_of bytes) (facets_said bytes) e in
     ap (with_faults of_stl) refused
 
 -- the three kinds of STL have one reader
-pub stl_files_have_one_reader : (name bytes : List ℕ) (format : Format) → format ≡ format_said name bytes → (format ≡ BinaryStl) ⊎ ((format ≡ AsciiStl) ⊎ (format ≡ CutOffStl)) → reading_of name bytes ≡ with_faults of_stl (read_stl_of bytes)
+pub stl_files_have_one_reader : (name bytes : List ℕ) (format : Format) → format ≡ format_said name bytes →
+    (format ≡ BinaryStl) ⊎ ((format ≡ AsciiStl) ⊎ (format ≡ CutOffStl)) →
+    reading_of name bytes ≡ with_faults of_stl (read_stl_of bytes)
 stl_files_have_one_reader name bytes format said (inl binary) = ap (λ f. reading_in f bytes) (sym said ∙ binary)
 stl_files_have_one_reader name bytes format said (inr (inl ascii)) = ap (λ f. reading_in f bytes) (sym said ∙ ascii)
-stl_files_have_one_reader name bytes format said (inr (inr named)) = ap (λ f. reading_in f bytes) (sym said ∙ named) ∙ sym (cut_off name bytes (sym said ∙ named))
+stl_files_have_one_reader name bytes format said (inr (inr named)) =
+    ap (λ f. reading_in f bytes) (sym said ∙ named) ∙ sym (cut_off name bytes (sym said ∙ named))

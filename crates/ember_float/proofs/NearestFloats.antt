@@ -57,23 +57,28 @@ module _ (n d place m : ℕ) (p : 0 < d) (scaled : IsScaled n d place m) where
   near_size : (s q : ℕ) → s < 2 ^ 24 → gap (n * 2 ^ 149) (m * (d * 2 ^ place)) ≤ gap (n * 2 ^ 149) (s * 2 ^ q * d)
   near_size s q l =
       by_lt q place
-      (λ h. farther_below _ _ _ _ (nearest_multiple (n * 2 ^ 149) (d * 2 ^ place) m scaled.nearest (2 ^ 23)) (lower_place s place q d l h) (scaled.normal (omega (arith, h))))
+      (λ h. farther_below _ _ _ _ (nearest_multiple (n * 2 ^ 149) (d * 2 ^ place) m scaled.nearest (2 ^ 23))
+      (lower_place s place q d l h) (scaled.normal (omega (arith, h))))
       (λ h. rw (higher_place s place q d h) (nearest_multiple (n * 2 ^ 149) (d * 2 ^ place) m scaled.nearest (s * 2 ^ (q - place))))
 
-  even_higher : (s q : ℕ) → place ≤ q → (s * 2 ^ q ≡ m * 2 ^ place → ⊥) → gap (n * 2 ^ 149) (s * 2 ^ q * d) ≤ gap (n * 2 ^ 149) (m * (d * 2 ^ place)) → m % 2 ≡ 0
+  even_higher : (s q : ℕ) → place ≤ q → (s * 2 ^ q ≡ m * 2 ^ place → ⊥) →
+      gap (n * 2 ^ 149) (s * 2 ^ q * d) ≤ gap (n * 2 ^ 149) (m * (d * 2 ^ place)) → m % 2 ≡ 0
   even_higher s q h other as_near =
       nearest_of_two (n * 2 ^ 149) (d * 2 ^ place) m scaled.nearest (s * 2 ^ (q - place)) unit_positive
       (λ e. other (same_factor (s * 2 ^ q) (m * 2 ^ place) d p (higher_place s place q d h ∙ ap (λ (k : ℕ). k * (d * 2 ^ place)) e ∙ sym regrouped)))
       (rw (sym (higher_place s place q d h)) as_near)
 
-  even_lower : (s q : ℕ) → s < 2 ^ 24 → q < place → (s * 2 ^ q ≡ m * 2 ^ place → ⊥) → gap (n * 2 ^ 149) (s * 2 ^ q * d) ≤ gap (n * 2 ^ 149) (m * (d * 2 ^ place)) → m % 2 ≡ 0
+  even_lower : (s q : ℕ) → s < 2 ^ 24 → q < place → (s * 2 ^ q ≡ m * 2 ^ place → ⊥) →
+      gap (n * 2 ^ 149) (s * 2 ^ q * d) ≤ gap (n * 2 ^ 149) (m * (d * 2 ^ place)) → m % 2 ≡ 0
   even_lower s q l h other as_near =
       let low : s * 2 ^ q * d ≤ 2 ^ 23 * (d * 2 ^ place) = lower_place s place q d l h in
       let high : 2 ^ 23 * (d * 2 ^ place) ≤ n * 2 ^ 149 = scaled.normal (omega (arith, h)) in
       nearest_of_two (n * 2 ^ 149) (d * 2 ^ place) m scaled.nearest (2 ^ 23) unit_positive
       (λ e.
       let same : 2 ^ 23 * (d * 2 ^ place) ≡ m * (d * 2 ^ place) = ap (λ (k : ℕ). k * (d * 2 ^ place)) e in
-      other (same_factor (s * 2 ^ q) (m * 2 ^ place) d p (equal_within (n * 2 ^ 149) (m * (d * 2 ^ place)) (s * 2 ^ q * d) as_near (omega (arith, low, same)) (omega (arith, high, same)) ∙ sym regrouped)))
+      other (same_factor (s * 2 ^ q) (m * 2 ^ place) d p
+      (equal_within (n * 2 ^ 149) (m * (d * 2 ^ place)) (s * 2 ^ q * d) as_near (omega (arith, low, same))
+      (omega (arith, high, same)) ∙ sym regrouped)))
       (nearer_within _ _ _ _ as_near low high)
 
   even_size : (s q : ℕ) → s < 2 ^ 24 → (s * 2 ^ q ≡ m * 2 ^ place → ⊥) → gap (n * 2 ^ 149) (s * 2 ^ q * d) ≤ gap (n * 2 ^ 149) (m * (d * 2 ^ place)) → m % 2 ≡ 0
@@ -82,7 +87,8 @@ module _ (n d place m : ℕ) (p : 0 < d) (scaled : IsScaled n d place m) where
 
   near_zero : gap (n * 2 ^ 149) (m * (d * 2 ^ place)) ≤ n * 2 ^ 149
   near_zero =
-      let k : gap (n * 2 ^ 149) (m * (d * 2 ^ place)) ≤ gap (n * 2 ^ 149) (0 * (d * 2 ^ place)) = nearest_multiple (n * 2 ^ 149) (d * 2 ^ place) m scaled.nearest 0 in
+      let k : gap (n * 2 ^ 149) (m * (d * 2 ^ place)) ≤ gap (n * 2 ^ 149) (0 * (d * 2 ^ place)) =
+      nearest_multiple (n * 2 ^ 149) (d * 2 ^ place) m scaled.nearest 0 in
       omega (arith, k, from_zero (n * 2 ^ 149) (d * 2 ^ place))
 
   even_zero : (m ≡ 0 → ⊥) → n * 2 ^ 149 ≤ gap (n * 2 ^ 149) (m * (d * 2 ^ place)) → m % 2 ≡ 0
@@ -94,17 +100,22 @@ module _ (n d place m : ℕ) (p : 0 < d) (scaled : IsScaled n d place m) where
     distance_here : distance (signed_whole minus n) d (number minus (m * 2 ^ place)) ≡ gap (n * 2 ^ 149) (m * (d * 2 ^ place))
     distance_here = distance_same minus n d (m * 2 ^ place) (2 ^ 149) ∙ ap (λ (k : ℕ). gap (n * 2 ^ 149) k) regrouped
 
-    near_same : (s q : ℕ) → s < 2 ^ 24 → distance (signed_whole minus n) d (number minus (m * 2 ^ place)) ≤ distance (signed_whole minus n) d (number minus (s * 2 ^ q))
+    near_same : (s q : ℕ) → s < 2 ^ 24 → distance (signed_whole minus n) d (number minus (m * 2 ^ place)) ≤ distance
+        (signed_whole minus n) d (number minus (s * 2 ^ q))
     near_same s q l = rw (distance_here, distance_same minus n d (s * 2 ^ q) (2 ^ 149)) (near_size s q l)
 
     near_other : (v : ℕ) → distance (signed_whole minus n) d (number minus (m * 2 ^ place)) ≤ distance (signed_whole minus n) d (number (not minus) v)
     near_other v = rw (distance_here, distance_other minus n d v (2 ^ 149)) (omega (arith, near_zero))
 
-    even_same : (s q : ℕ) → s < 2 ^ 24 → (number minus (s * 2 ^ q) ≡ number minus (m * 2 ^ place) → ⊥) → distance (signed_whole minus n) d (number minus (s * 2 ^ q)) ≤ distance (signed_whole minus n) d (number minus (m * 2 ^ place)) → m % 2 ≡ 0
+    even_same : (s q : ℕ) → s < 2 ^ 24 → (number minus (s * 2 ^ q) ≡ number minus (m * 2 ^ place) → ⊥) →
+        distance (signed_whole minus n) d (number minus (s * 2 ^ q)) ≤ distance (signed_whole minus n) d
+        (number minus (m * 2 ^ place)) → m % 2 ≡ 0
     even_same s q l other as_near =
         even_size s q l (λ e. other (ap (λ (k : ℕ). number minus k) e)) (rw (distance_here, distance_same minus n d (s * 2 ^ q) (2 ^ 149)) at as_near)
 
-    even_other : (v : ℕ) → (number (not minus) v ≡ number minus (m * 2 ^ place) → ⊥) → distance (signed_whole minus n) d (number (not minus) v) ≤ distance (signed_whole minus n) d (number minus (m * 2 ^ place)) → m % 2 ≡ 0
+    even_other : (v : ℕ) → (number (not minus) v ≡ number minus (m * 2 ^ place) → ⊥) →
+        distance (signed_whole minus n) d (number (not minus) v) ≤ distance (signed_whole minus n) d
+        (number minus (m * 2 ^ place)) → m % 2 ≡ 0
     even_other v other as_near =
         let sum : n * 2 ^ 149 + v * d ≤ gap (n * 2 ^ 149) (m * (d * 2 ^ place)) = rw (distance_here, distance_other minus n d v (2 ^ 149)) at as_near in
         let none : v * d ≡ 0 * d = omega (arith, sum, near_zero) in
@@ -122,7 +133,8 @@ either_sign P true true a b = a
 -- ---- the greatest float
 least_infinite : (n d m : ℕ) → 0 < d → IsNearest (n * 2 ^ 149) (d * 2 ^ 253) m → n < (2 ^ 128 - 2 ^ 103) * d → m < 16777216
 least_infinite n d m p near below =
-    by_lt m 16777216 (λ l. l) (λ h. absurd (let k : 16777216 * (d * 2 ^ 253) ≤ m * (d * 2 ^ 253) = mul-le-mul h (omega arith) in omega (arith, p, near.from, below, k)))
+    by_lt m 16777216 (λ l. l) (λ h. absurd (let k : 16777216 * (d * 2 ^ 253) ≤ m * (d * 2 ^ 253) =
+    mul-le-mul h (omega arith) in omega (arith, p, near.from, below, k)))
 
 module _ (n d place m : ℕ) (p : 0 < d) (scaled : IsScaled n d place m) (below : n < (2 ^ 128 - 2 ^ 103) * d) (top : place ≤ 253) where
   most : m ≤ 16777216
@@ -138,13 +150,19 @@ module _ (n d place m : ℕ) (p : 0 < d) (scaled : IsScaled n d place m) (below 
   is_finite = by_lt place 253 (λ l. omega (arith, most, l)) (λ h. let k : m < 16777216 = at_top (omega arith) in omega (arith, k, top))
 
   -- a float of this sign, or of the other if it is 0
-  module _ (minus sign : Bool) (bits : ℕ) (same : number sign (m * 2 ^ place) ≡ number minus (m * 2 ^ place)) (is : bits ≡ sign_bit sign + (place * 8388608 + m)) where
+  module _ (minus sign : Bool) (bits : ℕ) (same : number sign (m * 2 ^ place) ≡ number minus (m * 2 ^ place))
+      (is : bits ≡ sign_bit sign + (place * 8388608 + m)) where
     near_any : (w : Fraction) → Float w → distance (signed_whole minus n) d (number minus (m * 2 ^ place)) ≤ distance (signed_whole minus n) d w
-    near_any w f = rw f.3.is (either_sign (λ (b : Bool). distance (signed_whole minus n) d (number minus (m * 2 ^ place)) ≤ distance (signed_whole minus n) d (number b (f.1 * 2 ^ f.2))) minus f.0 (near_same n d place m p scaled minus f.1 f.2 f.3.short) (near_other n d place m p scaled minus (f.1 * 2 ^ f.2)))
+    near_any w f = rw f.3.is (either_sign (λ (b : Bool). distance (signed_whole minus n) d
+        (number minus (m * 2 ^ place)) ≤ distance (signed_whole minus n) d (number b (f.1 * 2 ^ f.2))) minus f.0
+        (near_same n d place m p scaled minus f.1 f.2 f.3.short) (near_other n d place m p scaled minus (f.1 * 2 ^ f.2)))
 
-    even_any : (w : Fraction) → Float w → (w ≡ number minus (m * 2 ^ place) → ⊥) → distance (signed_whole minus n) d w ≤ distance (signed_whole minus n) d (number minus (m * 2 ^ place)) → m % 2 ≡ 0
+    even_any : (w : Fraction) → Float w → (w ≡ number minus (m * 2 ^ place) → ⊥) →
+        distance (signed_whole minus n) d w ≤ distance (signed_whole minus n) d (number minus (m * 2 ^ place)) → m % 2 ≡ 0
     even_any w f other as_near =
-        either_sign (λ (b : Bool). (number b (f.1 * 2 ^ f.2) ≡ number minus (m * 2 ^ place) → ⊥) → distance (signed_whole minus n) d (number b (f.1 * 2 ^ f.2)) ≤ distance (signed_whole minus n) d (number minus (m * 2 ^ place)) → m % 2 ≡ 0)
+        either_sign (λ (b : Bool). (number b (f.1 * 2 ^ f.2) ≡ number minus (m * 2 ^ place) → ⊥) →
+        distance (signed_whole minus n) d (number b (f.1 * 2 ^ f.2)) ≤ distance (signed_whole minus n) d
+        (number minus (m * 2 ^ place)) → m % 2 ≡ 0)
         minus f.0 (even_same n d place m p scaled minus f.1 f.2 f.3.short) (even_other n d place m p scaled minus (f.1 * 2 ^ f.2))
         (λ e. other (f.3.is ∙ e)) (rw f.3.is at as_near)
 

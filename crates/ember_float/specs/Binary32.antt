@@ -13,5 +13,6 @@ pub record IsNearestBinary32 (n : ℤ) (d bits : ℕ) : Type 0 where
   pub value : Fraction
   pub finite : binary32_value bits ≡ Some value
   pub near : (other : ℕ) (w : Fraction) → binary32_value other ≡ Some w → distance n d value ≤ distance n d w
-  pub even : (other : ℕ) (w : Fraction) → binary32_value other ≡ Some w → w ≢ value → distance n d w ≤ distance n d value → bits % 2 ≡ 0
+  pub even : (other : ℕ) (w : Fraction) → binary32_value other ≡ Some w → w ≢ value →
+      distance n d w ≤ distance n d value → bits % 2 ≡ 0
   pub no_negative_zero : bits ≢ 2 ^ 31

@@ -1,5 +1,6 @@
 -- Which format a file has
-use Rattle.std.specs.Prelude.{ℕ, ◌-◌, Bool, true, ◌&&◌, ◌||◌, List, [], ◌∷◌, if◌then◌else◌, ◌==◌, nat_eq, length, drop, codes}
+use Rattle.std.specs.Prelude.{ℕ, ◌-◌, Bool, true, ◌&&◌, ◌||◌, List, [], ◌∷◌, if◌then◌else◌, ◌==◌, nat_eq}
+use Rattle.std.specs.Prelude.{length, drop, codes}
 use Rattle.std.specs.List.{starts_with}
 use Rattle.std.specs.Str.{str_eq_ignore_ascii_case}
 use Rattle.ember_stl.specs.Scan.{words_from}

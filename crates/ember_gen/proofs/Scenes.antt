@@ -1,5 +1,6 @@
 -- Boxes one after another are a scene of two meshes
-use Rattle.std.proofs.Common.{◌≡◌, ℕ, ◌+◌, ◌*◌, ◌≤◌, Bool, true, false, not, cond, List, [], ◌∷◌, ◌++◌, map, length, length-append, append-nil, refl, sym, ap, subst, ◌∙◌, arith, eqb}
+use Rattle.std.proofs.Common.{◌≡◌, ℕ, ◌+◌, ◌*◌, ◌≤◌, Bool, true, false, not, cond, List, [], ◌∷◌, ◌++◌, map, length}
+use Rattle.std.proofs.Common.{length-append, append-nil, refl, sym, ap, subst, ◌∙◌, arith, eqb}
 use Rattle.std.specs.List.{All, filter, range_with_len}
 use Rattle.std.proofs.lemmas.List.Elements.{All-nil, All-append, filter-append}
 use Rattle.std.proofs.lemmas.List.Filters.{length-filter_both}
@@ -56,11 +57,15 @@ few n l =
 pub is_scene : (n : ℕ) → n ≤ 20000 → IsScene (scene_of n) 2
 unfolding scene_of
 is_scene n l = record {
-  valid = All-append IsValidTri (mesh_of 1 (evens n)) (mesh_of 2 (odds n)) (all_boxes IsValidTri 1 (valid_block 1) (evens n)) (all_boxes IsValidTri 2 (valid_block 2) (odds n));
+  valid = All-append IsValidTri (mesh_of 1 (evens n)) (mesh_of 2 (odds n))
+      (all_boxes IsValidTri 1 (valid_block 1) (evens n)) (all_boxes IsValidTri 2 (valid_block 2) (odds n));
   few = few n l;
   few_meshes = omega arith;
-  numbered = All-append (HasMesh 2) (mesh_of 1 (evens n)) (mesh_of 2 (odds n)) (numbered 1 (omega arith) (omega arith) (evens n)) (numbered 2 (omega arith) (omega arith) (odds n));
-  balanced = λ m. subst IsBalanced (sym (filter-append (λ t. eqb t.mesh m) (mesh_of 1 (evens n)) (mesh_of 2 (odds n)))) (balanced-append (of_mesh m (mesh_of 1 (evens n))) (of_mesh m (mesh_of 2 (odds n))) (balanced_part m 1 (evens n)) (balanced_part m 2 (odds n)));
+  numbered = All-append (HasMesh 2) (mesh_of 1 (evens n)) (mesh_of 2 (odds n))
+      (numbered 1 (omega arith) (omega arith) (evens n)) (numbered 2 (omega arith) (omega arith) (odds n));
+  balanced = λ m. subst IsBalanced (sym (filter-append (λ t. eqb t.mesh m) (mesh_of 1 (evens n)) (mesh_of 2 (odds n))))
+      (balanced-append (of_mesh m (mesh_of 1 (evens n))) (of_mesh m (mesh_of 2 (odds n))) (balanced_part m 1 (evens n))
+      (balanced_part m 2 (odds n)));
 }
 
 -- ---- one box more
@@ -72,16 +77,23 @@ range_more n =
     map_same [] = refl
     map_same (i ∷ is) = ap (λ js. i ∷ js) (map_same is)
 
-mesh_more : (m : ℕ) (p : ℕ → Bool) (n : ℕ) → mesh_of m (filter p (range_with_len 0 (n + 1))) ≡ mesh_of m (filter p (range_with_len 0 n)) ++ cond (p n) (triangles_of m (block_of n)) []
+mesh_more : (m : ℕ) (p : ℕ → Bool) (n : ℕ) → mesh_of m (filter p (range_with_len 0 (n + 1))) ≡ mesh_of m
+    (filter p (range_with_len 0 n)) ++ cond (p n) (triangles_of m (block_of n)) []
 mesh_more m p n =
-    ap (λ is. mesh_of m (filter p is)) (range_more n) ∙ ap (mesh_of m) (filter-append p (range_with_len 0 n) (n ∷ [])) ∙ flat_map-append (λ i. triangles_of m (block_of i)) (filter p (range_with_len 0 n)) (filter p (n ∷ [])) ∙ last (p n)
+    ap (λ is. mesh_of m (filter p is)) (range_more n) ∙ ap (mesh_of m) (filter-append p (range_with_len 0 n) (n ∷ []))
+    ∙ flat_map-append (λ i. triangles_of m (block_of i)) (filter p (range_with_len 0 n)) (filter p (n ∷ []))
+    ∙ last (p n)
   where
-    last : (b : Bool) → mesh_of m (filter p (range_with_len 0 n)) ++ mesh_of m (cond b (n ∷ []) []) ≡ mesh_of m (filter p (range_with_len 0 n)) ++ cond b (triangles_of m (block_of n)) []
+    last : (b : Bool) → mesh_of m (filter p (range_with_len 0 n))
+        ++ mesh_of m (cond b (n ∷ []) []) ≡ mesh_of m (filter p (range_with_len 0 n))
+        ++ cond b (triangles_of m (block_of n)) []
     last true = ap (λ ts. mesh_of m (filter p (range_with_len 0 n)) ++ ts) (append-nil (triangles_of m (block_of n)))
     last false = refl
 
 -- the box that was drawn is laid down in its mesh
-pub laid_more : (m : ℕ) (p : ℕ → Bool) (n : ℕ) (b : Block) {us vs : List Tri} → us ≡ mesh_of m (filter p (range_with_len 0 n)) → b ≡ block_of n → vs ≡ us ++ cond (p n) (triangles_of m b) [] → vs ≡ mesh_of m (filter p (range_with_len 0 (n + 1)))
+pub laid_more : (m : ℕ) (p : ℕ → Bool) (n : ℕ) (b : Block) {us vs : List Tri} →
+    us ≡ mesh_of m (filter p (range_with_len 0 n)) → b ≡ block_of n → vs ≡ us ++ cond (p n) (triangles_of m b) [] →
+    vs ≡ mesh_of m (filter p (range_with_len 0 (n + 1)))
 laid_more m p n b q e r =
     r ∙ (λ k. q k ++ cond (p n) (triangles_of m (e k)) []) ∙ sym (mesh_more m p n)
 

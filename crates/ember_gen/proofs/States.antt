@@ -18,7 +18,8 @@ pub record SixStates (i s1 s2 s3 s4 s5 s6 : ℕ) : Type 0 where
   pub sixth : s6 ≡ state (6 * i + 6)
 
 -- the six states of a box follow one another
-pub six_states : (i : ℕ) {s0 s1 s2 s3 s4 s5 s6 : ℕ} → s0 ≡ state (6 * i) → s1 ≡ next s0 → s2 ≡ next s1 → s3 ≡ next s2 → s4 ≡ next s3 → s5 ≡ next s4 → s6 ≡ next s5 → SixStates i s1 s2 s3 s4 s5 s6
+pub six_states : (i : ℕ) {s0 s1 s2 s3 s4 s5 s6 : ℕ} → s0 ≡ state (6 * i) → s1 ≡ next s0 → s2 ≡ next s1 → s3 ≡ next s2 →
+    s4 ≡ next s3 → s5 ≡ next s4 → s6 ≡ next s5 → SixStates i s1 s2 s3 s4 s5 s6
 six_states i e p1 p2 p3 p4 p5 p6 =
     let q1 = state_after (6 * i) (6 * i + 1) (omega arith) e p1 in
     let q2 = state_after (6 * i + 1) (6 * i + 2) (omega arith) q1 p2 in
@@ -39,7 +40,10 @@ abbrev side_at : ℕ → ℤ
 side_at s = pos (side (drawn s))
 
 -- the box that six numbers draw
-pub block_from : (i : ℕ) {s1 s2 s3 s4 s5 s6 : ℕ} {x y z u v w : ℤ} → SixStates i s1 s2 s3 s4 s5 s6 → x ≡ place (drawn s1) → y ≡ place (drawn s2) → z ≡ place (drawn s3) → u ≡ pos (side (drawn s4)) → v ≡ pos (side (drawn s5)) → w ≡ pos (side (drawn s6)) → record { low = record { x = x; y = y; z = z }; high = record { x = x +ℤ u; y = y +ℤ v; z = z +ℤ w } } ≡ block_of i
+pub block_from : (i : ℕ) {s1 s2 s3 s4 s5 s6 : ℕ} {x y z u v w : ℤ} → SixStates i s1 s2 s3 s4 s5 s6 →
+    x ≡ place (drawn s1) → y ≡ place (drawn s2) → z ≡ place (drawn s3) → u ≡ pos (side (drawn s4)) →
+    v ≡ pos (side (drawn s5)) → w ≡ pos (side (drawn s6)) →
+    record { low = record { x = x; y = y; z = z }; high = record { x = x +ℤ u; y = y +ℤ v; z = z +ℤ w } } ≡ block_of i
 unfolding block_of
 block_from i d px py pz pu pv pw =
     let x = px ∙ ap place_at d.first in let y = py ∙ ap place_at d.second in let z = pz ∙ ap place_at d.third in

@@ -13,7 +13,9 @@ pub after5 : (a b c d e x0 x1 x2 x3 x4 : List ℕ) → x1 ≡ x0 ++ a → x2 ≡
 after5 a b c d e x0 x1 x2 x3 x4 f g h i = after3 c d e x2 x3 x4 h i ∙ after3 a b (c ++ (d ++ e)) x0 x1 x2 f g
 
 -- nine pieces
-pub after9 : (a b c d e f g h i x0 x1 x2 x3 x4 x5 x6 x7 x8 : List ℕ) → x1 ≡ x0 ++ a → x2 ≡ x1 ++ b → x3 ≡ x2 ++ c → x4 ≡ x3 ++ d → x5 ≡ x4 ++ e → x6 ≡ x5 ++ f → x7 ≡ x6 ++ g → x8 ≡ x7 ++ h → x8 ++ i ≡ x0 ++ (a ++ (b ++ (c ++ (d ++ (e ++ (f ++ (g ++ (h ++ i))))))))
+pub after9 : (a b c d e f g h i x0 x1 x2 x3 x4 x5 x6 x7 x8 : List ℕ) → x1 ≡ x0 ++ a → x2 ≡ x1 ++ b → x3 ≡ x2 ++ c →
+    x4 ≡ x3 ++ d → x5 ≡ x4 ++ e → x6 ≡ x5 ++ f → x7 ≡ x6 ++ g → x8 ≡ x7 ++ h →
+    x8 ++ i ≡ x0 ++ (a ++ (b ++ (c ++ (d ++ (e ++ (f ++ (g ++ (h ++ i))))))))
 after9 a b c d e f g h i x0 x1 x2 x3 x4 x5 x6 x7 x8 p q r s t u v w =
     after5 e f g h i x4 x5 x6 x7 x8 t u v w ∙ after5 a b c d (e ++ (f ++ (g ++ (h ++ i)))) x0 x1 x2 x3 x4 p q r s
 

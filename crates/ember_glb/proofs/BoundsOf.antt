@@ -53,7 +53,9 @@ abbrev pub at_point : Coordinates → Bounds
 at_point p = record { low = p; high = p }
 
 -- bounds that begin at the first corner and are widened by each triangle are those of all corners
-pub widened_are_bounds : (ts : List WrittenTriangle) (d : WrittenTriangle) (b : Bounds) → 0 < length ts → b ≡ fold widened (at_point (coordinates_of (get_or ts 0 d).a)) ts → All IsFinite (corners_of ts) → AreBounds (corners_of ts) b
+pub widened_are_bounds : (ts : List WrittenTriangle) (d : WrittenTriangle) (b : Bounds) → 0 < length ts →
+    b ≡ fold widened (at_point (coordinates_of (get_or ts 0 d).a)) ts → All IsFinite (corners_of ts) →
+    AreBounds (corners_of ts) b
 widened_are_bounds [] d b l e h = absurd (omega (arith, l))
 widened_are_bounds (t ∷ ts) d b l e h =
     let all = corners_of (t ∷ ts) in
@@ -62,10 +64,16 @@ widened_are_bounds (t ∷ ts) d b l e h =
     let r = coordinates_of t.c in
     let start = at_point p in
     subst (AreBounds all) (sym e) (record {
-      low_x = subst (IsLeast (map (λ (s : Coordinates). s.x) all)) (sym (low_x start (t ∷ ts))) (least_from_first p.x (q.x ∷ r.x ∷ map (λ (s : Coordinates). s.x) (corners_of ts)) (numbers_x all h));
-      low_y = subst (IsLeast (map (λ (s : Coordinates). s.y) all)) (sym (low_y start (t ∷ ts))) (least_from_first p.y (q.y ∷ r.y ∷ map (λ (s : Coordinates). s.y) (corners_of ts)) (numbers_y all h));
-      low_z = subst (IsLeast (map (λ (s : Coordinates). s.z) all)) (sym (low_z start (t ∷ ts))) (least_from_first p.z (q.z ∷ r.z ∷ map (λ (s : Coordinates). s.z) (corners_of ts)) (numbers_z all h));
-      high_x = subst (IsGreatest (map (λ (s : Coordinates). s.x) all)) (sym (high_x start (t ∷ ts))) (greatest_from_first p.x (q.x ∷ r.x ∷ map (λ (s : Coordinates). s.x) (corners_of ts)) (numbers_x all h));
-      high_y = subst (IsGreatest (map (λ (s : Coordinates). s.y) all)) (sym (high_y start (t ∷ ts))) (greatest_from_first p.y (q.y ∷ r.y ∷ map (λ (s : Coordinates). s.y) (corners_of ts)) (numbers_y all h));
-      high_z = subst (IsGreatest (map (λ (s : Coordinates). s.z) all)) (sym (high_z start (t ∷ ts))) (greatest_from_first p.z (q.z ∷ r.z ∷ map (λ (s : Coordinates). s.z) (corners_of ts)) (numbers_z all h));
+      low_x = subst (IsLeast (map (λ (s : Coordinates). s.x) all)) (sym (low_x start (t ∷ ts)))
+          (least_from_first p.x (q.x ∷ r.x ∷ map (λ (s : Coordinates). s.x) (corners_of ts)) (numbers_x all h));
+      low_y = subst (IsLeast (map (λ (s : Coordinates). s.y) all)) (sym (low_y start (t ∷ ts)))
+          (least_from_first p.y (q.y ∷ r.y ∷ map (λ (s : Coordinates). s.y) (corners_of ts)) (numbers_y all h));
+      low_z = subst (IsLeast (map (λ (s : Coordinates). s.z) all)) (sym (low_z start (t ∷ ts)))
+          (least_from_first p.z (q.z ∷ r.z ∷ map (λ (s : Coordinates). s.z) (corners_of ts)) (numbers_z all h));
+      high_x = subst (IsGreatest (map (λ (s : Coordinates). s.x) all)) (sym (high_x start (t ∷ ts)))
+          (greatest_from_first p.x (q.x ∷ r.x ∷ map (λ (s : Coordinates). s.x) (corners_of ts)) (numbers_x all h));
+      high_y = subst (IsGreatest (map (λ (s : Coordinates). s.y) all)) (sym (high_y start (t ∷ ts)))
+          (greatest_from_first p.y (q.y ∷ r.y ∷ map (λ (s : Coordinates). s.y) (corners_of ts)) (numbers_y all h));
+      high_z = subst (IsGreatest (map (λ (s : Coordinates). s.z) all)) (sym (high_z start (t ∷ ts)))
+          (greatest_from_first p.z (q.z ∷ r.z ∷ map (λ (s : Coordinates). s.z) (corners_of ts)) (numbers_z all h));
     })

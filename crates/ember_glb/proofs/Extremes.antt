@@ -1,5 +1,6 @@
 -- The least and the greatest of floats that are compared one after another.
-use Rattle.std.proofs.Common.{◌≡◌, ◌⊎◌, inl, inr, ℕ, zero, suc, ◌<◌, Bool, true, false, if◌then◌else◌, List, [], ◌∷◌, length, IsTrue, true≢false, refl, sym, ◌∙◌, arith}
+use Rattle.std.proofs.Common.{◌≡◌, ◌⊎◌, inl, inr, ℕ, zero, suc, ◌<◌, Bool, true, false, if◌then◌else◌, List, [], ◌∷◌}
+use Rattle.std.proofs.Common.{length, IsTrue, true≢false, refl, sym, ◌∙◌, arith}
 use Rattle.std.specs.List.{All, Contains, fold, slice_index_or}
 use Rattle.std.specs.Float.{Float, ◌≤ᶠ◌, NotNan, float_is_finite, nan, inf, fin}
 use Rattle.std.specs.Float.Ieee.{lt, is_nan}

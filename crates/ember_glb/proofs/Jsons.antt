@@ -9,7 +9,9 @@ use Rattle.ember_glb.specs.Json.{mesh_json, padded}
 use Rattle.ember_glb.specs.Written.{IsJsonOf}
 
 -- by texts that equal those of the bounds
-pub json_is : (ts : List WrittenTriangle) (b : Bounds) {low high : List ℕ} (given_low given_high json : List ℕ) → (All IsFinite (corners_of ts) → AreBounds (corners_of ts) b) → IsVectorText b.low low → IsVectorText b.high high → given_low ≡ low → given_high ≡ high → json ≡ padded (mesh_json (length ts) given_low given_high) → IsJsonOf ts json
+pub json_is : (ts : List WrittenTriangle) (b : Bounds) {low high : List ℕ} (given_low given_high json : List ℕ) →
+    (All IsFinite (corners_of ts) → AreBounds (corners_of ts) b) → IsVectorText b.low low → IsVectorText b.high high →
+    given_low ≡ low → given_high ≡ high → json ≡ padded (mesh_json (length ts) given_low given_high) → IsJsonOf ts json
 json_is ts b {low} {high} given_low given_high json bounds l h e f is = record {
   bounds = b;
   are_bounds = bounds;

@@ -38,14 +38,18 @@ module _ (p : FloatPoint) (bytes front rest : List ℕ) (at : ℕ) (is : bytes �
       λ i. record { x = x i; y = y i; z = z i }
 
 -- points that are written one behind the other
-pub points_read : (ps : List FloatPoint) (bytes front rest : List ℕ) (at : ℕ) → bytes ≡ front ++ (flat_map point_bytes ps ++ rest) → at ≡ length front → points_at bytes at (length ps) ≡ ps
+pub points_read : (ps : List FloatPoint) (bytes front rest : List ℕ) (at : ℕ) →
+    bytes ≡ front ++ (flat_map point_bytes ps ++ rest) → at ≡ length front → points_at bytes at (length ps) ≡ ps
 points_read [] bytes front rest at is size = refl
 points_read (p ∷ ps) bytes front rest at is size =
     let more = flat_map point_bytes ps ++ rest in
-    let here : bytes ≡ front ++ (point_bytes p ++ more) = is ∙ ap (λ (xs : List ℕ). front ++ xs) (append_assoc (point_bytes p) (flat_map point_bytes ps) rest) in
+    let here : bytes ≡ front ++ (point_bytes p ++ more) =
+    is ∙ ap (λ (xs : List ℕ). front ++ xs) (append_assoc (point_bytes p) (flat_map point_bytes ps) rest) in
     let there : bytes ≡ (front ++ point_bytes p) ++ more = here ∙ sym (append_assoc front (point_bytes p) more) in
-    let point = point_there p bytes front more at here size (record { x = number_at bytes at; y = number_at bytes (at + 4); z = number_at bytes (at + 8) }) refl refl refl in
-    let others = points_read ps bytes (front ++ point_bytes p) rest (at + 12) there (omega (arith, length-append front (point_bytes p), point_length p, size)) in
+    let point = point_there p bytes front more at here size
+    (record { x = number_at bytes at; y = number_at bytes (at + 4); z = number_at bytes (at + 8) }) refl refl refl in
+    let others = points_read ps bytes (front ++ point_bytes p) rest (at + 12) there
+    (omega (arith, length-append front (point_bytes p), point_length p, size)) in
     λ i. point i ∷ others i
 
 -- ---- triangles
@@ -59,7 +63,9 @@ corners_are_points (t ∷ ts) = simp append_assoc (ap (λ (xs : List ℕ). point
 pub normals_are_points : (ts : List WrittenTriangle) → flat_map normal_bytes ts ≡ flat_map point_bytes (normal_points ts)
 unfolding normal_bytes
 normals_are_points [] = refl
-normals_are_points (t ∷ ts) = simp append_assoc (ap (λ (xs : List ℕ). point_bytes t.normal ++ (point_bytes t.normal ++ (point_bytes t.normal ++ xs))) (normals_are_points ts))
+normals_are_points (t ∷ ts) = simp append_assoc (ap
+    (λ (xs : List ℕ). point_bytes t.normal ++ (point_bytes t.normal ++ (point_bytes t.normal ++ xs)))
+    (normals_are_points ts))
 
 -- there are three corners for each triangle
 pub corner_count : (ts : List WrittenTriangle) → length (corner_points ts) ≡ 3 * length ts
@@ -111,5 +117,8 @@ corners_alone ts =
 pub normals_read : (ts : List WrittenTriangle) → points_at (data_of ts) (36 * length ts) (3 * length ts) ≡ normal_points ts
 normals_read ts =
     let front = flat_map corner_bytes ts in
-    let is : data_of ts ≡ front ++ (flat_map point_bytes (normal_points ts) ++ []) = ap (λ (xs : List ℕ). front ++ xs) (normals_are_points ts ∙ sym (append-nil (flat_map point_bytes (normal_points ts)))) in
-    ap (points_at (data_of ts) (36 * length ts)) (sym (normal_count ts)) ∙ points_read (normal_points ts) (data_of ts) front [] (36 * length ts) is (sym (corners_length ts))
+    let is : data_of ts ≡ front ++ (flat_map point_bytes (normal_points ts) ++ []) =
+    ap (λ (xs : List ℕ). front ++ xs) (normals_are_points ts
+    ∙ sym (append-nil (flat_map point_bytes (normal_points ts)))) in
+    ap (points_at (data_of ts) (36 * length ts)) (sym (normal_count ts))
+    ∙ points_read (normal_points ts) (data_of ts) front [] (36 * length ts) is (sym (corners_length ts))

@@ -1,5 +1,6 @@
 -- The chunks that a reader finds in the bytes.
-use Rattle.std.proofs.Common.{◌≡◌, ℕ, ◌+◌, ◌*◌, List, [], ◌∷◌, ◌++◌, length, take, drop, codes, append_assoc, append-nil, length-append, refl, sym, ap, subst, ◌∙◌, arith}
+use Rattle.std.proofs.Common.{◌≡◌, ℕ, ◌+◌, ◌*◌, List, [], ◌∷◌, ◌++◌, length, take, drop, codes, append_assoc}
+use Rattle.std.proofs.Common.{append-nil, length-append, refl, sym, ap, subst, ◌∙◌, arith}
 use Rattle.std.proofs.lemmas.List.{take_at, drop_at}
 use Rattle.ember_stl.specs.Binary.{number_at}
 use Rattle.ember_stl_bytes.specs.declared.triangle.WrittenTriangle.{WrittenTriangle}
@@ -10,7 +11,9 @@ use Rattle.ember_glb.specs.Written.{file_head, json_chunk, data_head, data_of, g
 use Rattle.ember_glb.proofs.Points.{data_length, corners_read, normals_read}
 
 -- ---- one chunk behind other bytes
-module _ (bytes front kind text rest : List ℕ) (at : ℕ) (is : bytes ≡ front ++ (number_bytes (length text) ++ (kind ++ (text ++ rest)))) (four : length kind ≡ 4) (size : at ≡ length front) where
+module _ (bytes front kind text rest : List ℕ) (at : ℕ)
+    (is : bytes ≡ front ++ (number_bytes (length text) ++ (kind ++ (text ++ rest)))) (four : length kind ≡ 4)
+    (size : at ≡ length front) where
   size_read : chunk_size bytes at ≡ length text
   size_read =
       ap (λ (xs : List ℕ). number_at xs at) is
@@ -19,16 +22,25 @@ module _ (bytes front kind text rest : List ℕ) (at : ℕ) (is : bytes ≡ fron
 
   type_read : chunk_type bytes at ≡ number_at (kind ++ (text ++ rest)) 0
   type_read =
-      let there : bytes ≡ (front ++ number_bytes (length text)) ++ (kind ++ (text ++ rest)) = is ∙ sym (append_assoc front (number_bytes (length text)) (kind ++ (text ++ rest))) in
+      let there : bytes ≡ (front ++ number_bytes (length text)) ++ (kind ++ (text ++ rest)) =
+      is ∙ sym (append_assoc front (number_bytes (length text)) (kind ++ (text ++ rest))) in
       ap (λ (xs : List ℕ). number_at xs (at + 4)) there
-      ∙ number_behind (front ++ number_bytes (length text)) (kind ++ (text ++ rest)) (at + 4) 0 (omega (arith, length-append front (number_bytes (length text)), number_length (length text), size))
+      ∙ number_behind (front ++ number_bytes (length text)) (kind ++ (text ++ rest)) (at + 4) 0
+      (omega (arith, length-append front (number_bytes (length text)), number_length (length text), size))
 
   text_read : chunk_bytes bytes at ≡ text
   text_read =
       let head = front ++ (number_bytes (length text) ++ kind) in
       let joined : front ++ (number_bytes (length text) ++ (kind ++ (text ++ rest))) ≡ head ++ (text ++ rest) = simp append_assoc in
       let there : bytes ≡ head ++ (text ++ rest) = is ∙ joined in
-      let long : length head ≡ at + 8 = omega (arith, length-append front (number_bytes (length text) ++ kind), length-append (number_bytes (length text)) kind, number_length (length text), four, size) in
+      let long : length head ≡ at + 8 = omega (
+        arith,
+        length-append front (number_bytes (length text) ++ kind),
+        length-append (number_bytes (length text)) kind,
+        number_length (length text),
+        four,
+        size,
+      ) in
       let behind : drop (at + 8) bytes ≡ text ++ rest = ap (drop (at + 8)) there ∙ drop_at head (text ++ rest) (at + 8) long in
       let both : chunk_bytes bytes at ≡ take (length text) (text ++ rest) = λ i. take (size_read i) (behind i) in
       both ∙ take_at text rest (length text) refl
@@ -73,19 +85,32 @@ module _ (json : List ℕ) (ts : List WrittenTriangle) where
   total =
       let n = glb_size json (length ts) in
       let all = data_head (72 * length ts) ++ data_of ts in
-      omega (arith, length-append (file_head n) (json_chunk json ++ all), length-append (json_chunk json) all, length-append (data_head (72 * length ts)) (data_of ts), head_length n, json_length json, data_head_length (72 * length ts), data_length ts)
+      omega (
+        arith,
+        length-append (file_head n) (json_chunk json ++ all),
+        length-append (json_chunk json) all,
+        length-append (data_head (72 * length ts)) (data_of ts),
+        head_length n,
+        json_length json,
+        data_head_length (72 * length ts),
+        data_length ts,
+      )
 
-  json_there : glb_of json ts ≡ file_head (glb_size json (length ts)) ++ (number_bytes (length json) ++ (codes "JSON" ++ (json ++ (data_head (72 * length ts) ++ data_of ts))))
+  json_there : glb_of json ts ≡ file_head (glb_size json (length ts))
+      ++ (number_bytes (length json) ++ (codes "JSON" ++ (json ++ (data_head (72 * length ts) ++ data_of ts))))
   unfolding json_chunk
   json_there = simp append_assoc
 
-  data_there : glb_of json ts ≡ (file_head (glb_size json (length ts)) ++ json_chunk json) ++ (number_bytes (length (data_of ts)) ++ ((codes "BIN" ++ 0 ∷ []) ++ (data_of ts ++ [])))
+  data_there : glb_of json ts ≡ (file_head (glb_size json (length ts)) ++ json_chunk json)
+      ++ (number_bytes (length (data_of ts)) ++ ((codes "BIN" ++ 0 ∷ []) ++ (data_of ts ++ [])))
   unfolding data_head
   data_there =
       let head = file_head (glb_size json (length ts)) in
       let chunk = json_chunk json in
       let all = data_of ts in
-      let sized : glb_of json ts ≡ head ++ (chunk ++ ((number_bytes (length all) ++ (codes "BIN" ++ 0 ∷ [])) ++ all)) = ap (λ (n : ℕ). head ++ (chunk ++ ((number_bytes n ++ (codes "BIN" ++ 0 ∷ [])) ++ all))) (sym (data_length ts)) in
+      let sized : glb_of json ts ≡ head ++ (chunk ++ ((number_bytes (length all) ++ (codes "BIN" ++ 0 ∷ [])) ++ all)) =
+      ap (λ (n : ℕ). head ++ (chunk ++ ((number_bytes n ++ (codes "BIN" ++ 0 ∷ [])) ++ all))) (sym (data_length ts))
+      in
       sized
       ∙ sym (append_assoc head chunk ((number_bytes (length all) ++ (codes "BIN" ++ 0 ∷ [])) ++ all))
       ∙ ap (λ (xs : List ℕ). (head ++ chunk) ++ xs) (append_assoc (number_bytes (length all)) (codes "BIN" ++ 0 ∷ []) all)
@@ -102,8 +127,11 @@ module _ (json : List ℕ) (ts : List WrittenTriangle) where
       let rest = json_chunk json ++ behind in
       let first : 12 ≡ length head = sym (head_length n) in
       let json_size : chunk_size bytes 12 ≡ length json = size_read bytes head (codes "JSON") json behind 12 json_there refl first in
-      let second : chunk_end bytes 12 ≡ length (head ++ json_chunk json) = first_end (chunk_size bytes 12) (length json) (length head) (length (json_chunk json)) json_size (head_length n) (json_length json) ∙ sym (length-append head (json_chunk json)) in
-      let data_size : chunk_size bytes (chunk_end bytes 12) ≡ length all = size_read bytes (head ++ json_chunk json) kind all [] (chunk_end bytes 12) data_there refl second in
+      let second : chunk_end bytes 12 ≡ length (head ++ json_chunk json) =
+      first_end (chunk_size bytes 12) (length json) (length head) (length (json_chunk json)) json_size (head_length n)
+      (json_length json) ∙ sym (length-append head (json_chunk json)) in
+      let data_size : chunk_size bytes (chunk_end bytes 12) ≡ length all =
+      size_read bytes (head ++ json_chunk json) kind all [] (chunk_end bytes 12) data_there refl second in
       record {
         magic = head_magic n rest;
         version = head_version n rest;
@@ -112,7 +140,8 @@ module _ (json : List ℕ) (ts : List WrittenTriangle) where
         json_is = text_read bytes head (codes "JSON") json behind 12 json_there refl first;
         numbers_type = type_read bytes (head ++ json_chunk json) kind all [] (chunk_end bytes 12) data_there refl second;
         numbers_are = text_read bytes (head ++ json_chunk json) kind all [] (chunk_end bytes 12) data_there refl second;
-        end = last_end (chunk_end bytes 12) (chunk_size bytes (chunk_end bytes 12)) (length json) (length all) (length ts) (length bytes) (ap (λ (s : ℕ). 12 + 8 + s) json_size) data_size (data_length ts) total;
+        end = last_end (chunk_end bytes 12) (chunk_size bytes (chunk_end bytes 12)) (length json) (length all)
+            (length ts) (length bytes) (ap (λ (s : ℕ). 12 + 8 + s) json_size) data_size (data_length ts) total;
       }
 
 -- a reader finds the triangles of a GLB

@@ -37,7 +37,8 @@ unfoldable pub accessors_text : ℕ → List ℕ → List ℕ → List ℕ
 accessors_text count low high =
     codes "\"accessors\":[" ++
     (accessor_text 0 count ++
-    (codes ",\"min\":" ++ (low ++ (codes ",\"max\":" ++ (high ++ (codes "}," ++ (accessor_text 1 count ++ codes "}]}")))))))
+    (codes ",\"min\":" ++ (low ++ (codes ",\"max\":"
+    ++ (high ++ (codes "}," ++ (accessor_text 1 count ++ codes "}]}")))))))
 
 -- the JSON of so many triangles, whose corners have these texts of their bounds
 abbrev pub mesh_json : ℕ → List ℕ → List ℕ → List ℕ

@@ -22,7 +22,8 @@ pub record BoundFirst (s : Step) (xs : List Number) (i : ℕ) (b : Bounds) : Typ
   pub greatest_small : unsigned_abs b.greatest < 2 ^ 107
 
 -- one number alone
-pub bound_none : (s : Step) (xs : List Number) (x : Number) (z : ℤ) → 0 < length xs → x ≡ get_or xs 0 x → z ≡ cell_at s x → unsigned_abs z < 2 ^ 107 → BoundFirst s xs 0 (record { least = z; greatest = z })
+pub bound_none : (s : Step) (xs : List Number) (x : Number) (z : ℤ) → 0 < length xs → x ≡ get_or xs 0 x →
+    z ≡ cell_at s x → unsigned_abs z < 2 ^ 107 → BoundFirst s xs 0 (record { least = z; greatest = z })
 bound_none s xs x z less e f small = record {
   within = λ k d h. absurd (omega arith);
   least_met = cell_is_met s xs 0 x z less e f;
@@ -32,7 +33,8 @@ bound_none s xs x z less e f small = record {
   greatest_small = small;
 }
 
-met_widened : (s : Step) (xs : List Number) (old new z : ℤ) → Any (λ y. cell_at s y ≡ old) xs → Any (λ y. cell_at s y ≡ z) xs → (new ≡ old) ⊎ (new ≡ z) → Any (λ y. cell_at s y ≡ new) xs
+met_widened : (s : Step) (xs : List Number) (old new z : ℤ) → Any (λ y. cell_at s y ≡ old) xs →
+    Any (λ y. cell_at s y ≡ z) xs → (new ≡ old) ⊎ (new ≡ z) → Any (λ y. cell_at s y ≡ new) xs
 met_widened s xs old new z a b c =
     ⊎_elim (λ e. (a.0, a.1, a.2, a.3, a.4 ∙ sym e)) (λ e. (b.0, b.1, b.2, b.3, b.4 ∙ sym e)) c
 
@@ -40,12 +42,18 @@ small_widened : (old new z : ℤ) → unsigned_abs old < 2 ^ 107 → unsigned_ab
 small_widened old new z a b c = ⊎_elim (λ e. rw e a) (λ e. rw e b) c
 
 -- one number more
-pub bound_more : (s : Step) (xs : List Number) (i : ℕ) (old new : Bounds) (x : Number) (z : ℤ) → BoundFirst s xs i old → AreWidened old z new → i < length xs → x ≡ get_or xs i x → z ≡ cell_at s x → unsigned_abs z < 2 ^ 107 → BoundFirst s xs (i + 1) new
+pub bound_more : (s : Step) (xs : List Number) (i : ℕ) (old new : Bounds) (x : Number) (z : ℤ) → BoundFirst s xs i old →
+    AreWidened old z new → i < length xs → x ≡ get_or xs i x → z ≡ cell_at s x → unsigned_abs z < 2 ^ 107 →
+    BoundFirst s xs (i + 1) new
 bound_more s xs i old new x z bound wide less e f small =
     let met = cell_is_met s xs i x z less e f in
     let wider : All (λ y. IsBetween new.least (cell_at s y) new.greatest) (take i xs) =
     λ k d h. let within = bound.within k d h in
-    record { low_enough = omega (arith, ints, within.low_enough, wide.holds_least); high_enough = omega (arith, ints, within.high_enough, wide.holds_greatest) } in
+    record {
+      low_enough = omega (arith, ints, within.low_enough, wide.holds_least);
+      high_enough =
+          omega (arith, ints, within.high_enough, wide.holds_greatest);
+    } in
     let here : IsBetween new.least (cell_at s (get_or xs i x)) new.greatest = rw (← e, ← f) wide.holds in
     record {
       within = All-more (λ y. IsBetween new.least (cell_at s y) new.greatest) xs i x less wider here;

@@ -18,7 +18,8 @@ use Rattle.ember_grid.specs.Corners.{corners_in, HasCoordinates, Lands}
 use Rattle.ember_grid.specs.Grids.{IsWithinLimit, IsWantedStep, IsGrid, IsStepFault, IsGridFault}
 use Rattle.ember_grid.specs.Lists.{HaveSameEntries, HasEntries}
 use Rattle.ember_grid.proofs.Landings.{corners_are_coordinates, surfaces_land_if}
-use Rattle.ember_grid.proofs.SameEntries.{AreSameCoordinates, same_map, same_some, same_as_none, same_coordinates, same_wanted, same_offset, same_landing, same_too_small}
+use Rattle.ember_grid.proofs.SameEntries.{AreSameCoordinates, same_map, same_some, same_as_none, same_coordinates}
+use Rattle.ember_grid.proofs.SameEntries.{same_wanted, same_offset, same_landing, same_too_small}
 
 -- the coordinates of all corners, each as often as it is there
 pub of_corners : List Surface → Coordinates → Coordinates
@@ -40,7 +41,8 @@ along f xs ys vs ws e g s =
 pub record AreEntries (ss : List Surface) (c : Coordinates) : Type 0 where
   pub same : AreSameCoordinates c (of_corners ss c)
 
-pub are_entries : (ss : List Surface) (lists : CornerLists) (c : Coordinates) → HasEntries lists (corners_in ss) → c.x.now ≡ lists.x.items → c.y.now ≡ lists.y.items → c.z.now ≡ lists.z.items → AreEntries ss c
+pub are_entries : (ss : List Surface) (lists : CornerLists) (c : Coordinates) → HasEntries lists (corners_in ss) →
+    c.x.now ≡ lists.x.items → c.y.now ≡ lists.y.items → c.z.now ≡ lists.z.items → AreEntries ss c
 unfolding of_corners
 are_entries ss lists c h x y z = record {
   same = record {
@@ -63,7 +65,9 @@ entries_are_coordinates ss c within h some =
     same_coordinates c corners h.same (corners_are_coordinates ss corners within (of_corners_has ss c) (same_some c.x.now corners.x.now h.same.x some))
 
 -- the grid of all corners
-pub entries_grid : (ss : List Surface) (c : Coordinates) (wanted : Wanted) (r : Result Grid GridFault) → AreEntries ss c → IfOk r (λ g. IsWantedStep wanted c g.step) → IfOk r (λ g. IsOffset g.step c g.offset) → IfOk r (IsGrid ss wanted)
+pub entries_grid : (ss : List Surface) (c : Coordinates) (wanted : Wanted) (r : Result Grid GridFault) →
+    AreEntries ss c → IfOk r (λ g. IsWantedStep wanted c g.step) → IfOk r (λ g. IsOffset g.step c g.offset) →
+    IfOk r (IsGrid ss wanted)
 entries_grid ss c wanted (Ok g) h step offset =
     let corners = of_corners ss c in
     record {
@@ -75,13 +79,15 @@ entries_grid ss c wanted (Ok g) h step offset =
 entries_grid ss c wanted (Err fault) h step offset = tt
 
 -- all corners land on it
-pub entries_land : (ss : List Surface) (c : Coordinates) (r : Result Grid GridFault) → All IsWithinLimit ss → AreEntries ss c → IfOk r (λ g. LandsOnGrid g.step c g.offset) → IfOk r (λ g. All (Lands g) ss)
+pub entries_land : (ss : List Surface) (c : Coordinates) (r : Result Grid GridFault) → All IsWithinLimit ss →
+    AreEntries ss c → IfOk r (λ g. LandsOnGrid g.step c g.offset) → IfOk r (λ g. All (Lands g) ss)
 entries_land ss c (Ok g) within h lands =
     surfaces_land_if ss (of_corners ss c) (Ok g) within (of_corners_has ss c) (same_landing g.step c (of_corners ss c) g.offset h.same lands)
 entries_land ss c (Err fault) within h lands = tt
 
 -- and the fault is that of all corners
-fault_of_corners : (ss : List Surface) (c : Coordinates) (wanted : Wanted) (fault : GridFault) → AreEntries ss c → IsStepFault c wanted fault → IsGridFault ss wanted fault
+fault_of_corners : (ss : List Surface) (c : Coordinates) (wanted : Wanted) (fault : GridFault) → AreEntries ss c →
+    IsStepFault c wanted fault → IsGridFault ss wanted fault
 fault_of_corners ss c wanted NoTriangles h is = absurd is
 fault_of_corners ss c wanted (StepTooSmall t) h is = (
   of_corners ss c,
@@ -90,6 +96,7 @@ fault_of_corners ss c wanted (StepTooSmall t) h is = (
 )
 fault_of_corners ss c wanted OutOfMemory h is = absurd is
 
-pub entries_fault : (ss : List Surface) (c : Coordinates) (wanted : Wanted) (r : Result Grid GridFault) → AreEntries ss c → IfErr r (IsStepFault c wanted) → IfErr r (IsGridFault ss wanted)
+pub entries_fault : (ss : List Surface) (c : Coordinates) (wanted : Wanted) (r : Result Grid GridFault) →
+    AreEntries ss c → IfErr r (IsStepFault c wanted) → IfErr r (IsGridFault ss wanted)
 entries_fault ss c wanted (Ok g) h is = tt
 entries_fault ss c wanted (Err fault) h is = fault_of_corners ss c wanted fault h is

@@ -12,7 +12,8 @@ abbrev pub NoneHas : Edge → List Tri → Type 0
 NoneHas e ts = All (λ t. has_edge e t ≡ false) ts
 
 -- one triangle more
-pub none_has_more : (e : Edge) (ts : List Tri) (i : ℕ) (d : Tri) (b : Bool) → i < length ts → NoneHas e (take i ts) → b ≡ has_edge e (get_or ts i d) → b ≡ false → NoneHas e (take (i + 1) ts)
+pub none_has_more : (e : Edge) (ts : List Tri) (i : ℕ) (d : Tri) (b : Bool) → i < length ts → NoneHas e (take i ts) →
+    b ≡ has_edge e (get_or ts i d) → b ≡ false → NoneHas e (take (i + 1) ts)
 none_has_more e ts i d b l h p q = All-more (λ t. has_edge e t ≡ false) ts i d l h (sym p ∙ q)
 
 -- all triangles

@@ -29,7 +29,10 @@ flat_more ts t =
     by false = refl
 
 -- a triangle that vanishes
-pub snapped_vanishing : (at : ℕ → Corner) (mesh : ℕ) (fs : List Facet) (f : Facet) (old new : Snapping) → vanishes at f ≡ true → new.tris.items ≡ old.tris.items → new.places.items ≡ old.places.items → new.vanished ≡ old.vanished + 1 → new.flat ≡ old.flat → AreSnapped at mesh fs old → AreSnapped at mesh (fs ++ f ∷ []) new
+pub snapped_vanishing : (at : ℕ → Corner) (mesh : ℕ) (fs : List Facet) (f : Facet) (old new : Snapping) →
+    vanishes at f ≡ true → new.tris.items ≡ old.tris.items → new.places.items ≡ old.places.items →
+    new.vanished ≡ old.vanished + 1 → new.flat ≡ old.flat → AreSnapped at mesh fs old →
+    AreSnapped at mesh (fs ++ f ∷ []) new
 snapped_vanishing at mesh fs f old new v a b c d h =
     let same : kept at (fs ++ f ∷ []) ≡ kept at fs = filter_one (λ f. not (vanishes at f)) fs f false (ap not v) ∙ append_nothing (kept at fs) in
     let more : vanished at (fs ++ f ∷ []) ≡ vanished at fs ++ f ∷ [] = filter_one (vanishes at) fs f true v in
@@ -42,11 +45,16 @@ snapped_vanishing at mesh fs f old new v a b c d h =
     }
 
 -- a triangle that is kept
-pub snapped_kept : (at : ℕ → Corner) (mesh : ℕ) (fs : List Facet) (f : Facet) (t : Tri) (old new : Snapping) → t ≡ image at mesh f → IsValidTri t → vanishes at f ≡ false → new.tris.items ≡ old.tris.items ++ t ∷ [] → new.places.items ≡ old.places.items ++ f.place ∷ [] → new.vanished ≡ old.vanished → new.flat ≡ old.flat + cond (is_flat t) 1 0 → AreSnapped at mesh fs old → AreSnapped at mesh (fs ++ f ∷ []) new
+pub snapped_kept : (at : ℕ → Corner) (mesh : ℕ) (fs : List Facet) (f : Facet) (t : Tri) (old new : Snapping) →
+    t ≡ image at mesh f → IsValidTri t → vanishes at f ≡ false → new.tris.items ≡ old.tris.items ++ t ∷ [] →
+    new.places.items ≡ old.places.items ++ f.place ∷ [] → new.vanished ≡ old.vanished →
+    new.flat ≡ old.flat + cond (is_flat t) 1 0 → AreSnapped at mesh fs old → AreSnapped at mesh (fs ++ f ∷ []) new
 snapped_kept at mesh fs f t old new e valid v a b c d h =
     let more : kept at (fs ++ f ∷ []) ≡ kept at fs ++ f ∷ [] = filter_one (λ f. not (vanishes at f)) fs f true (ap not v) in
     let same : vanished at (fs ++ f ∷ []) ≡ vanished at fs = filter_one (vanishes at) fs f false v ∙ append_nothing (vanished at fs) in
-    let tris : images at mesh (fs ++ f ∷ []) ≡ images at mesh fs ++ t ∷ [] = ap (map (image at mesh)) more ∙ map-append (image at mesh) (kept at fs) (f ∷ []) ∙ ap (λ (u : Tri). images at mesh fs ++ u ∷ []) (sym e) in
+    let tris : images at mesh (fs ++ f ∷ []) ≡ images at mesh fs ++ t ∷ [] =
+    ap (map (image at mesh)) more ∙ map-append (image at mesh) (kept at fs) (f ∷ [])
+    ∙ ap (λ (u : Tri). images at mesh fs ++ u ∷ []) (sym e) in
     record {
       valid = subst (All IsValidTri) (sym a) (All-push IsValidTri old.tris.items t h.valid valid);
       tris = a ∙ ap (λ (ts : List Tri). ts ++ t ∷ []) h.tris ∙ sym tris;

@@ -1,5 +1,6 @@
 -- Where the coordinates of all corners land, there each corner does
-use Rattle.std.proofs.Common.{◌≡◌, ◌<◌, Bool, true, false, cond, not, List, [], ◌∷◌, Option, Some, None, map, length, get_or, refl, sym, ap, subst, ◌∙◌, arith, pos, negsuc, ◌-ℤ◌}
+use Rattle.std.proofs.Common.{◌≡◌, ◌<◌, Bool, true, false, cond, not, List, [], ◌∷◌, Option, Some, None, map, length}
+use Rattle.std.proofs.Common.{get_or, refl, sym, ap, subst, ◌∙◌, arith, pos, negsuc, ◌-ℤ◌}
 use Rattle.std.specs.List.{All, flat_map, find, list_any}
 use Rattle.std.specs.Option.{option_to_list, IfSome}
 use Rattle.std.specs.Prelude.{slice_get, Result, Ok, Err, IfOk}
@@ -55,11 +56,15 @@ IsBelow v = is_vertex_below v ≡ true
 
 below_facet : (vs : List Vertex) (f : Facet) → is_facet_too_large vs f ≡ false → All IsBelow (corners_of vs f)
 below_facet vs f h =
-    all_in IsBelow (λ corner. option_to_list (slice_get vs corner)) f.corners (λ k d l. one_in IsBelow (slice_get vs (get_or f.corners k d)) (below_one (slice_get vs (get_or f.corners k d)) (none_any (is_corner_too_large vs) f.corners h k d l)))
+    all_in IsBelow (λ corner. option_to_list (slice_get vs corner)) f.corners
+    (λ k d l. one_in IsBelow (slice_get vs (get_or f.corners k d))
+    (below_one (slice_get vs (get_or f.corners k d)) (none_any (is_corner_too_large vs) f.corners h k d l)))
 
 below_surface : (s : Surface) → IsWithinLimit s → All IsBelow (flat_map (corners_of s.vertices.items) s.facets.items)
 below_surface s h =
-    all_in IsBelow (corners_of s.vertices.items) s.facets.items (λ k d l. below_facet s.vertices.items (get_or s.facets.items k d) (none_found (is_facet_too_large s.vertices.items) s.facets.items h k d l))
+    all_in IsBelow (corners_of s.vertices.items) s.facets.items
+    (λ k d l. below_facet s.vertices.items (get_or s.facets.items k d)
+    (none_found (is_facet_too_large s.vertices.items) s.facets.items h k d l))
 
 below_corners : (ss : List Surface) → All IsWithinLimit ss → All IsBelow (corners_in ss)
 below_corners ss h =
@@ -74,10 +79,13 @@ below_y v h = (and_parts _ _ (and_parts _ _ h).0).1
 below_z : (v : Vertex) → IsBelow v → is_below_limit (value_of v.z) ≡ true
 below_z v h = (and_parts _ _ h).1
 
-numbers_along : (vs : List Vertex) (f : Vertex → Number) (xs : List Number) → xs ≡ map f vs → 0 < length xs → ((v : Vertex) → IsBelow v → is_below_limit (value_of (f v)) ≡ true) → All IsBelow vs → AreNumbers xs
+numbers_along : (vs : List Vertex) (f : Vertex → Number) (xs : List Number) → xs ≡ map f vs → 0 < length xs →
+    ((v : Vertex) → IsBelow v → is_below_limit (value_of (f v)) ≡ true) → All IsBelow vs → AreNumbers xs
 numbers_along vs f xs e some below all = record {
   some = some;
-  below = subst (All (λ x. is_below_limit (value_of x) ≡ true)) (sym e) (All-map (λ x. is_below_limit (value_of x) ≡ true) f vs (All-weaker IsBelow (λ v. is_below_limit (value_of (f v)) ≡ true) below vs all));
+  below = subst (All (λ x. is_below_limit (value_of x) ≡ true)) (sym e)
+      (All-map (λ x. is_below_limit (value_of x) ≡ true) f vs
+      (All-weaker IsBelow (λ v. is_below_limit (value_of (f v)) ≡ true) below vs all));
 }
 
 -- the coordinates of surfaces with a triangle, all of them below the limit
@@ -98,7 +106,8 @@ corners_are_coordinates ss c h k some =
 along : (P : Number → Type 0) (f : Vertex → Number) (vs : List Vertex) (xs : List Number) → xs ≡ map f vs → All P xs → All (λ v. P (f v)) vs
 along P f vs xs e h = all_mapped P f vs (subst (All P) e h)
 
-corners_land : (ss : List Surface) (g : Grid) (c : Coordinates) → All IsWithinLimit ss → HasCoordinates ss c → LandsOnGrid g.step c g.offset → All (IsOnGrid g) (corners_in ss)
+corners_land : (ss : List Surface) (g : Grid) (c : Coordinates) → All IsWithinLimit ss → HasCoordinates ss c →
+    LandsOnGrid g.step c g.offset → All (IsOnGrid g) (corners_in ss)
 corners_land ss g c h k lands =
     let vs = corners_in ss in
     λ i d l. record {
@@ -122,6 +131,7 @@ surfaces_land ss g c h k lands i d l =
     surface_lands g (get_or ss i d) (all_out (IsOnGrid g) (λ s. flat_map (corners_of s.vertices.items) s.facets.items) ss (corners_land ss g c h k lands) i d l)
 
 -- the same if there is a grid
-pub surfaces_land_if : (ss : List Surface) (c : Coordinates) (r : Result Grid GridFault) → All IsWithinLimit ss → HasCoordinates ss c → IfOk r (λ g. LandsOnGrid g.step c g.offset) → IfOk r (λ g. All (Lands g) ss)
+pub surfaces_land_if : (ss : List Surface) (c : Coordinates) (r : Result Grid GridFault) → All IsWithinLimit ss →
+    HasCoordinates ss c → IfOk r (λ g. LandsOnGrid g.step c g.offset) → IfOk r (λ g. All (Lands g) ss)
 surfaces_land_if ss c (Ok g) h k lands = surfaces_land ss g c h k lands
 surfaces_land_if ss c (Err e) h k lands = tt

@@ -13,18 +13,26 @@ use Rattle.ember_grid.proofs.MarkedVertices.{marked_more, marked_are_corners}
 use Rattle.ember_grid.proofs.SameEntries.{same_append}
 
 -- some vertices more, and then others
-appended_both : (old between new : CornerLists) (some others : List Vertex) → HasAppended old some between → HasAppended between others new → HasAppended old (some ++ others) new
+appended_both : (old between new : CornerLists) (some others : List Vertex) → HasAppended old some between →
+    HasAppended between others new → HasAppended old (some ++ others) new
 appended_both old between new some others a b = record {
   after = λ before h. subst (IsOf new) (append_assoc before some others) (b.after (before ++ some) (a.after before h));
 }
 
 -- one vertex more if it has a mark
-pub appended_if : (marks : List Bool) (vs : List Vertex) (i : ℕ) (v : Vertex) (old between new : CornerLists) → length marks ≡ length vs → i < length vs → v ≡ get_or vs i v → HasAppended old (marked (take i marks) (take i vs)) between → HasAppended between (cond (get_or marks i false) (v ∷ []) []) new → HasAppended old (marked (take (i + 1) marks) (take (i + 1) vs)) new
+pub appended_if : (marks : List Bool) (vs : List Vertex) (i : ℕ) (v : Vertex) (old between new : CornerLists) →
+    length marks ≡ length vs → i < length vs → v ≡ get_or vs i v →
+    HasAppended old (marked (take i marks) (take i vs)) between →
+    HasAppended between (cond (get_or marks i false) (v ∷ []) []) new →
+    HasAppended old (marked (take (i + 1) marks) (take (i + 1) vs)) new
 appended_if marks vs i v old between new many less is a b =
-    subst (λ (us : List Vertex). HasAppended old us new) (sym (marked_more marks vs i v (omega (arith, many, less)) less is)) (appended_both old between new _ _ a b)
+    subst (λ (us : List Vertex). HasAppended old us new)
+    (sym (marked_more marks vs i v (omega (arith, many, less)) less is)) (appended_both old between new _ _ a b)
 
 -- the corners of a surface more
-pub corners_added : (s : Surface) (marks : List Bool) (old new : CornerLists) → AreMarksOf s marks → HasAppended old (marked marks s.vertices.items) new → HasAdded old (flat_map (corners_of s.vertices.items) s.facets.items) new
+pub corners_added : (s : Surface) (marks : List Bool) (old new : CornerLists) → AreMarksOf s marks →
+    HasAppended old (marked marks s.vertices.items) new →
+    HasAdded old (flat_map (corners_of s.vertices.items) s.facets.items) new
 corners_added s marks old new m a = record {
   after = λ before h. record {
     vertices = h.vertices ++ marked marks s.vertices.items;
@@ -33,6 +41,8 @@ corners_added s marks old new m a = record {
   };
 }
 
-pub corners_added_if : {T E : Type 0} (r : Result T E) (s : Surface) (marks : List Bool) (old new : CornerLists) → AreMarksOf s marks → OnOk r (HasAppended old (marked marks s.vertices.items) new) → OnOk r (HasAdded old (flat_map (corners_of s.vertices.items) s.facets.items) new)
+pub corners_added_if : {T E : Type 0} (r : Result T E) (s : Surface) (marks : List Bool) (old new : CornerLists) →
+    AreMarksOf s marks → OnOk r (HasAppended old (marked marks s.vertices.items) new) →
+    OnOk r (HasAdded old (flat_map (corners_of s.vertices.items) s.facets.items) new)
 corners_added_if (Ok x) s marks old new m a = corners_added s marks old new m a
 corners_added_if (Err e) s marks old new m a = tt

@@ -1,5 +1,6 @@
 -- Closed triangles stay closed under a map of positions, without those that have two equal corners there
-use Rattle.std.proofs.Common.{◌≡◌, ◌⊎◌, inl, inr, ℕ, ◌+◌, Bool, true, false, cond, eqb, not, ◌&&◌, ◌||◌, List, [], ◌∷◌, map, refl, sym, ap, subst, ◌∙◌, arith, ℤ, pos, ◌+ℤ◌, ◌-ℤ◌, neg_ℤ}
+use Rattle.std.proofs.Common.{◌≡◌, ◌⊎◌, inl, inr, ℕ, ◌+◌, Bool, true, false, cond, eqb, not, ◌&&◌, ◌||◌, List, [], ◌∷◌}
+use Rattle.std.proofs.Common.{map, refl, sym, ap, subst, ◌∙◌, arith, ℤ, pos, ◌+ℤ◌, ◌-ℤ◌, neg_ℤ}
 use borrow.Author.Differences.{ints}
 use Rattle.std.proofs.lemmas.Bool.{and_parts, and_from, or_cases, cases_eq, eq-eqb, eqb-true}
 use Rattle.ember_algebra.specs.Sums.{total}
@@ -30,7 +31,8 @@ arcs_are_equal = record {
 same_turned : (a b : Arc) → same_arc a (turned b) ≡ same_arc (turned a) b
 same_turned a b = and_swapped (eqb a.from b.to) (eqb a.to b.from)
 
-closed_all : (position : ℕ → ℕ) (fs : List Facet) → AreClosed position fs → (a : Arc) → arc_count a (arcs_in position fs) ≡ arc_count (turned a) (arcs_in position fs)
+closed_all : (position : ℕ → ℕ) (fs : List Facet) → AreClosed position fs → (a : Arc) →
+    arc_count a (arcs_in position fs) ≡ arc_count (turned a) (arcs_in position fs)
 closed_all position fs h a = by (cases_eq a.from a.to)
   where
     by : (a.from ≡ a.to) ⊎ (a.from ≡ a.to → ⊥) → arc_count a (arcs_in position fs) ≡ arc_count (turned a) (arcs_in position fs)
@@ -41,7 +43,8 @@ closed_all position fs h a = by (cases_eq a.from a.to)
 abbrev edge_under : (ℕ → Corner) → Arc → Edge
 edge_under to a = record { from = to a.from; to = to a.to }
 
-edges_under : (position : ℕ → ℕ) (to : ℕ → Corner) (mesh : ℕ) (fs : List Facet) → edges_in (map (image (λ corner. to (position corner)) mesh) fs) ≡ map (edge_under to) (arcs_in position fs)
+edges_under : (position : ℕ → ℕ) (to : ℕ → Corner) (mesh : ℕ) (fs : List Facet) →
+    edges_in (map (image (λ corner. to (position corner)) mesh) fs) ≡ map (edge_under to) (arcs_in position fs)
 edges_under position to mesh [] = refl
 edges_under position to mesh (f ∷ fs) =
     let r = edges_under position to mesh fs in
@@ -54,11 +57,15 @@ edge_reversed e f = and_swapped (same_corner e.from f.to) (same_corner e.to f.fr
 abbrev one_if : Bool → ℤ
 one_if b = cond b (pos 1) (pos 0)
 
-count_total : (to : ℕ → Corner) (e : Edge) (arcs : List Arc) → pos (edge_count e (map (edge_under to) arcs)) ≡ total (λ a. one_if (same_edge e (edge_under to a))) arcs
+count_total : (to : ℕ → Corner) (e : Edge) (arcs : List Arc) →
+    pos (edge_count e (map (edge_under to) arcs)) ≡ total (λ a. one_if (same_edge e (edge_under to a))) arcs
 count_total to e [] = refl
 count_total to e (a ∷ arcs) = by (same_edge e (edge_under to a)) (count_total to e arcs)
   where
-    by : (b : Bool) → pos (edge_count e (map (edge_under to) arcs)) ≡ total (λ a. one_if (same_edge e (edge_under to a))) arcs → pos (cond b 1 0 + edge_count e (map (edge_under to) arcs)) ≡ one_if b +ℤ total (λ a. one_if (same_edge e (edge_under to a))) arcs
+    by : (b : Bool) → pos (edge_count e (map (edge_under to) arcs)) ≡ total
+        (λ a. one_if (same_edge e (edge_under to a))) arcs →
+        pos (cond b 1 0 + edge_count e (map (edge_under to) arcs)) ≡ one_if b +ℤ total
+        (λ a. one_if (same_edge e (edge_under to a))) arcs
     by true r = omega (arith, ints, r)
     by false r = omega (arith, ints, r)
 
@@ -68,7 +75,10 @@ surplus_at to e a =
 
 surplus_turned : (to : ℕ → Corner) (e : Edge) (a : Arc) → surplus_at to e (turned a) ≡ neg_ℤ (surplus_at to e a)
 surplus_turned to e a =
-    ap (λ (b : Bool). one_if b -ℤ one_if (same_edge (reversed e) (edge_under to (turned a)))) (edge_reversed e (edge_under to a)) ∙ ap (λ (b : Bool). one_if (same_edge (reversed e) (edge_under to a)) -ℤ one_if b) (edge_reversed (reversed e) (edge_under to a)) ∙ by (same_edge e (edge_under to a)) (same_edge (reversed e) (edge_under to a))
+    ap (λ (b : Bool). one_if b -ℤ one_if (same_edge (reversed e) (edge_under to (turned a))))
+    (edge_reversed e (edge_under to a)) ∙ ap (λ (b : Bool). one_if (same_edge (reversed e) (edge_under to a)) -ℤ
+    one_if b) (edge_reversed (reversed e) (edge_under to a))
+    ∙ by (same_edge e (edge_under to a)) (same_edge (reversed e) (edge_under to a))
   where
     by : (b c : Bool) → one_if c -ℤ one_if b ≡ neg_ℤ (one_if b -ℤ one_if c)
     by true true = refl
@@ -77,7 +87,8 @@ surplus_turned to e a =
     by false false = refl
 
 -- all images, those with two equal corners among them
-all_balanced : (position : ℕ → ℕ) (to : ℕ → Corner) (mesh : ℕ) (fs : List Facet) → AreClosed position fs → IsBalanced (map (image (λ corner. to (position corner)) mesh) fs)
+all_balanced : (position : ℕ → ℕ) (to : ℕ → Corner) (mesh : ℕ) (fs : List Facet) → AreClosed position fs →
+    IsBalanced (map (image (λ corner. to (position corner)) mesh) fs)
 all_balanced position to mesh fs h e =
     let arcs = arcs_in position fs in
     let zero = total_odd same_arc arcs_are_equal (surplus_at to e) turned (surplus_turned to e) same_turned arcs (closed_all position fs h) in
@@ -139,17 +150,24 @@ abbrev standing : (ℕ → Corner) → ℕ → Edge → List Facet → ℕ
 standing at mesh e fs = edge_count e (edges_in (map (image at mesh) fs))
 
 -- without them the surplus of each edge is the same
-same_surplus : (at : ℕ → Corner) (mesh : ℕ) (e : Edge) (fs : List Facet) → standing at mesh e fs + standing at mesh (reversed e) (kept at fs) ≡ standing at mesh (reversed e) fs + standing at mesh e (kept at fs)
+same_surplus : (at : ℕ → Corner) (mesh : ℕ) (e : Edge) (fs : List Facet) →
+    standing at mesh e fs + standing at mesh (reversed e) (kept at fs) ≡ standing at mesh (reversed e) fs
+    + standing at mesh e (kept at fs)
 same_surplus at mesh e [] = refl
 same_surplus at mesh e (f ∷ fs) = by (vanishes at f) refl (same_surplus at mesh e fs)
   where
-    by : (b : Bool) → vanishes at f ≡ b → standing at mesh e fs + standing at mesh (reversed e) (kept at fs) ≡ standing at mesh (reversed e) fs + standing at mesh e (kept at fs) → standing at mesh e (f ∷ fs) + standing at mesh (reversed e) (cond (not b) (f ∷ kept at fs) (kept at fs)) ≡ standing at mesh (reversed e) (f ∷ fs) + standing at mesh e (cond (not b) (f ∷ kept at fs) (kept at fs))
+    by : (b : Bool) → vanishes at f ≡ b → standing at mesh e fs
+        + standing at mesh (reversed e) (kept at fs) ≡ standing at mesh (reversed e) fs
+        + standing at mesh e (kept at fs) → standing at mesh e (f ∷ fs)
+        + standing at mesh (reversed e) (cond (not b) (f ∷ kept at fs) (kept at fs)) ≡ standing at mesh (reversed e)
+        (f ∷ fs) + standing at mesh e (cond (not b) (f ∷ kept at fs) (kept at fs))
     by true h r =
         let even = loops (image at mesh f).a (image at mesh f).b (image at mesh f).c h e in omega (arith, r, even)
     by false h r = omega (arith, r)
 
 -- the law
-pub map_keeps_closed : (position : ℕ → ℕ) (to : ℕ → Corner) (mesh : ℕ) (fs : List Facet) → AreClosed position fs → IsBalanced (images (λ corner. to (position corner)) mesh fs)
+pub map_keeps_closed : (position : ℕ → ℕ) (to : ℕ → Corner) (mesh : ℕ) (fs : List Facet) → AreClosed position fs →
+    IsBalanced (images (λ corner. to (position corner)) mesh fs)
 map_keeps_closed position to mesh fs h e =
     let all = all_balanced position to mesh fs h e in
     let same = same_surplus (λ corner. to (position corner)) mesh e fs in

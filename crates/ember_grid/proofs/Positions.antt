@@ -1,5 +1,6 @@
 -- Vertices at one position are one corner on the grid, so a closed surface is closed there
-use Rattle.std.proofs.Common.{◌≡◌, ◌<◌, ℕ, zero, suc, ◌*◌, Bool, true, false, cond, List, [], ◌∷◌, Option, Some, None, refl, sym, ap, subst, ◌∙◌, arith, ℤ, pos, ◌+ℤ◌, ◌-ℤ◌, ◌*ℤ◌, mul-pos}
+use Rattle.std.proofs.Common.{◌≡◌, ◌<◌, ℕ, zero, suc, ◌*◌, Bool, true, false, cond, List, [], ◌∷◌, Option, Some, None}
+use Rattle.std.proofs.Common.{refl, sym, ap, subst, ◌∙◌, arith, ℤ, pos, ◌+ℤ◌, ◌-ℤ◌, ◌*ℤ◌, mul-pos}
 use borrow.Author.Differences.{ints}
 use Rattle.std.specs.Prelude.{slice_get}
 use Rattle.std.specs.Int.{int_div_euclid}
@@ -32,7 +33,8 @@ floor_scaled a k d p q =
     let chain = floor_chain (pos k *ℤ a) k 0 d p q in
     let none : pos k *ℤ a +ℤ pos (k * 0) ≡ pos k *ℤ a = omega (arith, ints, linear) in
     let more : a +ℤ pos 0 ≡ a = omega (arith, ints, linear) in
-    sym (ap (λ (z : ℤ). int_div_euclid z (pos (k * d))) none) ∙ sym chain ∙ ap (λ (z : ℤ). int_div_euclid (z +ℤ pos 0) (pos d)) inner ∙ ap (λ (z : ℤ). int_div_euclid z (pos d)) more
+    sym (ap (λ (z : ℤ). int_div_euclid z (pos (k * d))) none) ∙ sym chain
+    ∙ ap (λ (z : ℤ). int_div_euclid (z +ℤ pos 0) (pos d)) inner ∙ ap (λ (z : ℤ). int_div_euclid z (pos d)) more
 
 -- equal numbers have one cell
 same_cell : (s : Step) (v w : Fraction) → 0 < s.numerator → 0 < v.denominator → 0 < w.denominator → is_same_number v w ≡ true → cell_of s v ≡ cell_of s w
@@ -42,8 +44,10 @@ same_cell s v w n p q h =
     let left = floor_scaled (scaled_number s v +ℤ scaled_half s v) w.denominator (v.denominator * (2 * s.numerator)) q (mul-pos p (omega arith)) in
     let right = floor_scaled (scaled_number s w +ℤ scaled_half s w) v.denominator (w.denominator * (2 * s.numerator)) p (mul-pos q (omega arith)) in
     let up : pos w.denominator *ℤ (scaled_number s v +ℤ scaled_half s v) ≡ pos v.denominator *ℤ (scaled_number s w +ℤ scaled_half s w) =
-    let e = solve 5 (λ d n v w s. w ⊗ (d ⊗ n ⊕ v ⊗ s) ≈ d ⊗ (n ⊗ w) ⊕ v ⊗ w ⊗ s) cancels (pos (2 * s.denominator)) v.numerator (pos v.denominator) (pos w.denominator) (pos s.numerator) in
-    let f = solve 5 (λ d n v w s. v ⊗ (d ⊗ n ⊕ w ⊗ s) ≈ d ⊗ (n ⊗ v) ⊕ v ⊗ w ⊗ s) cancels (pos (2 * s.denominator)) w.numerator (pos v.denominator) (pos w.denominator) (pos s.numerator) in
+    let e = solve 5 (λ d n v w s. w ⊗ (d ⊗ n ⊕ v ⊗ s) ≈ d ⊗ (n ⊗ w) ⊕ v ⊗ w ⊗ s) cancels (pos (2 * s.denominator))
+    v.numerator (pos v.denominator) (pos w.denominator) (pos s.numerator) in
+    let f = solve 5 (λ d n v w s. v ⊗ (d ⊗ n ⊕ w ⊗ s) ≈ d ⊗ (n ⊗ v) ⊕ v ⊗ w ⊗ s) cancels (pos (2 * s.denominator))
+    w.numerator (pos v.denominator) (pos w.denominator) (pos s.numerator) in
     e ∙ ap (λ (z : ℤ). pos (2 * s.denominator) *ℤ z +ℤ pos v.denominator *ℤ pos w.denominator *ℤ pos s.numerator) cross ∙ sym f in
     let under : w.denominator * (v.denominator * (2 * s.numerator)) ≡ v.denominator * (w.denominator * (2 * s.numerator)) = omega arith in
     sym left ∙ (λ i. int_div_euclid (up i) (pos (under i))) ∙ right
@@ -86,7 +90,9 @@ first_is_there v [] i h = absurd (none_is_some h)
     none_is_some e = cc
 first_is_there v (w ∷ ws) i h = by (is_same_position w v) refl i h (first_is_there v ws)
   where
-    by : (b : Bool) → is_same_position w v ≡ b → (i : ℕ) → slice_get (w ∷ ws) i ≡ Some v → ((j : ℕ) → slice_get ws j ≡ Some v → IsThere ws (first_at v ws) v) → IsThere (w ∷ ws) (cond b 0 (suc (first_at v ws))) v
+    by : (b : Bool) → is_same_position w v ≡ b → (i : ℕ) → slice_get (w ∷ ws) i ≡ Some v →
+        ((j : ℕ) → slice_get ws j ≡ Some v → IsThere ws (first_at v ws) v) →
+        IsThere (w ∷ ws) (cond b 0 (suc (first_at v ws))) v
     by true e i h next = record { vertex = w; found = refl; same = e }
     by false e zero h next =
         absurd (clash (subst (λ (u : Vertex). is_same_position u v ≡ true) (sym (some_out h)) (same_position-refl v)) e)
@@ -102,7 +108,8 @@ position_keeps g vs i s = by (slice_get vs i) refl
         let r = first_is_there v vs i e in ap (corner_from g) r.found ∙ same_corner_on g r.vertex v s r.same
 
 -- a surface that is closed by its positions is closed on the grid
-pub closed_on_grid : (g : Grid) (s : Surface) (mesh : ℕ) → IsStep g.step → IsSurfaceClosed s → IsBalanced (images (corner_at g s.vertices.items) mesh s.facets.items)
+pub closed_on_grid : (g : Grid) (s : Surface) (mesh : ℕ) → IsStep g.step → IsSurfaceClosed s →
+    IsBalanced (images (corner_at g s.vertices.items) mesh s.facets.items)
 closed_on_grid g s mesh step h =
     let vs = s.vertices.items in
     let one : (λ (i : ℕ). corner_at g vs (position_of vs i)) ≡ (λ (i : ℕ). corner_at g vs i) = λ k i. position_keeps g vs i step k in

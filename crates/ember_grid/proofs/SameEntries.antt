@@ -1,7 +1,8 @@
 -- Lists with the same entries: what holds of the coordinates of one holds of those of the other
 use Rattle.std.proofs.Common.{◌≡◌, ◌<◌, ℕ, List, [], ◌∷◌, ◌++◌, map, length, refl, arith, true, ℤ, pos, negsuc, ◌+ℤ◌, ◌-ℤ◌}
 use Rattle.std.specs.List.{All, Any, Contains}
-use Rattle.std.proofs.lemmas.List.Elements.{All-head, All-append, All-map, All-weaker, All-contains, All-contains_itself, Contains-append_left, Contains-append_right}
+use Rattle.std.proofs.lemmas.List.Elements.{All-head, All-append, All-map, All-weaker, All-contains}
+use Rattle.std.proofs.lemmas.List.Elements.{All-contains_itself, Contains-append_left, Contains-append_right}
 use Rattle.ember_number.specs.declared.values.Number.{Number}
 use Rattle.ember_number.specs.Fractions.{is_below_limit}
 use Rattle.ember_number.specs.Values.{value_of}
@@ -26,14 +27,19 @@ same_turned xs ys s = record { there = s.back; back = s.there }
 
 pub same_append : {U : Type 0} (xs ys us vs : List U) → HaveSameEntries xs ys → HaveSameEntries us vs → HaveSameEntries (xs ++ us) (ys ++ vs)
 same_append xs ys us vs s t = record {
-  there = All-append (Contains (ys ++ vs)) xs us (All-weaker (Contains ys) (Contains (ys ++ vs)) (λ x c. Contains-append_left ys vs x c) xs s.there) (All-weaker (Contains vs) (Contains (ys ++ vs)) (λ x c. Contains-append_right ys vs x c) us t.there);
-  back = All-append (Contains (xs ++ us)) ys vs (All-weaker (Contains xs) (Contains (xs ++ us)) (λ y c. Contains-append_left xs us y c) ys s.back) (All-weaker (Contains us) (Contains (xs ++ us)) (λ y c. Contains-append_right xs us y c) vs t.back);
+  there = All-append (Contains (ys ++ vs)) xs us
+      (All-weaker (Contains ys) (Contains (ys ++ vs)) (λ x c. Contains-append_left ys vs x c) xs s.there)
+      (All-weaker (Contains vs) (Contains (ys ++ vs)) (λ x c. Contains-append_right ys vs x c) us t.there);
+  back = All-append (Contains (xs ++ us)) ys vs (All-weaker (Contains xs) (Contains (xs ++ us))
+      (λ y c. Contains-append_left xs us y c) ys s.back)
+      (All-weaker (Contains us) (Contains (xs ++ us)) (λ y c. Contains-append_right xs us y c) vs t.back);
 }
 
 map_contains : {U V : Type 0} (f : U → V) (xs ys : List U) → All (Contains ys) xs → All (Contains (map f ys)) (map f xs)
 map_contains f xs ys h =
     let itself = all_mapped (Contains (map f ys)) f ys (All-contains_itself (map f ys)) in
-    All-map (Contains (map f ys)) f xs (All-weaker (Contains ys) (λ x. Contains (map f ys) (f x)) (λ x c. All-contains (λ y. Contains (map f ys) (f y)) ys x itself c) xs h)
+    All-map (Contains (map f ys)) f xs (All-weaker (Contains ys) (λ x. Contains (map f ys) (f x))
+    (λ x c. All-contains (λ y. Contains (map f ys) (f y)) ys x itself c) xs h)
 
 pub same_map : {U V : Type 0} (f : U → V) (xs ys : List U) → HaveSameEntries xs ys → HaveSameEntries (map f xs) (map f ys)
 same_map f xs ys s = record { there = map_contains f xs ys s.there; back = map_contains f ys xs s.back }
@@ -98,7 +104,8 @@ same_wanted Nice c d s e h = same_least nice_of c d s e h
 same_wanted Finest c d s e h = same_least fine_of c d s e h
 same_wanted (Given given) c d s e h = h
 
-same_within : (s : Step) (xs ys : List Number) (least greatest : ℤ) → HaveSameEntries xs ys → All (λ x. IsBetween least (cell_at s x) greatest) xs → All (λ x. IsBetween least (cell_at s x) greatest) ys
+same_within : (s : Step) (xs ys : List Number) (least greatest : ℤ) → HaveSameEntries xs ys →
+    All (λ x. IsBetween least (cell_at s x) greatest) xs → All (λ x. IsBetween least (cell_at s x) greatest) ys
 same_within s xs ys least greatest = same_all (λ x. IsBetween least (cell_at s x) greatest) xs ys
 
 same_met : (s : Step) (xs ys : List Number) (z : ℤ) → HaveSameEntries xs ys → Any (λ x. cell_at s x ≡ z) xs → Any (λ x. cell_at s x ≡ z) ys

@@ -27,7 +27,8 @@ twice_above (pos m) d h = omega (arith, ints, h)
 twice_above (negsuc m) d h = omega (arith, ints, h)
 
 -- its cell, for a step of k units
-module _ (k : ℕ) (v : Fraction) (c : ℤ) (p : 0 < v.denominator) (h : unsigned_abs v.numerator < 10 ^ 15 * v.denominator) (near : IsNearest (record { numerator = k; denominator = 1 }) v c) where
+module _ (k : ℕ) (v : Fraction) (c : ℤ) (p : 0 < v.denominator) (h : unsigned_abs v.numerator < 10 ^ 15 * v.denominator)
+    (near : IsNearest (record { numerator = k; denominator = 1 }) v c) where
   over : pos 0 <ℤ pos v.denominator
   over = omega (arith, ints, p)
 
@@ -35,15 +36,18 @@ module _ (k : ℕ) (v : Fraction) (c : ℤ) (p : 0 < v.denominator) (h : unsigne
   cell_below =
       let size = twice_below v.numerator v.denominator h in
       let parts = solve 4 (λ d t c k. d ⊗ (t ⊗ c ⊖ k) ≈ d ⊗ t ⊗ c ⊖ d ⊗ k) cancels (pos v.denominator) (pos (2 * k)) c (pos k) in
-      let less : (pos v.denominator *ℤ (pos (2 * k) *ℤ c -ℤ pos k)) <ℤ (pos v.denominator *ℤ pos (2 * 10 ^ 15)) = omega (arith, linear, parts, near.above, size) in
+      let less : (pos v.denominator *ℤ (pos (2 * k) *ℤ c -ℤ pos k)) <ℤ (pos v.denominator *ℤ pos (2 * 10 ^ 15)) =
+      omega (arith, linear, parts, near.above, size) in
       cancel_lt over less
 
   cell_above : pos 0 <ℤ (pos (2 * k) *ℤ c +ℤ pos k +ℤ pos (2 * 10 ^ 15))
   cell_above =
       let size = twice_above v.numerator v.denominator h in
-      let parts = solve 5 (λ d t c k m. d ⊗ (t ⊗ c ⊕ k ⊕ m) ≈ d ⊗ t ⊗ c ⊕ d ⊗ k ⊕ d ⊗ m) cancels (pos v.denominator) (pos (2 * k)) c (pos k) (pos (2 * 10 ^ 15)) in
+      let parts = solve 5 (λ d t c k m. d ⊗ (t ⊗ c ⊕ k ⊕ m) ≈ d ⊗ t ⊗ c ⊕ d ⊗ k ⊕ d ⊗ m) cancels (pos v.denominator)
+      (pos (2 * k)) c (pos k) (pos (2 * 10 ^ 15)) in
       let none : pos v.denominator *ℤ pos 0 ≡ pos 0 = omega (arith, ints, linear) in
-      let less : (pos v.denominator *ℤ pos 0) <ℤ (pos v.denominator *ℤ (pos (2 * k) *ℤ c +ℤ pos k +ℤ pos (2 * 10 ^ 15))) = omega (arith, linear, parts, near.below, size, none) in
+      let less : (pos v.denominator *ℤ pos 0) <ℤ (pos v.denominator *ℤ (pos (2 * k) *ℤ c +ℤ pos k +ℤ pos (2 * 10 ^ 15)))
+      = omega (arith, linear, parts, near.below, size, none) in
       cancel_lt over less
 
 abbrev IsShort : ℤ → Type 0
@@ -63,7 +67,8 @@ fine_short v p h =
     let high = cell_below 999900000000 v (cell_of (fine_of 189998) v) p h near in
     record { low_enough = omega (arith, linear, low); high_enough = omega (arith, linear, high) }
 
-fits_if_short : (s : Step) → ((v : Fraction) → 0 < v.denominator → unsigned_abs v.numerator < 10 ^ 15 * v.denominator → IsShort (cell_of s v)) → (xs : List Number) → AreNumbers xs → Fits s xs
+fits_if_short : (s : Step) → ((v : Fraction) → 0 < v.denominator → unsigned_abs v.numerator < 10 ^ 15 * v.denominator →
+    IsShort (cell_of s v)) → (xs : List Number) → AreNumbers xs → Fits s xs
 unfolding cell_at
 fits_if_short s short xs h = (
   negsuc 1999,

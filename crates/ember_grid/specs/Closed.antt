@@ -1,5 +1,6 @@
 -- When a surface is closed: by the positions of its corners
-use Rattle.std.specs.Prelude.{◌≡◌, ℕ, suc, nat_eq, Bool, ◌&&◌, List, [], ◌∷◌, pos, ◌-ℤ◌, ◌*ℤ◌, Option, Some, None, if◌then◌else◌, slice_get, slice_index}
+use Rattle.std.specs.Prelude.{◌≡◌, ℕ, suc, nat_eq, Bool, ◌&&◌, List, [], ◌∷◌, pos, ◌-ℤ◌, ◌*ℤ◌, Option}
+use Rattle.std.specs.Prelude.{Some, None, if◌then◌else◌, slice_get, slice_index}
 use Rattle.ember_algebra.specs.Sign.{is_zero}
 use Rattle.ember_algebra.specs.Sums.{occurrences}
 use Rattle.ember_number.specs.Fractions.{Fraction}

@@ -1,5 +1,6 @@
 -- The corners of the triangles of surfaces, and where they lie on a grid
-use Rattle.std.specs.Prelude.{◌≡◌, ℕ, true, pos, negsuc, ◌-ℤ◌, List, map, All, Option, Some, None, IfSome, slice_get, flat_map}
+use Rattle.std.specs.Prelude.{◌≡◌, ℕ, true, pos, negsuc, ◌-ℤ◌, List, map, All, Option, Some, None}
+use Rattle.std.specs.Prelude.{IfSome, slice_get, flat_map}
 use Rattle.std.specs.Option.{option_to_list}
 use Rattle.ember_snap.specs.declared.spans.Coordinates.{Coordinates}
 use Rattle.ember_snap.specs.Cells.{cell_at, IsBetween}

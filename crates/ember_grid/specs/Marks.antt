@@ -24,4 +24,5 @@ AreMarksOf s marks = AreMarks (length s.vertices.items) (indices_in s.facets.ite
 
 -- marks with these corners more
 pub record HasMarked (old : List Bool) (corners : List ℕ) (new : List Bool) : Type 0 where
-  pub after : (vertices : ℕ) (before : List ℕ) → AreMarks vertices before old → AreMarks vertices (before ++ corners) new
+  pub after : (vertices : ℕ) (before : List ℕ) → AreMarks vertices before old →
+      AreMarks vertices (before ++ corners) new

@@ -1,5 +1,7 @@
 -- How sides are counted along edges, one side at a time
-use Rattle.std.proofs.Common.{◌≡◌, ◌≢◌, ◌⊎◌, inl, inr, ℕ, ◌<◌, ◌+◌, ◌-◌, ◌^◌, ◌&&◌, not, Bool, true, false, cond, List, length, map, take, get_or, replicate, set, Some, None, sym, ap, subst, ◌∙◌, arith, nat_eq, nat_lt}
+use Rattle.std.proofs.Common.{◌≡◌, ◌≢◌, ◌⊎◌, inl, inr, ℕ, ◌<◌, ◌+◌, ◌-◌, ◌^◌, ◌&&◌, not, Bool, true, false, cond, List}
+use Rattle.std.proofs.Common.{length, map, take, get_or, replicate, set, Some, None, sym, ap, subst, ◌∙◌, arith, nat_eq}
+use Rattle.std.proofs.Common.{nat_lt}
 use Rattle.std.specs.Prelude.{count_by}
 use Rattle.std.specs.List.{position, position_or_len, range_with_len}
 use Rattle.std.proofs.Math.Nat.{add-zero}
@@ -44,13 +46,18 @@ module _ (es : List Edge) (sides : List Side) (i : ℕ) (d : Side) (l : i < leng
   one_here : nat_eq (number_in es next) n ≡ true → uses_at es (take (i + 1) sides) n ≡ with_use next.rises (uses_at es (take i sides) n)
   one_here e =
       let up = sum_by_more (λ (t : Side). one_if (rising t)) sides i d l ∙ ap (λ (b : Bool). count_by rising (take i sides) + one_if (b && next.rises)) e in
-      let down = sum_by_more (λ (t : Side). one_if (falling t)) sides i d l ∙ ap (λ (b : Bool). count_by falling (take i sides) + one_if (b && not next.rises)) e in
+      let down = sum_by_more (λ (t : Side). one_if (falling t)) sides i d l
+      ∙ ap (λ (b : Bool). count_by falling (take i sides) + one_if (b && not next.rises)) e in
       λ k. record { up = up k; down = down k }
 
   none_here : nat_eq (number_in es next) n ≡ false → uses_at es (take (i + 1) sides) n ≡ uses_at es (take i sides) n
   none_here e =
-      let up = sum_by_more (λ (t : Side). one_if (rising t)) sides i d l ∙ ap (λ (b : Bool). count_by rising (take i sides) + one_if (b && next.rises)) e ∙ add-zero (count_by rising (take i sides)) in
-      let down = sum_by_more (λ (t : Side). one_if (falling t)) sides i d l ∙ ap (λ (b : Bool). count_by falling (take i sides) + one_if (b && not next.rises)) e ∙ add-zero (count_by falling (take i sides)) in
+      let up = sum_by_more (λ (t : Side). one_if (rising t)) sides i d l
+      ∙ ap (λ (b : Bool). count_by rising (take i sides) + one_if (b && next.rises)) e
+      ∙ add-zero (count_by rising (take i sides)) in
+      let down = sum_by_more (λ (t : Side). one_if (falling t)) sides i d l
+      ∙ ap (λ (b : Bool). count_by falling (take i sides) + one_if (b && not next.rises)) e
+      ∙ add-zero (count_by falling (take i sides)) in
       λ k. record { up = up k; down = down k }
 
   -- no more uses than sides
@@ -66,13 +73,15 @@ abbrev pub AreCounted : List Edge → List Side → ℕ → List Uses → Type 0
 AreCounted es sides i us = (n : ℕ) → n < length es → get_or us n none ≡ uses_at es (take i sides) n
 
 -- the uses of an edge can be counted
-pub up_counts : (es : List Edge) (sides : List Side) (i : ℕ) (d : Side) (us : List Uses) (n : ℕ) → i < length sides → length sides < 2 ^ 64 → AreCounted es sides i us → n < length es → (get_or us n none).up < 2 ^ 64 - 1
+pub up_counts : (es : List Edge) (sides : List Side) (i : ℕ) (d : Side) (us : List Uses) (n : ℕ) → i < length sides →
+    length sides < 2 ^ 64 → AreCounted es sides i us → n < length es → (get_or us n none).up < 2 ^ 64 - 1
 up_counts es sides i d us n l m h b =
     let is : (get_or us n none).up ≡ (uses_at es (take i sides) n).up = ap (λ (u : Uses). u.up) (h n b) in
     let few = up_below es sides i d l n in
     subst (λ (k : ℕ). k < 2 ^ 64 - 1) (sym is) (omega arith)
 
-pub down_counts : (es : List Edge) (sides : List Side) (i : ℕ) (d : Side) (us : List Uses) (n : ℕ) → i < length sides → length sides < 2 ^ 64 → AreCounted es sides i us → n < length es → (get_or us n none).down < 2 ^ 64 - 1
+pub down_counts : (es : List Edge) (sides : List Side) (i : ℕ) (d : Side) (us : List Uses) (n : ℕ) → i < length sides →
+    length sides < 2 ^ 64 → AreCounted es sides i us → n < length es → (get_or us n none).down < 2 ^ 64 - 1
 down_counts es sides i d us n l m h b =
     let is : (get_or us n none).down ≡ (uses_at es (take i sides) n).down = ap (λ (u : Uses). u.down) (h n b) in
     let few = down_below es sides i d l n in
@@ -87,7 +96,9 @@ side_added es sides i d number us vs l p within h e = λ n b. go n b (eqb_tells 
     is : number_in es (get_or sides i d) ≡ number
     is = found_number (same_edge (get_or sides i d).edge) es number p
 
-    go : (n : ℕ) → n < length es → ((nat_eq (number_in es (get_or sides i d)) n ≡ true) × (number_in es (get_or sides i d) ≡ n)) ⊎ ((nat_eq (number_in es (get_or sides i d)) n ≡ false) × (number_in es (get_or sides i d) ≢ n)) → get_or vs n none ≡ uses_at es (take (i + 1) sides) n
+    go : (n : ℕ) → n < length es → ((nat_eq (number_in es (get_or sides i d)) n ≡ true) ×
+        (number_in es (get_or sides i d) ≡ n)) ⊎ ((nat_eq (number_in es (get_or sides i d)) n ≡ false) ×
+        (number_in es (get_or sides i d) ≢ n)) → get_or vs n none ≡ uses_at es (take (i + 1) sides) n
     go n b (inl t) =
         let same : number ≡ n = sym is ∙ t.1 in
         let here : get_or us number none ≡ uses_at es (take i sides) n = ap (λ (k : ℕ). get_or us k none) same ∙ h n b in
@@ -114,8 +125,10 @@ pub none_counted : (es : List Edge) (sides : List Side) (us : List Uses) → us 
 none_counted es sides us h = λ n b. ap (λ (vs : List Uses). get_or vs n none) h ∙ get_or-replicate (length es) n none none b
 
 -- behind the last one the uses are those of all sides
-pub all_counted : (es : List Edge) (sides : List Side) (us : List Uses) → es ≡ edges_of sides → length us ≡ length es → AreCounted es sides (length sides) us → us ≡ uses_of sides
+pub all_counted : (es : List Edge) (sides : List Side) (us : List Uses) → es ≡ edges_of sides → length us ≡ length es →
+    AreCounted es sides (length sides) us → us ≡ uses_of sides
 unfolding uses_of
 all_counted es sides us is many h =
-    fill_by_all (uses_at es sides) us (length es) none many (λ n b. h n b ∙ ap (λ (ss : List Side). uses_at es ss n) (take_all (length sides) sides (omega arith)))
+    fill_by_all (uses_at es sides) us (length es) none many
+    (λ n b. h n b ∙ ap (λ (ss : List Side). uses_at es ss n) (take_all (length sides) sides (omega arith)))
     ∙ ap (λ (fs : List Edge). map (uses_at fs sides) (range_with_len 0 (length fs))) is

@@ -8,7 +8,8 @@ use Rattle.ember_vertices.specs.declared.mesh.IndexedMesh.{IndexedMesh}
 use Rattle.ember_vertices.specs.Vertices.{IsMeshOf}
 use Rattle.ember_info.specs.Corners.{triangle_over}
 
-pub mesh_more : (places : List DecimalPoint) (fs : List Facet) (i : ℕ) (f : Facet) (t : DecimalTriangle) (mesh : IndexedMesh) → i < length fs → f ≡ get_or fs i f → t ≡ triangle_over places f
+pub mesh_more : (places : List DecimalPoint) (fs : List Facet) (i : ℕ) (f : Facet) (t : DecimalTriangle)
+    (mesh : IndexedMesh) → i < length fs → f ≡ get_or fs i f → t ≡ triangle_over places f
     → IsMeshOf (map (triangle_over places) (take i fs) ++ t ∷ []) mesh → IsMeshOf (map (triangle_over places) (take (i + 1) fs)) mesh
 mesh_more places fs i f t mesh l at is h =
     let before = map (triangle_over places) (take i fs) in

@@ -1,5 +1,6 @@
 -- The edges of triangles over vertices, and how often each is used
-use Rattle.std.specs.Prelude.{ℕ, ◌+◌, ◌-◌, nat_lt, nat_eq, Bool, true, false, ◌&&◌, not, if◌then◌else◌, List, [], ◌∷◌, ◌++◌, map, length, fold, sum_by, count_by}
+use Rattle.std.specs.Prelude.{ℕ, ◌+◌, ◌-◌, nat_lt, nat_eq, Bool, true, false, ◌&&◌, not, if◌then◌else◌}
+use Rattle.std.specs.Prelude.{List, [], ◌∷◌, ◌++◌, map, length, fold, sum_by, count_by}
 use Rattle.std.specs.List.{list_any, position_or_len, range_with_len}
 use Rattle.ember_vertices.specs.declared.point.IndexedTriangle.{IndexedTriangle}
 use Rattle.ember_info.specs.declared.edges.Edge.{Edge}

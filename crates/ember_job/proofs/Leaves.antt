@@ -17,10 +17,13 @@ module _ (shape : Job → Shape) where
   passed_visits (suc depth) job is = ap (below_shape (visited_within shape depth) job) is
 
   -- below a halved job, it and what is below its halves are visited
-  pub halved_visits : (depth : ℕ) (job low high : Job) → halvings_left job.cell ≡ depth → shape job ≡ halved low high → halvings_left low.cell + 1 ≡ halvings_left job.cell → halvings_left high.cell + 1 ≡ halvings_left job.cell → visited shape job ≡ job ∷ visited shape low ++ visited shape high
+  pub halved_visits : (depth : ℕ) (job low high : Job) → halvings_left job.cell ≡ depth → shape job ≡ halved low high →
+      halvings_left low.cell + 1 ≡ halvings_left job.cell → halvings_left high.cell + 1 ≡ halvings_left job.cell →
+      visited shape job ≡ job ∷ visited shape low ++ visited shape high
   halved_visits zero job low high at is first second = absurd (omega (arith, at, first))
   halved_visits (suc depth) job low high at is first second =
-      ap (λ n. visited_within shape n job) at ∙ ap (below_shape (visited_within shape depth) job) is ∙ ap₂ (λ m n. job ∷ visited_within shape m low ++ visited_within shape n high) fewer fewer_too
+      ap (λ n. visited_within shape n job) at ∙ ap (below_shape (visited_within shape depth) job) is
+      ∙ ap₂ (λ m n. job ∷ visited_within shape m low ++ visited_within shape n high) fewer fewer_too
     where
       fewer : depth ≡ halvings_left low.cell
       fewer = omega (arith, at, first)
@@ -51,4 +54,6 @@ module _ (shape : Job → Shape) where
   pub under_halved : (depth : ℕ) (job low high : Job) → shape job ≡ halved low high → under (suc depth) job ≡ under depth low ++ under depth high
   under_halved depth job low high is =
       let below = visited_within shape depth in
-      ap (λ s. leaves_among shape (below_shape below job s)) is ∙ ap (λ s. if_leafed job s ++ leaves_among shape (below low ++ below high)) is ∙ leaves_append (below low) (below high)
+      ap (λ s. leaves_among shape (below_shape below job s)) is
+      ∙ ap (λ s. if_leafed job s ++ leaves_among shape (below low ++ below high)) is
+      ∙ leaves_append (below low) (below high)

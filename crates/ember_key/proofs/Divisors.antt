@@ -1,5 +1,7 @@
 -- Common divisors of lists, and lists in lowest terms that are in proportion.
-use Rattle.std.proofs.Common.{◌≡◌, ◌≢◌, ◌⊎◌, inl, inr, ⊎_elim, ℕ, zero, suc, ◌*◌, ◌/◌, ◌%◌, ◌<◌, ◌≤◌, List, [], ◌∷◌, ◌++◌, ℤ, pos, negsuc, ◌*ℤ◌, unsigned_abs, SFits, to_z, of_z, to_z-of_z, refl, sym, ap, subst, ◌∙◌, arith}
+use Rattle.std.proofs.Common.{◌≡◌, ◌≢◌, ◌⊎◌, inl, inr, ⊎_elim, ℕ, zero, suc, ◌*◌, ◌/◌, ◌%◌, ◌<◌, ◌≤◌, List, [], ◌∷◌}
+use Rattle.std.proofs.Common.{◌++◌, ℤ, pos, negsuc, ◌*ℤ◌, unsigned_abs, SFits, to_z, of_z, to_z-of_z, refl, sym, ap}
+use Rattle.std.proofs.Common.{subst, ◌∙◌, arith}
 use mir.Syntax.{Width}
 use Rattle.std.specs.Int.{IsGcd, ◌∣◌}
 use Rattle.std.proofs.lemmas.Int.{ints, unsigned_abs-mul}
@@ -50,7 +52,12 @@ content_of : (zs : List ℤ) → HasContent zs
 content_of [] = record { content = 0; divides = tt; multiples = λ d k p. subst (λ n. d ∣ n) (omega arith) (dvd-zero d) }
 content_of (z ∷ zs) =
     let c = content_of zs in let h = gcd_within c.content (unsigned_abs z) c.content (omega arith) in
-    record { content = h.gcd; divides = (h.is.0, divides_all h.gcd c.content zs h.is.1 c.divides); multiples = λ d k p. divides_multiple_of_gcd k (unsigned_abs z) c.content h.gcd d h.is p.0 (c.multiples d k p.1) }
+    record {
+      content = h.gcd;
+      divides = (h.is.0, divides_all h.gcd c.content zs h.is.1 c.divides);
+      multiples =
+          λ d k p. divides_multiple_of_gcd k (unsigned_abs z) c.content h.gcd d h.is p.0 (c.multiples d k p.1);
+    }
 
 -- what divides k times each number of a list in lowest terms divides k
 divides_factor : (d k : ℕ) (zs : List ℤ) → AreLowest zs → Every (λ z. d ∣ k * unsigned_abs z) zs → d ∣ k
@@ -85,7 +92,9 @@ proportional_swap j k (u ∷ us) (v ∷ vs) p = (sym p.0, proportional_swap j k 
 -- lists in lowest terms that are in proportion are so by factors of one size
 pub factors_have_one_size : (j k : ℤ) (us vs : List ℤ) → AreProportional j k us vs → AreLowest us → AreLowest vs → unsigned_abs j ≡ unsigned_abs k
 factors_have_one_size j k us vs p lu lv =
-    dvd_antisymm (divides_factor (unsigned_abs j) (unsigned_abs k) vs lv (divides_second j k us vs p)) (divides_factor (unsigned_abs k) (unsigned_abs j) us lu (divides_second k j vs us (proportional_swap j k us vs p)))
+    dvd_antisymm (divides_factor (unsigned_abs j) (unsigned_abs k) vs lv (divides_second j k us vs p))
+    (divides_factor (unsigned_abs k) (unsigned_abs j) us lu
+    (divides_second k j vs us (proportional_swap j k us vs p)))
 
 -- ---- quotients
 abbrev pub AreMultiples : ℤ → List ℤ → List ℤ → Type 0
@@ -99,13 +108,20 @@ divides_up : (d : ℤ) (k : ℕ) (vs us : List ℤ) → AreMultiples d vs us →
 divides_up d k [] [] m p = tt
 divides_up d k [] (u ∷ us) m p = absurd m
 divides_up d k (v ∷ vs) [] m p = absurd m
-divides_up d k (v ∷ vs) (u ∷ us) m p =
-    (subst (λ n. unsigned_abs d * k ∣ n) (sym (unsigned_abs-mul d v) ∙ ap unsigned_abs m.0) (mul-dvd-mul_left k (unsigned_abs d) p.0), divides_up d k vs us m.1 p.1)
+divides_up d k (v ∷ vs) (u ∷ us) m p = (
+  subst (λ n. unsigned_abs d * k ∣ n) (sym (unsigned_abs-mul d v) ∙ ap unsigned_abs m.0)
+      (mul-dvd-mul_left k (unsigned_abs d) p.0),
+  divides_up d k vs us m.1 p.1,
+)
 
 -- numbers divided by their greatest common divisor, or its negative, are in lowest terms
 pub quotients_are_lowest : (g : ℕ) (d : ℤ) (vs us : List ℤ) → IsGreatestDivisor us g → unsigned_abs d ≡ g → 0 < g → AreMultiples d vs us → AreLowest vs
 quotients_are_lowest g d vs us i e l m =
-    record { lowest = λ k p. dvd_antisymm (dvd_of_mul-dvd-mul_left {k = g} k l (subst (λ (n : ℕ). g * k ∣ n) (omega arith) (i.greatest (g * k) (subst (λ (n : ℕ). Divides (n * k) us) e (divides_up d k vs us m p))))) (one_divides k) }
+    record {
+      lowest = λ k p. dvd_antisymm (dvd_of_mul-dvd-mul_left {k =
+          g} k l (subst (λ (n : ℕ). g * k ∣ n) (omega arith)
+          (i.greatest (g * k) (subst (λ (n : ℕ). Divides (n * k) us) e (divides_up d k vs us m p))))) (one_divides k);
+    }
   where
     one_divides : (k : ℕ) → 1 ∣ k
     one_divides k = subst (λ n. 1 ∣ n) (omega arith) (dvd-mul_right 1 k)
@@ -141,7 +157,10 @@ greatest_divisor_of_two a b g h = record { divides = (h.0, (h.1, tt)); greatest 
 -- one more number in a greatest common divisor
 pub greatest_divisor_more : (zs : List ℤ) (z : ℤ) (d g : ℕ) → IsGreatestDivisor zs d → IsGcd d (unsigned_abs z) g → IsGreatestDivisor (zs ++ z ∷ []) g
 greatest_divisor_more zs z d g i h =
-    record { divides = every_append (λ y. g ∣ unsigned_abs y) zs (z ∷ []) (divides_all g d zs h.0 i.divides) (h.1, tt); greatest = λ k p. h.2 k (i.greatest k (divides_front k zs (z ∷ []) p)) (divides_back k zs (z ∷ []) p).0 }
+    record {
+      divides = every_append (λ y. g ∣ unsigned_abs y) zs (z ∷ []) (divides_all g d zs h.0 i.divides) (h.1, tt);
+      greatest = λ k p. h.2 k (i.greatest k (divides_front k zs (z ∷ []) p)) (divides_back k zs (z ∷ []) p).0;
+    }
 
 -- equal numbers have the same greatest common divisor
 pub same_gcd : {m n k l g : ℕ} → m ≡ k → n ≡ l → IsGcd m n g → IsGcd k l g
@@ -173,4 +192,7 @@ zero_or_within m g (negsuc n ∷ zs) h s = inr (below_nonzero m g (negsuc n) (om
 -- no larger than the numbers
 pub greatest_divisor_small : (m g : ℕ) (zs : List ℤ) → IsGreatestDivisor zs g → Every (λ z. Small m z) zs → Small m (pos g)
 greatest_divisor_small m g zs i s =
-    record { small = ⊎_elim (λ z. let e = eq-zero_of_zero-dvd (i.greatest 0 (zero_divides zs z)) in omega (arith, ints)) (λ l. omega (arith, ints)) (zero_or_within m g zs i.divides s) }
+    record {
+      small = ⊎_elim (λ z. let e = eq-zero_of_zero-dvd (i.greatest 0 (zero_divides zs z)) in
+          omega (arith, ints)) (λ l. omega (arith, ints)) (zero_or_within m g zs i.divides s);
+    }

@@ -1,5 +1,6 @@
 -- Whether points lie on lines: moments in 64 bits and in 256.
-use Rattle.std.proofs.Common.{◌≡◌, Bool, false, ℕ, ◌*◌, ◌^◌, ◌<◌, ◌≤◌, nat_eq, ℤ, pos, ◌+ℤ◌, ◌-ℤ◌, ◌*ℤ◌, ◌<ℤ◌, unsigned_abs, SFits, to_z, of_z, to_z-of_z, sym, ap, ◌∙◌, arith}
+use Rattle.std.proofs.Common.{◌≡◌, Bool, false, ℕ, ◌*◌, ◌^◌, ◌<◌, ◌≤◌, nat_eq, ℤ, pos, ◌+ℤ◌, ◌-ℤ◌, ◌*ℤ◌, ◌<ℤ◌}
+use Rattle.std.proofs.Common.{unsigned_abs, SFits, to_z, of_z, to_z-of_z, sym, ap, ◌∙◌, arith}
 use Rattle.std.proofs.lemmas.Bool.{eqb-true, eq-eqb, false≢true}
 use Rattle.std.proofs.lemmas.Bool.Decides.{not_from_Decides}
 use Rattle.std.proofs.lemmas.Cmp.{int_ranked}
@@ -42,7 +43,8 @@ pub negative_small : {k : ℕ} {y : ℤ} → Small k y → Small k (pos 0 -ℤ y
 negative_small s = record { small = omega (arith, ints, s.small) }
 
 -- a difference of products as a sum
-pub difference_of : (n m s : Wide) (a b c d : ℤ) → value_of n ≡ a *ℤ b → value_of m ≡ c *ℤ (pos 0 -ℤ d) → value_of s ≡ value_of n +ℤ value_of m → value_of s ≡ a *ℤ b -ℤ c *ℤ d
+pub difference_of : (n m s : Wide) (a b c d : ℤ) → value_of n ≡ a *ℤ b → value_of m ≡ c *ℤ (pos 0 -ℤ d) →
+    value_of s ≡ value_of n +ℤ value_of m → value_of s ≡ a *ℤ b -ℤ c *ℤ d
 difference_of n m s a b c d e f g =
     g ∙ rw (e, f) (solve 4 (λ a b c d. a ⊗ b ⊕ c ⊗ (num (pos 0) ⊖ d) ≈ a ⊗ b ⊖ c ⊗ d) cancels a b c d)
 

@@ -1,5 +1,7 @@
 -- Division without a rest, and what the code keeps of it.
-use Rattle.std.proofs.Common.{◌≡◌, ◌≢◌, ℕ, zero, suc, ◌*◌, ◌^◌, ◌<◌, ◌≤◌, T, ltb, ℤ, pos, negsuc, ◌*ℤ◌, ◌-ℤ◌, ◌<ℤ◌, neg_ℤ, unsigned_abs, int_div, int_rem, SFits, to_z, of_z, to_z-of_z, refl, sym, ap, ◌∙◌, arith, mul-le-mul}
+use Rattle.std.proofs.Common.{◌≡◌, ◌≢◌, ℕ, zero, suc, ◌*◌, ◌^◌, ◌<◌, ◌≤◌, T, ltb, ℤ, pos, negsuc, ◌*ℤ◌, ◌-ℤ◌, ◌<ℤ◌}
+use Rattle.std.proofs.Common.{neg_ℤ, unsigned_abs, int_div, int_rem, SFits, to_z, of_z, to_z-of_z, refl, sym, ap, ◌∙◌}
+use Rattle.std.proofs.Common.{arith, mul-le-mul}
 use Rattle.std.specs.Int.{◌∣◌}
 use Rattle.std.proofs.lemmas.Int.{ints, quot-rem, quot_is, unsigned_abs-mul}
 use Rattle.std.proofs.lemmas.Nat.Gcd.{mod-eq-zero_of_dvd}
@@ -34,14 +36,18 @@ quotient_small {m} q d n p e s =
     record { small = omega (arith, k, f, s.small) }
 
 -- the quotient as the code keeps it
-pub stored_quotient : (w : Width) {m : ℕ} (n d : ℤ) → SFits w n → SFits w d → d ≢ pos 0 → unsigned_abs d ∣ unsigned_abs n → Small m n → T (ltb m (2 ^ hbits w)) → to_z w (of_z w (int_div (to_z w (of_z w n)) (to_z w (of_z w d)))) *ℤ d ≡ n
+pub stored_quotient : (w : Width) {m : ℕ} (n d : ℤ) → SFits w n → SFits w d → d ≢ pos 0 →
+    unsigned_abs d ∣ unsigned_abs n → Small m n → T (ltb m (2 ^ hbits w)) →
+    to_z w (of_z w (int_div (to_z w (of_z w n)) (to_z w (of_z w d)))) *ℤ d ≡ n
 stored_quotient w {m} n d fn fd p h s t =
     let e = exact_division n d h in
     let i = quot_is w n d fn fd (fits_small w (quotient_small (int_div n d) d n p e s) t) in
     ap (λ (q : ℤ). q *ℤ d) i ∙ e
 
 -- of a number of 128 bits that fits into 64
-pub narrow_quotient : (n d : ℤ) → SFits w64 d → d ≢ pos 0 → unsigned_abs d ∣ unsigned_abs n → Small 4611686018427387903 n → to_z w128 (of_z w128 (to_z w64 (of_z w64 (int_div (to_z w64 (of_z w64 (to_z w128 (of_z w128 n)))) (to_z w64 (of_z w64 d)))))) *ℤ d ≡ n
+pub narrow_quotient : (n d : ℤ) → SFits w64 d → d ≢ pos 0 → unsigned_abs d ∣ unsigned_abs n →
+    Small 4611686018427387903 n → to_z w128 (of_z w128
+    (to_z w64 (of_z w64 (int_div (to_z w64 (of_z w64 (to_z w128 (of_z w128 n)))) (to_z w64 (of_z w64 d)))))) *ℤ d ≡ n
 narrow_quotient n d fd p h s =
     let k : to_z w128 (of_z w128 n) ≡ n = exact (s & done) (kept 0) tt in
     let e = stored_quotient w64 n d (fits_small w64 s tt) fd p h s tt in
@@ -49,11 +55,13 @@ narrow_quotient n d fd p h s =
 
 -- ---- what the code reads and keeps
 -- a divisor still divides once both numbers are stored and read
-pub divides_read : (w : Width) {d n : ℤ} → SFits w64 d → to_z w (of_z w n) ≡ n → unsigned_abs d ∣ unsigned_abs n → unsigned_abs (to_z w64 (of_z w64 d)) ∣ unsigned_abs (to_z w (of_z w n))
+pub divides_read : (w : Width) {d n : ℤ} → SFits w64 d → to_z w (of_z w n) ≡ n → unsigned_abs d ∣ unsigned_abs n →
+    unsigned_abs (to_z w64 (of_z w64 d)) ∣ unsigned_abs (to_z w (of_z w n))
 divides_read w f e h = rw (to_z-of_z f, e) h
 
 -- a quotient that fits is kept as the code stores it
-pub quotient_kept : (w : Width) (d q n : ℤ) → SFits w64 d → SFits w q → to_z w (of_z w n) ≡ n → q *ℤ to_z w64 (of_z w64 d) ≡ to_z w (of_z w n) → d *ℤ to_z w (of_z w q) ≡ n
+pub quotient_kept : (w : Width) (d q n : ℤ) → SFits w64 d → SFits w q → to_z w (of_z w n) ≡ n →
+    q *ℤ to_z w64 (of_z w64 d) ≡ to_z w (of_z w n) → d *ℤ to_z w (of_z w q) ≡ n
 quotient_kept w d q n fd fq en e =
     ap (λ (x : ℤ). d *ℤ x) (to_z-of_z fq) ∙ *ℤ_comm d q ∙ ap (λ (x : ℤ). q *ℤ x) (sym (to_z-of_z fd)) ∙ e ∙ en
 

@@ -24,11 +24,13 @@ first_sign_scaled f (u ∷ us) [] n m = absurd m
 first_sign_scaled f (u ∷ us) (v ∷ vs) n m =
     by_sign u
     (λ p. some (λ e. omega (arith, linear)))
-    (λ e. first_zero v vs (sym m.0 ∙ ap (λ (z : ℤ). f *ℤ z) e ∙ *ℤ-zero f) ∙ first_sign_scaled f us vs n m.1 ∙ ap (λ (z : ℤ). sign f *ℤ z) (sym (first_zero u us e)))
+    (λ e. first_zero v vs (sym m.0 ∙ ap (λ (z : ℤ). f *ℤ z) e ∙ *ℤ-zero f) ∙ first_sign_scaled f us vs n m.1
+    ∙ ap (λ (z : ℤ). sign f *ℤ z) (sym (first_zero u us e)))
     (λ p. some (λ e. omega (arith, linear)))
   where
     some : u ≢ pos 0 → first_sign (v ∷ vs) ≡ sign f *ℤ first_sign (u ∷ us)
-    some k = first_nonzero v vs (λ z. ⊎_elim n k (zero_product (m.0 ∙ z))) ∙ ap sign (sym m.0) ∙ sign-mul f u ∙ ap (λ (z : ℤ). sign f *ℤ z) (sym (first_nonzero u us k))
+    some k = first_nonzero v vs (λ z. ⊎_elim n k (zero_product (m.0 ∙ z))) ∙ ap sign (sym m.0) ∙ sign-mul f u
+        ∙ ap (λ (z : ℤ). sign f *ℤ z) (sym (first_nonzero u us k))
 
 -- the factor turns the first sign to 1 if it has that sign
 pub forward_where_same_sign : (f : ℤ) (us vs : List ℤ) → f ≢ pos 0 → AreMultiples f us vs → sign f ≡ first_sign vs → first_sign us ≡ pos 1
@@ -45,7 +47,8 @@ forward_where_same_sign f us vs n m e =
     by_neg x s h = let k = h ∙ ap (λ (z : ℤ). z *ℤ x) s in omega (arith, linear)
 
 -- two lists with the first sign 1 that have a common multiple: the factors have one sign
-pub forward_factor : (j n : ℤ) (us vs ws : List ℤ) → j ≢ pos 0 → pos 0 <ℤ n → AreMultiples j us ws → AreMultiples n vs ws → first_sign us ≡ pos 1 → first_sign vs ≡ pos 1 → pos 0 <ℤ j
+pub forward_factor : (j n : ℤ) (us vs ws : List ℤ) → j ≢ pos 0 → pos 0 <ℤ n → AreMultiples j us ws →
+    AreMultiples n vs ws → first_sign us ≡ pos 1 → first_sign vs ≡ pos 1 → pos 0 <ℤ j
 forward_factor j n us vs ws p q mu mv eu ev =
     let a = first_sign_scaled j us ws p mu ∙ ap (λ (z : ℤ). sign j *ℤ z) eu in
     let b = first_sign_scaled n vs ws (λ e. omega (arith, linear)) mv ∙ ap (λ (z : ℤ). sign n *ℤ z) ev in

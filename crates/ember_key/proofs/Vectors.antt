@@ -60,6 +60,12 @@ module _ (n m : Vector) (e : cross n m ≡ zero_v) where
   pub parallel_multiple : scale_v (dot n m) n ≡ scale_v (dot n n) m
   parallel_multiple =
       same_v
-      (from_two n.y (neg_ℤ n.z) ez ey (identity (vector ∷ vector ∷ []) (λ n m. dotE n m ⊗ n.x ⊖ dotE n n ⊗ m.x ≈ n.y ⊗ ((crossE n m).z ⊖ num (pos 0)) ⊕ neg n.z ⊗ ((crossE n m).y ⊖ num (pos 0))) cancels n m))
-      (from_two n.z (neg_ℤ n.x) ex ez (identity (vector ∷ vector ∷ []) (λ n m. dotE n m ⊗ n.y ⊖ dotE n n ⊗ m.y ≈ n.z ⊗ ((crossE n m).x ⊖ num (pos 0)) ⊕ neg n.x ⊗ ((crossE n m).z ⊖ num (pos 0))) cancels n m))
-      (from_two n.x (neg_ℤ n.y) ey ex (identity (vector ∷ vector ∷ []) (λ n m. dotE n m ⊗ n.z ⊖ dotE n n ⊗ m.z ≈ n.x ⊗ ((crossE n m).y ⊖ num (pos 0)) ⊕ neg n.y ⊗ ((crossE n m).x ⊖ num (pos 0))) cancels n m))
+      (from_two n.y (neg_ℤ n.z) ez ey (identity (vector ∷ vector ∷ [])
+      (λ n m. dotE n m ⊗ n.x ⊖ dotE n n ⊗ m.x ≈ n.y ⊗ ((crossE n m).z ⊖ num (pos 0)) ⊕ neg n.z ⊗
+      ((crossE n m).y ⊖ num (pos 0))) cancels n m))
+      (from_two n.z (neg_ℤ n.x) ex ez (identity (vector ∷ vector ∷ [])
+      (λ n m. dotE n m ⊗ n.y ⊖ dotE n n ⊗ m.y ≈ n.z ⊗ ((crossE n m).x ⊖ num (pos 0)) ⊕ neg n.x ⊗
+      ((crossE n m).z ⊖ num (pos 0))) cancels n m))
+      (from_two n.x (neg_ℤ n.y) ey ex (identity (vector ∷ vector ∷ [])
+      (λ n m. dotE n m ⊗ n.z ⊖ dotE n n ⊗ m.z ≈ n.x ⊗ ((crossE n m).y ⊖ num (pos 0)) ⊕ neg n.y ⊗
+      ((crossE n m).x ⊖ num (pos 0))) cancels n m))

@@ -1,5 +1,7 @@
 -- If the three-valued truth is decided, it is the truth, whatever the undecided meshes count.
-use Rattle.std.proofs.Common.{◌≡◌, ℕ, suc, ◌≤◌, ◌==◌, ℤ, pos, int_le, ◌+ℤ◌, ◌*ℤ◌, Bool, true, false, not, ◌&&◌, ◌||◌, inl, inr, List, [], ◌∷◌, All, Option, Some, None, IfSome, refl, sym, ap, ap₂, ◌∙◌, subst, arith}
+use Rattle.std.proofs.Common.{◌≡◌, ℕ, suc, ◌≤◌, ◌==◌, ℤ, pos, int_le, ◌+ℤ◌, ◌*ℤ◌, Bool, true, false, not, ◌&&◌, ◌||◌}
+use Rattle.std.proofs.Common.{inl, inr, List, [], ◌∷◌, All, Option, Some, None, IfSome, refl, sym, ap, ap₂, ◌∙◌, subst}
+use Rattle.std.proofs.Common.{arith}
 use Rattle.std.proofs.lemmas.Bool.Decides.{eqb_tells}
 use Rattle.ember_expr.specs.declared.trees.Term.{Term}
 use Rattle.ember_expr.specs.Formula.{Formula, Or, Xor, And, Not, Mesh, Odd, Compare, IsFit, IsFitTerm, IsMeshNumber}
@@ -58,7 +60,8 @@ module _ (undecided : ℕ → Bool) (counts others : List ℤ) (agree : AgreeOut
   sum_same start [] fit none = refl
   sum_same start (t ∷ ts) fit none =
       let both = neither (not (t.mesh == 0) && undecided t.mesh) (mentions undecided ts) none in
-      let here : term_value others t ≡ term_value counts t = ap (λ z. signed t.minus (pos t.factor *ℤ z)) (counted_same t.mesh (fit 0 t (omega arith)).mesh both.0) in
+      let here : term_value others t ≡ term_value counts t =
+      ap (λ z. signed t.minus (pos t.factor *ℤ z)) (counted_same t.mesh (fit 0 t (omega arith)).mesh both.0) in
       ap (λ z. sum_from (start +ℤ z) others ts) here ∙ sum_same (start +ℤ term_value counts t) ts (λ i d l. fit (suc i) d (omega (arith, l))) both.1
 
   tells : (f : Formula) → IsFit 64 f → Tells (known undecided counts f) (truth others f)
@@ -67,8 +70,10 @@ module _ (undecided : ℕ → Bool) (counts others : List ℤ) (agree : AgreeOut
   tells (And a b) fit = and_tells (known undecided counts a) (known undecided counts b) (truth others a) (truth others b) (tells a fit.0) (tells b fit.1)
   tells (Not a) fit = not_tells (known undecided counts a) (truth others a) (tells a fit)
   tells (Mesh n) fit = plain_tells (undecided n) (truth counts (Mesh n)) (truth others (Mesh n)) (λ e. ap (int_le (pos 1)) (sym (agree.same n fit e)))
-  tells (Odd sum) fit = plain_tells (mentions undecided sum) (truth counts (Odd sum)) (truth others (Odd sum)) (λ e. ap is_odd (sum_same (pos 0) sum fit.terms e))
-  tells (Compare left rel right) fit = plain_tells (mentions undecided left || mentions undecided right) (truth counts (Compare left rel right)) (truth others (Compare left rel right)) (λ e.
+  tells (Odd sum) fit = plain_tells (mentions undecided sum) (truth counts (Odd sum)) (truth others (Odd sum))
+      (λ e. ap is_odd (sum_same (pos 0) sum fit.terms e))
+  tells (Compare left rel right) fit = plain_tells (mentions undecided left || mentions undecided right)
+      (truth counts (Compare left rel right)) (truth others (Compare left rel right)) (λ e.
       let both = neither (mentions undecided left) (mentions undecided right) e in
       ap₂ (holds_between rel) (sum_same (pos 0) left fit.0.terms both.0) (sum_same (pos 0) right fit.1.terms both.1))
 
@@ -86,7 +91,8 @@ module _ (u w : ℕ → Bool) (same : (n : ℕ) → IsMeshNumber 64 n → u n �
 
   mentions_same : (ts : List Term) → All (IsFitTerm 64) ts → mentions u ts ≡ mentions w ts
   mentions_same [] fit = refl
-  mentions_same (t ∷ ts) fit = ap₂ (λ a b. a || b) (mention_same t.mesh (fit 0 t (omega arith)).mesh) (mentions_same ts (λ i d l. fit (suc i) d (omega (arith, l))))
+  mentions_same (t ∷ ts) fit = ap₂ (λ a b. a || b) (mention_same t.mesh (fit 0 t (omega arith)).mesh)
+      (mentions_same ts (λ i d l. fit (suc i) d (omega (arith, l))))
 
   pub known_same : (counts : List ℤ) (f : Formula) → IsFit 64 f → known u counts f ≡ known w counts f
   known_same counts (Or a b) fit = ap₂ known_or (known_same counts a fit.0) (known_same counts b fit.1)
@@ -95,9 +101,13 @@ module _ (u w : ℕ → Bool) (same : (n : ℕ) → IsMeshNumber 64 n → u n �
   known_same counts (Not a) fit = ap known_not (known_same counts a fit)
   known_same counts (Mesh n) fit = ap (λ b. truth_unless b (truth counts (Mesh n))) (same n fit)
   known_same counts (Odd sum) fit = ap (λ b. truth_unless b (truth counts (Odd sum))) (mentions_same sum fit.terms)
-  known_same counts (Compare left rel right) fit = ap₂ (λ a b. truth_unless (a || b) (truth counts (Compare left rel right))) (mentions_same left fit.0.terms) (mentions_same right fit.1.terms)
+  known_same counts (Compare left rel right) fit =
+      ap₂ (λ a b. truth_unless (a || b) (truth counts (Compare left rel right))) (mentions_same left fit.0.terms)
+      (mentions_same right fit.1.terms)
 
 -- a decided truth is the truth, whatever the winding numbers of the undecided meshes are
-pub decided_if : (undecided : ℕ → Bool) (counts : List ℤ) (f : Formula) → IsFit 64 f → (o : Option Bool) → o ≡ known undecided counts f → IfSome o (λ b. (others : List ℤ) → AgreeOutside undecided counts others → truth others f ≡ b)
+pub decided_if : (undecided : ℕ → Bool) (counts : List ℤ) (f : Formula) → IsFit 64 f → (o : Option Bool) →
+    o ≡ known undecided counts f → IfSome o (λ b. (others : List ℤ) → AgreeOutside undecided counts others →
+    truth others f ≡ b)
 decided_if undecided counts f fit None e = tt
 decided_if undecided counts f fit (Some b) e = λ others agree. decided_tells undecided counts others agree f b fit (sym e)

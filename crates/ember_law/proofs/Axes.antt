@@ -22,12 +22,17 @@ use Rattle.ember_law.proofs.Generic.{generic_shifted, wind_shifted}
 -- the winding number of triangles, as the sum of their crossings seen from the point
 pub wind_seen : (a : Axis) (p : Spot) (ts : List Tri) → pos 0 <ℤ p.w → wind a (faces_of ts) p ≡ total (seen_crossing (unit a) p) ts
 wind_seen a p ts w =
-    total_faces (λ f. crossing f a p) (flat_crossing a p) ts ∙ total_same (λ t. crossing (face_of t) a p) (seen_crossing (unit a) p) (λ t. crossing_seen a p t w) ts
+    total_faces (λ f. crossing f a p) (flat_crossing a p) ts
+    ∙ total_same (λ t. crossing (face_of t) a p) (seen_crossing (unit a) p) (λ t. crossing_seen a p t w) ts
 
-two_axes : (a b : Axis) → IsAcross (unit a) (unit b) → (p : Spot) (ts : List Tri) → IsBalanced ts → pos 0 <ℤ p.w → AreClear (faces_of ts) p → wind a (faces_of ts) p ≡ wind b (faces_of ts) p
+two_axes : (a b : Axis) → IsAcross (unit a) (unit b) → (p : Spot) (ts : List Tri) → IsBalanced ts → pos 0 <ℤ p.w →
+    AreClear (faces_of ts) p → wind a (faces_of ts) p ≡ wind b (faces_of ts) p
 two_axes a b h p ts l w c =
     let fs = faces_of ts in
-    let e = eventually_both (weight_shifted p w) (eventually_both (wind_shifted a p fs w c) (eventually_both (wind_shifted b p fs w c) (eventually_both (generic_shifted (unit a) p ts w) (generic_shifted (unit b) p ts w)))) in
+    let e = eventually_both (weight_shifted p w)
+    (eventually_both (wind_shifted a p fs w c)
+    (eventually_both (wind_shifted b p fs w c)
+    (eventually_both (generic_shifted (unit a) p ts w) (generic_shifted (unit b) p ts w)))) in
     let k = e.from in let q = offset_by p (pos k) in let r = e.holds k (le_refl k) in
     r.1.0 ∙ wind_seen a q ts r.0 ∙ directions_agree (unit a) (unit b) q ts l h r.1.1.1.0 r.1.1.1.1 ∙ sym (wind_seen b q ts r.0) ∙ sym r.1.1.0
 
@@ -43,5 +48,6 @@ to_x Y p ts l w c = xy p ts l w c
 to_x Z p ts l w c = xy p ts l w c ∙ yz p ts l w c
 
 -- at a clear point, balanced triangles wind the same along any two axes
-pub axes_agree : (a b : Axis) (p : Spot) (ts : List Tri) → IsBalanced ts → pos 0 <ℤ p.w → AreClear (faces_of ts) p → wind a (faces_of ts) p ≡ wind b (faces_of ts) p
+pub axes_agree : (a b : Axis) (p : Spot) (ts : List Tri) → IsBalanced ts → pos 0 <ℤ p.w → AreClear (faces_of ts) p →
+    wind a (faces_of ts) p ≡ wind b (faces_of ts) p
 axes_agree a b p ts l w c = sym (to_x a p ts l w c) ∙ to_x b p ts l w c

@@ -35,7 +35,9 @@ term_odd f g p e =
     let u = seen p e.from in let v = seen p e.to in
     let x : sgn (dot f (cross v u)) ≡ flip (sgn (dot f (cross u v))) = ap sgn (turned_dot f u v) ∙ sgn-neg (dot f (cross u v)) in
     let y : sgn (dot g (cross v u)) ≡ flip (sgn (dot g (cross u v))) = ap sgn (turned_dot g u v) ∙ sgn-neg (dot g (cross u v)) in
-    let h : seen_term f g p (reversed e) ≡ edge (sgn (dot (cross f g) v)) (sgn (dot (cross f g) u)) (flip (sgn (dot f (cross u v)))) (flip (sgn (dot g (cross u v)))) = λ i. edge (sgn (dot (cross f g) v)) (sgn (dot (cross f g) u)) (x i) (y i) in
+    let h : seen_term f g p (reversed e) ≡ edge (sgn (dot (cross f g) v)) (sgn (dot (cross f g) u))
+    (flip (sgn (dot f (cross u v)))) (flip (sgn (dot g (cross u v)))) =
+    λ i. edge (sgn (dot (cross f g) v)) (sgn (dot (cross f g) u)) (x i) (y i) in
     h ∙ turned_edge (sgn (dot (cross f g) u)) (sgn (dot (cross f g) v)) (sgn (dot f (cross u v))) (sgn (dot g (cross u v)))
 
 -- ---- one triangle
@@ -57,21 +59,25 @@ terms f g p t =
 
 flat_terms : (f g : Vector) (p : Spot) (t : Tri) → IsFlat t → seen_crossing f p t -ℤ seen_crossing g p t ≡ terms f g p t
 flat_terms f g p t a =
-    let x = flat_seen_crossing f p t a in let y = flat_seen_crossing g p t a in let z = flat (seen p t.a) (seen p t.b) (seen p t.c) f g (cross f g) (flat_seen p t a) in
+    let x = flat_seen_crossing f p t a in let y = flat_seen_crossing g p t a in let z =
+    flat (seen p t.a) (seen p t.b) (seen p t.c) f g (cross f g) (flat_seen p t a) in
     omega (arith, linear, x, y, z)
 
-tri_law : (f g : Vector) (p : Spot) (t : Tri) → IsAcross f g → IsFlat t ⊎ IsGeneric f p t → IsFlat t ⊎ IsGeneric g p t → seen_crossing f p t -ℤ seen_crossing g p t ≡ terms f g p t
+tri_law : (f g : Vector) (p : Spot) (t : Tri) → IsAcross f g → IsFlat t ⊎ IsGeneric f p t → IsFlat t ⊎ IsGeneric g p t →
+    seen_crossing f p t -ℤ seen_crossing g p t ≡ terms f g p t
 tri_law f g p t h (inl a) b = flat_terms f g p t a
 tri_law f g p t h (inr a) (inl b) = flat_terms f g p t b
 tri_law f g p t h (inr a) (inr b) = quadrant (seen p t.a) (seen p t.b) (seen p t.c) f g a.off h a.edges b.edges
 
 -- ---- a mesh
-mesh_law : (f g : Vector) (p : Spot) (ts : List Tri) → IsAcross f g → AreGeneric f p ts → AreGeneric g p ts → total (seen_crossing f p) ts -ℤ total (seen_crossing g p) ts ≡ total (seen_term f g p) (edges_in ts)
+mesh_law : (f g : Vector) (p : Spot) (ts : List Tri) → IsAcross f g → AreGeneric f p ts → AreGeneric g p ts →
+    total (seen_crossing f p) ts -ℤ total (seen_crossing g p) ts ≡ total (seen_term f g p) (edges_in ts)
 mesh_law f g p [] h a b = refl
 mesh_law f g p (t ∷ ts) h a b =
     let x = tri_law f g p t h a.0 b.0 in let y = mesh_law f g p ts h a.1 b.1 in omega (arith, linear, x, y)
 
 -- balanced triangles wind the same along two directions that are generic at a point
-pub directions_agree : (f g : Vector) (p : Spot) (ts : List Tri) → IsBalanced ts → IsAcross f g → AreGeneric f p ts → AreGeneric g p ts → total (seen_crossing f p) ts ≡ total (seen_crossing g p) ts
+pub directions_agree : (f g : Vector) (p : Spot) (ts : List Tri) → IsBalanced ts → IsAcross f g → AreGeneric f p ts →
+    AreGeneric g p ts → total (seen_crossing f p) ts ≡ total (seen_crossing g p) ts
 directions_agree f g p ts h c a b =
     let x = mesh_law f g p ts c a b in let y = balanced_zero (seen_term f g p) (term_odd f g p) ts h in omega (arith, linear, x, y)

@@ -63,20 +63,24 @@ flat_value t p f =
     let x = zero_times n.a (p.x -ℤ t.a.x *ℤ p.w) f.a in
     let y = zero_times n.b (p.y -ℤ t.a.y *ℤ p.w) f.b in
     let z = zero_times n.c (p.z -ℤ t.a.z *ℤ p.w) f.c in
-    solve 10 (λ a b c u v r x y z w. a ⊗ x ⊕ b ⊗ y ⊕ c ⊗ z ⊖ (a ⊗ u ⊕ b ⊗ v ⊕ c ⊗ r) ⊗ w ≈ a ⊗ (x ⊖ u ⊗ w) ⊕ b ⊗ (y ⊖ v ⊗ w) ⊕ c ⊗ (z ⊖ r ⊗ w)) cancels n.a n.b n.c t.a.x t.a.y t.a.z p.x p.y p.z p.w ∙ (λ i. x i +ℤ y i +ℤ z i)
+    solve 10 (λ a b c u v r x y z w. a ⊗ x ⊕ b ⊗ y ⊕ c ⊗ z ⊖ (a ⊗ u ⊕ b ⊗ v ⊕ c ⊗ r) ⊗ w ≈ a ⊗ (x ⊖ u ⊗ w) ⊕ b ⊗
+    (y ⊖ v ⊗ w) ⊕ c ⊗ (z ⊖ r ⊗ w)) cancels n.a n.b n.c t.a.x t.a.y t.a.z p.x p.y p.z p.w ∙ (λ i. x i +ℤ y i +ℤ z i)
 
 -- ---- rays and segments
 -- nothing crosses a flat triangle
 pub flat_crossing : (a : Axis) (p : Spot) (t : Tri) → IsFlat t → crossing (face_of t) a p ≡ pos 0
 unfolding face_of
 flat_crossing a p t f =
-    crossing_off (face_of t) a p (negative_not (value_at (support_of t) p *ℤ along (support_of t) a) (let e = zero_scaled (value_at (support_of t) p) (along (support_of t) a) (flat_along t a f) in omega (arith, linear, e)))
+    crossing_off (face_of t) a p (negative_not (value_at (support_of t) p *ℤ along (support_of t) a) (let e =
+    zero_scaled (value_at (support_of t) p) (along (support_of t) a) (flat_along t a f) in omega (arith, linear, e)))
 
 -- no segment crosses a flat triangle
 pub flat_leg : (p q : Spot) (t : Tri) → IsFlat t → leg (face_of t) p q ≡ pos 0
 unfolding face_of
 flat_leg p q t f =
-    leg_off (face_of t) p q (negative_not (value_at (support_of t) p *ℤ value_at (support_of t) q) (let e = zero_times (value_at (support_of t) p) (value_at (support_of t) q) (flat_value t p f) in omega (arith, linear, e)))
+    leg_off (face_of t) p q (negative_not (value_at (support_of t) p *ℤ value_at (support_of t) q) (let e =
+    zero_times (value_at (support_of t) p) (value_at (support_of t) q) (flat_value t p f) in
+    omega (arith, linear, e)))
 
 -- ---- seen from a point
 -- the corners of a flat triangle, seen from a point, are flat
@@ -85,9 +89,12 @@ flat_seen p t h =
     let s = vector ∷ vector ∷ vector ∷ tuple ∷ [] in
     let a = vector_of t.a in let b = vector_of t.b in let c = vector_of t.c in let q = tuple_of p in let ww = p.w *ℤ p.w in
     record {
-      x = identity s (λ a b c p. (normalE (seenE p a) (seenE p b) (seenE p c)).x ≈ p.w ⊗ p.w ⊗ (supportE a b c).x) cancels a b c q ∙ zero_scaled ww (support_of t).a h.a;
-      y = identity s (λ a b c p. (normalE (seenE p a) (seenE p b) (seenE p c)).y ≈ p.w ⊗ p.w ⊗ (supportE a b c).y) cancels a b c q ∙ zero_scaled ww (support_of t).b h.b;
-      z = identity s (λ a b c p. (normalE (seenE p a) (seenE p b) (seenE p c)).z ≈ p.w ⊗ p.w ⊗ (supportE a b c).z) cancels a b c q ∙ zero_scaled ww (support_of t).c h.c;
+      x = identity s (λ a b c p. (normalE (seenE p a) (seenE p b) (seenE p c)).x ≈ p.w ⊗ p.w ⊗ (supportE a b c).x)
+          cancels a b c q ∙ zero_scaled ww (support_of t).a h.a;
+      y = identity s (λ a b c p. (normalE (seenE p a) (seenE p b) (seenE p c)).y ≈ p.w ⊗ p.w ⊗ (supportE a b c).y)
+          cancels a b c q ∙ zero_scaled ww (support_of t).b h.b;
+      z = identity s (λ a b c p. (normalE (seenE p a) (seenE p b) (seenE p c)).z ≈ p.w ⊗ p.w ⊗ (supportE a b c).z)
+          cancels a b c q ∙ zero_scaled ww (support_of t).c h.c;
     }
 
 -- a flat triangle isn't crossed along any direction
@@ -95,13 +102,16 @@ pub flat_seen_crossing : (f : Vector) (p : Spot) (t : Tri) → IsFlat t → seen
 flat_seen_crossing f p t h =
     let u = seen p t.a in let v = seen p t.b in let w = seen p t.c in
     let e : dot f (normal u v w) ≡ pos 0 = let q = flat_seen p t h in dot_zero f (normal u v w) q.x q.y q.z in
-    ap (λ (n : Sign). crossing_by_signs (sgn (det u v w)) n (sgn (dot f (cross u v))) (sgn (dot f (cross v w))) (sgn (dot f (cross w u)))) (ap sgn e) ∙ no_slope (sgn (det u v w)) (sgn (dot f (cross u v))) (sgn (dot f (cross v w))) (sgn (dot f (cross w u)))
+    ap (λ (n : Sign). crossing_by_signs (sgn (det u v w)) n (sgn (dot f (cross u v))) (sgn (dot f (cross v w)))
+    (sgn (dot f (cross w u)))) (ap sgn e) ∙ no_slope (sgn (det u v w)) (sgn (dot f (cross u v)))
+    (sgn (dot f (cross v w))) (sgn (dot f (cross w u)))
 
 -- ---- sums over faces
 -- a sum over the triangles' faces is a sum over all triangles, if flat ones count 0
 pub total_faces : (f : Face → ℤ) → ((t : Tri) → IsFlat t → f (face_of t) ≡ pos 0) → (ts : List Tri) → total f (faces_of ts) ≡ total (λ t. f (face_of t)) ts
 total_faces f z ts =
-    total-map f face_of _ ∙ total-filter (λ t. f (face_of t)) (λ t. not (is_flat t)) ts ∙ total_same (λ t. cond (not (is_flat t)) (f (face_of t)) (pos 0)) (λ t. f (face_of t)) each ts
+    total-map f face_of _ ∙ total-filter (λ t. f (face_of t)) (λ t. not (is_flat t)) ts
+    ∙ total_same (λ t. cond (not (is_flat t)) (f (face_of t)) (pos 0)) (λ t. f (face_of t)) each ts
   where
     each : (t : Tri) → cond (not (is_flat t)) (f (face_of t)) (pos 0) ≡ f (face_of t)
     each t = by (is_flat t) refl

@@ -1,5 +1,6 @@
 -- A generic point is clear.
-use Rattle.std.proofs.Common.{◌≡◌, ◌≢◌, ◌⊎◌, inl, inr, refl, sym, ap, ◌∙◌, arith, Bool, true, false, not, ◌&&◌, cond, List, [], ◌∷◌, map, filter, ℤ, pos, negsuc, zero, suc, ◌+ℤ◌, ◌*ℤ◌, neg_ℤ, ◌<ℤ◌, ◌≤ℤ◌}
+use Rattle.std.proofs.Common.{◌≡◌, ◌≢◌, ◌⊎◌, inl, inr, refl, sym, ap, ◌∙◌, arith, Bool, true, false, not, ◌&&◌, cond}
+use Rattle.std.proofs.Common.{List, [], ◌∷◌, map, filter, ℤ, pos, negsuc, zero, suc, ◌+ℤ◌, ◌*ℤ◌, neg_ℤ, ◌<ℤ◌, ◌≤ℤ◌}
 use Rattle.std.specs.List.{AllByRecursion}
 use borrow.Author.Differences.{ints}
 use lib.IntN.{*ℤ_comm}
@@ -34,12 +35,16 @@ use Rattle.ember_law.proofs.FlatTriangles.{flat_in}
 use Rattle.ember_law.proofs.Generic.{IsOff, off_all}
 
 -- as `hit_edges`, for the weak signs
-hit_weak : (t : Tri) (a : Axis) (p : Spot) → pos 0 <ℤ p.w → along (support_of t) a ≢ pos 0 → none_positive (edges_of t) (hit (support_of t) a p) ≡ none_positive (edge_planes t a) p
+hit_weak : (t : Tri) (a : Axis) (p : Spot) → pos 0 <ℤ p.w → along (support_of t) a ≢ pos 0 →
+    none_positive (edges_of t) (hit (support_of t) a p) ≡ none_positive (edge_planes t a) p
 hit_weak t a p w na =
     let n = support_of t in let k = main_axis n in let f = unit a in let nk : along n k ≢ pos 0 = λ z. na (main_zero n a z) in
-    let x = edge_sign n (edge_through t.a t.b (unit k)) p a k (dot f (cross (seen p t.a) (seen p t.b))) w nk (first_edge t p f (unit k)) ∙ sym (at_point t.a t.b a (along n a) p w) in
-    let y = edge_sign n (edge_through t.b t.c (unit k)) p a k (dot f (cross (seen p t.b) (seen p t.c))) w nk (second_edge t p f (unit k)) ∙ sym (at_point t.b t.c a (along n a) p w) in
-    let z = edge_sign n (edge_through t.c t.a (unit k)) p a k (dot f (cross (seen p t.c) (seen p t.a))) w nk (third_edge t p f (unit k)) ∙ sym (at_point t.c t.a a (along n a) p w) in
+    let x = edge_sign n (edge_through t.a t.b (unit k)) p a k (dot f (cross (seen p t.a) (seen p t.b))) w nk
+    (first_edge t p f (unit k)) ∙ sym (at_point t.a t.b a (along n a) p w) in
+    let y = edge_sign n (edge_through t.b t.c (unit k)) p a k (dot f (cross (seen p t.b) (seen p t.c))) w nk
+    (second_edge t p f (unit k)) ∙ sym (at_point t.b t.c a (along n a) p w) in
+    let z = edge_sign n (edge_through t.c t.a (unit k)) p a k (dot f (cross (seen p t.c) (seen p t.a))) w nk
+    (third_edge t p f (unit k)) ∙ sym (at_point t.c t.a a (along n a) p w) in
     λ i. not (is_pos (x i)) && (not (is_pos (y i)) && (not (is_pos (z i)) && true))
 
 -- what is asked for an axis that is not along the plane
@@ -66,10 +71,13 @@ times_off s g p ns n z = by (zero_product (sym (value_times (sign s) g p) ∙ z)
     by (inl e) = ns (sign_zero s e)
     by (inr e) = n e
 
-all_strict : (t : Tri) (a : Axis) (p : Spot) → along (support_of t) a ≢ pos 0 → OffEdges a p t → none_positive (edge_planes t a) p ≡ true → all_negative (edge_planes t a) p ≡ true
+all_strict : (t : Tri) (a : Axis) (p : Spot) → along (support_of t) a ≢ pos 0 → OffEdges a p t →
+    none_positive (edge_planes t a) p ≡ true → all_negative (edge_planes t a) p ≡ true
 all_strict t a p nz o h =
     let s = along (support_of t) a in
-    let g1 = times_plane (sign s) (edge_through t.a t.b (unit a)) in let g2 = times_plane (sign s) (edge_through t.b t.c (unit a)) in let g3 = times_plane (sign s) (edge_through t.c t.a (unit a)) in
+    let g1 = times_plane (sign s) (edge_through t.a t.b (unit a)) in let g2 =
+    times_plane (sign s) (edge_through t.b t.c (unit a)) in let g3 =
+    times_plane (sign s) (edge_through t.c t.a (unit a)) in
     let x = and_parts (not (is_positive (value_at g1 p))) (not (is_positive (value_at g2 p)) && (not (is_positive (value_at g3 p)) && true)) h in
     let y = and_parts (not (is_positive (value_at g2 p))) (not (is_positive (value_at g3 p)) && true) x.1 in
     let z = and_parts (not (is_positive (value_at g3 p))) true y.1 in
@@ -78,7 +86,8 @@ all_strict t a p nz o h =
     let a3 = strict (value_at g3 p) (times_off s (edge_through t.c t.a (unit a)) p nz o.third) z.0 in
     λ i. a1 i && (a2 i && (a3 i && true))
 
-generic_clear : (p : Spot) (t : Tri) → pos 0 <ℤ p.w → value_at (support_of t) p ≢ pos 0 → ((a : Axis) → along (support_of t) a ≢ pos 0 → OffEdges a p t) → IsClear (face_of t) p
+generic_clear : (p : Spot) (t : Tri) → pos 0 <ℤ p.w → value_at (support_of t) p ≢ pos 0 →
+    ((a : Axis) → along (support_of t) a ≢ pos 0 → OffEdges a p t) → IsClear (face_of t) p
 unfolding face_of
 generic_clear p t w off o =
     record { outside = not_closed (is_in_closed (face_of t) p) refl; rays = rays }
@@ -87,16 +96,21 @@ generic_clear p t w off o =
     not_closed true e = absurd (off (closed_parts (face_of t) p e).1)
     not_closed false e = e
 
-    rays : (a : Axis) (m s : ℤ) → pos 0 <ℤ m → pos 0 ≤ℤ s → is_in_closed (face_of t) (moved (scaled m p) a s) ≡ true → is_inside (face_of t) (moved (scaled m p) a s) ≡ true
+    rays : (a : Axis) (m s : ℤ) → pos 0 <ℤ m → pos 0 ≤ℤ s → is_in_closed (face_of t) (moved (scaled m p) a s) ≡ true →
+        is_inside (face_of t) (moved (scaled m p) a s) ≡ true
     rays a m s lm ls c =
         let n = support_of t in let es = edges_of t in let r = moved (scaled m p) a s in
         let x = closed_parts (face_of t) r c in
         let z : m *ℤ value_at n p +ℤ s *ℤ along n a ≡ pos 0 = sym (value_ray n a p m s) ∙ x.1 in
-        let nz : along n a ≢ pos 0 = λ e. off (nonzero_product (value_at n p) m (λ q. omega (arith, linear, lm, q)) (let v = zero_scaled s (along n a) e in *ℤ_comm (value_at n p) m ∙ omega (arith, linear, v, z))) in
+        let nz : along n a ≢ pos 0 = λ e. off (nonzero_product (value_at n p) m (λ q. omega (arith, linear, lm, q))
+        (let v = zero_scaled s (along n a) e in *ℤ_comm (value_at n p) m ∙ omega (arith, linear, v, z))) in
         let k = size (along n a) in
-        let most : none_positive es (hit n a p) ≡ true = sym (same_none_positive m (hit n a p) (scaled k r) es lm (hit_is_one_point n a p m s z)) ∙ same_none_positive k r (scaled k r) es (size_positive (along n a) nz) (λ g. value_scaled k g r) ∙ x.2 in
+        let most : none_positive es (hit n a p) ≡ true =
+        sym (same_none_positive m (hit n a p) (scaled k r) es lm (hit_is_one_point n a p m s z))
+        ∙ same_none_positive k r (scaled k r) es (size_positive (along n a) nz) (λ g. value_scaled k g r) ∙ x.2 in
         let low : all_negative es (hit n a p) ≡ true = hit_edges t a p w nz ∙ all_strict t a p nz (o a nz) (sym (hit_weak t a p w nz) ∙ most) in
-        let l = sym (same_all_negative k r (scaled k r) es (size_positive (along n a) nz) (λ g. value_scaled k g r)) ∙ same_all_negative m (hit n a p) (scaled k r) es lm (hit_is_one_point n a p m s z) ∙ low in
+        let l = sym (same_all_negative k r (scaled k r) es (size_positive (along n a) nz) (λ g. value_scaled k g r))
+        ∙ same_all_negative m (hit n a p) (scaled k r) es lm (hit_is_one_point n a p m s z) ∙ low in
         inside_on (face_of t) r (ray_weight a p m s lm w) x.1 ∙ l
 
 -- ---- near every point there are clear points
@@ -129,13 +143,16 @@ off_clear p t x y z nf =
 pub clear_shifted : (p : Spot) (ts : List Tri) → pos 0 <ℤ p.w → Eventually (λ k. AllByRecursion (λ t. IsClearOf t (offset_by p (pos k))) ts)
 clear_shifted p [] w = eventually_true (λ k. tt)
 clear_shifted p (t ∷ ts) w =
-    eventually_both (eventually_map (λ k h. off_clear (offset_by p (pos k)) t h.0 h.1.0 h.1.1) (eventually_both (off_all (unit X) p t w) (eventually_both (off_all (unit Y) p t w) (off_all (unit Z) p t w)))) (clear_shifted p ts w)
+    eventually_both (eventually_map (λ k h. off_clear (offset_by p (pos k)) t h.0 h.1.0 h.1.1)
+    (eventually_both (off_all (unit X) p t w) (eventually_both (off_all (unit Y) p t w) (off_all (unit Z) p t w))))
+    (clear_shifted p ts w)
 
 -- points that are clear of triangles are clear of their faces
 pub clear_faces : (p : Spot) (ts : List Tri) → AllByRecursion (λ t. IsClearOf t p) ts → AreClear (faces_of ts) p
 clear_faces p [] h = tt
 clear_faces p (t ∷ ts) h = by (is_flat t) refl (clear_faces p ts h.1)
   where
-    by : (b : Bool) → is_flat t ≡ b → AreClear (faces_of ts) p → AreClear (map face_of (cond (not b) (t ∷ filter (λ t. not (is_flat t)) ts) (filter (λ t. not (is_flat t)) ts))) p
+    by : (b : Bool) → is_flat t ≡ b → AreClear (faces_of ts) p →
+        AreClear (map face_of (cond (not b) (t ∷ filter (λ t. not (is_flat t)) ts) (filter (λ t. not (is_flat t)) ts))) p
     by true e r = r
     by false e r = (h.0 e, r)

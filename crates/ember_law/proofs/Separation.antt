@@ -1,5 +1,6 @@
 -- A segment that misses a closed face has a plane between it and the face.
-use Rattle.std.proofs.Common.{◌≡◌, ◌⊎◌, ⊎_elim, inl, inr, refl, sym, ap, subst, ◌∙◌, arith, Bool, true, false, not, cond, ◌&&◌, List, [], ◌∷◌, ℤ, pos, negsuc, ◌+ℤ◌, ◌-ℤ◌, ◌*ℤ◌, neg_ℤ, ◌<ℤ◌, ◌≤ℤ◌}
+use Rattle.std.proofs.Common.{◌≡◌, ◌⊎◌, ⊎_elim, inl, inr, refl, sym, ap, subst, ◌∙◌, arith, Bool, true, false, not}
+use Rattle.std.proofs.Common.{cond, ◌&&◌, List, [], ◌∷◌, ℤ, pos, negsuc, ◌+ℤ◌, ◌-ℤ◌, ◌*ℤ◌, neg_ℤ, ◌<ℤ◌, ◌≤ℤ◌}
 use Rattle.std.specs.List.{filter}
 use lib.IntN.{*ℤ-zero, zero-*ℤ, +ℤ_comm}
 use Rattle.std.proofs.lemmas.Int.{by_lt_z}
@@ -32,7 +33,8 @@ combination_value g k m p q =
 
 combination_turn : (k m : ℤ) (p q : Spot) → combination k m p q ≡ combination m k q p
 combination_turn k m p q =
-    let x = +ℤ_comm (k *ℤ p.x) (m *ℤ q.x) in let y = +ℤ_comm (k *ℤ p.y) (m *ℤ q.y) in let z = +ℤ_comm (k *ℤ p.z) (m *ℤ q.z) in let w = +ℤ_comm (k *ℤ p.w) (m *ℤ q.w) in
+    let x = +ℤ_comm (k *ℤ p.x) (m *ℤ q.x) in let y = +ℤ_comm (k *ℤ p.y) (m *ℤ q.y) in let z =
+    +ℤ_comm (k *ℤ p.z) (m *ℤ q.z) in let w = +ℤ_comm (k *ℤ p.w) (m *ℤ q.w) in
     λ i. record { x = x i; y = y i; z = z i; w = w i }
 
 misses_turn : (f : Face) (p q : Spot) → MissesFace p q f → MissesFace q p f
@@ -99,7 +101,8 @@ filter_out f h (g ∷ gs) m = by (f g) refl m (filter_out f h gs)
     by true e (inr m) r = more (r m)
     by false e m r = more (r m)
 
-after_member : (x y : Spot) (h g : Plane) (es : List Plane) → After x y h es → In g es → (value_at g x *ℤ neg_ℤ (value_at h y)) ≤ℤ (value_at h x *ℤ neg_ℤ (value_at g y))
+after_member : (x y : Spot) (h g : Plane) (es : List Plane) → After x y h es → In g es →
+    (value_at g x *ℤ neg_ℤ (value_at h y)) ≤ℤ (value_at h x *ℤ neg_ℤ (value_at g y))
 after_member x y h g [] f m = absurd m
 after_member x y h g (k ∷ ks) f (inl p) =
     subst (λ (k : Plane). (value_at k x *ℤ neg_ℤ (value_at h y)) ≤ℤ (value_at h x *ℤ neg_ℤ (value_at k y))) (sym p) f.0
@@ -112,7 +115,9 @@ combine k g m h = record { a = k *ℤ g.a +ℤ m *ℤ h.a; b = k *ℤ g.b +ℤ m
 
 value_combine : (k : ℤ) (g : Plane) (m : ℤ) (h : Plane) (x : Spot) → value_at (combine k g m h) x ≡ k *ℤ value_at g x +ℤ m *ℤ value_at h x
 value_combine k g m h s =
-    solve 14 (λ m k ga gb gc gd na nb nc nd x y z w. (m ⊗ ga ⊕ k ⊗ na) ⊗ x ⊕ (m ⊗ gb ⊕ k ⊗ nb) ⊗ y ⊕ (m ⊗ gc ⊕ k ⊗ nc) ⊗ z ⊖ (m ⊗ gd ⊕ k ⊗ nd) ⊗ w ≈ m ⊗ (ga ⊗ x ⊕ gb ⊗ y ⊕ gc ⊗ z ⊖ gd ⊗ w) ⊕ k ⊗ (na ⊗ x ⊕ nb ⊗ y ⊕ nc ⊗ z ⊖ nd ⊗ w)) cancels k m g.a g.b g.c g.d h.a h.b h.c h.d s.x s.y s.z s.w
+    solve 14 (λ m k ga gb gc gd na nb nc nd x y z w. (m ⊗ ga ⊕ k ⊗ na) ⊗ x ⊕ (m ⊗ gb ⊕ k ⊗ nb) ⊗ y ⊕ (m ⊗ gc ⊕ k ⊗ nc) ⊗
+    z ⊖ (m ⊗ gd ⊕ k ⊗ nd) ⊗ w ≈ m ⊗ (ga ⊗ x ⊕ gb ⊗ y ⊕ gc ⊗ z ⊖ gd ⊗ w) ⊕ k ⊗ (na ⊗ x ⊕ nb ⊗ y ⊕ nc ⊗ z ⊖ nd ⊗ w))
+    cancels k m g.a g.b g.c g.d h.a h.b h.c h.d s.x s.y s.z s.w
 
 closed_flat : (f : Face) (x : Spot) → is_in_closed f x ≡ true → value_at f.support x ≡ pos 0
 closed_flat f x c = (closed_parts f x c).1
@@ -125,18 +130,38 @@ off_face : (f : Face) (x : Spot) → pos 0 <ℤ x.w → value_at f.support x ≡
 off_face f x w z c = point_outside_is_above x f.edges (sym (closed_on f x (positive_in w) z) ∙ c)
 
 -- p behind, q in front, and one of them strictly
-across : (f : Face) (p q : Spot) → pos 0 <ℤ p.w → pos 0 <ℤ q.w → MissesFace p q f → value_at f.support p ≤ℤ pos 0 → pos 0 ≤ℤ value_at f.support q → pos 0 <ℤ (value_at f.support q -ℤ value_at f.support p) → Separates f p q
+across : (f : Face) (p q : Spot) → pos 0 <ℤ p.w → pos 0 <ℤ q.w → MissesFace p q f → value_at f.support p ≤ℤ pos 0 →
+    pos 0 ≤ℤ value_at f.support q → pos 0 <ℤ (value_at f.support q -ℤ value_at f.support p) → Separates f p q
 across f p q wp wq h lp lq d =
     let s1 = value_at f.support p in let s2 = value_at f.support q in
     let x = combination s2 (neg_ℤ s1) p q in
     let z : value_at f.support x ≡ pos 0 = combination_value f.support s2 (neg_ℤ s1) p q ∙ solve 2 (λ a b. b ⊗ a ⊕ neg a ⊗ b ≈ num (pos 0)) cancels s1 s2 in
-    let r = off_face f x (combination_weight s2 (neg_ℤ s1) p q lq (omega (arith, linear)) (omega (arith, linear)) wp wq) z (h s2 (neg_ℤ s1) lq (omega (arith, linear))) in
+    let r = off_face f x (combination_weight s2 (neg_ℤ s1) p q lq (omega (arith, linear)) (omega (arith, linear)) wp wq)
+    z (h s2 (neg_ℤ s1) lq (omega (arith, linear))) in
     let g = r.plane in let h1 = value_at g p in let h2 = value_at g q in
     let v = combination_value g s2 (neg_ℤ s1) p q in
     record {
       plane = combine (s2 -ℤ s1) g (h1 -ℤ h2) f.support;
-      near = let e = value_combine (s2 -ℤ s1) g (h1 -ℤ h2) f.support p in let u = r.up in omega (arith, linear, e, u, v, solve 4 (λ s1 s2 h1 h2. (s2 ⊖ s1) ⊗ h1 ⊕ (h1 ⊖ h2) ⊗ s1 ≈ s2 ⊗ h1 ⊕ neg s1 ⊗ h2) cancels s1 s2 h1 h2);
-      far = let e = value_combine (s2 -ℤ s1) g (h1 -ℤ h2) f.support q in let u = r.up in omega (arith, linear, e, u, v, solve 4 (λ s1 s2 h1 h2. (s2 ⊖ s1) ⊗ h2 ⊕ (h1 ⊖ h2) ⊗ s2 ≈ s2 ⊗ h1 ⊕ neg s1 ⊗ h2) cancels s1 s2 h1 h2);
+      near = let e = value_combine (s2 -ℤ s1) g (h1 -ℤ h2) f.support p in let u = r.up in
+          omega (
+            arith,
+            linear,
+            e,
+            u,
+            v,
+            solve 4 (λ s1 s2 h1 h2. (s2 ⊖ s1) ⊗ h1 ⊕ (h1 ⊖ h2) ⊗ s1 ≈ s2 ⊗ h1 ⊕ neg s1 ⊗ h2)
+                cancels s1 s2 h1 h2,
+          );
+      far = let e = value_combine (s2 -ℤ s1) g (h1 -ℤ h2) f.support q in let u = r.up in
+          omega (
+            arith,
+            linear,
+            e,
+            u,
+            v,
+            solve 4 (λ s1 s2 h1 h2. (s2 ⊖ s1) ⊗ h2 ⊕ (h1 ⊖ h2) ⊗ s2 ≈ s2 ⊗ h1 ⊕ neg s1 ⊗ h2)
+                cancels s1 s2 h1 h2,
+          );
       low = λ y c.
           let e = value_combine (s2 -ℤ s1) g (h1 -ℤ h2) f.support y in
           let o = zero_scaled (h1 -ℤ h2) (value_at f.support y) (closed_flat f y c) in
@@ -146,26 +171,51 @@ across f p q wp wq h lp lq d =
     }
 
 -- both in the support plane
-inside_plane : (f : Face) (p q : Spot) → pos 0 <ℤ p.w → pos 0 <ℤ q.w → MissesFace p q f → value_at f.support p ≡ pos 0 → value_at f.support q ≡ pos 0 → Separates f p q
+inside_plane : (f : Face) (p q : Spot) → pos 0 <ℤ p.w → pos 0 <ℤ q.w → MissesFace p q f → value_at f.support p ≡ pos 0 →
+    value_at f.support q ≡ pos 0 → Separates f p q
 inside_plane f p q wp wq h zp zq =
     let one = combination (pos 1) (pos 0) p q in
-    let a = off_face f one (combination_weight (pos 1) (pos 0) p q (omega (arith, linear)) (omega (arith, linear)) (omega (arith, linear)) wp wq) (flat (pos 1) (pos 0)) (h (pos 1) (pos 0) (omega (arith, linear)) (omega (arith, linear))) in
-    let ap1 : pos 0 <ℤ value_at a.plane p = let e = combination_value a.plane (pos 1) (pos 0) p q in let u = a.up in omega (arith, linear, e, u, one-*ℤ (value_at a.plane p), zero-*ℤ (value_at a.plane q)) in
-    by_lt_z (pos 0) (value_at a.plane q) (λ u. simple a.plane a.member ap1 u) (λ d. two (last_zero p q rest (not_low p rest a.plane (filter_in tame a.plane f.edges a.member (not_positive_in (value_at a.plane q) d)) ap1) tame_all))
+    let a = off_face f one (combination_weight (pos 1) (pos 0) p q (omega (arith, linear)) (omega (arith, linear))
+    (omega (arith, linear)) wp wq) (flat (pos 1) (pos 0))
+    (h (pos 1) (pos 0) (omega (arith, linear)) (omega (arith, linear))) in
+    let ap1 : pos 0 <ℤ value_at a.plane p = let e = combination_value a.plane (pos 1) (pos 0) p q in let u = a.up in
+    omega (arith, linear, e, u, one-*ℤ (value_at a.plane p), zero-*ℤ (value_at a.plane q)) in
+    by_lt_z (pos 0) (value_at a.plane q) (λ u. simple a.plane a.member ap1 u)
+    (λ d. two (last_zero p q rest (not_low p rest a.plane
+    (filter_in tame a.plane f.edges a.member (not_positive_in (value_at a.plane q) d)) ap1) tame_all))
   where
     flat : (k m : ℤ) → value_at f.support (combination k m p q) ≡ pos 0
-    flat k m = combination_value f.support k m p q ∙ (λ i. k *ℤ zp i +ℤ m *ℤ zq i) ∙ solve 2 (λ k m. k ⊗ num (pos 0) ⊕ m ⊗ num (pos 0) ≈ num (pos 0)) cancels k m
+    flat k m = combination_value f.support k m p q ∙ (λ i. k *ℤ zp i +ℤ m *ℤ zq i)
+        ∙ solve 2 (λ k m. k ⊗ num (pos 0) ⊕ m ⊗ num (pos 0) ≈ num (pos 0)) cancels k m
 
     simple : (g : Plane) → In g f.edges → pos 0 <ℤ value_at g p → pos 0 <ℤ value_at g q → Separates f p q
     simple g m a b = record { plane = g; near = a; far = b; low = λ x c. closed_low f x g m c }
 
-    joined : (g l : Plane) → In g f.edges → In l f.edges → pos 0 <ℤ value_at g p → value_at g q ≤ℤ pos 0 → value_at l p ≤ℤ pos 0 → pos 0 <ℤ value_at l q → pos 0 <ℤ (neg_ℤ (value_at g q) *ℤ value_at l p +ℤ value_at g p *ℤ value_at l q) → Separates f p q
+    joined : (g l : Plane) → In g f.edges → In l f.edges → pos 0 <ℤ value_at g p → value_at g q ≤ℤ pos 0 →
+        value_at l p ≤ℤ pos 0 → pos 0 <ℤ value_at l q →
+        pos 0 <ℤ (neg_ℤ (value_at g q) *ℤ value_at l p +ℤ value_at g p *ℤ value_at l q) → Separates f p q
     joined g l gm lm g1 g2 l1 l2 v =
         let h1 = value_at g p in let h2 = value_at g q in let k1 = value_at l p in let k2 = value_at l q in
         record {
           plane = combine (k2 -ℤ k1) g (h1 -ℤ h2) l;
-          near = let e = value_combine (k2 -ℤ k1) g (h1 -ℤ h2) l p in omega (arith, linear, e, v, solve 4 (λ h1 h2 k1 k2. (k2 ⊖ k1) ⊗ h1 ⊕ (h1 ⊖ h2) ⊗ k1 ≈ neg h2 ⊗ k1 ⊕ h1 ⊗ k2) cancels h1 h2 k1 k2);
-          far = let e = value_combine (k2 -ℤ k1) g (h1 -ℤ h2) l q in omega (arith, linear, e, v, solve 4 (λ h1 h2 k1 k2. (k2 ⊖ k1) ⊗ h2 ⊕ (h1 ⊖ h2) ⊗ k2 ≈ neg h2 ⊗ k1 ⊕ h1 ⊗ k2) cancels h1 h2 k1 k2);
+          near = let e = value_combine (k2 -ℤ k1) g (h1 -ℤ h2) l p in
+              omega (
+                arith,
+                linear,
+                e,
+                v,
+                solve 4 (λ h1 h2 k1 k2. (k2 ⊖ k1) ⊗ h1 ⊕ (h1 ⊖ h2) ⊗ k1 ≈ neg h2 ⊗ k1 ⊕ h1 ⊗ k2)
+                    cancels h1 h2 k1 k2,
+              );
+          far = let e = value_combine (k2 -ℤ k1) g (h1 -ℤ h2) l q in
+              omega (
+                arith,
+                linear,
+                e,
+                v,
+                solve 4 (λ h1 h2 k1 k2. (k2 ⊖ k1) ⊗ h2 ⊕ (h1 ⊖ h2) ⊗ k2 ≈ neg h2 ⊗ k1 ⊕ h1 ⊗ k2)
+                    cancels h1 h2 k1 k2,
+              );
           low = λ x c.
               let e = value_combine (k2 -ℤ k1) g (h1 -ℤ h2) l x in
               let a : pos 0 ≤ℤ (k2 -ℤ k1) = omega (arith, linear) in let b : pos 0 ≤ℤ (h1 -ℤ h2) = omega (arith, linear) in
@@ -181,19 +231,33 @@ inside_plane f p q wp wq h zp zq =
 
     tame_all : none_positive rest q ≡ true
     tame_all =
-        ⊎_elim (λ t. t) (λ o. absurd (let r = point_outside_is_above q rest o in let l = not_positive_out (value_at r.plane q) (filter_out tame r.plane f.edges r.member).1 in let u = r.up in omega (arith, linear, u, l))) (decide (none_positive rest q))
+        ⊎_elim (λ t. t) (λ o. absurd (let r = point_outside_is_above q rest o in let l =
+        not_positive_out (value_at r.plane q) (filter_out tame r.plane f.edges r.member).1 in let u = r.up in
+        omega (arith, linear, u, l))) (decide (none_positive rest q))
 
     two : Last p q rest → Separates f p q
     two r =
         let g = r.plane in let h1 = value_at g p in let h2 = value_at g q in let u = r.up in
         let gm = filter_out tame g f.edges r.member in
         let d = not_positive_out h2 gm.1 in
-        let l = off_face f (combination (neg_ℤ h2) h1 p q) (combination_weight (neg_ℤ h2) h1 p q (omega (arith, linear, d)) (omega (arith, linear, u)) (omega (arith, linear, d, u)) wp wq) (flat (neg_ℤ h2) h1) (h (neg_ℤ h2) h1 (omega (arith, linear, d)) (omega (arith, linear, u))) in
+        let l = off_face f (combination (neg_ℤ h2) h1 p q)
+        (combination_weight (neg_ℤ h2) h1 p q (omega (arith, linear, d)) (omega (arith, linear, u))
+        (omega (arith, linear, d, u)) wp wq) (flat (neg_ℤ h2) h1)
+        (h (neg_ℤ h2) h1 (omega (arith, linear, d)) (omega (arith, linear, u))) in
         let l1 = value_at l.plane p in let l2 = value_at l.plane q in
         let v : pos 0 <ℤ (neg_ℤ h2 *ℤ l1 +ℤ h1 *ℤ l2) = let e = combination_value l.plane (neg_ℤ h2) h1 p q in let w = l.up in omega (arith, linear, e, w) in
         by_lt_z (pos 0) l2
         (λ b. by_lt_z (pos 0) l1 (λ a. simple l.plane l.member a b) (λ a. joined g l.plane gm.0 l.member u d a b v))
-        (λ b. absurd (let o = after_member p q g l.plane rest r.after (filter_in tame l.plane f.edges l.member (not_positive_in l2 b)) in omega (arith, linear, o, v, solve 4 (λ h1 h2 l1 l2. neg h2 ⊗ l1 ⊕ h1 ⊗ l2 ≈ l1 ⊗ neg h2 ⊖ h1 ⊗ neg l2) cancels h1 h2 l1 l2)))
+        (λ b. absurd (let o = after_member p q g l.plane rest r.after
+        (filter_in tame l.plane f.edges l.member (not_positive_in l2 b)) in
+        omega (
+          arith,
+          linear,
+          o,
+          v,
+          solve 4 (λ h1 h2 l1 l2. neg h2 ⊗ l1 ⊕ h1 ⊗ l2 ≈ l1 ⊗ neg h2 ⊖ h1 ⊗ neg l2) cancels
+              h1 h2 l1 l2,
+        )))
 
 -- a segment that misses a face is separated from it by the face's plane or an edge
 pub missed_face_has_separating_edge : (f : Face) (p q : Spot) → pos 0 <ℤ p.w → pos 0 <ℤ q.w → MissesFace p q f → Separates f p q
@@ -212,7 +276,10 @@ missed_face_has_separating_edge f p q wp wq h =
     (λ b. across f p q wp wq h (omega (arith, linear)) (omega (arith, linear)) (omega (arith, linear)))
     (λ b. record {
       plane = times_plane (negsuc 0) f.support;
-      near = let e = value_times (negsuc 0) f.support p in let k = solve 1 (λ v. num (negsuc 0) ⊗ v ≈ neg v) cancels (value_at f.support p) in omega (arith, linear, e, k);
-      far = let e = value_times (negsuc 0) f.support q in let k = solve 1 (λ v. num (negsuc 0) ⊗ v ≈ neg v) cancels (value_at f.support q) in omega (arith, linear, e, k);
-      low = λ x c. let e = value_times (negsuc 0) f.support x in let g = closed_flat f x c in let k = solve 1 (λ v. num (negsuc 0) ⊗ v ≈ neg v) cancels (value_at f.support x) in omega (arith, linear, e, k, g);
+      near = let e = value_times (negsuc 0) f.support p in let k =
+          solve 1 (λ v. num (negsuc 0) ⊗ v ≈ neg v) cancels (value_at f.support p) in omega (arith, linear, e, k);
+      far = let e = value_times (negsuc 0) f.support q in let k =
+          solve 1 (λ v. num (negsuc 0) ⊗ v ≈ neg v) cancels (value_at f.support q) in omega (arith, linear, e, k);
+      low = λ x c. let e = value_times (negsuc 0) f.support x in let g = closed_flat f x c in let k =
+          solve 1 (λ v. num (negsuc 0) ⊗ v ≈ neg v) cancels (value_at f.support x) in omega (arith, linear, e, k, g);
     }))

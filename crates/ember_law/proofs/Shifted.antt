@@ -18,7 +18,9 @@ NoNormal h = (h.a ≡ pos 0) × (h.b ≡ pos 0) × (h.c ≡ pos 0)
 -- a plane's value at a shifted point, as a polynomial
 pub value_shifted : (h : Plane) (p : Spot) (m : ℤ) → value_at h (offset_by p m) ≡ horner m (value_at h p) (h.a ∷ h.b ∷ h.c ∷ [])
 value_shifted h p m =
-    solve 9 (λ a b c d x y z w m. a ⊗ (m ⊗ m ⊗ m ⊗ x ⊕ m ⊗ m) ⊕ b ⊗ (m ⊗ m ⊗ m ⊗ y ⊕ m) ⊕ c ⊗ (m ⊗ m ⊗ m ⊗ z ⊕ num (pos 1)) ⊖ d ⊗ (m ⊗ m ⊗ m ⊗ w) ≈ (((a ⊗ x ⊕ b ⊗ y ⊕ c ⊗ z ⊖ d ⊗ w) ⊗ m ⊕ a) ⊗ m ⊕ b) ⊗ m ⊕ c) cancels h.a h.b h.c h.d p.x p.y p.z p.w m
+    solve 9 (λ a b c d x y z w m. a ⊗ (m ⊗ m ⊗ m ⊗ x ⊕ m ⊗ m) ⊕ b ⊗ (m ⊗ m ⊗ m ⊗ y ⊕ m) ⊕ c ⊗
+    (m ⊗ m ⊗ m ⊗ z ⊕ num (pos 1)) ⊖ d ⊗ (m ⊗ m ⊗ m ⊗ w) ≈ (((a ⊗ x ⊕ b ⊗ y ⊕ c ⊗ z ⊖ d ⊗ w) ⊗ m ⊕ a) ⊗ m ⊕ b) ⊗ m ⊕ c)
+    cancels h.a h.b h.c h.d p.x p.y p.z p.w m
 
 abbrev reach : Plane → ℕ
 reach h = unsigned_abs h.a + unsigned_abs h.b + unsigned_abs h.c
@@ -38,7 +40,8 @@ follows_shifted p h =
     }
 
 -- no plane with a normal is met
-pub off_horner : {m : ℕ} (n : ℕ) (v a b c : ℤ) → m < n → EachSmall m (a ∷ b ∷ c ∷ []) → horner (pos n) v (a ∷ b ∷ c ∷ []) ≡ pos 0 → (a ≡ pos 0) × (b ≡ pos 0) × (c ≡ pos 0)
+pub off_horner : {m : ℕ} (n : ℕ) (v a b c : ℤ) → m < n → EachSmall m (a ∷ b ∷ c ∷ []) →
+    horner (pos n) v (a ∷ b ∷ c ∷ []) ≡ pos 0 → (a ≡ pos 0) × (b ≡ pos 0) × (c ≡ pos 0)
 off_horner n v a b c l s e =
     by_sign v
     (λ p. let q = horner_pos (a ∷ b ∷ c ∷ []) v l s p in absurd (omega (arith, linear, q, e)))

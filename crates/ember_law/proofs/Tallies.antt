@@ -1,5 +1,6 @@
 -- Sums over the faces of each mesh, triangle by triangle.
-use Rattle.std.proofs.Common.{All, ◌≡◌, ◌≢◌, ℕ, zero, suc, ◌+◌, ◌-◌, ◌<◌, Bool, true, false, cond, filter, nat_eq, List, [], ◌∷◌, map, length, take, get_or, set, ℤ, pos, ◌+ℤ◌, refl, sym, ap, subst, ◌∙◌, arith}
+use Rattle.std.proofs.Common.{All, ◌≡◌, ◌≢◌, ℕ, zero, suc, ◌+◌, ◌-◌, ◌<◌, Bool, true, false, cond, filter, nat_eq, List}
+use Rattle.std.proofs.Common.{[], ◌∷◌, map, length, take, get_or, set, ℤ, pos, ◌+ℤ◌, refl, sym, ap, subst, ◌∙◌, arith}
 use Rattle.std.specs.List.{range_with_len}
 use Rattle.std.proofs.lemmas.Bool.{ne_eqb, eq-eqb}
 use Rattle.ember_algebra.specs.Sums.{total}
@@ -31,14 +32,16 @@ pub map_same : (f g : ℕ → ℤ) → ((m : ℕ) → f m ≡ g m) → (ms : Lis
 map_same f g e [] = refl
 map_same f g e (m ∷ ms) = let x = e m in let r = map_same f g e ms in λ i. x i ∷ r i
 
-same_below : (g h : ℕ → ℤ) (j : ℕ) (n a : ℕ) → j < a → ((m : ℕ) → j ≢ m → h m ≡ g m) → (old : List ℤ) → added old (map h (range_with_len a n)) ≡ added old (map g (range_with_len a n))
+same_below : (g h : ℕ → ℤ) (j : ℕ) (n a : ℕ) → j < a → ((m : ℕ) → j ≢ m → h m ≡ g m) → (old : List ℤ) →
+    added old (map h (range_with_len a n)) ≡ added old (map g (range_with_len a n))
 same_below g h j zero a l e [] = refl
 same_below g h j zero a l e (c ∷ cs) = refl
 same_below g h j (suc n) a l e [] = refl
 same_below g h j (suc n) a l e (c ∷ cs) =
     let x = e a (λ q. omega arith) in let r = same_below g h j n (a + 1) (omega arith) e cs in λ i. (c +ℤ x i) ∷ r i
 
-one_raised : (g h : ℕ → ℤ) (j : ℕ) (x : ℤ) → h j ≡ g j +ℤ x → ((m : ℕ) → j ≢ m → h m ≡ g m) → (i n a : ℕ) → a + i ≡ j → i < n → (old : List ℤ) → added old (map h (range_with_len a n)) ≡ raised (added old (map g (range_with_len a n))) i x
+one_raised : (g h : ℕ → ℤ) (j : ℕ) (x : ℤ) → h j ≡ g j +ℤ x → ((m : ℕ) → j ≢ m → h m ≡ g m) → (i n a : ℕ) → a + i ≡ j →
+    i < n → (old : List ℤ) → added old (map h (range_with_len a n)) ≡ raised (added old (map g (range_with_len a n))) i x
 one_raised g h j x here else i zero a e l old = absurd (omega arith)
 one_raised g h j x here else zero (suc n) a e l [] = refl
 one_raised g h j x here else (suc i) (suc n) a e l [] = refl
@@ -65,13 +68,17 @@ module _ (f : Face → ℤ) (flat : (t : Tri) → IsFlat t → f (face_of t) ≡
   unfolding of_one
   mesh_total_is_entry m ts = total_faces f flat (of_mesh m ts) ∙ total-filter (λ t. f (face_of t)) (λ t. nat_eq t.mesh m) ts
 
-  entry_more : (m : ℕ) (ts : List Tri) (i : ℕ) (d : Tri) → i < length ts → total f (faces_of (of_mesh m (take (i + 1) ts))) ≡ total f (faces_of (of_mesh m (take i ts))) +ℤ of_one m (get_or ts i d)
+  entry_more : (m : ℕ) (ts : List Tri) (i : ℕ) (d : Tri) → i < length ts →
+      total f (faces_of (of_mesh m (take (i + 1) ts))) ≡ total f (faces_of (of_mesh m (take i ts))) +ℤ of_one m
+      (get_or ts i d)
   entry_more m ts i d l =
       let x = mesh_total_is_entry m (take (i + 1) ts) in let y = mesh_total_is_entry m (take i ts) in let z = total-take_more (of_one m) ts i d l in
       x ∙ z ∙ (λ k. (sym y) k +ℤ of_one m (get_or ts i d))
 
   -- one more triangle adds what its face gives to the count of its mesh
-  pub tally_more : (ts : List Tri) (i : ℕ) (d : Tri) → i < length ts → HasMesh 64 (get_or ts i d) → (old : List ℤ) → added old (tally f (take (i + 1) ts)) ≡ with_more (added old (tally f (take i ts))) (get_or ts i d).mesh (f (face_of (get_or ts i d)))
+  pub tally_more : (ts : List Tri) (i : ℕ) (d : Tri) → i < length ts → HasMesh 64 (get_or ts i d) → (old : List ℤ) →
+      added old (tally f (take (i + 1) ts)) ≡ with_more (added old (tally f (take i ts))) (get_or ts i d).mesh
+      (f (face_of (get_or ts i d)))
   unfolding meshes of_one
   tally_more ts i d l m old =
       let t = get_or ts i d in let a = m.first in let b = m.last in
@@ -102,7 +109,8 @@ module _ (f : Face → ℤ) (flat : (t : Tri) → IsFlat t → f (face_of t) ≡
 
       each : (m : ℕ) → total f (faces_of (of_mesh m (filter p ts))) ≡ total f (faces_of (of_mesh m ts))
       each m =
-          mesh_total_is_entry m (filter p ts) ∙ total-filter (of_one m) p ts ∙ total_same (λ t. cond (p t) (of_one m t) (pos 0)) (of_one m) (kept m) ts ∙ sym (mesh_total_is_entry m ts)
+          mesh_total_is_entry m (filter p ts) ∙ total-filter (of_one m) p ts
+          ∙ total_same (λ t. cond (p t) (of_one m t) (pos 0)) (of_one m) (kept m) ts ∙ sym (mesh_total_is_entry m ts)
 
   -- where no face adds anything
   pub tally_zero : (ts : List Tri) → All (λ t. f (face_of t) ≡ pos 0) ts → tally f ts ≡ map (λ m. pos 0) meshes

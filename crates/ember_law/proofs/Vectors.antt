@@ -19,7 +19,10 @@ pub of_mesh_all : (P : Face → Type 0) (m : ℕ) (ts : List Tri) → AllByRecur
 of_mesh_all P m [] h = tt
 of_mesh_all P m (t ∷ ts) h = by (is_flat t) (nat_eq t.mesh m) refl h (of_mesh_all P m ts)
   where
-    by : (b d : Bool) → is_flat t ≡ b → AllByRecursion P (map face_of (cond (not b) (t ∷ filter (λ t. not (is_flat t)) ts) (filter (λ t. not (is_flat t)) ts))) → (AllByRecursion P (faces_of ts) → AllByRecursion P (faces_of (of_mesh m ts))) → AllByRecursion P (faces_of (cond d (t ∷ of_mesh m ts) (of_mesh m ts)))
+    by : (b d : Bool) → is_flat t ≡ b → AllByRecursion P
+        (map face_of (cond (not b) (t ∷ filter (λ t. not (is_flat t)) ts) (filter (λ t. not (is_flat t)) ts))) →
+        (AllByRecursion P (faces_of ts) → AllByRecursion P (faces_of (of_mesh m ts))) →
+        AllByRecursion P (faces_of (cond d (t ∷ of_mesh m ts) (of_mesh m ts)))
     by true true e h r = rw e (r h)
     by true false e h r = r h
     by false true e h r = rw e (h.0, r h.1)
@@ -33,14 +36,20 @@ map_added f g h e (m ∷ ms) =
 -- in a scene, winding numbers at clear points are the same along all axes
 pub axes_law : (ts : List Tri) (n : ℕ) → IsScene ts n → AxesAgree ts
 axes_law ts n s p a b w c =
-    map_same (λ m. wind a (faces_of (of_mesh m ts)) p) (λ m. wind b (faces_of (of_mesh m ts)) p) (λ m. axes_agree a b p (of_mesh m ts) (s.balanced m) w (of_mesh_all (λ f. IsClear f p) m ts c)) meshes
+    map_same (λ m. wind a (faces_of (of_mesh m ts)) p) (λ m. wind b (faces_of (of_mesh m ts)) p)
+    (λ m. axes_agree a b p (of_mesh m ts) (s.balanced m) w (of_mesh_all (λ f. IsClear f p) m ts c)) meshes
 
 -- in a scene, winding numbers change along a segment by its crossings
 pub legs_law : (ts : List Tri) (n : ℕ) → IsScene ts n → SegmentsGiveDifference ts
 legs_law ts n s a b p q wp wq d cp cq =
-    map_added (λ m. wind b (faces_of (of_mesh m ts)) p) (λ m. wind b (faces_of (of_mesh m ts)) q) (λ m. leg_wind (faces_of (of_mesh m ts)) p q) (λ m. path_law a b p q (of_mesh m ts) (s.balanced m) wp wq d (of_mesh_all (λ f. IsClear f p) m ts cp) (of_mesh_all (λ f. IsClear f q) m ts cq)) meshes
+    map_added (λ m. wind b (faces_of (of_mesh m ts)) p) (λ m. wind b (faces_of (of_mesh m ts)) q)
+    (λ m. leg_wind (faces_of (of_mesh m ts)) p q)
+    (λ m. path_law a b p q (of_mesh m ts) (s.balanced m) wp wq d (of_mesh_all (λ f. IsClear f p) m ts cp)
+    (of_mesh_all (λ f. IsClear f q) m ts cq)) meshes
 
 -- in a scene, segments between clear points that miss all faces keep the winding numbers
 pub segments_law : (ts : List Tri) (n : ℕ) → IsScene ts n → ClearSegmentsKeepVectors ts
 segments_law ts n s a b p q wp wq cp cq h =
-    map_same (λ m. wind a (faces_of (of_mesh m ts)) p) (λ m. wind b (faces_of (of_mesh m ts)) q) (λ m. segment_law a b p q (of_mesh m ts) (s.balanced m) wp wq (of_mesh_all (λ f. IsClear f p) m ts cp) (of_mesh_all (λ f. IsClear f q) m ts cq) (of_mesh_all (MissesFace p q) m ts h)) meshes
+    map_same (λ m. wind a (faces_of (of_mesh m ts)) p) (λ m. wind b (faces_of (of_mesh m ts)) q)
+    (λ m. segment_law a b p q (of_mesh m ts) (s.balanced m) wp wq (of_mesh_all (λ f. IsClear f p) m ts cp)
+    (of_mesh_all (λ f. IsClear f q) m ts cq) (of_mesh_all (MissesFace p q) m ts h)) meshes

@@ -1,5 +1,6 @@
 -- What the corners of a triangle show of a region in its plane.
-use Rattle.std.proofs.Common.{◌≡◌, ◌⊎◌, inl, inr, refl, sym, ap, subst, ◌∙◌, arith, ℕ, zero, suc, ◌+◌, ◌<◌, Bool, true, false, ◌&&◌, ◌<ℤ◌, List, [], ◌∷◌, ◌++◌, map, length, take, get_or, ℤ, pos}
+use Rattle.std.proofs.Common.{◌≡◌, ◌⊎◌, inl, inr, refl, sym, ap, subst, ◌∙◌, arith, ℕ, zero, suc, ◌+◌, ◌<◌, Bool, true}
+use Rattle.std.proofs.Common.{false, ◌&&◌, ◌<ℤ◌, List, [], ◌∷◌, ◌++◌, map, length, take, get_or, ℤ, pos}
 use Rattle.std.specs.List.{AllByRecursion}
 use Rattle.std.proofs.lemmas.List.{take_more}
 use borrow.Author.Differences.{ints}
@@ -34,10 +35,14 @@ behind_push P [] g h p = (p, tt)
 behind_push P (e ∷ es) g h p = (h.0, behind_push P es g h.1 p)
 
 -- a corner that is behind the first i planes, and behind the next one
-pub behind_more : (es : List Plane) (i : ℕ) (c : Corner) {old new : Bool} {x : ℤ} → i < length es → x ≡ value_at (get_or es i no_plane) (spot_of_corner c) → new ≡ old && is_negative x → (old ≡ true → IsBehind (take i es) c) → new ≡ true → IsBehind (take (i + 1) es) c
+pub behind_more : (es : List Plane) (i : ℕ) (c : Corner) {old new : Bool} {x : ℤ} → i < length es →
+    x ≡ value_at (get_or es i no_plane) (spot_of_corner c) → new ≡ old && is_negative x →
+    (old ≡ true → IsBehind (take i es) c) → new ≡ true → IsBehind (take (i + 1) es) c
 behind_more es i c {old} {new} {x} l e q h t =
     let k = and_parts old (is_negative x) (sym q ∙ t) in let g = get_or es i no_plane in
-    subst (λ (us : List Plane). IsBehind us c) (sym (take_more es i no_plane l)) (behind_push (λ g. IsBelow g (spot_of_corner c)) (take i es) g (h k.0) (record { under = subst (λ z. z <ℤ pos 0) e (negative_out x k.1) }))
+    subst (λ (us : List Plane). IsBehind us c) (sym (take_more es i no_plane l))
+    (behind_push (λ g. IsBelow g (spot_of_corner c)) (take i es) g (h k.0)
+    (record { under = subst (λ z. z <ℤ pos 0) e (negative_out x k.1) }))
 
 -- ---- the triangle's corners lie in its closed face
 abbrev side_at : Tri → Corner → Corner → ℕ → Side
@@ -53,7 +58,13 @@ corners : (t : Tri) → is_flat t ≡ false → Corners t
 corners t n =
     let h = (stands t n).sound in let s = support_of t in
     let x = side_at t t.a t.b 0 in let y = side_at t t.b t.c 1 in let z = side_at t t.c t.a 2 in
-    record { a = ring_closed t (spot_of_corner t.a) (corner_closed s [] x (y ∷ z ∷ []) h); b = ring_closed t (spot_of_corner t.b) (corner_closed s (x ∷ []) y (z ∷ []) h); c = ring_closed t (spot_of_corner t.c) (corner_closed s (x ∷ y ∷ []) z [] h) }
+    record {
+      a = ring_closed t (spot_of_corner t.a) (corner_closed s [] x (y ∷ z ∷ []) h);
+      b =
+          ring_closed t (spot_of_corner t.b) (corner_closed s (x ∷ []) y (z ∷ []) h);
+      c =
+          ring_closed t (spot_of_corner t.c) (corner_closed s (x ∷ y ∷ []) z [] h);
+    }
 
 -- ---- the region's edges
 planes_are : (es : List Plane) (ms : List Meet) → length ms ≡ length es → map (λ e. e.plane) (ring_edges es ms) ≡ es
@@ -69,20 +80,28 @@ at_place P (e ∷ es) (suc i) d l h = at_place P es i d (omega (arith, l)) h.1
 module _ (f : Face) (es : List Plane) (ms : List Meet) (o : IsOutline f (ring_edges es ms)) (l : length ms ≡ length es) where
   same : HasInside f → SamePoints f (record { support = f.support; edges = es })
   same s =
-      subst (λ (us : List Plane). SamePoints f (record { support = f.support; edges = us })) (planes_are es ms l) (outline_has_its_points f (ring_edges es ms) s o)
+      subst (λ (us : List Plane). SamePoints f (record { support = f.support; edges = us })) (planes_are es ms l)
+      (outline_has_its_points f (ring_edges es ms) s o)
 
   -- an edge that has no corner of the triangle behind it parts the two
   pub parting_unmet : (t : Tri) → is_flat t ≡ false → HasParting es t → Meets f (face_of t) → ⊥
   parting_unmet t n h m =
       let v = m.at in let k = same (record { at = v; inside = m.inside; holds = tt }) in let g = get_or es h.index no_plane in
-      let u = at_place (λ e. IsBelow e v) es h.index no_plane h.before (inside_out (record { support = f.support; edges = es }) v (sym (k.inside v) ∙ m.inside)).within in
+      let u = at_place (λ e. IsBelow e v) es h.index no_plane h.before
+      (inside_out (record { support = f.support; edges = es }) v (sym (k.inside v) ∙ m.inside)).within in
       under_least u (closed_at_least t n g v (front_at_least g t h.parts) (closed_ring t v m.holds))
 
   -- a corner of the triangle behind all edges is a common point
   behind_met : (t : Tri) (c : Corner) → HasInside f → ShareAPlane t f → is_in_closed (face_of t) (spot_of_corner c) ≡ true → IsBehind es c → Meets f (face_of t)
   behind_met t c s p i h =
       let k = same s in
-      record { at = spot_of_corner c; inside = k.inside (spot_of_corner c) ∙ inside_in (record { support = f.support; edges = es }) (spot_of_corner c) (record { flat = p.triangle (spot_of_corner c) i; weight = omega (arith, ints); within = h }); holds = i }
+      record {
+        at = spot_of_corner c;
+        inside = k.inside (spot_of_corner c)
+            ∙ inside_in (record { support = f.support; edges = es }) (spot_of_corner c)
+            (record { flat = p.triangle (spot_of_corner c) i; weight = omega (arith, ints); within = h });
+        holds = i;
+      }
 
   -- if a corner of the triangle is behind all edges of a region in its plane, the two meet
   pub contact_met : (t : Tri) → is_flat t ≡ false → HasInside f → ShareAPlane t f → IsBehind es t.a ⊎ (IsBehind es t.b ⊎ IsBehind es t.c) → Meets f (face_of t)

@@ -76,7 +76,11 @@ module _ (t : Tri) (f : Face) (v u : Spot) (iv : InFace f.support f.edges v) (iu
 
   moved_under : (e : Plane) → IsBelow e v → Eventually (λ m. IsBelow e (moved m))
   moved_under e h =
-      eventually_map (λ m p. record { under = rw (combination_value (pos m) (pos 1) v u e) (flip (value_at e v) (pos m) (value_at e u) p) }) (eventually_pos {a = neg_ℤ (value_at e v)} (neg_ℤ (value_at e u)) (positive h.under))
+      eventually_map (λ m p. record {
+        under = rw (combination_value (pos m) (pos 1) v u e)
+            (flip (value_at e v) (pos m) (value_at e u) p);
+      })
+      (eventually_pos {a = neg_ℤ (value_at e v)} (neg_ℤ (value_at e u)) (positive h.under))
     where
       positive : {a : ℤ} → a <ℤ pos 0 → pos 0 <ℤ neg_ℤ a
       positive q = omega (arith, linear, q)
@@ -87,7 +91,16 @@ module _ (t : Tri) (f : Face) (v u : Spot) (iv : InFace f.support f.edges v) (iu
 
   moved_inside : Eventually (λ m. InFace f.support f.edges (moved m))
   moved_inside =
-      eventually_map (λ m p. record { flat = combination_value (pos m) (pos 1) v u f.support ∙ both (pos m) iv.flat flat; weight = weight v.w u.w (pos m) p.0; within = p.1 }) (eventually_both (eventually_pos u.w iv.weight) (eventually_each (λ e m. IsBelow e (moved m)) f.edges (each_map (λ e. IsBelow e v) (λ e. Eventually (λ m. IsBelow e (moved m))) f.edges (λ e h. moved_under e h) iv.within)))
+      eventually_map (λ m p. record {
+        flat = combination_value (pos m) (pos 1) v u f.support
+            ∙ both (pos m) iv.flat flat;
+        weight = weight v.w u.w (pos m) p.0;
+        within = p.1;
+      })
+      (eventually_both (eventually_pos u.w iv.weight)
+      (eventually_each (λ e m. IsBelow e (moved m)) f.edges
+      (each_map (λ e. IsBelow e v) (λ e. Eventually (λ m. IsBelow e (moved m))) f.edges (λ e h. moved_under e h)
+      iv.within)))
     where
       weight : (w z m : ℤ) → pos 0 <ℤ (w *ℤ m +ℤ z) → pos 0 <ℤ (m *ℤ w +ℤ pos 1 *ℤ z)
       weight w z m p =
@@ -99,7 +112,13 @@ module _ (t : Tri) (f : Face) (v u : Spot) (iv : InFace f.support f.edges v) (iu
   some_shared : is_in_closed (face_of t) v ≡ true → Somewhere f (λ x. is_inside (face_of t) x ≡ true)
   some_shared c =
       let e = moved_inside in let m = e.from in let one : pos 0 <ℤ pos 1 = omega (arith, linear) in
-      record { at = moved m; inside = inside_in f (moved m) (e.holds m (omega arith)); holds = ring_inside t (moved m) (inside_sum (pos m) (pos 1) (support_of t) (tri_sides t) v u (least m) one (closed_ring t v c) (inside_ring t u iu)) }
+      record {
+        at = moved m;
+        inside = inside_in f (moved m) (e.holds m (omega arith));
+        holds =
+            ring_inside t (moved m) (inside_sum (pos m) (pos 1) (support_of t) (tri_sides t) v u (least m) one
+            (closed_ring t v c) (inside_ring t u iu));
+      }
     where
       least : (m : ℕ) → pos 0 ≤ℤ pos m
       least m = omega (arith, ints)
@@ -111,7 +130,9 @@ meets_inside t f n s m =
     some_shared t f m.at u.at (inside_out f m.at m.inside) u.inside (s.triangle u.at (inside_closed (face_of t) u.at u.inside)) m.holds
 
 -- ---- by the edge planes of the triangle alone
-pub meets_flat : {b : Bool} (f : Face) (c : Cutter) (es : List Plane) → ShareAPlane c.tri f → HasInside f → c.support ≡ support_of c.tri → es ≡ edges_of c.tri → IsTrue b ↔ Somewhere f (λ v. none_positive es v ≡ true) → IsTrue b ↔ Meets f (face_of c.tri)
+pub meets_flat : {b : Bool} (f : Face) (c : Cutter) (es : List Plane) → ShareAPlane c.tri f → HasInside f →
+    c.support ≡ support_of c.tri → es ≡ edges_of c.tri → IsTrue b ↔ Somewhere f (λ v. none_positive es v ≡ true) →
+    IsTrue b ↔ Meets f (face_of c.tri)
 meets_flat {b} f c es s i n e k =
     subst (λ g. IsTrue b ↔ Meets f g) (cutting_plane_face c.tri n e) (λ t. met_on f c.support es flat (k.0 t), λ m. k.1 (met_free f es c.support m))
   where

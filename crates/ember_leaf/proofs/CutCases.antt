@@ -94,7 +94,12 @@ module _ (n : Plane) (gs hs : List Plane) where
   fits_in : (v : Spot) → Fits v → Every (λ b. Solves 4 b (point v)) system
   fits_in v f =
       let z = f.inside.flat in let o = opposite_plane n v in let w = f.inside.weight in let e = weight_value v in
-      every_append (λ b. Solves 4 b (point v)) (map under (weight ∷ gs)) (map at_most (n ∷ opposite n ∷ hs)) (unders_in (weight ∷ gs) v (record { under = omega (arith, linear, w, e) }, f.inside.within)) (mosts_in (n ∷ opposite n ∷ hs) v (record { at_most = omega (arith, linear, z) }, (record { at_most = omega (arith, linear, z, o) }, f.loose)))
+      every_append (λ b. Solves 4 b (point v)) (map under (weight ∷ gs)) (map at_most (n ∷ opposite n ∷ hs))
+      (unders_in (weight ∷ gs) v (record { under = omega (arith, linear, w, e) }, f.inside.within))
+      (mosts_in (n ∷ opposite n ∷ hs) v (
+        record { at_most = omega (arith, linear, z) },
+        (record { at_most = omega (arith, linear, z, o) }, f.loose),
+      ))
 
   fits_out : (v : Spot) → Every (λ b. Solves 4 b (point v)) system → Fits v
   fits_out v h =
@@ -132,9 +137,16 @@ meets_decided f g = by (fits_decided f.support f.edges (g.support ∷ opposite g
     fits : (v : Spot) → is_inside f v ≡ true → is_in_closed g v ≡ true → Fits f.support f.edges (g.support ∷ opposite g.support ∷ g.edges) v
     fits v i c =
         let k = closed_out g v c in let z = k.flat in
-        record { inside = inside_out f v i; loose = (record { at_most = omega (arith, linear, z) }, (most_opposite g.support v (record { at_least = omega (arith, linear, z) }), k.within)) }
+        record {
+          inside = inside_out f v i;
+          loose = (
+            record { at_most = omega (arith, linear, z) },
+            (most_opposite g.support v (record { at_least = omega (arith, linear, z) }), k.within),
+          );
+        }
 
-    by : ((v : Spot) × Fits f.support f.edges (g.support ∷ opposite g.support ∷ g.edges) v) ⊎ ((v : Spot) → Fits f.support f.edges (g.support ∷ opposite g.support ∷ g.edges) v → ⊥) → Decided (Meets f g)
+    by : ((v : Spot) × Fits f.support f.edges (g.support ∷ opposite g.support ∷ g.edges) v) ⊎ ((v : Spot) →
+        Fits f.support f.edges (g.support ∷ opposite g.support ∷ g.edges) v → ⊥) → Decided (Meets f g)
     by (inl r) = inl (record { at = r.0; inside = inside_in f r.0 r.1.inside; holds = closed r.0 r.1 })
     by (inr n) = inr (λ s. n s.at (fits s.at s.inside s.holds))
 
@@ -150,13 +162,20 @@ cuts_decided f p = by (under_decided f p) (under_decided f (opposite p))
   where
     over : Somewhere f (λ v. is_negative (value_at (opposite p) v) ≡ true) → Somewhere f (λ v. is_positive (value_at p v) ≡ true)
     over s =
-        record { at = s.at; inside = s.inside; holds = positive_in (over_from_opposite p s.at (record { under = negative_out (value_at (opposite p) s.at) s.holds })).over }
+        record {
+          at = s.at;
+          inside = s.inside;
+          holds =
+              positive_in (over_from_opposite p s.at
+              (record { under = negative_out (value_at (opposite p) s.at) s.holds })).over;
+        }
 
     turned : Somewhere f (λ v. is_positive (value_at p v) ≡ true) → Somewhere f (λ v. is_negative (value_at (opposite p) v) ≡ true)
     turned s =
         record { at = s.at; inside = s.inside; holds = negative_in (over_opposite p s.at (record { over = positive_out (value_at p s.at) s.holds })).under }
 
-    by : Decided (Somewhere f (λ v. is_negative (value_at p v) ≡ true)) → Decided (Somewhere f (λ v. is_negative (value_at (opposite p) v) ≡ true)) → Decided (Cuts f p)
+    by : Decided (Somewhere f (λ v. is_negative (value_at p v) ≡ true)) →
+        Decided (Somewhere f (λ v. is_negative (value_at (opposite p) v) ≡ true)) → Decided (Cuts f p)
     by (inl a) (inl b) = inl (record { some_below = a; some_above = over b })
     by (inl a) (inr n) = inr (λ c. n (turned c.some_above))
     by (inr n) b = inr (λ c. n c.some_below)

@@ -22,7 +22,8 @@ use Rattle.ember_leaf.proofs.WallClips.{each_every, inside_in_below}
 use Rattle.ember_leaf.proofs.OwnedRegions.{left_every, every_all, regions_left}
 
 -- ---- lists
-pub chain_next : {X A : Type 0} (R : X → A → A → Type 0) (xs : List X) (i : ℕ) (d : X) (a b c : A) → i < length xs → d ≡ get_or xs i d → Chain R (take i xs) a b → R d b c → Chain R (take (i + 1) xs) a c
+pub chain_next : {X A : Type 0} (R : X → A → A → Type 0) (xs : List X) (i : ℕ) (d : X) (a b c : A) → i < length xs →
+    d ≡ get_or xs i d → Chain R (take i xs) a b → R d b c → Chain R (take (i + 1) xs) a c
 chain_next R xs i d a b c l e h r = rw (take_more xs i d l, ← e) (chain_push h r)
 
 -- what holds of all members of a list holds of all members from k on
@@ -49,14 +50,31 @@ whole_piece f s =
 
 piece_below : (f g : Face) (p : Plane) → IsPieceOf f g → Somewhere g (λ v. is_negative (value_at p v) ≡ true) → IsPieceOf f (below g p)
 piece_below f g p h s =
-    record { support = h.support; within = record { holds = λ v i. h.within.holds v (inside_below g p v i).0 }; somewhere = record { at = s.at; inside = inside_in_below g p s.at s.inside s.holds; holds = tt } }
+    record {
+      support = h.support;
+      within = record { holds = λ v i. h.within.holds v (inside_below g p v i).0 };
+      somewhere = record { at = s.at; inside = inside_in_below g p s.at s.inside s.holds; holds = tt };
+    }
 
 piece_kept : (f : Face) (b : CuttingPlane) (g : Face) (gs : List Face) → IsPieceOf f g → AreLeftByCuttingPlane b g gs → Every (IsPieceOf f) gs
-piece_kept f b g gs h (splits m c) =
-    (piece_below f g b.plane h c.some_below, (piece_below f g (opposite b.plane) h (record { at = c.some_above.at; inside = c.some_above.inside; holds = negative_in (over_opposite b.plane c.some_above.at (record { over = positive_out (value_at b.plane c.some_above.at) c.some_above.holds })).under }), tt))
+piece_kept f b g gs h (splits m c) = (
+  piece_below f g b.plane h c.some_below,
+  (
+    piece_below f g (opposite b.plane) h
+        (record {
+          at = c.some_above.at;
+          inside = c.some_above.inside;
+          holds =
+              negative_in (over_opposite b.plane c.some_above.at
+              (record { over = positive_out (value_at b.plane c.some_above.at) c.some_above.holds })).under;
+        }),
+    tt,
+  ),
+)
 piece_kept f b g gs h (whole n) = (h, tt)
 
-pieces_kept : (f : Face) {bs : List CuttingPlane} {gs hs : List Face} → Chain (λ b. Each (AreLeftByCuttingPlane b)) bs gs hs → Every (IsPieceOf f) gs → Every (IsPieceOf f) hs
+pieces_kept : (f : Face) {bs : List CuttingPlane} {gs hs : List Face} →
+    Chain (λ b. Each (AreLeftByCuttingPlane b)) bs gs hs → Every (IsPieceOf f) gs → Every (IsPieceOf f) hs
 pieces_kept f done h = h
 pieces_kept f (step {x = b} r c) h =
     pieces_kept f c (each_every (IsPieceOf f) (IsPieceOf f) (piece_kept f b) r h)

@@ -1,5 +1,6 @@
 -- The triangles that are listed before another one in its plane decide which of its regions it owns.
-use Rattle.std.proofs.Common.{◌≡◌, ◌⊎◌, inl, inr, refl, sym, ap, subst, ◌∙◌, arith, ℕ, zero, suc, ◌+◌, ◌<◌, nat_lt, Bool, true, false, None, Some, slice_get, List, [], ◌∷◌, ◌++◌, length, All}
+use Rattle.std.proofs.Common.{◌≡◌, ◌⊎◌, inl, inr, refl, sym, ap, subst, ◌∙◌, arith, ℕ, zero, suc, ◌+◌, ◌<◌, nat_lt}
+use Rattle.std.proofs.Common.{Bool, true, false, None, Some, slice_get, List, [], ◌∷◌, ◌++◌, length, All}
 use Rattle.std.proofs.lemmas.Option.{slice_get_within, get_or_from_slice_get, slice_get-get_or}
 use Rattle.std.proofs.lemmas.List.Elements.{All-nil, All-push, All-get_or}
 use Rattle.ember_model.specs.declared.tri.Tri.{Tri}
@@ -45,7 +46,8 @@ module _ (t u : Tri) (b : Aabb) (f : Face) (h : ContainsPart t b u f) where
   coplanar_too : is_coplanar t u ≡ true
   coplanar_too =
       let n = coplanar_flats u t h.coplanar in
-      lies_flat t u (face_of t) h.somewhere.at (face_support t) n.1 n.0 held_inside (record { holds = λ v i. shared_face u t v h.coplanar (inside_closed (face_of t) v i) })
+      lies_flat t u (face_of t) h.somewhere.at (face_support t) n.1 n.0 held_inside
+      (record { holds = λ v i. shared_face u t v h.coplanar (inside_closed (face_of t) v i) })
 
 -- a flat triangle contains no part of t
 pub flat_misses : (t u : Tri) (b : Aabb) → is_flat u ≡ true → (f : Face) → ContainsPart t b u f → ⊥
@@ -65,16 +67,19 @@ away_misses t u b s e q f h =
     away_unmet t u b s e q (coplanar_flats u t h.coplanar).0 f h.bounded (meets t u b f h)
 
 -- ---- what a triangle of one plane adds
-pub coplanar_added : (t u : Tri) (is_before : Bool) {old new : List Cutter} → is_coplanar t u ≡ true → IsAdded u (role_if is_before) old new → (b : Aabb) → AddsEarlier t u b is_before (owners_in old) false (owners_in new)
+pub coplanar_added : (t u : Tri) (is_before : Bool) {old new : List Cutter} → is_coplanar t u ≡ true →
+    IsAdded u (role_if is_before) old new → (b : Aabb) → AddsEarlier t u b is_before (owners_in old) false (owners_in new)
 coplanar_added t u true {old} {new} e a b =
     subst (λ (l : List Tri). AddsEarlier t u b true (owners_in old) false l) (sym (added_owners a)) (joins refl (coplanar_turned u t e))
 coplanar_added t u false {old} {new} e a b =
     subst (λ (l : List Tri). AddsEarlier t u b false (owners_in old) false l) (sym (added_owners a ∙ append-nil (owners_in old))) (follows refl)
 
 -- a triangle in another plane adds no owner
-pub other_plane_added : (t u : Tri) (is_before : Bool) {old new : List Cutter} → is_coplanar t u ≡ false → IsAdded u OtherPlane old new → (b : Aabb) → AddsEarlier t u b is_before (owners_in old) false (owners_in new)
+pub other_plane_added : (t u : Tri) (is_before : Bool) {old new : List Cutter} → is_coplanar t u ≡ false →
+    IsAdded u OtherPlane old new → (b : Aabb) → AddsEarlier t u b is_before (owners_in old) false (owners_in new)
 other_plane_added t u is_before {old} {new} e a b =
-    subst (λ (l : List Tri). AddsEarlier t u b is_before (owners_in old) false l) (sym (added_owners a ∙ append-nil (owners_in old))) (misses (other_plane_misses t u b e))
+    subst (λ (l : List Tri). AddsEarlier t u b is_before (owners_in old) false l)
+    (sym (added_owners a ∙ append-nil (owners_in old))) (misses (other_plane_misses t u b e))
 
 -- a coplanar triangle lies relative to t as its role says, whether it comes before t or not
 pub coplanar_lies : (is_before : Bool) (t u : Tri) → is_coplanar t u ≡ true → LiesAs (role_if is_before) t u
@@ -82,7 +87,9 @@ coplanar_lies true t u e = e
 coplanar_lies false t u e = e
 
 -- a coplanar triangle, once added, has its cutting planes in the list
-pub coplanar_cutting_planes : (t u : Tri) (is_before : Bool) {old new : List Cutter} (b : Aabb) → is_flat u ≡ false → is_coplanar t u ≡ true → IsAdded u (role_if is_before) old new → AddsCuttingPlanes (IsBounded t b) (cutting_planes_of t u) old new
+pub coplanar_cutting_planes : (t u : Tri) (is_before : Bool) {old new : List Cutter} (b : Aabb) → is_flat u ≡ false →
+    is_coplanar t u ≡ true → IsAdded u (role_if is_before) old new →
+    AddsCuttingPlanes (IsBounded t b) (cutting_planes_of t u) old new
 coplanar_cutting_planes t u true {old} {new} b n e a = adds_all old new (edge_cutting_planes t u n e) (added_cutting_planes a)
 coplanar_cutting_planes t u false {old} {new} b n e a = adds_all old new (edge_cutting_planes t u n e) (added_cutting_planes a)
 
@@ -147,7 +154,8 @@ module _ (ts : List Tri) (i : ℕ) (t : Tri) (b : Aabb) where
       record { listed = subst (All (IsListedBefore ts i)) (sym e) (All-nil (IsListedBefore ts i)); one_contains = λ m l k f h. absurd (omega (arith, l)) }
 
   -- a list that is as it was
-  kept_list : (j : ℕ) (earlier : List Tri) → AreEarlier ts i t b j earlier → (j < i → (f : Face) → ContainsPart t b (tri_at ts j) f → ⊥) → AreEarlier ts i t b (j + 1) earlier
+  kept_list : (j : ℕ) (earlier : List Tri) → AreEarlier ts i t b j earlier →
+      (j < i → (f : Face) → ContainsPart t b (tri_at ts j) f → ⊥) → AreEarlier ts i t b (j + 1) earlier
   kept_list j earlier a n =
       record { listed = a.listed; one_contains = λ m l k f h. by m k f h (below_next m j l) }
     where
@@ -160,19 +168,32 @@ module _ (ts : List Tri) (i : ℕ) (t : Tri) (b : Aabb) where
   pub own_listed : (j : ℕ) (earlier : List Tri) → AreEarlier ts i t b j earlier → j ≡ i → AreEarlier ts i t b (j + 1) earlier
   own_listed j earlier a e = kept_list j earlier a (λ l f h. omega (arith, l, e))
 
-  joined_list : (j : ℕ) (u : Tri) (earlier : List Tri) → AreEarlier ts i t b j earlier → j < i → j < length ts → u ≡ tri_at ts j → AreEarlier ts i t b (j + 1) (earlier ++ u ∷ [])
+  joined_list : (j : ℕ) (u : Tri) (earlier : List Tri) → AreEarlier ts i t b j earlier → j < i → j < length ts →
+      u ≡ tri_at ts j → AreEarlier ts i t b (j + 1) (earlier ++ u ∷ [])
   joined_list j u earlier a l w e =
-      record { listed = All-push (IsListedBefore ts i) earlier u a.listed (record { index = j; before = l; here = slice_get-get_or ts j no_tri w ∙ ap (λ (v : Tri). Some v) (sym e) }); one_contains = λ m n k f h. by m k f h (below_next m j n) }
+      record {
+        listed = All-push (IsListedBefore ts i) earlier u a.listed
+            (record { index = j; before = l; here = slice_get-get_or ts j no_tri w ∙ ap (λ (v : Tri). Some v) (sym e) });
+        one_contains = λ m n k f h. by m k f h (below_next m j n);
+      }
     where
       by : (m : ℕ) → m < i → (f : Face) → ContainsPart t b (tri_at ts m) f → (m < j) ⊎ (m ≡ j) → HasContaining (earlier ++ u ∷ []) f
       by m k f h (inl n) =
           let r = a.one_contains m n k f h in
           record { index = r.index; tri = r.tri; here = get_push earlier u r.index r.tri r.here; holds = r.holds }
       by m k f h (inr q) =
-          record { index = length earlier; tri = u; here = get_last earlier u; holds = (subst (λ (v : Tri). ContainsPart t b v f) (ap (tri_at ts) q ∙ sym e) h).within }
+          record {
+            index = length earlier;
+            tri = u;
+            here = get_last earlier u;
+            holds =
+                (subst (λ (v : Tri). ContainsPart t b v f) (ap (tri_at ts) q ∙ sym e) h).within;
+          }
 
   -- one more triangle that isn't known to cover t
-  pub other_listed : (j : ℕ) (u : Tri) (is_before : Bool) (old new : List Tri) {covered : Bool} → AreEarlier ts i t b j old → (is_before ≡ true → j < i) → (j < i → is_before ≡ true) → j < length ts → u ≡ tri_at ts j → covered ≡ false → AddsEarlier t u b is_before old covered new → AreEarlier ts i t b (j + 1) new
+  pub other_listed : (j : ℕ) (u : Tri) (is_before : Bool) (old new : List Tri) {covered : Bool} →
+      AreEarlier ts i t b j old → (is_before ≡ true → j < i) → (j < i → is_before ≡ true) → j < length ts →
+      u ≡ tri_at ts j → covered ≡ false → AddsEarlier t u b is_before old covered new → AreEarlier ts i t b (j + 1) new
   other_listed j u is_before old new a f g w e q (covers x y z) = absurd (clash refl q)
   other_listed j u is_before old new a f g w e q (joins x y) = joined_list j u old a (f x) w e
   other_listed j u is_before old new a f g w e q (misses n) =
@@ -181,9 +202,21 @@ module _ (ts : List Tri) (i : ℕ) (t : Tri) (b : Aabb) where
       kept_list j old a (λ l r h. absurd (clash (g l) x))
 
   -- one more triangle that covers t
-  pub cover_found : (j : ℕ) (u : Tri) (is_before : Bool) (old new : List Tri) {covered : Bool} → (is_before ≡ true → j < i) → j < length ts → u ≡ tri_at ts j → covered ≡ true → AddsEarlier t u b is_before old covered new → HasCover ts i t
+  pub cover_found : (j : ℕ) (u : Tri) (is_before : Bool) (old new : List Tri) {covered : Bool} →
+      (is_before ≡ true → j < i) → j < length ts → u ≡ tri_at ts j → covered ≡ true →
+      AddsEarlier t u b is_before old covered new → HasCover ts i t
   cover_found j u is_before old new f w e q (covers x y z) =
-      record { cover = u; listed = record { index = j; before = f x; here = slice_get-get_or ts j no_tri w ∙ ap (λ (v : Tri). Some v) (sym e) }; coplanar = y; contains = z }
+      record {
+        cover = u;
+        listed = record {
+          index = j;
+          before = f x;
+          here =
+              slice_get-get_or ts j no_tri w ∙ ap (λ (v : Tri). Some v) (sym e);
+        };
+        coplanar = y;
+        contains = z;
+      }
   cover_found j u is_before old new f w e q (joins x y) = absurd (clash q refl)
   cover_found j u is_before old new f w e q (misses n) = absurd (clash q refl)
   cover_found j u is_before old new f w e q (follows x) = absurd (clash q refl)
@@ -193,18 +226,43 @@ module _ (ts : List Tri) (i : ℕ) (t : Tri) (b : Aabb) where
     there : slice_get ts i ≡ Some t
     there = slice_get-get_or ts i no_tri w ∙ ap (λ (v : Tri). Some v) (sym e)
 
-    pub tells_owner : (earlier : List Tri) (f : Face) → All (IsValidCoplanar t) earlier → AreEarlier ts i t b (length ts) earlier → IsBounded t b f → HasInside f → DecidesOwner earlier ts i f
+    pub tells_owner : (earlier : List Tri) (f : Face) → All (IsValidCoplanar t) earlier →
+        AreEarlier ts i t b (length ts) earlier → IsBounded t b f → HasInside f → DecidesOwner earlier ts i f
     tells_owner earlier f k a d s =
         record {
-          free = λ n. record { first = λ j v u l at own c q. let h = by j u at v own c q l in all_at (λ r. Contains (face_of r) f → ⊥) earlier h.index h.tri n h.here h.holds };
-          contained = λ h o. let r = all_at (IsListedBefore ts i) earlier h.index h.tri a.listed h.here in o.first r.index t h.tri r.before r.here there (all_at (IsValidCoplanar t) earlier h.index h.tri k h.here).coplanar h.holds;
+          free = λ n. record {
+            first = λ j v u l at own c q. let h = by j u at v own c q l in
+                all_at (λ r. Contains (face_of r) f → ⊥) earlier h.index h.tri n h.here h.holds;
+          };
+          contained = λ h o. let r = all_at (IsListedBefore ts i) earlier h.index h.tri a.listed h.here in
+              o.first r.index t h.tri r.before r.here there
+              (all_at (IsValidCoplanar t) earlier h.index h.tri k h.here).coplanar h.holds;
         }
       where
-        by : (j : ℕ) (u : Tri) → slice_get ts j ≡ Some u → (v : Tri) → slice_get ts i ≡ Some v → is_coplanar u v ≡ true → Contains (face_of u) f → j < i → HasContaining earlier f
+        by : (j : ℕ) (u : Tri) → slice_get ts j ≡ Some u → (v : Tri) → slice_get ts i ≡ Some v →
+            is_coplanar u v ≡ true → Contains (face_of u) f → j < i → HasContaining earlier f
         by j u at v own c q l =
             let x = get_or_from_slice_get ts j u no_tri at in let y = sym (get_or_from_slice_get ts i v no_tri own) ∙ sym e in
-            a.one_contains j (slice_get_within ts j u at) l f (subst (λ (r : Tri). ContainsPart t b r f) (sym x) (record { coplanar = subst (λ (r : Tri). is_coplanar u r ≡ true) y c; bounded = d; somewhere = s; within = q }))
+            a.one_contains j (slice_get_within ts j u at) l f
+            (subst (λ (r : Tri). ContainsPart t b r f) (sym x)
+            (record {
+              coplanar = subst (λ (r : Tri). is_coplanar u r ≡ true) y c;
+              bounded = d;
+              somewhere = s;
+              within =
+                  q;
+            }))
 
     pub is_covered : HasCover ts i t → IsCovered ts i
     is_covered h =
-        record { index = h.listed.index; cover = h.cover; own = t; before = h.listed.before; here = h.listed.here; there = there; coplanar = h.coplanar; contains = h.contains }
+        record {
+          index = h.listed.index;
+          cover = h.cover;
+          own = t;
+          before = h.listed.before;
+          here =
+              h.listed.here;
+          there = there;
+          coplanar = h.coplanar;
+          contains = h.contains;
+        }

@@ -1,5 +1,6 @@
 -- The start that the walls leave, cut by the cutting planes that are found: the regions of the triangle.
-use Rattle.std.proofs.Common.{◌≡◌, ◌⊎◌, inl, inr, refl, sym, subst, arith, ℕ, true, false, List, [], ◌∷◌, map, length, get_or, All, ◌<◌, ℤ, pos, ◌-ℤ◌, ◌*ℤ◌, ◌≤ℤ◌}
+use Rattle.std.proofs.Common.{◌≡◌, ◌⊎◌, inl, inr, refl, sym, subst, arith, ℕ, true, false, List, [], ◌∷◌, map, length}
+use Rattle.std.proofs.Common.{get_or, All, ◌<◌, ℤ, pos, ◌-ℤ◌, ◌*ℤ◌, ◌≤ℤ◌}
 use Rattle.std.specs.Int.{int_min, int_max}
 use Rattle.std.proofs.lemmas.Int.{clamps, by_lt_z}
 use Rattle.std.proofs.lemmas.Option.{slice_get-get_or}
@@ -44,7 +45,9 @@ use Rattle.ember_leaf.specs.KeptRegions.{LiesInPlaneOf}
 use Rattle.ember_leaf.specs.EarlierTriangles.{AreEarlier, DecidesOwner}
 use Rattle.ember_leaf.specs.Written.{AreOwned}
 use Rattle.ember_poly.specs.Cuts.{HasInside}
-use Rattle.ember_leaf.specs.Cutters.{cutting_planes_in, owners_in, IsCutterOf, AreDisjoint, IsFree, AreCut, CanCut, LiesAs, SharesAs, IsWithinInterval, IsWithinAabb, IsBounded, OmitsUnmet, common, common_of}
+use Rattle.ember_leaf.specs.Cutters.{cutting_planes_in, owners_in, IsCutterOf, AreDisjoint, IsFree, AreCut, CanCut}
+use Rattle.ember_leaf.specs.Cutters.{LiesAs, SharesAs, IsWithinInterval, IsWithinAabb, IsBounded, OmitsUnmet, common}
+use Rattle.ember_leaf.specs.Cutters.{common_of}
 use Rattle.ember_leaf.proofs.WallClips.{left_parts}
 use Rattle.ember_leaf.proofs.TriRelations.{bounds}
 use Rattle.ember_leaf.proofs.UnmetPlanes.{unmet_planes_change_nothing}
@@ -82,7 +85,8 @@ level_value Y h v =
 level_value Z h v =
     solve 5 (λ x y z h w. num (pos 0) ⊗ x ⊕ num (pos 0) ⊗ y ⊕ num (pos 1) ⊗ z ⊖ h ⊗ w ≈ z ⊖ h ⊗ w) cancels v.x v.y v.z h v.w
 
-between : (k : Axis) (l h : ℤ) (v : Spot) → IsNotAbove (opposite (level k l)) v → IsNotAbove (level k h) v → IsWithinInterval (interval_between l h) (coordinate k v) v.w
+between : (k : Axis) (l h : ℤ) (v : Spot) → IsNotAbove (opposite (level k l)) v → IsNotAbove (level k h) v →
+    IsWithinInterval (interval_between l h) (coordinate k v) v.w
 between k l h v p q =
     let a = (least_from_opposite (level k l) v p).at_least in let b = q.at_most in let d = level_value k l v in let e = level_value k h v in
     record { low = omega (arith, linear, a, d); high = omega (arith, linear, b, e) }
@@ -90,7 +94,12 @@ between k l h v p q =
 in_cell : (c : Cell) (f : Face) (v : Spot) → LiesIn c f → is_inside f v ≡ true → IsWithinAabb (aabb_of_cell c) v
 in_cell c f v l i =
     let h = all_out (map (λ w. w.plane) (walls c)) v (l.holds v i) in
-    record { x = between X (low c X) (high c X) v h.0 h.1.0; y = between Y (low c Y) (high c Y) v h.1.1.0 h.1.1.1.0; z = between Z (low c Z) (high c Z) v h.1.1.1.1.0 h.1.1.1.1.1.0 }
+    record {
+      x = between X (low c X) (high c X) v h.0 h.1.0;
+      y = between Y (low c Y) (high c Y) v h.1.1.0 h.1.1.1.0;
+      z =
+          between Z (low c Z) (high c Z) v h.1.1.1.1.0 h.1.1.1.1.1.0;
+    }
 
 -- a start is the one region of a triangle that is alone
 start_lies_in : (c : Cell) (t : Tri) (f : Face) → IsStart c t (f ∷ []) → LiesIn c f
@@ -98,28 +107,61 @@ start_lies_in c t f s =
     regions_lie_in c (t ∷ []) 0 0 (f ∷ []) f (record { start = f ∷ []; is_start = s; cuts = done }) refl
 
 -- ---- regions
-bounded_keeps : (t : Tri) (s : Aabb) (b : regions.CuttingPlane) (f : Face) (fs : List Face) → IsBounded t s f → AreLeftByCuttingPlane b f fs → Every (IsBounded t s) fs
-bounded_keeps t s b f fs h (splits m c) =
-    (record { within = record { holds = λ v i. h.within.holds v (inside_below f b.plane v i).0 }; bounds = record { holds = λ v i. h.bounds.holds v (inside_below f b.plane v i).0 } }, (record { within = record { holds = λ v i. h.within.holds v (inside_below f (opposite b.plane) v i).0 }; bounds = record { holds = λ v i. h.bounds.holds v (inside_below f (opposite b.plane) v i).0 } }, tt))
+bounded_keeps : (t : Tri) (s : Aabb) (b : regions.CuttingPlane) (f : Face) (fs : List Face) → IsBounded t s f →
+    AreLeftByCuttingPlane b f fs → Every (IsBounded t s) fs
+bounded_keeps t s b f fs h (splits m c) = (
+  record {
+    within = record { holds = λ v i. h.within.holds v (inside_below f b.plane v i).0 };
+    bounds =
+        record { holds = λ v i. h.bounds.holds v (inside_below f b.plane v i).0 };
+  },
+  (
+    record {
+      within = record { holds = λ v i. h.within.holds v (inside_below f (opposite b.plane) v i).0 };
+      bounds =
+          record { holds = λ v i. h.bounds.holds v (inside_below f (opposite b.plane) v i).0 };
+    },
+    tt,
+  ),
+)
 bounded_keeps t s b f fs h (whole n) = (h, tt)
 
 module _ (c : Cell) (f : NearTriangle) (ring : Face) where
   part_bounded : (s : Aabb) → s ≡ common_of f.aabb (aabb_of_cell c) → IsPartOf f.tri ring → LiesIn c ring → IsBounded f.tri s ring
   part_bounded s q p l =
-      record { within = p.within; bounds = record { holds = λ v i. subst (λ (b : Aabb). IsWithinAabb b v) (sym q) (are_common f.aabb (aabb_of_cell c) v (own p.plane.normal v (p.within.holds v i)) (in_cell c ring v l i)) } }
+      record {
+        within = p.within;
+        bounds = record {
+          holds =
+              λ v i. subst (λ (b : Aabb). IsWithinAabb b v) (sym q)
+              (are_common f.aabb (aabb_of_cell c) v (own p.plane.normal v (p.within.holds v i)) (in_cell c ring v l i));
+        };
+      }
     where
       own : is_flat f.tri ≡ false → (v : Spot) → is_inside (face_of f.tri) v ≡ true → IsWithinAabb f.aabb v
       own n v i =
           let k = inside_closed (face_of f.tri) v i in
           subst (λ (b : Aabb). IsWithinAabb b v) (sym f.bounds) (record { x = bounds X f.tri v n k; y = bounds Y f.tri v n k; z = bounds Z f.tri v n k })
 
-  leaf_regions : (ts : List Tri) (i : ℕ) (ws : List leaf.Wall) (bs : List regions.CuttingPlane) (s : Aabb) (list : List Face) → f.tri ≡ tri_at ts i → map wall_of ws ≡ walls c → s ≡ common_of f.aabb (aabb_of_cell c) → IsClippedBy (map wall_of ws) f.tri (ring ∷ []) → OmitsUnmet (IsBounded f.tri s) (cutting_planes ts i) bs → Chain (λ b. Each (AreLeftByCuttingPlane b)) bs (ring ∷ []) list → IsRegions c ts i list
+  leaf_regions : (ts : List Tri) (i : ℕ) (ws : List leaf.Wall) (bs : List regions.CuttingPlane) (s : Aabb)
+      (list : List Face) → f.tri ≡ tri_at ts i → map wall_of ws ≡ walls c → s ≡ common_of f.aabb (aabb_of_cell c) →
+      IsClippedBy (map wall_of ws) f.tri (ring ∷ []) → OmitsUnmet (IsBounded f.tri s) (cutting_planes ts i) bs →
+      Chain (λ b. Each (AreLeftByCuttingPlane b)) bs (ring ∷ []) list → IsRegions c ts i list
   leaf_regions ts i ws bs s list e w q l h k =
       let start : IsStart c f.tri (ring ∷ []) = subst (λ (vs : List regions.Wall). IsClippedBy vs f.tri (ring ∷ [])) w l in
-      record { start = ring ∷ []; is_start = subst (λ (t : Tri). IsStart c t (ring ∷ [])) e start; cuts = unmet_planes_change_nothing (bounded_keeps f.tri s) h (part_bounded s q (left_parts f.tri start).0 (start_lies_in c f.tri ring start), tt) k }
+      record {
+        start = ring ∷ [];
+        is_start = subst (λ (t : Tri). IsStart c t (ring ∷ [])) e start;
+        cuts =
+            unmet_planes_change_nothing (bounded_keeps f.tri s) h
+            (part_bounded s q (left_parts f.tri start).0 (start_lies_in c f.tri ring start), tt) k;
+      }
 
 -- the list of triangles before a triangle decides whether it owns each of its regions
-owners_told : (c : Cell) (f : NearTriangle) (ts : List Tri) (i : ℕ) (earlier : List Tri) (s : Aabb) (list : List Face) → f.tri ≡ tri_at ts i → i < length ts → s ≡ common_of f.aabb (aabb_of_cell c) → IsRegions c ts i list → Every (IsPartOf f.tri) list → All (IsValidCoplanar f.tri) earlier → AreEarlier ts i f.tri s (length ts) earlier → All (DecidesOwner earlier ts i) list
+owners_told : (c : Cell) (f : NearTriangle) (ts : List Tri) (i : ℕ) (earlier : List Tri) (s : Aabb) (list : List Face) →
+    f.tri ≡ tri_at ts i → i < length ts → s ≡ common_of f.aabb (aabb_of_cell c) → IsRegions c ts i list →
+    Every (IsPartOf f.tri) list → All (IsValidCoplanar f.tri) earlier → AreEarlier ts i f.tri s (length ts) earlier →
+    All (DecidesOwner earlier ts i) list
 owners_told c f ts i earlier s list e w q r p k a j d l =
     let g = get_or list j d in let at = slice_get-get_or list j d l in let part = every_at (IsPartOf f.tri) list j g p at in
     tells_owner ts i f.tri s e w earlier g k a (part_bounded c f g s q part (regions_lie_in c ts i j list g r at)) part.somewhere
@@ -138,18 +180,29 @@ record IsTold (earlier ts : List Tri) (i : ℕ) (f : Face) : Type 0 where
   tells : DecidesOwner earlier ts i f
   somewhere : HasInside f
 
-all_told : (earlier ts : List Tri) (i : ℕ) (t : Tri) (fs : List Face) → Every (DecidesOwner earlier ts i) fs → Every (IsPartOf t) fs → Every (IsTold earlier ts i) fs
+all_told : (earlier ts : List Tri) (i : ℕ) (t : Tri) (fs : List Face) → Every (DecidesOwner earlier ts i) fs →
+    Every (IsPartOf t) fs → Every (IsTold earlier ts i) fs
 all_told earlier ts i t [] h k = tt
 all_told earlier ts i t (f ∷ fs) h k =
     (record { tells = h.0; somewhere = k.0.somewhere }, all_told earlier ts i t fs h.1 k.1)
 
 -- what the triangles leave of the start are the regions that the triangle owns
-pub leaf_owned : (c : Cell) (f : NearTriangle) (ring : Face) (ts : List Tri) (i : ℕ) (ws : List leaf.Wall) (cs : List Cutter) (s : Aabb) (list : List Face) → f.tri ≡ tri_at ts i → i < length ts → map wall_of ws ≡ walls c → s ≡ common_of f.aabb (aabb_of_cell c) → IsClippedBy (map wall_of ws) f.tri (ring ∷ []) → OmitsUnmet (IsBounded f.tri s) (cutting_planes ts i) (cutting_planes_in cs) → All (IsCutterOf f.tri) cs → AreEarlier ts i f.tri s (length ts) (owners_in cs) → AreCut cs (ring ∷ []) list → AreOwned c ts i list
+pub leaf_owned : (c : Cell) (f : NearTriangle) (ring : Face) (ts : List Tri) (i : ℕ) (ws : List leaf.Wall)
+    (cs : List Cutter) (s : Aabb) (list : List Face) → f.tri ≡ tri_at ts i → i < length ts → map wall_of ws ≡ walls c →
+    s ≡ common_of f.aabb (aabb_of_cell c) → IsClippedBy (map wall_of ws) f.tri (ring ∷ []) →
+    OmitsUnmet (IsBounded f.tri s) (cutting_planes ts i) (cutting_planes_in cs) → All (IsCutterOf f.tri) cs →
+    AreEarlier ts i f.tri s (length ts) (owners_in cs) → AreCut cs (ring ∷ []) list → AreOwned c ts i list
 leaf_owned c f ring ts i ws cs s list e l w q h sheds lies earlier k =
     let r = regions_left cs ring list k in let are = leaf_regions c f ring ts i ws (cutting_planes_in cs) s r.all e w q h sheds r.cuts in
     let parts = cuts_keep f.tri r.cuts ((left_parts f.tri h).0, tt) in let us = owners_in cs in
     let told = all_every (DecidesOwner us ts i) r.all (owners_told c f ts i us s r.all e l q are parts (owners_coplanar f.tri cs lies) earlier) in
-    record { all = r.all; are_regions = are; owned = without_map (IsTold us ts i) (λ g t p. t.tells.contained p) (λ g t p. t.tells.free (free_uncontained us g t.somewhere p)) (all_told us ts i f.tri r.all told parts) r.without }
+    record {
+      all = r.all;
+      are_regions = are;
+      owned =
+          without_map (IsTold us ts i) (λ g t p. t.tells.contained p)
+          (λ g t p. t.tells.free (free_uncontained us g t.somewhere p)) (all_told us ts i f.tri r.all told parts) r.without;
+    }
 
 module _ (c : Cell) (ts : List Tri) (i : ℕ) (list : List Face) (o : AreOwned c ts i list) where
   -- owned regions are regions of their triangle

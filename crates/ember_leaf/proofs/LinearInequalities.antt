@@ -60,7 +60,18 @@ pub record Solves (n : ℕ) (b : Inequality n) (x : Row n) : Type 0 where
 solves_times : (n : ℕ) (m : ℤ) (b : Inequality n) (x : Row n) → pos 1 ≤ℤ m → Solves n b x → Solves n b (times n m x)
 solves_times n m b x l h =
     let p : pos 0 ≤ℤ m = omega (arith, linear, l) in let q = mul_le p h.at_most in let r = mul_le b.least l in let e = dot_times n m b.row x in
-    record { at_most = omega (arith, linear, q, r, e, solve 3 (λ m d k. m ⊗ (d ⊕ k) ≈ m ⊗ d ⊕ k ⊗ m) cancels m (dot n b.row x) b.slack, solve 1 (λ k. k ⊗ num (pos 1) ≈ k) cancels b.slack, solve 1 (λ m. m ⊗ num (pos 0) ≈ num (pos 0)) cancels m) }
+    record {
+      at_most = omega (
+        arith,
+        linear,
+        q,
+        r,
+        e,
+        solve 3 (λ m d k. m ⊗ (d ⊕ k) ≈ m ⊗ d ⊕ k ⊗ m) cancels m (dot n b.row x) b.slack,
+        solve 1 (λ k. k ⊗ num (pos 1) ≈ k) cancels b.slack,
+        solve 1 (λ m. m ⊗ num (pos 0) ≈ num (pos 0)) cancels m,
+      );
+    }
 
 -- ---- by the sign of the first unknown's factor
 -- the factor, which is positive, and the rest
@@ -79,7 +90,13 @@ record Lower (n : ℕ) (l : Bound n) (x : ℤ) (xs : Row n) : Type 0 where
 -- what an upper and a lower bound say of the others
 joined : (n : ℕ) → Bound n → Bound n → Inequality n
 joined n u l =
-    record { row = plus n (times n l.by u.rest.row) (times n u.by l.rest.row); slack = l.by *ℤ u.rest.slack +ℤ u.by *ℤ l.rest.slack; least = sum (nonneg_mul (weak l.positive) u.rest.least) (nonneg_mul (weak u.positive) l.rest.least) }
+    record {
+      row = plus n (times n l.by u.rest.row) (times n u.by l.rest.row);
+      slack =
+          l.by *ℤ u.rest.slack +ℤ u.by *ℤ l.rest.slack;
+      least =
+          sum (nonneg_mul (weak l.positive) u.rest.least) (nonneg_mul (weak u.positive) l.rest.least);
+    }
   where
     weak : {a : ℤ} → pos 0 <ℤ a → pos 0 ≤ℤ a
     weak p = omega (arith, linear, p)
@@ -90,13 +107,33 @@ joined n u l =
 joined_side : (n : ℕ) (u l : Bound n) (xs : Row n) → side n (joined n u l) xs ≡ l.by *ℤ side n u.rest xs +ℤ u.by *ℤ side n l.rest xs
 unfolding joined
 joined_side n u l xs =
-    let e = plus_dot n (times n l.by u.rest.row) (times n u.by l.rest.row) xs in let f = times_dot n l.by u.rest.row xs in let g = times_dot n u.by l.rest.row xs in
-    omega (arith, linear, e, f, g, solve 3 (λ m d k. m ⊗ (d ⊕ k) ≈ m ⊗ d ⊕ m ⊗ k) cancels l.by (dot n u.rest.row xs) u.rest.slack, solve 3 (λ m d k. m ⊗ (d ⊕ k) ≈ m ⊗ d ⊕ m ⊗ k) cancels u.by (dot n l.rest.row xs) l.rest.slack)
+    let e = plus_dot n (times n l.by u.rest.row) (times n u.by l.rest.row) xs in let f =
+    times_dot n l.by u.rest.row xs in let g = times_dot n u.by l.rest.row xs in
+    omega (
+      arith,
+      linear,
+      e,
+      f,
+      g,
+      solve 3 (λ m d k. m ⊗ (d ⊕ k) ≈ m ⊗ d ⊕ m ⊗ k) cancels l.by (dot n u.rest.row xs)
+          u.rest.slack,
+      solve 3 (λ m d k. m ⊗ (d ⊕ k) ≈ m ⊗ d ⊕ m ⊗ k) cancels u.by (dot n l.rest.row xs) l.rest.slack,
+    )
 
 joined_solves : (n : ℕ) (u l : Bound n) (x : ℤ) (xs : Row n) → Upper n u x xs → Lower n l x xs → Solves n (joined n u l) xs
 joined_solves n u l x xs p q =
     let a = mul_le (weak l.positive) p.holds in let b = mul_le (weak u.positive) q.holds in let e = joined_side n u l xs in
-    record { at_most = omega (arith, linear, a, b, e, solve 4 (λ m k x s. m ⊗ (k ⊗ x ⊕ s) ≈ k ⊗ (m ⊗ x) ⊕ m ⊗ s) cancels l.by u.by x (side n u.rest xs), solve 1 (λ m. m ⊗ num (pos 0) ≈ num (pos 0)) cancels l.by) }
+    record {
+      at_most = omega (
+        arith,
+        linear,
+        a,
+        b,
+        e,
+        solve 4 (λ m k x s. m ⊗ (k ⊗ x ⊕ s) ≈ k ⊗ (m ⊗ x) ⊕ m ⊗ s) cancels l.by u.by x (side n u.rest xs),
+        solve 1 (λ m. m ⊗ num (pos 0) ≈ num (pos 0)) cancels l.by,
+      );
+    }
   where
     weak : {a : ℤ} → pos 0 <ℤ a → pos 0 ≤ℤ a
     weak p = omega (arith, linear, p)
@@ -110,11 +147,13 @@ abbrev all_joined : (n : ℕ) → List (Bound n) → List (Bound n) → List (In
 all_joined n us [] = []
 all_joined n us (l ∷ ls) = against n us l ++ all_joined n us ls
 
-against_solved : (n : ℕ) (us : List (Bound n)) (l : Bound n) (x : ℤ) (xs : Row n) → Every (λ u. Upper n u x xs) us → Lower n l x xs → Every (λ b. Solves n b xs) (against n us l)
+against_solved : (n : ℕ) (us : List (Bound n)) (l : Bound n) (x : ℤ) (xs : Row n) → Every (λ u. Upper n u x xs) us →
+    Lower n l x xs → Every (λ b. Solves n b xs) (against n us l)
 against_solved n [] l x xs h q = tt
 against_solved n (u ∷ us) l x xs h q = (joined_solves n u l x xs h.0 q, against_solved n us l x xs h.1 q)
 
-all_joined_solved : (n : ℕ) (us ls : List (Bound n)) (x : ℤ) (xs : Row n) → Every (λ u. Upper n u x xs) us → Every (λ l. Lower n l x xs) ls → Every (λ b. Solves n b xs) (all_joined n us ls)
+all_joined_solved : (n : ℕ) (us ls : List (Bound n)) (x : ℤ) (xs : Row n) → Every (λ u. Upper n u x xs) us →
+    Every (λ l. Lower n l x xs) ls → Every (λ b. Solves n b xs) (all_joined n us ls)
 all_joined_solved n us [] x xs h k = tt
 all_joined_solved n us (l ∷ ls) x xs h k =
     every_append (λ b. Solves n b xs) (against n us l) (all_joined n us ls) (against_solved n us l x xs h k.0) (all_joined_solved n us ls x xs h k.1)
@@ -133,7 +172,17 @@ least_trans : (n : ℕ) (xs : Row n) (a b c : Bound n) → Least n xs a b → Le
 least_trans n xs a b c p q =
     let va = side n a.rest xs in let vb = side n b.rest xs in let vc = side n c.rest xs in
     let x = mul_le (weak c.positive) p.holds in let y = mul_le (weak a.positive) q.holds in
-    record { holds = cancel_le b.positive (omega (arith, linear, x, y, solve 3 (λ v m k. m ⊗ (v ⊗ k) ≈ k ⊗ (v ⊗ m)) cancels vc a.by b.by, solve 3 (λ v m k. k ⊗ (v ⊗ m) ≈ m ⊗ (v ⊗ k)) cancels vb a.by c.by, solve 3 (λ v m k. k ⊗ (v ⊗ m) ≈ m ⊗ (v ⊗ k)) cancels va b.by c.by)) }
+    record {
+      holds = cancel_le b.positive (omega (
+        arith,
+        linear,
+        x,
+        y,
+        solve 3 (λ v m k. m ⊗ (v ⊗ k) ≈ k ⊗ (v ⊗ m)) cancels vc a.by b.by,
+        solve 3 (λ v m k. k ⊗ (v ⊗ m) ≈ m ⊗ (v ⊗ k)) cancels vb a.by c.by,
+        solve 3 (λ v m k. k ⊗ (v ⊗ m) ≈ m ⊗ (v ⊗ k)) cancels va b.by c.by,
+      ));
+    }
   where
     weak : {a : ℤ} → pos 0 <ℤ a → pos 0 ≤ℤ a
     weak p = omega (arith, linear, p)
@@ -153,7 +202,8 @@ least_all : (n : ℕ) (xs : Row n) (a b : Bound n) (ls : List (Bound n)) → Lea
 least_all n xs a b [] p h = tt
 least_all n xs a b (l ∷ ls) p h = (least_trans n xs a b l p h.0, least_all n xs a b ls p h.1)
 
-better : (n : ℕ) (us : List (Bound n)) (l : Bound n) (ls : List (Bound n)) (xs : Row n) → Every (λ b. Solves n b xs) (against n us l) → Best n us ls xs → Best n us (l ∷ ls) xs
+better : (n : ℕ) (us : List (Bound n)) (l : Bound n) (ls : List (Bound n)) (xs : Row n) →
+    Every (λ b. Solves n b xs) (against n us l) → Best n us ls xs → Best n us (l ∷ ls) xs
 better n us l ls xs h r =
     let v = side n l.rest xs in let w = side n r.best.rest xs in
     by_lt_z (w *ℤ l.by) (v *ℤ r.best.by)
@@ -163,7 +213,8 @@ better n us l ls xs h r =
     weak : {a b : ℤ} → a <ℤ b → a ≤ℤ b
     weak q = omega (arith, linear, q)
 
-find_best : (n : ℕ) (us : List (Bound n)) (l : Bound n) (ls : List (Bound n)) (xs : Row n) → Every (λ b. Solves n b xs) (all_joined n us (l ∷ ls)) → Best n us (l ∷ ls) xs
+find_best : (n : ℕ) (us : List (Bound n)) (l : Bound n) (ls : List (Bound n)) (xs : Row n) →
+    Every (λ b. Solves n b xs) (all_joined n us (l ∷ ls)) → Best n us (l ∷ ls) xs
 find_best n us l [] xs h =
     record { best = l; below = (least_self n xs l, tt); joins = (every_parts (λ b. Solves n b xs) (against n us l) [] h).0 }
 find_best n us l (k ∷ ks) xs h =
@@ -182,19 +233,39 @@ record Chosen (n : ℕ) (us ls : List (Bound n)) (xs : Row n) : Type 0 where
 side_times : (n : ℕ) (m : ℤ) (b : Inequality n) (xs : Row n) → pos 1 ≤ℤ m → side n b (times n m xs) ≤ℤ (m *ℤ side n b xs)
 side_times n m b xs l =
     let r = mul_le b.least l in let e = dot_times n m b.row xs in
-    omega (arith, linear, r, e, solve 3 (λ m d k. m ⊗ (d ⊕ k) ≈ m ⊗ d ⊕ k ⊗ m) cancels m (dot n b.row xs) b.slack, solve 1 (λ k. k ⊗ num (pos 1) ≈ k) cancels b.slack)
+    omega (
+      arith,
+      linear,
+      r,
+      e,
+      solve 3 (λ m d k. m ⊗ (d ⊕ k) ≈ m ⊗ d ⊕ k ⊗ m) cancels m (dot n b.row xs) b.slack,
+      solve 1 (λ k. k ⊗ num (pos 1) ≈ k) cancels b.slack,
+    )
 
-chosen_uppers : (n : ℕ) (us : List (Bound n)) (l : Bound n) (xs : Row n) → pos 1 ≤ℤ l.by → Every (λ b. Solves n b xs) (against n us l) → Every (λ u. Upper n u (side n l.rest xs) (times n l.by xs)) us
+chosen_uppers : (n : ℕ) (us : List (Bound n)) (l : Bound n) (xs : Row n) → pos 1 ≤ℤ l.by →
+    Every (λ b. Solves n b xs) (against n us l) → Every (λ u. Upper n u (side n l.rest xs) (times n l.by xs)) us
 chosen_uppers n [] l xs o h = tt
 chosen_uppers n (u ∷ us) l xs o h =
     let t = side_times n l.by u.rest xs o in let e = joined_side n u l xs in let a = h.0.at_most in
     (record { holds = omega (arith, linear, t, e, a) }, chosen_uppers n us l xs o h.1)
 
-chosen_lowers : (n : ℕ) (best : Bound n) (ls : List (Bound n)) (xs : Row n) → pos 1 ≤ℤ best.by → Every (λ l. Least n xs best l) ls → Every (λ l. Lower n l (side n best.rest xs) (times n best.by xs)) ls
+chosen_lowers : (n : ℕ) (best : Bound n) (ls : List (Bound n)) (xs : Row n) → pos 1 ≤ℤ best.by →
+    Every (λ l. Least n xs best l) ls → Every (λ l. Lower n l (side n best.rest xs) (times n best.by xs)) ls
 chosen_lowers n best [] xs o h = tt
 chosen_lowers n best (l ∷ ls) xs o h =
-    let t = side_times n best.by l.rest xs o in let a = h.0.holds in
-    (record { holds = omega (arith, linear, t, a, solve 2 (λ v m. m ⊗ v ≈ v ⊗ m) cancels (side n l.rest xs) best.by, solve 2 (λ v m. m ⊗ v ≈ v ⊗ m) cancels (side n best.rest xs) l.by) }, chosen_lowers n best ls xs o h.1)
+    let t = side_times n best.by l.rest xs o in let a = h.0.holds in (
+      record {
+        holds = omega (
+          arith,
+          linear,
+          t,
+          a,
+          solve 2 (λ v m. m ⊗ v ≈ v ⊗ m) cancels (side n l.rest xs) best.by,
+          solve 2 (λ v m. m ⊗ v ≈ v ⊗ m) cancels (side n best.rest xs) l.by,
+        );
+      },
+      chosen_lowers n best ls xs o h.1,
+    )
 
 -- no lower bound: a value that is low enough
 record AtMost (n : ℕ) (xs : Row n) (size : ℤ) (u : Bound n) : Type 0 where
@@ -215,15 +286,34 @@ sized n [] xs = record { size = pos 0; least = omega (arith, linear); sides = tt
 sized n (u ∷ us) xs =
     let r = sized n us xs in let v = side n u.rest xs in let least = r.least in
     by_lt_z r.size v
-    (λ l. record { size = v; least = omega (arith, linear, l, least); sides = (record { holds = omega (arith, linear) }, at_most_all n xs r.size v us (omega (arith, linear, l)) r.sides) })
+    (λ l. record {
+      size = v;
+      least = omega (arith, linear, l, least);
+      sides =
+          (record { holds = omega (arith, linear) }, at_most_all n xs r.size v us (omega (arith, linear, l)) r.sides);
+    })
     (λ l. record { size = r.size; least = least; sides = (record { holds = l }, r.sides) })
 
-low_uppers : (n : ℕ) (us : List (Bound n)) (xs : Row n) (s : ℤ) → pos 0 ≤ℤ s → Every (AtMost n xs s) us → Every (λ u. Upper n u (neg_ℤ s) (times n (pos 1) xs)) us
+low_uppers : (n : ℕ) (us : List (Bound n)) (xs : Row n) (s : ℤ) → pos 0 ≤ℤ s → Every (AtMost n xs s) us →
+    Every (λ u. Upper n u (neg_ℤ s) (times n (pos 1) xs)) us
 low_uppers n [] xs s l h = tt
 low_uppers n (u ∷ us) xs s l h =
     let a = h.0.holds in let p = u.positive in let one : pos 1 ≤ℤ u.by = omega (arith, linear, p) in
-    let t = side_times n (pos 1) u.rest xs (omega (arith, linear)) in let m = mul_le l one in
-    (record { holds = omega (arith, linear, a, t, m, solve 2 (λ b s. b ⊗ neg s ≈ neg (s ⊗ b)) cancels u.by s, solve 1 (λ s. s ⊗ num (pos 1) ≈ s) cancels s, solve 1 (λ v. num (pos 1) ⊗ v ≈ v) cancels (side n u.rest xs)) }, low_uppers n us xs s l h.1)
+    let t = side_times n (pos 1) u.rest xs (omega (arith, linear)) in let m = mul_le l one in (
+      record {
+        holds = omega (
+          arith,
+          linear,
+          a,
+          t,
+          m,
+          solve 2 (λ b s. b ⊗ neg s ≈ neg (s ⊗ b)) cancels u.by s,
+          solve 1 (λ s. s ⊗ num (pos 1) ≈ s) cancels s,
+          solve 1 (λ v. num (pos 1) ⊗ v ≈ v) cancels (side n u.rest xs),
+        );
+      },
+      low_uppers n us xs s l h.1,
+    )
 
 choose : (n : ℕ) (us ls : List (Bound n)) (xs : Row n) → Every (λ b. Solves n b xs) (all_joined n us ls) → Chosen n us ls xs
 choose n us [] xs h =
@@ -231,15 +321,24 @@ choose n us [] xs h =
     record { factor = pos 1; at_least = omega (arith, linear); first = neg_ℤ r.size; uppers = low_uppers n us xs r.size r.least r.sides; lowers = tt }
 choose n us (l ∷ ls) xs h =
     let r = find_best n us l ls xs h in let p = r.best.positive in let one : pos 1 ≤ℤ r.best.by = omega (arith, linear, p) in
-    record { factor = r.best.by; at_least = one; first = side n r.best.rest xs; uppers = chosen_uppers n us r.best xs one r.joins; lowers = chosen_lowers n r.best (l ∷ ls) xs one r.below }
+    record {
+      factor = r.best.by;
+      at_least = one;
+      first = side n r.best.rest xs;
+      uppers =
+          chosen_uppers n us r.best xs one r.joins;
+      lowers = chosen_lowers n r.best (l ∷ ls) xs one r.below;
+    }
 
 -- ---- the system by the sign of the first unknown's factor
 record Sorted (n : ℕ) (bs : List (Inequality (suc n))) : Type 0 where
   uppers : List (Bound n)
   lowers : List (Bound n)
   others : List (Inequality n)
-  forth : (x : ℤ) (xs : Row n) → Every (λ b. Solves (suc n) b (x, xs)) bs → Every (λ u. Upper n u x xs) uppers × Every (λ l. Lower n l x xs) lowers × Every (λ b. Solves n b xs) others
-  back : (x : ℤ) (xs : Row n) → Every (λ u. Upper n u x xs) uppers → Every (λ l. Lower n l x xs) lowers → Every (λ b. Solves n b xs) others → Every (λ b. Solves (suc n) b (x, xs)) bs
+  forth : (x : ℤ) (xs : Row n) → Every (λ b. Solves (suc n) b (x, xs)) bs →
+      Every (λ u. Upper n u x xs) uppers × Every (λ l. Lower n l x xs) lowers × Every (λ b. Solves n b xs) others
+  back : (x : ℤ) (xs : Row n) → Every (λ u. Upper n u x xs) uppers → Every (λ l. Lower n l x xs) lowers →
+      Every (λ b. Solves n b xs) others → Every (λ b. Solves (suc n) b (x, xs)) bs
 
 rest_of : (n : ℕ) (b : Inequality (suc n)) → Inequality n
 rest_of n b = record { row = b.row.1; slack = b.slack; least = b.least }
@@ -314,7 +413,9 @@ module _ (n : ℕ) (bs : List (Inequality (suc n))) (s : Sorted n bs) where
       let k = choose n s.uppers s.lowers r.0 p.0 in let xs = times n k.factor r.0 in
       inl ((k.first, xs), s.back k.first xs k.uppers k.lowers (solved_times n k.factor s.others r.0 k.at_least p.1))
   up (inr f) =
-      inr (λ x h. let k = s.forth x.0 x.1 h in f x.1 (every_append (λ b. Solves n b x.1) (all_joined n s.uppers s.lowers) s.others (all_joined_solved n s.uppers s.lowers x.0 x.1 k.0 k.1) k.2))
+      inr (λ x h. let k = s.forth x.0 x.1 h in f x.1
+      (every_append (λ b. Solves n b x.1) (all_joined n s.uppers s.lowers) s.others
+      (all_joined_solved n s.uppers s.lowers x.0 x.1 k.0 k.1) k.2))
 
 -- each system has a solution, or it has none
 pub system_is_decided : (n : ℕ) (bs : List (Inequality n)) → IsDecided n bs

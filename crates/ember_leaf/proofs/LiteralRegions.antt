@@ -30,7 +30,8 @@ use Rattle.ember_leaf.proofs.SomeRegions.{either, some_each, some_each_where, so
 -- ---- lists can't fail to exist
 part_has_sides : (scene : List Tri) → All IsValidTri scene → (t : Tri) (g : Face) → IsPartOf t g → HasSides scene g
 part_has_sides scene valid t g p =
-    face_has_sides scene valid g p.somewhere.at p.somewhere.inside (subst (λ (n : Plane). along n (main_axis n) ≢ pos 0) (sym p.plane.support) (main_entry t p.plane.normal))
+    face_has_sides scene valid g p.somewhere.at p.somewhere.inside
+    (subst (λ (n : Plane). along n (main_axis n) ≢ pos 0) (sym p.plane.support) (main_entry t p.plane.normal))
 
 module _ (scene : List Tri) (f : Formula) (valid : All IsValidTri scene) where
   at_region : (near : List Tri) (i : ℕ) (t : Tri) (g : Face) → IsPartOf t g → ((ks : List Kept) → IsWrittenOfRegion scene f near i g ks → ⊥) → ⊥
@@ -49,7 +50,9 @@ module _ (scene : List Tri) (f : Formula) (valid : All IsValidTri scene) where
   pub some_of_triangle : (c : Cell) (i : ℕ) → ((ks : List Kept) → IsLiterallyWrittenOf scene f c i ks → ⊥) → ⊥
   some_of_triangle c i n =
       let t = tri_at (near scene c) i in
-      some_regions c (near scene c) i (λ fs r. some_each_where (IsPartOf t) (at_region (near scene c) i t) fs (cuts_keep t r.cuts (left_parts t r.is_start)) (λ ks e. n ks (record { faces = fs; are_regions = r; are_written = e })))
+      some_regions c (near scene c) i (λ fs r. some_each_where (IsPartOf t) (at_region (near scene c) i t) fs
+      (cuts_keep t r.cuts (left_parts t r.is_start))
+      (λ ks e. n ks (record { faces = fs; are_regions = r; are_written = e })))
 
   -- of a leaf
   pub some_of_leaf : (c : Cell) → ((ks : List Kept) → IsLiterallyWrittenIn scene f c ks → ⊥) → ⊥
@@ -72,7 +75,8 @@ pub literal_written : (scene : List Tri) (f : Formula) (ks : List Kept) → IsLi
 literal_written scene f ks w = each_as (λ c us r. regions (in_leaf scene f c r)) w
 
 -- a covered triangle writes nothing
-pub covered_nothing : (scene : List Tri) (f : Formula) (c : Cell) (i : ℕ) → IsCovered (near scene c) i → (ks : List Kept) → IsLiterallyWrittenOf scene f c i ks → ks ≡ []
+pub covered_nothing : (scene : List Tri) (f : Formula) (c : Cell) (i : ℕ) → IsCovered (near scene c) i →
+    (ks : List Kept) → IsLiterallyWrittenOf scene f c i ks → ks ≡ []
 covered_nothing scene f c i h ks w = covered_writes_nothing scene f c (near scene c) i ks h w
 
 module _ (scene : List Tri) (f : Formula) (meshes : ℕ) (is : IsScene scene meshes) where
@@ -83,4 +87,5 @@ module _ (scene : List Tri) (f : Formula) (meshes : ℕ) (is : IsScene scene mes
   -- a list that is written can't fail to be a literal one
   pub written_literal : (ks : List Kept) → IsWritten scene f ks → (IsLiterallyWritten scene f ks → ⊥) → ⊥
   written_literal ks w n =
-      some_of_scene scene f is.valid (λ us l. n (subst (IsLiterallyWritten scene f) (written_unique scene f meshes is us ks (literal_written scene f us l) w) l))
+      some_of_scene scene f is.valid (λ us l. n (subst (IsLiterallyWritten scene f)
+      (written_unique scene f meshes is us ks (literal_written scene f us l) w) l))

@@ -14,7 +14,8 @@ use Rattle.ember_box.specs.Regions.{CuttingPlane, AreLeftByCuttingPlane, splits,
 use Rattle.ember_trace.proofs.FilledFaces.{inside_below}
 use Rattle.ember_leaf.specs.declared.cutter.Cutter.{Cutter}
 use Rattle.ember_leaf.specs.TriRelations.{HasContaining}
-use Rattle.ember_leaf.specs.Cutters.{cutting_planes_with, cutting_planes_by, cutting_planes_in, owners_by, owners_in, Without, ended, left, dropped, AreDisjoint, IsFree, AreLeft, AreSplit}
+use Rattle.ember_leaf.specs.Cutters.{cutting_planes_with, cutting_planes_by, cutting_planes_in, owners_by, owners_in}
+use Rattle.ember_leaf.specs.Cutters.{Without, ended, left, dropped, AreDisjoint, IsFree, AreLeft, AreSplit}
 use Rattle.ember_leaf.proofs.WallClips.{each_every}
 use Rattle.ember_leaf.proofs.CutCases.{at_cutting_plane}
 
@@ -46,7 +47,9 @@ all_left [] fs = (fs, done)
 all_left (b ∷ bs) fs = let h = each_left b fs in let k = all_left bs h.0 in (k.0, step h.1 k.1)
 
 -- what parts keep, cutting planes keep
-cuts_every : (P : Face → Type 0) → ((f : Face) (p : Plane) → P f → P (record { support = f.support; edges = f.edges ++ p ∷ [] })) → {bs : List CuttingPlane} {fs gs : List Face} → AreCutBy bs fs gs → Every P fs → Every P gs
+cuts_every : (P : Face → Type 0) → ((f : Face) (p : Plane) → P f →
+    P (record { support = f.support; edges = f.edges ++ p ∷ [] })) → {bs : List CuttingPlane} {fs gs : List Face} →
+    AreCutBy bs fs gs → Every P fs → Every P gs
 cuts_every P k done h = h
 cuts_every P k (step {x = b} r c) h = cuts_every P k c (each_every P P by r h)
   where
@@ -84,7 +87,8 @@ module _ {X : Type 0} {P Q : X → Type 0} where
   left_have (dropped p w) = left_have w
 
 -- with other properties
-pub without_map : {X : Type 0} {P Q R S : X → Type 0} (T : X → Type 0) → ((x : X) → T x → P x → R x) → ((x : X) → T x → Q x → S x) → {xs ys : List X} → Every T xs → Without P Q xs ys → Without R S xs ys
+pub without_map : {X : Type 0} {P Q R S : X → Type 0} (T : X → Type 0) → ((x : X) → T x → P x → R x) →
+    ((x : X) → T x → Q x → S x) → {xs ys : List X} → Every T xs → Without P Q xs ys → Without R S xs ys
 without_map T f g t ended = ended
 without_map T f g t (left {x = x} q w) = left (g x t.0 q) (without_map T f g t.1 w)
 without_map T f g t (dropped {x = x} p w) = dropped (f x t.0 p) (without_map T f g t.1 w)
@@ -126,30 +130,44 @@ part_held ts f p h =
 part_free : (ts : List Tri) (f : Face) (p : Plane) → IsFree ts f → IsFree ts (record { support = f.support; edges = f.edges ++ p ∷ [] })
 part_free ts f p h = record { free = by ts h.free }
   where
-    by : (ts : List Tri) → AllByRecursion (λ t. AreDisjoint (face_of t) f) ts → AllByRecursion (λ t. AreDisjoint (face_of t) (record { support = f.support; edges = f.edges ++ p ∷ [] })) ts
+    by : (ts : List Tri) → AllByRecursion (λ t. AreDisjoint (face_of t) f) ts →
+        AllByRecursion (λ t. AreDisjoint (face_of t) (record { support = f.support; edges = f.edges ++ p ∷ [] })) ts
     by [] a = tt
     by (t ∷ ts) a = (record { holds = λ v i. a.0.holds v (inside_below f p v i).0 }, by ts a.1)
 
 -- ---- one triangle more
 module _ (old new : List Tri) (bs : List CuttingPlane) where
-  next_left : {all gs hs : List Face} → Without (HasContaining old) (IsFree old) all gs → Each (λ g. AreLeft bs new (g ∷ [])) gs hs → AreLeft bs (old ++ new) all hs
+  next_left : {all gs hs : List Face} → Without (HasContaining old) (IsFree old) all gs →
+      Each (λ g. AreLeft bs new (g ∷ [])) gs hs → AreLeft bs (old ++ new) all hs
   next_left ended none = record { all = []; cuts = cuts_none bs; without = ended }
   next_left (left {x = f} q w) (more r e) =
       let t = next_left w e in let k = cuts_every (IsFree old) (part_free old) r.cuts (q, tt) in
-      record { all = r.all ++ t.all; cuts = cuts_both r.cuts t.cuts; without = without_append (without_map (IsFree old) (λ g a h. held_after old new g h) (λ g a h. free_both old new g a h) k r.without) t.without }
+      record {
+        all = r.all ++ t.all;
+        cuts = cuts_both r.cuts t.cuts;
+        without =
+            without_append (without_map (IsFree old) (λ g a h. held_after old new g h) (λ g a h. free_both old new g a h) k
+            r.without) t.without;
+      }
   next_left (dropped {x = f} p w) e =
       let t = next_left w e in let s = all_left bs (f ∷ []) in
       let k = cuts_every (HasContaining (old ++ new)) (part_held (old ++ new)) s.1 (held_before old new f p, tt) in
       record { all = s.0 ++ t.all; cuts = cuts_both s.1 t.cuts; without = without_append (all_dropped s.0 k) t.without }
 
 -- ---- all triangles, one after another
-left_from : (bs : List CuttingPlane) (ts : List Tri) (f : Face) {cs : List Cutter} {fs gs : List Face} → AreLeft bs ts (f ∷ []) fs → Chain AreSplit cs fs gs → AreLeft (bs ++ cutting_planes_in cs) (ts ++ owners_in cs) (f ∷ []) gs
+left_from : (bs : List CuttingPlane) (ts : List Tri) (f : Face) {cs : List Cutter} {fs gs : List Face} →
+    AreLeft bs ts (f ∷ []) fs → Chain AreSplit cs fs gs →
+    AreLeft (bs ++ cutting_planes_in cs) (ts ++ owners_in cs) (f ∷ []) gs
 left_from bs ts f {gs = gs} l done =
-    subst (λ (us : List Tri). AreLeft (bs ++ []) us (f ∷ []) gs) (sym (append-nil ts)) (subst (λ (cs : List CuttingPlane). AreLeft cs ts (f ∷ []) gs) (sym (append-nil bs)) l)
+    subst (λ (us : List Tri). AreLeft (bs ++ []) us (f ∷ []) gs) (sym (append-nil ts))
+    (subst (λ (cs : List CuttingPlane). AreLeft cs ts (f ∷ []) gs) (sym (append-nil bs)) l)
 left_from bs ts f {gs = gs} l (step {x = c} {xs = cs} r d) =
     let n = next_left ts (owners_by c) (cutting_planes_by c) l.without r in
     let h = left_from (bs ++ cutting_planes_by c) (ts ++ owners_by c) f (record { all = n.all; cuts = chain_append l.cuts n.cuts; without = n.without }) d in
-    subst (λ (us : List Tri). AreLeft (bs ++ (cutting_planes_by c ++ cutting_planes_in cs)) us (f ∷ []) gs) (append_assoc ts (owners_by c) (owners_in cs)) (subst (λ (ds : List CuttingPlane). AreLeft ds ((ts ++ owners_by c) ++ owners_in cs) (f ∷ []) gs) (append_assoc bs (cutting_planes_by c) (cutting_planes_in cs)) h)
+    subst (λ (us : List Tri). AreLeft (bs ++ (cutting_planes_by c ++ cutting_planes_in cs)) us (f ∷ []) gs)
+    (append_assoc ts (owners_by c) (owners_in cs))
+    (subst (λ (ds : List CuttingPlane). AreLeft ds ((ts ++ owners_by c) ++ owners_in cs) (f ∷ []) gs)
+    (append_assoc bs (cutting_planes_by c) (cutting_planes_in cs)) h)
 
 -- what is left of a start, and how it comes from all its regions
 pub regions_left : (cs : List Cutter) (f : Face) (gs : List Face) → Chain AreSplit cs (f ∷ []) gs → AreLeft (cutting_planes_in cs) (owners_in cs) (f ∷ []) gs

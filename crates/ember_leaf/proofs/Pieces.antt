@@ -1,5 +1,6 @@
 -- What a triangle leaves of one region.
-use Rattle.std.proofs.Common.{◌≡◌, ◌≢◌, ℕ, suc, ◌+◌, ◌-◌, ◌<◌, ◌≤◌, length, take, drop, get_or, refl, sym, ap, subst, ◌∙◌, arith, pos, ◌<ℤ◌, true, false, List, [], ◌∷◌, ◌++◌, append_assoc, All}
+use Rattle.std.proofs.Common.{◌≡◌, ◌≢◌, ℕ, suc, ◌+◌, ◌-◌, ◌<◌, ◌≤◌, length, take, drop, get_or, refl, sym, ap, subst}
+use Rattle.std.proofs.Common.{◌∙◌, arith, pos, ◌<ℤ◌, true, false, List, [], ◌∷◌, ◌++◌, append_assoc, All}
 use Rattle.std.specs.List.{AllByRecursion}
 use Rattle.std.proofs.lemmas.List.{append-nil, take_more}
 use Rattle.ember_algebra.specs.Relations.{Each, none, more, done, step}
@@ -26,7 +27,9 @@ use Rattle.ember_leaf.specs.declared.cutter.Role.{Role}
 use Rattle.ember_leaf.specs.declared.cutter.Role.TheVariants.{OtherPlane, Later, Earlier}
 use Rattle.ember_leaf.specs.TriRelations.{HasContaining}
 use Rattle.ember_leaf.specs.Written.{HasGrown}
-use Rattle.ember_leaf.specs.Cutters.{planes_as, owner_as, cutting_planes_with, owners_by, ended, left, dropped, AreDisjoint, IsFree, AreLeft, AreLeftByCutter, SplitsIfCut, in_parts, in_one, IsUncut, AreLeftByEdges, AreAround, CutOutTriangle, ShareAPlane, SharesAs, CanCut}
+use Rattle.ember_leaf.specs.Cutters.{planes_as, owner_as, cutting_planes_with, owners_by, ended, left, dropped}
+use Rattle.ember_leaf.specs.Cutters.{AreDisjoint, IsFree, AreLeft, AreLeftByCutter, SplitsIfCut, in_parts, in_one}
+use Rattle.ember_leaf.specs.Cutters.{IsUncut, AreLeftByEdges, AreAround, CutOutTriangle, ShareAPlane, SharesAs, CanCut}
 use Rattle.ember_leaf.proofs.WallClips.{inside_in_below}
 use Rattle.ember_leaf.proofs.RegionCuts.{take_all, region_parts, not_cut, region_whole}
 use Rattle.ember_leaf.proofs.OwnedRegions.{cuts_both, cuts_unmet, without_append, none_dropped}
@@ -45,18 +48,35 @@ unmet_left c f n =
 
 -- ---- a triangle in another plane
 -- what a plane leaves of a region that meets a face is what it leaves as a cutting plane of that face
-cutting_plane_left : (g : Face) (p : Plane) (f : Face) {gs : List Face} → Meets f g → SplitsIfCut p f gs → AreLeftByCuttingPlane (record { face = g; plane = p }) f gs
+cutting_plane_left : (g : Face) (p : Plane) (f : Face) {gs : List Face} → Meets f g → SplitsIfCut p f gs →
+    AreLeftByCuttingPlane (record { face = g; plane = p }) f gs
 cutting_plane_left g p f m (in_parts c) = splits m c
 cutting_plane_left g p f m (in_one n) = whole (λ k c. n c)
 
-plane_left : (t : Tri) (p : Plane) (f : Face) {gs : List Face} → Meets f (face_of t) → SplitsIfCut p f gs → AreLeft (cutting_planes_with t (p ∷ [])) [] (f ∷ []) gs
+plane_left : (t : Tri) (p : Plane) (f : Face) {gs : List Face} → Meets f (face_of t) → SplitsIfCut p f gs →
+    AreLeft (cutting_planes_with t (p ∷ [])) [] (f ∷ []) gs
 plane_left t p f {gs} m h =
-    record { all = gs; cuts = step (subst (λ (l : List Face). Each (AreLeftByCuttingPlane (record { face = face_of t; plane = p })) (f ∷ []) l) (append-nil gs) (more (cutting_plane_left (face_of t) p f m h) none)) done; without = none_dropped gs (λ g. record { free = tt }) }
+    record {
+      all = gs;
+      cuts = step (subst (λ (l : List Face). Each
+          (AreLeftByCuttingPlane (record { face = face_of t; plane = p })) (f ∷ []) l) (append-nil gs)
+          (more (cutting_plane_left (face_of t) p f m h) none)) done;
+      without =
+          none_dropped gs (λ g. record { free = tt });
+    }
 
 -- what the support plane of a triangle in another plane leaves of a region is what the triangle leaves
-pub other_plane_left : (c : Cutter) (p : Plane) (f : Face) {old new : List Face} → c.role ≡ OtherPlane → p ≡ support_of c.tri → Meets f (face_of c.tri) → HasGrown (SplitsIfCut p f) old new → HasGrown (AreLeftByCutter c f) old new
+pub other_plane_left : (c : Cutter) (p : Plane) (f : Face) {old new : List Face} → c.role ≡ OtherPlane →
+    p ≡ support_of c.tri → Meets f (face_of c.tri) → HasGrown (SplitsIfCut p f) old new →
+    HasGrown (AreLeftByCutter c f) old new
 other_plane_left c p f {old} {new} e q m g =
-    record { more = g.more; is = g.is; holds = subst (λ (k : Role). AreLeft (cutting_planes_with c.tri (planes_as k c.tri)) (owner_as k c.tri) (f ∷ []) g.more) (sym e) (plane_left c.tri (support_of c.tri) f m (subst (λ (p : Plane). SplitsIfCut p f g.more) q g.holds)) }
+    record {
+      more = g.more;
+      is = g.is;
+      holds = subst
+          (λ (k : Role). AreLeft (cutting_planes_with c.tri (planes_as k c.tri)) (owner_as k c.tri) (f ∷ []) g.more) (sym e)
+          (plane_left c.tri (support_of c.tri) f m (subst (λ (p : Plane). SplitsIfCut p f g.more) q g.holds));
+    }
 
 -- the two parts of a region that a plane cuts
 cut_in_parts : (p : Plane) (f low high : Face) → AreParts f p low high → SplitsIfCut p f (low ∷ high ∷ [])
@@ -64,12 +84,19 @@ cut_in_parts p f low high a =
     subst (λ (l : List Face). SplitsIfCut p f l) (sym (λ i. a.is_low i ∷ a.is_high i ∷ [])) (in_parts a.cuts)
 
 -- a plane that cuts a region leaves its two parts
-pub plane_parts : (p : Plane) (f low high : Face) (old mid new : List Face) → AreParts f p low high → mid ≡ old ++ low ∷ [] → new ≡ mid ++ high ∷ [] → HasGrown (SplitsIfCut p f) old new
+pub plane_parts : (p : Plane) (f low high : Face) (old mid new : List Face) → AreParts f p low high →
+    mid ≡ old ++ low ∷ [] → new ≡ mid ++ high ∷ [] → HasGrown (SplitsIfCut p f) old new
 plane_parts p f low high old mid new a e q =
-    record { more = low ∷ high ∷ []; is = q ∙ ap (λ (l : List Face). l ++ high ∷ []) e ∙ append_assoc old (low ∷ []) (high ∷ []); holds = cut_in_parts p f low high a }
+    record {
+      more = low ∷ high ∷ [];
+      is = q ∙ ap (λ (l : List Face). l ++ high ∷ []) e
+          ∙ append_assoc old (low ∷ []) (high ∷ []);
+      holds = cut_in_parts p f low high a;
+    }
 
 -- a plane that doesn't cut a region leaves it whole
-pub plane_whole : (p : Plane) (f : Face) (k : Reach) (old new : List Face) → IsReach f p k → (k ≡ Both → ⊥) → new ≡ old ++ f ∷ [] → HasGrown (SplitsIfCut p f) old new
+pub plane_whole : (p : Plane) (f : Face) (k : Reach) (old new : List Face) → IsReach f p k → (k ≡ Both → ⊥) →
+    new ≡ old ++ f ∷ [] → HasGrown (SplitsIfCut p f) old new
 plane_whole p f k old new r n e =
     record { more = f ∷ []; is = e; holds = in_one (not_cut f p k r n) }
 
@@ -105,7 +132,12 @@ module _ (t : Tri) (p : Plane) (ps : List Plane) (f : Face) (h : CutOutTriangle 
   -- if the plane doesn't cut the region, all of the region is below it
   pub all_under : (k : Reach) → IsReach f p k → (k ≡ Both → ⊥) → CutOutTriangle t ps f
   all_under Below r n =
-      record { around = rest_around; shared = h.shared; within = λ v i us. h.within v i (record { under = negative_out (value_at p v) (r.everywhere.holds v i) }, us) }
+      record {
+        around = rest_around;
+        shared = h.shared;
+        within =
+            λ v i us. h.within v i (record { under = negative_out (value_at p v) (r.everywhere.holds v i) }, us);
+      }
   all_under Above r n =
       let u = shared_under.under in let o = positive_out (value_at p h.shared.at) (r.everywhere.holds h.shared.at h.shared.inside) in
       absurd (omega (arith, linear, u, o))
@@ -114,11 +146,14 @@ module _ (t : Tri) (p : Plane) (ps : List Plane) (f : Face) (h : CutOutTriangle 
       absurd (omega (arith, linear, u, o))
   all_under Both r n = absurd (n refl)
 
-  whole_left : (ts : List Tri) (k : Reach) {gs : List Face} → IsReach f p k → (k ≡ Both → ⊥) → AreLeft (cutting_planes_with t ps) ts (f ∷ []) gs → AreLeft (cutting_planes_with t (p ∷ ps)) ts (f ∷ []) gs
+  whole_left : (ts : List Tri) (k : Reach) {gs : List Face} → IsReach f p k → (k ≡ Both → ⊥) →
+      AreLeft (cutting_planes_with t ps) ts (f ∷ []) gs → AreLeft (cutting_planes_with t (p ∷ ps)) ts (f ∷ []) gs
   whole_left ts k r n l =
       record { all = l.all; cuts = step (more (region_whole (record { face = face_of t; plane = p }) f k r n) none) l.cuts; without = l.without }
 
-  parts_left : (k : Role) (low high : Face) {gs : List Face} → AreParts f p low high → AreLeft (cutting_planes_with t ps) (owner_as k t) (low ∷ []) gs → AreLeft (cutting_planes_with t (p ∷ ps)) (owner_as k t) (f ∷ []) (gs ++ high ∷ [])
+  parts_left : (k : Role) (low high : Face) {gs : List Face} → AreParts f p low high →
+      AreLeft (cutting_planes_with t ps) (owner_as k t) (low ∷ []) gs →
+      AreLeft (cutting_planes_with t (p ∷ ps)) (owner_as k t) (f ∷ []) (gs ++ high ∷ [])
   parts_left k low high a l =
       let n : Meets high (face_of t) → ⊥ = subst (λ (g : Face). Meets g (face_of t) → ⊥) (sym a.is_high) high_unmet in
       record {
@@ -138,7 +173,13 @@ none_held t f h = record { index = 0; tri = t; here = refl; holds = record { hol
 -- after all planes, an owner leaves nothing of the part inside it
 pub cut_out_dropped : (c : Cutter) (f : Face) (old : List Face) → c.role ≡ Earlier → CutOutTriangle c.tri [] f → HasGrown (AreLeftByEdges c [] f) old old
 cut_out_dropped c f old e h =
-    record { more = []; is = sym (append-nil old); holds = subst (λ (k : Role). AreLeft [] (owner_as k c.tri) (f ∷ []) []) (sym e) (record { all = f ∷ []; cuts = done; without = dropped (none_held c.tri f h) ended }) }
+    record {
+      more = [];
+      is = sym (append-nil old);
+      holds =
+          subst (λ (k : Role). AreLeft [] (owner_as k c.tri) (f ∷ []) []) (sym e)
+          (record { all = f ∷ []; cuts = done; without = dropped (none_held c.tri f h) ended });
+    }
 
 -- after all planes, a triangle that isn't an owner leaves the part inside it
 pub cut_out_left : (c : Cutter) (f : Face) (old new : List Face) → (c.role ≡ Earlier → ⊥) → new ≡ old ++ f ∷ [] → HasGrown (AreLeftByEdges c [] f) old new
@@ -151,14 +192,23 @@ cut_out_left c f old new n e =
     none Earlier m = absurd (m refl)
 
 -- a plane that doesn't cut the region leaves it to the planes after it
-pub whole_grown : (c : Cutter) (p : Plane) (ps : List Plane) (f : Face) (k : Reach) (old new : List Face) → CutOutTriangle c.tri (p ∷ ps) f → IsReach f p k → (k ≡ Both → ⊥) → HasGrown (AreLeftByEdges c ps f) old new → HasGrown (AreLeftByEdges c (p ∷ ps) f) old new
+pub whole_grown : (c : Cutter) (p : Plane) (ps : List Plane) (f : Face) (k : Reach) (old new : List Face) →
+    CutOutTriangle c.tri (p ∷ ps) f → IsReach f p k → (k ≡ Both → ⊥) → HasGrown (AreLeftByEdges c ps f) old new →
+    HasGrown (AreLeftByEdges c (p ∷ ps) f) old new
 whole_grown c p ps f k old new h r n g =
     record { more = g.more; is = g.is; holds = whole_left c.tri p ps f h (owners_by c) k r n g.holds }
 
 -- a plane that cuts the region leaves the part below to the planes after it, and then the part above
-pub parts_grown : (c : Cutter) (p : Plane) (ps : List Plane) (f low high : Face) (old mid new : List Face) → CutOutTriangle c.tri (p ∷ ps) f → AreParts f p low high → HasGrown (AreLeftByEdges c ps low) old mid → new ≡ mid ++ high ∷ [] → HasGrown (AreLeftByEdges c (p ∷ ps) f) old new
+pub parts_grown : (c : Cutter) (p : Plane) (ps : List Plane) (f low high : Face) (old mid new : List Face) →
+    CutOutTriangle c.tri (p ∷ ps) f → AreParts f p low high → HasGrown (AreLeftByEdges c ps low) old mid →
+    new ≡ mid ++ high ∷ [] → HasGrown (AreLeftByEdges c (p ∷ ps) f) old new
 parts_grown c p ps f low high old mid new h a g e =
-    record { more = g.more ++ high ∷ []; is = e ∙ ap (λ (l : List Face). l ++ high ∷ []) g.is ∙ append_assoc old g.more (high ∷ []); holds = parts_left c.tri p ps f h c.role low high a g.holds }
+    record {
+      more = g.more ++ high ∷ [];
+      is = e ∙ ap (λ (l : List Face). l ++ high ∷ []) g.is
+          ∙ append_assoc old g.more (high ∷ []);
+      holds = parts_left c.tri p ps f h c.role low high a g.holds;
+    }
 
 -- ---- planes that don't cut the region
 abbrev pub AreUncut : Face → List Plane → Type 0
@@ -169,7 +219,16 @@ uncut_part f g p w s u = record { side = u.side; lies = by u.side u.lies u.uncut
   where
     part : {P : Spot → Type 0} → IsWhole f P → IsWhole g P
     part k =
-        record { somewhere = record { at = s.at; inside = s.inside; holds = k.everywhere.holds s.at (w.holds s.at s.inside) }; everywhere = record { holds = λ v i. k.everywhere.holds v (w.holds v i) } }
+        record {
+          somewhere = record {
+            at = s.at;
+            inside = s.inside;
+            holds =
+                k.everywhere.holds s.at (w.holds s.at s.inside);
+          };
+          everywhere =
+              record { holds = λ v i. k.everywhere.holds v (w.holds v i) };
+        }
 
     by : (k : Reach) → IsReach f p k → (k ≡ Both → ⊥) → IsReach g p k
     by Below r n = part r
@@ -182,7 +241,8 @@ uncut_parts f g [] w s u = tt
 uncut_parts f g (p ∷ ps) w s u = (uncut_part f g p w s u.0, uncut_parts f g ps w s u.1)
 
 -- one more plane that doesn't cut the region
-pub uncut_more : (f : Face) (ps : List Plane) (i : ℕ) (d : Plane) → i < length ps → AreUncut f (take i ps) → IsUncut f (get_or ps i d) → AreUncut f (take (i + 1) ps)
+pub uncut_more : (f : Face) (ps : List Plane) (i : ℕ) (d : Plane) → i < length ps → AreUncut f (take i ps) →
+    IsUncut f (get_or ps i d) → AreUncut f (take (i + 1) ps)
 uncut_more f ps i d l h u =
     subst (AreUncut f) (sym (take_more ps i d l)) (each-push (IsUncut f) (take i ps) (get_or ps i d) h u)
 
@@ -191,15 +251,20 @@ pub all_uncut : (f : Face) (ps : List Plane) (i : ℕ) → length ps ≤ i → A
 all_uncut f ps i l h = subst (AreUncut f) (take_all i ps l) h
 
 -- what the owner contains is left out
-owned_dropped : (c : Cutter) (ps : List Plane) (f : Face) (old : List Face) → c.role ≡ Earlier → CutOutTriangle c.tri ps f → AreUncut f ps → HasGrown (AreLeftByEdges c ps f) old old
+owned_dropped : (c : Cutter) (ps : List Plane) (f : Face) (old : List Face) → c.role ≡ Earlier →
+    CutOutTriangle c.tri ps f → AreUncut f ps → HasGrown (AreLeftByEdges c ps f) old old
 owned_dropped c [] f old e h u = cut_out_dropped c f old e h
 owned_dropped c (p ∷ ps) f old e h u =
     whole_grown c p ps f u.0.side old old h u.0.lies u.0.uncut (owned_dropped c ps f old e (all_under c.tri p ps f h u.0.side u.0.lies u.0.uncut) u.1)
 
 -- a plane cuts the region, and its part below is the owner's
-pub above_grown : (c : Cutter) (p : Plane) (ps : List Plane) (f high : Face) (old new : List Face) → c.role ≡ Earlier → CutOutTriangle c.tri (p ∷ ps) f → Cuts f p → AreUncut f ps → high ≡ above f p → new ≡ old ++ high ∷ [] → HasGrown (AreLeftByEdges c (p ∷ ps) f) old new
+pub above_grown : (c : Cutter) (p : Plane) (ps : List Plane) (f high : Face) (old new : List Face) → c.role ≡ Earlier →
+    CutOutTriangle c.tri (p ∷ ps) f → Cuts f p → AreUncut f ps → high ≡ above f p → new ≡ old ++ high ∷ [] →
+    HasGrown (AreLeftByEdges c (p ∷ ps) f) old new
 above_grown c p ps f high old new e h k u a q =
-    parts_grown c p ps f (below f p) high old old new h (record { cuts = k; is_low = refl; is_high = a }) (owned_dropped c ps (below f p) old e (low_cuts_out c.tri p ps f h) (uncut_parts f (below f p) ps within some u)) q
+    parts_grown c p ps f (below f p) high old old new h (record { cuts = k; is_low = refl; is_high = a })
+    (owned_dropped c ps (below f p) old e (low_cuts_out c.tri p ps f h) (uncut_parts f (below f p) ps within some u))
+    q
   where
     within : Contains f (below f p)
     within = record { holds = λ v i. (inside_below f p v i).0 }
@@ -214,7 +279,8 @@ unfolding face_of
 around t =
     record { inside = λ v i. (inside_out (face_of t) v i).within; closed = λ v i. (closed_out (face_of t) v i).within }
 
-inside_all : (t : Tri) (v : Spot) → value_at (support_of t) v ≡ pos 0 → pos 0 <ℤ v.w → AllByRecursion (λ p. IsBelow p v) (edges_of t) → is_inside (face_of t) v ≡ true
+inside_all : (t : Tri) (v : Spot) → value_at (support_of t) v ≡ pos 0 → pos 0 <ℤ v.w →
+    AllByRecursion (λ p. IsBelow p v) (edges_of t) → is_inside (face_of t) v ≡ true
 unfolding face_of
 inside_all t v e w us = inside_in (face_of t) v (record { flat = e; weight = w; within = us })
 
@@ -232,7 +298,8 @@ cutter_shares_plane c f h n = by c.role n h.shares
     by Earlier n s = s
 
 -- the edge planes of a coplanar triangle that meets a region cut out of it what lies in the triangle
-pub edges_cut_out : (c : Cutter) (es : List Plane) (f : Face) → CanCut c f → c.role ≢ OtherPlane → es ≡ edges_of c.tri → Meets f (face_of c.tri) → CutOutTriangle c.tri es f
+pub edges_cut_out : (c : Cutter) (es : List Plane) (f : Face) → CanCut c f → c.role ≢ OtherPlane → es ≡ edges_of c.tri →
+    Meets f (face_of c.tri) → CutOutTriangle c.tri es f
 edges_cut_out c es f h n e m =
     subst (λ (ps : List Plane). CutOutTriangle c.tri ps f) (sym e) (all_cut_out c.tri f c.normal (cutter_shares_plane c f h n) m)
 

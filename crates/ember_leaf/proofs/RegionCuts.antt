@@ -1,5 +1,6 @@
 -- Regions and a triangle more.
-use Rattle.std.proofs.Common.{◌≡◌, refl, sym, ap, subst, ◌∙◌, arith, ℤ, ℕ, zero, suc, ◌+◌, ◌<◌, ◌≤◌, ◌↔◌, IsTrue, rules, Bool, true, false, List, [], ◌∷◌, ◌++◌, length, take, drop, get_or, append_assoc, All}
+use Rattle.std.proofs.Common.{◌≡◌, refl, sym, ap, subst, ◌∙◌, arith, ℤ, ℕ, zero, suc, ◌+◌, ◌<◌, ◌≤◌, ◌↔◌, IsTrue, rules}
+use Rattle.std.proofs.Common.{Bool, true, false, List, [], ◌∷◌, ◌++◌, length, take, drop, get_or, append_assoc, All}
 use Rattle.std.proofs.lemmas.List.{take_more, take-append-drop}
 use Rattle.std.proofs.lemmas.List.Elements.{All-nil, All-cons}
 use Rattle.ember_algebra.specs.Relations.{Each, Chain, done, step, Every}
@@ -82,21 +83,27 @@ pub region_whole : (b : CuttingPlane) (f : Face) (k : Reach) → IsReach f b.pla
 region_whole b f k h n = whole (λ m. not_cut f b.plane k h n)
 
 -- ---- regions one after another
-pub first_met : (b : Cutter) (rest : List Face) {f : Face} {list yielded : List Face} → MeetsFirst b list → yielded ++ f ∷ rest ≡ list → yielded ≡ [] → Meets f (face_of b.tri)
+pub first_met : (b : Cutter) (rest : List Face) {f : Face} {list yielded : List Face} → MeetsFirst b list →
+    yielded ++ f ∷ rest ≡ list → yielded ≡ [] → Meets f (face_of b.tri)
 first_met b rest {f} {list} {yielded} h e q =
     subst (MeetsFirst b) (sym e ∙ ap (λ (l : List Face). l ++ f ∷ rest) q) h
 
 -- the list has grown by what a triangle leaves of one region
-pub split_grows_list : (b : Cutter) (old fs : List Face) (f : Face) (out new : List Face) → ((front : List Face) → AreSplit b front old → AreSplit b (front ++ fs) out) → HasGrown (AreLeftByCutter b f) out new → (front : List Face) → AreSplit b front old → AreSplit b (front ++ (fs ++ f ∷ [])) new
+pub split_grows_list : (b : Cutter) (old fs : List Face) (f : Face) (out new : List Face) →
+    ((front : List Face) → AreSplit b front old → AreSplit b (front ++ fs) out) → HasGrown (AreLeftByCutter b f) out new →
+    (front : List Face) → AreSplit b front old → AreSplit b (front ++ (fs ++ f ∷ [])) new
 split_grows_list b old fs f out new k g front h =
-    subst (λ (l : List Face). AreSplit b l new) (append_assoc front fs (f ∷ [])) (subst (λ (l : List Face). AreSplit b ((front ++ fs) ++ f ∷ []) l) (sym g.is) (each_push (k front h) g.holds))
+    subst (λ (l : List Face). AreSplit b l new) (append_assoc front fs (f ∷ []))
+    (subst (λ (l : List Face). AreSplit b ((front ++ fs) ++ f ∷ []) l) (sym g.is) (each_push (k front h) g.holds))
 
 -- the list has grown by one face that has the property
 pub grown_by_one : (P : List Face → Type 0) (f : Face) (old new : List Face) → P (f ∷ []) → new ≡ old ++ f ∷ [] → HasGrown P old new
 grown_by_one P f old new p e = record { more = f ∷ []; is = e; holds = p }
 
 -- one more region that the cutter leaves whole
-pub whole_more : (b : Cutter) (list : List Face) (i : ℕ) (d : Face) → i < length list → d ≡ get_or list i d → AreSplit b (take i list) (take i list) → AreLeftByCutter b d (d ∷ []) → AreSplit b (take (i + 1) list) (take (i + 1) list)
+pub whole_more : (b : Cutter) (list : List Face) (i : ℕ) (d : Face) → i < length list → d ≡ get_or list i d →
+    AreSplit b (take i list) (take i list) → AreLeftByCutter b d (d ∷ []) →
+    AreSplit b (take (i + 1) list) (take (i + 1) list)
 whole_more b list i d l e h r = rw (take_more list i d l, ← e) (each_push h r)
 
 -- the first k members of a list with at most k members are all of it
@@ -107,9 +114,12 @@ take_all (suc k) [] l = refl
 take_all (suc k) (x ∷ xs) l = ap (λ ys. x ∷ ys) (take_all k xs (omega (arith, l)))
 
 -- regions at the front that are left whole, and the split ones behind them
-pub split_front : (b : Cutter) (k : ℕ) (old : List Face) {front back new : List Face} → front ≡ take k old → back ≡ drop k old → AreSplit b (take k old) (take k old) → ((start : List Face) → AreSplit b start front → AreSplit b (start ++ back) new) → AreSplit b old new
+pub split_front : (b : Cutter) (k : ℕ) (old : List Face) {front back new : List Face} → front ≡ take k old →
+    back ≡ drop k old → AreSplit b (take k old) (take k old) →
+    ((start : List Face) → AreSplit b start front → AreSplit b (start ++ back) new) → AreSplit b old new
 split_front b k old {front} {back} {new} e q h f =
-    subst (λ (l : List Face). AreSplit b l new) (ap (λ (l : List Face). take k old ++ l) q ∙ take-append-drop k old) (f (take k old) (subst (AreSplit b (take k old)) (sym e) h))
+    subst (λ (l : List Face). AreSplit b l new) (ap (λ (l : List Face). take k old ++ l) q ∙ take-append-drop k old)
+    (f (take k old) (subst (AreSplit b (take k old)) (sym e) h))
 
 -- a cutter that leaves all regions whole
 pub split_none : (b : Cutter) (k : ℕ) (old : List Face) → length old ≤ k → AreSplit b (take k old) (take k old) → AreSplit b old old
@@ -122,12 +132,25 @@ cut_begun f {none} {new} e q =
 
 -- ---- what is left is a part of the triangle
 cutting_plane_keeps : (t : Tri) (b : CuttingPlane) (f : Face) (fs : List Face) → IsPartOf t f → AreLeftByCuttingPlane b f fs → Every (IsPartOf t) fs
-cutting_plane_keeps t b f fs h (splits m c) =
-    (part_below t f b.plane h c.some_below, (part_below t f (opposite b.plane) h (record { at = c.some_above.at; inside = c.some_above.inside; holds = negative_in (over_opposite b.plane c.some_above.at (record { over = positive_out (value_at b.plane c.some_above.at) c.some_above.holds })).under }), tt))
+cutting_plane_keeps t b f fs h (splits m c) = (
+  part_below t f b.plane h c.some_below,
+  (
+    part_below t f (opposite b.plane) h
+        (record {
+          at = c.some_above.at;
+          inside = c.some_above.inside;
+          holds =
+              negative_in (over_opposite b.plane c.some_above.at
+              (record { over = positive_out (value_at b.plane c.some_above.at) c.some_above.holds })).under;
+        }),
+    tt,
+  ),
+)
 cutting_plane_keeps t b f fs h (whole n) = (h, tt)
 
 -- cuts keep parts of a triangle parts of it
-pub cuts_keep : (t : Tri) {bs : List CuttingPlane} {fs gs : List Face} → Chain (λ b. Each (AreLeftByCuttingPlane b)) bs fs gs → Every (IsPartOf t) fs → Every (IsPartOf t) gs
+pub cuts_keep : (t : Tri) {bs : List CuttingPlane} {fs gs : List Face} →
+    Chain (λ b. Each (AreLeftByCuttingPlane b)) bs fs gs → Every (IsPartOf t) fs → Every (IsPartOf t) gs
 cuts_keep t done h = h
 cuts_keep t (step {x = b} r c) h =
     cuts_keep t c (each_every (IsPartOf t) (IsPartOf t) (cutting_plane_keeps t b) r h)

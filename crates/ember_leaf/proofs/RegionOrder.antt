@@ -22,7 +22,12 @@ face_support t = refl
 -- ---- lists of written regions
 pub placed_none : (ts : List Tri) (n : ℕ) (ks : List Kept) → ks ≡ [] → ArePlacedBelow ts n ks
 placed_none ts n ks e =
-    subst (λ (l : List Kept). ArePlacedBelow ts n l) (sym e) (record { placed = record { each = All-nil (IsPlaced ts); ordered = λ i j d l m. omega (arith, m) }; below = All-nil (λ k. k.tri < n) })
+    subst (λ (l : List Kept). ArePlacedBelow ts n l) (sym e)
+    (record {
+      placed = record { each = All-nil (IsPlaced ts); ordered = λ i j d l m. omega (arith, m) };
+      below =
+          All-nil (λ k. k.tri < n);
+    })
 
 at_number : (fs : List NearTriangle) (n : ℕ) (k : Kept) → n < length fs → IsKeptOf (tri_at (tris_of fs) n) n k → IsPlaced (tris_of fs) k
 at_number fs n k l h =
@@ -30,7 +35,9 @@ at_number fs n k l h =
     record { index = omega (arith, e, q, l); plane = subst (λ (m : ℕ). LiesInPlaneOf (tri_at (tris_of fs) m) k.ring) (sym h.number) h.plane }
 
 -- one more written region of the next triangle
-pub placed_push : (fs : List NearTriangle) (n : ℕ) (ks new : List Kept) (k : Kept) → n < length fs → ArePlacedBelow (tris_of fs) (n + 1) ks → IsKeptOf (tri_at (tris_of fs) n) n k → new ≡ ks ++ k ∷ [] → ArePlacedBelow (tris_of fs) (n + 1) new
+pub placed_push : (fs : List NearTriangle) (n : ℕ) (ks new : List Kept) (k : Kept) → n < length fs →
+    ArePlacedBelow (tris_of fs) (n + 1) ks → IsKeptOf (tri_at (tris_of fs) n) n k → new ≡ ks ++ k ∷ [] →
+    ArePlacedBelow (tris_of fs) (n + 1) new
 placed_push fs n ks new k l h r e =
     let q = r.number in
     subst (λ (l : List Kept). ArePlacedBelow (tris_of fs) (n + 1) l) (sym e) (record {

@@ -67,9 +67,13 @@ module _ (t : Tri) (n : is_flat t ≡ false) (p : Plane) (v : Spot) where
   closed_on h k = all_on (support_of t) p v (tri_sides t) (stands t n).sound h k
 
 -- if no corner is below a plane, the closed ring isn't
-pub closed_at_least : (t : Tri) (n : is_flat t ≡ false) (p : Plane) (v : Spot) → AtCorners (λ s. IsNotBelow p s) t → IsInClosedRing (support_of t) (tri_sides t) v → IsNotBelow p v
+pub closed_at_least : (t : Tri) (n : is_flat t ≡ false) (p : Plane) (v : Spot) → AtCorners (λ s. IsNotBelow p s) t →
+    IsInClosedRing (support_of t) (tri_sides t) v → IsNotBelow p v
 closed_at_least t n p v h k =
-    least_from_opposite p v (closed_at_most t n (opposite p) v (most_opposite p (spot_of_corner t.a) h.0, (most_opposite p (spot_of_corner t.b) h.1.0, (most_opposite p (spot_of_corner t.c) h.1.1.0, tt))) k)
+    least_from_opposite p v (closed_at_most t n (opposite p) v (
+      most_opposite p (spot_of_corner t.a) h.0,
+      (most_opposite p (spot_of_corner t.b) h.1.0, (most_opposite p (spot_of_corner t.c) h.1.1.0, tt)),
+    ) k)
 
 -- strictly in front at all corners: the plane moved a little is not behind them
 moved_value : (p : Plane) (s : Spot) → value_at (record p { d = p.d +ℤ pos 1 }) s ≡ value_at p s -ℤ s.w
@@ -84,9 +88,13 @@ moved_least p s e o =
     less e q = omega (arith, linear, e, q)
 
 -- if all corners are above a plane, the closed ring is
-pub closed_over : (t : Tri) (n : is_flat t ≡ false) (p : Plane) (v : Spot) → AtCorners (λ s. IsAbove p s) t → IsInClosedRing (support_of t) (tri_sides t) v → IsAbove p v
+pub closed_over : (t : Tri) (n : is_flat t ≡ false) (p : Plane) (v : Spot) → AtCorners (λ s. IsAbove p s) t →
+    IsInClosedRing (support_of t) (tri_sides t) v → IsAbove p v
 closed_over t n p v h k =
-    let m = closed_at_least t n (record p { d = p.d +ℤ pos 1 }) v (moved_least p (spot_of_corner t.a) refl h.0, (moved_least p (spot_of_corner t.b) refl h.1.0, (moved_least p (spot_of_corner t.c) refl h.1.1.0, tt))) k in
+    let m = closed_at_least t n (record p { d = p.d +ℤ pos 1 }) v (
+      moved_least p (spot_of_corner t.a) refl h.0,
+      (moved_least p (spot_of_corner t.b) refl h.1.0, (moved_least p (spot_of_corner t.c) refl h.1.1.0, tt)),
+    ) k in
     let q : pos 0 ≤ℤ (value_at p v -ℤ v.w) = rw (← moved_value p v) m.at_least in
     record { over = more q k.weight }
   where

@@ -1,5 +1,7 @@
 -- When two triangles have no common point, and when one lies in the other.
-use Rattle.std.proofs.Common.{◌≡◌, ◌⊎◌, inl, inr, refl, ap, subst, ◌∙◌, arith, ℕ, ◌<◌, zero, suc, List, length, get_or, Bool, true, false, not, ◌&&◌, Some, None, slice_get, ℤ, pos, negsuc, neg_ℤ, ◌*ℤ◌, ◌<ℤ◌, ◌≤ℤ◌, int_le, sym}
+use Rattle.std.proofs.Common.{◌≡◌, ◌⊎◌, inl, inr, refl, ap, subst, ◌∙◌, arith, ℕ, ◌<◌, zero, suc, List, length, get_or}
+use Rattle.std.proofs.Common.{Bool, true, false, not, ◌&&◌, Some, None, slice_get, ℤ, pos, negsuc, neg_ℤ, ◌*ℤ◌, ◌<ℤ◌}
+use Rattle.std.proofs.Common.{◌≤ℤ◌, int_le, sym}
 use Rattle.std.proofs.lemmas.Int.{clamps}
 use Rattle.std.proofs.lemmas.Bool.{and_from}
 use borrow.Author.Differences.{ints}
@@ -30,7 +32,8 @@ use Rattle.ember_leaf.specs.Contact.{no_plane}
 use Rattle.ember_leaf.specs.declared.heights.Heights.{Heights}
 use Rattle.ember_leaf.specs.TriRelations.{IsBehindEdge, heights_of, none_behind, none_in_front, all_behind, all_in_front, all_on, MissesClosedFace}
 use Rattle.ember_leaf.specs.Cutters.{IsWithinInterval}
-use Rattle.ember_leaf.proofs.TriFaces.{AtCorners, AtCorner, inside_ring, closed_ring, inside_under, inside_over, closed_over, closed_at_least, ring_inside, closed_on}
+use Rattle.ember_leaf.proofs.TriFaces.{AtCorners, AtCorner, inside_ring, closed_ring, inside_under, inside_over}
+use Rattle.ember_leaf.proofs.TriFaces.{closed_over, closed_at_least, ring_inside, closed_on}
 
 -- ---- from tests of heights to facts at the corners
 not_negative_out : (a : ℤ) → not (is_negative a) ≡ true → pos 0 ≤ℤ a
@@ -140,7 +143,11 @@ module _ (t u : Tri) (nt : is_flat t ≡ false) (nu : is_flat u ≡ false) where
   pub apart_behind : all_behind (heights_of (support_of t) u) ≡ true → MissesClosedFace t u
   apart_behind e =
       let s = support_of t in let h = behind_under s u e in
-      apart t u (λ v i k. zero_over (opposite_plane s v ∙ ap neg_ℤ i.flat) (closed_over u nu (opposite s) v (under_opposite s _ h.0, (under_opposite s _ h.1.0, (under_opposite s _ h.1.1.0, tt))) k))
+      apart t u (λ v i k. zero_over (opposite_plane s v ∙ ap neg_ℤ i.flat)
+      (closed_over u nu (opposite s) v (
+        under_opposite s _ h.0,
+        (under_opposite s _ h.1.0, (under_opposite s _ h.1.1.0, tt)),
+      ) k))
 
   apart_own_front : none_behind (heights_of (support_of u) t) ≡ true → all_on (heights_of (support_of u) t) ≡ false → MissesClosedFace t u
   apart_own_front e f =
@@ -155,15 +162,25 @@ module _ (t u : Tri) (nt : is_flat t ≡ false) (nu : is_flat u ≡ false) where
 -- ---- bounding boxes
 pub intervals_with_point_meet : (a b : Interval) (x w : ℤ) → pos 0 <ℤ w → IsWithinInterval a x w → IsWithinInterval b x w → intervals_meet a b ≡ true
 intervals_with_point_meet a b x w p h k =
-    and_from (int_le a.low b.high) (int_le b.low a.high) (le_in a.low b.high (order a.low b.high (omega (arith, linear, h.low, k.high)))) (le_in b.low a.high (order b.low a.high (omega (arith, linear, k.low, h.high))))
+    and_from (int_le a.low b.high) (int_le b.low a.high)
+    (le_in a.low b.high (order a.low b.high (omega (arith, linear, h.low, k.high))))
+    (le_in b.low a.high (order b.low a.high (omega (arith, linear, k.low, h.high))))
   where
     order : (l h : ℤ) → (l *ℤ w) ≤ℤ (h *ℤ w) → l ≤ℤ h
     order l h q =
         cancel_le p (omega (arith, linear, q, solve 2 (λ w l. w ⊗ l ≈ l ⊗ w) cancels w l, solve 2 (λ w h. w ⊗ h ≈ h ⊗ w) cancels w h))
 
-held : (k : Axis) (s : Interval) (t : Tri) (v : Spot) → is_flat t ≡ false → (s.low ≤ℤ entry_along k (vector_of t.a)) × (s.low ≤ℤ entry_along k (vector_of t.b)) × (s.low ≤ℤ entry_along k (vector_of t.c)) → (entry_along k (vector_of t.a) ≤ℤ s.high) × (entry_along k (vector_of t.b) ≤ℤ s.high) × (entry_along k (vector_of t.c) ≤ℤ s.high) → is_in_closed (face_of t) v ≡ true → IsWithinInterval s (coordinate k v) v.w
+held : (k : Axis) (s : Interval) (t : Tri) (v : Spot) → is_flat t ≡ false →
+    (s.low ≤ℤ entry_along k (vector_of t.a)) × (s.low ≤ℤ entry_along k (vector_of t.b)) ×
+    (s.low ≤ℤ entry_along k (vector_of t.c)) → (entry_along k (vector_of t.a) ≤ℤ s.high) ×
+    (entry_along k (vector_of t.b) ≤ℤ s.high) × (entry_along k (vector_of t.c) ≤ℤ s.high) →
+    is_in_closed (face_of t) v ≡ true → IsWithinInterval s (coordinate k v) v.w
 held k s t v n l h e =
-    record { low = below (past_corners k (pos 1) s.low t v n (one l.0) (one l.1) (one l.2) e); high = above (past_corners k (neg_ℤ (pos 1)) (neg_ℤ s.high) t v n (minus h.0) (minus h.1) (minus h.2) e) }
+    record {
+      low = below (past_corners k (pos 1) s.low t v n (one l.0) (one l.1) (one l.2) e);
+      high =
+          above (past_corners k (neg_ℤ (pos 1)) (neg_ℤ s.high) t v n (minus h.0) (minus h.1) (minus h.2) e);
+    }
   where
     one : {a b : ℤ} → a ≤ℤ b → a ≤ℤ (pos 1 *ℤ b)
     one q = omega (arith, linear, q)
@@ -186,11 +203,35 @@ spanned Z t = (aabb_of_tri t).z
 -- a triangle's closed face lies within its interval along each axis
 pub bounds : (k : Axis) (t : Tri) (v : Spot) → is_flat t ≡ false → is_in_closed (face_of t) v ≡ true → IsWithinInterval (spanned k t) (coordinate k v) v.w
 bounds X t v n e =
-    held X (aabb_of_tri t).x t v n (omega (arith, ints, clamps), omega (arith, ints, clamps), omega (arith, ints, clamps)) (omega (arith, ints, clamps), omega (arith, ints, clamps), omega (arith, ints, clamps)) e
+    held X (aabb_of_tri t).x t v n (
+      omega (arith, ints, clamps),
+      omega (arith, ints, clamps),
+      omega (arith, ints, clamps),
+    ) (
+      omega (arith, ints, clamps),
+      omega (arith, ints, clamps),
+      omega (arith, ints, clamps),
+    ) e
 bounds Y t v n e =
-    held Y (aabb_of_tri t).y t v n (omega (arith, ints, clamps), omega (arith, ints, clamps), omega (arith, ints, clamps)) (omega (arith, ints, clamps), omega (arith, ints, clamps), omega (arith, ints, clamps)) e
+    held Y (aabb_of_tri t).y t v n (
+      omega (arith, ints, clamps),
+      omega (arith, ints, clamps),
+      omega (arith, ints, clamps),
+    ) (
+      omega (arith, ints, clamps),
+      omega (arith, ints, clamps),
+      omega (arith, ints, clamps),
+    ) e
 bounds Z t v n e =
-    held Z (aabb_of_tri t).z t v n (omega (arith, ints, clamps), omega (arith, ints, clamps), omega (arith, ints, clamps)) (omega (arith, ints, clamps), omega (arith, ints, clamps), omega (arith, ints, clamps)) e
+    held Z (aabb_of_tri t).z t v n (
+      omega (arith, ints, clamps),
+      omega (arith, ints, clamps),
+      omega (arith, ints, clamps),
+    ) (
+      omega (arith, ints, clamps),
+      omega (arith, ints, clamps),
+      omega (arith, ints, clamps),
+    ) e
 
 -- ---- edge planes
 no_some : {p q : Plane} → Some p ≡ Some q → p ≡ q
@@ -218,24 +259,39 @@ under_least u l = omega (arith, linear, u.under, l.at_least)
 most_over : {p : Plane} {v : Spot} → IsNotAbove p v → IsAbove p v → ⊥
 most_over m o = omega (arith, linear, m.at_most, o.over)
 
-edge_parts_triangles : (t u : Tri) (i : ℕ) (p : Plane) → is_flat t ≡ false → is_flat u ≡ false → slice_get (edges_of t) i ≡ Some p → none_behind (heights_of p u) ≡ true → all_on (heights_of p u) ≡ false → MissesClosedFace t u × MissesClosedFace u t
+edge_parts_triangles : (t u : Tri) (i : ℕ) (p : Plane) → is_flat t ≡ false → is_flat u ≡ false →
+    slice_get (edges_of t) i ≡ Some p → none_behind (heights_of p u) ≡ true → all_on (heights_of p u) ≡ false →
+    MissesClosedFace t u × MissesClosedFace u t
 edge_parts_triangles t u i p n m e f g =
-    let h = front_at_least p u f in
-    (apart t u (λ v a b. under_least (edge_under t i p v e a) (closed_at_least u m p v h b)), apart u t (λ v a b. most_over (edge_at_most t i p v e b) (inside_over u m p v h (corner_over p u h g) a)))
+    let h = front_at_least p u f in (
+      apart t u (λ v a b. under_least (edge_under t i p v e a) (closed_at_least u m p v h b)),
+      apart u t (λ v a b. most_over (edge_at_most t i p v e b) (inside_over u m p v h (corner_over p u h g) a)),
+    )
 
 -- ---- one in the other
-behind_edge : (u : Tri) (p : Plane) → is_flat u ≡ false → none_in_front (heights_of p u) ≡ true → all_on (heights_of p u) ≡ false → Everywhere (face_of u) (λ v. is_negative (value_at p v) ≡ true)
+behind_edge : (u : Tri) (p : Plane) → is_flat u ≡ false → none_in_front (heights_of p u) ≡ true →
+    all_on (heights_of p u) ≡ false → Everywhere (face_of u) (λ v. is_negative (value_at p v) ≡ true)
 behind_edge u p m f g =
     let h = behind_at_most p u f in
     record { holds = λ v i. negative_in (inside_under u m p v h (corner_under p u h g) (inside_ring u v i)).under }
 
-on_plane : (t u : Tri) (v : Spot) → is_flat u ≡ false → all_on (heights_of (support_of t) u) ≡ true → is_inside (face_of u) v ≡ true → value_at (support_of t) v ≡ pos 0
+on_plane : (t u : Tri) (v : Spot) → is_flat u ≡ false → all_on (heights_of (support_of t) u) ≡ true →
+    is_inside (face_of u) v ≡ true → value_at (support_of t) v ≡ pos 0
 on_plane t u v m e i =
     (closed_on u m (support_of t) v (on_on (support_of t) u e) (closed_from_inside (support_of u) (tri_sides u) v (inside_ring u v i))).on_plane
 
-triangle_is_covered : (t u : Tri) → is_flat u ≡ false → all_on (heights_of (support_of t) u) ≡ true → ((i : ℕ) (p : Plane) → slice_get (edges_of t) i ≡ Some p → Everywhere (face_of u) (λ v. is_negative (value_at p v) ≡ true)) → Contains (face_of t) (face_of u)
+triangle_is_covered : (t u : Tri) → is_flat u ≡ false → all_on (heights_of (support_of t) u) ≡ true →
+    ((i : ℕ) (p : Plane) → slice_get (edges_of t) i ≡ Some p →
+    Everywhere (face_of u) (λ v. is_negative (value_at p v) ≡ true)) → Contains (face_of t) (face_of u)
 triangle_is_covered t u m e f =
-    record { holds = λ v i. ring_inside t v (record { flat = on_plane t u v m e i; weight = (inside_ring u v i).weight; within = (edge 0 _ v refl i, (edge 1 _ v refl i, (edge 2 _ v refl i, tt))) }) }
+    record {
+      holds = λ v i. ring_inside t v (record {
+        flat = on_plane t u v m e i;
+        weight =
+            (inside_ring u v i).weight;
+        within = (edge 0 _ v refl i, (edge 1 _ v refl i, (edge 2 _ v refl i, tt)));
+      });
+    }
   where
     edge : (k : ℕ) (p : Plane) (v : Spot) → slice_get (edges_of t) k ≡ Some p → is_inside (face_of u) v ≡ true → IsBelow p v
     edge k p v q i = record { under = negative_out (value_at p v) ((f k p q).holds v i) }
@@ -260,23 +316,30 @@ edge_here t es i e l =
     subst (λ us. slice_get us i ≡ Some (get_or es i no_plane)) e (slice_get-get_or es i no_plane (subst (λ us. i < length us) (sym e) l))
 
 -- an edge plane of t that has u in front of it keeps the two apart
-pub parted_by : (t u : Tri) (es : List Plane) (i : ℕ) {h : Heights} {b : Bool} → is_flat t ≡ false → is_flat u ≡ false → es ≡ edges_of t → i < 3 → h ≡ heights_of (get_or es i no_plane) u → b ≡ none_behind h && not (all_on h) → b ≡ true → MissesClosedFace t u × MissesClosedFace u t
+pub parted_by : (t u : Tri) (es : List Plane) (i : ℕ) {h : Heights} {b : Bool} → is_flat t ≡ false → is_flat u ≡ false →
+    es ≡ edges_of t → i < 3 → h ≡ heights_of (get_or es i no_plane) u → b ≡ none_behind h && not (all_on h) → b ≡ true →
+    MissesClosedFace t u × MissesClosedFace u t
 parted_by t u es i {h} n m e l q r z =
     let p = get_or es i no_plane in
-    let x = and_parts (none_behind (heights_of p u)) (not (all_on (heights_of p u))) (heights_test_moved (λ h. none_behind h && not (all_on h)) u {p = p} refl q r z) in
+    let x = and_parts (none_behind (heights_of p u)) (not (all_on (heights_of p u)))
+    (heights_test_moved (λ h. none_behind h && not (all_on h)) u {p = p} refl q r z) in
     edge_parts_triangles t u i p n m (edge_here t es i e l) x.0 (not_true (all_on (heights_of p u)) x.1)
 
 module _ (t u : Tri) (n : is_flat t ≡ false) (m : is_flat u ≡ false) where
   -- if t is in front of u's plane and not in it, t has no inside point in u
-  pub own_in_front : {s : Plane} {h : Heights} {b : Bool} → s ≡ support_of u → h ≡ heights_of s t → b ≡ none_behind h && not (all_on h) → b ≡ true → MissesClosedFace t u
+  pub own_in_front : {s : Plane} {h : Heights} {b : Bool} → s ≡ support_of u → h ≡ heights_of s t →
+      b ≡ none_behind h && not (all_on h) → b ≡ true → MissesClosedFace t u
   own_in_front e q r z =
-      let x = and_parts (none_behind (heights_of (support_of u) t)) (not (all_on (heights_of (support_of u) t))) (heights_test_moved (λ h. none_behind h && not (all_on h)) t e q r z) in
+      let x = and_parts (none_behind (heights_of (support_of u) t)) (not (all_on (heights_of (support_of u) t)))
+      (heights_test_moved (λ h. none_behind h && not (all_on h)) t e q r z) in
       apart_own_front t u n m x.0 (not_true (all_on (heights_of (support_of u) t)) x.1)
 
   -- if t is behind u's plane and not in it, t has no inside point in u
-  pub own_behind : {s : Plane} {h : Heights} {b : Bool} → s ≡ support_of u → h ≡ heights_of s t → b ≡ none_in_front h && not (all_on h) → b ≡ true → MissesClosedFace t u
+  pub own_behind : {s : Plane} {h : Heights} {b : Bool} → s ≡ support_of u → h ≡ heights_of s t →
+      b ≡ none_in_front h && not (all_on h) → b ≡ true → MissesClosedFace t u
   own_behind e q r z =
-      let x = and_parts (none_in_front (heights_of (support_of u) t)) (not (all_on (heights_of (support_of u) t))) (heights_test_moved (λ h. none_in_front h && not (all_on h)) t e q r z) in
+      let x = and_parts (none_in_front (heights_of (support_of u) t)) (not (all_on (heights_of (support_of u) t)))
+      (heights_test_moved (λ h. none_in_front h && not (all_on h)) t e q r z) in
       apart_own_behind t u n m x.0 (not_true (all_on (heights_of (support_of u) t)) x.1)
 
   -- triangles are coplanar if the second one's corners are on the first one's plane
@@ -285,10 +348,13 @@ module _ (t u : Tri) (n : is_flat t ≡ false) (m : is_flat u ≡ false) where
   coplanar_is = λ i. not (n i) && (not (m i) && all_on (heights_of (support_of t) u))
 
 -- the triangle u lies behind the plane of an edge of t
-pub behind_by : (t u : Tri) (es : List Plane) (i : ℕ) {h : Heights} {b : Bool} → is_flat u ≡ false → es ≡ edges_of t → i < 3 → h ≡ heights_of (get_or es i no_plane) u → b ≡ none_in_front h && not (all_on h) → b ≡ true → IsBehindEdge t u i
+pub behind_by : (t u : Tri) (es : List Plane) (i : ℕ) {h : Heights} {b : Bool} → is_flat u ≡ false → es ≡ edges_of t →
+    i < 3 → h ≡ heights_of (get_or es i no_plane) u → b ≡ none_in_front h && not (all_on h) → b ≡ true →
+    IsBehindEdge t u i
 behind_by t u es i {h} m e l q r z =
     let p = get_or es i no_plane in
-    let x = and_parts (none_in_front (heights_of p u)) (not (all_on (heights_of p u))) (heights_test_moved (λ h. none_in_front h && not (all_on h)) u {p = p} refl q r z) in
+    let x = and_parts (none_in_front (heights_of p u)) (not (all_on (heights_of p u)))
+    (heights_test_moved (λ h. none_in_front h && not (all_on h)) u {p = p} refl q r z) in
     let w = behind_edge u p m x.0 (not_true (all_on (heights_of p u)) x.1) in
     λ g' h'. subst (λ (q : Plane). Everywhere (face_of u) (λ v. is_negative (value_at q v) ≡ true)) (no_some (sym (edge_here t es i e l) ∙ h')) w
 

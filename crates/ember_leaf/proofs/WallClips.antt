@@ -1,5 +1,7 @@
 -- A wall more, and what it leaves of a part of a triangle.
-use Rattle.std.proofs.Common.{◌≡◌, refl, sym, ap, subst, ◌∙◌, arith, ℕ, ◌+◌, ◌<◌, ◌⊎◌, inl, inr, Bool, true, false, not, ◌&&◌, if◌then◌else◌, List, [], ◌∷◌, length, take, drop, get_or, map, ℤ, pos, ◌-ℤ◌, ◌<ℤ◌, ◌≤ℤ◌}
+use Rattle.std.proofs.Common.{◌≡◌, refl, sym, ap, subst, ◌∙◌, arith, ℕ, ◌+◌, ◌<◌, ◌⊎◌, inl, inr, Bool, true, false, not}
+use Rattle.std.proofs.Common.{◌&&◌, if◌then◌else◌, List, [], ◌∷◌, length, take, drop, get_or, map, ℤ, pos, ◌-ℤ◌, ◌<ℤ◌}
+use Rattle.std.proofs.Common.{◌≤ℤ◌}
 use Rattle.std.specs.Int.{int_min}
 use Rattle.std.proofs.lemmas.Int.{clamps, by_lt_z}
 use Rattle.std.proofs.lemmas.List.{append-nil, map-append, take_more, take-append-drop}
@@ -46,7 +48,9 @@ use Rattle.ember_leaf.proofs.TriRelations.{corner_over, on_on}
 each_one : {X S : Type 0} {R : X → List S → Type 0} {x : X} {ys : List S} → R x ys → Each R (x ∷ []) ys
 each_one {R = R} {x = x} {ys = ys} r = subst (λ l. Each R (x ∷ []) l) (append-nil ys) (more r none)
 
-chain_of_walls_grows : {X A : Type 0} (R : X → A → A → Type 0) (S : Type 0) (h : S → X) (ys : List S) (i : ℕ) (d : S) (a b c : A) → i < length ys → d ≡ get_or ys i d → Chain R (map h (take i ys)) a b → R (h d) b c → Chain R (map h (take (i + 1) ys)) a c
+chain_of_walls_grows : {X A : Type 0} (R : X → A → A → Type 0) (S : Type 0) (h : S →
+    X) (ys : List S) (i : ℕ) (d : S) (a b c : A) → i < length ys → d ≡ get_or ys i d → Chain R (map h (take i ys)) a b →
+    R (h d) b c → Chain R (map h (take (i + 1) ys)) a c
 chain_of_walls_grows R S h ys i d a b c l e r q =
     rw (take_more ys i d l, ← e, map-append h (take i ys) (d ∷ [])) (chain_push r q)
 
@@ -55,9 +59,11 @@ nothing_more : {X S A : Type 0} (R : X → A → List A → Type 0) (h : S → X
 nothing_more R h [] = done
 nothing_more R h (y ∷ ys) = step none (nothing_more R h ys)
 
-chain_ended : {X S A : Type 0} (R : X → A → List A → Type 0) (h : S → X) (ys : List S) (n : ℕ) (a : List A) → Chain (λ x. Each (R x)) (map h (take n ys)) a [] → Chain (λ x. Each (R x)) (map h ys) a []
+chain_ended : {X S A : Type 0} (R : X → A → List A → Type 0) (h : S → X) (ys : List S) (n : ℕ) (a : List A) →
+    Chain (λ x. Each (R x)) (map h (take n ys)) a [] → Chain (λ x. Each (R x)) (map h ys) a []
 chain_ended R h ys n a r =
-    subst (λ l. Chain (λ x. Each (R x)) l a []) (sym (map-append h (take n ys) (drop n ys)) ∙ ap (map h) (take-append-drop n ys)) (chain_append r (nothing_more R h (drop n ys)))
+    subst (λ l. Chain (λ x. Each (R x)) l a []) (sym (map-append h (take n ys) (drop n ys))
+    ∙ ap (map h) (take-append-drop n ys)) (chain_append r (nothing_more R h (drop n ys)))
 
 -- ---- planes at corners
 up_value : (k : Axis) (h : ℤ) (u : Corner) → value_at (level k h) (spot_of_corner u) ≡ entry_along k (vector_of u) -ℤ h
@@ -80,13 +86,25 @@ record IsSpanned (s : Interval) (x y z : ℤ) : Type 0 where
 
 spanned_by : (x y z : ℤ) → IsSpanned (interval_over x y z) x y z
 spanned_by x y z =
-    record { low_x = omega (arith, ints, clamps); low_y = omega (arith, ints, clamps); low_z = omega (arith, ints, clamps); high_x = omega (arith, ints, clamps); high_y = omega (arith, ints, clamps); high_z = omega (arith, ints, clamps); reached = by }
+    record {
+      low_x = omega (arith, ints, clamps);
+      low_y = omega (arith, ints, clamps);
+      low_z =
+          omega (arith, ints, clamps);
+      high_x = omega (arith, ints, clamps);
+      high_y = omega (arith, ints, clamps);
+      high_z =
+          omega (arith, ints, clamps);
+      reached = by;
+    }
   where
     by : (h : ℤ) → int_min (int_min x y) z <ℤ h → (x <ℤ h) ⊎ ((y <ℤ h) ⊎ ((z <ℤ h) ⊎ ⊥))
     by h l =
-        by_lt_z x h inl (λ a. by_lt_z y h (λ b. inr (inl b)) (λ b. by_lt_z z h (λ c. inr (inr (inl c))) (λ c. absurd (omega (arith, ints, clamps, l, a, b, c)))))
+        by_lt_z x h inl (λ a. by_lt_z y h (λ b. inr (inl b))
+        (λ b. by_lt_z z h (λ c. inr (inr (inl c))) (λ c. absurd (omega (arith, ints, clamps, l, a, b, c)))))
 
-spanned : (k : Axis) (t : Tri) → IsSpanned (interval_along (aabb_of_tri t) k) (entry_along k (vector_of t.a)) (entry_along k (vector_of t.b)) (entry_along k (vector_of t.c))
+spanned : (k : Axis) (t : Tri) → IsSpanned (interval_along (aabb_of_tri t) k) (entry_along k (vector_of t.a))
+    (entry_along k (vector_of t.b)) (entry_along k (vector_of t.c))
 spanned X t = spanned_by t.a.x t.b.x t.c.x
 spanned Y t = spanned_by t.a.y t.b.y t.c.y
 spanned Z t = spanned_by t.a.z t.b.z t.c.z
@@ -119,7 +137,9 @@ module _ (k : Axis) (h : ℤ) (t : Tri) where
   before_some : (interval_along (aabb_of_tri t) k).low <ℤ h → AtCorner (λ s. IsBelow (level k h) s) t
   before_some l = by ((spanned k t).reached h l)
     where
-      by : (entry_along k (vector_of t.a) <ℤ h) ⊎ ((entry_along k (vector_of t.b) <ℤ h) ⊎ ((entry_along k (vector_of t.c) <ℤ h) ⊎ ⊥)) → AtCorner (λ s. IsBelow (level k h) s) t
+      by : (entry_along k (vector_of t.a) <ℤ h) ⊎
+          ((entry_along k (vector_of t.b) <ℤ h) ⊎ ((entry_along k (vector_of t.c) <ℤ h) ⊎ ⊥)) →
+          AtCorner (λ s. IsBelow (level k h) s) t
       by (inl q) = inl (under_by t.a q)
       by (inr (inl q)) = inr (inl (under_by t.b q))
       by (inr (inr (inl q))) = inr (inr (inl (under_by t.c q)))
@@ -136,16 +156,20 @@ weak_under : {p : Plane} {v : Spot} → IsBelow p v → IsNotAbove p v
 weak_under {p} {v} u = let l = u.under in record { at_most = omega (arith, linear, l) }
 
 -- nothing of f is past a low wall
-stays_low : (p : Plane) (f : Face) → HasInside f → ((v : Spot) → is_inside f v ≡ true → IsNotAbove p v) → AreLeftByWall (record { plane = p; is_high = false }) f (f ∷ [])
+stays_low : (p : Plane) (f : Face) → HasInside f → ((v : Spot) → is_inside f v ≡ true → IsNotAbove p v) →
+    AreLeftByWall (record { plane = p; is_high = false }) f (f ∷ [])
 stays_low p f s m =
-    stays (λ c. over_not (m c.some_above.at c.some_above.inside) c.some_above.holds) (λ a. over_not (m s.at s.inside) (a.holds s.at s.inside)) (λ e o. absurd (by e))
+    stays (λ c. over_not (m c.some_above.at c.some_above.inside) c.some_above.holds)
+    (λ a. over_not (m s.at s.inside) (a.holds s.at s.inside)) (λ e o. absurd (by e))
   where
     by : false ≡ true → ⊥
     by e = cc
 
 stays_below : (w : Wall) (f : Face) → HasInside f → ((v : Spot) → is_inside f v ≡ true → IsBelow w.plane v) → AreLeftByWall w f (f ∷ [])
 stays_below w f s m =
-    stays (λ c. over_not (weak_under (m c.some_above.at c.some_above.inside)) c.some_above.holds) (λ a. over_not (weak_under (m s.at s.inside)) (a.holds s.at s.inside)) (λ e o. zero_not (m s.at s.inside) (o.holds s.at s.inside))
+    stays (λ c. over_not (weak_under (m c.some_above.at c.some_above.inside)) c.some_above.holds)
+    (λ a. over_not (weak_under (m s.at s.inside)) (a.holds s.at s.inside))
+    (λ e o. zero_not (m s.at s.inside) (o.holds s.at s.inside))
 
 module _ (k : Axis) (h : ℤ) (t : Tri) (f : Face) (part : IsPartOf t f) where
   abbrev s : Interval
@@ -163,9 +187,11 @@ module _ (k : Axis) (h : ℤ) (t : Tri) (f : Face) (part : IsPartOf t f) where
   low_whole : h ≤ℤ (interval_along (aabb_of_tri t) k).low → AreLeftByWall low f (f ∷ [])
   low_whole l =
       let a = past_all k h t l in let p = level k h in
-      stays_low (opposite p) f part.somewhere (λ v i. most_opposite p v (closed_at_least t part.plane.normal p v a (closed_from_inside (support_of t) (tri_sides t) v (in_tri v i))))
+      stays_low (opposite p) f part.somewhere (λ v i. most_opposite p v
+      (closed_at_least t part.plane.normal p v a (closed_from_inside (support_of t) (tri_sides t) v (in_tri v i))))
 
-  under_all : (interval_along (aabb_of_tri t) k).low <ℤ h → (interval_along (aabb_of_tri t) k).high ≤ℤ h → (v : Spot) → is_inside f v ≡ true → IsBelow (level k h) v
+  under_all : (interval_along (aabb_of_tri t) k).low <ℤ h → (interval_along (aabb_of_tri t) k).high ≤ℤ h → (v : Spot) →
+      is_inside f v ≡ true → IsBelow (level k h) v
   under_all l m v i =
       inside_under t part.plane.normal (level k h) v (before_all k h t m) (before_some k h t l) (in_tri v i)
 
@@ -181,7 +207,11 @@ module _ (k : Axis) (h : ℤ) (t : Tri) (f : Face) (part : IsPartOf t f) where
     where
       by : (b : Bool) → all_on (heights_of (level k h) t) ≡ b → AreLeftByWall high f []
       by true e =
-          in_high refl (record { holds = λ v i. zero_in (closed_on t part.plane.normal (level k h) v (on_on (level k h) t e) (closed_from_inside (support_of t) (tri_sides t) v (in_tri v i))).on_plane })
+          in_high refl (record {
+            holds = λ v i. zero_in
+                (closed_on t part.plane.normal (level k h) v (on_on (level k h) t e)
+                (closed_from_inside (support_of t) (tri_sides t) v (in_tri v i))).on_plane;
+          })
       by false e =
           let a = past_all k h t l in
           outside (record { holds = λ v i. positive_in (inside_over t part.plane.normal (level k h) v a (corner_over (level k h) t a e) (in_tri v i)).over })
@@ -191,7 +221,8 @@ abbrev low_or : Axis → ℤ → Bool → Wall
 low_or k h b = record { plane = if b then level k h else opposite (level k h); is_high = b }
 
 -- what an interval decides about a low wall holds of the triangle
-pub low_stay : (w : Wall) (k : Axis) (h : ℤ) (t : Tri) (b : Bool) (s : Remainder) → b ≡ false → w ≡ low_or k h b → IsLowRemainder (interval_along (aabb_of_tri t) k) h s → IsRemainder w t s
+pub low_stay : (w : Wall) (k : Axis) (h : ℤ) (t : Tri) (b : Bool) (s : Remainder) → b ≡ false → w ≡ low_or k h b →
+    IsLowRemainder (interval_along (aabb_of_tri t) k) h s → IsRemainder w t s
 low_stay w k h t b Whole q e l =
     λ f p. subst (λ (w : Wall). AreLeftByWall w f (f ∷ [])) (sym (e ∙ ap (low_or k h) q)) (low_whole k h t f p l)
 low_stay w k h t b Nothing q e l =
@@ -199,7 +230,8 @@ low_stay w k h t b Nothing q e l =
 low_stay w k h t b Unknown q e l = tt
 
 -- what an interval decides about a high wall holds of the triangle
-pub high_stay : (w : Wall) (k : Axis) (h : ℤ) (t : Tri) (b : Bool) (s : Remainder) → b ≡ true → w ≡ low_or k h b → IsHighRemainder (interval_along (aabb_of_tri t) k) h s → IsRemainder w t s
+pub high_stay : (w : Wall) (k : Axis) (h : ℤ) (t : Tri) (b : Bool) (s : Remainder) → b ≡ true → w ≡ low_or k h b →
+    IsHighRemainder (interval_along (aabb_of_tri t) k) h s → IsRemainder w t s
 high_stay w k h t b Whole q e l =
     λ f p. subst (λ (w : Wall). AreLeftByWall w f (f ∷ [])) (sym (e ∙ ap (low_or k h) q)) (high_whole k h t f p l.0 l.1)
 high_stay w k h t b Nothing q e l =
@@ -212,7 +244,8 @@ module _ (w : Wall) (f : Face) (p : Plane) (same : p ≡ w.plane) where
   pub wall_below : IsReach f p Below → AreLeftByWall w f (f ∷ [])
   wall_below h =
       let k : IsReach f w.plane Below = subst (λ (q : Plane). IsReach f q Below) same h in
-      stays_below w f (record { at = k.somewhere.at; inside = k.somewhere.inside; holds = tt }) (λ v i. record { under = negative_out (value_at w.plane v) (k.everywhere.holds v i) })
+      stays_below w f (record { at = k.somewhere.at; inside = k.somewhere.inside; holds = tt })
+      (λ v i. record { under = negative_out (value_at w.plane v) (k.everywhere.holds v i) })
 
   -- a face above it goes
   pub wall_above : IsReach f p Above → AreLeftByWall w f []
@@ -224,7 +257,8 @@ module _ (w : Wall) (f : Face) (p : Plane) (same : p ≡ w.plane) where
   wall_low_on : w.is_high ≡ false → IsReach f p On → AreLeftByWall w f (f ∷ [])
   wall_low_on e h =
       let k : IsReach f w.plane On = subst (λ (q : Plane). IsReach f q On) same h in
-      stays (λ c. clash c.some_above.holds (not_over _ (k.everywhere.holds c.some_above.at c.some_above.inside))) (λ a. clash (a.holds k.somewhere.at k.somewhere.inside) (not_over _ k.somewhere.holds)) (λ h o. clash h e)
+      stays (λ c. clash c.some_above.holds (not_over _ (k.everywhere.holds c.some_above.at c.some_above.inside)))
+      (λ a. clash (a.holds k.somewhere.at k.somewhere.inside) (not_over _ k.somewhere.holds)) (λ h o. clash h e)
     where
       not_over : (z : ℤ) → is_zero z ≡ true → is_positive z ≡ false
       not_over z q = ap is_positive (zero_out z q)
@@ -251,7 +285,13 @@ inside_in_below f p v i n =
 -- the part below a plane of a part of t is a part of t
 pub part_below : (t : Tri) (f : Face) (p : Plane) → IsPartOf t f → Somewhere f (λ v. is_negative (value_at p v) ≡ true) → IsPartOf t (below f p)
 part_below t f p h s =
-    record { plane = record { normal = h.plane.normal; support = h.plane.support }; within = record { holds = λ v i. h.within.holds v (inside_below f p v i).0 }; somewhere = record { at = s.at; inside = inside_in_below f p s.at s.inside s.holds; holds = tt } }
+    record {
+      plane = record { normal = h.plane.normal; support = h.plane.support };
+      within =
+          record { holds = λ v i. h.within.holds v (inside_below f p v i).0 };
+      somewhere =
+          record { at = s.at; inside = inside_in_below f p s.at s.inside s.holds; holds = tt };
+    }
 
 wall_keeps : (t : Tri) (w : Wall) (f : Face) (fs : List Face) → IsPartOf t f → AreLeftByWall w f fs → Every (IsPartOf t) fs
 wall_keeps t w f fs h (cut c) = (part_below t f w.plane h c.some_below, tt)
@@ -260,7 +300,9 @@ wall_keeps t w f fs h (in_high e o) = tt
 wall_keeps t w f fs h (stays c a o) = (h, tt)
 
 -- if what each member gives has a property, all that is given has it
-pub each_every : {X S : Type 0} {R : X → List S → Type 0} (P : X → Type 0) (Q : S → Type 0) → ((x : X) (ys : List S) → P x → R x ys → Every Q ys) → {xs : List X} {ys : List S} → Each R xs ys → Every P xs → Every Q ys
+pub each_every : {X S : Type 0} {R : X → List S → Type 0} (P : X → Type 0) (Q : S → Type 0) →
+    ((x : X) (ys : List S) → P x → R x ys → Every Q ys) → {xs : List X} {ys : List S} → Each R xs ys → Every P xs →
+    Every Q ys
 each_every P Q f none h = tt
 each_every P Q f (more {x = x} {xs = xs} {ys = ys} {zs = zs} r e) h =
     every_append Q ys zs (f x ys h.0 r) (each_every P Q f e h.1)
@@ -286,7 +328,8 @@ left_parts t {ws} {fs} l = walls_keep t l (by (is_flat t) refl)
 pub left_begun : (t : Tri) {f : Face} → is_flat t ≡ false → f ≡ face_of t → IsClippedBy [] t (f ∷ [])
 left_begun t {f} n e = subst (λ (g : Face). IsClippedBy [] t (g ∷ [])) (sym e) (rw n done)
 
-module _ (t : Tri) (ws : List leaf.Wall) (i : ℕ) (w : leaf.Wall) (f : Face) (l : i < length ws) (e : w ≡ get_or ws i w) (r : IsClippedBy (map wall_of (take i ws)) t (f ∷ [])) where
+module _ (t : Tri) (ws : List leaf.Wall) (i : ℕ) (w : leaf.Wall) (f : Face) (l : i < length ws) (e : w ≡ get_or ws i w)
+    (r : IsClippedBy (map wall_of (take i ws)) t (f ∷ [])) where
   -- one more wall
   pub left_next : (gs : List Face) → AreLeftByWall (wall_of w) f gs → IsClippedBy (map wall_of (take (i + 1) ws)) t gs
   left_next gs q = chain_of_walls_grows (λ w. Each (AreLeftByWall w)) leaf.Wall wall_of ws i w _ (f ∷ []) gs l e r (each_one q)

@@ -1,5 +1,6 @@
 -- The written regions of a leaf are one list, and so are those of a scene.
-use Rattle.std.proofs.Common.{◌≡◌, ℕ, suc, refl, sym, ap, ap₂, ◌∙◌, subst, arith, le_refl, ◌+◌, ◌*◌, true, List, [], ◌∷◌, ◌++◌, Some, slice_get, length, ℤ, pos, neg_ℤ}
+use Rattle.std.proofs.Common.{◌≡◌, ℕ, suc, refl, sym, ap, ap₂, ◌∙◌, subst, arith, le_refl, ◌+◌, ◌*◌, true, List, []}
+use Rattle.std.proofs.Common.{◌∷◌, ◌++◌, Some, slice_get, length, ℤ, pos, neg_ℤ}
 use Rattle.std.specs.List.{range_with_len}
 use Rattle.std.proofs.lemmas.Option.{get_or_from_slice_get}
 use Rattle.ember_algebra.specs.Relations.{Each, none, more, Every}
@@ -24,7 +25,8 @@ use Rattle.ember_trace.proofs.BoxedRegions.{regions_lie_in, region_inside}
 use Rattle.ember_trace.proofs.OneSides.{one_sides}
 use Rattle.ember_trace.proofs.TracedSides.{in_box}
 use Rattle.ember_leaf.specs.declared.kept.Kept.{Kept}
-use Rattle.ember_leaf.specs.Written.{front, IsWrittenOfRegion, unowned, same_value, written, AreRegionsWritten, IsCovered, IsWrittenOf, regional, hidden, IsWrittenIn}
+use Rattle.ember_leaf.specs.Written.{front, IsWrittenOfRegion, unowned, same_value, written, AreRegionsWritten}
+use Rattle.ember_leaf.specs.Written.{IsCovered, IsWrittenOf, regional, hidden, IsWrittenIn}
 use Rattle.ember_leaf.specs.Scenes.{HasOneValue, LeafGives, regions, nothing, IsWritten}
 
 -- what holds at each place holds of each member
@@ -33,7 +35,8 @@ every_from P [] h = tt
 every_from P (x ∷ xs) h = (h 0 x refl, every_from P xs (λ j y e. h (suc j) y e))
 
 -- if no member gives anything, all give nothing
-each_nothing : {X Y : Type 0} {R : X → List Y → Type 0} (Q : X → Type 0) → ((x : X) (ys : List Y) → Q x → R x ys → ys ≡ []) → {xs : List X} {ys : List Y} → Every Q xs → Each R xs ys → ys ≡ []
+each_nothing : {X Y : Type 0} {R : X → List Y → Type 0} (Q : X → Type 0) →
+    ((x : X) (ys : List Y) → Q x → R x ys → ys ≡ []) → {xs : List X} {ys : List Y} → Every Q xs → Each R xs ys → ys ≡ []
 each_nothing Q f h none = refl
 each_nothing Q f h (more {x = x} {ys = ys} {zs = zs} r e) =
     ap₂ (λ us vs. us ++ vs) (f x ys h.0 r) (each_nothing Q f h.1 e)
@@ -44,9 +47,16 @@ each_region near c i faces r =
     every_from (IsRegion near c) faces (λ j g e. record { tri = i; regions = faces; are_regions = r; index = j; here = e })
 
 -- a covered triangle owns no region
-pub hidden_owns_none : (near : List Tri) (c : Cell) (i : ℕ) (faces : List Face) → IsRegions c near i faces → IsCovered near i → Every (λ g. IsOwner near i g → ⊥) faces
+pub hidden_owns_none : (near : List Tri) (c : Cell) (i : ℕ) (faces : List Face) → IsRegions c near i faces →
+    IsCovered near i → Every (λ g. IsOwner near i g → ⊥) faces
 hidden_owns_none near c i faces r h =
-    every_from (λ g. IsOwner near i g → ⊥) faces (λ j g e o. o.first h.index h.own h.cover h.before h.here h.there h.coplanar (record { holds = λ v w. h.contains.holds v (subst (λ (t : Tri). is_inside (face_of t) v ≡ true) (get_or_from_slice_get near i h.own no_tri h.there) (region_inside c near i j faces g r e v w)) }))
+    every_from (λ g. IsOwner near i g → ⊥) faces
+    (λ j g e o. o.first h.index h.own h.cover h.before h.here h.there h.coplanar
+    (record {
+      holds = λ v w. h.contains.holds v
+          (subst (λ (t : Tri). is_inside (face_of t) v ≡ true) (get_or_from_slice_get near i h.own no_tri h.there)
+          (region_inside c near i j faces g r e v w));
+    }))
 
 module _ (scene : List Tri) (f : Formula) (c : Cell) (near : List Tri) where
   none_owned : (i : ℕ) (g : Face) (ks : List Kept) → (IsOwner near i g → ⊥) → IsWrittenOfRegion scene f near i g ks → ks ≡ []
@@ -63,10 +73,12 @@ module _ (scene : List Tri) (f : Formula) (c : Cell) (near : List Tri) where
 -- all sides of a region are equal
 abbrev pub SidesAreOne : List Tri → Face → Type 0
 SidesAreOne scene face =
-    (before after other_before other_after : List ℤ) → IsSides scene face before after → IsSides scene face other_before other_after → (before ≡ other_before) × (after ≡ other_after)
+    (before after other_before other_after : List ℤ) → IsSides scene face before after →
+    IsSides scene face other_before other_after → (before ≡ other_before) × (after ≡ other_after)
 
 module _ (scene : List Tri) (f : Formula) (c : Cell) (near : List Tri) (one : (face : Face) → IsRegion near c face → SidesAreOne scene face) where
-  region_unique : (i : ℕ) (g : Face) (us vs : List Kept) → IsRegion near c g → IsWrittenOfRegion scene f near i g us → IsWrittenOfRegion scene f near i g vs → us ≡ vs
+  region_unique : (i : ℕ) (g : Face) (us vs : List Kept) → IsRegion near c g → IsWrittenOfRegion scene f near i g us →
+      IsWrittenOfRegion scene f near i g vs → us ≡ vs
   region_unique i g us vs r (unowned n) (unowned m) = refl
   region_unique i g us vs r (unowned n) (same_value x e) = refl
   region_unique i g us vs r (unowned n) (written o x e) = absurd (n o)
@@ -85,7 +97,10 @@ module _ (scene : List Tri) (f : Formula) (c : Cell) (near : List Tri) (one : (f
 
   of_unique : (i : ℕ) (us vs : List Kept) → IsWrittenOf scene f c near i us → IsWrittenOf scene f c near i vs → us ≡ vs
   of_unique i us vs (regional u) (regional v) =
-      each_unique_where (IsRegion near c) (λ g xs ys r p q. region_unique i g xs ys r p q) (each_region near c i u.faces u.are_regions) u.are_written (subst (λ (gs : List Face). Each (IsWrittenOfRegion scene f near i) gs vs) (sym (regions_unique c near i u.faces v.faces u.are_regions v.are_regions)) v.are_written)
+      each_unique_where (IsRegion near c) (λ g xs ys r p q. region_unique i g xs ys r p q)
+      (each_region near c i u.faces u.are_regions) u.are_written
+      (subst (λ (gs : List Face). Each (IsWrittenOfRegion scene f near i) gs vs)
+      (sym (regions_unique c near i u.faces v.faces u.are_regions v.are_regions)) v.are_written)
   of_unique i us vs (regional u) (hidden h) = covered_writes_nothing scene f c near i us h u
   of_unique i us vs (hidden h) (regional v) = sym (covered_writes_nothing scene f c near i vs h v)
   of_unique i us vs (hidden h) (hidden k) = refl
@@ -96,7 +111,8 @@ module _ (scene : List Tri) (f : Formula) (c : Cell) (near : List Tri) (one : (f
 
 -- ---- if the expression has one value
 module _ (scene : List Tri) (f : Formula) (c : Cell) (one : HasOneValue scene f c) where
-  both_sides : (g : Face) (before after : List ℤ) (s : IsSides scene g before after) → HasPoint c s.at → (truth before f ≡ one.value) × (truth after f ≡ one.value)
+  both_sides : (g : Face) (before after : List ℤ) (s : IsSides scene g before after) → HasPoint c s.at →
+      (truth before f ≡ one.value) × (truth after f ≡ one.value)
   both_sides g before after s has =
       let k = main_axis g.support in let b = (one.beside s.at has).steps k (neg_ℤ (pos 1)) in let a = (one.beside s.at has).steps k (pos 1) in
       let m = b.from + a.from + s.bound * 1 + 1 in
@@ -135,7 +151,8 @@ module _ (scene : List Tri) (f : Formula) (meshes : ℕ) (is : IsScene scene mes
   written_in_unique c us vs u v = leaf_unique scene f c (near scene c) (sides_one c) us vs u v
 
   -- if the expression has one value, it has that value on both sides of each region
-  pub value_on_sides : (c : Cell) (h : HasOneValue scene f c) (g : Face) (before after : List ℤ) → IsRegion (near scene c) c g → IsSides scene g before after → (truth before f ≡ h.value) × (truth after f ≡ h.value)
+  pub value_on_sides : (c : Cell) (h : HasOneValue scene f c) (g : Face) (before after : List ℤ) →
+      IsRegion (near scene c) c g → IsSides scene g before after → (truth before f ≡ h.value) × (truth after f ≡ h.value)
   value_on_sides c h g before after r s = both_sides scene f c h g before after s (has_region c g r s.at s.inside)
 
   -- so nothing is written there

@@ -8,7 +8,8 @@ use Rattle.ember_model.specs.declared.plane.Plane.{Plane}
 use Rattle.ember_model.specs.declared.point.Spot.{Spot}
 use Rattle.ember_model.specs.declared.face.Face.{Face}
 use Rattle.ember_model.specs.Planes.{support_of, value_at}
-use Rattle.ember_model.specs.Faces.{edges_of, face_of, is_inside, is_in_closed, Somewhere, Everywhere, Cuts, Meets, Contains, below, above}
+use Rattle.ember_model.specs.Faces.{edges_of, face_of, is_inside, is_in_closed, Somewhere, Everywhere}
+use Rattle.ember_model.specs.Faces.{Cuts, Meets, Contains, below, above}
 use Rattle.ember_model.specs.Owners.{is_coplanar}
 use Rattle.ember_box.specs.declared.aabb.Interval.{Interval}
 use Rattle.ember_box.specs.declared.aabb.Aabb.{Aabb}
@@ -189,7 +190,8 @@ pub data OmitsUnmet (P : Face → Type 0) : List CuttingPlane → List CuttingPl
 -- the cutting planes of a list have grown by `bs`, without some whose faces no face with the property meets
 abbrev pub AddsCuttingPlanes : (Face → Type 0) → List CuttingPlane → List Cutter → List Cutter → Type 0
 AddsCuttingPlanes P bs old new =
-    (front : List CuttingPlane) → OmitsUnmet P front (cutting_planes_in old) → OmitsUnmet P (front ++ bs) (cutting_planes_in new)
+    (front : List CuttingPlane) → OmitsUnmet P front (cutting_planes_in old) →
+    OmitsUnmet P (front ++ bs) (cutting_planes_in new)
 
 -- what two intervals, and two boxes, have in common
 abbrev pub common : Interval → Interval → Interval

@@ -1,5 +1,6 @@
 -- Pieces of triangles, one after another.
-use Rattle.std.proofs.Common.{◌≡◌, ℕ, ◌+◌, ◌<◌, Bool, true, false, if◌then◌else◌, List, [], ◌∷◌, ◌++◌, map, length, take, get_or, append_assoc, append-nil, flat_map, refl, sym, ap, subst, ◌∙◌}
+use Rattle.std.proofs.Common.{◌≡◌, ℕ, ◌+◌, ◌<◌, Bool, true, false, if◌then◌else◌, List, [], ◌∷◌, ◌++◌, map, length}
+use Rattle.std.proofs.Common.{take, get_or, append_assoc, append-nil, flat_map, refl, sym, ap, subst, ◌∙◌}
 use Rattle.std.proofs.lemmas.Grind.{flat_map-append}
 use Rattle.std.proofs.lemmas.List.{map-append, take_more}
 use Rattle.ember_vertices.specs.declared.point.DecimalPoint.{DecimalPoint}
@@ -41,14 +42,18 @@ module _ (es : List PointEdge) (t : DecimalTriangle) where
   pub both_cut : (m : DecimalPoint) → m ≡ middle t.b t.c → is_cut es t.b t.c t.a ≡ true → halves es t.a t.b m ++ halves es t.c t.a m ≡ pieces es t
   both_cut m at e = ap both_at at ∙ sym (ap (λ (b : Bool). chosen b (is_cut es t.c t.a t.b)) e)
 
-  pub second_cut : (m : DecimalPoint) → m ≡ middle t.c t.a → is_cut es t.b t.c t.a ≡ false → is_cut es t.c t.a t.b ≡ true → triangle t.b t.c m ∷ halves es t.a t.b m ≡ pieces es t
+  pub second_cut : (m : DecimalPoint) → m ≡ middle t.c t.a → is_cut es t.b t.c t.a ≡ false →
+      is_cut es t.c t.a t.b ≡ true → triangle t.b t.c m ∷ halves es t.a t.b m ≡ pieces es t
   second_cut m at e f = ap second_at at ∙ sym ((λ i. chosen (e i) (f i)))
 
   pub none_cut : is_cut es t.b t.c t.a ≡ false → is_cut es t.c t.a t.b ≡ false → halves es t.a t.b t.c ≡ pieces es t
   none_cut e f = sym (λ i. chosen (e i) (f i))
 
 -- ---- the pieces of one triangle more
-pub pieces_more : (es : List PointEdge) (ps : List DecimalPoint) (ts : List IndexedTriangle) (i : ℕ) (d : IndexedTriangle) (one : DecimalTriangle) (mesh : IndexedMesh) → i < length ts → one ≡ over ps (get_or ts i d) → IsMeshOf (flat_map (pieces es) (map (over ps) (take i ts)) ++ pieces es one) mesh → IsMeshOf (flat_map (pieces es) (map (over ps) (take (i + 1) ts))) mesh
+pub pieces_more : (es : List PointEdge) (ps : List DecimalPoint) (ts : List IndexedTriangle) (i : ℕ)
+    (d : IndexedTriangle) (one : DecimalTriangle) (mesh : IndexedMesh) → i < length ts → one ≡ over ps (get_or ts i d) →
+    IsMeshOf (flat_map (pieces es) (map (over ps) (take i ts)) ++ pieces es one) mesh →
+    IsMeshOf (flat_map (pieces es) (map (over ps) (take (i + 1) ts))) mesh
 pieces_more es ps ts i d one mesh l at h =
     let before = map (over ps) (take i ts) in
     let last = over ps (get_or ts i d) in
@@ -60,7 +65,10 @@ pieces_more es ps ts i d one mesh l at h =
     subst (λ (us : List DecimalTriangle). IsMeshOf us mesh) is h
 
 -- ---- the whole mesh
-pub mesh_is_cut : (es : List PointEdge) (ts : List DecimalTriangle) (ps : List DecimalPoint) (shown : List IndexedTriangle) (mesh : IndexedMesh) → ps ≡ vertices_of ts → shown ≡ map (indexed (vertices_of ts)) ts → IsMeshOf (flat_map (pieces es) (map (over ps) shown)) mesh → IsCutMesh ts mesh
+pub mesh_is_cut : (es : List PointEdge) (ts : List DecimalTriangle) (ps : List DecimalPoint)
+    (shown : List IndexedTriangle) (mesh : IndexedMesh) → ps ≡ vertices_of ts →
+    shown ≡ map (indexed (vertices_of ts)) ts → IsMeshOf (flat_map (pieces es) (map (over ps) shown)) mesh →
+    IsCutMesh ts mesh
 mesh_is_cut es ts ps shown mesh at all h =
     let back : map (over ps) shown ≡ ts = (λ i. map (over (at i)) (all i)) ∙ corners_are_back ts in
     record {

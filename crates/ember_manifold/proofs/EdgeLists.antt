@@ -23,6 +23,8 @@ module _ (ts : List IndexedTriangle) (i : ℕ) (d : IndexedTriangle) (l : i < le
   cut : edges_from (3 * i) (drop i ts) ≡ edges_of (3 * i) (get_or ts i d) ++ rest
   cut = ap (edges_from (3 * i)) (drop_more ts i d l) ∙ ap (λ (k : ℕ). edges_of (3 * i) (get_or ts i d) ++ edges_from k (drop (i + 1) ts)) next
 
-  pub edges_more : (before after all : List HalfEdge) → before ++ edges_from (3 * i) (drop i ts) ≡ all → after ≡ before ++ edges_of (3 * i) (get_or ts i d) → after ++ rest ≡ all
+  pub edges_more : (before after all : List HalfEdge) → before ++ edges_from (3 * i) (drop i ts) ≡ all →
+      after ≡ before ++ edges_of (3 * i) (get_or ts i d) → after ++ rest ≡ all
   edges_more before after all h e =
-      ap (λ (es : List HalfEdge). es ++ rest) e ∙ append_assoc before (edges_of (3 * i) (get_or ts i d)) rest ∙ ap (λ (es : List HalfEdge). before ++ es) (sym cut) ∙ h
+      ap (λ (es : List HalfEdge). es ++ rest) e ∙ append_assoc before (edges_of (3 * i) (get_or ts i d)) rest
+      ∙ ap (λ (es : List HalfEdge). before ++ es) (sym cut) ∙ h

@@ -1,5 +1,6 @@
 -- Split triangles, one more at a time.
-use Rattle.std.proofs.Common.{◌≡◌, ℕ, zero, suc, ◌+◌, ◌<◌, List, [], ◌∷◌, ◌++◌, length, take, get_or, Some, slice_get, append_assoc, append-nil, refl, sym, ap, subst, ◌∙◌}
+use Rattle.std.proofs.Common.{◌≡◌, ℕ, zero, suc, ◌+◌, ◌<◌, List, [], ◌∷◌, ◌++◌, length, take, get_or, Some, slice_get}
+use Rattle.std.proofs.Common.{append_assoc, append-nil, refl, sym, ap, subst, ◌∙◌}
 use Rattle.std.specs.List.{AllZip}
 use Rattle.std.proofs.lemmas.List.{take_more}
 use Rattle.std.proofs.lemmas.Option.{none-some}
@@ -36,7 +37,8 @@ split_still xs ys new old c h = record {
   c = found_still xs ys new.c old.c c h.c;
 }
 
-one_more : (xs ys : List ℕ) (news olds : List IndexedTriangle) (new old : IndexedTriangle) → Continues xs ys → AllZip (IsSplitOf xs) news olds → IsSplitOf ys new old → AllZip (IsSplitOf ys) (news ++ new ∷ []) (olds ++ old ∷ [])
+one_more : (xs ys : List ℕ) (news olds : List IndexedTriangle) (new old : IndexedTriangle) → Continues xs ys →
+    AllZip (IsSplitOf xs) news olds → IsSplitOf ys new old → AllZip (IsSplitOf ys) (news ++ new ∷ []) (olds ++ old ∷ [])
 one_more xs ys [] [] new old c h s = (s, tt)
 one_more xs ys [] (o ∷ olds) new old c h s = absurd h
 one_more xs ys (n ∷ news) [] new old c h s = absurd h
@@ -44,7 +46,10 @@ one_more xs ys (n ∷ news) (o ∷ olds) new old c h s =
     (split_still xs ys n o c h.0, one_more xs ys news olds new old c h.1 s)
 
 -- a triangle whose corners got vertices, one after another
-pub triangle_pushed : (o0 o1 o2 o3 : List ℕ) (news more before : List IndexedTriangle) (t : IndexedTriangle) (a b c : ℕ) → Continues o0 o1 → slice_get o1 a ≡ Some t.a → Continues o1 o2 → slice_get o2 b ≡ Some t.b → Continues o2 o3 → slice_get o3 c ≡ Some t.c → AllZip (IsSplitOf o0) news before → more ≡ news ++ (record { a = a; b = b; c = c }) ∷ [] → AllZip (IsSplitOf o3) more (before ++ t ∷ [])
+pub triangle_pushed : (o0 o1 o2 o3 : List ℕ) (news more before : List IndexedTriangle) (t : IndexedTriangle) (a b c : ℕ)
+    → Continues o0 o1 → slice_get o1 a ≡ Some t.a → Continues o1 o2 → slice_get o2 b ≡ Some t.b → Continues o2 o3 →
+    slice_get o3 c ≡ Some t.c → AllZip (IsSplitOf o0) news before → more ≡ news ++ (record { a = a; b = b; c = c }) ∷ [] →
+    AllZip (IsSplitOf o3) more (before ++ t ∷ [])
 triangle_pushed o0 o1 o2 o3 news more before t a b c c1 at_a c2 at_b c3 at_c h e =
     let new : IndexedTriangle = record { a = a; b = b; c = c } in
     let c13 : Continues o1 o3 = goes_on_after o1 o2 o3 c2 c3 in
@@ -57,7 +62,8 @@ triangle_pushed o0 o1 o2 o3 news more before t a b c c1 at_a c2 at_b c3 at_c h e
     subst (λ (us : List IndexedTriangle). AllZip (IsSplitOf o3) us (before ++ t ∷ [])) (sym e) (one_more o0 o3 news before new t c03 h is)
 
 -- the mesh of one triangle more
-pub mesh_more : (ts : List IndexedTriangle) (i : ℕ) (d : IndexedTriangle) (mesh : SplitMesh) → i < length ts → AreSplitOf mesh (take i ts ++ get_or ts i d ∷ []) → AreSplitOf mesh (take (i + 1) ts)
+pub mesh_more : (ts : List IndexedTriangle) (i : ℕ) (d : IndexedTriangle) (mesh : SplitMesh) → i < length ts →
+    AreSplitOf mesh (take i ts ++ get_or ts i d ∷ []) → AreSplitOf mesh (take (i + 1) ts)
 mesh_more ts i d mesh l h = subst (AreSplitOf mesh) (sym (take_more ts i d l)) h
 
 -- there are as many

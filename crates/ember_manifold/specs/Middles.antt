@@ -1,5 +1,6 @@
 -- The middles of edges
-use Rattle.std.specs.Prelude.{ℕ, ◌+◌, ◌/◌, ◌%◌, ◌==◌, ℤ, pos, neg_ℤ, ◌+ℤ◌, int_lt, unsigned_abs, Bool, true, false, ◌&&◌, if◌then◌else◌}
+use Rattle.std.specs.Prelude.{ℕ, ◌+◌, ◌/◌, ◌%◌, ◌==◌, ℤ, pos, neg_ℤ, ◌+ℤ◌, int_lt, unsigned_abs, Bool}
+use Rattle.std.specs.Prelude.{true, false, ◌&&◌, if◌then◌else◌}
 use Rattle.std.specs.Int.{saturate_signed, w128}
 use Rattle.ember_vertices.specs.declared.point.DecimalPoint.{DecimalPoint}
 

@@ -1,5 +1,7 @@
 -- The list of all regions: how many of one place hold a point.
-use Rattle.std.proofs.Common.{◌≡◌, ℕ, zero, suc, ◌+◌, ◌<◌, ◌≤◌, refl, ap, ◌∙◌, sym, subst, List, [], ◌∷◌, ◌++◌, map, length, Bool, true, false, not, ◌&&◌, ◌||◌, cond, eqb, ltb, pos, ◌≤ℤ◌, ◌⊎◌, inl, inr, arith}
+use Rattle.std.proofs.Common.{◌≡◌, ℕ, zero, suc, ◌+◌, ◌<◌, ◌≤◌, refl, ap, ◌∙◌, sym, subst, List, [], ◌∷◌, ◌++◌, map}
+use Rattle.std.proofs.Common.{length, Bool, true, false, not, ◌&&◌, ◌||◌, cond, eqb, ltb, pos, ◌≤ℤ◌, ◌⊎◌, inl, inr}
+use Rattle.std.proofs.Common.{arith}
 use Rattle.std.specs.List.{sum_by, count_by, list_any, range_with_len}
 use Rattle.std.proofs.lemmas.List.Sums.{sum_by-cons}
 use Rattle.std.proofs.lemmas.Bool.{cases_Bool, eq-eqb, ne_eqb, lt-ltb, le-ltb, cases_order, cases_lt}
@@ -36,7 +38,9 @@ cutting_planes_of_none (b ∷ bs) (step none e) = cutting_planes_of_none bs e
 flat_none : (c : Cell) (ts : List Tri) (i : ℕ) (fs : List Face) → is_flat (tri_at ts i) ≡ true → IsRegions c ts i fs → fs ≡ []
 flat_none c ts i fs e r =
     let begun = subst (λ b. Chain (λ w. Each (AreLeftByWall w)) (walls c) (elim b [ true ↦ [] | false ↦ face_of (tri_at ts i) ∷ [] ]) r.start) e r.is_start in
-    cutting_planes_of_none (cutting_planes ts i) (subst (λ s. Chain (λ b. Each (AreLeftByCuttingPlane b)) (cutting_planes ts i) s fs) (walls_of_none c (walls c) begun) r.cuts)
+    cutting_planes_of_none (cutting_planes ts i)
+    (subst (λ s. Chain (λ b. Each (AreLeftByCuttingPlane b)) (cutting_planes ts i) s fs)
+    (walls_of_none c (walls c) begun) r.cuts)
 
 -- ---- the regions of one triangle in one leaf
 abbrev pub is_entry_at : Spot → ℕ → Entry → Bool
@@ -49,22 +53,33 @@ count_placed c x t i [] = nought (eqb i t)
     nought true = refl
     nought false = refl
 count_placed c x t i (f ∷ fs) =
-    sum_by-cons (λ r. cond (is_entry_at x t r) 1 0) (entry c i f) (map (entry c i) fs) ∙ parts (eqb i t) (is_inside f x) (hits x fs) (count_by (is_entry_at x t) (map (entry c i) fs)) (count_placed c x t i fs) ∙ ap (λ (n : ℕ). cond (eqb i t) n 0) (sym (sum_by-cons (λ g. cond (is_inside g x) 1 0) f fs))
+    sum_by-cons (λ r. cond (is_entry_at x t r) 1 0) (entry c i f) (map (entry c i) fs)
+    ∙ parts (eqb i t) (is_inside f x) (hits x fs) (count_by (is_entry_at x t) (map (entry c i) fs))
+    (count_placed c x t i fs) ∙ ap (λ (n : ℕ). cond (eqb i t) n 0)
+    (sym (sum_by-cons (λ g. cond (is_inside g x) 1 0) f fs))
   where
     parts : (b q : Bool) (h n : ℕ) → n ≡ cond b h 0 → number (b && q) + n ≡ cond b (number q + h) 0
     parts true q h n e = ap (λ (m : ℕ). number q + m) e
     parts false q h n e = omega arith
 
-place_count : (scene : List Tri) (c : Cell) (x : Spot) (t i : ℕ) (es : List Entry) → (is_flat (tri_at (near scene c) i) ≡ false → IsFair c (near scene c) i x) → IsEntriesOf scene c i es → count_by (is_entry_at x t) es ≡ cond (eqb i t) (number (is_in_box c x && (not (is_flat (tri_at (near scene c) i)) && is_inside (face_of (tri_at (near scene c) i)) x))) 0
+place_count : (scene : List Tri) (c : Cell) (x : Spot) (t i : ℕ) (es : List Entry) →
+    (is_flat (tri_at (near scene c) i) ≡ false → IsFair c (near scene c) i x) → IsEntriesOf scene c i es →
+    count_by (is_entry_at x t) es ≡ cond (eqb i t)
+    (number (is_in_box c x && (not (is_flat (tri_at (near scene c) i))
+    && is_inside (face_of (tri_at (near scene c) i)) x))) 0
 place_count scene c x t i es fair r =
     let ts = near scene c in
-    ap (λ (l : List Entry). count_by (is_entry_at x t) l) r.is ∙ count_placed c x t i r.faces ∙ ap (λ (n : ℕ). cond (eqb i t) n 0) (held (is_in_box c x) (is_inside (face_of (tri_at ts i)) x) (cases_Bool (is_flat (tri_at ts i))) (λ e. leaf_count c ts i x r.faces e (fair e) r.are_regions))
+    ap (λ (l : List Entry). count_by (is_entry_at x t) l) r.is ∙ count_placed c x t i r.faces
+    ∙ ap (λ (n : ℕ). cond (eqb i t) n 0) (held (is_in_box c x) (is_inside (face_of (tri_at ts i)) x)
+    (cases_Bool (is_flat (tri_at ts i))) (λ e. leaf_count c ts i x r.faces e (fair e) r.are_regions))
   where
     nothing : (a b : Bool) → 0 ≡ number (a && (not true && b))
     nothing true b = refl
     nothing false b = refl
 
-    held : (a b : Bool) → (is_flat (tri_at (near scene c) i) ≡ true) ⊎ (is_flat (tri_at (near scene c) i) ≡ false) → (is_flat (tri_at (near scene c) i) ≡ false → hits x r.faces ≡ number (a && b)) → hits x r.faces ≡ number (a && (not (is_flat (tri_at (near scene c) i)) && b))
+    held : (a b : Bool) → (is_flat (tri_at (near scene c) i) ≡ true) ⊎ (is_flat (tri_at (near scene c) i) ≡ false) →
+        (is_flat (tri_at (near scene c) i) ≡ false → hits x r.faces ≡ number (a && b)) →
+        hits x r.faces ≡ number (a && (not (is_flat (tri_at (near scene c) i)) && b))
     held a b (inl e) f =
         ap (λ (l : List Face). hits x l) (flat_none c (near scene c) i r.faces e r.are_regions) ∙ nothing a b ∙ ap (λ z. number (a && (not z && b))) (sym e)
     held a b (inr e) f = f e ∙ ap (λ z. number (a && (not z && b))) (sym e)
@@ -78,7 +93,8 @@ sum_at g t a zero b e = by (cases_lt t a)
 sum_at g t a (suc n) b e =
     sum_by-cons (λ i. cond (eqb i t) (g i) 0) a (range_with_len (a + 1) n) ∙ by (cases_order a t) (sum_at g t (a + 1) n b (omega arith))
   where
-    by : (a ≡ t) ⊎ ((a < t) ⊎ (t < a)) → {s : ℕ} → s ≡ cond (not (ltb t (a + 1)) && ltb t b) (g t) 0 → cond (eqb a t) (g a) 0 + s ≡ cond (not (ltb t a) && ltb t b) (g t) 0
+    by : (a ≡ t) ⊎ ((a < t) ⊎ (t < a)) → {s : ℕ} → s ≡ cond (not (ltb t (a + 1)) && ltb t b) (g t) 0 →
+        cond (eqb a t) (g a) 0 + s ≡ cond (not (ltb t a) && ltb t b) (g t) 0
     by (inl q) h =
         let l : t < a + 1 = omega arith in let m : a ≤ t = omega arith in let k : t < b = omega arith in
         let z = h ∙ ap (λ c. cond (not c && ltb t b) (g t) 0) (lt-ltb t (a + 1) l) in
@@ -98,11 +114,17 @@ units (x ∷ xs) = (tt, units xs)
 
 -- the regions of place t in one leaf that hold x: one if the leaf holds x and the triangle's
 -- face has it inside, otherwise none
-regions_count : (scene : List Tri) (x : Spot) (t : ℕ) (c : Cell) (es : List Entry) → IsFairAt scene x c → IsEntriesIn scene c es → count_by (is_entry_at x t) es ≡ number (is_in_box c x && has_inside (near scene c) t x)
+regions_count : (scene : List Tri) (x : Spot) (t : ℕ) (c : Cell) (es : List Entry) → IsFairAt scene x c →
+    IsEntriesIn scene c es → count_by (is_entry_at x t) es ≡ number (is_in_box c x && has_inside (near scene c) t x)
 regions_count scene x t c es fair r =
     let ts = near scene c in
-    let k = each_count (is_entry_at x t) (λ i. cond (eqb i t) (number (is_in_box c x && (not (is_flat (tri_at ts i)) && is_inside (face_of (tri_at ts i)) x))) 0) (λ i. Unit {0}) (λ r. Unit {0}) (λ i zs u q. (units zs, place_count scene c x t i zs (fair i) q)) r (units (range_with_len 0 (length ts))) in
-    k.1 ∙ sum_at (λ i. number (is_in_box c x && (not (is_flat (tri_at ts i)) && is_inside (face_of (tri_at ts i)) x))) t 0 (length ts) (length ts) (omega arith) ∙ last (ltb t (length ts)) (is_in_box c x) (not (is_flat (tri_at ts t)) && is_inside (face_of (tri_at ts t)) x)
+    let k = each_count (is_entry_at x t) (λ i. cond (eqb i t)
+    (number (is_in_box c x && (not (is_flat (tri_at ts i)) && is_inside (face_of (tri_at ts i)) x))) 0)
+    (λ i. Unit {0}) (λ r. Unit {0}) (λ i zs u q. (units zs, place_count scene c x t i zs (fair i) q)) r
+    (units (range_with_len 0 (length ts))) in
+    k.1 ∙ sum_at (λ i. number (is_in_box c x && (not (is_flat (tri_at ts i)) && is_inside (face_of (tri_at ts i)) x))) t
+    0 (length ts) (length ts) (omega arith) ∙ last (ltb t (length ts)) (is_in_box c x)
+    (not (is_flat (tri_at ts t)) && is_inside (face_of (tri_at ts t)) x)
   where
     last : (l a b : Bool) → cond (not (ltb t 0) && l) (number (a && b)) 0 ≡ number (a && (l && b))
     last l a b = rw (le-ltb t 0 (omega arith)) (by l a b)
@@ -113,9 +135,12 @@ regions_count scene x t c es fair r =
         by false false b = refl
 
 -- ---- all leaves
-entries_sum : (scene : List Tri) (x : Spot) (t : ℕ) (cs : List Cell) (es : List Entry) → Every (IsFairAt scene x) cs → Each (IsEntriesIn scene) cs es → count_by (is_entry_at x t) es ≡ sum_by (λ c. number (is_in_box c x && has_inside (near scene c) t x)) cs
+entries_sum : (scene : List Tri) (x : Spot) (t : ℕ) (cs : List Cell) (es : List Entry) → Every (IsFairAt scene x) cs →
+    Each (IsEntriesIn scene) cs es → count_by (is_entry_at x t) es ≡ sum_by
+    (λ c. number (is_in_box c x && has_inside (near scene c) t x)) cs
 entries_sum scene x t cs es fair r =
-    (each_count (is_entry_at x t) (λ c. number (is_in_box c x && has_inside (near scene c) t x)) (IsFairAt scene x) (λ e. Unit {0}) (λ c zs u q. (units zs, regions_count scene x t c zs u q)) r fair).1
+    (each_count (is_entry_at x t) (λ c. number (is_in_box c x && has_inside (near scene c) t x)) (IsFairAt scene x)
+    (λ e. Unit {0}) (λ c zs u q. (units zs, regions_count scene x t c zs u q)) r fair).1
 
 le_sum : {X : Type 0} (p q : X → Bool) (xs : List X) → sum_by (λ x. number (p x && q x)) xs ≤ count_by p xs
 le_sum p q [] = omega arith
@@ -133,14 +158,18 @@ sum_any p q [] h = refl
 sum_any p q (x ∷ xs) h =
     sum_by-cons (λ y. number (p y && q y)) x xs ∙ by (p x) (q x) (sum_by-cons (λ y. cond (p y) 1 0) x xs) (λ l. sum_any p q xs l)
   where
-    by : (a b : Bool) → count_by p (x ∷ xs) ≡ number a + count_by p xs → (count_by p xs ≤ 1 → sum_by (λ y. number (p y && q y)) xs ≡ number (list_any (λ y. p y && q y) xs)) → number (a && b) + sum_by (λ y. number (p y && q y)) xs ≡ number ((a && b) || list_any (λ y. p y && q y) xs)
+    by : (a b : Bool) → count_by p (x ∷ xs) ≡ number a + count_by p xs →
+        (count_by p xs ≤ 1 → sum_by (λ y. number (p y && q y)) xs ≡ number (list_any (λ y. p y && q y) xs)) →
+        number (a && b) + sum_by (λ y. number (p y && q y)) xs ≡ number ((a && b) || list_any (λ y. p y && q y) xs)
     by true true e f = omega (arith, le_sum p q xs)
     by true false e f = let l : count_by p xs ≤ 1 = omega arith in omega (arith, f l)
     by false b e f = let l : count_by p xs ≤ 1 = omega arith in omega (arith, f l)
 
 -- of all regions of place t, one holds x if in the leaf of x that triangle's face has x inside,
 -- otherwise none
-pub entries_count : (scene : List Tri) (cs : List Cell) (x : Spot) (t : ℕ) (es : List Entry) → count_by (λ c. is_in_box c x) cs ≤ 1 → IsFairInAll scene cs x → IsEntries scene cs es → count_by (is_entry_at x t) es ≡ number (is_hit_at scene cs x t)
+pub entries_count : (scene : List Tri) (cs : List Cell) (x : Spot) (t : ℕ) (es : List Entry) →
+    count_by (λ c. is_in_box c x) cs ≤ 1 → IsFairInAll scene cs x → IsEntries scene cs es →
+    count_by (is_entry_at x t) es ≡ number (is_hit_at scene cs x t)
 entries_count scene cs x t es one fair r =
     entries_sum scene x t cs es fair r ∙ sum_any (λ c. is_in_box c x) (λ c. has_inside (near scene c) t x) cs one
 
@@ -153,7 +182,8 @@ fewer_without p (drops {x = x} {xs = xs} {ys = ys} h w) =
     omega (arith, sum_by-cons (λ z. cond (p z) 1 0) x xs, fewer_without p w)
 
 -- of some leaves of the full tree at most one contains a point
-pub one_holds : {P : Cell → Type 0} (scene : List Tri) (cs : List Cell) (x : Spot) → pos 0 ≤ℤ x.w → Without P (leaves scene root) cs → count_by (λ c. is_in_box c x) cs ≤ 1
+pub one_holds : {P : Cell → Type 0} (scene : List Tri) (cs : List Cell) (x : Spot) → pos 0 ≤ℤ x.w →
+    Without P (leaves scene root) cs → count_by (λ c. is_in_box c x) cs ≤ 1
 one_holds scene cs x w l =
     at_most (is_in_box root x) (fewer_without (λ c. is_in_box c x) l) (leaves_count scene (halvings_left root) root x w)
   where
@@ -178,16 +208,39 @@ each_map : {X Z Y : Type 0} {R : Z → List Y → Type 0} (h : X → Z) {xs : Li
 each_map h none = none
 each_map h (more r e) = more r (each_map h e)
 
-of_leaf : (scene : List Tri) (x : Formula) (c : Cell) {is : List ℕ} {ks : List Kept} → Each (IsWrittenOf scene x c (near scene c)) is ks → (OfLeaf scene x c is ks → ⊥) → ⊥
+of_leaf : (scene : List Tri) (x : Formula) (c : Cell) {is : List ℕ} {ks : List Kept} →
+    Each (IsWrittenOf scene x c (near scene c)) is ks → (OfLeaf scene x c is ks → ⊥) → ⊥
 of_leaf scene x c none n = n (record { entries = []; are_entries = none; are_written = none })
 of_leaf scene x c (more {x = i} {zs = zs} w e) n =
-    of_leaf scene x c e (λ k. written_by_regions scene x c (near scene c) i w (λ r. n (record { entries = map (entry c i) r.faces ++ k.entries; are_entries = more (record { faces = r.faces; are_regions = r.are_regions; is = refl }) k.are_entries; are_written = each_append (each_map (entry c i) r.are_written) k.are_written })))
+    of_leaf scene x c e (λ k. written_by_regions scene x c (near scene c) i w
+    (λ r. n (record {
+      entries = map (entry c i) r.faces ++ k.entries;
+      are_entries =
+          more (record { faces = r.faces; are_regions = r.are_regions; is = refl }) k.are_entries;
+      are_written =
+          each_append (each_map (entry c i) r.are_written) k.are_written;
+    })))
 
 -- it can't be that there is no such list
 pub leaf_list_exists : (scene : List Tri) (x : Formula) {ds : List Cell} {ks : List Kept} → Each (LeafGives scene x) ds ks → (Listed scene x ds ks → ⊥) → ⊥
 leaf_list_exists scene x none n =
     n (record { cells = []; entries = []; listed = ends; are_entries = none; are_written = none })
 leaf_list_exists scene x (more {x = c} (regions w) e) n =
-    leaf_list_exists scene x e (λ k. of_leaf scene x c w (λ o. n (record { cells = c ∷ k.cells; entries = o.entries ++ k.entries; listed = keeps k.listed; are_entries = more o.are_entries k.are_entries; are_written = each_append o.are_written k.are_written })))
+    leaf_list_exists scene x e (λ k. of_leaf scene x c w
+    (λ o. n (record {
+      cells = c ∷ k.cells;
+      entries = o.entries ++ k.entries;
+      listed = keeps k.listed;
+      are_entries =
+          more o.are_entries k.are_entries;
+      are_written = each_append o.are_written k.are_written;
+    })))
 leaf_list_exists scene x (more (nothing h) e) n =
-    leaf_list_exists scene x e (λ k. n (record { cells = k.cells; entries = k.entries; listed = drops h k.listed; are_entries = k.are_entries; are_written = k.are_written }))
+    leaf_list_exists scene x e (λ k. n (record {
+      cells = k.cells;
+      entries = k.entries;
+      listed =
+          drops h k.listed;
+      are_entries = k.are_entries;
+      are_written = k.are_written;
+    }))

@@ -45,7 +45,9 @@ and_end false b c d = refl
 -- inside the part below: inside the face, and below the plane
 pub is_inside-below : (f : Face) (p : Plane) (v : Spot) → is_inside (below f p) v ≡ (is_inside f v && is_negative (value_at p v))
 is_inside-below f p v =
-    rw (list_all-append (λ e. is_negative (value_at e v)) f.edges (p ∷ [])) (and_end (is_positive v.w) (is_zero (value_at f.support v)) (list_all (λ e. is_negative (value_at e v)) f.edges) (is_negative (value_at p v)))
+    rw (list_all-append (λ e. is_negative (value_at e v)) f.edges (p ∷ []))
+    (and_end (is_positive v.w) (is_zero (value_at f.support v)) (list_all (λ e. is_negative (value_at e v)) f.edges)
+    (is_negative (value_at p v)))
 
 -- a point is inside the part above a plane exactly if it is inside the face and above the plane
 pub is_inside-above : (f : Face) (p : Plane) (v : Spot) → is_inside (above f p) v ≡ (is_inside f v && is_positive (value_at p v))
@@ -55,4 +57,6 @@ is_inside-above f p v =
 -- an inside point lies on the support plane
 pub on_support : (f : Face) (v : Spot) → is_inside f v ≡ true → is_zero (value_at f.support v) ≡ true
 on_support f v e =
-    (and_parts (is_zero (value_at f.support v)) (list_all (λ e. is_negative (value_at e v)) f.edges) (and_parts (is_positive v.w) (is_zero (value_at f.support v) && list_all (λ e. is_negative (value_at e v)) f.edges) e).1).0
+    (and_parts (is_zero (value_at f.support v)) (list_all (λ e. is_negative (value_at e v)) f.edges)
+    (and_parts (is_positive v.w) (is_zero (value_at f.support v)
+    && list_all (λ e. is_negative (value_at e v)) f.edges) e).1).0

@@ -31,7 +31,8 @@ neg-neg a b = solve 2 (λ a b. neg a ⊗ neg b ≈ a ⊗ b) cancels a b
 -- a flipped face has the same inside points
 pub inside-turned : (f : Face) (v : Spot) → is_inside (flipped_face f) v ≡ is_inside f v
 inside-turned f v =
-    ap (λ b. is_positive v.w && (b && list_all (λ e. is_negative (value_at e v)) f.edges)) (ap is_zero (value-opposite f.support v) ∙ zero-neg (value_at f.support v))
+    ap (λ b. is_positive v.w && (b && list_all (λ e. is_negative (value_at e v)) f.edges))
+    (ap is_zero (value-opposite f.support v) ∙ zero-neg (value_at f.support v))
 
 along-opposite : (a : Axis) (p : Plane) → along (opposite p) a ≡ neg_ℤ (along p a)
 along-opposite X p = refl
@@ -42,7 +43,9 @@ hit-opposite : (n : Plane) (a : Axis) (v : Spot) → hit (opposite n) a v ≡ hi
 hit-opposite n a v =
     let e = along-opposite a n in let d = value-opposite n v in
     let m : size (along (opposite n) a) ≡ size (along n a) = ap size e ∙ ap pos (size-neg (along n a)) in
-    let w : sign (along (opposite n) a) *ℤ value_at (opposite n) v ≡ sign (along n a) *ℤ value_at n v = (λ i. sign (e i) *ℤ d i) ∙ ap (λ (z : ℤ). z *ℤ neg_ℤ (value_at n v)) (sign-neg (along n a)) ∙ neg-neg (sign (along n a)) (value_at n v) in
+    let w : sign (along (opposite n) a) *ℤ value_at (opposite n) v ≡ sign (along n a) *ℤ value_at n v =
+    (λ i. sign (e i) *ℤ d i) ∙ ap (λ (z : ℤ). z *ℤ neg_ℤ (value_at n v)) (sign-neg (along n a))
+    ∙ neg-neg (sign (along n a)) (value_at n v) in
     λ i. moved (scaled (m i) v) a (neg_ℤ (w i))
 
 -- ---- on a line
@@ -53,7 +56,9 @@ key_num n v = ap neg_ℤ (ap (λ (z : ℤ). z *ℤ neg_ℤ v) (sign-neg n) ∙ n
 pub key-turned : (a : Axis) (p : Spot) (f : Face) → key a p (flipped_face f) ≡ key a p f
 key-turned a p f =
     let e = along-opposite a f.support in let d = value-opposite f.support p in
-    let n : neg_ℤ (sign (along (opposite f.support) a) *ℤ value_at (opposite f.support) p) ≡ neg_ℤ (sign (along f.support a) *ℤ value_at f.support p) = (λ i. neg_ℤ (sign (e i) *ℤ d i)) ∙ key_num (along f.support a) (value_at f.support p) in
+    let n : neg_ℤ (sign (along (opposite f.support) a) *ℤ value_at (opposite f.support) p) ≡ neg_ℤ
+    (sign (along f.support a) *ℤ value_at f.support p) =
+    (λ i. neg_ℤ (sign (e i) *ℤ d i)) ∙ key_num (along f.support a) (value_at f.support p) in
     let m = ap (λ (z : ℤ). pred (unsigned_abs z)) e ∙ ap pred (size-neg (along f.support a)) in
     λ i. record { num = n i; den = m i }
 

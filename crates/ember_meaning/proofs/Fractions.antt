@@ -27,13 +27,28 @@ one_up n = omega (arith, ints)
 cross_le : (a b c : ℤ) {d e f : ℤ} → pos 0 <ℤ d → pos 0 <ℤ e → pos 0 <ℤ f → (b *ℤ d) ≤ℤ (a *ℤ e) → (a *ℤ f) <ℤ (c *ℤ d) → (b *ℤ f) <ℤ (c *ℤ e)
 cross_le a b c {d} {e} {f} pd pe pf h k =
     let nf : pos 0 ≤ℤ f = omega (arith, linear) in let x = mul_le nf h in let y = mul_lt pe k in
-    cancel_lt pd (omega (arith, linear, x, y, solve 3 (λ d b f. d ⊗ (b ⊗ f) ≈ f ⊗ (b ⊗ d)) cancels d b f, solve 3 (λ f a e. f ⊗ (a ⊗ e) ≈ e ⊗ (a ⊗ f)) cancels f a e, solve 3 (λ d c e. e ⊗ (c ⊗ d) ≈ d ⊗ (c ⊗ e)) cancels d c e))
+    cancel_lt pd (omega (
+      arith,
+      linear,
+      x,
+      y,
+      solve 3 (λ d b f. d ⊗ (b ⊗ f) ≈ f ⊗ (b ⊗ d)) cancels d b f,
+      solve 3 (λ f a e. f ⊗ (a ⊗ e) ≈ e ⊗ (a ⊗ f)) cancels f a e,
+      solve 3 (λ d c e. e ⊗ (c ⊗ d) ≈ d ⊗ (c ⊗ e)) cancels d c e,
+    ))
 
 -- fractions are ordered by `is_below`
 pub fractions_order : IsOrder is_below
 fractions_order =
-    record { irreflexive = λ a. lt_no _ _ (le_self (a.num *ℤ pos (suc a.den))); transitive = λ a b c h k. lt_yes _ _ (cross_trans a.num b.num c.num (one_up a.den) (one_up b.den) (one_up c.den) (lt_fact _ _ h) (lt_fact _ _ k)); between = λ a b c h. split a b c (lt_fact _ _ h) }
+    record {
+      irreflexive = λ a. lt_no _ _ (le_self (a.num *ℤ pos (suc a.den)));
+      transitive =
+          λ a b c h k. lt_yes _ _ (cross_trans a.num b.num c.num (one_up a.den) (one_up b.den) (one_up c.den)
+          (lt_fact _ _ h) (lt_fact _ _ k));
+      between = λ a b c h. split a b c (lt_fact _ _ h);
+    }
   where
     split : (a b c : Fraction) → (a.num *ℤ pos (suc c.den)) <ℤ (c.num *ℤ pos (suc a.den)) → (is_below a b ≡ true) ⊎ (is_below b c ≡ true)
     split a b c h =
-        by_lt_z (a.num *ℤ pos (suc b.den)) (b.num *ℤ pos (suc a.den)) (λ l. inl (lt_yes _ _ l)) (λ l. inr (lt_yes _ _ (cross_le a.num b.num c.num (one_up a.den) (one_up b.den) (one_up c.den) l h)))
+        by_lt_z (a.num *ℤ pos (suc b.den)) (b.num *ℤ pos (suc a.den)) (λ l. inl (lt_yes _ _ l))
+        (λ l. inr (lt_yes _ _ (cross_le a.num b.num c.num (one_up a.den) (one_up b.den) (one_up c.den) l h)))

@@ -1,5 +1,7 @@
 -- The meaning of the written regions of a scene on a general line.
-use Rattle.std.proofs.Common.{◌≡◌, ℕ, zero, suc, pred, ◌<◌, refl, ap, ◌∙◌, sym, subst, List, [], ◌∷◌, map, length, Bool, true, false, not, ◌&&◌, cond, ◌⊎◌, inl, inr, arith, ℤ, pos, negsuc, nat_lt, ◌+◌, ◌*ℤ◌, ◌-ℤ◌, ◌<ℤ◌, ◌≤ℤ◌, neg_ℤ, unsigned_abs}
+use Rattle.std.proofs.Common.{◌≡◌, ℕ, zero, suc, pred, ◌<◌, refl, ap, ◌∙◌, sym, subst, List, [], ◌∷◌, map, length, Bool}
+use Rattle.std.proofs.Common.{true, false, not, ◌&&◌, cond, ◌⊎◌, inl, inr, arith, ℤ, pos, negsuc, nat_lt, ◌+◌, ◌*ℤ◌}
+use Rattle.std.proofs.Common.{◌-ℤ◌, ◌<ℤ◌, ◌≤ℤ◌, neg_ℤ, unsigned_abs}
 use Rattle.std.specs.List.{filter, list_any}
 use Rattle.std.proofs.lemmas.Option.{get_or_from_slice_get}
 use Rattle.std.proofs.lemmas.Bool.{cases_Bool, lt-ltb, and_parts, and_from, not-true}
@@ -100,10 +102,14 @@ module _ (scene : List Tri) (cs : List Cell) (e : Entry) (o : IsOf scene cs e) w
   tri_hit k p h =
       let q = and_parts (not (is_zero (along e.face.support k))) (is_inside e.face (hit e.face.support k p)) h in
       let i = inside_tri scene cs (hit e.face.support k p) e o q.1 in
-      and_from (not (is_flat tri_of)) (is_hit k p (face_of tri_of)) (ap not cut_out.normal) (subst (λ (n : Plane). (not (is_zero (along n k)) && is_inside (face_of tri_of) (hit n k p)) ≡ true) same_support (and_from (not (is_zero (along e.face.support k))) (is_inside (face_of tri_of) (hit e.face.support k p)) q.0 i))
+      and_from (not (is_flat tri_of)) (is_hit k p (face_of tri_of)) (ap not cut_out.normal)
+      (subst (λ (n : Plane). (not (is_zero (along n k)) && is_inside (face_of tri_of) (hit n k p)) ≡ true)
+      same_support (and_from (not (is_zero (along e.face.support k)))
+      (is_inside (face_of tri_of) (hit e.face.support k p)) q.0 i))
 
 -- ---- a written face is hit only where a triangle is
-kept_ring : (scene : List Tri) (x : Formula) (ns : List Tri) (i : ℕ) (f : Face) (us : List Kept) (w : Kept) → IsWrittenOfRegion scene x ns i f us → In w us → w.ring ≡ f
+kept_ring : (scene : List Tri) (x : Formula) (ns : List Tri) (i : ℕ) (f : Face) (us : List Kept) (w : Kept) →
+    IsWrittenOfRegion scene x ns i f us → In w us → w.ring ≡ f
 kept_ring scene x ns i f us w (unowned n) j = elim j [ ]
 kept_ring scene x ns i f us w (same_value s q) j = elim j [ ]
 kept_ring scene x ns i f us w (written o s n) here = refl
@@ -128,14 +134,21 @@ module _ (scene : List Tri) (x : Formula) (ks : List Kept) (cs : List Cell) (es 
       let t = tri_of scene cs e o in
       let hits : is_hit k p e.face ≡ true = ap (is_hit k p) (sym ring) ∙ sym (seen_hit k p s.at.ring s.at.flipped) ∙ ap (is_hit k p) (sym s.is) ∙ h in
       let keys : key k p w ≡ tri_key k p t = ap (key k p) s.is ∙ seen_key k p s.at.ring s.at.flipped ∙ ap (key k p) ring ∙ same_key scene cs e o k p in
-      record { key = tri_key k p t; member = in_map (tri_key k p) (tri_hits k p scene) t (to_filter (is_tri_hit k p) scene t (tri_in scene cs e o) (tri_hit scene cs e o k p hits)); same = at (tri_key k p t) (key k p w) keys }
+      record {
+        key = tri_key k p t;
+        member = in_map (tri_key k p) (tri_hits k p scene) t
+            (to_filter (is_tri_hit k p) scene t (tri_in scene cs e o) (tri_hit scene cs e o k p hits));
+        same =
+            at (tri_key k p t) (key k p w) keys;
+      }
     where
       at : (a b : Fraction) → b ≡ a → (not (is_below a b) && not (is_below b a)) ≡ true
       at a b e =
           subst (λ c. (not (is_below a c) && not (is_below c a)) ≡ true) (sym e) (ap (λ c. not c && not c) (fractions_order.irreflexive a))
 
   -- ---- a general line is regular
-  regular : (count : ℕ) → IsScene scene count → (t : Tri) → In t (tri_hits k p scene) → IsGeneralAt scene k (hit (face_of t).support k p) → IsRegular scene x k p cs es t
+  regular : (count : ℕ) → IsScene scene count → (t : Tri) → In t (tri_hits k p scene) →
+      IsGeneralAt scene k (hit (face_of t).support k p) → IsRegular scene x k p cs es t
   regular count valid t i g =
       record {
         fair = listed_fair;
@@ -145,8 +158,13 @@ module _ (scene : List Tri) (x : Formula) (ks : List Kept) (cs : List Cell) (es 
         first_owner = λ e j h least. owned scene cs at e (of e j) h (fair_at e j) least;
         beside = λ e before after j h s.
             let o = of e j in let n = slope e j h in
-            let r : IsRegion (near scene e.cell) e.cell e.face = record { tri = e.tri; regions = o.faces; are_regions = o.are_regions; index = o.index; here = o.here } in
-            (before_is scene count e.cell valid e.face r x before after s at h k n (onward_seen) seen_before g.clear_before, after_is scene count e.cell valid e.face r x before after s at h k n (beyond_seen) seen_after g.clear_after);
+            let r : IsRegion (near scene e.cell) e.cell e.face =
+            record { tri = e.tri; regions = o.faces; are_regions = o.are_regions; index = o.index; here = o.here } in (
+              before_is scene count e.cell valid e.face r x before after s at h k n (onward_seen) seen_before
+                  g.clear_before,
+              after_is scene count e.cell valid e.face r x before after s at h k n (beyond_seen)
+                  seen_after g.clear_after,
+            );
       }
     where
       at : Spot
@@ -164,7 +182,9 @@ module _ (scene : List Tri) (x : Formula) (ks : List Kept) (cs : List Cell) (es 
       slope : (e : Entry) → In e es → is_inside e.face at ≡ true → is_zero (along e.face.support k) ≡ false
       slope e j h =
           let o = of e j in let n = cut_out scene cs e o in
-          ap (λ (s : Plane). is_zero (along s k)) n.support ∙ g.slopes (tri_of scene cs e o) (tri_in scene cs e o) n.normal (sym (ap (λ (s : Plane). value_at s at) n.support) ∙ (inside_parts e.face at h).1)
+          ap (λ (s : Plane). is_zero (along s k)) n.support
+          ∙ g.slopes (tri_of scene cs e o) (tri_in scene cs e o) n.normal
+          (sym (ap (λ (s : Plane). value_at s at) n.support) ∙ (inside_parts e.face at h).1)
 
       hits : (not (is_flat t) ≡ true) × (is_hit k p (face_of t) ≡ true)
       hits =
@@ -209,21 +229,35 @@ module _ (scene : List Tri) (x : Formula) (ks : List Kept) (cs : List Cell) (es 
           let n = near_point c t at flat (has_point c at positive h) closed in
           let q = member_splits_list (near scene c) t (to_filter (λ u. is_near c u) scene t tri n) in
           let e = get_or_from_slice_get (near scene c) q.index t no_tri q.is in
-          record { tri = q.index; is_hit = any_in (λ d. is_in_box d at && has_inside (near scene d) q.index at) cs c j (and_from (is_in_box c at) (has_inside (near scene c) q.index at) h (and_from (nat_lt q.index (length (near scene c))) (not (is_flat (tri_at (near scene c) q.index)) && is_inside (face_of (tri_at (near scene c) q.index)) at) (lt-ltb q.index (length (near scene c)) q.below) (subst (λ u. (not (is_flat u) && is_inside (face_of u) at) ≡ true) (sym e) (and_from (not (is_flat t)) (is_inside (face_of t) at) (ap not flat) held.1)))) }
+          record {
+            tri = q.index;
+            is_hit = any_in (λ d. is_in_box d at && has_inside (near scene d) q.index at) cs c j
+                (and_from (is_in_box c at) (has_inside (near scene c) q.index at) h
+                (and_from (nat_lt q.index (length (near scene c)))
+                (not (is_flat (tri_at (near scene c) q.index)) && is_inside (face_of (tri_at (near scene c) q.index)) at)
+                (lt-ltb q.index (length (near scene c)) q.below)
+                (subst (λ u. (not (is_flat u) && is_inside (face_of u) at) ≡ true) (sym e)
+                (and_from (not (is_flat t)) (is_inside (face_of t) at) (ap not flat) held.1))));
+          }
 
       one_value : (c : Cell) → HasOneValue scene x c → is_in_box c at ≡ true → truth onward_seen x ≡ truth beyond_seen x
       one_value c v h =
           told (negsuc 0) onward_seen seen_before g.clear_before ∙ sym (told (pos 1) beyond_seen seen_after g.clear_after)
         where
-          told : (e : ℤ) (w : List ℤ) → Eventually (λ m. vector k scene (moved (scaled (pos m) at) k e) ≡ w) → Eventually (λ m. AreClear (faces_of scene) (moved (scaled (pos m) at) k e)) → truth w x ≡ v.value
+          told : (e : ℤ) (w : List ℤ) → Eventually (λ m. vector k scene (moved (scaled (pos m) at) k e) ≡ w) →
+              Eventually (λ m. AreClear (faces_of scene) (moved (scaled (pos m) at) k e)) → truth w x ≡ v.value
           told e w a b =
               let s = (v.beside at (has_point c at positive h)).steps k e in let m = a.from + b.from + s.from in
               ap (λ u. truth u x) (sym (a.holds m (omega arith))) ∙ s.holds m (omega arith) (b.holds m (omega arith)) k
 
-      by : (list_any (λ c. is_in_box c at) cs ≡ true) ⊎ (list_any (λ c. is_in_box c at) cs ≡ false) → SomeHit scene x k p cs es t ⊎ (((j : ℕ) → is_hit_at scene cs at j ≡ false) × (truth onward_seen x ≡ truth beyond_seen x))
+      by : (list_any (λ c. is_in_box c at) cs ≡ true) ⊎ (list_any (λ c. is_in_box c at) cs ≡ false) →
+          SomeHit scene x k p cs es t ⊎ (((j : ℕ) →
+          is_hit_at scene cs at j ≡ false) × (truth onward_seen x ≡ truth beyond_seen x))
       by (inl h) = let q = any_has_member (λ c. is_in_box c at) cs h in inl (near_hit q.at q.member q.holds)
       by (inr h) =
-          let q = missing_member_passes (λ c. is_in_box c at) l.listed (some (leaves_count scene (halvings_left root) root at weight) (in_root t at (all_in (λ u. IsValidTri u) scene t valid.valid tri) flat closed positive)) h in
+          let q = missing_member_passes (λ c. is_in_box c at) l.listed
+          (some (leaves_count scene (halvings_left root) root at weight)
+          (in_root t at (all_in (λ u. IsValidTri u) scene t valid.valid tri) flat closed positive)) h in
           inr (λ j. none_both (λ c. is_in_box c at) (λ c. has_inside (near scene c) j at) cs h, one_value q.at q.has q.holds)
         where
           some : {n : ℕ} {b : Bool} → n ≡ number b → b ≡ true → 0 < n
@@ -236,12 +270,19 @@ stays_equal a b n =
     by_sign (a -ℤ b) (λ l. absurd (n (λ e. omega (arith, linear, l, e)))) (λ z. omega (arith, linear, z)) (λ l. absurd (n (λ e. omega (arith, linear, l, e))))
 
 -- the written regions have their meaning on each line
-pub meaning_on_lines : (scene : List Tri) (count : ℕ) (x : Formula) (ks : List Kept) → IsScene scene count → IsWritten scene x ks → IsFalseOutside x → HaveMeaningOnLines scene x ks
+pub meaning_on_lines : (scene : List Tri) (count : ℕ) (x : Formula) (ks : List Kept) → IsScene scene count →
+    IsWritten scene x ks → IsFalseOutside x → HaveMeaningOnLines scene x ks
 meaning_on_lines scene count x ks v w o a b p positive clear general =
     stays_equal _ _ (λ n. leaf_list_exists scene x w (λ l. n (by l)))
   where
     by : Listed scene x (leaves scene root) ks → HasMeaning scene x (map written_face ks) a b p
     by l =
         let is : IsListing scene x ks l.cells l.entries = record { listed = l.listed; are_entries = l.are_entries; are_written = l.are_written } in
-        let m = meaning_along scene x a p l.cells l.entries ks l.listed l.are_entries l.are_written o (record { regular = λ t i. regular scene x ks l.cells l.entries is a p count v t i (general t i); placed = placed scene x ks l.cells l.entries is a p }) (record { num = pos 0; den = 0 }) in
-        subst (λ q. HasMeaning scene x (map written_face ks) a a q) (first a p) m ∙ ap (λ (c : List ℤ). one_if (truth c x)) (axes_law scene count v p a b positive clear)
+        let m = meaning_along scene x a p l.cells l.entries ks l.listed l.are_entries l.are_written o
+        (record {
+          regular = λ t i. regular scene x ks l.cells l.entries is a p count v t i (general t i);
+          placed =
+              placed scene x ks l.cells l.entries is a p;
+        }) (record { num = pos 0; den = 0 }) in
+        subst (λ q. HasMeaning scene x (map written_face ks) a a q) (first a p) m
+        ∙ ap (λ (c : List ℤ). one_if (truth c x)) (axes_law scene count v p a b positive clear)

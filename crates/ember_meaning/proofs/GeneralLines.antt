@@ -1,6 +1,7 @@
 -- Beside every point there are general lines: a line meets two planes at one place only where one
 -- is a multiple of the other.
-use Rattle.std.proofs.Common.{◌≡◌, ◌≢◌, ℕ, zero, suc, ◌<◌, refl, ap, ◌∙◌, sym, List, [], ◌∷◌, length, Bool, true, false, not, ◌⊎◌, inl, inr, arith, ℤ, pos, negsuc, neg_ℤ, ◌+ℤ◌, ◌-ℤ◌, ◌*ℤ◌, ◌<ℤ◌}
+use Rattle.std.proofs.Common.{◌≡◌, ◌≢◌, ℕ, zero, suc, ◌<◌, refl, ap, ◌∙◌, sym, List, [], ◌∷◌, length, Bool, true, false}
+use Rattle.std.proofs.Common.{not, ◌⊎◌, inl, inr, arith, ℤ, pos, negsuc, neg_ℤ, ◌+ℤ◌, ◌-ℤ◌, ◌*ℤ◌, ◌<ℤ◌}
 use borrow.Author.Differences.{ints}
 use lib.IntN.{*ℤ_comm}
 use Rattle.std.specs.List.{AllByRecursion}
@@ -99,8 +100,14 @@ module _ (a : Axis) (n g : Plane) (m : IsMultiple a n g) (crosses : along n a �
 
 -- a plane that is 0 everywhere has no normal
 no_normal : (g : Plane) → ((v : Spot) → value_at g v ≡ pos 0) → NoNormal g
-no_normal g z =
-    (sym (solve 4 (λ a b c d. a ⊗ num (pos 1) ⊕ b ⊗ num (pos 0) ⊕ c ⊗ num (pos 0) ⊖ d ⊗ num (pos 0) ≈ a) cancels g.a g.b g.c g.d) ∙ z (record { x = pos 1; y = pos 0; z = pos 0; w = pos 0 }), sym (solve 4 (λ a b c d. a ⊗ num (pos 0) ⊕ b ⊗ num (pos 1) ⊕ c ⊗ num (pos 0) ⊖ d ⊗ num (pos 0) ≈ b) cancels g.a g.b g.c g.d) ∙ z (record { x = pos 0; y = pos 1; z = pos 0; w = pos 0 }), sym (solve 4 (λ a b c d. a ⊗ num (pos 0) ⊕ b ⊗ num (pos 0) ⊕ c ⊗ num (pos 1) ⊖ d ⊗ num (pos 0) ≈ c) cancels g.a g.b g.c g.d) ∙ z (record { x = pos 0; y = pos 0; z = pos 1; w = pos 0 }))
+no_normal g z = (
+  sym (solve 4 (λ a b c d. a ⊗ num (pos 1) ⊕ b ⊗ num (pos 0) ⊕ c ⊗ num (pos 0) ⊖ d ⊗ num (pos 0) ≈ a) cancels g.a g.b
+      g.c g.d) ∙ z (record { x = pos 1; y = pos 0; z = pos 0; w = pos 0 }),
+  sym (solve 4 (λ a b c d. a ⊗ num (pos 0) ⊕ b ⊗ num (pos 1) ⊕ c ⊗ num (pos 0) ⊖ d ⊗ num (pos 0) ≈ b) cancels g.a
+      g.b g.c g.d) ∙ z (record { x = pos 0; y = pos 1; z = pos 0; w = pos 0 }),
+  sym (solve 4 (λ a b c d. a ⊗ num (pos 0) ⊕ b ⊗ num (pos 0) ⊕ c ⊗ num (pos 1) ⊖ d ⊗ num (pos 0) ≈ c) cancels g.a
+      g.b g.c g.d) ∙ z (record { x = pos 0; y = pos 0; z = pos 1; w = pos 0 }),
+)
 
 -- a plane with no normal that is 0 at one point is 0 everywhere
 constant : (h : Plane) → NoNormal h → (v : Spot) → value_at h v ≡ neg_ℤ (v.w *ℤ h.d)
@@ -117,12 +124,18 @@ all_zero h q w n e v =
 -- a value at the hit is that of a plane at the point
 value_at_hit : (g n : Plane) (a : Axis) (p : Spot) → value_at (at_hit_of g n a) p ≡ value_at g (hit n a p)
 value_at_hit g n a p =
-    solve 14 (λ m k ga gb gc gd na nb nc nd x y z w. (m ⊗ ga ⊕ k ⊗ na) ⊗ x ⊕ (m ⊗ gb ⊕ k ⊗ nb) ⊗ y ⊕ (m ⊗ gc ⊕ k ⊗ nc) ⊗ z ⊖ (m ⊗ gd ⊕ k ⊗ nd) ⊗ w ≈ m ⊗ (ga ⊗ x ⊕ gb ⊗ y ⊕ gc ⊗ z ⊖ gd ⊗ w) ⊕ k ⊗ (na ⊗ x ⊕ nb ⊗ y ⊕ nc ⊗ z ⊖ nd ⊗ w)) cancels (size (along n a)) (neg_ℤ (sign (along n a)) *ℤ along g a) g.a g.b g.c g.d n.a n.b n.c n.d p.x p.y p.z p.w ∙ solve 5 (λ m s k v u. m ⊗ v ⊕ neg s ⊗ k ⊗ u ≈ m ⊗ v ⊖ s ⊗ u ⊗ k) cancels (size (along n a)) (sign (along n a)) (along g a) (value_at g p) (value_at n p) ∙ sym (value_hit g n a p)
+    solve 14 (λ m k ga gb gc gd na nb nc nd x y z w. (m ⊗ ga ⊕ k ⊗ na) ⊗ x ⊕ (m ⊗ gb ⊕ k ⊗ nb) ⊗ y ⊕ (m ⊗ gc ⊕ k ⊗ nc) ⊗
+    z ⊖ (m ⊗ gd ⊕ k ⊗ nd) ⊗ w ≈ m ⊗ (ga ⊗ x ⊕ gb ⊗ y ⊕ gc ⊗ z ⊖ gd ⊗ w) ⊕ k ⊗ (na ⊗ x ⊕ nb ⊗ y ⊕ nc ⊗ z ⊖ nd ⊗ w))
+    cancels (size (along n a)) (neg_ℤ (sign (along n a)) *ℤ along g a) g.a g.b g.c g.d n.a n.b n.c n.d p.x p.y p.z p.w
+    ∙ solve 5 (λ m s k v u. m ⊗ v ⊕ neg s ⊗ k ⊗ u ≈ m ⊗ v ⊖ s ⊗ u ⊗ k) cancels (size (along n a)) (sign (along n a))
+    (along g a) (value_at g p) (value_at n p) ∙ sym (value_hit g n a p)
 
 -- the lines through points directly beside p are general to any two planes
 general_to : (a : Axis) (p : Spot) → pos 0 <ℤ p.w → (n g : Plane) → Eventually (λ m. IsGeneralTo a (offset_by p (pos m)) n g)
 general_to a p w n g =
-    eventually_map (λ m h e. let q = offset_by p (pos m) in let z = value_at_hit g n a q ∙ e in record { zero = λ v. sym (value_at_hit g n a v) ∙ all_zero (at_hit_of g n a) q h.0 (h.1 z) z v }) (eventually_both (weight_shifted p w) (off_shifted p (at_hit_of g n a)))
+    eventually_map (λ m h e. let q = offset_by p (pos m) in let z = value_at_hit g n a q ∙ e in
+    record { zero = λ v. sym (value_at_hit g n a v) ∙ all_zero (at_hit_of g n a) q h.0 (h.1 z) z v })
+    (eventually_both (weight_shifted p w) (off_shifted p (at_hit_of g n a)))
 
 -- ---- beside a place where a plane is met
 -- the planes of a triangle, and along an axis its edges
@@ -136,13 +149,18 @@ record IsGeneralFor (k : Axis) (q : Spot) (n : Plane) (u : Tri) : Type 0 where
 
 general_for : (k : Axis) (p : Spot) → pos 0 <ℤ p.w → (n : Plane) (u : Tri) → Eventually (λ m. IsGeneralFor k (offset_by p (pos m)) n u)
 general_for k p w n u =
-    eventually_map (λ m h. record { plane = h.0; edges = axes m h.1.0 h.1.1.0 h.1.1.1 }) (eventually_both (general_to k p w n (support_of u)) (eventually_both (edges X) (eventually_both (edges Y) (edges Z))))
+    eventually_map (λ m h. record { plane = h.0; edges = axes m h.1.0 h.1.1.0 h.1.1.1 })
+    (eventually_both (general_to k p w n (support_of u))
+    (eventually_both (edges X) (eventually_both (edges Y) (edges Z))))
   where
     edges : (a : Axis) → Eventually (λ m. AreGeneralAlong k (offset_by p (pos m)) n u a)
     edges a =
-        eventually_both (general_to k p w n (edge_through u.a u.b (unit a))) (eventually_both (general_to k p w n (edge_through u.b u.c (unit a))) (general_to k p w n (edge_through u.c u.a (unit a))))
+        eventually_both (general_to k p w n (edge_through u.a u.b (unit a)))
+        (eventually_both (general_to k p w n (edge_through u.b u.c (unit a)))
+        (general_to k p w n (edge_through u.c u.a (unit a))))
 
-    axes : (m : ℕ) → AreGeneralAlong k (offset_by p (pos m)) n u X → AreGeneralAlong k (offset_by p (pos m)) n u Y → AreGeneralAlong k (offset_by p (pos m)) n u Z → (a : Axis) → AreGeneralAlong k (offset_by p (pos m)) n u a
+    axes : (m : ℕ) → AreGeneralAlong k (offset_by p (pos m)) n u X → AreGeneralAlong k (offset_by p (pos m)) n u Y →
+        AreGeneralAlong k (offset_by p (pos m)) n u Z → (a : Axis) → AreGeneralAlong k (offset_by p (pos m)) n u a
     axes m x y z X = x
     axes m x y z Y = y
     axes m x y z Z = z
@@ -163,12 +181,16 @@ module _ (k : Axis) (q : Spot) (n : Plane) (crosses : along n k ≢ pos 0) where
   off_plane u g f hs hg =
       by (cases_Bool (is_zero (value_at (support_of u) hit_point))) (cases_Bool (is_zero (value_at g hit_point)))
     where
-      meets : is_zero (value_at (support_of u) hit_point) ≡ true → is_zero (value_at g hit_point) ≡ true → (v : Spot) → is_zero (value_at (support_of u) v) ≡ true → is_zero (value_at g v) ≡ true
+      meets : is_zero (value_at (support_of u) hit_point) ≡ true → is_zero (value_at g hit_point) ≡ true → (v : Spot) →
+          is_zero (value_at (support_of u) v) ≡ true → is_zero (value_at g v) ≡ true
       meets e d v z =
           let m = hs (zero_out (value_at (support_of u) hit_point) e) in
-          ap is_zero (follows k n g (hg (zero_out (value_at g hit_point) d)) crosses v (leads k n (support_of u) m crosses (slope u f m) v (zero_out (value_at (support_of u) v) z)))
+          ap is_zero (follows k n g (hg (zero_out (value_at g hit_point) d)) crosses v
+          (leads k n (support_of u) m crosses (slope u f m) v (zero_out (value_at (support_of u) v) z)))
 
-      by : (is_zero (value_at (support_of u) hit_point) ≡ true) ⊎ (is_zero (value_at (support_of u) hit_point) ≡ false) → (is_zero (value_at g hit_point) ≡ true) ⊎ (is_zero (value_at g hit_point) ≡ false) → IsOff hit_point (support_of u) g
+      by : (is_zero (value_at (support_of u) hit_point) ≡ true) ⊎ (is_zero (value_at (support_of u) hit_point) ≡ false)
+          → (is_zero (value_at g hit_point) ≡ true) ⊎ (is_zero (value_at g hit_point) ≡ false) →
+          IsOff hit_point (support_of u) g
       by (inr e) d = inl (λ a b. clash a e)
       by (inl e) (inr d) = inl (λ a b. clash b d)
       by (inl e) (inl d) = inr (record { zero = meets e d })
@@ -197,7 +219,8 @@ module _ (k : Axis) (q : Spot) (weight : pos 0 <ℤ q.w) (n : Plane) (crosses : 
 
       under : value_at g (hit n k q) <ℤ pos 0 → Eventually (λ m. value_at g (at m) ≡ pos 0 → NoNormal g)
       under l =
-          eventually_map (λ m p z. absurd (not_down (pos m) (value_at g (hit n k q)) (e *ℤ along g k) p (ray m z))) (eventually_pos {a = neg_ℤ (value_at g (hit n k q))} (neg_ℤ (e *ℤ along g k)) (omega (arith, linear, l)))
+          eventually_map (λ m p z. absurd (not_down (pos m) (value_at g (hit n k q)) (e *ℤ along g k) p (ray m z)))
+          (eventually_pos {a = neg_ℤ (value_at g (hit n k q))} (neg_ℤ (e *ℤ along g k)) (omega (arith, linear, l)))
 
       rest : (x y : ℤ) → x ≡ pos 0 → x +ℤ y ≡ pos 0 → y ≡ pos 0
       rest x y a b = omega (arith, linear, a, b)
@@ -208,21 +231,45 @@ module _ (k : Axis) (q : Spot) (weight : pos 0 <ℤ q.w) (n : Plane) (crosses : 
 
       on : value_at g (hit n k q) ≡ pos 0 → Eventually (λ m. value_at g (at m) ≡ pos 0 → NoNormal g)
       on l =
-          record { from = 0; holds = λ m b z. no_normal g (level k n g (h l) crosses (flat (zero_product (rest (pos m *ℤ value_at g (hit n k q)) (e *ℤ along g k) (zero_scaled (pos m) (value_at g (hit n k q)) l) (ray m z))))) }
+          record {
+            from = 0;
+            holds = λ m b z. no_normal g
+                (level k n g (h l) crosses (flat (zero_product
+                (rest (pos m *ℤ value_at g (hit n k q)) (e *ℤ along g k) (zero_scaled (pos m) (value_at g (hit n k q)) l)
+                (ray m z)))));
+          }
 
   weights : Eventually (λ m. pos 0 <ℤ (at m).w)
   weights =
-      record { from = 1; holds = λ m l. positive_out (at m).w (ray_weight k (hit n k q) (pos m) e (omega (arith, ints)) (positive_out (hit n k q).w (ray_weight k q (size (along n k)) (neg_ℤ (sign (along n k) *ℤ value_at n q)) (size_positive (along n k) crosses) weight))) }
+      record {
+        from = 1;
+        holds = λ m l. positive_out (at m).w
+            (ray_weight k (hit n k q) (pos m) e (omega (arith, ints))
+            (positive_out (hit n k q).w (ray_weight k q (size (along n k)) (neg_ℤ (sign (along n k) *ℤ value_at n q))
+            (size_positive (along n k) crosses) weight)));
+      }
 
   off_edges : (u : Tri) → IsGeneralFor k q n u → (a : Axis) → Eventually (λ m. IsOffEdges (unit a) (at m) u)
   off_edges u h a =
       let s = h.edges a in
-      eventually_map (λ m r. record { weight = r.0; plane = r.1.0; first = r.1.1.0; second = r.1.1.1.0; third = r.1.1.1.1 }) (eventually_both weights (eventually_both (off_beside (support_of u) h.plane) (eventually_both (off_beside (edge_through u.a u.b (unit a)) s.0) (eventually_both (off_beside (edge_through u.b u.c (unit a)) s.1.0) (off_beside (edge_through u.c u.a (unit a)) s.1.1)))))
+      eventually_map (λ m r. record {
+        weight = r.0;
+        plane = r.1.0;
+        first = r.1.1.0;
+        second = r.1.1.1.0;
+        third =
+            r.1.1.1.1;
+      }) (eventually_both weights (eventually_both (off_beside (support_of u) h.plane)
+      (eventually_both (off_beside (edge_through u.a u.b (unit a)) s.0)
+      (eventually_both (off_beside (edge_through u.b u.c (unit a)) s.1.0)
+      (off_beside (edge_through u.c u.a (unit a)) s.1.1)))))
 
   all_clear : (us : List Tri) → Every (IsGeneralFor k q n) us → Eventually (λ m. AllByRecursion (λ u. IsClearOf u (at m)) us)
   all_clear [] h = record { from = 0; holds = λ m l. tt }
   all_clear (u ∷ us) h =
-      eventually_both (eventually_map (λ m r. off_clear (at m) u r.0 r.1.0 r.1.1) (eventually_both (off_edges u h.0 X) (eventually_both (off_edges u h.0 Y) (off_edges u h.0 Z)))) (all_clear us h.1)
+      eventually_both (eventually_map (λ m r. off_clear (at m) u r.0 r.1.0 r.1.1)
+      (eventually_both (off_edges u h.0 X) (eventually_both (off_edges u h.0 Y) (off_edges u h.0 Z))))
+      (all_clear us h.1)
 
   clear_beside : (us : List Tri) → Every (IsGeneralFor k q n) us → Eventually (λ m. AreClear (faces_of us) (at m))
   clear_beside us h = eventually_map (λ m c. clear_faces (at m) us c) (all_clear us h)
@@ -245,21 +292,40 @@ module _ (scene : List Tri) (k : Axis) (p : Spot) (weight : pos 0 <ℤ p.w) wher
 
     off : (u : Tri) → is_flat u ≡ false → (g : Plane) → Eventually (λ m. IsOff (met m) (support_of u) g)
     off u f g =
-        eventually_map (λ m h. off_plane k (near_p m) n crosses u g f h.0 h.1) (eventually_both (general_to k p weight n (support_of u)) (general_to k p weight n g))
+        eventually_map (λ m h. off_plane k (near_p m) n crosses u g f h.0 h.1)
+        (eventually_both (general_to k p weight n (support_of u)) (general_to k p weight n g))
 
     fair_in : (c : Cell) (ts : List Tri) (i : ℕ) → Eventually (λ m. is_flat (tri_at ts i) ≡ false → IsFair c ts i (met m))
     fair_in c ts i =
-        eventually_where (is_flat (tri_at ts i)) (λ f. eventually_map (λ m h. record { walls = h.0; cutting_planes = h.1 }) (eventually_both (eventually_every (λ w m. IsOff (met m) (support_of (tri_at ts i)) w.plane) (walls c) (λ w. off (tri_at ts i) f w.plane)) (eventually_every (λ b m. IsOff (met m) (support_of (tri_at ts i)) b.plane) (cutting_planes ts i) (λ b. off (tri_at ts i) f b.plane))))
+        eventually_where (is_flat (tri_at ts i))
+        (λ f. eventually_map (λ m h. record { walls = h.0; cutting_planes = h.1 })
+        (eventually_both (eventually_every (λ w m. IsOff (met m) (support_of (tri_at ts i)) w.plane) (walls c)
+        (λ w. off (tri_at ts i) f w.plane)) (eventually_every
+        (λ b m. IsOff (met m) (support_of (tri_at ts i)) b.plane) (cutting_planes ts i)
+        (λ b. off (tri_at ts i) f b.plane))))
 
     fair_at : (c : Cell) → Eventually (λ m. IsFairAt scene (met m) c)
     fair_at c =
-        eventually_map (λ m h i f. h i (stands_in (near scene c) i f) f) (eventually_below (λ i m. is_flat (tri_at (near scene c) i) ≡ false → IsFair c (near scene c) i (met m)) (length (near scene c)) (fair_in c (near scene c)))
+        eventually_map (λ m h i f. h i (stands_in (near scene c) i f) f)
+        (eventually_below (λ i m. is_flat (tri_at (near scene c) i) ≡ false →
+        IsFair c (near scene c) i (met m)) (length (near scene c)) (fair_in c (near scene c)))
 
     general_at : Eventually (λ m. IsGeneralAt scene k (met m))
     general_at =
-        eventually_map (λ m h. record { fair = h.1.0; slopes = slopes m h.1.1; clear_before = clear_beside k (near_p m) h.0 n crosses (negsuc 0) (λ z. omega (arith, ints, z)) scene h.1.1; clear_after = clear_beside k (near_p m) h.0 n crosses (pos 1) (λ z. omega (arith, ints, z)) scene h.1.1 }) (eventually_both (weight_shifted p weight) (eventually_both (eventually_every (λ c m. IsFairAt scene (met m) c) (leaves scene root) fair_at) (eventually_every (λ u m. IsGeneralFor k (near_p m) n u) scene (general_for k p weight n))))
+        eventually_map (λ m h. record {
+          fair = h.1.0;
+          slopes = slopes m h.1.1;
+          clear_before =
+              clear_beside k (near_p m) h.0 n crosses (negsuc 0) (λ z. omega (arith, ints, z)) scene h.1.1;
+          clear_after =
+              clear_beside k (near_p m) h.0 n crosses (pos 1) (λ z. omega (arith, ints, z)) scene h.1.1;
+        })
+        (eventually_both (weight_shifted p weight)
+        (eventually_both (eventually_every (λ c m. IsFairAt scene (met m) c) (leaves scene root) fair_at)
+        (eventually_every (λ u m. IsGeneralFor k (near_p m) n u) scene (general_for k p weight n))))
       where
-        slopes : (m : ℕ) → Every (IsGeneralFor k (near_p m) n) scene → (u : Tri) → In u scene → is_flat u ≡ false → value_at (support_of u) (met m) ≡ pos 0 → is_zero (along (support_of u) k) ≡ false
+        slopes : (m : ℕ) → Every (IsGeneralFor k (near_p m) n) scene → (u : Tri) → In u scene → is_flat u ≡ false →
+            value_at (support_of u) (met m) ≡ pos 0 → is_zero (along (support_of u) k) ≡ false
         slopes m h u i f z =
             nonzero (along (support_of u) k) (slope k (near_p m) n crosses u f ((every_in (IsGeneralFor k (near_p m) n) scene u h i).plane z))
           where
@@ -272,9 +338,16 @@ module _ (scene : List Tri) (k : Axis) (p : Spot) (weight : pos 0 <ℤ p.w) wher
   pub general_line : Eventually (λ m. IsGeneralLine scene k (near_p m))
   unfolding face_of
   general_line =
-      eventually_map (λ m h t i. every_in (λ t. is_zero (along (support_of t) k) ≡ false → IsGeneralAt scene k (hit (support_of t) k (near_p m))) scene t h (of_filter (is_tri_hit k (near_p m)) scene t i) (crossed m t i)) (eventually_every (λ t m. is_zero (along (support_of t) k) ≡ false → IsGeneralAt scene k (hit (support_of t) k (near_p m))) scene (λ t. eventually_where (is_zero (along (support_of t) k)) (λ z. general_at (support_of t) (nonzero_out (along (support_of t) k) z))))
+      eventually_map (λ m h t i. every_in (λ t. is_zero (along (support_of t) k) ≡ false →
+      IsGeneralAt scene k (hit (support_of t) k (near_p m))) scene t h (of_filter (is_tri_hit k (near_p m)) scene t i)
+      (crossed m t i)) (eventually_every (λ t m. is_zero (along (support_of t) k) ≡ false →
+      IsGeneralAt scene k (hit (support_of t) k (near_p m))) scene
+      (λ t. eventually_where (is_zero (along (support_of t) k))
+      (λ z. general_at (support_of t) (nonzero_out (along (support_of t) k) z))))
     where
       crossed : (m : ℕ) (t : Tri) → In t (tri_hits k (near_p m) scene) → is_zero (along (support_of t) k) ≡ false
       crossed m t i =
           let h = and_parts (not (is_flat t)) (is_hit k (near_p m) (face_of t)) (in_filter (is_tri_hit k (near_p m)) scene t i) in
-          not-true (is_zero (along (support_of t) k)) (and_parts (not (is_zero (along (support_of t) k))) (is_inside (face_of t) (hit (support_of t) k (near_p m))) h.1).0
+          not-true (is_zero (along (support_of t) k))
+          (and_parts (not (is_zero (along (support_of t) k)))
+          (is_inside (face_of t) (hit (support_of t) k (near_p m))) h.1).0

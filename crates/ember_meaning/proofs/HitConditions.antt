@@ -72,11 +72,17 @@ module _ (scene : List Tri) (x : Formula) (k : Axis) (p : Spot) (cs : List Cell)
     -- the line doesn't run in the plane of a region that holds the place
     pub crosses : (e : Entry) → In e es → is_inside e.face hit_point ≡ true → is_zero (along e.face.support k) ≡ false
     -- of the regions that hold the place just those of the first triangle are owned
-    pub owner_first : (e : Entry) → In e es → is_inside e.face hit_point ≡ true → IsOwner (near scene e.cell) e.tri e.face → (j : ℕ) → j < e.tri → is_hit_at scene cs hit_point j ≡ false
-    pub first_owner : (e : Entry) → In e es → is_inside e.face hit_point ≡ true → ((j : ℕ) → j < e.tri → is_hit_at scene cs hit_point j ≡ false) → IsOwner (near scene e.cell) e.tri e.face
+    pub owner_first : (e : Entry) → In e es → is_inside e.face hit_point ≡ true →
+        IsOwner (near scene e.cell) e.tri e.face → (j : ℕ) → j < e.tri → is_hit_at scene cs hit_point j ≡ false
+    pub first_owner : (e : Entry) → In e es → is_inside e.face hit_point ≡ true →
+        ((j : ℕ) → j < e.tri → is_hit_at scene cs hit_point j ≡ false) → IsOwner (near scene e.cell) e.tri e.face
     -- just before and just after the hit the expression is as on the sides of a region that holds
     -- it
-    pub beside : (e : Entry) (before after : List ℤ) → In e es → is_inside e.face hit_point ≡ true → IsSides scene e.face before after → (truth_before ≡ before_hit (along e.face.support k) (truth_ahead e.face before after) (truth_back e.face before after)) × (truth_after ≡ after_hit (along e.face.support k) (truth_ahead e.face before after) (truth_back e.face before after))
+    pub beside : (e : Entry) (before after : List ℤ) → In e es → is_inside e.face hit_point ≡ true →
+        IsSides scene e.face before after → (truth_before ≡ before_hit (along e.face.support k)
+        (truth_ahead e.face before after) (truth_back e.face before after)) ×
+        (truth_after ≡ after_hit (along e.face.support k) (truth_ahead e.face before after)
+        (truth_back e.face before after))
 
 -- along the line through p the entries are regular, and a written face is hit only where a triangle
 -- is

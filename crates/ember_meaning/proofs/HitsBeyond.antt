@@ -1,6 +1,7 @@
 -- Directly before and directly after a hit the winding numbers are those of the hits from it on,
 -- and of the hits beyond it.
-use Rattle.std.proofs.Common.{◌≡◌, ℕ, zero, suc, pred, refl, ap, ◌∙◌, sym, List, [], ◌∷◌, Bool, true, false, not, cond, ℤ, pos, negsuc, ◌+ℤ◌, ◌-ℤ◌, ◌*ℤ◌, ◌<ℤ◌, ◌≤ℤ◌, unsigned_abs, arith}
+use Rattle.std.proofs.Common.{◌≡◌, ℕ, zero, suc, pred, refl, ap, ◌∙◌, sym, List, [], ◌∷◌, Bool, true, false, not, cond}
+use Rattle.std.proofs.Common.{ℤ, pos, negsuc, ◌+ℤ◌, ◌-ℤ◌, ◌*ℤ◌, ◌<ℤ◌, ◌≤ℤ◌, unsigned_abs, arith}
 use borrow.Author.Differences.{ints}
 use Rattle.std.specs.Prelude.{int_lt}
 use Rattle.std.specs.List.{filter}
@@ -41,7 +42,12 @@ product m x y h =
 beyond_one : (a b c d : ℤ) (m : ℕ) → pos 0 <ℤ b → b <ℤ pos m → int_lt ((pos m *ℤ c +ℤ pos 1) *ℤ b) (a *ℤ (pos m *ℤ d)) ≡ int_lt (c *ℤ b) (a *ℤ d)
 beyond_one a b c d m pb l =
     let e = solve 5 (λ m a b c d. a ⊗ (m ⊗ d) ⊖ (m ⊗ c ⊕ num (pos 1)) ⊗ b ≈ m ⊗ (a ⊗ d ⊖ c ⊗ b) ⊖ b) cancels (pos m) a b c d in
-    by_lt_z (c *ℤ b) (a *ℤ d) (λ h. let p = product m (c *ℤ b) (a *ℤ d) h in lt_yes ((pos m *ℤ c +ℤ pos 1) *ℤ b) (a *ℤ (pos m *ℤ d)) (above (a *ℤ (pos m *ℤ d)) ((pos m *ℤ c +ℤ pos 1) *ℤ b) (pos m *ℤ (a *ℤ d -ℤ c *ℤ b)) b e p l) ∙ sym (lt_yes (c *ℤ b) (a *ℤ d) h)) (λ h. lt_no ((pos m *ℤ c +ℤ pos 1) *ℤ b) (a *ℤ (pos m *ℤ d)) (under (a *ℤ (pos m *ℤ d)) ((pos m *ℤ c +ℤ pos 1) *ℤ b) (pos m *ℤ (a *ℤ d -ℤ c *ℤ b)) b e (at_most m (a *ℤ d) (c *ℤ b) h) pb) ∙ sym (lt_no (c *ℤ b) (a *ℤ d) h))
+    by_lt_z (c *ℤ b) (a *ℤ d) (λ h. let p = product m (c *ℤ b) (a *ℤ d) h in
+    lt_yes ((pos m *ℤ c +ℤ pos 1) *ℤ b) (a *ℤ (pos m *ℤ d))
+    (above (a *ℤ (pos m *ℤ d)) ((pos m *ℤ c +ℤ pos 1) *ℤ b) (pos m *ℤ (a *ℤ d -ℤ c *ℤ b)) b e p l)
+    ∙ sym (lt_yes (c *ℤ b) (a *ℤ d) h)) (λ h. lt_no ((pos m *ℤ c +ℤ pos 1) *ℤ b) (a *ℤ (pos m *ℤ d))
+    (under (a *ℤ (pos m *ℤ d)) ((pos m *ℤ c +ℤ pos 1) *ℤ b) (pos m *ℤ (a *ℤ d -ℤ c *ℤ b)) b e
+    (at_most m (a *ℤ d) (c *ℤ b) h) pb) ∙ sym (lt_no (c *ℤ b) (a *ℤ d) h))
   where
     above : (x y z b : ℤ) → x -ℤ y ≡ z -ℤ b → pos m ≤ℤ z → b <ℤ pos m → y <ℤ x
     above x y z b e p l = omega (arith, linear, e, p, l)
@@ -57,7 +63,13 @@ beyond_one a b c d m pb l =
 onward_one : (a b c d : ℤ) (m : ℕ) → pos 0 <ℤ b → b <ℤ pos m → int_lt ((pos m *ℤ c +ℤ negsuc 0) *ℤ b) (a *ℤ (pos m *ℤ d)) ≡ not (int_lt (a *ℤ d) (c *ℤ b))
 onward_one a b c d m pb l =
     let e = solve 5 (λ m a b c d. a ⊗ (m ⊗ d) ⊖ (m ⊗ c ⊕ num (negsuc 0)) ⊗ b ≈ b ⊖ m ⊗ (c ⊗ b ⊖ a ⊗ d)) cancels (pos m) a b c d in
-    by_lt_z (a *ℤ d) (c *ℤ b) (λ h. let p = product m (a *ℤ d) (c *ℤ b) h in lt_no ((pos m *ℤ c +ℤ negsuc 0) *ℤ b) (a *ℤ (pos m *ℤ d)) (under (a *ℤ (pos m *ℤ d)) ((pos m *ℤ c +ℤ negsuc 0) *ℤ b) (pos m *ℤ (c *ℤ b -ℤ a *ℤ d)) b e p l) ∙ sym (ap not (lt_yes (a *ℤ d) (c *ℤ b) h))) (λ h. lt_yes ((pos m *ℤ c +ℤ negsuc 0) *ℤ b) (a *ℤ (pos m *ℤ d)) (above (a *ℤ (pos m *ℤ d)) ((pos m *ℤ c +ℤ negsuc 0) *ℤ b) (pos m *ℤ (c *ℤ b -ℤ a *ℤ d)) b e (at_most m (c *ℤ b) (a *ℤ d) h) pb) ∙ sym (ap not (lt_no (a *ℤ d) (c *ℤ b) h)))
+    by_lt_z (a *ℤ d) (c *ℤ b) (λ h. let p = product m (a *ℤ d) (c *ℤ b) h in
+    lt_no ((pos m *ℤ c +ℤ negsuc 0) *ℤ b) (a *ℤ (pos m *ℤ d))
+    (under (a *ℤ (pos m *ℤ d)) ((pos m *ℤ c +ℤ negsuc 0) *ℤ b) (pos m *ℤ (c *ℤ b -ℤ a *ℤ d)) b e p l)
+    ∙ sym (ap not (lt_yes (a *ℤ d) (c *ℤ b) h)))
+    (λ h. lt_yes ((pos m *ℤ c +ℤ negsuc 0) *ℤ b) (a *ℤ (pos m *ℤ d))
+    (above (a *ℤ (pos m *ℤ d)) ((pos m *ℤ c +ℤ negsuc 0) *ℤ b) (pos m *ℤ (c *ℤ b -ℤ a *ℤ d)) b e
+    (at_most m (c *ℤ b) (a *ℤ d) h) pb) ∙ sym (ap not (lt_no (a *ℤ d) (c *ℤ b) h)))
   where
     under : (x y z b : ℤ) → x -ℤ y ≡ b -ℤ z → pos m ≤ℤ z → b <ℤ pos m → x ≤ℤ y
     under x y z b e p l = omega (arith, linear, e, p, l)
@@ -91,16 +103,19 @@ den_is m f b l = up_pred (pos m *ℤ pos (suc f.den)) (pos_mul (large b m l) (on
 
 step_beyond : (m : ℕ) (f g : Fraction) → pos (suc g.den) <ℤ pos m → is_below (step m (pos 1) f) g ≡ is_below f g
 step_beyond m f g l =
-    ap (λ (z : ℤ). int_lt ((pos m *ℤ f.num +ℤ pos 1) *ℤ pos (suc g.den)) (g.num *ℤ z)) (den_is m f g.den l) ∙ beyond_one g.num (pos (suc g.den)) f.num (pos (suc f.den)) m (one_up g.den) l
+    ap (λ (z : ℤ). int_lt ((pos m *ℤ f.num +ℤ pos 1) *ℤ pos (suc g.den)) (g.num *ℤ z)) (den_is m f g.den l)
+    ∙ beyond_one g.num (pos (suc g.den)) f.num (pos (suc f.den)) m (one_up g.den) l
 
 step_onward : (m : ℕ) (f g : Fraction) → pos (suc g.den) <ℤ pos m → is_below (step m (negsuc 0) f) g ≡ not (is_below g f)
 step_onward m f g l =
-    ap (λ (z : ℤ). int_lt ((pos m *ℤ f.num +ℤ negsuc 0) *ℤ pos (suc g.den)) (g.num *ℤ z)) (den_is m f g.den l) ∙ onward_one g.num (pos (suc g.den)) f.num (pos (suc f.den)) m (one_up g.den) l
+    ap (λ (z : ℤ). int_lt ((pos m *ℤ f.num +ℤ negsuc 0) *ℤ pos (suc g.den)) (g.num *ℤ z)) (den_is m f g.den l)
+    ∙ onward_one g.num (pos (suc g.den)) f.num (pos (suc f.den)) m (one_up g.den) l
 
 far : (b : ℕ) → Eventually (λ m. pos (suc b) <ℤ pos m)
 far b = record { from = suc (suc b); holds = λ m l. omega (arith, ints, l) }
 
-filters : {H : Type 0} (p : ℕ → H → Bool) (q : H → Bool) → ((h : H) → Eventually (λ m. p m h ≡ q h)) → (hs : List H) → Eventually (λ m. filter (p m) hs ≡ filter q hs)
+filters : {H : Type 0} (p : ℕ → H → Bool) (q : H → Bool) → ((h : H) → Eventually (λ m. p m h ≡ q h)) → (hs : List H) →
+    Eventually (λ m. filter (p m) hs ≡ filter q hs)
 filters p q f [] = record { from = 0; holds = λ m l. refl }
 filters p q f (h ∷ hs) =
     eventually_map (λ m e. let b = e.0 in let l = e.1 in λ i. cond (b i) (h ∷ l i) (l i)) (eventually_both (f h) (filters p q f hs))
@@ -131,7 +146,10 @@ module _ (scene : List Tri) (k : Axis) (p : Spot) (f : Face) (crosses : is_zero 
 
   at_is : (m : ℕ) (e : ℤ) → pos 0 <ℤ pos m → at m e ≡ on_line k p (step m e z)
   at_is m e l =
-      stepped k p (pos m) (size (along f.support k)) z.num e (pos (suc (pred (unsigned_abs (pos m *ℤ pos (suc z.den)))))) (up_pred (pos m *ℤ pos (suc z.den)) (pos_mul l (one_up z.den)) ∙ ap (λ (n : ℤ). pos m *ℤ n) (size_up (along f.support k) crosses))
+      stepped k p (pos m) (size (along f.support k)) z.num e
+      (pos (suc (pred (unsigned_abs (pos m *ℤ pos (suc z.den))))))
+      (up_pred (pos m *ℤ pos (suc z.den)) (pos_mul l (one_up z.den))
+      ∙ ap (λ (n : ℤ). pos m *ℤ n) (size_up (along f.support k) crosses))
 
   vector_at : (m : ℕ) (e : ℤ) → pos 0 <ℤ pos m → vector k scene (at m e) ≡ seen k (beyond is_below (tri_key k p) (step m e z) (tri_hits k p scene))
   vector_at m e l = ap (vector k scene) (at_is m e l) ∙ vector-on_line k p (step m e z) scene
@@ -140,8 +158,14 @@ module _ (scene : List Tri) (k : Axis) (p : Spot) (f : Face) (crosses : is_zero 
   -- it on
   pub after_place : Eventually (λ m. vector k scene (at m (pos 1)) ≡ seen k (beyond is_below (tri_key k p) z (tri_hits k p scene)))
   after_place =
-      eventually_map (λ m e. vector_at m (pos 1) (large 0 m e.0) ∙ ap (seen k) e.1) (eventually_both (far 0) (filters (λ m t. is_below (step m (pos 1) z) (tri_key k p t)) (λ t. is_below z (tri_key k p t)) (λ t. eventually_map (λ m l. step_beyond m z (tri_key k p t) l) (far (tri_key k p t).den)) (tri_hits k p scene)))
+      eventually_map (λ m e. vector_at m (pos 1) (large 0 m e.0) ∙ ap (seen k) e.1)
+      (eventually_both (far 0) (filters (λ m t. is_below (step m (pos 1) z) (tri_key k p t))
+      (λ t. is_below z (tri_key k p t)) (λ t. eventually_map (λ m l. step_beyond m z (tri_key k p t) l)
+      (far (tri_key k p t).den)) (tri_hits k p scene)))
 
   pub before_place : Eventually (λ m. vector k scene (at m (negsuc 0)) ≡ seen k (onward is_below (tri_key k p) z (tri_hits k p scene)))
   before_place =
-      eventually_map (λ m e. vector_at m (negsuc 0) (large 0 m e.0) ∙ ap (seen k) e.1) (eventually_both (far 0) (filters (λ m t. is_below (step m (negsuc 0) z) (tri_key k p t)) (λ t. not (is_below (tri_key k p t) z)) (λ t. eventually_map (λ m l. step_onward m z (tri_key k p t) l) (far (tri_key k p t).den)) (tri_hits k p scene)))
+      eventually_map (λ m e. vector_at m (negsuc 0) (large 0 m e.0) ∙ ap (seen k) e.1)
+      (eventually_both (far 0) (filters (λ m t. is_below (step m (negsuc 0) z) (tri_key k p t))
+      (λ t. not (is_below (tri_key k p t) z)) (λ t. eventually_map (λ m l. step_onward m z (tri_key k p t) l)
+      (far (tri_key k p t).den)) (tri_hits k p scene)))

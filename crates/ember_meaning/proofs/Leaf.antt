@@ -1,6 +1,7 @@
 -- In one leaf: the regions of a triangle that have x inside are one if x is in the half-open box
 -- and inside the face, otherwise none.
-use Rattle.std.proofs.Common.{◌≡◌, ℕ, ◌+◌, refl, ap, ◌∙◌, sym, subst, List, [], ◌∷◌, Bool, true, false, ◌&&◌, ◌||◌, cond, zero, suc, ℤ, pos, negsuc, ◌-ℤ◌, ◌*ℤ◌, ◌<ℤ◌, ◌≤ℤ◌, arith}
+use Rattle.std.proofs.Common.{◌≡◌, ℕ, ◌+◌, refl, ap, ◌∙◌, sym, subst, List, [], ◌∷◌, Bool, true, false, ◌&&◌, ◌||◌}
+use Rattle.std.proofs.Common.{cond, zero, suc, ℤ, pos, negsuc, ◌-ℤ◌, ◌*ℤ◌, ◌<ℤ◌, ◌≤ℤ◌, arith}
 use borrow.Author.Differences.{ints}
 use Rattle.std.specs.Prelude.{int_le, int_lt}
 use Rattle.std.specs.List.{list_all}
@@ -66,19 +67,31 @@ high_test v h x e =
 
 low_passes : (c : Cell) (k : Axis) (x : Spot) → passes x (low_wall c k) ≡ int_le (low c k *ℤ x.w) (coordinate k x)
 low_passes c X x =
-    low_test (value_at (low_wall c X).plane x) (low c X *ℤ x.w) x.x (solve 5 (λ l x y z w. num (negsuc 0) ⊗ x ⊕ num (pos 0) ⊗ y ⊕ num (pos 0) ⊗ z ⊖ neg l ⊗ w ≈ l ⊗ w ⊖ x) cancels c.lo.x x.x x.y x.z x.w)
+    low_test (value_at (low_wall c X).plane x) (low c X *ℤ x.w) x.x
+    (solve 5 (λ l x y z w. num (negsuc 0) ⊗ x ⊕ num (pos 0) ⊗ y ⊕ num (pos 0) ⊗ z ⊖ neg l ⊗ w ≈ l ⊗ w ⊖ x) cancels
+    c.lo.x x.x x.y x.z x.w)
 low_passes c Y x =
-    low_test (value_at (low_wall c Y).plane x) (low c Y *ℤ x.w) x.y (solve 5 (λ l x y z w. num (pos 0) ⊗ x ⊕ num (negsuc 0) ⊗ y ⊕ num (pos 0) ⊗ z ⊖ neg l ⊗ w ≈ l ⊗ w ⊖ y) cancels c.lo.y x.x x.y x.z x.w)
+    low_test (value_at (low_wall c Y).plane x) (low c Y *ℤ x.w) x.y
+    (solve 5 (λ l x y z w. num (pos 0) ⊗ x ⊕ num (negsuc 0) ⊗ y ⊕ num (pos 0) ⊗ z ⊖ neg l ⊗ w ≈ l ⊗ w ⊖ y) cancels
+    c.lo.y x.x x.y x.z x.w)
 low_passes c Z x =
-    low_test (value_at (low_wall c Z).plane x) (low c Z *ℤ x.w) x.z (solve 5 (λ l x y z w. num (pos 0) ⊗ x ⊕ num (pos 0) ⊗ y ⊕ num (negsuc 0) ⊗ z ⊖ neg l ⊗ w ≈ l ⊗ w ⊖ z) cancels c.lo.z x.x x.y x.z x.w)
+    low_test (value_at (low_wall c Z).plane x) (low c Z *ℤ x.w) x.z
+    (solve 5 (λ l x y z w. num (pos 0) ⊗ x ⊕ num (pos 0) ⊗ y ⊕ num (negsuc 0) ⊗ z ⊖ neg l ⊗ w ≈ l ⊗ w ⊖ z) cancels
+    c.lo.z x.x x.y x.z x.w)
 
 high_passes : (c : Cell) (k : Axis) (x : Spot) → passes x (high_wall c k) ≡ int_lt (coordinate k x) (high c k *ℤ x.w)
 high_passes c X x =
-    high_test (value_at (high_wall c X).plane x) (high c X *ℤ x.w) x.x (solve 5 (λ h x y z w. num (pos 1) ⊗ x ⊕ num (pos 0) ⊗ y ⊕ num (pos 0) ⊗ z ⊖ h ⊗ w ≈ x ⊖ h ⊗ w) cancels (high c X) x.x x.y x.z x.w)
+    high_test (value_at (high_wall c X).plane x) (high c X *ℤ x.w) x.x
+    (solve 5 (λ h x y z w. num (pos 1) ⊗ x ⊕ num (pos 0) ⊗ y ⊕ num (pos 0) ⊗ z ⊖ h ⊗ w ≈ x ⊖ h ⊗ w) cancels (high c X)
+    x.x x.y x.z x.w)
 high_passes c Y x =
-    high_test (value_at (high_wall c Y).plane x) (high c Y *ℤ x.w) x.y (solve 5 (λ h x y z w. num (pos 0) ⊗ x ⊕ num (pos 1) ⊗ y ⊕ num (pos 0) ⊗ z ⊖ h ⊗ w ≈ y ⊖ h ⊗ w) cancels (high c Y) x.x x.y x.z x.w)
+    high_test (value_at (high_wall c Y).plane x) (high c Y *ℤ x.w) x.y
+    (solve 5 (λ h x y z w. num (pos 0) ⊗ x ⊕ num (pos 1) ⊗ y ⊕ num (pos 0) ⊗ z ⊖ h ⊗ w ≈ y ⊖ h ⊗ w) cancels (high c Y)
+    x.x x.y x.z x.w)
 high_passes c Z x =
-    high_test (value_at (high_wall c Z).plane x) (high c Z *ℤ x.w) x.z (solve 5 (λ h x y z w. num (pos 0) ⊗ x ⊕ num (pos 0) ⊗ y ⊕ num (pos 1) ⊗ z ⊖ h ⊗ w ≈ z ⊖ h ⊗ w) cancels (high c Z) x.x x.y x.z x.w)
+    high_test (value_at (high_wall c Z).plane x) (high c Z *ℤ x.w) x.z
+    (solve 5 (λ h x y z w. num (pos 0) ⊗ x ⊕ num (pos 0) ⊗ y ⊕ num (pos 1) ⊗ z ⊖ h ⊗ w ≈ z ⊖ h ⊗ w) cancels (high c Z)
+    x.x x.y x.z x.w)
 
 regroup : (a b c d e f : Bool) → (a && (b && (c && (d && (e && (f && true)))))) ≡ ((a && b) && ((c && d) && (e && f)))
 regroup false b c d e f = refl
@@ -91,13 +104,18 @@ regroup true true true true true true = refl
 
 walls_box : (c : Cell) (x : Spot) → list_all (λ w. passes x w) (walls c) ≡ is_in_box c x
 walls_box c x =
-    regroup (passes x (low_wall c X)) (passes x (high_wall c X)) (passes x (low_wall c Y)) (passes x (high_wall c Y)) (passes x (low_wall c Z)) (passes x (high_wall c Z)) ∙ six (low_passes c X x) (high_passes c X x) (low_passes c Y x) (high_passes c Y x) (low_passes c Z x) (high_passes c Z x)
+    regroup (passes x (low_wall c X)) (passes x (high_wall c X)) (passes x (low_wall c Y)) (passes x (high_wall c Y))
+    (passes x (low_wall c Z)) (passes x (high_wall c Z))
+    ∙ six (low_passes c X x) (high_passes c X x) (low_passes c Y x) (high_passes c Y x) (low_passes c Z x)
+    (high_passes c Z x)
   where
-    six : {a b c d e f a' b' c' d' e' f' : Bool} → a ≡ a' → b ≡ b' → c ≡ c' → d ≡ d' → e ≡ e' → f ≡ f' → ((a && b) && ((c && d) && (e && f))) ≡ ((a' && b') && ((c' && d') && (e' && f')))
+    six : {a b c d e f a' b' c' d' e' f' : Bool} → a ≡ a' → b ≡ b' → c ≡ c' → d ≡ d' → e ≡ e' → f ≡ f' →
+        ((a && b) && ((c && d) && (e && f))) ≡ ((a' && b') && ((c' && d') && (e' && f')))
     six a b c d e f = cc
 
 -- ---- one leaf
-pub leaf_count : (c : Cell) (ts : List Tri) (i : ℕ) (x : Spot) (fs : List Face) → is_flat (tri_at ts i) ≡ false → IsFair c ts i x → IsRegions c ts i fs → hits x fs ≡ number (is_in_box c x && is_inside (face_of (tri_at ts i)) x)
+pub leaf_count : (c : Cell) (ts : List Tri) (i : ℕ) (x : Spot) (fs : List Face) → is_flat (tri_at ts i) ≡ false →
+    IsFair c ts i x → IsRegions c ts i fs → hits x fs ≡ number (is_in_box c x && is_inside (face_of (tri_at ts i)) x)
 unfolding face_of
 leaf_count c ts i x fs e fair r =
     let t = tri_at ts i in

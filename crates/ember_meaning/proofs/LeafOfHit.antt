@@ -1,6 +1,7 @@
 -- The leaf that holds the place of a hit is listed, and the triangle is near it; or the expression
 -- has one value there.
-use Rattle.std.proofs.Common.{◌≡◌, ℕ, ◌+◌, ◌<◌, refl, ap, sym, List, [], ◌∷◌, Bool, true, false, ◌&&◌, ◌||◌, cond, ◌⊎◌, inl, inr, arith, ℤ, pos, negsuc, neg_ℤ, All, ◌*ℤ◌, ◌<ℤ◌, ◌≤ℤ◌}
+use Rattle.std.proofs.Common.{◌≡◌, ℕ, ◌+◌, ◌<◌, refl, ap, sym, List, [], ◌∷◌, Bool, true, false, ◌&&◌, ◌||◌, cond, ◌⊎◌}
+use Rattle.std.proofs.Common.{inl, inr, arith, ℤ, pos, negsuc, neg_ℤ, All, ◌*ℤ◌, ◌<ℤ◌, ◌≤ℤ◌}
 use borrow.Author.Differences.{ints}
 use Rattle.std.specs.Prelude.{int_le, int_lt}
 use Rattle.std.specs.List.{count_by, list_any}
@@ -48,9 +49,12 @@ lifted : (z : ℤ) → Small 2047 z → (neg_ℤ (pos 2047) ≤ℤ (pos 1 *ℤ z
 lifted (pos n) s = (omega (arith, ints, s.small), omega (arith, ints, s.small))
 lifted (negsuc n) s = (omega (arith, ints, s.small), omega (arith, ints, s.small))
 
-between : (x w : ℤ) → pos 0 <ℤ w → (neg_ℤ (pos 2047) *ℤ w) ≤ℤ (pos 1 *ℤ x) → (neg_ℤ (pos 2047) *ℤ w) ≤ℤ (negsuc 0 *ℤ x) → is_between (neg_ℤ (pos 2048)) (pos 2048) x w ≡ true
+between : (x w : ℤ) → pos 0 <ℤ w → (neg_ℤ (pos 2047) *ℤ w) ≤ℤ (pos 1 *ℤ x) →
+    (neg_ℤ (pos 2047) *ℤ w) ≤ℤ (negsuc 0 *ℤ x) → is_between (neg_ℤ (pos 2048)) (pos 2048) x w ≡ true
 between x w p h k =
-    and_from (int_le (neg_ℤ (pos 2048) *ℤ w) x) (int_lt x (pos 2048 *ℤ w)) (le_yes (neg_ℤ (pos 2048) *ℤ w) x (omega (arith, linear, p, h))) (lt_yes x (pos 2048 *ℤ w) (omega (arith, linear, p, k)))
+    and_from (int_le (neg_ℤ (pos 2048) *ℤ w) x) (int_lt x (pos 2048 *ℤ w))
+    (le_yes (neg_ℤ (pos 2048) *ℤ w) x (omega (arith, linear, p, h)))
+    (lt_yes x (pos 2048 *ℤ w) (omega (arith, linear, p, k)))
   where
     le_yes : (a b : ℤ) → a ≤ℤ b → int_le a b ≡ true
     le_yes a b h = grind (arith, ints)
@@ -61,7 +65,18 @@ between x w p h k =
 -- a point of a valid triangle's closed face is in the root
 pub in_root : (t : Tri) (v : Spot) → IsValidTri t → is_flat t ≡ false → is_in_closed (face_of t) v ≡ true → pos 0 <ℤ v.w → is_in_box root v ≡ true
 in_root t v s nf h w =
-    and_from (is_between (neg_ℤ (pos 2048)) (pos 2048) v.x v.w) (is_between (neg_ℤ (pos 2048)) (pos 2048) v.y v.w && is_between (neg_ℤ (pos 2048)) (pos 2048) v.z v.w) (between v.x v.w w (past_corners X (pos 1) (neg_ℤ (pos 2047)) t v nf (lifted t.a.x s.a.x).0 (lifted t.b.x s.b.x).0 (lifted t.c.x s.c.x).0 h) (past_corners X (negsuc 0) (neg_ℤ (pos 2047)) t v nf (lifted t.a.x s.a.x).1 (lifted t.b.x s.b.x).1 (lifted t.c.x s.c.x).1 h)) (and_from (is_between (neg_ℤ (pos 2048)) (pos 2048) v.y v.w) (is_between (neg_ℤ (pos 2048)) (pos 2048) v.z v.w) (between v.y v.w w (past_corners Y (pos 1) (neg_ℤ (pos 2047)) t v nf (lifted t.a.y s.a.y).0 (lifted t.b.y s.b.y).0 (lifted t.c.y s.c.y).0 h) (past_corners Y (negsuc 0) (neg_ℤ (pos 2047)) t v nf (lifted t.a.y s.a.y).1 (lifted t.b.y s.b.y).1 (lifted t.c.y s.c.y).1 h)) (between v.z v.w w (past_corners Z (pos 1) (neg_ℤ (pos 2047)) t v nf (lifted t.a.z s.a.z).0 (lifted t.b.z s.b.z).0 (lifted t.c.z s.c.z).0 h) (past_corners Z (negsuc 0) (neg_ℤ (pos 2047)) t v nf (lifted t.a.z s.a.z).1 (lifted t.b.z s.b.z).1 (lifted t.c.z s.c.z).1 h)))
+    and_from (is_between (neg_ℤ (pos 2048)) (pos 2048) v.x v.w)
+    (is_between (neg_ℤ (pos 2048)) (pos 2048) v.y v.w && is_between (neg_ℤ (pos 2048)) (pos 2048) v.z v.w)
+    (between v.x v.w w (past_corners X (pos 1) (neg_ℤ (pos 2047)) t v nf (lifted t.a.x s.a.x).0 (lifted t.b.x s.b.x).0
+    (lifted t.c.x s.c.x).0 h) (past_corners X (negsuc 0) (neg_ℤ (pos 2047)) t v nf (lifted t.a.x s.a.x).1
+    (lifted t.b.x s.b.x).1 (lifted t.c.x s.c.x).1 h))
+    (and_from (is_between (neg_ℤ (pos 2048)) (pos 2048) v.y v.w) (is_between (neg_ℤ (pos 2048)) (pos 2048) v.z v.w)
+    (between v.y v.w w (past_corners Y (pos 1) (neg_ℤ (pos 2047)) t v nf (lifted t.a.y s.a.y).0 (lifted t.b.y s.b.y).0
+    (lifted t.c.y s.c.y).0 h) (past_corners Y (negsuc 0) (neg_ℤ (pos 2047)) t v nf (lifted t.a.y s.a.y).1
+    (lifted t.b.y s.b.y).1 (lifted t.c.y s.c.y).1 h))
+    (between v.z v.w w (past_corners Z (pos 1) (neg_ℤ (pos 2047)) t v nf (lifted t.a.z s.a.z).0 (lifted t.b.z s.b.z).0
+    (lifted t.c.z s.c.z).0 h) (past_corners Z (negsuc 0) (neg_ℤ (pos 2047)) t v nf (lifted t.a.z s.a.z).1
+    (lifted t.b.z s.b.z).1 (lifted t.c.z s.c.z).1 h)))
 
 -- what holds of all members holds of a member
 pub all_in : {X : Type 0} (P : X → Type 0) (xs : List X) (x : X) → All P xs → In x xs → P x
@@ -80,7 +95,8 @@ parts true b h = absurd (false≢true (sym h))
 parts false b h = (refl, h)
 
 -- if some member passes and none of the listed does, one that passes isn't listed
-pub missing_member_passes : {X : Type 0} {P : X → Type 0} (p : X → Bool) {xs ys : List X} → Without P xs ys → 0 < count_by p xs → list_any p ys ≡ false → Lost P p
+pub missing_member_passes : {X : Type 0} {P : X → Type 0} (p : X → Bool) {xs ys : List X} → Without P xs ys →
+    0 < count_by p xs → list_any p ys ≡ false → Lost P p
 missing_member_passes p ends l h = absurd (omega arith)
 missing_member_passes p (keeps {x = x} {xs = xs} {ys = ys} w) l h =
     let q = parts (p x) (list_any p ys) h in

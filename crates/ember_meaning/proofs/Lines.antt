@@ -1,5 +1,6 @@
 -- Lines: keys in an order, hits on a line, and what is written at them
-use Rattle.std.specs.Prelude.{◌≡◌, ℕ, Bool, true, false, not, ◌&&◌, cond, ◌⊎◌, List, ◌∷◌, map, filter, nat_eq, ℤ, pos, ◌*ℤ◌, suc, pred, int_lt, neg_ℤ, unsigned_abs}
+use Rattle.std.specs.Prelude.{◌≡◌, ℕ, Bool, true, false, not, ◌&&◌, cond, ◌⊎◌, List, ◌∷◌, map, filter, nat_eq, ℤ, pos}
+use Rattle.std.specs.Prelude.{◌*ℤ◌, suc, pred, int_lt, neg_ℤ, unsigned_abs}
 use Rattle.ember_algebra.specs.Sign.{sign, is_zero}
 use Rattle.ember_algebra.specs.Sums.{total}
 use Rattle.ember_model.specs.declared.tri.Tri.{Tri}

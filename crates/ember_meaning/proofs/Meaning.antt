@@ -1,5 +1,7 @@
 -- The meaning along one line, from what is owed at each hit.
-use Rattle.std.proofs.Common.{◌≡◌, ℕ, zero, suc, ◌+◌, ◌<◌, ◌≤◌, refl, ap, ◌∙◌, sym, subst, List, [], ◌∷◌, map, replicate, Bool, true, false, not, ◌&&◌, cond, ⊎_elim, ◌⊎◌, arith, ℤ, pos, ◌+ℤ◌, ◌-ℤ◌, ◌*ℤ◌, ◌<ℤ◌, ◌≤ℤ◌, inl, inr}
+use Rattle.std.proofs.Common.{◌≡◌, ℕ, zero, suc, ◌+◌, ◌<◌, ◌≤◌, refl, ap, ◌∙◌, sym, subst, List, [], ◌∷◌, map}
+use Rattle.std.proofs.Common.{replicate, Bool, true, false, not, ◌&&◌, cond, ⊎_elim, ◌⊎◌, arith, ℤ, pos, ◌+ℤ◌, ◌-ℤ◌}
+use Rattle.std.proofs.Common.{◌*ℤ◌, ◌<ℤ◌, ◌≤ℤ◌, inl, inr}
 use borrow.Author.Differences.{ints}
 use Rattle.std.specs.List.{filter, count_by, list_any, range_with_len}
 use Rattle.std.proofs.lemmas.Bool.{cases_Bool, false≢true, and_parts, or_right, not-true}
@@ -28,7 +30,8 @@ use Rattle.ember_text.specs.Documents.{written_face}
 use Rattle.ember_meaning.proofs.CountedPoints.{is_in_box}
 use Rattle.ember_meaning.proofs.Listed.{Entry, IsEntries, is_hit_at, Without}
 use Rattle.ember_meaning.specs.Meaning.{one_if}
-use Rattle.ember_meaning.proofs.Lines.{In, total_of, Fraction, is_below, on_line, key, is_hit, amount, beyond, onward, is_same_place, is_tri_hit, tri_key, tri_hits, seen}
+use Rattle.ember_meaning.proofs.Lines.{In, total_of, Fraction, is_below, on_line, key, is_hit, amount, beyond, onward}
+use Rattle.ember_meaning.proofs.Lines.{is_same_place, is_tri_hit, tri_key, tri_hits, seen}
 use Rattle.ember_meaning.specs.Meaning.{IsFalseOutside}
 use Rattle.ember_meaning.proofs.HitConditions.{before_hit, after_hit, hit_point, truth_before, truth_after, truth_ahead, truth_back, IsRegular, IsRegularLine}
 use Rattle.ember_meaning.proofs.AlongLine.{along_line, total_of-filter}
@@ -109,7 +112,8 @@ module _ (scene : List Tri) (x : Formula) (k : Axis) (p : Spot) (cs : List Cell)
         in_plane true i s false e g = refl
         in_plane false i s h e g = absurd (false≢true e)
 
-        unturned : (b : Bool) → passes_here (record { tri = e.tri; flipped = b; ring = e.face }) ≡ (is_hit k p f && is_same_place is_below (tri_key k p t) (key k p f))
+        unturned : (b : Bool) → passes_here (record { tri = e.tri; flipped = b; ring = e.face })
+            ≡ (is_hit k p f && is_same_place is_below (tri_key k p t) (key k p f))
         unturned true =
             cc (is_hit-turned k p f, ap (λ (y : Fraction). is_same_place is_below (tri_key k p t) y) (key-turned k p f))
         unturned false = refl
@@ -123,20 +127,27 @@ module _ (scene : List Tri) (x : Formula) (k : Axis) (p : Spot) (cs : List Cell)
         final false false false true e f g = g refl
         final false false false false e f g = refl
 
-        by : (is_zero (along f.support k) ≡ true) ⊎ (is_zero (along f.support k) ≡ false) → (is_hit k p f && is_same_place is_below (tri_key k p t) (key k p f)) ≡ has e
+        by : (is_zero (along f.support k) ≡ true) ⊎ (is_zero (along f.support k) ≡ false) →
+            (is_hit k p f && is_same_place is_below (tri_key k p t) (key k p f)) ≡ has e
         by (inl z) =
-            in_plane (is_zero (along f.support k)) (is_inside f (hit f.support k p)) (is_same_place is_below (tri_key k p t) (key k p f)) (has e) z (λ h. r.crosses e i h)
+            in_plane (is_zero (along f.support k)) (is_inside f (hit f.support k p))
+            (is_same_place is_below (tri_key k p t) (key k p f)) (has e) z (λ h. r.crosses e i h)
         by (inr z) =
-            final (is_zero (along f.support k)) (is_inside f (hit f.support k p)) (is_same_place is_below (tri_key k p t) (key k p f)) (has e) z (λ h. same_inside k p (face_of t) f f t_crosses z h) (λ h. inside_place k p (face_of t) f t_crosses z h)
+            final (is_zero (along f.support k)) (is_inside f (hit f.support k p))
+            (is_same_place is_below (tri_key k p t) (key k p f)) (has e) z
+            (λ h. same_inside k p (face_of t) f f t_crosses z h) (λ h. inside_place k p (face_of t) f t_crosses z h)
 
     amount_of : (f : Face) (n : ℕ) (b : Bool) → amount k (written_face (record { tri = n; flipped = b; ring = f })) ≡ written_amount (along f.support k) b
     amount_of f n true = amount-turned k f
     amount_of f n false = refl
 
     -- an entry gives the jump if it is owned and holds the place, otherwise nothing
-    entry_total : (e : Entry) (us : List Kept) → In e es → IsWrittenOfRegion scene x (near scene e.cell) e.tri e.face us → total_of (λ w. amount k (written_face w)) passes_here us ≡ cond (has e && owned e) jump (pos 0)
+    entry_total : (e : Entry) (us : List Kept) → In e es →
+        IsWrittenOfRegion scene x (near scene e.cell) e.tri e.face us →
+        total_of (λ w. amount k (written_face w)) passes_here us ≡ cond (has e && owned e) jump (pos 0)
     entry_total e us i (unowned n) =
-        by (has e) (list_any (λ j. is_hit_at scene cs at j) (range_with_len 0 e.tri)) (λ h l. n (r.first_owner e i h (none_below (λ j. is_hit_at scene cs at j) e.tri l)))
+        by (has e) (list_any (λ j. is_hit_at scene cs at j) (range_with_len 0 e.tri))
+        (λ h l. n (r.first_owner e i h (none_below (λ j. is_hit_at scene cs at j) e.tri l)))
       where
         by : (h l : Bool) → (h ≡ true → l ≡ false → ⊥) → pos 0 ≡ cond (h && not l) jump (pos 0)
         by true true g = refl
@@ -149,24 +160,34 @@ module _ (scene : List Tri) (x : Formula) (k : Axis) (p : Spot) (cs : List Cell)
         sides true = sym q
         sides false = q
 
-        nought : (before_here ≡ before_hit (along e.face.support k) (ahead e.face a b) (back e.face a b)) × (after_here ≡ after_hit (along e.face.support k) (ahead e.face a b) (back e.face a b)) → jump ≡ pos 0
+        nought : (before_here ≡ before_hit (along e.face.support k) (ahead e.face a b) (back e.face a b)) ×
+            (after_here ≡ after_hit (along e.face.support k) (ahead e.face a b) (back e.face a b)) → jump ≡ pos 0
         nought h =
-            cc (h.0, h.1) ∙ even_jump (along e.face.support k) (ahead e.face a b) (back e.face a b) (sides (is_positive (along e.face.support (main_axis e.face.support))))
+            cc (h.0, h.1) ∙ even_jump (along e.face.support k) (ahead e.face a b) (back e.face a b)
+            (sides (is_positive (along e.face.support (main_axis e.face.support))))
 
         by : (h o : Bool) → (h ≡ true → jump ≡ pos 0) → pos 0 ≡ cond (h && o) jump (pos 0)
         by true true g = sym (g refl)
         by true false g = refl
         by false o g = refl
     entry_total e us i (written {before = a} {after = b} o s n) =
-        by (passes_here (record { tri = e.tri; flipped = ahead e.face a b; ring = e.face })) (has e) (owned e) (amount k (written_face (record { tri = e.tri; flipped = ahead e.face a b; ring = e.face }))) (here_is e (ahead e.face a b) i) (λ h. ap not (any_below (λ j. is_hit_at scene cs at j) 0 e.tri (λ j l. r.owner_first e i h o j (omega arith)))) (λ h. turns h (r.beside e a b i h s))
+        by (passes_here (record { tri = e.tri; flipped = ahead e.face a b; ring = e.face })) (has e) (owned e)
+        (amount k (written_face (record { tri = e.tri; flipped = ahead e.face a b; ring = e.face })))
+        (here_is e (ahead e.face a b) i) (λ h. ap not
+        (any_below (λ j. is_hit_at scene cs at j) 0 e.tri (λ j l. r.owner_first e i h o j (omega arith))))
+        (λ h. turns h (r.beside e a b i h s))
       where
         sides : (c : Bool) → truth (cond c b a) x ≡ truth (cond c a b) x → ⊥
         sides true e = n (sym e)
         sides false e = n e
 
-        turns : has e ≡ true → (before_here ≡ before_hit (along e.face.support k) (ahead e.face a b) (back e.face a b)) × (after_here ≡ after_hit (along e.face.support k) (ahead e.face a b) (back e.face a b)) → amount k (written_face (record { tri = e.tri; flipped = ahead e.face a b; ring = e.face })) ≡ jump
+        turns : has e ≡ true → (before_here ≡ before_hit (along e.face.support k) (ahead e.face a b) (back e.face a b))
+            × (after_here ≡ after_hit (along e.face.support k) (ahead e.face a b) (back e.face a b)) →
+            amount k (written_face (record { tri = e.tri; flipped = ahead e.face a b; ring = e.face })) ≡ jump
         turns q h =
-            amount_of e.face e.tri (ahead e.face a b) ∙ written_jump (along e.face.support k) (ahead e.face a b) (back e.face a b) (r.crosses e i q) (sides (is_positive (along e.face.support (main_axis e.face.support)))) ∙ cc (h.0, h.1)
+            amount_of e.face e.tri (ahead e.face a b)
+            ∙ written_jump (along e.face.support k) (ahead e.face a b) (back e.face a b) (r.crosses e i q)
+            (sides (is_positive (along e.face.support (main_axis e.face.support)))) ∙ cc (h.0, h.1)
 
         by : (c h o : Bool) (m : ℤ) → c ≡ h → (h ≡ true → o ≡ true) → (h ≡ true → m ≡ jump) → cond c m (pos 0) +ℤ pos 0 ≡ cond (h && o) jump (pos 0)
         by true true true m e f g = omega (arith, linear, g refl)
@@ -181,11 +202,27 @@ module _ (scene : List Tri) (x : Formula) (k : Axis) (p : Spot) (cs : List Cell)
 
     covered : count_by (λ c. is_in_box c at) cs ≤ 1 → IsEntries scene cs es → IsCovered (λ e. e.tri) has owned (λ j. is_hit_at scene cs at j) es
     covered one c =
-        record { cover = λ j. entries_count scene cs at j es one r.fair c; owned_if = λ e i h f. ap not (any_below (λ j. is_hit_at scene cs at j) 0 e.tri (λ j l. f j (omega arith))); not_owned_if = λ e j i h l q. ap not (any_at (λ j. is_hit_at scene cs at j) 0 e.tri j (omega arith) (ap (λ (m : ℕ). is_hit_at scene cs at m) (omega arith) ∙ q)) }
+        record {
+          cover = λ j. entries_count scene cs at j es one r.fair c;
+          owned_if =
+              λ e i h f. ap not (any_below (λ j. is_hit_at scene cs at j) 0 e.tri (λ j l. f j (omega arith)));
+          not_owned_if = λ e j i h l q. ap not (any_at (λ j. is_hit_at scene cs at j) 0 e.tri j (omega arith)
+              (ap (λ (m : ℕ). is_hit_at scene cs at m) (omega arith) ∙ q));
+        }
 
-    jump_here : (ws : List Kept) → Without (HasOneValue scene x) (leaves scene root) cs → IsEntries scene cs es → Each (λ e us. IsWrittenOfRegion scene x (near scene e.cell) e.tri e.face us) es ws → total_of (amount k) (λ w. is_same_place is_below (tri_key k p t) (key k p w)) (filter (is_hit k p) (map written_face ws)) ≡ jump
+    jump_here : (ws : List Kept) → Without (HasOneValue scene x) (leaves scene root) cs → IsEntries scene cs es →
+        Each (λ e us. IsWrittenOfRegion scene x (near scene e.cell) e.tri e.face us) es ws →
+        total_of (amount k) (λ w. is_same_place is_below (tri_key k p t) (key k p w))
+        (filter (is_hit k p) (map written_face ws)) ≡ jump
     jump_here ws n c d =
-        total_of-filter (amount k) (is_hit k p) (λ w. is_same_place is_below (tri_key k p t) (key k p w)) (map written_face ws) ∙ total_of-map (amount k) (λ w. is_hit k p w && is_same_place is_below (tri_key k p t) (key k p w)) written_face ws ∙ ⊎_elim (λ s. jump_at (λ e. e.tri) has owned (λ j. is_hit_at scene cs at j) (λ w. amount k (written_face w)) passes_here jump es ws (covered (one_holds scene cs at weight n) c) entry_total d s.tri s.is_hit) (λ s. still_at (λ e. e.tri) has owned (λ j. is_hit_at scene cs at j) (λ w. amount k (written_face w)) passes_here jump es ws (covered (one_holds scene cs at weight n) c) entry_total d s.0 ∙ sym (ap (λ b. one_if b -ℤ one_if after_here) s.1 ∙ nought (one_if after_here))) r.some_hit
+        total_of-filter (amount k) (is_hit k p) (λ w. is_same_place is_below (tri_key k p t) (key k p w))
+        (map written_face ws) ∙ total_of-map (amount k)
+        (λ w. is_hit k p w && is_same_place is_below (tri_key k p t) (key k p w)) written_face ws
+        ∙ ⊎_elim (λ s. jump_at (λ e. e.tri) has owned (λ j. is_hit_at scene cs at j) (λ w. amount k (written_face w))
+        passes_here jump es ws (covered (one_holds scene cs at weight n) c) entry_total d s.tri s.is_hit)
+        (λ s. still_at (λ e. e.tri) has owned (λ j. is_hit_at scene cs at j) (λ w. amount k (written_face w))
+        passes_here jump es ws (covered (one_holds scene cs at weight n) c) entry_total d s.0
+        ∙ sym (ap (λ b. one_if b -ℤ one_if after_here) s.1 ∙ nought (one_if after_here))) r.some_hit
       where
         nought : (z : ℤ) → z -ℤ z ≡ pos 0
         nought z = omega (arith, linear)
@@ -196,14 +233,34 @@ unfolding meshes
 none_ahead = refl
 
 -- the meaning on a regular line
-pub meaning_along : (scene : List Tri) (x : Formula) (k : Axis) (p : Spot) (cs : List Cell) (es : List Entry) (ws : List Kept) → Without (HasOneValue scene x) (leaves scene root) cs → IsEntries scene cs es → Each (λ e us. IsWrittenOfRegion scene x (near scene e.cell) e.tri e.face us) es ws → IsFalseOutside x → IsRegularLine scene x k p cs es ws → (y : Fraction) → wind k (map written_face ws) (on_line k p y) ≡ one_if (truth (vector k scene (on_line k p y)) x)
+pub meaning_along : (scene : List Tri) (x : Formula) (k : Axis) (p : Spot) (cs : List Cell) (es : List Entry)
+    (ws : List Kept) → Without (HasOneValue scene x) (leaves scene root) cs → IsEntries scene cs es →
+    Each (λ e us. IsWrittenOfRegion scene x (near scene e.cell) e.tri e.face us) es ws → IsFalseOutside x →
+    IsRegularLine scene x k p cs es ws → (y : Fraction) →
+    wind k (map written_face ws) (on_line k p y) ≡ one_if (truth (vector k scene (on_line k p y)) x)
 meaning_along scene x k p cs es ws n c d o r y =
-    along_line scene (λ v. truth v x) (map written_face ws) k p (map (tri_key k p) (tri_hits k p scene)) (record { tris = λ t i. in_map (tri_key k p) (tri_hits k p scene) t i; faces = r.placed; jumps = λ z i. jumps z (map_member_has_source (tri_key k p) (tri_hits k p scene) z i); bounded = ap (λ (v : List ℤ). truth v x) none_ahead ∙ o }) y
+    along_line scene (λ v. truth v x) (map written_face ws) k p (map (tri_key k p) (tri_hits k p scene))
+    (record {
+      tris = λ t i. in_map (tri_key k p) (tri_hits k p scene) t i;
+      faces = r.placed;
+      jumps =
+          λ z i. jumps z (map_member_has_source (tri_key k p) (tri_hits k p scene) z i);
+      bounded =
+          ap (λ (v : List ℤ). truth v x) none_ahead ∙ o;
+    }) y
   where
-    jumps : (z : Fraction) → Source (tri_key k p) (tri_hits k p scene) z → total_of (amount k) (λ w. is_same_place is_below z (key k p w)) (filter (is_hit k p) (map written_face ws)) ≡ one_if (truth (seen k (onward is_below (tri_key k p) z (tri_hits k p scene))) x) -ℤ one_if (truth (seen k (beyond is_below (tri_key k p) z (tri_hits k p scene))) x)
+    jumps : (z : Fraction) → Source (tri_key k p) (tri_hits k p scene) z →
+        total_of (amount k) (λ w. is_same_place is_below z (key k p w)) (filter (is_hit k p) (map written_face ws))
+        ≡ one_if (truth (seen k (onward is_below (tri_key k p) z (tri_hits k p scene))) x) -ℤ one_if
+        (truth (seen k (beyond is_below (tri_key k p) z (tri_hits k p scene))) x)
     jumps z s =
-        let j = jump_here scene x k p cs es s.at (r.regular s.at s.member) (and_parts (not (is_flat s.at)) (is_hit k p (face_of s.at)) (in_filter (is_tri_hit k p) scene s.at s.member)).1 ws n c d in
-        subst (λ u. total_of (amount k) (λ w. is_same_place is_below u (key k p w)) (filter (is_hit k p) (map written_face ws)) ≡ one_if (truth (seen k (onward is_below (tri_key k p) u (tri_hits k p scene))) x) -ℤ one_if (truth (seen k (beyond is_below (tri_key k p) u (tri_hits k p scene))) x)) (sym s.is) j
+        let j = jump_here scene x k p cs es s.at (r.regular s.at s.member)
+        (and_parts (not (is_flat s.at)) (is_hit k p (face_of s.at))
+        (in_filter (is_tri_hit k p) scene s.at s.member)).1 ws n c d in
+        subst (λ u. total_of (amount k) (λ w. is_same_place is_below u (key k p w))
+        (filter (is_hit k p) (map written_face ws)) ≡ one_if
+        (truth (seen k (onward is_below (tri_key k p) u (tri_hits k p scene))) x) -ℤ one_if
+        (truth (seen k (beyond is_below (tri_key k p) u (tri_hits k p scene))) x)) (sym s.is) j
 
 zero_more : (z : ℤ) → pos 1 *ℤ z +ℤ pos 0 ≡ z
 zero_more z = omega (arith, ints)

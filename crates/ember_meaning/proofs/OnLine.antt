@@ -1,5 +1,6 @@
 -- Along a line a face is crossed from just the points before its key.
-use Rattle.std.proofs.Common.{◌≡◌, ℕ, zero, suc, pred, refl, ap, ◌∙◌, sym, Bool, true, false, not, ◌&&◌, cond, ℤ, pos, negsuc, ◌+ℤ◌, ◌-ℤ◌, ◌*ℤ◌, neg_ℤ, ◌<ℤ◌, ◌≤ℤ◌, unsigned_abs, ◌⊎◌, inl, inr, arith}
+use Rattle.std.proofs.Common.{◌≡◌, ℕ, zero, suc, pred, refl, ap, ◌∙◌, sym, Bool, true, false, not, ◌&&◌, cond, ℤ, pos}
+use Rattle.std.proofs.Common.{negsuc, ◌+ℤ◌, ◌-ℤ◌, ◌*ℤ◌, neg_ℤ, ◌<ℤ◌, ◌≤ℤ◌, unsigned_abs, ◌⊎◌, inl, inr, arith}
 use borrow.Author.Differences.{ints}
 use Rattle.std.specs.Prelude.{int_lt}
 use Rattle.std.proofs.lemmas.Int.{by_lt_z}
@@ -25,7 +26,11 @@ use Rattle.ember_meaning.proofs.Lines.{Fraction, is_below, on_line, key, is_hit,
 hit_ahead : (n : Plane) (a : Axis) (p : Spot) (m s : ℤ) → Scales m (hit n a p) (hit n a (moved (scaled m p) a s))
 hit_ahead n a p m s q =
     let e = value_ray q a p m s in let d = value_ray n a p m s in
-    value_hit q n a (moved (scaled m p) a s) ∙ (λ i. size (along n a) *ℤ e i -ℤ sign (along n a) *ℤ d i *ℤ along q a) ∙ from_one (s *ℤ along q a) (size-is (along n a)) (solve 8 (λ z g na qa m s vq vn. (z ⊗ (m ⊗ vq ⊕ s ⊗ qa) ⊖ g ⊗ (m ⊗ vn ⊕ s ⊗ na) ⊗ qa) ⊖ m ⊗ (z ⊗ vq ⊖ g ⊗ vn ⊗ qa) ≈ s ⊗ qa ⊗ (z ⊖ g ⊗ na)) cancels (size (along n a)) (sign (along n a)) (along n a) (along q a) m s (value_at q p) (value_at n p)) ∙ ap (λ (z : ℤ). m *ℤ z) (sym (value_hit q n a p))
+    value_hit q n a (moved (scaled m p) a s) ∙ (λ i. size (along n a) *ℤ e i -ℤ sign (along n a) *ℤ d i *ℤ along q a)
+    ∙ from_one (s *ℤ along q a) (size-is (along n a))
+    (solve 8 (λ z g na qa m s vq vn. (z ⊗ (m ⊗ vq ⊕ s ⊗ qa) ⊖ g ⊗ (m ⊗ vn ⊕ s ⊗ na) ⊗ qa) ⊖ m ⊗ (z ⊗ vq ⊖ g ⊗ vn ⊗ qa)
+    ≈ s ⊗ qa ⊗ (z ⊖ g ⊗ na)) cancels (size (along n a)) (sign (along n a)) (along n a) (along q a) m s (value_at q p)
+    (value_at n p)) ∙ ap (λ (z : ℤ). m *ℤ z) (sym (value_hit q n a p))
 
 one_up : (n : ℕ) → pos 0 <ℤ pos (suc n)
 one_up n = omega (arith, ints)
@@ -43,7 +48,8 @@ sign-sign (negsuc n) = refl
 
 lt_test : (v x h : ℤ) → v ≡ x -ℤ h → is_negative v ≡ int_lt x h
 lt_test v x h e =
-    by_lt_z x h (λ l. negative_in (let d = e in omega (arith, linear, d, l)) ∙ sym (yes x h l)) (λ l. negative_not v (let d = e in omega (arith, linear, d, l)) ∙ sym (no x h l))
+    by_lt_z x h (λ l. negative_in (let d = e in omega (arith, linear, d, l)) ∙ sym (yes x h l))
+    (λ l. negative_not v (let d = e in omega (arith, linear, d, l)) ∙ sym (no x h l))
   where
     yes : (x h : ℤ) → x <ℤ h → int_lt x h ≡ true
     yes x h l = grind (arith, ints)
@@ -53,7 +59,8 @@ lt_test v x h e =
 
 negative_times : (z n : ℤ) → is_negative (z *ℤ n) ≡ is_negative (sign n *ℤ z)
 negative_times z n =
-    sym (negative-sign (z *ℤ n)) ∙ ap is_negative (sign-mul z n ∙ *ℤ_comm (sign z) (sign n) ∙ cc (sign-mul (sign n) z, sign-sign n)) ∙ negative-sign (sign n *ℤ z)
+    sym (negative-sign (z *ℤ n)) ∙ ap is_negative
+    (sign-mul z n ∙ *ℤ_comm (sign z) (sign n) ∙ cc (sign-mul (sign n) z, sign-sign n)) ∙ negative-sign (sign n *ℤ z)
 
 -- the size of a number other than 0, as the successor of a natural number
 pub size_up : (n : ℤ) → is_zero n ≡ false → pos (suc (pred (unsigned_abs n))) ≡ size n
@@ -61,15 +68,21 @@ size_up (pos zero) e = absurd (false≢true (sym e))
 size_up (pos (suc n)) e = refl
 size_up (negsuc n) e = refl
 
-ahead_plain : (n v w s : ℤ) (m : ℕ) → w ≡ pos (suc m) *ℤ v +ℤ s *ℤ n → is_zero n ≡ false → is_negative (w *ℤ n) ≡ int_lt (s *ℤ pos (suc (pred (unsigned_abs n)))) (neg_ℤ (sign n *ℤ v) *ℤ pos (suc m))
+ahead_plain : (n v w s : ℤ) (m : ℕ) → w ≡ pos (suc m) *ℤ v +ℤ s *ℤ n → is_zero n ≡ false →
+    is_negative (w *ℤ n) ≡ int_lt (s *ℤ pos (suc (pred (unsigned_abs n)))) (neg_ℤ (sign n *ℤ v) *ℤ pos (suc m))
 ahead_plain n v w s m e z =
-    negative_times w n ∙ lt_test (sign n *ℤ w) (s *ℤ pos (suc (pred (unsigned_abs n)))) (neg_ℤ (sign n *ℤ v) *ℤ pos (suc m)) (at (pos (suc (pred (unsigned_abs n)))) (sign n) (pos (suc m)) (size_up n z ∙ size-is n) e)
+    negative_times w n ∙ lt_test (sign n *ℤ w) (s *ℤ pos (suc (pred (unsigned_abs n))))
+    (neg_ℤ (sign n *ℤ v) *ℤ pos (suc m)) (at (pos (suc (pred (unsigned_abs n)))) (sign n) (pos (suc m))
+    (size_up n z ∙ size-is n) e)
   where
     at : (a g c : ℤ) → a ≡ g *ℤ n → w ≡ c *ℤ v +ℤ s *ℤ n → g *ℤ w ≡ s *ℤ a -ℤ neg_ℤ (g *ℤ v) *ℤ c
     at a g c h e =
-        ap (λ (z : ℤ). g *ℤ z) e ∙ from_one (neg_ℤ s) h (solve 6 (λ a g c v s n. g ⊗ (c ⊗ v ⊕ s ⊗ n) ⊖ (s ⊗ a ⊖ neg (g ⊗ v) ⊗ c) ≈ neg s ⊗ (a ⊖ g ⊗ n)) cancels a g c v s n)
+        ap (λ (z : ℤ). g *ℤ z) e ∙ from_one (neg_ℤ s) h
+        (solve 6 (λ a g c v s n. g ⊗ (c ⊗ v ⊕ s ⊗ n) ⊖ (s ⊗ a ⊖ neg (g ⊗ v) ⊗ c) ≈ neg s ⊗ (a ⊖ g ⊗ n)) cancels a g c
+        v s n)
 
-ahead_test : (f : Face) (a : Axis) (p : Spot) (y : Fraction) → is_zero (along f.support a) ≡ false → is_negative (value_at f.support (on_line a p y) *ℤ along f.support a) ≡ is_below y (key a p f)
+ahead_test : (f : Face) (a : Axis) (p : Spot) (y : Fraction) → is_zero (along f.support a) ≡ false →
+    is_negative (value_at f.support (on_line a p y) *ℤ along f.support a) ≡ is_below y (key a p f)
 ahead_test f a p y e =
     ahead_plain (along f.support a) (value_at f.support p) (value_at f.support (on_line a p y)) y.num y.den (value_ray f.support a p (pos (suc y.den)) y.num) e
 
@@ -79,7 +92,8 @@ same_cond true z e = e
 same_cond false z e = refl
 
 -- along a line a face is crossed from just the points before its key
-pub crossing-on_line : (f : Face) (a : Axis) (p : Spot) (y : Fraction) → crossing f a (on_line a p y) ≡ cond (is_below y (key a p f)) (cond (is_hit a p f) (amount a f) (pos 0)) (pos 0)
+pub crossing-on_line : (f : Face) (a : Axis) (p : Spot) (y : Fraction) →
+    crossing f a (on_line a p y) ≡ cond (is_below y (key a p f)) (cond (is_hit a p f) (amount a f) (pos 0)) (pos 0)
 unfolding crossing
 crossing-on_line f a p y = by (cases_Bool (is_zero (along f.support a)))
   where
@@ -97,8 +111,20 @@ crossing-on_line f a p y = by (cases_Bool (is_zero (along f.support a)))
     is_null (pos (suc n)) e = absurd (false≢true e)
     is_null (negsuc n) e = absurd (false≢true e)
 
-    by : (is_zero (along f.support a) ≡ true) ⊎ (is_zero (along f.support a) ≡ false) → cond (is_negative (value_at f.support (on_line a p y) *ℤ along f.support a) && is_inside f (hit f.support a (on_line a p y))) (sign (along f.support a)) (pos 0) ≡ cond (is_below y (key a p f)) (cond (is_hit a p f) (amount a f) (pos 0)) (pos 0)
+    by : (is_zero (along f.support a) ≡ true) ⊎ (is_zero (along f.support a) ≡ false) →
+        cond (is_negative (value_at f.support (on_line a p y) *ℤ along f.support a)
+        && is_inside f (hit f.support a (on_line a p y))) (sign (along f.support a)) (pos 0) ≡ cond
+        (is_below y (key a p f)) (cond (is_hit a p f) (amount a f) (pos 0)) (pos 0)
     by (inl e) =
-        same_cond (is_negative (value_at f.support (on_line a p y) *ℤ along f.support a) && is_inside f (hit f.support a (on_line a p y))) (sign (along f.support a)) (is_null (along f.support a) e) ∙ sym (no_hit (is_below y (key a p f)) (is_zero (along f.support a)) (is_inside f (hit f.support a p)) (amount a f) e)
+        same_cond (is_negative (value_at f.support (on_line a p y) *ℤ along f.support a)
+        && is_inside f (hit f.support a (on_line a p y))) (sign (along f.support a)) (is_null (along f.support a) e)
+        ∙ sym (no_hit (is_below y (key a p f)) (is_zero (along f.support a)) (is_inside f (hit f.support a p))
+        (amount a f) e)
     by (inr e) =
-        ap (λ b. cond (b && is_inside f (hit f.support a (on_line a p y))) (sign (along f.support a)) (pos 0)) (ahead_test f a p y e) ∙ ap (λ b. cond (is_below y (key a p f) && b) (sign (along f.support a)) (pos 0)) (inside_scaled (pos (suc y.den)) (hit f.support a p) (hit f.support a (on_line a p y)) f (one_up y.den) (hit_ahead f.support a p (pos (suc y.den)) y.num)) ∙ nested (is_below y (key a p f)) (is_inside f (hit f.support a p)) (sign (along f.support a)) ∙ ap (λ b. cond (is_below y (key a p f)) (cond (not b && is_inside f (hit f.support a p)) (amount a f) (pos 0)) (pos 0)) (sym e)
+        ap (λ b. cond (b && is_inside f (hit f.support a (on_line a p y))) (sign (along f.support a)) (pos 0))
+        (ahead_test f a p y e) ∙ ap (λ b. cond (is_below y (key a p f) && b) (sign (along f.support a)) (pos 0))
+        (inside_scaled (pos (suc y.den)) (hit f.support a p) (hit f.support a (on_line a p y)) f (one_up y.den)
+        (hit_ahead f.support a p (pos (suc y.den)) y.num))
+        ∙ nested (is_below y (key a p f)) (is_inside f (hit f.support a p)) (sign (along f.support a))
+        ∙ ap (λ b. cond (is_below y (key a p f))
+        (cond (not b && is_inside f (hit f.support a p)) (amount a f) (pos 0)) (pos 0)) (sym e)

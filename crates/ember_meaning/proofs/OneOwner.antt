@@ -1,6 +1,7 @@
 -- Of the regions that hold one place exactly one is owned, and what is written there is what that
 -- one gives.
-use Rattle.std.proofs.Common.{◌≡◌, ℕ, zero, suc, ◌+◌, ◌<◌, ◌≤◌, refl, ap, ◌∙◌, sym, List, [], ◌∷◌, ◌++◌, Bool, true, false, ◌&&◌, cond, eqb, ℤ, pos, ◌+ℤ◌, ◌*ℤ◌, ◌⊎◌, inl, inr, ⊎_elim, arith, below_more}
+use Rattle.std.proofs.Common.{◌≡◌, ℕ, zero, suc, ◌+◌, ◌<◌, ◌≤◌, refl, ap, ◌∙◌, sym, List, [], ◌∷◌, ◌++◌, Bool, true}
+use Rattle.std.proofs.Common.{false, ◌&&◌, cond, eqb, ℤ, pos, ◌+ℤ◌, ◌*ℤ◌, ◌⊎◌, inl, inr, ⊎_elim, arith, below_more}
 use borrow.Author.Differences.{ints}
 use Rattle.std.specs.List.{count_by}
 use Rattle.std.proofs.lemmas.List.Sums.{sum_by-cons}
@@ -73,7 +74,12 @@ module _ {E : Type 0} (tri : E → ℕ) (has owned : E → Bool) (hit : ℕ → 
         by : (xs : List E) → ((e : E) → In e xs → In e es) → count_by (λ e. has e && owned e) xs ≡ 0
         by [] g = refl
         by (e ∷ xs) g =
-            omega (arith, sum_by-cons (λ d. cond (has d && owned d) 1 0) e xs, by xs (λ d i. g d (there i)), ap number (off (has e) (owned e) (λ h. absurd (false≢true (sym (f (tri e)) ∙ hit_of e (g e here) h)))))
+            omega (
+              arith,
+              sum_by-cons (λ d. cond (has d && owned d) 1 0) e xs,
+              by xs (λ d i. g d (there i)),
+              ap number (off (has e) (owned e) (λ h. absurd (false≢true (sym (f (tri e)) ∙ hit_of e (g e here) h)))),
+            )
           where
             off : (a b : Bool) → (a ≡ true → ⊥) → (a && b) ≡ false
             off true b n = absurd (n refl)
@@ -85,10 +91,14 @@ total-append amount p [] vs = omega (arith, linear)
 total-append amount p (u ∷ us) vs = omega (arith, linear, total-append amount p us vs)
 
 -- if each member of es gives the amount g if q, and else nothing, all give g as often as q holds
-each_total : {E W : Type 0} {R : E → List W → Type 0} (amount : W → ℤ) (p : W → Bool) (q : E → Bool) (g : ℤ) {es : List E} {ws : List W} → ((e : E) (us : List W) → In e es → R e us → total_of amount p us ≡ cond (q e) g (pos 0)) → Each R es ws → total_of amount p ws ≡ pos (count_by q es) *ℤ g
+each_total : {E W : Type 0} {R : E → List W → Type 0} (amount : W → ℤ) (p : W → Bool) (q : E →
+    Bool) (g : ℤ) {es : List E} {ws : List W} → ((e : E) (us : List W) → In e es → R e us →
+    total_of amount p us ≡ cond (q e) g (pos 0)) → Each R es ws → total_of amount p ws ≡ pos (count_by q es) *ℤ g
 each_total amount p q g f none = omega (arith, ints)
 each_total amount p q g f (more {x = e} {xs = es} {ys = us} {zs = vs} r d) =
-    total-append amount p us vs ∙ by (q e) (total_of amount p us) (total_of amount p vs) (count_by q (e ∷ es)) (count_by q es) (f e us here r) (each_total amount p q g (λ x ys i s. f x ys (there i) s) d) (sum_by-cons (λ x. cond (q x) 1 0) e es)
+    total-append amount p us vs ∙ by (q e) (total_of amount p us) (total_of amount p vs) (count_by q (e ∷ es))
+    (count_by q es) (f e us here r) (each_total amount p q g (λ x ys i s. f x ys (there i) s) d)
+    (sum_by-cons (λ x. cond (q x) 1 0) e es)
   where
     by : (b : Bool) (a z : ℤ) (m n : ℕ) → a ≡ cond b g (pos 0) → z ≡ pos n *ℤ g → m ≡ number b + n → a +ℤ z ≡ pos m *ℤ g
     by true a z m n h k l =
@@ -127,7 +137,10 @@ least hit t h = up t 0 (λ j l. absurd (omega arith)) h (omega arith)
 
 -- if some triangle's face has the place inside, what is written there is what the one owned
 -- region gives
-pub jump_at : {E W : Type 0} {R : E → List W → Type 0} (tri : E → ℕ) (has owned : E → Bool) (hit : ℕ → Bool) (amount : W → ℤ) (p : W → Bool) (g : ℤ) (es : List E) (ws : List W) → IsCovered tri has owned hit es → ((e : E) (us : List W) → In e es → R e us → total_of amount p us ≡ cond (has e && owned e) g (pos 0)) → Each R es ws → (t : ℕ) → hit t ≡ true → total_of amount p ws ≡ g
+pub jump_at : {E W : Type 0} {R : E → List W → Type 0} (tri : E → ℕ) (has owned : E → Bool) (hit : ℕ →
+    Bool) (amount : W → ℤ) (p : W → Bool) (g : ℤ) (es : List E) (ws : List W) → IsCovered tri has owned hit es →
+    ((e : E) (us : List W) → In e es → R e us → total_of amount p us ≡ cond (has e && owned e) g (pos 0)) → Each R es ws →
+    (t : ℕ) → hit t ≡ true → total_of amount p ws ≡ g
 jump_at tri has owned hit amount p g es ws c f r t h =
     let l = least hit t h in
     let e = one_owned tri has owned hit es c l.at l.is l.first in
@@ -137,7 +150,10 @@ jump_at tri has owned hit amount p g es ws c f r t h =
     one_time g = omega (arith, ints)
 
 -- and nothing if no triangle's face has
-pub still_at : {E W : Type 0} {R : E → List W → Type 0} (tri : E → ℕ) (has owned : E → Bool) (hit : ℕ → Bool) (amount : W → ℤ) (p : W → Bool) (g : ℤ) (es : List E) (ws : List W) → IsCovered tri has owned hit es → ((e : E) (us : List W) → In e es → R e us → total_of amount p us ≡ cond (has e && owned e) g (pos 0)) → Each R es ws → ((t : ℕ) → hit t ≡ false) → total_of amount p ws ≡ pos 0
+pub still_at : {E W : Type 0} {R : E → List W → Type 0} (tri : E → ℕ) (has owned : E → Bool) (hit : ℕ →
+    Bool) (amount : W → ℤ) (p : W → Bool) (g : ℤ) (es : List E) (ws : List W) → IsCovered tri has owned hit es →
+    ((e : E) (us : List W) → In e es → R e us → total_of amount p us ≡ cond (has e && owned e) g (pos 0)) → Each R es ws →
+    ((t : ℕ) → hit t ≡ false) → total_of amount p ws ≡ pos 0
 still_at tri has owned hit amount p g es ws c f r h =
     each_total amount p (λ e. has e && owned e) g f r ∙ ap (λ (n : ℕ). pos n *ℤ g) (none_owned tri has owned hit es c h) ∙ zero_times g
   where

@@ -43,7 +43,17 @@ entry_of scene cs es e r i =
     let g = giver e r i in let k = giver e g.gives g.among in
     let s = map_member_has_source (entry g.from k.from) k.gives.faces e (subst (λ l. In e l) k.gives.is k.among) in
     let p = member_splits_list k.gives.faces s.at s.member in
-    subst (IsOf scene cs) (sym s.is) (record { listed = g.member; below = in_range (length (near scene g.from)) k.from k.member; faces = k.gives.faces; are_regions = k.gives.are_regions; index = p.index; here = p.is; member = s.member })
+    subst (IsOf scene cs) (sym s.is) (record {
+      listed = g.member;
+      below =
+          in_range (length (near scene g.from)) k.from k.member;
+      faces = k.gives.faces;
+      are_regions =
+          k.gives.are_regions;
+      index = p.index;
+      here = p.is;
+      member = s.member;
+    })
 
 -- the support plane of a triangle's face is the triangle's
 pub support_is : (u : Tri) → (face_of u).support ≡ support_of u
@@ -66,7 +76,9 @@ module _ (scene : List Tri) (cs : List Cell) (v : Spot) (e : Entry) (o : IsOf sc
   -- the leaf holds the place
   holds : IsFairAt scene v e.cell → is_in_box e.cell v ≡ true
   holds fair =
-      by (is_in_box e.cell v) (is_inside (face_of t) v) (leaf_count e.cell ns e.tri v o.faces cut_out.normal (fair e.tri cut_out.normal) o.are_regions) (count_in (λ f. is_inside f v) o.faces e.face o.member has)
+      by (is_in_box e.cell v) (is_inside (face_of t) v)
+      (leaf_count e.cell ns e.tri v o.faces cut_out.normal (fair e.tri cut_out.normal) o.are_regions)
+      (count_in (λ f. is_inside f v) o.faces e.face o.member has)
     where
       by : {n : ℕ} (a b : Bool) → n ≡ number (a && b) → 0 < n → a ≡ true
       by true b h l = refl
@@ -74,12 +86,19 @@ module _ (scene : List Tri) (cs : List Cell) (v : Spot) (e : Entry) (o : IsOf sc
 
   hit_in : (j : ℕ) → j < length ns → is_flat (tri_at ns j) ≡ false → is_inside (face_of (tri_at ns j)) v ≡ true → has_inside ns j v ≡ true
   hit_in j l f i =
-      and_from (nat_lt j (length ns)) (not (is_flat (tri_at ns j)) && is_inside (face_of (tri_at ns j)) v) (lt-ltb j (length ns) l) (and_from (not (is_flat (tri_at ns j))) (is_inside (face_of (tri_at ns j)) v) (ap not f) i)
+      and_from (nat_lt j (length ns)) (not (is_flat (tri_at ns j)) && is_inside (face_of (tri_at ns j)) v)
+      (lt-ltb j (length ns) l) (and_from (not (is_flat (tri_at ns j))) (is_inside (face_of (tri_at ns j)) v)
+      (ap not f) i)
 
   -- the first triangle's region is owned
   pub owned : IsFairAt scene v e.cell → ((j : ℕ) → j < e.tri → is_hit_at scene cs v j ≡ false) → IsOwner ns e.tri e.face
   owned fair least =
-      record { first = λ j t' u l eu et c h. clash (any_in (λ d. is_in_box d v && has_inside (near scene d) j v) cs e.cell o.listed (and_from (is_in_box e.cell v) (has_inside ns j v) (holds fair) (there_too j u l eu (on_plane u t' c).normal_t (h.holds v has)))) (least j l) }
+      record {
+        first = λ j t' u l eu et c h. clash
+            (any_in (λ d. is_in_box d v && has_inside (near scene d) j v) cs e.cell o.listed
+            (and_from (is_in_box e.cell v) (has_inside ns j v) (holds fair)
+            (there_too j u l eu (on_plane u t' c).normal_t (h.holds v has)))) (least j l);
+      }
     where
       there_too : (j : ℕ) (u : Tri) → j < e.tri → slice_get ns j ≡ Some u → is_flat u ≡ false → is_inside (face_of u) v ≡ true → has_inside ns j v ≡ true
       there_too j u l eu f i =
@@ -96,8 +115,10 @@ module _ (scene : List Tri) (cs : List Cell) (v : Spot) (e : Entry) (o : IsOf sc
       shared n nf i =
           let u = tri_at ns j in
           let c = ⊎_elim (λ h. h) (λ h. absurd (cut_out.misses j n nf h v has (inside_closed (face_of u) v i))) (cases_Bool (is_coplanar t u)) in
-          let d = lies_flat u t (face_of u) v (support_is u) nf cut_out.normal i (record { holds = λ w g. shared_face t u w c (inside_closed (face_of u) w g) }) in
-          own.first j t u l (slice_get-get_or ns j no_tri n) (slice_get-get_or ns e.tri no_tri o.below) d (record { holds = λ w g. cut_out.shares j n c v w has (inside_closed (face_of u) v i) g })
+          let d = lies_flat u t (face_of u) v (support_is u) nf cut_out.normal i
+          (record { holds = λ w g. shared_face t u w c (inside_closed (face_of u) w g) }) in
+          own.first j t u l (slice_get-get_or ns j no_tri n) (slice_get-get_or ns e.tri no_tri o.below) d
+          (record { holds = λ w g. cut_out.shares j n c v w has (inside_closed (face_of u) v i) g })
 
       at : (d : Cell) → d ≡ e.cell → has_inside (near scene d) j v ≡ true → ⊥
       at d s h =

@@ -37,7 +37,8 @@ every_one : {X : Type 0} (xs : List X) → Every (λ x. Unit {0}) xs
 every_one [] = tt
 every_one (x ∷ xs) = (tt, every_one xs)
 
-of_region : (scene : List Tri) (x : Formula) (near : List Tri) (i : ℕ) (face : Face) (ks : List Kept) → IsWrittenOfRegion scene x near i face ks → Every IsFilled ks
+of_region : (scene : List Tri) (x : Formula) (near : List Tri) (i : ℕ) (face : Face) (ks : List Kept) →
+    IsWrittenOfRegion scene x near i face ks → Every IsFilled ks
 of_region scene x near i face ks (unowned n) = tt
 of_region scene x near i face ks (same_value s e) = tt
 of_region scene x near i face ks (written {before = a} {after = b} o s n) =
@@ -93,7 +94,9 @@ axes_agree : (scene : List Tri) (x : Formula) (fs : List Face) → HaveMeaning s
 axes_agree scene x fs m a b p w s c = m a a p w s c ∙ sym (m b a p w s c)
 
 -- the faces of the document that is written have the meaning, and are a closed surface
-pub document_reads : (scene : List Tri) (count : ℕ) (x : Formula) (ks : List Kept) (bytes : List ℕ) → IsScene scene count → IsWritten scene x ks → IsFalseOutside x → IsDocumentText (map written_face ks) bytes → ReadsWithMeaning scene x bytes
+pub document_reads : (scene : List Tri) (count : ℕ) (x : Formula) (ks : List Kept) (bytes : List ℕ) →
+    IsScene scene count → IsWritten scene x ks → IsFalseOutside x → IsDocumentText (map written_face ks) bytes →
+    ReadsWithMeaning scene x bytes
 document_reads scene count x ks bytes v w o d =
     let s = texts_read ks (written_regions_are_filled scene x ks w) d.are_texts in
     let m = same_meaning scene x (map written_face ks) (map face_from s.written) s.same (meaning_of_written scene count x ks v w o) in

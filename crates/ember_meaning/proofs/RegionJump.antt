@@ -13,7 +13,8 @@ abbrev pub written_amount : ℤ → Bool → ℤ
 written_amount a is_flipped = cond is_flipped (neg_ℤ (sign a)) (sign a)
 
 -- if the values on the two sides differ, the change of the value at the hit is the written region's amount
-pub written_jump : (a : ℤ) (ahead back : Bool) → is_zero a ≡ false → (ahead ≡ back → ⊥) → written_amount a ahead ≡ one_if (before_hit a ahead back) -ℤ one_if (after_hit a ahead back)
+pub written_jump : (a : ℤ) (ahead back : Bool) → is_zero a ≡ false → (ahead ≡ back → ⊥) →
+    written_amount a ahead ≡ one_if (before_hit a ahead back) -ℤ one_if (after_hit a ahead back)
 written_jump (pos zero) f b z n = absurd (false≢true (sym z))
 written_jump (pos (suc m)) true true z n = absurd (n refl)
 written_jump (pos (suc m)) true false z n = refl

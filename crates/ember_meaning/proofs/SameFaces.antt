@@ -29,7 +29,12 @@ same_crossing f g a p s =
 
 same_clear : (f g : Face) (p : Spot) → SamePoints f g → IsClear g p → IsClear f p
 same_clear f g p s c =
-    record { outside = s.closed p ∙ c.outside; rays = λ a m k positive ahead e. s.inside (moved (scaled m p) a k) ∙ c.rays a m k positive ahead (sym (s.closed (moved (scaled m p) a k)) ∙ e) }
+    record {
+      outside = s.closed p ∙ c.outside;
+      rays =
+          λ a m k positive ahead e. s.inside (moved (scaled m p) a k)
+          ∙ c.rays a m k positive ahead (sym (s.closed (moved (scaled m p) a k)) ∙ e);
+    }
 
 -- ---- lists of faces, one by one
 abbrev pub HaveSamePoints : List Face → List Face → Type 0

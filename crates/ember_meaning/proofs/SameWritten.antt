@@ -43,11 +43,14 @@ module _ (scene : List Tri) (x y : Formula) (agree : AgreeOver scene x y) where
   agree_beside : (f : Face) (before after : List ℤ) → IsSides scene f before after → (truth before x ≡ truth before y) × (truth after x ≡ truth after y)
   agree_beside f before after s =
       let k = main_axis f.support in let m = s.bound * 1 + 1 in let w = (inside_parts f s.at s.inside).0 in (
-        agree_seen k (moved (scaled (pos m) s.at) k (neg_ℤ (pos 1))) before (step_weight k s.at m (neg_ℤ (pos 1)) (omega arith) w) (s.sees_before 1 m (le_refl 1) (omega arith)),
+        agree_seen k (moved (scaled (pos m) s.at) k (neg_ℤ (pos 1))) before
+            (step_weight k s.at m (neg_ℤ (pos 1)) (omega arith) w) (s.sees_before 1 m (le_refl 1) (omega arith)),
         agree_seen k (moved (scaled (pos m) s.at) k (pos 1)) after (step_weight k s.at m (pos 1) (omega arith) w) (s.sees_after 1 m (le_refl 1) (omega arith)),
       )
 
-  agree_front : (f : Face) (before after : List ℤ) → (truth before x ≡ truth before y) × (truth after x ≡ truth after y) → truth (front f before after) x ≡ truth (front f before after) y
+  agree_front : (f : Face) (before after : List ℤ) →
+      (truth before x ≡ truth before y) × (truth after x ≡ truth after y) →
+      truth (front f before after) x ≡ truth (front f before after) y
   agree_front f before after s = by (is_positive (along f.support (main_axis f.support)))
     where
       by : (b : Bool) → truth (if b then after else before) x ≡ truth (if b then after else before) y
@@ -61,7 +64,9 @@ module _ (scene : List Tri) (x y : Formula) (agree : AgreeOver scene x y) where
       let g = agree_beside f b a s in same_value s (sym g.0 ∙ e ∙ g.1)
   same_region near i f ks (written {before = b} {after = a} o s n) =
       let g = agree_beside f b a s in
-      subst (λ (flipped : Bool). let k : Kept = record { tri = i; flipped = flipped; ring = f } in IsWrittenOfRegion scene y near i f (k ∷ [])) (sym (agree_front f b a g)) (written o s (λ e. n (g.0 ∙ e ∙ sym g.1)))
+      subst (λ (flipped : Bool). let k : Kept = record { tri = i; flipped = flipped; ring = f } in
+      IsWrittenOfRegion scene y near i f (k ∷ [])) (sym (agree_front f b a g))
+      (written o s (λ e. n (g.0 ∙ e ∙ sym g.1)))
 
   same_place : (c : Cell) (near : List Tri) (i : ℕ) (ks : List Kept) → IsWrittenOf scene x c near i ks → IsWrittenOf scene y c near i ks
   same_place c near i ks (regional r) =
@@ -70,7 +75,10 @@ module _ (scene : List Tri) (x y : Formula) (agree : AgreeOver scene x y) where
 
   same_beside : (v : Spot) (value : Bool) → pos 0 <ℤ v.w → IsBeside scene x v value → IsBeside scene y v value
   same_beside v value w b =
-      record { steps = λ k by. eventually_map (λ m h. λ clear a. sym (agree a (moved (scaled (pos m) v) k by) (h.0 k by) clear) ∙ h.1 clear a) (eventually_both heavy (b.steps k by)) }
+      record {
+        steps = λ k by. eventually_map (λ m h. λ clear a. sym
+            (agree a (moved (scaled (pos m) v) k by) (h.0 k by) clear) ∙ h.1 clear a) (eventually_both heavy (b.steps k by));
+      }
     where
       heavy : Eventually (λ m. (k : Axis) (by : ℤ) → pos 0 <ℤ (moved (scaled (pos m) v) k by).w)
       heavy = record { from = 1; holds = λ m l k by. step_weight k v m by l w }

@@ -1,6 +1,7 @@
 -- Directly before and after a hit the expression is as on the sides of a region that holds the
 -- place.
-use Rattle.std.proofs.Common.{◌≡◌, ◌≢◌, ℕ, zero, suc, ◌+◌, refl, ap, ◌∙◌, sym, subst, List, Bool, true, false, cond, ℤ, pos, negsuc, ◌*ℤ◌, neg_ℤ, ◌<ℤ◌, inl, inr, arith}
+use Rattle.std.proofs.Common.{◌≡◌, ◌≢◌, ℕ, zero, suc, ◌+◌, refl, ap, ◌∙◌, sym, subst, List, Bool, true, false, cond, ℤ}
+use Rattle.std.proofs.Common.{pos, negsuc, ◌*ℤ◌, neg_ℤ, ◌<ℤ◌, inl, inr, arith}
 use borrow.Author.Differences.{ints}
 use Rattle.ember_algebra.specs.Large.{Eventually}
 use Rattle.ember_algebra.specs.Sign.{is_positive, is_zero}
@@ -36,13 +37,17 @@ below_zero (negsuc n) z p = omega (arith, ints)
 
 -- ---- what is seen before and after, by the signs of the entries along the line and along the main
 -- axis
-told_before : (x : Formula) (p q : Bool) (w before after : List ℤ) → (p ≡ true → q ≡ true → w ≡ before) → (p ≡ true → q ≡ false → w ≡ after) → (p ≡ false → q ≡ true → w ≡ after) → (p ≡ false → q ≡ false → w ≡ before) → truth w x ≡ cond p (truth (cond q before after) x) (truth (cond q after before) x)
+told_before : (x : Formula) (p q : Bool) (w before after : List ℤ) → (p ≡ true → q ≡ true → w ≡ before) →
+    (p ≡ true → q ≡ false → w ≡ after) → (p ≡ false → q ≡ true → w ≡ after) → (p ≡ false → q ≡ false → w ≡ before) →
+    truth w x ≡ cond p (truth (cond q before after) x) (truth (cond q after before) x)
 told_before x true true w b a f g h k = ap (λ v. truth v x) (f refl refl)
 told_before x true false w b a f g h k = ap (λ v. truth v x) (g refl refl)
 told_before x false true w b a f g h k = ap (λ v. truth v x) (h refl refl)
 told_before x false false w b a f g h k = ap (λ v. truth v x) (k refl refl)
 
-module _ (ts : List Tri) (count : ℕ) (c : Cell) (scene : IsScene ts count) (f : Face) (r : IsRegion (near ts c) c f) (x : Formula) (before after : List ℤ) (sides : IsSides ts f before after) (v : Spot) (has : is_inside f v ≡ true) (k : Axis) (crosses : is_zero (along f.support k) ≡ false) where
+module _ (ts : List Tri) (count : ℕ) (c : Cell) (scene : IsScene ts count) (f : Face) (r : IsRegion (near ts c) c f)
+    (x : Formula) (before after : List ℤ) (sides : IsSides ts f before after) (v : Spot) (has : is_inside f v ≡ true)
+    (k : Axis) (crosses : is_zero (along f.support k) ≡ false) where
   abbrev t : Tri
   t = tri_at (near ts c) r.tri
 
@@ -83,11 +88,13 @@ module _ (ts : List Tri) (count : ℕ) (c : Cell) (scene : IsScene ts count) (f 
 
   is_before : (e : ℤ) (w : List ℤ) → Seen e w → Clears e → OneSign (e *ℤ s) (neg_ℤ (pos 1) *ℤ u) → w ≡ before
   is_before e w p q o =
-      agree e w before p q (sees_before ts (near ts c) count c scene refl f r before after sides v has k e (subst (λ (n : Plane). OneSign (e *ℤ along n k) (neg_ℤ (pos 1) *ℤ along n main)) cut_out.support o))
+      agree e w before p q (sees_before ts (near ts c) count c scene refl f r before after sides v has k e
+      (subst (λ (n : Plane). OneSign (e *ℤ along n k) (neg_ℤ (pos 1) *ℤ along n main)) cut_out.support o))
 
   is_after : (e : ℤ) (w : List ℤ) → Seen e w → Clears e → OneSign (e *ℤ s) (pos 1 *ℤ u) → w ≡ after
   is_after e w p q o =
-      agree e w after p q (sees_after ts (near ts c) count c scene refl f r before after sides v has k e (subst (λ (n : Plane). OneSign (e *ℤ along n k) (pos 1 *ℤ along n main)) cut_out.support o))
+      agree e w after p q (sees_after ts (near ts c) count c scene refl f r before after sides v has k e
+      (subst (λ (n : Plane). OneSign (e *ℤ along n k) (pos 1 *ℤ along n main)) cut_out.support o))
 
   up_s : is_positive s ≡ true → pos 0 <ℤ s
   up_s h = positive_out s h
@@ -101,10 +108,27 @@ module _ (ts : List Tri) (count : ℕ) (c : Cell) (scene : IsScene ts count) (f 
   down_u : is_positive u ≡ false → u <ℤ pos 0
   down_u h = below_zero u slope h
 
-  pub before_is : (w : List ℤ) → Seen (negsuc 0) w → Clears (negsuc 0) → truth w x ≡ before_hit s (truth (front f before after) x) (truth (behind f before after) x)
+  pub before_is : (w : List ℤ) → Seen (negsuc 0) w → Clears (negsuc 0) →
+      truth w x ≡ before_hit s (truth (front f before after) x) (truth (behind f before after) x)
   before_is w p q =
-      told_before x (is_positive s) (is_positive u) w before after (λ a b. is_before (negsuc 0) w p q (let c = up_s a in let d = up_u b in inr (omega (arith, linear, c), omega (arith, linear, d)))) (λ a b. is_after (negsuc 0) w p q (let c = up_s a in let d = down_u b in inr (omega (arith, linear, c), omega (arith, linear, d)))) (λ a b. is_after (negsuc 0) w p q (let c = down_s a in let d = up_u b in inl (omega (arith, linear, c), omega (arith, linear, d)))) (λ a b. is_before (negsuc 0) w p q (let c = down_s a in let d = down_u b in inl (omega (arith, linear, c), omega (arith, linear, d))))
+      told_before x (is_positive s) (is_positive u) w before after
+      (λ a b. is_before (negsuc 0) w p q (let c = up_s a in let d = up_u b in
+      inr (omega (arith, linear, c), omega (arith, linear, d))))
+      (λ a b. is_after (negsuc 0) w p q (let c = up_s a in let d = down_u b in
+      inr (omega (arith, linear, c), omega (arith, linear, d))))
+      (λ a b. is_after (negsuc 0) w p q (let c = down_s a in let d = up_u b in
+      inl (omega (arith, linear, c), omega (arith, linear, d))))
+      (λ a b. is_before (negsuc 0) w p q (let c = down_s a in let d = down_u b in
+      inl (omega (arith, linear, c), omega (arith, linear, d))))
 
   pub after_is : (w : List ℤ) → Seen (pos 1) w → Clears (pos 1) → truth w x ≡ after_hit s (truth (front f before after) x) (truth (behind f before after) x)
   after_is w p q =
-      told_before x (is_positive s) (is_positive u) w after before (λ a b. is_after (pos 1) w p q (let c = up_s a in let d = up_u b in inl (omega (arith, linear, c), omega (arith, linear, d)))) (λ a b. is_before (pos 1) w p q (let c = up_s a in let d = down_u b in inl (omega (arith, linear, c), omega (arith, linear, d)))) (λ a b. is_before (pos 1) w p q (let c = down_s a in let d = up_u b in inr (omega (arith, linear, c), omega (arith, linear, d)))) (λ a b. is_after (pos 1) w p q (let c = down_s a in let d = down_u b in inr (omega (arith, linear, c), omega (arith, linear, d))))
+      told_before x (is_positive s) (is_positive u) w after before
+      (λ a b. is_after (pos 1) w p q (let c = up_s a in let d = up_u b in
+      inl (omega (arith, linear, c), omega (arith, linear, d))))
+      (λ a b. is_before (pos 1) w p q (let c = up_s a in let d = down_u b in
+      inl (omega (arith, linear, c), omega (arith, linear, d))))
+      (λ a b. is_before (pos 1) w p q (let c = down_s a in let d = up_u b in
+      inr (omega (arith, linear, c), omega (arith, linear, d))))
+      (λ a b. is_after (pos 1) w p q (let c = down_s a in let d = down_u b in
+      inr (omega (arith, linear, c), omega (arith, linear, d))))

@@ -1,5 +1,6 @@
 -- The leaves of the full tree part a box: each point of the half-open box is in exactly one leaf's.
-use Rattle.std.proofs.Common.{◌≡◌, ℕ, zero, suc, pred, ◌+◌, ◌^◌, ◌<◌, refl, ap, ◌∙◌, List, ◌++◌, Bool, true, false, ◌&&◌, cond, ℤ, pos, ◌+ℤ◌, ◌*ℤ◌, ◌≤ℤ◌, ◌⊎◌, inl, inr, arith}
+use Rattle.std.proofs.Common.{◌≡◌, ℕ, zero, suc, pred, ◌+◌, ◌^◌, ◌<◌, refl, ap, ◌∙◌, List, ◌++◌, Bool, true, false}
+use Rattle.std.proofs.Common.{◌&&◌, cond, ℤ, pos, ◌+ℤ◌, ◌*ℤ◌, ◌≤ℤ◌, ◌⊎◌, inl, inr, arith}
 use borrow.Author.Differences.{ints}
 use Rattle.std.specs.Prelude.{int_le, int_lt}
 use Rattle.std.specs.List.{count_by}
@@ -44,7 +45,10 @@ both_right : (a p q r : Bool) → number p + number q ≡ number r → number (a
 both_right true p q r h = h
 both_right false p q r h = refl
 
-axis_halves : (l x w : ℤ) (n : ℕ) → 0 < n → pos 0 ≤ℤ w → number (is_between l (l +ℤ pos (2 ^ pred n)) x w) + number (is_between (l +ℤ pos (2 ^ pred n)) (l +ℤ pos (2 ^ pred n) +ℤ pos (2 ^ pred n)) x w) ≡ number (is_between l (l +ℤ pos (2 ^ n)) x w)
+axis_halves : (l x w : ℤ) (n : ℕ) → 0 < n → pos 0 ≤ℤ w →
+    number (is_between l (l +ℤ pos (2 ^ pred n)) x w)
+    + number (is_between (l +ℤ pos (2 ^ pred n)) (l +ℤ pos (2 ^ pred n) +ℤ pos (2 ^ pred n)) x w) ≡ number
+    (is_between l (l +ℤ pos (2 ^ n)) x w)
 axis_halves l x w n h p =
     at (2 ^ pred n) (2 ^ n) (double n h)
   where
@@ -53,22 +57,36 @@ axis_halves l x w n h p =
         let z : pos 0 ≤ℤ pos k = omega (arith, ints) in
         omega (arith, linear, nonneg_mul z p, solve 3 (λ a k w. (a ⊕ k) ⊗ w ≈ a ⊗ w ⊕ k ⊗ w) cancels a (pos k) w)
 
-    at : (m k : ℕ) → m + m ≡ k → number (is_between l (l +ℤ pos m) x w) + number (is_between (l +ℤ pos m) (l +ℤ pos m +ℤ pos m) x w) ≡ number (is_between l (l +ℤ pos k) x w)
+    at : (m k : ℕ) → m + m ≡ k → number (is_between l (l +ℤ pos m) x w)
+        + number (is_between (l +ℤ pos m) (l +ℤ pos m +ℤ pos m) x w) ≡ number (is_between l (l +ℤ pos k) x w)
     at m k e =
         let s : l +ℤ pos m +ℤ pos m ≡ l +ℤ pos k = omega (arith, ints) in
-        three_tests (l *ℤ w) ((l +ℤ pos m) *ℤ w) ((l +ℤ pos m +ℤ pos m) *ℤ w) x (more_of l m) (more_of (l +ℤ pos m) m) ∙ ap (λ (h : ℤ). number (is_between l h x w)) s
+        three_tests (l *ℤ w) ((l +ℤ pos m) *ℤ w) ((l +ℤ pos m +ℤ pos m) *ℤ w) x (more_of l m) (more_of (l +ℤ pos m) m)
+        ∙ ap (λ (h : ℤ). number (is_between l h x w)) s
 
-halves_count : (c : Cell) (k : Axis) (v : Spot) → pos 0 ≤ℤ v.w → 0 < c.log k → number (is_in_box (left_half c k) v) + number (is_in_box (right_half c k) v) ≡ number (is_in_box c v)
+halves_count : (c : Cell) (k : Axis) (v : Spot) → pos 0 ≤ℤ v.w → 0 < c.log k →
+    number (is_in_box (left_half c k) v) + number (is_in_box (right_half c k) v) ≡ number (is_in_box c v)
 halves_count c X v w h =
     both_left _ _ _ (is_between (low c Y) (high c Y) v.y v.w && is_between (low c Z) (high c Z) v.z v.w) (axis_halves c.lo.x v.x v.w (c.log X) h w)
 halves_count c Y v w h =
-    both_right (is_between (low c X) (high c X) v.x v.w) _ _ _ (both_left _ _ _ (is_between (low c Z) (high c Z) v.z v.w) (axis_halves c.lo.y v.y v.w (c.log Y) h w))
+    both_right (is_between (low c X) (high c X) v.x v.w) _ _ _
+    (both_left _ _ _ (is_between (low c Z) (high c Z) v.z v.w) (axis_halves c.lo.y v.y v.w (c.log Y) h w))
 halves_count c Z v w h =
-    both_right (is_between (low c X) (high c X) v.x v.w) _ _ _ (both_right (is_between (low c Y) (high c Y) v.y v.w) _ _ _ (axis_halves c.lo.z v.z v.w (c.log Z) h w))
+    both_right (is_between (low c X) (high c X) v.x v.w) _ _ _
+    (both_right (is_between (low c Y) (high c Y) v.y v.w) _ _ _ (axis_halves c.lo.z v.z v.w (c.log Z) h w))
 
-of_halves : (ts : List Tri) (n : ℕ) (c : Cell) (v : Spot) → pos 0 ≤ℤ v.w → ((d : Cell) → count_by (λ e. is_in_box e v) (leaves_within ts n d) ≡ number (is_in_box d v)) → (k : Axis) → 0 < c.log k → count_by (λ d. is_in_box d v) (leaves_within ts n (left_half c k) ++ leaves_within ts n (right_half c k)) ≡ number (is_in_box c v)
+of_halves : (ts : List Tri) (n : ℕ) (c : Cell) (v : Spot) → pos 0 ≤ℤ v.w →
+    ((d : Cell) → count_by (λ e. is_in_box e v) (leaves_within ts n d) ≡ number (is_in_box d v)) → (k : Axis) →
+    0 < c.log k → count_by (λ d. is_in_box d v) (leaves_within ts n (left_half c k)
+    ++ leaves_within ts n (right_half c k)) ≡ number (is_in_box c v)
 of_halves ts n c v w f k h =
-    sum_by-append (λ d. cond (is_in_box d v) 1 0) (leaves_within ts n (left_half c k)) (leaves_within ts n (right_half c k)) ∙ omega (arith, f (left_half c k), f (right_half c k), halves_count c k v w h)
+    sum_by-append (λ d. cond (is_in_box d v) 1 0) (leaves_within ts n (left_half c k))
+    (leaves_within ts n (right_half c k)) ∙ omega (
+      arith,
+      f (left_half c k),
+      f (right_half c k),
+      halves_count c k v w h,
+    )
 
 -- a point is in one leaf below a box that contains it, and otherwise in none
 pub leaves_count : (ts : List Tri) (n : ℕ) (c : Cell) (v : Spot) → pos 0 ≤ℤ v.w → count_by (λ d. is_in_box d v) (leaves_within ts n c) ≡ number (is_in_box c v)
@@ -76,6 +94,8 @@ leaves_count ts zero c v w = omega arith
 leaves_count ts (suc n) c v w =
     by (cases_Bool (is_leaf ts c)) (λ d. leaves_count ts n d v w)
   where
-    by : (is_leaf ts c ≡ true) ⊎ (is_leaf ts c ≡ false) → ((d : Cell) → count_by (λ e. is_in_box e v) (leaves_within ts n d) ≡ number (is_in_box d v)) → count_by (λ d. is_in_box d v) (leaves_within ts (suc n) c) ≡ number (is_in_box c v)
+    by : (is_leaf ts c ≡ true) ⊎ (is_leaf ts c ≡ false) →
+        ((d : Cell) → count_by (λ e. is_in_box e v) (leaves_within ts n d) ≡ number (is_in_box d v)) →
+        count_by (λ d. is_in_box d v) (leaves_within ts (suc n) c) ≡ number (is_in_box c v)
     by (inl e) f = rw (e, leaves_within) (omega arith)
     by (inr e) f = rw (e, leaves_within) (of_halves ts n c v w f (halving_axis ts c) (halvable_unless_leaf ts c e))

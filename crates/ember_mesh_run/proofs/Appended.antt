@@ -14,24 +14,33 @@ after4 a b c d x0 x1 x2 x3 e f g = after2 c d x2 x3 g ∙ after3 a b (c ++ d) x0
 after5 : (a b c d p x0 x1 x2 x3 x4 : List ℕ) → x1 ≡ x0 ++ a → x2 ≡ x1 ++ b → x3 ≡ x2 ++ c → x4 ≡ x3 ++ d → x4 ++ p ≡ x0 ++ (a ++ (b ++ (c ++ (d ++ p))))
 after5 a b c d p x0 x1 x2 x3 x4 e f g h = after2 d p x3 x4 h ∙ after4 a b c (d ++ p) x0 x1 x2 x3 e f g
 
-pub after7 : (a b c d p q r x0 x1 x2 x3 x4 x5 x6 : List ℕ) → x1 ≡ x0 ++ a → x2 ≡ x1 ++ b → x3 ≡ x2 ++ c → x4 ≡ x3 ++ d → x5 ≡ x4 ++ p → x6 ≡ x5 ++ q → x6 ++ r ≡ x0 ++ (a ++ (b ++ (c ++ (d ++ (p ++ (q ++ r))))))
+pub after7 : (a b c d p q r x0 x1 x2 x3 x4 x5 x6 : List ℕ) → x1 ≡ x0 ++ a → x2 ≡ x1 ++ b → x3 ≡ x2 ++ c → x4 ≡ x3 ++ d →
+    x5 ≡ x4 ++ p → x6 ≡ x5 ++ q → x6 ++ r ≡ x0 ++ (a ++ (b ++ (c ++ (d ++ (p ++ (q ++ r))))))
 after7 a b c d p q r x0 x1 x2 x3 x4 x5 x6 e f g h i j =
     after4 d p q r x3 x4 x5 x6 h i j ∙ after4 a b c (d ++ (p ++ (q ++ r))) x0 x1 x2 x3 e f g
 
-pub after8 : (a b c d p q r s x0 x1 x2 x3 x4 x5 x6 x7 : List ℕ) → x1 ≡ x0 ++ a → x2 ≡ x1 ++ b → x3 ≡ x2 ++ c → x4 ≡ x3 ++ d → x5 ≡ x4 ++ p → x6 ≡ x5 ++ q → x7 ≡ x6 ++ r → x7 ++ s ≡ x0 ++ (a ++ (b ++ (c ++ (d ++ (p ++ (q ++ (r ++ s)))))))
+pub after8 : (a b c d p q r s x0 x1 x2 x3 x4 x5 x6 x7 : List ℕ) → x1 ≡ x0 ++ a → x2 ≡ x1 ++ b → x3 ≡ x2 ++ c →
+    x4 ≡ x3 ++ d → x5 ≡ x4 ++ p → x6 ≡ x5 ++ q → x7 ≡ x6 ++ r →
+    x7 ++ s ≡ x0 ++ (a ++ (b ++ (c ++ (d ++ (p ++ (q ++ (r ++ s)))))))
 after8 a b c d p q r s x0 x1 x2 x3 x4 x5 x6 x7 e f g h i j k =
     after4 p q r s x4 x5 x6 x7 i j k ∙ after5 a b c d (p ++ (q ++ (r ++ s))) x0 x1 x2 x3 x4 e f g h
 
-pub after9 : (a b c d p q r s t x0 x1 x2 x3 x4 x5 x6 x7 x8 : List ℕ) → x1 ≡ x0 ++ a → x2 ≡ x1 ++ b → x3 ≡ x2 ++ c → x4 ≡ x3 ++ d → x5 ≡ x4 ++ p → x6 ≡ x5 ++ q → x7 ≡ x6 ++ r → x8 ≡ x7 ++ s → x8 ++ t ≡ x0 ++ (a ++ (b ++ (c ++ (d ++ (p ++ (q ++ (r ++ (s ++ t))))))))
+pub after9 : (a b c d p q r s t x0 x1 x2 x3 x4 x5 x6 x7 x8 : List ℕ) → x1 ≡ x0 ++ a → x2 ≡ x1 ++ b → x3 ≡ x2 ++ c →
+    x4 ≡ x3 ++ d → x5 ≡ x4 ++ p → x6 ≡ x5 ++ q → x7 ≡ x6 ++ r → x8 ≡ x7 ++ s →
+    x8 ++ t ≡ x0 ++ (a ++ (b ++ (c ++ (d ++ (p ++ (q ++ (r ++ (s ++ t))))))))
 after9 a b c d p q r s t x0 x1 x2 x3 x4 x5 x6 x7 x8 e f g h i j k l =
     after5 p q r s t x4 x5 x6 x7 x8 i j k l ∙ after5 a b c d (p ++ (q ++ (r ++ (s ++ t)))) x0 x1 x2 x3 x4 e f g h
 
-pub after10 : (a b c d p q r s t u x0 x1 x2 x3 x4 x5 x6 x7 x8 x9 : List ℕ) → x1 ≡ x0 ++ a → x2 ≡ x1 ++ b → x3 ≡ x2 ++ c → x4 ≡ x3 ++ d → x5 ≡ x4 ++ p → x6 ≡ x5 ++ q → x7 ≡ x6 ++ r → x8 ≡ x7 ++ s → x9 ≡ x8 ++ t → x9 ++ u ≡ x0 ++ (a ++ (b ++ (c ++ (d ++ (p ++ (q ++ (r ++ (s ++ (t ++ u)))))))))
+pub after10 : (a b c d p q r s t u x0 x1 x2 x3 x4 x5 x6 x7 x8 x9 : List ℕ) → x1 ≡ x0 ++ a → x2 ≡ x1 ++ b →
+    x3 ≡ x2 ++ c → x4 ≡ x3 ++ d → x5 ≡ x4 ++ p → x6 ≡ x5 ++ q → x7 ≡ x6 ++ r → x8 ≡ x7 ++ s → x9 ≡ x8 ++ t →
+    x9 ++ u ≡ x0 ++ (a ++ (b ++ (c ++ (d ++ (p ++ (q ++ (r ++ (s ++ (t ++ u)))))))))
 after10 a b c d p q r s t u x0 x1 x2 x3 x4 x5 x6 x7 x8 x9 e f g h i j k l m =
     after7 d p q r s t u x3 x4 x5 x6 x7 x8 x9 h i j k l m
     ∙ after4 a b c (d ++ (p ++ (q ++ (r ++ (s ++ (t ++ u)))))) x0 x1 x2 x3 e f g
 
-pub after11 : (a b c d p q r s t u v x0 x1 x2 x3 x4 x5 x6 x7 x8 x9 y : List ℕ) → x1 ≡ x0 ++ a → x2 ≡ x1 ++ b → x3 ≡ x2 ++ c → x4 ≡ x3 ++ d → x5 ≡ x4 ++ p → x6 ≡ x5 ++ q → x7 ≡ x6 ++ r → x8 ≡ x7 ++ s → x9 ≡ x8 ++ t → y ≡ x9 ++ u → y ++ v ≡ x0 ++ (a ++ (b ++ (c ++ (d ++ (p ++ (q ++ (r ++ (s ++ (t ++ (u ++ v))))))))))
+pub after11 : (a b c d p q r s t u v x0 x1 x2 x3 x4 x5 x6 x7 x8 x9 y : List ℕ) → x1 ≡ x0 ++ a → x2 ≡ x1 ++ b →
+    x3 ≡ x2 ++ c → x4 ≡ x3 ++ d → x5 ≡ x4 ++ p → x6 ≡ x5 ++ q → x7 ≡ x6 ++ r → x8 ≡ x7 ++ s → x9 ≡ x8 ++ t → y ≡ x9 ++ u →
+    y ++ v ≡ x0 ++ (a ++ (b ++ (c ++ (d ++ (p ++ (q ++ (r ++ (s ++ (t ++ (u ++ v))))))))))
 after11 a b c d p q r s t u v x0 x1 x2 x3 x4 x5 x6 x7 x8 x9 y e f g h i j k l m n =
     after7 p q r s t u v x4 x5 x6 x7 x8 x9 y i j k l m n
     ∙ after5 a b c d (p ++ (q ++ (r ++ (s ++ (t ++ (u ++ v)))))) x0 x1 x2 x3 x4 e f g h

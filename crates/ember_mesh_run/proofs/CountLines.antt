@@ -6,7 +6,10 @@ use Rattle.ember_scene.specs.declared.counts.Counts.{Counts}
 use Rattle.ember_mesh_run.specs.Reports.{counts_line, counts_lines, first_move}
 
 -- the line of a file comes before those of the files after it
-first_line : (names : List (List ℕ)) (counts : List Counts) (moves : List Length) (i f : ℕ) (name : List ℕ) (c : Counts) → i < length names → name ≡ get_or names i name → f < length counts → c ≡ get_or counts f c → counts_lines (drop i names) (drop f counts) (drop f moves) ≡ counts_line name c (first_move (drop f moves)) ++ counts_lines (drop (i + 1) names) (drop (f + 1) counts) (drop (f + 1) moves)
+first_line : (names : List (List ℕ)) (counts : List Counts) (moves : List Length) (i f : ℕ) (name : List ℕ) (c : Counts)
+    → i < length names → name ≡ get_or names i name → f < length counts → c ≡ get_or counts f c →
+    counts_lines (drop i names) (drop f counts) (drop f moves) ≡ counts_line name c (first_move (drop f moves))
+    ++ counts_lines (drop (i + 1) names) (drop (f + 1) counts) (drop (f + 1) moves)
 first_line names counts moves i f name c inside is there found =
     let next_name : suc i ≡ i + 1 = omega arith in
     let next_count : suc f ≡ f + 1 = omega arith in
@@ -20,7 +23,11 @@ first_line names counts moves i f name c inside is there found =
     ∙ ap (λ (ms : List Length). counts_line name c (first_move (drop f moves)) ++ counts_lines (drop (i + 1) names) (drop (f + 1) counts) ms) later
 
 -- so all lines are still those that are written and those to come
-pub one_line_more : (names : List (List ℕ)) (counts : List Counts) (moves : List Length) (i f : ℕ) (name : List ℕ) (c : Counts) (moved : Rounded) (all old new : List ℕ) → i < length names → name ≡ get_or names i name → f < length counts → c ≡ get_or counts f c → moved ≡ first_move (drop f moves) → all ≡ old ++ counts_lines (drop i names) (drop f counts) (drop f moves) → new ≡ old ++ counts_line name c moved → all ≡ new ++ counts_lines (drop (i + 1) names) (drop (f + 1) counts) (drop (f + 1) moves)
+pub one_line_more : (names : List (List ℕ)) (counts : List Counts) (moves : List Length) (i f : ℕ) (name : List ℕ)
+    (c : Counts) (moved : Rounded) (all old new : List ℕ) → i < length names → name ≡ get_or names i name →
+    f < length counts → c ≡ get_or counts f c → moved ≡ first_move (drop f moves) →
+    all ≡ old ++ counts_lines (drop i names) (drop f counts) (drop f moves) → new ≡ old ++ counts_line name c moved →
+    all ≡ new ++ counts_lines (drop (i + 1) names) (drop (f + 1) counts) (drop (f + 1) moves)
 one_line_more names counts moves i f name c moved all old new inside is there found first before put =
     let rest = counts_lines (drop (i + 1) names) (drop (f + 1) counts) (drop (f + 1) moves) in
     let said = put ∙ ap (λ (r : Rounded). old ++ counts_line name c r) first in

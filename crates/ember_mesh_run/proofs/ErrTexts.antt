@@ -13,7 +13,9 @@ whole_prefix : (old new : Option (List ℕ)) (text : List ℕ) → Appends old n
 whole_prefix old new text h = (text, [], sym (append-nil text), h)
 
 -- what writing a text to a sink leaves
-pub text_is_taken : {X E : Type 0} (sink : SinkCall) (text : List ℕ) (result : Result X E) → HasCause sink.faults sink.faults_after result → OnOk result (Appends sink.taken sink.taken_after text) → OnErr result (AppendsPrefix sink.taken sink.taken_after text) → TakesUntilFault sink text
+pub text_is_taken : {X E : Type 0} (sink : SinkCall) (text : List ℕ) (result : Result X E) →
+    HasCause sink.faults sink.faults_after result → OnOk result (Appends sink.taken sink.taken_after text) →
+    OnErr result (AppendsPrefix sink.taken sink.taken_after text) → TakesUntilFault sink text
 text_is_taken sink text (Ok x) cause taken prefix =
     record { later = cause.later; prefix = whole_prefix sink.taken sink.taken_after text taken; whole = λ calm. taken }
 text_is_taken sink text (Err e) cause taken prefix =

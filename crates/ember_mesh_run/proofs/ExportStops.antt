@@ -16,17 +16,25 @@ use Rattle.ember_tables.specs.declared.fault.TableFault.TheVariants as table
 use Rattle.ember_triangles.specs.declared.fault.TrianglesFault.TheVariants as mesh
 use Rattle.ember_mesh_run.specs.Asked.{format_asked}
 use Rattle.ember_mesh_run.specs.Calls.{ShelfCall}
-use Rattle.ember_mesh_run.specs.Exports.{IsExportStop, IsFileLong, IsFileUnread, IsGridGiven, IsNoGrid, IsScene, IsSceneFile, IsUnreadFile, document_index, index_behind, names_read, unit_grid, with_document}
+use Rattle.ember_mesh_run.specs.Exports.{IsExportStop, IsFileLong, IsFileUnread, IsGridGiven, IsNoGrid, IsScene}
+use Rattle.ember_mesh_run.specs.Exports.{IsSceneFile, IsUnreadFile, document_index, index_behind, names_read, unit_grid}
+use Rattle.ember_mesh_run.specs.Exports.{with_document}
 use Rattle.ember_mesh_run.specs.Files.{AreBytes, IsFileIn}
 use Rattle.ember_mesh_run.specs.Lines.{name_of}
 use Rattle.ember_mesh_run.specs.Memory.{hides_memory}
 use Rattle.ember_mesh_run.specs.Statuses.{status_of_document}
 use Rattle.ember_mesh_run.specs.declared.status.Status.{Status}
-use Rattle.ember_mesh_run.specs.declared.status.Status.TheVariants.{Done, Words, StepOfNoGrid, ReadFault, WriteFault, NotWritten, FileRefused, NoTriangles, NotAScene, NotClosed, ExprRefused, Unbounded, LongFile, TooManyTriangles, TooManyWritten, StepTooSmall, TooFar, DocumentRefused, OutOfMemory, Uncertified}
+use Rattle.ember_mesh_run.specs.declared.status.Status.TheVariants.{Done, Words, StepOfNoGrid, ReadFault, WriteFault}
+use Rattle.ember_mesh_run.specs.declared.status.Status.TheVariants.{NotWritten, FileRefused, NoTriangles, NotAScene}
+use Rattle.ember_mesh_run.specs.declared.status.Status.TheVariants.{NotClosed, ExprRefused, Unbounded, LongFile}
+use Rattle.ember_mesh_run.specs.declared.status.Status.TheVariants.{TooManyTriangles, TooManyWritten, StepTooSmall}
+use Rattle.ember_mesh_run.specs.declared.status.Status.TheVariants.{TooFar, DocumentRefused, OutOfMemory, Uncertified}
 
 -- ---- a file that isn't read
 -- what is seen of a later part of a call is seen of the whole of it
-pub unread_since : (name : List ℕ) (number : ℕ) (late whole : ShelfCall) (status : Status) → late.told ≡ whole.told → whole.faults ≤ late.faults → late.faults_after ≡ whole.faults_after → late.fault_at ≡ whole.fault_at → IsUnreadFile name number late status → IsUnreadFile name number whole status
+pub unread_since : (name : List ℕ) (number : ℕ) (late whole : ShelfCall) (status : Status) → late.told ≡ whole.told →
+    whole.faults ≤ late.faults → late.faults_after ≡ whole.faults_after → late.fault_at ≡ whole.fault_at →
+    IsUnreadFile name number late status → IsUnreadFile name number whole status
 unread_since name number late whole Done told before after at h = absurd h
 unread_since name number late whole (Words refusal) told before after at h = absurd h
 unread_since name number late whole StepOfNoGrid told before after at h = absurd h
@@ -39,7 +47,8 @@ unread_since name number late whole NotAScene told before after at h = absurd h
 unread_since name number late whole (NotClosed o format) told before after at h = absurd h
 unread_since name number late whole (ExprRefused fault) told before after at h = absurd h
 unread_since name number late whole Unbounded told before after at h = absurd h
-unread_since name number late whole (LongFile i) told before after at h = (h.0, subst (λ (told : List ℕ → Option (List ℕ)). TellsMore (told name) 268435456) told h.1)
+unread_since name number late whole (LongFile i) told before after at h =
+    (h.0, subst (λ (told : List ℕ → Option (List ℕ)). TellsMore (told name) 268435456) told h.1)
 unread_since name number late whole (TooManyTriangles count) told before after at h = absurd h
 unread_since name number late whole TooManyWritten told before after at h = absurd h
 unread_since name number late whole (StepTooSmall extent) told before after at h = absurd h
@@ -49,7 +58,10 @@ unread_since name number late whole OutOfMemory told before after at h = tt
 unread_since name number late whole (Uncertified fault) told before after at h = absurd h
 
 -- file i isn't read, and those before it are scenes
-unread_stop : (request : ExportRequest) (shelf : ShelfCall) (name : List ℕ) (i : ℕ) (status : Status) → IsFileIn (names_read request) i → name_of (names_read request) i ≡ name → All (IsScene shelf.told) (take (i - 1) (names_read request)) → IsUnreadFile name i shelf status → IsExportStop request shelf status
+unread_stop : (request : ExportRequest) (shelf : ShelfCall) (name : List ℕ) (i : ℕ) (status : Status) →
+    IsFileIn (names_read request) i → name_of (names_read request) i ≡ name →
+    All (IsScene shelf.told) (take (i - 1) (names_read request)) → IsUnreadFile name i shelf status →
+    IsExportStop request shelf status
 unread_stop request shelf name i Done one named before h = absurd h
 unread_stop request shelf name i (Words refusal) one named before h = absurd h
 unread_stop request shelf name i StepOfNoGrid one named before h = absurd h
@@ -74,32 +86,43 @@ unread_stop request shelf name i (DocumentRefused fault) one named before h = ab
 unread_stop request shelf name i OutOfMemory one named before h = tt
 unread_stop request shelf name i (Uncertified fault) one named before h = absurd h
 
-scene_is_first : (document name : List ℕ) (scene : Option (List ℕ)) → scene ≡ Some name → IsFileIn (with_document scene document) 1 × (name_of (with_document scene document) 1 ≡ name)
+scene_is_first : (document name : List ℕ) (scene : Option (List ℕ)) → scene ≡ Some name →
+    IsFileIn (with_document scene document) 1 × (name_of (with_document scene document) 1 ≡ name)
 scene_is_first document name scene e =
-    subst (λ (s : Option (List ℕ)). IsFileIn (with_document s document) 1 × (name_of (with_document s document) 1 ≡ name)) (sym e) (record { first = omega arith; last = omega arith }, refl)
+    subst (λ (s : Option (List ℕ)). IsFileIn (with_document s document) 1 ×
+    (name_of (with_document s document) 1 ≡ name)) (sym e) (record { first = omega arith; last = omega arith }, refl)
 
 -- the scene that is named isn't read
-pub scene_stop : (request : ExportRequest) (shelf : ShelfCall) (name : List ℕ) (status : Status) → request.scene ≡ Some name → IsUnreadFile name 1 shelf status → IsExportStop request shelf status
+pub scene_stop : (request : ExportRequest) (shelf : ShelfCall) (name : List ℕ) (status : Status) →
+    request.scene ≡ Some name → IsUnreadFile name 1 shelf status → IsExportStop request shelf status
 scene_stop request shelf name status e h =
     let is = scene_is_first request.document name request.scene e in
     unread_stop request shelf name 1 status is.0 is.1 (All-nil (IsScene shelf.told)) h
 
-document_is_last : (document : List ℕ) (scene : Option (List ℕ)) → IsFileIn (with_document scene document) (index_behind scene) × (name_of (with_document scene document) (index_behind scene) ≡ document)
+document_is_last : (document : List ℕ) (scene : Option (List ℕ)) →
+    IsFileIn (with_document scene document) (index_behind scene) ×
+    (name_of (with_document scene document) (index_behind scene) ≡ document)
 document_is_last document None = (record { first = omega arith; last = omega arith }, refl)
 document_is_last document (Some scene) = (record { first = omega arith; last = omega arith }, refl)
 
-scenes_are_before : (told : List ℕ → Option (List ℕ)) (document : List ℕ) (scene : Option (List ℕ)) (grid : Grid) → MatchOption scene (grid ≡ unit_grid) (λ name. IsSceneFile told name grid) → All (IsScene told) (take (index_behind scene - 1) (with_document scene document))
+scenes_are_before : (told : List ℕ → Option (List ℕ)) (document : List ℕ) (scene : Option (List ℕ)) (grid : Grid) →
+    MatchOption scene (grid ≡ unit_grid) (λ name. IsSceneFile told name grid) →
+    All (IsScene told) (take (index_behind scene - 1) (with_document scene document))
 scenes_are_before told document None grid h = All-nil (IsScene told)
 scenes_are_before told document (Some scene) grid h = All-cons (IsScene told) scene [] (grid, h) (All-nil (IsScene told))
 
 -- the document isn't read, but the scene is
-pub document_unread_stop : (request : ExportRequest) (shelf : ShelfCall) (grid : Grid) (status : Status) → IsGridGiven request shelf.told grid → IsUnreadFile request.document (document_index request) shelf status → IsExportStop request shelf status
+pub document_unread_stop : (request : ExportRequest) (shelf : ShelfCall) (grid : Grid) (status : Status) →
+    IsGridGiven request shelf.told grid → IsUnreadFile request.document (document_index request) shelf status →
+    IsExportStop request shelf status
 document_unread_stop request shelf grid status given h =
     let is = document_is_last request.document request.scene in
-    unread_stop request shelf request.document (document_index request) status is.0 is.1 (scenes_are_before shelf.told request.document request.scene grid given) h
+    unread_stop request shelf request.document (document_index request) status is.0 is.1
+    (scenes_are_before shelf.told request.document request.scene grid given) h
 
 -- ---- a scene without a grid
-pub grid_stop : (request : ExportRequest) (shelf : ShelfCall) (name bytes : List ℕ) (status : Status) → request.scene ≡ Some name → AreBytes shelf.told name bytes → IsNoGrid bytes status → IsExportStop request shelf status
+pub grid_stop : (request : ExportRequest) (shelf : ShelfCall) (name bytes : List ℕ) (status : Status) →
+    request.scene ≡ Some name → AreBytes shelf.told name bytes → IsNoGrid bytes status → IsExportStop request shelf status
 grid_stop request shelf name bytes Done e are h = absurd h
 grid_stop request shelf name bytes (Words refusal) e are h = absurd h
 grid_stop request shelf name bytes StepOfNoGrid e are h = absurd h
@@ -122,7 +145,10 @@ grid_stop request shelf name bytes OutOfMemory e are h = tt
 grid_stop request shelf name bytes (Uncertified fault) e are h = absurd h
 
 -- ---- a document without a file
-pub document_stop : (request : ExportRequest) (shelf : ShelfCall) (grid : Grid) (bytes : List ℕ) (fault : DocumentFileFault) → IsGridGiven request shelf.told grid → AreBytes shelf.told request.document bytes → IsDocumentFileFault bytes grid (format_asked request.format request.digits) fault → IsExportStop request shelf (status_of_document fault)
+pub document_stop : (request : ExportRequest) (shelf : ShelfCall) (grid : Grid) (bytes : List ℕ)
+    (fault : DocumentFileFault) → IsGridGiven request shelf.told grid → AreBytes shelf.told request.document bytes →
+    IsDocumentFileFault bytes grid (format_asked request.format request.digits) fault →
+    IsExportStop request shelf (status_of_document fault)
 document_stop request shelf grid bytes (file.Document fault) given are h = record { grid = grid; grid_is = given; bytes = bytes; are_bytes = are; is_fault = h }
 document_stop request shelf grid bytes file.TooFar given are h = record { grid = grid; grid_is = given; bytes = bytes; are_bytes = are; is_fault = h }
 document_stop request shelf grid bytes file.TooManyTriangles given are h = record { grid = grid; grid_is = given; bytes = bytes; are_bytes = are; is_fault = h }

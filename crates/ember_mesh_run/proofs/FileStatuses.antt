@@ -25,7 +25,11 @@ use Rattle.ember_mesh_run.specs.Lines.{name_of}
 use Rattle.ember_mesh_run.specs.Statuses.{HasReason, IsStatusOf, NamesFile}
 use Rattle.ember_mesh_run.proofs.ToldFiles.{file_up_to, files_are_as_many, files_up_to}
 use Rattle.ember_mesh_run.specs.declared.status.Status.{Status}
-use Rattle.ember_mesh_run.specs.declared.status.Status.TheVariants.{Done, Words, StepOfNoGrid, ReadFault, WriteFault, NotWritten, FileRefused, NoTriangles, NotAScene, NotClosed, ExprRefused, Unbounded, LongFile, TooManyTriangles, TooManyWritten, StepTooSmall, TooFar, DocumentRefused, OutOfMemory, Uncertified}
+use Rattle.ember_mesh_run.specs.declared.status.Status.TheVariants.{Done, Words, StepOfNoGrid, ReadFault, WriteFault}
+use Rattle.ember_mesh_run.specs.declared.status.Status.TheVariants.{NotWritten, FileRefused, NoTriangles, NotAScene}
+use Rattle.ember_mesh_run.specs.declared.status.Status.TheVariants.{NotClosed, ExprRefused, Unbounded, LongFile}
+use Rattle.ember_mesh_run.specs.declared.status.Status.TheVariants.{TooManyTriangles, TooManyWritten, StepTooSmall}
+use Rattle.ember_mesh_run.specs.declared.status.Status.TheVariants.{TooFar, DocumentRefused, OutOfMemory, Uncertified}
 
 -- the files before one that can't be read are read
 pub read_before : (told : List ℕ → Option (List ℕ)) (names : List (List ℕ)) (n : ℕ) → AreRead told (take n names) → AreRead told (take (n + 1 - 1) names)
@@ -55,14 +59,21 @@ refusal_is_cause names shelf (DocumentRefused fault) h = absurd h
 refusal_is_cause names shelf OutOfMemory h = tt
 refusal_is_cause names shelf (Uncertified fault) h = absurd h
 
-ended : (names : List (List ℕ)) (shelf : ShelfCall) (i : ℕ) (end : ReadEnd) → IsFileIn names i → AreRead shelf.told (take (i - 1) names) → (end ≡ read.ReadFault → HasShelfFailed shelf × (shelf.fault_at ≡ i)) → ((count : ℕ) → end ≡ read.TooLong count → TellsMore (shelf.told (name_of names i)) 268435456) → IsReadingCause names shelf (end_status i end)
+ended : (names : List (List ℕ)) (shelf : ShelfCall) (i : ℕ) (end : ReadEnd) → IsFileIn names i →
+    AreRead shelf.told (take (i - 1) names) → (end ≡ read.ReadFault → HasShelfFailed shelf × (shelf.fault_at ≡ i)) →
+    ((count : ℕ) → end ≡ read.TooLong count → TellsMore (shelf.told (name_of names i)) 268435456) →
+    IsReadingCause names shelf (end_status i end)
 ended names shelf i read.ReadFault one before failed long =
     let f = failed refl in record { one_of = one; failed = f.0; place = f.1; before = before }
 ended names shelf i (read.TooLong count) one before failed long = record { one_of = one; long = long count refl; before = before }
 ended names shelf i read.OutOfMemory one before failed long = tt
 
 -- why reading ended at file i is why not all files are read
-pub end_is_cause : (names : List (List ℕ)) (shelf : ShelfCall) (i : ℕ) (end : ReadEnd) (status : Status) → IsFileIn names i → IsEndAt shelf.told names i end status → (end ≡ read.ReadFault → HasShelfFailed shelf × (shelf.fault_at ≡ i)) → ((count : ℕ) → end ≡ read.TooLong count → TellsMore (shelf.told (name_of names i)) 268435456) → IsReadingCause names shelf status
+pub end_is_cause : (names : List (List ℕ)) (shelf : ShelfCall) (i : ℕ) (end : ReadEnd) (status : Status) →
+    IsFileIn names i → IsEndAt shelf.told names i end status →
+    (end ≡ read.ReadFault → HasShelfFailed shelf × (shelf.fault_at ≡ i)) →
+    ((count : ℕ) → end ≡ read.TooLong count → TellsMore (shelf.told (name_of names i)) 268435456) →
+    IsReadingCause names shelf status
 end_is_cause names shelf i end status one (inl h) failed long = refusal_is_cause names shelf status h
 end_is_cause names shelf i end status one (inr h) failed long =
     subst (λ (s : Status). IsReadingCause names shelf s) (sym h.0) (ended names shelf i end one h.1 failed long)
@@ -95,7 +106,8 @@ unplaced_file_is_there files wanted boolean.TooManyTriangles h = absurd h
 unplaced_file_is_there files wanted boolean.OutOfMemory h = tt
 
 -- a file that has a fault is one of the files
-pub faulty_file_is_there : (files : List MeshFile) (formula : Formula) (wanted : WantedFile) (fault : BooleanFault) → IsBooleanFault files formula wanted fault → NamesFile files fault
+pub faulty_file_is_there : (files : List MeshFile) (formula : Formula) (wanted : WantedFile) (fault : BooleanFault) →
+    IsBooleanFault files formula wanted fault → NamesFile files fault
 faulty_file_is_there files formula wanted (boolean.File index fault) h = unplaced_file_is_there files wanted.grid (boolean.File index fault) h
 faulty_file_is_there files formula wanted (boolean.Scene fault) h = unplaced_file_is_there files wanted.grid (boolean.Scene fault) h
 faulty_file_is_there files formula wanted (boolean.Solid fault) h = tt
@@ -106,7 +118,8 @@ faulty_file_is_there files formula wanted boolean.OutOfMemory h = tt
 -- ---- faults and statuses
 module _ (told : List ℕ → Option (List ℕ)) (names : List (List ℕ)) (files : List MeshFile) (are : AreFiles told names files) where
   -- the first file that is refused
-  refused_first : (index : ℕ) (fault : FileFault) (reason : List ℕ) → IsFirstUnread files index fault → HasReason files index fault reason → IsRefused told names (index + 1) reason
+  refused_first : (index : ℕ) (fault : FileFault) (reason : List ℕ) → IsFirstUnread files index fault →
+      HasReason files index fault reason → IsRefused told names (index + 1) reason
   refused_first index fault reason first says =
       let up = take (index + 1) files in
       let inside = slice_get_within files index first.file first.found in
@@ -146,15 +159,22 @@ module _ (told : List ℕ → Option (List ℕ)) (names : List (List ℕ)) (file
   refusal_caused boolean.OutOfMemory status h e = subst (λ (s : Status). IsRefusalCause told names s) (sym e) tt
 
   -- the status of files that aren't put on the grid
-  pub placing_caused : (wanted : Wanted) (fault : BooleanFault) (status : Status) → IsPlacingFault files wanted fault → IsStatusOf files fault status → IsPlacingCause told names wanted status
+  pub placing_caused : (wanted : Wanted) (fault : BooleanFault) (status : Status) → IsPlacingFault files wanted fault →
+      IsStatusOf files fault status → IsPlacingCause told names wanted status
   placing_caused wanted (boolean.File index fault) status h (inl r) =
       subst (λ (s : Status). IsPlacingCause told names wanted s) (sym r.1) (refused_first index fault (string_bytes r.0) h r.2)
   placing_caused wanted (boolean.File index fault) status h (inr e) = subst (λ (s : Status). IsPlacingCause told names wanted s) (sym e) tt
-  placing_caused wanted (boolean.Scene scene.NoTriangles) status h e = subst (λ (s : Status). IsPlacingCause told names wanted s) (sym e) (record { files = files; are_files = are; is_fault = h })
-  placing_caused wanted (boolean.Scene (scene.StepTooSmall extent)) status h e = subst (λ (s : Status). IsPlacingCause told names wanted s) (sym e) (record { files = files; are_files = are; is_fault = h })
+  placing_caused wanted (boolean.Scene scene.NoTriangles) status h e =
+      subst (λ (s : Status). IsPlacingCause told names wanted s) (sym e)
+      (record { files = files; are_files = are; is_fault = h })
+  placing_caused wanted (boolean.Scene (scene.StepTooSmall extent)) status h e =
+      subst (λ (s : Status). IsPlacingCause told names wanted s) (sym e)
+      (record { files = files; are_files = are; is_fault = h })
   placing_caused wanted (boolean.Scene (scene.Open o)) status h s =
       subst (λ (s : Status). IsPlacingCause told names wanted s) (sym s.1) (record { files = files; are_files = are; is_fault = h; format_is = s.2 })
-  placing_caused wanted (boolean.Scene (scene.TooManyTriangles count)) status h e = subst (λ (s : Status). IsPlacingCause told names wanted s) (sym e) (record { files = files; are_files = are; is_fault = h })
+  placing_caused wanted (boolean.Scene (scene.TooManyTriangles count)) status h e =
+      subst (λ (s : Status). IsPlacingCause told names wanted s) (sym e)
+      (record { files = files; are_files = are; is_fault = h })
   placing_caused wanted (boolean.Scene scene.OutOfMemory) status h e = subst (λ (s : Status). IsPlacingCause told names wanted s) (sym e) tt
   placing_caused wanted (boolean.Solid fault) status h e = absurd h
   placing_caused wanted boolean.TooFar status h e = absurd h
@@ -162,7 +182,8 @@ module _ (told : List ℕ → Option (List ℕ)) (names : List (List ℕ)) (file
   placing_caused wanted boolean.OutOfMemory status h e = subst (λ (s : Status). IsPlacingCause told names wanted s) (sym e) tt
 
   -- the status of files that have no output
-  placing_is_cause : (formula : Formula) (wanted : WantedFile) (status : Status) → IsPlacingCause told names wanted.grid status → IsFilesCause told names formula wanted status
+  placing_is_cause : (formula : Formula) (wanted : WantedFile) (status : Status) →
+      IsPlacingCause told names wanted.grid status → IsFilesCause told names formula wanted status
   placing_is_cause formula wanted Done h = h
   placing_is_cause formula wanted (Words refusal) h = h
   placing_is_cause formula wanted StepOfNoGrid h = h
@@ -184,7 +205,9 @@ module _ (told : List ℕ → Option (List ℕ)) (names : List (List ℕ)) (file
   placing_is_cause formula wanted OutOfMemory h = h
   placing_is_cause formula wanted (Uncertified fault) h = absurd h
 
-  pub status_caused : (formula : Formula) (wanted : WantedFile) (fault : BooleanFault) (status : Status) → IsBooleanFault files formula wanted fault → IsStatusOf files fault status → IsFilesCause told names formula wanted status
+  pub status_caused : (formula : Formula) (wanted : WantedFile) (fault : BooleanFault) (status : Status) →
+      IsBooleanFault files formula wanted fault → IsStatusOf files fault status →
+      IsFilesCause told names formula wanted status
   status_caused formula wanted (boolean.File index fault) status h s =
       placing_is_cause formula wanted status (placing_caused wanted.grid (boolean.File index fault) status h s)
   status_caused formula wanted (boolean.Scene fault) status h s =
@@ -200,7 +223,8 @@ module _ (told : List ℕ → Option (List ℕ)) (names : List (List ℕ)) (file
 
 -- ---- the first files of many
 -- what is refused among the first names is refused among all
-pub refused_among_more : (told : List ℕ → Option (List ℕ)) (names : List (List ℕ)) (n i : ℕ) (reason : List ℕ) → n ≤ length names → IsRefused told (take n names) i reason → IsRefused told names i reason
+pub refused_among_more : (told : List ℕ → Option (List ℕ)) (names : List (List ℕ)) (n i : ℕ) (reason : List ℕ) →
+    n ≤ length names → IsRefused told (take n names) i reason → IsRefused told names i reason
 refused_among_more told names n i reason l h =
     let long = length-take-le n names l in
     let last = h.one_of.last in
@@ -215,7 +239,8 @@ refused_among_more told names n i reason l h =
     }
 
 -- the same, as a cause
-pub cause_among_more : (told : List ℕ → Option (List ℕ)) (names : List (List ℕ)) (n : ℕ) (status : Status) → n ≤ length names → IsRefusalCause told (take n names) status → IsRefusalCause told names status
+pub cause_among_more : (told : List ℕ → Option (List ℕ)) (names : List (List ℕ)) (n : ℕ) (status : Status) →
+    n ≤ length names → IsRefusalCause told (take n names) status → IsRefusalCause told names status
 cause_among_more told names n Done l h = absurd h
 cause_among_more told names n (Words refusal) l h = absurd h
 cause_among_more told names n StepOfNoGrid l h = absurd h

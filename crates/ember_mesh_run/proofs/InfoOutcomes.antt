@@ -17,7 +17,11 @@ use Rattle.ember_mesh_run.specs.Lines.{line, reading_why}
 use Rattle.ember_mesh_run.specs.Memory.{hides_memory}
 use Rattle.ember_mesh_run.specs.Serves.{IsInfoOutcome, IsMessageOutcome}
 use Rattle.ember_mesh_run.specs.declared.status.Status.{Status}
-use Rattle.ember_mesh_run.specs.declared.status.Status.TheVariants.{Done, Words, StepOfNoGrid, ReadFault, WriteFault, NotWritten, FileRefused, NoTriangles, NotAScene, NotClosed, ExprRefused, Unbounded, LongFile, TooManyTriangles, TooManyWritten, StepTooSmall, TooFar, DocumentRefused, OutOfMemory, Uncertified}
+use Rattle.ember_mesh_run.specs.declared.status.Status.TheVariants.{Done, Words, StepOfNoGrid, ReadFault, WriteFault}
+use Rattle.ember_mesh_run.specs.declared.status.Status.TheVariants.{NotWritten, FileRefused, NoTriangles, NotAScene}
+use Rattle.ember_mesh_run.specs.declared.status.Status.TheVariants.{NotClosed, ExprRefused, Unbounded, LongFile}
+use Rattle.ember_mesh_run.specs.declared.status.Status.TheVariants.{TooManyTriangles, TooManyWritten, StepTooSmall}
+use Rattle.ember_mesh_run.specs.declared.status.Status.TheVariants.{TooFar, DocumentRefused, OutOfMemory, Uncertified}
 
 -- ---- files and their surfaces
 -- there are as many
@@ -25,8 +29,10 @@ pub surfaces_are_as_many : (files : List MeshFile) (surfaces : List Surface) →
 surfaces_are_as_many files surfaces h = sym (length-map files reading) ∙ ap length h ∙ length-map surfaces held
 
 -- the line of one file more; d stands for any file past the end
-pub line_more : (files : List MeshFile) (surfaces : List Surface) (i : ℕ) (d : MeshFile) (surface : Surface) (lines line : List ℕ) → AreReadings files surfaces → i < length surfaces
-    → surface ≡ get_or surfaces i surface → IsInfoLine (get_or files i d).name.now surface line → Each IsFileLine (take i files) lines → Each IsFileLine (take (i + 1) files) (lines ++ line)
+pub line_more : (files : List MeshFile) (surfaces : List Surface) (i : ℕ) (d : MeshFile) (surface : Surface)
+    (lines line : List ℕ) → AreReadings files surfaces → i < length surfaces
+    → surface ≡ get_or surfaces i surface → IsInfoLine (get_or files i d).name.now surface line →
+    Each IsFileLine (take i files) lines → Each IsFileLine (take (i + 1) files) (lines ++ line)
 line_more files surfaces i d surface lines line h l at says e =
     let below : i < length files = subst (λ (n : ℕ). i < n) (sym (surfaces_are_as_many files surfaces h)) l in
     let read : reading (get_or files i d) ≡ held surface =
@@ -38,9 +44,12 @@ line_more files surfaces i d surface lines line h l at says e =
     (each_push e (record { surface = surface; read = read; says = says }))
 
 -- the lines of all files
-pub lines_of_all : (files : List MeshFile) (surfaces : List Surface) (lines : List ℕ) → AreReadings files surfaces → Each IsFileLine (take (length surfaces) files) lines → Each IsFileLine files lines
+pub lines_of_all : (files : List MeshFile) (surfaces : List Surface) (lines : List ℕ) → AreReadings files surfaces →
+    Each IsFileLine (take (length surfaces) files) lines → Each IsFileLine files lines
 lines_of_all files surfaces lines h e =
-    subst (λ (fs : List MeshFile). Each IsFileLine fs lines) (ap (λ (n : ℕ). take n files) (sym (surfaces_are_as_many files surfaces h)) ∙ take_all (length files) files (omega arith)) e
+    subst (λ (fs : List MeshFile). Each IsFileLine fs lines)
+    (ap (λ (n : ℕ). take n files) (sym (surfaces_are_as_many files surfaces h))
+    ∙ take_all (length files) files (omega arith)) e
 
 module _ (names : List (List ℕ)) (shelf : ShelfCall) where
   -- ---- causes
@@ -93,7 +102,8 @@ module _ (names : List (List ℕ)) (shelf : ShelfCall) where
 module _ (names : List (List ℕ)) (shelf : ShelfCall) (out : SinkCall) where
   -- ---- outcomes
   -- files that aren't all read have a line
-  pub unread_outcome : (status : Status) (text : List ℕ) → IsReadingCause names shelf status → out.taken_after ≡ out.taken → text ≡ line (reading_why names status) → IsInfoOutcome names shelf out status text
+  pub unread_outcome : (status : Status) (text : List ℕ) → IsReadingCause names shelf status →
+      out.taken_after ≡ out.taken → text ≡ line (reading_why names status) → IsInfoOutcome names shelf out status text
   unread_outcome Done text h same e = absurd h
   unread_outcome (Words refusal) text h same e = (h, same, e)
   unread_outcome StepOfNoGrid text h same e = (h, same, e)
@@ -116,7 +126,8 @@ module _ (names : List (List ℕ)) (shelf : ShelfCall) (out : SinkCall) where
   unread_outcome (Uncertified fault) text h same e = (h, same, e)
 
   -- the lines are written, or aren't
-  pub lines_outcome : (lines : List ℕ) (status : Status) (text : List ℕ) → AreInfoLines shelf.told names lines → IsMessageOutcome lines out status text → IsInfoOutcome names shelf out status text
+  pub lines_outcome : (lines : List ℕ) (status : Status) (text : List ℕ) → AreInfoLines shelf.told names lines →
+      IsMessageOutcome lines out status text → IsInfoOutcome names shelf out status text
   lines_outcome lines Done text are h = record { lines = lines; are_lines = are; written = h }
   lines_outcome lines (Words refusal) text are h = absurd h
   lines_outcome lines StepOfNoGrid text are h = absurd h

@@ -13,7 +13,9 @@ use Rattle.ember_mesh_run.specs.declared.status.Status.{Status}
 use Rattle.ember_mesh_run.specs.declared.status.Status.TheVariants.{OutOfMemory}
 
 -- want of memory for the words themselves
-pub words_without_memory : (words : List (List ℕ)) (command : Result Command Refusal) (shelf : ShelfCall) (target : TargetCall) (out : SinkCall) (text : List ℕ) → HoldsAll target → out.taken_after ≡ out.taken → text ≡ line (codes "out of memory") → IsOutcome words command shelf target out OutOfMemory text
+pub words_without_memory : (words : List (List ℕ)) (command : Result Command Refusal) (shelf : ShelfCall)
+    (target : TargetCall) (out : SinkCall) (text : List ℕ) → HoldsAll target → out.taken_after ≡ out.taken →
+    text ≡ line (codes "out of memory") → IsOutcome words command shelf target out OutOfMemory text
 words_without_memory words (Err why) shelf target out text same untouched e = (e, same, untouched)
 words_without_memory words (Ok (Info names)) shelf target out text same untouched e = ((tt, untouched, e), same)
 words_without_memory words (Ok (View request)) shelf target out text same untouched e = ((inl same, e), untouched)
@@ -25,7 +27,11 @@ words_without_memory words (Ok (Boole request)) shelf target out text same untou
 
 -- ---- calls
 -- a call whose words give this command
-pub call_serves : (words : List (List ℕ)) (command : Result Command Refusal) (shelf : ShelfCall) (target : TargetCall) (out err : SinkCall) (status : Status) (text : List ℕ) → command_of words ≡ command → KeepsContents shelf → target.begun ≡ None → target.faults ≤ target.faults_after → out.faults ≤ out.faults_after → IsOutcome words command shelf target out status text → TakesUntilFault err text → hides_memory status ≡ false → MeshServes words shelf target out err status
+pub call_serves : (words : List (List ℕ)) (command : Result Command Refusal) (shelf : ShelfCall) (target : TargetCall)
+    (out err : SinkCall) (status : Status) (text : List ℕ) → command_of words ≡ command → KeepsContents shelf →
+    target.begun ≡ None → target.faults ≤ target.faults_after → out.faults ≤ out.faults_after →
+    IsOutcome words command shelf target out status text → TakesUntilFault err text → hides_memory status ≡ false →
+    MeshServes words shelf target out err status
 call_serves words command shelf target out err status text is contents begun later out_later outcome said memory = record {
   contents = contents;
   none_begun = begun;

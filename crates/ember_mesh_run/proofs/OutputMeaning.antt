@@ -10,7 +10,9 @@ use Rattle.ember_mesh_run.specs.Asked.{Asks}
 use Rattle.ember_mesh_run.specs.Outputs.{IsFilesOutput, IsOutputFor}
 
 -- since its expression is false outside all meshes
-pub output_is_asked_for : (request : Request) (told : List ℕ → Option (List ℕ)) (wanted : WantedFile) (formula : Formula) (output : Output) → Asks request wanted formula → IsFilesOutput told request.files formula wanted output → IsOutputFor request told output
+pub output_is_asked_for : (request : Request) (told : List ℕ →
+    Option (List ℕ)) (wanted : WantedFile) (formula : Formula) (output : Output) → Asks request wanted formula →
+    IsFilesOutput told request.files formula wanted output → IsOutputFor request told output
 output_is_asked_for request told wanted formula output asks of_files =
     let outside = asks.expression.bounded in
     let is = of_files.is_output in

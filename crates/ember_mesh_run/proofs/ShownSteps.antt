@@ -18,15 +18,18 @@ abbrev over : ℕ → ℤ → Fraction
 over d z = record { numerator = z; denominator = d }
 
 -- the numerator over the denominator, with its places, fits into 128 bits
-pub step_fits : (w : Wide) (s : Step) → 0 < s.denominator → s.numerator < 2 ^ 64 → value_of w ≡ pos s.numerator → size_of w.size * 10 ^ 12 + s.denominator < 2 ^ 128 * s.denominator
+pub step_fits : (w : Wide) (s : Step) → 0 < s.denominator → s.numerator < 2 ^ 64 → value_of w ≡ pos s.numerator →
+    size_of w.size * 10 ^ 12 + s.denominator < 2 ^ 128 * s.denominator
 step_fits w s p small e =
     let size : size_of w.size ≡ s.numerator = sym (size_of_value w) ∙ ap unsigned_abs e in
     fits_with_places (size_of w.size) s.denominator 12 p (omega (arith, size, small, p)) (omega arith)
 
 -- and its decimal is that of the step
-pub step_shown : (w : Wide) (s : Step) → 0 < s.denominator → s.denominator < 2 ^ 64 → value_of w ≡ pos s.numerator → decimal_text w.negative (nearest_whole (size_of w.size * 10 ^ 12) s.denominator) 12 ≡ step_text s
+pub step_shown : (w : Wide) (s : Step) → 0 < s.denominator → s.denominator < 2 ^ 64 → value_of w ≡ pos s.numerator →
+    decimal_text w.negative (nearest_whole (size_of w.size * 10 ^ 12) s.denominator) 12 ≡ step_text s
 step_shown w s p small e =
-    decimal_of_ratio (record { numerator = w; denominator = s.denominator; positive = p; small = omega (arith, small) }) (over s.denominator (pos s.numerator)) (ap (over s.denominator) e) 12
+    decimal_of_ratio (record { numerator = w; denominator = s.denominator; positive = p; small = omega (arith, small) })
+    (over s.denominator (pos s.numerator)) (ap (over s.denominator) e) 12
 
 -- ---- a length
 -- the trillionths, with their places, fit into 128 bits
@@ -34,9 +37,16 @@ pub length_fits : (w : Wide) (e : Extent) → size_of w.size ≡ e.trillionths �
 length_fits w e size = let small = e.small in omega (arith, size, small)
 
 -- and their decimal is that of the length
-pub length_shown : (w : Wide) (e : Extent) → value_of w ≡ pos e.trillionths → decimal_text w.negative (nearest_whole (size_of w.size * 10 ^ 12) 1000000000000) 12 ≡ length_text e
+pub length_shown : (w : Wide) (e : Extent) → value_of w ≡ pos e.trillionths →
+    decimal_text w.negative (nearest_whole (size_of w.size * 10 ^ 12) 1000000000000) 12 ≡ length_text e
 length_shown w e value =
-    decimal_of_ratio (record { numerator = w; denominator = 1000000000000; positive = omega arith; small = omega arith }) (over 1000000000000 (pos e.trillionths)) (ap (over 1000000000000) value) 12
+    decimal_of_ratio (record {
+      numerator = w;
+      denominator = 1000000000000;
+      positive = omega arith;
+      small =
+          omega arith;
+    }) (over 1000000000000 (pos e.trillionths)) (ap (over 1000000000000) value) 12
 
 -- ---- a move
 -- its size over a power of ten, with its places, fits into 128 bits
@@ -56,6 +66,13 @@ pub power_is_small : (places : ℕ) → places ≤ 12 → 10 ^ places < 2 ^ 127
 power_is_small places few = let least = power_divides_ratio places few in omega (arith, least)
 
 -- and its decimal is that of the size
-pub size_shown : (w : Wide) (size places : ℕ) → places ≤ 12 → value_of w ≡ pos size → decimal_text w.negative (nearest_whole (size_of w.size * 10 ^ places) (10 ^ places)) places ≡ size_text size places
+pub size_shown : (w : Wide) (size places : ℕ) → places ≤ 12 → value_of w ≡ pos size →
+    decimal_text w.negative (nearest_whole (size_of w.size * 10 ^ places) (10 ^ places)) places ≡ size_text size places
 size_shown w size places few value =
-    decimal_of_ratio (record { numerator = w; denominator = 10 ^ places; positive = power_of_10_positive places; small = power_divides_ratio places few }) (over (10 ^ places) (pos size)) (ap (over (10 ^ places)) value) places
+    decimal_of_ratio (record {
+      numerator = w;
+      denominator = 10 ^ places;
+      positive = power_of_10_positive places;
+      small =
+          power_divides_ratio places few;
+    }) (over (10 ^ places) (pos size)) (ap (over (10 ^ places)) value) places

@@ -9,7 +9,11 @@ use Rattle.ember_mesh_run.specs.Calls.{ShelfCall}
 use Rattle.ember_mesh_run.specs.Causes.{IsPlacingCause, IsReadingCause, IsSnapStop}
 use Rattle.ember_mesh_run.specs.Memory.{hides_memory}
 use Rattle.ember_mesh_run.specs.declared.status.Status.{Status}
-use Rattle.ember_mesh_run.specs.declared.status.Status.TheVariants.{Done, Words, StepOfNoGrid, ReadFault, WriteFault, NotWritten, FileRefused, NoTriangles, NotAScene, NotClosed, ExprRefused, Unbounded, LongFile, TooManyTriangles, TooManyWritten, StepTooSmall, TooFar, DocumentRefused, OutOfMemory, Uncertified}
+use Rattle.ember_mesh_run.specs.declared.status.Status.TheVariants.{Done, Words, StepOfNoGrid, ReadFault, WriteFault}
+use Rattle.ember_mesh_run.specs.declared.status.Status.TheVariants.{NotWritten, FileRefused, NoTriangles, NotAScene}
+use Rattle.ember_mesh_run.specs.declared.status.Status.TheVariants.{NotClosed, ExprRefused, Unbounded, LongFile}
+use Rattle.ember_mesh_run.specs.declared.status.Status.TheVariants.{TooManyTriangles, TooManyWritten, StepTooSmall}
+use Rattle.ember_mesh_run.specs.declared.status.Status.TheVariants.{TooFar, DocumentRefused, OutOfMemory, Uncertified}
 
 module _ (request : SnapRequest) (shelf : ShelfCall) (wanted : Wanted) (asks : IsWanted request.step wanted) where
   -- not all of its files are read

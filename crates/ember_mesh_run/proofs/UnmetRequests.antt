@@ -9,21 +9,33 @@ use Rattle.ember_mesh_run.specs.Lines.{IsShown, line}
 use Rattle.ember_mesh_run.specs.Memory.{hides_memory}
 use Rattle.ember_mesh_run.specs.Unmet.{EndsAs, IsUnmet, IsUnwrittenStatus, IsWriteStop}
 use Rattle.ember_mesh_run.specs.declared.status.Status.{Status}
-use Rattle.ember_mesh_run.specs.declared.status.Status.TheVariants.{Done, Words, StepOfNoGrid, ReadFault, WriteFault, NotWritten, FileRefused, NoTriangles, NotAScene, NotClosed, ExprRefused, Unbounded, LongFile, TooManyTriangles, TooManyWritten, StepTooSmall, TooFar, DocumentRefused, OutOfMemory, Uncertified}
+use Rattle.ember_mesh_run.specs.declared.status.Status.TheVariants.{Done, Words, StepOfNoGrid, ReadFault, WriteFault}
+use Rattle.ember_mesh_run.specs.declared.status.Status.TheVariants.{NotWritten, FileRefused, NoTriangles, NotAScene}
+use Rattle.ember_mesh_run.specs.declared.status.Status.TheVariants.{NotClosed, ExprRefused, Unbounded, LongFile}
+use Rattle.ember_mesh_run.specs.declared.status.Status.TheVariants.{TooManyTriangles, TooManyWritten, StepTooSmall}
+use Rattle.ember_mesh_run.specs.declared.status.Status.TheVariants.{TooFar, DocumentRefused, OutOfMemory, Uncertified}
 
 -- what holds of want of memory holds of an error that it made
-pub memory_given : {T : Type 0} (P : Status → Type 0) (result : Result T Status) → IsErrAnd result (λ status. status ≡ OutOfMemory) → P OutOfMemory → IfErr result P
+pub memory_given : {T : Type 0} (P : Status → Type 0) (result : Result T Status) →
+    IsErrAnd result (λ status. status ≡ OutOfMemory) → P OutOfMemory → IfErr result P
 memory_given P (Ok x) e h = tt
 memory_given P (Err status) e h = subst P (sym e) h
 
 -- the status of a file that isn't written is why not all of them are
-pub unwritten_status_stops : (files : List NamedBytes) (target : TargetCall) (name : List ℕ) (why : WriteEnd) (status : Status) → PutsBefore files name why target.held target.held_after target.faults target.faults_after → IsUnwrittenStatus name why status → IsWriteStop files target status
+pub unwritten_status_stops : (files : List NamedBytes) (target : TargetCall) (name : List ℕ) (why : WriteEnd)
+    (status : Status) → PutsBefore files name why target.held target.held_after target.faults target.faults_after →
+    IsUnwrittenStatus name why status → IsWriteStop files target status
 unwritten_status_stops files target name why Done before h = absurd h
 unwritten_status_stops files target name why (Words refusal) before h = absurd h
 unwritten_status_stops files target name why StepOfNoGrid before h = absurd h
 unwritten_status_stops files target name why (ReadFault i) before h = absurd h
 unwritten_status_stops files target name why WriteFault before h = absurd h
-unwritten_status_stops files target name why (NotWritten file) before h = (why, h.1, subst (λ (said : List ℕ). PutsBefore files said why target.held target.held_after target.faults target.faults_after) (sym h.0) before)
+unwritten_status_stops files target name why (NotWritten file) before h = (
+  why,
+  h.1,
+  subst (λ (said : List ℕ). PutsBefore files said why target.held target.held_after target.faults
+      target.faults_after) (sym h.0) before,
+)
 unwritten_status_stops files target name why (FileRefused i reason) before h = absurd h
 unwritten_status_stops files target name why NoTriangles before h = absurd h
 unwritten_status_stops files target name why NotAScene before h = absurd h
@@ -42,7 +54,8 @@ unwritten_status_stops files target name why (Uncertified fault) before h = absu
 module _ (IsCause : Status → Type 0) (AreFiles : List NamedBytes → Type 0) (target : TargetCall) where
   -- ---- requests that aren't met
   -- nothing was written, since there are no files
-  pub cause_is_unmet : (status : Status) → ((name : String Global) → IsCause (NotWritten name) → ⊥) → HoldsAll target → IsCause status → hides_memory status ≡ false → IsUnmet IsCause AreFiles target status
+  pub cause_is_unmet : (status : Status) → ((name : String Global) → IsCause (NotWritten name) → ⊥) → HoldsAll target →
+      IsCause status → hides_memory status ≡ false → IsUnmet IsCause AreFiles target status
   cause_is_unmet Done never same h memory = (h, same, memory)
   cause_is_unmet (Words refusal) never same h memory = (h, same, memory)
   cause_is_unmet StepOfNoGrid never same h memory = (h, same, memory)
@@ -158,7 +171,9 @@ module _ (IsCause : Status → Type 0) (AreFiles : List NamedBytes → Type 0) (
 
   -- ---- outcomes
   -- what isn't met has a line
-  unmet_ends : (Writes : List ℕ → Type 0) (why : Status → List ℕ) → (IsCause Done → ⊥) → (status : Status) (text : List ℕ) → IsUnmet IsCause AreFiles target status → text ≡ line (why status) → EndsAs Writes (IsUnmet IsCause AreFiles target) why status text
+  unmet_ends : (Writes : List ℕ → Type 0) (why : Status → List ℕ) → (IsCause Done → ⊥) →
+      (status : Status) (text : List ℕ) → IsUnmet IsCause AreFiles target status → text ≡ line (why status) →
+      EndsAs Writes (IsUnmet IsCause AreFiles target) why status text
   unmet_ends Writes why never Done text h e = absurd (never h.0)
   unmet_ends Writes why never (Words refusal) text h e = (h, e)
   unmet_ends Writes why never StepOfNoGrid text h e = (h, e)
@@ -181,13 +196,30 @@ module _ (IsCause : Status → Type 0) (AreFiles : List NamedBytes → Type 0) (
   unmet_ends Writes why never (Uncertified fault) text h e = (h, e)
 
   -- the line is made and said, or, for want of memory, that of out-of-memory is
-  pub said_status_ends : {E : Type 0} (Writes : List ℕ → Type 0) (why : Status → List ℕ) → why OutOfMemory ≡ codes "out of memory" → (IsCause Done → ⊥) → (status result : Status) (err : SinkCall) (said : Result (Vec ℕ Global) E) → IsUnmet IsCause AreFiles target status → IfOk said (λ text. text.items ≡ line (why status)) → IfOk said (λ text. (result ≡ status) × TakesUntilFault err text.items) → OnErr said ((result ≡ OutOfMemory) × TakesUntilFault err (line (codes "out of memory"))) → (text : List ℕ) × EndsAs Writes (IsUnmet IsCause AreFiles target) why result text × TakesUntilFault err text
-  said_status_ends Writes why memory never status result err (Ok text) unmet made told without =
-      (text.items, subst (λ (s : Status). EndsAs Writes (IsUnmet IsCause AreFiles target) why s text.items) (sym told.0) (unmet_ends Writes why never status text.items unmet made), told.1)
-  said_status_ends Writes why memory never status result err (Err e) unmet made told without =
-      (line (codes "out of memory"), subst (λ (s : Status). EndsAs Writes (IsUnmet IsCause AreFiles target) why s (line (codes "out of memory"))) (sym without.0) (unmet_lacks_memory status unmet, ap line (sym memory)), without.1)
+  pub said_status_ends : {E : Type 0} (Writes : List ℕ → Type 0) (why : Status → List ℕ) →
+      why OutOfMemory ≡ codes "out of memory" → (IsCause Done → ⊥) →
+      (status result : Status) (err : SinkCall) (said : Result (Vec ℕ Global) E) →
+      IsUnmet IsCause AreFiles target status → IfOk said (λ text. text.items ≡ line (why status)) →
+      IfOk said (λ text. (result ≡ status) × TakesUntilFault err text.items) →
+      OnErr said ((result ≡ OutOfMemory) × TakesUntilFault err (line (codes "out of memory"))) →
+      (text : List ℕ) × EndsAs Writes (IsUnmet IsCause AreFiles target) why result text × TakesUntilFault err text
+  said_status_ends Writes why memory never status result err (Ok text) unmet made told without = (
+    text.items,
+    subst (λ (s : Status). EndsAs Writes (IsUnmet IsCause AreFiles target) why s text.items) (sym told.0)
+        (unmet_ends Writes why never status text.items unmet made),
+    told.1,
+  )
+  said_status_ends Writes why memory never status result err (Err e) unmet made told without = (
+    line (codes "out of memory"),
+    subst (λ (s : Status). EndsAs Writes (IsUnmet IsCause AreFiles target) why s
+        (line (codes "out of memory"))) (sym without.0) (unmet_lacks_memory status unmet, ap line (sym memory)),
+    without.1,
+  )
 
   -- in both cases out-of-memory isn't hidden
-  pub said_status_tells_memory : {E T : Type 0} (P : T → Type 0) (Q : Type 0) (status result : Status) (said : Result T E) → IsUnmet IsCause AreFiles target status → IfOk said (λ text. (result ≡ status) × P text) → OnErr said ((result ≡ OutOfMemory) × Q) → hides_memory result ≡ false
+  pub said_status_tells_memory : {E T : Type 0} (P : T →
+      Type 0) (Q : Type 0) (status result : Status) (said : Result T E) → IsUnmet IsCause AreFiles target status →
+      IfOk said (λ text. (result ≡ status) × P text) → OnErr said ((result ≡ OutOfMemory) × Q) →
+      hides_memory result ≡ false
   said_status_tells_memory P Q status result (Ok text) unmet told without = ap hides_memory told.0 ∙ unmet_tells_memory status unmet
   said_status_tells_memory P Q status result (Err e) unmet told without = ap hides_memory without.0

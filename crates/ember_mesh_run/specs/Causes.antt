@@ -23,7 +23,13 @@ use Rattle.ember_mesh_run.specs.Calls.{ShelfCall, HasShelfFailed}
 use Rattle.ember_mesh_run.specs.Files.{AreFiles, AreRead, IsFileIn}
 use Rattle.ember_mesh_run.specs.Lines.{name_of}
 use Rattle.ember_mesh_run.specs.declared.status.Status.{Status}
-use Rattle.ember_mesh_run.specs.declared.status.Status.TheVariants.{Done, Words, StepOfNoGrid, ReadFault, WriteFault, NotWritten, FileRefused, NoTriangles, NotClosed, ExprRefused, Unbounded, LongFile, TooManyTriangles, TooManyWritten, StepTooSmall, TooFar, OutOfMemory, Uncertified}
+use Rattle.ember_mesh_run.specs.declared.status.Status.TheVariants.{Done, Words, StepOfNoGrid, ReadFault}
+use Rattle.ember_mesh_run.specs.declared.status.Status.TheVariants.{WriteFault, NotWritten, FileRefused}
+use Rattle.ember_mesh_run.specs.declared.status.Status.TheVariants.{NoTriangles, NotClosed, ExprRefused}
+use Rattle.ember_mesh_run.specs.declared.status.Status.TheVariants.{Unbounded, LongFile}
+use Rattle.ember_mesh_run.specs.declared.status.Status.TheVariants.{TooManyTriangles, TooManyWritten}
+use Rattle.ember_mesh_run.specs.declared.status.Status.TheVariants.{StepTooSmall, TooFar, OutOfMemory}
+use Rattle.ember_mesh_run.specs.declared.status.Status.TheVariants.{Uncertified}
 
 -- ---- a file and those before it
 -- the shelf failed at file i, and no file before it is refused
@@ -81,7 +87,8 @@ pub record HaveFault (told : List ℕ → Option (List ℕ)) (names : List (List
 
 -- that they are no scene
 abbrev pub HaveSceneFault : (List ℕ → Option (List ℕ)) → List (List ℕ) → Wanted → SceneFault → Type 0
-HaveSceneFault told names wanted fault = HaveFault told names (λ files. IsPlacingFault files wanted (boolean.Scene fault))
+HaveSceneFault told names wanted fault = HaveFault told names
+    (λ files. IsPlacingFault files wanted (boolean.Scene fault))
 
 -- one of them isn't closed on the grid, and has this format
 pub record HaveOpen (told : List ℕ → Option (List ℕ)) (names : List (List ℕ)) (wanted : Wanted) (o : Open)
@@ -95,7 +102,8 @@ pub record HaveOpen (told : List ℕ → Option (List ℕ)) (names : List (List 
 abbrev pub IsPlacingCause : (List ℕ → Option (List ℕ)) → List (List ℕ) → Wanted → Status → Type 0
 IsPlacingCause told names wanted NoTriangles = HaveSceneFault told names wanted scene.NoTriangles
 IsPlacingCause told names wanted (NotClosed o format) = HaveOpen told names wanted o format
-IsPlacingCause told names wanted (TooManyTriangles count) = HaveSceneFault told names wanted (scene.TooManyTriangles count)
+IsPlacingCause told names wanted (TooManyTriangles count) =
+    HaveSceneFault told names wanted (scene.TooManyTriangles count)
 IsPlacingCause told names wanted (StepTooSmall extent) = HaveSceneFault told names wanted (scene.StepTooSmall extent)
 IsPlacingCause told names wanted status = IsRefusalCause told names status
 

@@ -14,7 +14,9 @@ use Rattle.ember_mesh_run.specs.Calls.{ShelfCall, HasShelfFailed}
 use Rattle.ember_mesh_run.specs.Files.{AreBytes, IsFileIn}
 use Rattle.ember_mesh_run.specs.Lines.{name_of}
 use Rattle.ember_mesh_run.specs.declared.status.Status.{Status}
-use Rattle.ember_mesh_run.specs.declared.status.Status.TheVariants.{ReadFault, LongFile, NotAScene, TooManyWritten, TooFar, OutOfMemory, DocumentRefused}
+use Rattle.ember_mesh_run.specs.declared.status.Status.TheVariants.{ReadFault, LongFile, NotAScene}
+use Rattle.ember_mesh_run.specs.declared.status.Status.TheVariants.{TooManyWritten, TooFar, OutOfMemory}
+use Rattle.ember_mesh_run.specs.declared.status.Status.TheVariants.{DocumentRefused}
 
 -- ---- the grid
 -- the file of this name is a scene with this grid

@@ -1,5 +1,7 @@
 -- The line on standard error of a request that isn't met
-use Rattle.std.specs.Prelude.{⊤, ℕ, ℤ, ◌+ℤ◌, ◌*ℤ◌, ◌<◌, ◌+◌, ◌-◌, ◌*◌, ◌^◌, List, [], ◌++◌, codes, decimal, get_or, pos, nat_le, ◌==◌, Some, None, unsigned_abs, if◌then◌else◌, string_bytes}
+use Rattle.std.specs.Prelude.{⊤, ℕ, ℤ, ◌+ℤ◌, ◌*ℤ◌, ◌<◌, ◌+◌, ◌-◌, ◌*◌, ◌^◌, List, [], ◌++◌, codes}
+use Rattle.std.specs.Prelude.{decimal, get_or, pos, nat_le, ◌==◌, Some, None, unsigned_abs}
+use Rattle.std.specs.Prelude.{if◌then◌else◌, string_bytes}
 use Rattle.std.specs.declared.option.Option.{Option}
 use Rattle.ember_expr.specs.declared.fault.ExprFault.{ExprFault}
 use Rattle.ember_expr.specs.declared.fault.ExprFault.TheVariants as expr
@@ -26,7 +28,12 @@ use Rattle.ember_triangles.specs.declared.fault.TrianglesFault.{TrianglesFault}
 use Rattle.ember_triangles.specs.declared.fault.TrianglesFault.TheVariants as triangles
 use Rattle.ember_written.specs.Decimals.{decimal_of}
 use Rattle.ember_mesh_run.specs.declared.status.Status.{Status}
-use Rattle.ember_mesh_run.specs.declared.status.Status.TheVariants.{StepOfNoGrid, ReadFault, NotWritten, FileRefused, NoTriangles, NotClosed, ExprRefused, Unbounded, LongFile, TooManyTriangles, TooManyWritten, StepTooSmall, TooFar, OutOfMemory, Uncertified}
+use Rattle.ember_mesh_run.specs.declared.status.Status.TheVariants.{StepOfNoGrid, ReadFault, NotWritten}
+use Rattle.ember_mesh_run.specs.declared.status.Status.TheVariants.{FileRefused, NoTriangles, NotClosed}
+use Rattle.ember_mesh_run.specs.declared.status.Status.TheVariants.{ExprRefused, Unbounded, LongFile}
+use Rattle.ember_mesh_run.specs.declared.status.Status.TheVariants.{TooManyTriangles, TooManyWritten}
+use Rattle.ember_mesh_run.specs.declared.status.Status.TheVariants.{StepTooSmall, TooFar, OutOfMemory}
+use Rattle.ember_mesh_run.specs.declared.status.Status.TheVariants.{Uncertified}
 
 -- the name of file i, from 1
 abbrev pub name_of : List (List ℕ) → ℕ → List ℕ

@@ -5,7 +5,14 @@ use Rattle.ember_solid_mesh.specs.declared.fault.DocumentFault.TheVariants as do
 use Rattle.ember_triangles.specs.declared.fault.TrianglesFault.{TrianglesFault}
 use Rattle.ember_triangles.specs.declared.fault.TrianglesFault.TheVariants as triangles
 use Rattle.ember_mesh_run.specs.declared.status.Status.{Status}
-use Rattle.ember_mesh_run.specs.declared.status.Status.TheVariants.{Done, Words, StepOfNoGrid, ReadFault, WriteFault, NotWritten, NotAScene, DocumentRefused, FileRefused, NoTriangles, NotClosed, ExprRefused, Unbounded, LongFile, TooManyTriangles, TooManyWritten, StepTooSmall, TooFar, OutOfMemory, Uncertified}
+use Rattle.ember_mesh_run.specs.declared.status.Status.TheVariants.{Done, Words, StepOfNoGrid, ReadFault}
+use Rattle.ember_mesh_run.specs.declared.status.Status.TheVariants.{WriteFault, NotWritten, NotAScene}
+use Rattle.ember_mesh_run.specs.declared.status.Status.TheVariants.{DocumentRefused, FileRefused}
+use Rattle.ember_mesh_run.specs.declared.status.Status.TheVariants.{NoTriangles, NotClosed, ExprRefused}
+use Rattle.ember_mesh_run.specs.declared.status.Status.TheVariants.{Unbounded, LongFile}
+use Rattle.ember_mesh_run.specs.declared.status.Status.TheVariants.{TooManyTriangles, TooManyWritten}
+use Rattle.ember_mesh_run.specs.declared.status.Status.TheVariants.{StepTooSmall, TooFar, OutOfMemory}
+use Rattle.ember_mesh_run.specs.declared.status.Status.TheVariants.{Uncertified}
 
 -- of faces without triangles: they are to blame, or it isn't known why
 abbrev pub uncut_number : TrianglesFault → ℕ

@@ -42,7 +42,8 @@ pub record IsOutputFor (request : Request) (told : List ℕ → Option (List ℕ
 
 -- ---- meshes on their grid
 -- the placed files are those with these names
-pub record AreFilesPlaced (told : List ℕ → Option (List ℕ)) (names : List (List ℕ)) (wanted : Wanted) (placed : Placed) :
+pub record AreFilesPlaced (told : List ℕ →
+    Option (List ℕ)) (names : List (List ℕ)) (wanted : Wanted) (placed : Placed) :
     Type 0 where
   pub files : List MeshFile
   pub are_files : AreFiles told names files

@@ -14,7 +14,8 @@ use Rattle.ember_mesh_words.specs.Commands.{command_of}
 use Rattle.ember_scene.specs.declared.scene.Placed.{Placed}
 use Rattle.ember_target.specs.Several.{NamedBytes, PutsEach}
 use Rattle.ember_target.specs.Targets.{Puts}
-use Rattle.ember_mesh_run.specs.Calls.{ShelfCall, TargetCall, SinkCall, KeepsContents, HoldsAll, TakesAll, TakesSome, TakesUntilFault}
+use Rattle.ember_mesh_run.specs.Calls.{ShelfCall, TargetCall, SinkCall, KeepsContents, HoldsAll}
+use Rattle.ember_mesh_run.specs.Calls.{TakesAll, TakesSome, TakesUntilFault}
 use Rattle.ember_mesh_run.specs.Causes.{IsReadingCause, IsSnapStop, IsStop}
 use Rattle.ember_mesh_run.specs.ExportLines.{export_why}
 use Rattle.ember_mesh_run.specs.Exports.{IsExport, IsExportStop}
@@ -86,7 +87,8 @@ IsSnapOutcome request shelf target status text =
 -- ---- a document
 -- the mesh is that of the document that is named, and its files are put, each in its turn; err takes the lines of the
 -- mesh
-pub record WritesExport (request : ExportRequest) (shelf : ShelfCall) (target : TargetCall) (text : List ℕ) : Type 0 where
+pub record WritesExport (request : ExportRequest) (shelf : ShelfCall) (target : TargetCall)
+    (text : List ℕ) : Type 0 where
   pub mesh : Written
   pub is_export : IsExport request shelf.told mesh
   pub files : List NamedBytes
@@ -179,7 +181,8 @@ IsOutcome words (Ok (Snap request)) shelf target out status text =
 IsOutcome words (Ok (Export request)) shelf target out status text =
     IsExportOutcome request shelf target status text × (out.taken_after ≡ out.taken)
 IsOutcome words (Ok Help) shelf target out status text = IsMessageOutcome usage_text out status text × HoldsAll target
-IsOutcome words (Ok Version) shelf target out status text = IsMessageOutcome version_text out status text × HoldsAll target
+IsOutcome words (Ok Version) shelf target out status text =
+    IsMessageOutcome version_text out status text × HoldsAll target
 IsOutcome words (Ok (Boole request)) shelf target out status text =
     IsSolidOutcome request shelf target status text × (out.taken_after ≡ out.taken)
 

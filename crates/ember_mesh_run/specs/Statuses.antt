@@ -13,7 +13,11 @@ use Rattle.ember_format.specs.declared.format.Format.{Format}
 use Rattle.ember_format.specs.Formats.{format_said}
 use Rattle.ember_scene.specs.declared.fault.SceneFault.TheVariants as scene
 use Rattle.ember_mesh_run.specs.declared.status.Status.{Status}
-use Rattle.ember_mesh_run.specs.declared.status.Status.TheVariants.{DocumentRefused, FileRefused, NoTriangles, NotClosed, TooManyTriangles, TooManyWritten, StepTooSmall, TooFar, OutOfMemory, Uncertified}
+use Rattle.ember_mesh_run.specs.declared.status.Status.TheVariants.{DocumentRefused, FileRefused}
+use Rattle.ember_mesh_run.specs.declared.status.Status.TheVariants.{NoTriangles, NotClosed}
+use Rattle.ember_mesh_run.specs.declared.status.Status.TheVariants.{TooManyTriangles, TooManyWritten}
+use Rattle.ember_mesh_run.specs.declared.status.Status.TheVariants.{StepTooSmall, TooFar, OutOfMemory}
+use Rattle.ember_mesh_run.specs.declared.status.Status.TheVariants.{Uncertified}
 
 -- ---- what a fault says of a file
 -- this is why the file with this index is refused for its fault

@@ -44,11 +44,13 @@ pub record AreSceneFiles (folder : List ℕ) (names : List (List ℕ)) (placed :
     Type 0 where
   pub text : List ℕ
   pub is_text : IsSceneText placed.grid names placed.counts.items placed.moves.items text
-  pub all : files ≡ mesh_files folder placed.scene.tris (length names) ++ (in_folder folder (codes "scene.json"), text) ∷ []
+  pub all : files ≡ mesh_files folder placed.scene.tris (length names)
+      ++ (in_folder folder (codes "scene.json"), text) ∷ []
 
 -- ---- a mesh
 -- the page of this name that shows these triangles under that title; a reader finds them in it again
-pub record IsPageFile (title : List ℕ) (shown : Option (Vec WrittenTriangle)) (name : List ℕ) (files : List NamedBytes) :
+pub record IsPageFile (title : List ℕ) (shown : Option (Vec WrittenTriangle)) (name : List ℕ)
+    (files : List NamedBytes) :
     Type 0 where
   pub triangles : Vec WrittenTriangle
   pub are_shown : shown ≡ Some triangles

@@ -1,5 +1,6 @@
 -- The signs of numbers
-use Rattle.std.proofs.Common.{◌≡◌, ◌<◌, ℕ, zero, suc, ◌+◌, ◌-◌, ◌*◌, ◌^◌, ◌==◌, ◌&&◌, Bool, true, false, not, List, [], ◌∷◌, ◌++◌, refl, sym, ◌∙◌, arith, mul-pos, inl, inr}
+use Rattle.std.proofs.Common.{◌≡◌, ◌<◌, ℕ, zero, suc, ◌+◌, ◌-◌, ◌*◌, ◌^◌, ◌==◌, ◌&&◌, Bool, true, false, not, List, []}
+use Rattle.std.proofs.Common.{◌∷◌, ◌++◌, refl, sym, ◌∙◌, arith, mul-pos, inl, inr}
 use Rattle.std.specs.Prelude.{nat_lt}
 use Rattle.std.specs.Int.{is_positive}
 use Rattle.std.specs.List.{list_all}
@@ -55,7 +56,8 @@ some_digit s (d ∷ ds) h n =
           behind_some (s * 10 + (d - 48)) ds large
     ]
 
-all_digits : (whole fraction : List ℕ) → list_all is_ascii_digit whole ≡ true → list_all is_ascii_digit fraction ≡ true → list_all is_ascii_digit (whole ++ fraction) ≡ true
+all_digits : (whole fraction : List ℕ) → list_all is_ascii_digit whole ≡ true →
+    list_all is_ascii_digit fraction ≡ true → list_all is_ascii_digit (whole ++ fraction) ≡ true
 all_digits whole fraction w f = rw (list_all-append is_ascii_digit whole fraction, w, f) refl
 
 size_sign : (minus : Bool) (ds : List ℕ) (k : ℕ) → list_all is_ascii_digit ds ≡ true → (zero : Bool) → list_all is_zero ds ≡ zero

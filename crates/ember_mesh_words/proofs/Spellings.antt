@@ -15,7 +15,8 @@ use Rattle.ember_mesh_words.specs.declared.arguments.Argument.TheVariants.{File,
 use Rattle.ember_mesh_words.specs.declared.arguments.WordMeaning.{WordMeaning}
 use Rattle.ember_mesh_words.specs.declared.arguments.WordMeaning.TheVariants.{Whole, Waiting, Unknown}
 use Rattle.ember_mesh_words.specs.Names.{Text, setting_of}
-use Rattle.ember_mesh_words.specs.Arguments.{in_front, parts_of, with_value, attached_in, is_help, said, said_by, waiting_in, prepend, arguments_with, arguments_from}
+use Rattle.ember_mesh_words.specs.Arguments.{in_front, parts_of, with_value, attached_in, is_help, said, said_by}
+use Rattle.ember_mesh_words.specs.Arguments.{waiting_in, prepend, arguments_with, arguments_from}
 use Rattle.ember_mesh_words.specs.Commands.{Reads, command_of, command_with, snap_command, export_command, view_command}
 use Rattle.ember_mesh_words.specs.Spelling.{name_of, option_of, spelling_of, AreSpelled}
 
@@ -35,7 +36,9 @@ option_waits setting.Keep = refl
 not_attached : (b : ℕ) (bs : List ℕ) → (b == 45) ≡ false → attached_in (b ∷ bs) ≡ None
 not_attached b bs h = go (b == 61) (parts_of bs)
   where
-    go : (t : Bool) (r : Option (Text × Text)) → option_and_then (λ (p : Text × Text). with_value p.1 (setting_of p.0)) (cond t (Some ([], bs)) (option_map (in_front b) r)) ≡ None
+    go : (t : Bool) (r : Option (Text × Text)) →
+        option_and_then (λ (p : Text × Text). with_value p.1 (setting_of p.0))
+        (cond t (Some ([], bs)) (option_map (in_front b) r)) ≡ None
     go true r = refl
     go false None = refl
     go false (Some p) = rw h refl

@@ -23,7 +23,8 @@ prepended is i (Err why) = refl
 pub argument_more : (n : ℕ) (waits : Option Setting) (w : Text) (ws : List Text) (is : List Argument) (i : Argument) → Whole i ≡ said waits w
     → after is (arguments_from n waits (w ∷ ws)) ≡ after (is ++ i ∷ []) (arguments_from (n + 1) None ws)
 argument_more n waits w ws is i e =
-    subst (λ (s : WordMeaning). after is (arguments_with n s (arguments_from (n + 1) (waiting_in s) ws)) ≡ after (is ++ i ∷ []) (arguments_from (n + 1) None ws)) e
+    subst (λ (s : WordMeaning). after is (arguments_with n s (arguments_from (n + 1) (waiting_in s) ws)) ≡ after
+    (is ++ i ∷ []) (arguments_from (n + 1) None ws)) e
     (prepended is i (arguments_from (n + 1) None ws))
 
 -- a word that is an option whose value follows

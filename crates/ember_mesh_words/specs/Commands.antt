@@ -1,5 +1,6 @@
 -- What command the words give
-use Rattle.std.specs.Prelude.{◌≡◌, ◌≤◌, ⊤, ℕ, Bool, true, false, List, [], ◌∷◌, length, Option, Some, None, Result, Ok, Err, IfSome, if◌then◌else◌}
+use Rattle.std.specs.Prelude.{◌≡◌, ◌≤◌, ⊤, ℕ, Bool, true, false, List, [], ◌∷◌, length, Option, Some}
+use Rattle.std.specs.Prelude.{None, Result, Ok, Err, IfSome, if◌then◌else◌}
 use Rattle.std.specs.List.{list_any}
 use Rattle.std.specs.Int.{IsInRange}
 use Rattle.ember_number.specs.Texts.{value_of_text}
@@ -26,7 +27,8 @@ use Rattle.ember_mesh_words.specs.Names.{Text, operator_of, verb_of}
 use Rattle.ember_mesh_words.specs.Arguments.{asks_help, is_help, is_quiet, arguments_from, names_in, value_in}
 use Rattle.ember_mesh_words.specs.Allowed.{first_beside, boolean_settings}
 use Rattle.ember_mesh_words.specs.Plain.{first_option, plain_names}
-use Rattle.ember_mesh_words.specs.Values.{digits_of, expression_of, files_of, format_from, is_above_zero, output_of, step_of, workers_of}
+use Rattle.ember_mesh_words.specs.Values.{digits_of, expression_of, files_of, format_from, is_above_zero}
+use Rattle.ember_mesh_words.specs.Values.{output_of, step_of, workers_of}
 use Rattle.ember_mesh_words.specs.Views.{view_of}
 use Rattle.ember_mesh_words.specs.Snaps.{snap_of}
 use Rattle.ember_mesh_words.specs.Exports.{export_of}

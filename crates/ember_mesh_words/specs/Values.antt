@@ -1,5 +1,7 @@
 -- The values of options
-use Rattle.std.specs.Prelude.{ℕ, zero, suc, ◌+◌, ◌-◌, ◌==◌, Bool, false, List, [], ◌∷◌, ◌++◌, length, drop, Option, Some, None, Result, Ok, Err, codes, decimal, if◌then◌else◌, nat_lt}
+use Rattle.std.specs.Prelude.{ℕ, zero, suc, ◌+◌, ◌-◌, ◌==◌, Bool, false, List, [], ◌∷◌, ◌++◌, length}
+use Rattle.std.specs.Prelude.{drop, Option, Some, None, Result, Ok, Err, codes, decimal, if◌then◌else◌}
+use Rattle.std.specs.Prelude.{nat_lt}
 use Rattle.std.specs.Int.{is_positive}
 use Rattle.std.specs.Str.{bytes_eq, str_eq_ignore_ascii_case}
 use Rattle.ember_number.specs.Fractions.{Fraction}
@@ -10,7 +12,10 @@ use Rattle.ember_mesh_words.specs.declared.command.OutputFormat.TheVariants as f
 use Rattle.ember_mesh_words.specs.declared.command.WantedStep.{WantedStep}
 use Rattle.ember_mesh_words.specs.declared.command.WantedStep.TheVariants as step
 use Rattle.ember_mesh_words.specs.declared.faults.Refusal.{Refusal}
-use Rattle.ember_mesh_words.specs.declared.faults.Refusal.TheVariants.{NoFiles, TooManyFiles, NoExpression, NeedlessExpression, NoFolder, NoOutput, OutputEnding, NotAStep, Workers, Digits}
+use Rattle.ember_mesh_words.specs.declared.faults.Refusal.TheVariants.{NoFiles, TooManyFiles}
+use Rattle.ember_mesh_words.specs.declared.faults.Refusal.TheVariants.{NoExpression, NeedlessExpression}
+use Rattle.ember_mesh_words.specs.declared.faults.Refusal.TheVariants.{NoFolder, NoOutput, OutputEnding}
+use Rattle.ember_mesh_words.specs.declared.faults.Refusal.TheVariants.{NotAStep, Workers, Digits}
 use Rattle.ember_mesh_words.specs.Names.{Text}
 
 -- 1 to 64 names

@@ -26,18 +26,26 @@ flip_times : (n x : Sign) → times n (flip x) ≡ flip (times n x)
 flip_times n x = same_sgn_out _ _ (signs 2 (λ n x. same_sgn (times n (flip x)) (flip (times n x))) tt n x)
 
 -- the sign of an edge plane at a point, by the edge's corners seen from it
-pub at_point : (u v : Corner) (a : Axis) (s : ℤ) (p : Spot) → pos 0 <ℤ p.w → sgn (value_at (times_plane (sign s) (edge_through u v (unit a))) p) ≡ flip (times (sgn s) (sgn (dot (unit a) (cross (seen p u) (seen p v)))))
+pub at_point : (u v : Corner) (a : Axis) (s : ℤ) (p : Spot) → pos 0 <ℤ p.w →
+    sgn (value_at (times_plane (sign s) (edge_through u v (unit a))) p) ≡ flip
+    (times (sgn s) (sgn (dot (unit a) (cross (seen p u) (seen p v)))))
 at_point u v a s p w =
     let x = value_at (edge_through u v (unit a)) p in let d = dot (unit a) (cross (seen p u) (seen p v)) in
-    ap sgn (value_times (sign s) (edge_through u v (unit a)) p) ∙ sgn-mul (sign s) x ∙ ap2 times (sgn-sign s) (sym (sgn_scaled x w) ∙ ap sgn (edge_value u v (unit a) p) ∙ sgn-neg d) ∙ flip_times (sgn s) (sgn d)
+    ap sgn (value_times (sign s) (edge_through u v (unit a)) p) ∙ sgn-mul (sign s) x
+    ∙ ap2 times (sgn-sign s) (sym (sgn_scaled x w) ∙ ap sgn (edge_value u v (unit a) p) ∙ sgn-neg d)
+    ∙ flip_times (sgn s) (sgn d)
 
 -- a ray's hit is inside a triangle's edges exactly if the ray's start is inside its edge planes along the axis
-pub hit_edges : (t : Tri) (a : Axis) (p : Spot) → pos 0 <ℤ p.w → along (support_of t) a ≢ pos 0 → all_negative (edges_of t) (hit (support_of t) a p) ≡ all_negative (edge_planes t a) p
+pub hit_edges : (t : Tri) (a : Axis) (p : Spot) → pos 0 <ℤ p.w → along (support_of t) a ≢ pos 0 →
+    all_negative (edges_of t) (hit (support_of t) a p) ≡ all_negative (edge_planes t a) p
 hit_edges t a p w na =
     let n = support_of t in let k = main_axis n in let f = unit a in let nk : along n k ≢ pos 0 = λ z. na (main_zero n a z) in
-    let x = edge_sign n (edge_through t.a t.b (unit k)) p a k (dot f (cross (seen p t.a) (seen p t.b))) w nk (first_edge t p f (unit k)) ∙ sym (at_point t.a t.b a (along n a) p w) in
-    let y = edge_sign n (edge_through t.b t.c (unit k)) p a k (dot f (cross (seen p t.b) (seen p t.c))) w nk (second_edge t p f (unit k)) ∙ sym (at_point t.b t.c a (along n a) p w) in
-    let z = edge_sign n (edge_through t.c t.a (unit k)) p a k (dot f (cross (seen p t.c) (seen p t.a))) w nk (third_edge t p f (unit k)) ∙ sym (at_point t.c t.a a (along n a) p w) in
+    let x = edge_sign n (edge_through t.a t.b (unit k)) p a k (dot f (cross (seen p t.a) (seen p t.b))) w nk
+    (first_edge t p f (unit k)) ∙ sym (at_point t.a t.b a (along n a) p w) in
+    let y = edge_sign n (edge_through t.b t.c (unit k)) p a k (dot f (cross (seen p t.b) (seen p t.c))) w nk
+    (second_edge t p f (unit k)) ∙ sym (at_point t.b t.c a (along n a) p w) in
+    let z = edge_sign n (edge_through t.c t.a (unit k)) p a k (dot f (cross (seen p t.c) (seen p t.a))) w nk
+    (third_edge t p f (unit k)) ∙ sym (at_point t.c t.a a (along n a) p w) in
     λ i. is_neg (x i) && (is_neg (y i) && (is_neg (z i) && true))
 
 -- ---- rays
@@ -86,7 +94,8 @@ kept_plane k g p l = ap is_negative (value_times (sign k) g p ∙ ap (λ (s : �
 
 turned_plane : (k : ℤ) (g : Plane) (p : Spot) → k <ℤ pos 0 → is_negative (value_at (times_plane (sign k) g) p) ≡ is_positive (value_at g p)
 turned_plane k g p l =
-    ap is_neg (ap sgn (value_times (sign k) g p ∙ ap (λ (s : ℤ). s *ℤ value_at g p) (sign_neg l)) ∙ sgn-mul (negsuc 0) (value_at g p)) ∙ minus_flip (sgn (value_at g p))
+    ap is_neg (ap sgn (value_times (sign k) g p ∙ ap (λ (s : ℤ). s *ℤ value_at g p) (sign_neg l))
+    ∙ sgn-mul (negsuc 0) (value_at g p)) ∙ minus_flip (sgn (value_at g p))
 
 -- a triangle whose plane rises along the axis is crossed upward or not at all
 pub rising_plane_crosses_up : (a : Axis) (p : Spot) (t : Tri) → pos 0 <ℤ along (support_of t) a → crossing_by_signs a p t ≡ cond (low a p t) (pos 1) (pos 0)
@@ -98,7 +107,8 @@ rising_plane_crosses_up a p t l =
     let v = sign_pos l in λ i. cond (x i && (e i && (f i && g i))) (v i) (pos 0)
 
 -- a triangle whose plane falls along the axis is crossed downward or not at all
-pub falling_plane_crosses_down : (a : Axis) (p : Spot) (t : Tri) → along (support_of t) a <ℤ pos 0 → crossing_by_signs a p t ≡ cond (high a p t) (negsuc 0) (pos 0)
+pub falling_plane_crosses_down : (a : Axis) (p : Spot) (t : Tri) → along (support_of t) a <ℤ pos 0 →
+    crossing_by_signs a p t ≡ cond (high a p t) (negsuc 0) (pos 0)
 falling_plane_crosses_down a p t l =
     let k = along (support_of t) a in let s = value_at (support_of t) p in
     let x = ap is_neg (sgn-mul s k ∙ ap (λ (q : Sign). times (sgn s) q) (sgn_neg l)) ∙ minus_times (sgn s) in

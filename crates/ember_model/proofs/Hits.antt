@@ -107,11 +107,13 @@ hit_weight n a p nz w =
     ray_weight a p (size (along n a)) (neg_ℤ (sign (along n a) *ℤ value_at n p)) (size_positive (along n a) nz) w
 
 -- a ray's hit is inside a face exactly if it is below its edges
-pub hit_inside : (f : Face) (a : Axis) (p : Spot) → along f.support a ≢ pos 0 → pos 0 <ℤ p.w → is_inside f (hit f.support a p) ≡ all_negative f.edges (hit f.support a p)
+pub hit_inside : (f : Face) (a : Axis) (p : Spot) → along f.support a ≢ pos 0 → pos 0 <ℤ p.w →
+    is_inside f (hit f.support a p) ≡ all_negative f.edges (hit f.support a p)
 hit_inside f a p nz w = inside_on f (hit f.support a p) (hit_weight f.support a p nz w) (hit_flat f.support a p)
 
 -- a ray's hit is in a closed face exactly if it is above none of its edges
-pub hit_closed : (f : Face) (a : Axis) (p : Spot) → along f.support a ≢ pos 0 → pos 0 <ℤ p.w → is_in_closed f (hit f.support a p) ≡ none_positive f.edges (hit f.support a p)
+pub hit_closed : (f : Face) (a : Axis) (p : Spot) → along f.support a ≢ pos 0 → pos 0 <ℤ p.w →
+    is_in_closed f (hit f.support a p) ≡ none_positive f.edges (hit f.support a p)
 hit_closed f a p nz w = closed_on f (hit f.support a p) (hit_weight f.support a p nz w) (hit_flat f.support a p)
 
 -- ---- the crossing's parts
@@ -125,14 +127,18 @@ unfolding crossing
 crossing_off f a p e = ap (λ (b : Bool). cond (b && is_inside f (hit f.support a p)) (sign (along f.support a)) (pos 0)) e
 
 -- a ray that leads to a face's plane crosses the face exactly if its hit is inside the edges
-pub crossing_on : (f : Face) (a : Axis) (p : Spot) (b : Bool) → pos 0 <ℤ p.w → is_negative (value_at f.support p *ℤ along f.support a) ≡ true → all_negative f.edges (hit f.support a p) ≡ b → crossing f a p ≡ cond b (sign (along f.support a)) (pos 0)
+pub crossing_on : (f : Face) (a : Axis) (p : Spot) (b : Bool) → pos 0 <ℤ p.w →
+    is_negative (value_at f.support p *ℤ along f.support a) ≡ true → all_negative f.edges (hit f.support a p) ≡ b →
+    crossing f a p ≡ cond b (sign (along f.support a)) (pos 0)
 unfolding crossing
 crossing_on f a p b w e g =
     let h = hit_inside f a p (slope_nonzero (value_at f.support p) (along f.support a) e) w ∙ g in
     λ i. cond (e i && h i) (sign (along f.support a)) (pos 0)
 
 -- where the normal has an entry along the ray
-pub crossing_across : (f : Face) (a : Axis) (p : Spot) → pos 0 <ℤ p.w → along f.support a ≢ pos 0 → crossing f a p ≡ cond (is_negative (value_at f.support p *ℤ along f.support a) && all_negative f.edges (hit f.support a p)) (sign (along f.support a)) (pos 0)
+pub crossing_across : (f : Face) (a : Axis) (p : Spot) → pos 0 <ℤ p.w → along f.support a ≢ pos 0 →
+    crossing f a p ≡ cond (is_negative (value_at f.support p *ℤ along f.support a)
+    && all_negative f.edges (hit f.support a p)) (sign (along f.support a)) (pos 0)
 unfolding crossing
 crossing_across f a p w nz =
     let h = hit_inside f a p nz w in

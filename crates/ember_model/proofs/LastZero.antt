@@ -16,7 +16,8 @@ use Rattle.ember_model.proofs.SignTests.{and_parts, negative_out, positive_from_
 pub none_positive_member : (x : Spot) (es : List Plane) (h : Plane) → none_positive es x ≡ true → In h es → value_at h x ≤ℤ pos 0
 none_positive_member x [] h e m = absurd m
 none_positive_member x (g ∷ gs) h e (inl p) =
-    subst (λ (k : Plane). value_at k x ≤ℤ pos 0) (sym p) (not_positive_out (value_at g x) (and_parts (not (is_positive (value_at g x))) (none_positive gs x) e).0)
+    subst (λ (k : Plane). value_at k x ≤ℤ pos 0) (sym p)
+    (not_positive_out (value_at g x) (and_parts (not (is_positive (value_at g x))) (none_positive gs x) e).0)
 none_positive_member x (g ∷ gs) h e (inr m) =
     none_positive_member x gs h (and_parts (not (is_positive (value_at g x))) (none_positive gs x) e).1 m
 
@@ -48,7 +49,8 @@ weak_first ag bg ah bh g b a c =
     omega (arith, linear, r, s, solve 2 (λ a b. neg a ⊗ b ≈ neg (a ⊗ b)) cancels ag bh)
 
 -- a later plane takes the place of h
-later : (ag bg ah bh ae be : ℤ) → pos 0 <ℤ ah → pos 0 <ℤ ae → pos 0 ≤ℤ be → pos 0 ≤ℤ bg → (ah *ℤ be) <ℤ (ae *ℤ bh) → (ag *ℤ bh) ≤ℤ (ah *ℤ bg) → (ag *ℤ be) ≤ℤ (ae *ℤ bg)
+later : (ag bg ah bh ae be : ℤ) → pos 0 <ℤ ah → pos 0 <ℤ ae → pos 0 ≤ℤ be → pos 0 ≤ℤ bg → (ah *ℤ be) <ℤ (ae *ℤ bh) →
+    (ag *ℤ bh) ≤ℤ (ah *ℤ bg) → (ag *ℤ be) ≤ℤ (ae *ℤ bg)
 later ag bg ah bh ae be h e b c l m = by_lt_z (pos 0) ag up (λ g. weak_first ag bg ae be g b e c)
   where
     up : pos 0 <ℤ ag → (ag *ℤ be) ≤ℤ (ae *ℤ bg)
@@ -56,20 +58,38 @@ later ag bg ah bh ae be h e b c l m = by_lt_z (pos 0) ag up (λ g. weak_first ag
         let x : (ah *ℤ be) ≤ℤ (ae *ℤ bh) = omega (arith, linear) in
         let g0 : pos 0 ≤ℤ ag = omega (arith, linear) in let e0 : pos 0 ≤ℤ ae = omega (arith, linear) in
         let p = mul_le g0 x in let q = mul_le e0 m in
-        cancel_le h (omega (arith, linear, p, q, solve 3 (λ g a b. g ⊗ (a ⊗ b) ≈ a ⊗ (g ⊗ b)) cancels ag ah be, solve 3 (λ g a b. g ⊗ (a ⊗ b) ≈ a ⊗ (g ⊗ b)) cancels ag ae bh, solve 3 (λ g a b. g ⊗ (a ⊗ b) ≈ a ⊗ (g ⊗ b)) cancels ae ah bg))
+        cancel_le h (omega (
+          arith,
+          linear,
+          p,
+          q,
+          solve 3 (λ g a b. g ⊗ (a ⊗ b) ≈ a ⊗ (g ⊗ b)) cancels ag ah be,
+          solve 3 (λ g a b. g ⊗ (a ⊗ b) ≈ a ⊗ (g ⊗ b)) cancels ag ae bh,
+          solve 3 (λ g a b. g ⊗ (a ⊗ b) ≈ a ⊗ (g ⊗ b)) cancels ae ah bg,
+        ))
 
-all_weak : (x y : Spot) (h : Plane) (es : List Plane) → pos 0 <ℤ value_at h x → value_at h y ≤ℤ pos 0 → none_positive es x ≡ true → none_positive es y ≡ true → After x y h es
+all_weak : (x y : Spot) (h : Plane) (es : List Plane) → pos 0 <ℤ value_at h x → value_at h y ≤ℤ pos 0 →
+    none_positive es x ≡ true → none_positive es y ≡ true → After x y h es
 all_weak x y h [] u d a b = tt
 all_weak x y h (g ∷ gs) u d a b =
-    let p = and_parts (not (is_positive (value_at g x))) (none_positive gs x) a in let q = and_parts (not (is_positive (value_at g y))) (none_positive gs y) b in
-    let v = not_positive_out (value_at g y) q.0 in
-    (weak_first (value_at g x) (neg_ℤ (value_at g y)) (value_at h x) (neg_ℤ (value_at h y)) (not_positive_out (value_at g x) p.0) (omega (arith, linear)) u (omega (arith, linear)), all_weak x y h gs u d p.1 q.1)
+    let p = and_parts (not (is_positive (value_at g x))) (none_positive gs x) a in let q =
+    and_parts (not (is_positive (value_at g y))) (none_positive gs y) b in
+    let v = not_positive_out (value_at g y) q.0 in (
+      weak_first (value_at g x) (neg_ℤ (value_at g y)) (value_at h x) (neg_ℤ (value_at h y))
+          (not_positive_out (value_at g x) p.0) (omega (arith, linear)) u (omega (arith, linear)),
+      all_weak x y h gs u d p.1 q.1,
+    )
 
-all_later : (x y : Spot) (h e : Plane) (es : List Plane) → pos 0 <ℤ value_at h x → pos 0 <ℤ value_at e x → value_at e y ≤ℤ pos 0 → none_positive es y ≡ true → (value_at h x *ℤ neg_ℤ (value_at e y)) <ℤ (value_at e x *ℤ neg_ℤ (value_at h y)) → After x y h es → After x y e es
+all_later : (x y : Spot) (h e : Plane) (es : List Plane) → pos 0 <ℤ value_at h x → pos 0 <ℤ value_at e x →
+    value_at e y ≤ℤ pos 0 → none_positive es y ≡ true →
+    (value_at h x *ℤ neg_ℤ (value_at e y)) <ℤ (value_at e x *ℤ neg_ℤ (value_at h y)) → After x y h es → After x y e es
 all_later x y h e [] uh ue d b l f = tt
 all_later x y h e (g ∷ gs) uh ue d b l f =
-    let q = and_parts (not (is_positive (value_at g y))) (none_positive gs y) b in let v = not_positive_out (value_at g y) q.0 in
-    (later (value_at g x) (neg_ℤ (value_at g y)) (value_at h x) (neg_ℤ (value_at h y)) (value_at e x) (neg_ℤ (value_at e y)) uh ue (omega (arith, linear)) (omega (arith, linear)) l f.0, all_later x y h e gs uh ue d q.1 l f.1)
+    let q = and_parts (not (is_positive (value_at g y))) (none_positive gs y) b in let v = not_positive_out (value_at g y) q.0 in (
+      later (value_at g x) (neg_ℤ (value_at g y)) (value_at h x) (neg_ℤ (value_at h y)) (value_at e x)
+          (neg_ℤ (value_at e y)) uh ue (omega (arith, linear)) (omega (arith, linear)) l f.0,
+      all_later x y h e gs uh ue d q.1 l f.1,
+    )
 
 -- if only the second of two points is in the closed edges, some edge is the last that the way between them meets
 pub last_zero : (x y : Spot) (es : List Plane) → none_positive es x ≡ false → none_positive es y ≡ true → Last x y es
@@ -96,11 +116,15 @@ last_zero x y (e ∷ es) a b = by (none_positive es x) refl (last_zero x y es)
     choose r =
         let dh : value_at r.plane y ≤ℤ pos 0 = none_positive_member y es r.plane q.1 r.member in let de : value_at e y ≤ℤ pos 0 = d in
         by_lt_z (pos 0) (value_at e x)
-        (λ u. by_lt_z (value_at r.plane x *ℤ neg_ℤ (value_at e y)) (value_at e x *ℤ neg_ℤ (value_at r.plane y)) (λ l. take (all_later x y r.plane e es r.up u d q.1 l r.after) u) (λ l. keep r l))
-        (λ u. keep r (weak_first (value_at e x) (neg_ℤ (value_at e y)) (value_at r.plane x) (neg_ℤ (value_at r.plane y)) u (omega (arith, linear)) r.up (omega (arith, linear))))
+        (λ u. by_lt_z (value_at r.plane x *ℤ neg_ℤ (value_at e y)) (value_at e x *ℤ neg_ℤ (value_at r.plane y))
+        (λ l. take (all_later x y r.plane e es r.up u d q.1 l r.after) u) (λ l. keep r l))
+        (λ u. keep r (weak_first (value_at e x) (neg_ℤ (value_at e y)) (value_at r.plane x) (neg_ℤ (value_at r.plane y))
+        u (omega (arith, linear)) r.up (omega (arith, linear))))
 
     by : (c : Bool) → none_positive es x ≡ c → (none_positive es x ≡ false → none_positive es y ≡ true → Last x y es) → Last x y (e ∷ es)
     by true h r =
-        let u = positive_from_not (value_at e x) (first (not (is_positive (value_at e x))) (ap (λ (c : Bool). not (is_positive (value_at e x)) && c) (sym h) ∙ a)) in
+        let u = positive_from_not (value_at e x)
+        (first (not (is_positive (value_at e x)))
+        (ap (λ (c : Bool). not (is_positive (value_at e x)) && c) (sym h) ∙ a)) in
         take (all_weak x y e es u d h q.1) u
     by false h r = choose (r h q.1)

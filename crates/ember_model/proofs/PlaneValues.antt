@@ -19,17 +19,21 @@ use Rattle.ember_model.specs.Faces.{size, hit}
 -- the value of a plane at a point times k is k times its value
 pub value_scaled : (k : ℤ) (p : Plane) (s : Spot) → value_at p (scaled k s) ≡ k *ℤ value_at p s
 value_scaled k p s =
-    solve 9 (λ k a b c d x y z w. a ⊗ (k ⊗ x) ⊕ b ⊗ (k ⊗ y) ⊕ c ⊗ (k ⊗ z) ⊖ d ⊗ (k ⊗ w) ≈ k ⊗ (a ⊗ x ⊕ b ⊗ y ⊕ c ⊗ z ⊖ d ⊗ w)) cancels k p.a p.b p.c p.d s.x s.y s.z s.w
+    solve 9 (λ k a b c d x y z w. a ⊗ (k ⊗ x) ⊕ b ⊗ (k ⊗ y) ⊕ c ⊗ (k ⊗ z) ⊖ d ⊗ (k ⊗ w) ≈ k ⊗
+    (a ⊗ x ⊕ b ⊗ y ⊕ c ⊗ z ⊖ d ⊗ w)) cancels k p.a p.b p.c p.d s.x s.y s.z s.w
 
 -- the value of a multiple of a plane is the multiple of its value
 pub value_times : (k : ℤ) (p : Plane) (s : Spot) → value_at (times_plane k p) s ≡ k *ℤ value_at p s
 value_times k p s =
-    solve 9 (λ k a b c d x y z w. (k ⊗ a) ⊗ x ⊕ (k ⊗ b) ⊗ y ⊕ (k ⊗ c) ⊗ z ⊖ (k ⊗ d) ⊗ w ≈ k ⊗ (a ⊗ x ⊕ b ⊗ y ⊕ c ⊗ z ⊖ d ⊗ w)) cancels k p.a p.b p.c p.d s.x s.y s.z s.w
+    solve 9 (λ k a b c d x y z w. (k ⊗ a) ⊗ x ⊕ (k ⊗ b) ⊗ y ⊕ (k ⊗ c) ⊗ z ⊖ (k ⊗ d) ⊗ w ≈ k ⊗
+    (a ⊗ x ⊕ b ⊗ y ⊕ c ⊗ z ⊖ d ⊗ w)) cancels k p.a p.b p.c p.d s.x s.y s.z s.w
 
 -- the value of a plane at a sum of points is the sum of its values
 pub value_plus : (p : Plane) (s t : Spot) → value_at p (plus_s s t) ≡ value_at p s +ℤ value_at p t
 value_plus p s t =
-    solve 12 (λ a b c d x y z w u v q r. a ⊗ (x ⊕ u) ⊕ b ⊗ (y ⊕ v) ⊕ c ⊗ (z ⊕ q) ⊖ d ⊗ (w ⊕ r) ≈ (a ⊗ x ⊕ b ⊗ y ⊕ c ⊗ z ⊖ d ⊗ w) ⊕ (a ⊗ u ⊕ b ⊗ v ⊕ c ⊗ q ⊖ d ⊗ r)) cancels p.a p.b p.c p.d s.x s.y s.z s.w t.x t.y t.z t.w
+    solve 12 (λ a b c d x y z w u v q r. a ⊗ (x ⊕ u) ⊕ b ⊗ (y ⊕ v) ⊕ c ⊗ (z ⊕ q) ⊖ d ⊗ (w ⊕ r) ≈
+    (a ⊗ x ⊕ b ⊗ y ⊕ c ⊗ z ⊖ d ⊗ w) ⊕ (a ⊗ u ⊕ b ⊗ v ⊕ c ⊗ q ⊖ d ⊗ r)) cancels p.a p.b p.c p.d s.x s.y s.z s.w t.x t.y
+    t.z t.w
 
 -- a move along an axis changes a plane's value by the way times the plane's coefficient
 pub value_moved : (p : Plane) (s : Spot) (a : Axis) (by : ℤ) → value_at p (moved s a by) ≡ value_at p s +ℤ by *ℤ along p a
@@ -72,7 +76,10 @@ sgn-sign (negsuc n) = refl
 -- the value of a plane at a hit
 pub value_hit : (q n : Plane) (a : Axis) (p : Spot) → value_at q (hit n a p) ≡ size (along n a) *ℤ value_at q p -ℤ sign (along n a) *ℤ value_at n p *ℤ along q a
 value_hit q n a p =
-    value_moved q (scaled (size (along n a)) p) a (neg_ℤ (sign (along n a) *ℤ value_at n p)) ∙ rw (value_scaled (size (along n a)) q p) (solve 4 (λ m v t k. m ⊗ v ⊕ neg t ⊗ k ≈ m ⊗ v ⊖ t ⊗ k) cancels (size (along n a)) (value_at q p) (sign (along n a) *ℤ value_at n p) (along q a))
+    value_moved q (scaled (size (along n a)) p) a (neg_ℤ (sign (along n a) *ℤ value_at n p))
+    ∙ rw (value_scaled (size (along n a)) q p)
+    (solve 4 (λ m v t k. m ⊗ v ⊕ neg t ⊗ k ≈ m ⊗ v ⊖ t ⊗ k) cancels (size (along n a)) (value_at q p)
+    (sign (along n a) *ℤ value_at n p) (along q a))
 
 -- the hit of a ray lies on the plane
 pub hit_flat : (n : Plane) (a : Axis) (p : Spot) → value_at n (hit n a p) ≡ pos 0
@@ -103,14 +110,21 @@ edgeE u v f = throughE (crossE (minusE v u) f) u
 -- the value of a plane through an edge, by the edge's ends seen from the point
 pub edge_value : (u v : Corner) (f : Vector) (p : Spot) → p.w *ℤ value_at (edge_through u v f) p ≡ neg_ℤ (dot f (cross (seen p u) (seen p v)))
 edge_value u v f p =
-    identity (vector ∷ vector ∷ vector ∷ tuple ∷ []) (λ u v f p. p.w ⊗ valueE (edgeE u v f) p ≈ neg (dotE f (crossE (seenE p u) (seenE p v)))) cancels (vector_of u) (vector_of v) f (tuple_of p)
+    identity (vector ∷ vector ∷ vector ∷ tuple ∷ [])
+    (λ u v f p. p.w ⊗ valueE (edgeE u v f) p ≈ neg (dotE f (crossE (seenE p u) (seenE p v)))) cancels (vector_of u)
+    (vector_of v) f (tuple_of p)
 
 -- the value of a support plane at a point, as a determinant of the corners seen from there
 pub support_value : (t : Tri) (p : Spot) → det (seen p t.a) (seen p t.b) (seen p t.c) ≡ neg_ℤ (p.w *ℤ p.w *ℤ value_at (support_of t) p)
 support_value t p =
-    identity (vector ∷ vector ∷ vector ∷ tuple ∷ []) (λ a b c p. detE (seenE p a) (seenE p b) (seenE p c) ≈ neg (p.w ⊗ p.w ⊗ valueE (supportE a b c) p)) cancels (vector_of t.a) (vector_of t.b) (vector_of t.c) (tuple_of p)
+    identity (vector ∷ vector ∷ vector ∷ tuple ∷ [])
+    (λ a b c p. detE (seenE p a) (seenE p b) (seenE p c) ≈ neg (p.w ⊗ p.w ⊗ valueE (supportE a b c) p)) cancels
+    (vector_of t.a) (vector_of t.b) (vector_of t.c) (tuple_of p)
 
 -- a triangle's normal, seen from a point, by its support plane
-pub normal_value : (t : Tri) (f : Vector) (p : Spot) → dot f (normal (seen p t.a) (seen p t.b) (seen p t.c)) ≡ p.w *ℤ p.w *ℤ dot (cross_product (support_of t)) f
+pub normal_value : (t : Tri) (f : Vector) (p : Spot) →
+    dot f (normal (seen p t.a) (seen p t.b) (seen p t.c)) ≡ p.w *ℤ p.w *ℤ dot (cross_product (support_of t)) f
 normal_value t f p =
-    identity (vector ∷ vector ∷ vector ∷ tuple ∷ vector ∷ []) (λ a b c p f. dotE f (normalE (seenE p a) (seenE p b) (seenE p c)) ≈ p.w ⊗ p.w ⊗ dotE (vector_partE (supportE a b c)) f) cancels (vector_of t.a) (vector_of t.b) (vector_of t.c) (tuple_of p) f
+    identity (vector ∷ vector ∷ vector ∷ tuple ∷ vector ∷ [])
+    (λ a b c p f. dotE f (normalE (seenE p a) (seenE p b) (seenE p c)) ≈ p.w ⊗ p.w ⊗ dotE
+    (vector_partE (supportE a b c)) f) cancels (vector_of t.a) (vector_of t.b) (vector_of t.c) (tuple_of p) f

@@ -23,14 +23,18 @@ use Rattle.ember_model.proofs.Legs.{value_between, leg_off, leg_on}
 hit_scales : (n : Plane) (a : Axis) (k : ℤ) (p : Spot) → Scales k (hit n a p) (hit n a (scaled k p))
 hit_scales n a k p g =
     let x = value_scaled k g p in let y = value_scaled k n p in
-    value_hit g n a (scaled k p) ∙ (λ i. size (along n a) *ℤ x i -ℤ sign (along n a) *ℤ y i *ℤ along g a) ∙ solve 6 (λ m s vg vn k ga. m ⊗ (k ⊗ vg) ⊖ s ⊗ (k ⊗ vn) ⊗ ga ≈ k ⊗ (m ⊗ vg ⊖ s ⊗ vn ⊗ ga)) cancels (size (along n a)) (sign (along n a)) (value_at g p) (value_at n p) k (along g a) ∙ ap (λ (z : ℤ). k *ℤ z) (sym (value_hit g n a p))
+    value_hit g n a (scaled k p) ∙ (λ i. size (along n a) *ℤ x i -ℤ sign (along n a) *ℤ y i *ℤ along g a)
+    ∙ solve 6 (λ m s vg vn k ga. m ⊗ (k ⊗ vg) ⊖ s ⊗ (k ⊗ vn) ⊗ ga ≈ k ⊗ (m ⊗ vg ⊖ s ⊗ vn ⊗ ga)) cancels
+    (size (along n a)) (sign (along n a)) (value_at g p) (value_at n p) k (along g a)
+    ∙ ap (λ (z : ℤ). k *ℤ z) (sym (value_hit g n a p))
 
 -- a positive factor of a point's numbers doesn't change the crossing
 pub crossing_scaled : (f : Face) (a : Axis) (k : ℤ) (p : Spot) → pos 0 <ℤ k → crossing f a (scaled k p) ≡ crossing f a p
 unfolding crossing
 crossing_scaled f a k p l =
     let n = f.support in
-    let x = ap is_neg (ap sgn (ap (λ (v : ℤ). v *ℤ along n a) (value_scaled k n p) ∙ *ℤ_assoc k (value_at n p) (along n a)) ∙ sgn_scaled (value_at n p *ℤ along n a) l) in
+    let x = ap is_neg (ap sgn (ap (λ (v : ℤ). v *ℤ along n a) (value_scaled k n p)
+    ∙ *ℤ_assoc k (value_at n p) (along n a)) ∙ sgn_scaled (value_at n p *ℤ along n a) l) in
     let y = inside_scaled k (hit n a p) (hit n a (scaled k p)) f l (hit_scales n a k p) in
     λ i. cond (x i && y i) (sign (along n a)) (pos 0)
 
@@ -53,7 +57,8 @@ clear_scaled f k p l c =
 -- ---- legs
 size_scaled : (m z : ℤ) → pos 0 <ℤ m → size (m *ℤ z) ≡ m *ℤ size z
 size_scaled m z l =
-    size-is (m *ℤ z) ∙ ap (λ (s : ℤ). s *ℤ (m *ℤ z)) (sign_scaled z l) ∙ solve 3 (λ s m z. s ⊗ (m ⊗ z) ≈ m ⊗ (s ⊗ z)) cancels (sign z) m z ∙ ap (λ (s : ℤ). m *ℤ s) (sym (size-is z))
+    size-is (m *ℤ z) ∙ ap (λ (s : ℤ). s *ℤ (m *ℤ z)) (sign_scaled z l)
+    ∙ solve 3 (λ s m z. s ⊗ (m ⊗ z) ≈ m ⊗ (s ⊗ z)) cancels (sign z) m z ∙ ap (λ (s : ℤ). m *ℤ s) (sym (size-is z))
 
 between_scaled : (n : Plane) (k m : ℤ) (p q : Spot) → pos 0 <ℤ k → pos 0 <ℤ m → Scales (k *ℤ m) (between n p q) (between n (scaled k p) (scaled m q))
 between_scaled n k m p q lk lm g =
@@ -61,14 +66,18 @@ between_scaled n k m p q lk lm g =
     let a : size (value_at n (scaled k p)) ≡ k *ℤ sp = ap size (value_scaled k n p) ∙ size_scaled k (value_at n p) lk in
     let b : size (value_at n (scaled m q)) ≡ m *ℤ sq = ap size (value_scaled m n q) ∙ size_scaled m (value_at n q) lm in
     let c = value_scaled k g p in let d = value_scaled m g q in
-    value_between g n (scaled k p) (scaled m q) ∙ (λ i. b i *ℤ c i +ℤ a i *ℤ d i) ∙ solve 6 (λ k m sp sq vp vq. m ⊗ sq ⊗ (k ⊗ vp) ⊕ k ⊗ sp ⊗ (m ⊗ vq) ≈ k ⊗ m ⊗ (sq ⊗ vp ⊕ sp ⊗ vq)) cancels k m sp sq vp vq ∙ ap (λ (z : ℤ). k *ℤ m *ℤ z) (sym (value_between g n p q))
+    value_between g n (scaled k p) (scaled m q) ∙ (λ i. b i *ℤ c i +ℤ a i *ℤ d i)
+    ∙ solve 6 (λ k m sp sq vp vq. m ⊗ sq ⊗ (k ⊗ vp) ⊕ k ⊗ sp ⊗ (m ⊗ vq) ≈ k ⊗ m ⊗ (sq ⊗ vp ⊕ sp ⊗ vq)) cancels k m sp
+    sq vp vq ∙ ap (λ (z : ℤ). k *ℤ m *ℤ z) (sym (value_between g n p q))
 
 -- a segment between the same points, written with other weights, crosses a face alike
 pub leg_scaled : (f : Face) (k m : ℤ) (p q : Spot) → pos 0 <ℤ k → pos 0 <ℤ m → leg f (scaled k p) (scaled m q) ≡ leg f p q
 unfolding leg
 leg_scaled f k m p q lk lm =
     let n = f.support in
-    let v : value_at n (scaled k p) *ℤ value_at n (scaled m q) ≡ (k *ℤ m) *ℤ (value_at n p *ℤ value_at n q) = (let x = value_scaled k n p in let y = value_scaled m n q in λ i. x i *ℤ y i) ∙ solve 4 (λ k m a b. k ⊗ a ⊗ (m ⊗ b) ≈ k ⊗ m ⊗ (a ⊗ b)) cancels k m (value_at n p) (value_at n q) in
+    let v : value_at n (scaled k p) *ℤ value_at n (scaled m q) ≡ (k *ℤ m) *ℤ (value_at n p *ℤ value_at n q) =
+    (let x = value_scaled k n p in let y = value_scaled m n q in λ i. x i *ℤ y i)
+    ∙ solve 4 (λ k m a b. k ⊗ a ⊗ (m ⊗ b) ≈ k ⊗ m ⊗ (a ⊗ b)) cancels k m (value_at n p) (value_at n q) in
     let x = ap is_neg (ap sgn v ∙ sgn_scaled (value_at n p *ℤ value_at n q) (pos_mul lk lm)) in
     let y = inside_scaled (k *ℤ m) (between n p q) (between n (scaled k p) (scaled m q)) f (pos_mul lk lm) (between_scaled n k m p q lk lm) in
     let z = ap sign (value_scaled m n q) ∙ sign_scaled (value_at n q) lm in
@@ -78,9 +87,13 @@ leg_scaled f k m p q lk lm =
 opposite_signs : (s t : ℤ) → (s *ℤ t) <ℤ pos 0 → sign s ≡ neg_ℤ (sign t)
 opposite_signs s t l =
     by_sign s
-    (λ p. by_sign t (λ q. absurd (let r = pos_mul p q in omega (arith, linear, l, r))) (λ z. absurd (let r = ap (λ (x : ℤ). s *ℤ x) z ∙ *ℤ-zero s in omega (arith, linear, l, r))) (λ q. sign_pos p ∙ ap neg_ℤ (sym (sign_neg q))))
+    (λ p. by_sign t (λ q. absurd (let r = pos_mul p q in omega (arith, linear, l, r)))
+    (λ z. absurd (let r = ap (λ (x : ℤ). s *ℤ x) z ∙ *ℤ-zero s in omega (arith, linear, l, r)))
+    (λ q. sign_pos p ∙ ap neg_ℤ (sym (sign_neg q))))
     (λ z. absurd (let r = ap (λ (x : ℤ). x *ℤ t) z ∙ zero-*ℤ t in omega (arith, linear, l, r)))
-    (λ p. by_sign t (λ q. sign_neg p ∙ ap neg_ℤ (sym (sign_pos q))) (λ z. absurd (let r = ap (λ (x : ℤ). s *ℤ x) z ∙ *ℤ-zero s in omega (arith, linear, l, r))) (λ q. absurd (let r = mul_neg_neg p q in omega (arith, linear, l, r))))
+    (λ p. by_sign t (λ q. sign_neg p ∙ ap neg_ℤ (sym (sign_pos q)))
+    (λ z. absurd (let r = ap (λ (x : ℤ). s *ℤ x) z ∙ *ℤ-zero s in omega (arith, linear, l, r)))
+    (λ q. absurd (let r = mul_neg_neg p q in omega (arith, linear, l, r))))
 
 neg_cond : (b : Bool) (v : ℤ) → cond b (neg_ℤ v) (pos 0) ≡ neg_ℤ (cond b v (pos 0))
 neg_cond true v = refl
@@ -96,12 +109,15 @@ leg_back f p q wp wq = by (is_negative (value_at f.support p *ℤ value_at f.sup
     places : Scales (pos 1) (between f.support p q) (between f.support q p)
     places g =
         let n = f.support in
-        value_between g n q p ∙ +ℤ_comm (size (value_at n p) *ℤ value_at g q) (size (value_at n q) *ℤ value_at g p) ∙ sym (value_between g n p q) ∙ sym (one-*ℤ (value_at g (between n p q)))
+        value_between g n q p ∙ +ℤ_comm (size (value_at n p) *ℤ value_at g q) (size (value_at n q) *ℤ value_at g p)
+        ∙ sym (value_between g n p q) ∙ sym (one-*ℤ (value_at g (between n p q)))
 
     by : (b : Bool) → is_negative (value_at f.support p *ℤ value_at f.support q) ≡ b → leg f q p ≡ neg_ℤ (leg f p q)
     by true e =
         let n = f.support in let low = all_negative f.edges (between n p q) in
         let x = leg_on f p q low (sign (value_at n q)) wp wq e refl refl in
-        let y = leg_on f q p low (neg_ℤ (sign (value_at n q))) wq wp (ap is_negative turn ∙ e) (same_all_negative (pos 1) (between n p q) (between n q p) f.edges (omega (arith, linear)) places) (opposite_signs (value_at n p) (value_at n q) (negative_out (value_at n p *ℤ value_at n q) e)) in
+        let y = leg_on f q p low (neg_ℤ (sign (value_at n q))) wq wp (ap is_negative turn ∙ e)
+        (same_all_negative (pos 1) (between n p q) (between n q p) f.edges (omega (arith, linear)) places)
+        (opposite_signs (value_at n p) (value_at n q) (negative_out (value_at n p *ℤ value_at n q) e)) in
         y ∙ neg_cond low (sign (value_at n q)) ∙ ap neg_ℤ (sym x)
     by false e = leg_off f q p (ap is_negative turn ∙ e) ∙ ap neg_ℤ (sym (leg_off f p q e))

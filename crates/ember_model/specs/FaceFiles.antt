@@ -1,5 +1,6 @@
 -- The text of faces, and the faces of a text
-use Rattle.std.specs.Prelude.{◌≡◌, ℕ, ◌≤◌, List, [], ◌∷◌, ◌++◌, All, map, flat_map, length, codes, decimal, ℤ, pos, unsigned_abs}
+use Rattle.std.specs.Prelude.{◌≡◌, ℕ, ◌≤◌, List, [], ◌∷◌, ◌++◌, All, map, flat_map, length, codes}
+use Rattle.std.specs.Prelude.{decimal, ℤ, pos, unsigned_abs}
 use Rattle.std.specs.Fmt.{signed_decimal}
 use Rattle.std.specs.Int.{◌∣◌}
 use Rattle.ember_algebra.specs.Relations.{Each}

@@ -1,5 +1,6 @@
 -- Faces: a support plane and edge planes. Inside points, the closed face, crossings
-use Rattle.std.specs.Prelude.{◌≡◌, ℤ, pos, neg_ℤ, ◌*ℤ◌, Bool, true, not, ◌&&◌, if◌then◌else◌, List, [], ◌∷◌, ◌++◌, unsigned_abs}
+use Rattle.std.specs.Prelude.{◌≡◌, ℤ, pos, neg_ℤ, ◌*ℤ◌, Bool, true, not, ◌&&◌, if◌then◌else◌, List, []}
+use Rattle.std.specs.Prelude.{◌∷◌, ◌++◌, unsigned_abs}
 use Rattle.std.specs.List.{list_all}
 use Rattle.ember_algebra.specs.Sign.{sign, is_negative, is_zero, is_positive}
 use Rattle.ember_model.specs.declared.tri.Tri.{Tri}

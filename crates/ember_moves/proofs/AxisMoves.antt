@@ -1,10 +1,12 @@
 -- How far a number is from its cell, in ticks.
-use Rattle.std.proofs.Common.{◌≡◌, ◌≤◌, ◌<◌, ◌⊎◌, ⊎_elim, inl, inr, true, max, ℕ, zero, suc, ◌+◌, ◌-◌, ◌*◌, ◌/◌, ◌%◌, refl, sym, ap, ◌∙◌, arith, ℤ, pos, negsuc, neg_ℤ, ◌+ℤ◌, ◌-ℤ◌, ◌*ℤ◌, ◌<ℤ◌, ◌≤ℤ◌, mul-pos}
+use Rattle.std.proofs.Common.{◌≡◌, ◌≤◌, ◌<◌, ◌⊎◌, ⊎_elim, inl, inr, true, max, ℕ, zero, suc, ◌+◌, ◌-◌, ◌*◌, ◌/◌, ◌%◌}
+use Rattle.std.proofs.Common.{refl, sym, ap, ◌∙◌, arith, ℤ, pos, negsuc, neg_ℤ, ◌+ℤ◌, ◌-ℤ◌, ◌*ℤ◌, ◌<ℤ◌, ◌≤ℤ◌, mul-pos}
 use borrow.Author.Differences.{ints}
 use Rattle.std.specs.Int.{int_div_euclid, int_rem_euclid}
 use Rattle.std.specs.Int.RustNames.{unsigned_abs}
 use Rattle.std.proofs.lemmas.Bool.{cases_lt}
-use Rattle.std.proofs.Math.Nat.{div-add-mod, lt-div-mul-add, div-eq_of_lt-le, mul-le-mul_left, lt_of_mul-lt-mul_left, le-max_left, le-max_right, max-eq_left, max-eq_right}
+use Rattle.std.proofs.Math.Nat.{div-add-mod, lt-div-mul-add, div-eq_of_lt-le, mul-le-mul_left, lt_of_mul-lt-mul_left}
+use Rattle.std.proofs.Math.Nat.{le-max_left, le-max_right, max-eq_left, max-eq_right}
 use Rattle.ember_algebra.proofs.Laws.{linear, *ℤ-neg}
 use Rattle.ember_algebra.proofs.Order.{mul_le, mul_lt}
 use Rattle.ember_algebra.proofs.Ring.{◌⊕◌, ◌⊖◌, ◌⊗◌, ◌≈◌, num, solve, cancels}
@@ -88,13 +90,18 @@ module _ (s : Step) (k : ℕ) (v : Fraction) (some : 0 < k) (p : 0 < v.denominat
       let whole : 0 < 2 * (s.numerator * k) = omega (arith, half) in
       let chain = floor_chain (pos (2 * (s.denominator * k)) *ℤ x) b (s.numerator * k) (2 * (s.numerator * k)) p whole in
       let over : (pos (2 * (s.denominator * k)) *ℤ x +ℤ pos (b * (s.numerator * k))) ≡ pos k *ℤ (scaled_number s v +ℤ scaled_half s v) =
-      solve 5 (λ d k x b n. num (pos 2) ⊗ (d ⊗ k) ⊗ x ⊕ b ⊗ (n ⊗ k) ≈ k ⊗ (num (pos 2) ⊗ d ⊗ x ⊕ b ⊗ n)) cancels (pos s.denominator) (pos k) x (pos b) (pos s.numerator) in
+      solve 5 (λ d k x b n. num (pos 2) ⊗ (d ⊗ k) ⊗ x ⊕ b ⊗ (n ⊗ k) ≈ k ⊗ (num (pos 2) ⊗ d ⊗ x ⊕ b ⊗ n)) cancels
+      (pos s.denominator) (pos k) x (pos b) (pos s.numerator) in
       let under : pos (b * (2 * (s.numerator * k))) ≡ pos (k * (b * (2 * s.numerator))) =
       solve 3 (λ k b n. b ⊗ (num (pos 2) ⊗ (n ⊗ k)) ≈ k ⊗ (b ⊗ (num (pos 2) ⊗ n))) cancels (pos k) (pos b) (pos s.numerator) in
-      chain ∙ (λ i. int_div_euclid (over i) (under i)) ∙ scaled_floor k (scaled_number s v +ℤ scaled_half s v) (b * (2 * s.numerator)) some (mul-pos p (omega (arith, q)))
+      chain ∙ (λ i. int_div_euclid (over i) (under i))
+      ∙ scaled_floor k (scaled_number s v +ℤ scaled_half s v) (b * (2 * s.numerator)) some
+      (mul-pos p (omega (arith, q)))
 
   -- what is left above the lower end of the cell tells where its middle is
-  middle_is : (low rest : ℤ) → low ≡ floor_of_multiple (2 * (s.denominator * k)) v → rest ≡ int_rem_euclid (low +ℤ pos (s.numerator * k)) (pos (2 * (s.numerator * k))) → (low +ℤ (pos (s.numerator * k) -ℤ rest)) ≡ pos (2 * (s.numerator * k)) *ℤ cell_of s v
+  middle_is : (low rest : ℤ) → low ≡ floor_of_multiple (2 * (s.denominator * k)) v →
+      rest ≡ int_rem_euclid (low +ℤ pos (s.numerator * k)) (pos (2 * (s.numerator * k))) →
+      (low +ℤ (pos (s.numerator * k) -ℤ rest)) ≡ pos (2 * (s.numerator * k)) *ℤ cell_of s v
   middle_is low rest e r =
       let half : 0 < s.numerator * k = mul-pos q some in
       let whole : 0 < 2 * (s.numerator * k) = omega (arith, half) in
@@ -104,25 +111,32 @@ module _ (s : Step) (k : ℕ) (v : Fraction) (some : 0 < k) (p : 0 < v.denominat
       omega (arith, linear, left, same)
 
   -- how far the number is from its cell, times its denominator and the fineness
-  apart_is : (cell : ℤ) → cell ≡ pos (2 * (s.numerator * k)) *ℤ cell_of s v → pos k *ℤ (scaled_number s v -ℤ scaled_step s v *ℤ cell_of s v) ≡ pos (2 * (s.denominator * k)) *ℤ v.numerator -ℤ pos v.denominator *ℤ cell
+  apart_is : (cell : ℤ) → cell ≡ pos (2 * (s.numerator * k)) *ℤ cell_of s v →
+      pos k *ℤ (scaled_number s v -ℤ scaled_step s v *ℤ cell_of s v) ≡ pos (2 * (s.denominator * k)) *ℤ v.numerator -ℤ pos
+      v.denominator *ℤ cell
   apart_is cell e = rw e
-      (solve 6 (λ d k x b n c. k ⊗ (num (pos 2) ⊗ d ⊗ x ⊖ b ⊗ (num (pos 2) ⊗ n) ⊗ c) ≈ num (pos 2) ⊗ (d ⊗ k) ⊗ x ⊖ b ⊗ (num (pos 2) ⊗ (n ⊗ k) ⊗ c)) cancels (pos s.denominator) (pos k) v.numerator (pos v.denominator) (pos s.numerator) (cell_of s v))
+      (solve 6 (λ d k x b n c. k ⊗ (num (pos 2) ⊗ d ⊗ x ⊖ b ⊗ (num (pos 2) ⊗ n) ⊗ c) ≈ num (pos 2) ⊗ (d ⊗ k) ⊗ x ⊖ b ⊗
+      (num (pos 2) ⊗ (n ⊗ k) ⊗ c)) cancels (pos s.denominator) (pos k) v.numerator (pos v.denominator)
+      (pos s.numerator) (cell_of s v))
 
   -- ---- the bounds of both floors
   above_low : (low : ℤ) → low ≡ floor_of_multiple (2 * (s.denominator * k)) v → (pos v.denominator *ℤ low) ≤ℤ (pos (2 * (s.denominator * k)) *ℤ v.numerator)
   above_low low e = rw e (floor_low (pos (2 * (s.denominator * k)) *ℤ v.numerator) v.denominator p)
 
-  below_low : (low : ℤ) → low ≡ floor_of_multiple (2 * (s.denominator * k)) v → (pos (2 * (s.denominator * k)) *ℤ v.numerator) <ℤ (pos v.denominator *ℤ low +ℤ pos v.denominator)
+  below_low : (low : ℤ) → low ≡ floor_of_multiple (2 * (s.denominator * k)) v →
+      (pos (2 * (s.denominator * k)) *ℤ v.numerator) <ℤ (pos v.denominator *ℤ low +ℤ pos v.denominator)
   below_low low e = rw e (floor_high (pos (2 * (s.denominator * k)) *ℤ v.numerator) v.denominator p)
 
-  below_high : (high : ℤ) → high ≡ ceiling_of_multiple (2 * (s.denominator * k)) v → (pos (2 * (s.denominator * k)) *ℤ v.numerator) ≤ℤ (pos v.denominator *ℤ high)
+  below_high : (high : ℤ) → high ≡ ceiling_of_multiple (2 * (s.denominator * k)) v →
+      (pos (2 * (s.denominator * k)) *ℤ v.numerator) ≤ℤ (pos v.denominator *ℤ high)
   below_high high e =
       let factor = pos (2 * (s.denominator * k)) in
       let floor = floor_of_multiple (2 * (s.denominator * k)) (negated v) in
       let low = floor_low (factor *ℤ neg_ℤ v.numerator) v.denominator p in
       rw e (omega (arith, linear, low, *ℤ-neg factor v.numerator, *ℤ-neg (pos v.denominator) floor))
 
-  above_high : (high : ℤ) → high ≡ ceiling_of_multiple (2 * (s.denominator * k)) v → (pos v.denominator *ℤ high) <ℤ (pos (2 * (s.denominator * k)) *ℤ v.numerator +ℤ pos v.denominator)
+  above_high : (high : ℤ) → high ≡ ceiling_of_multiple (2 * (s.denominator * k)) v →
+      (pos v.denominator *ℤ high) <ℤ (pos (2 * (s.denominator * k)) *ℤ v.numerator +ℤ pos v.denominator)
   above_high high e =
       let factor = pos (2 * (s.denominator * k)) in
       let floor = floor_of_multiple (2 * (s.denominator * k)) (negated v) in
@@ -139,7 +153,10 @@ times_size d x m h =
 
 -- m is the move if it is the greater of the distances of both floors: z is a distance, times k it is d times a
 -- number between x and -y
-greater_is_move : (d k : ℕ) (z x y : ℤ) (m : ℕ) → 0 < d → (pos k *ℤ z) ≤ℤ (pos d *ℤ x) → (pos d *ℤ x) <ℤ (pos k *ℤ z +ℤ pos d) → neg_ℤ (pos k *ℤ z) ≤ℤ (pos d *ℤ y) → (pos d *ℤ y) <ℤ (neg_ℤ (pos k *ℤ z) +ℤ pos d) → m ≡ max (unsigned_abs x) (unsigned_abs y) → (k * unsigned_abs z ≤ d * m) × (d * m < k * unsigned_abs z + d)
+greater_is_move : (d k : ℕ) (z x y : ℤ) (m : ℕ) → 0 < d → (pos k *ℤ z) ≤ℤ (pos d *ℤ x) →
+    (pos d *ℤ x) <ℤ (pos k *ℤ z +ℤ pos d) → neg_ℤ (pos k *ℤ z) ≤ℤ (pos d *ℤ y) →
+    (pos d *ℤ y) <ℤ (neg_ℤ (pos k *ℤ z) +ℤ pos d) → m ≡ max (unsigned_abs x) (unsigned_abs y) →
+    (k * unsigned_abs z ≤ d * m) × (d * m < k * unsigned_abs z + d)
 greater_is_move d k z x y m p xl xh yl yh e =
     let t = pos k *ℤ z in
     let size = size_of_multiple k z in
@@ -164,7 +181,11 @@ record IsMove (s : Step) (k : ℕ) (v : Fraction) (m : ℕ) : Type 0 where
   least : v.denominator * m < k * scaled_distance s v + v.denominator
 
 -- the greater of the distances of both floors from the middle of the cell is the move
-move_is : (s : Step) (k : ℕ) (v : Fraction) (low high rest : ℤ) (m : ℕ) → 0 < k → 0 < v.denominator → 0 < s.numerator → low ≡ floor_of_multiple (2 * (s.denominator * k)) v → high ≡ ceiling_of_multiple (2 * (s.denominator * k)) v → rest ≡ int_rem_euclid (low +ℤ pos (s.numerator * k)) (pos (2 * (s.numerator * k))) → m ≡ max (unsigned_abs (high -ℤ (low +ℤ (pos (s.numerator * k) -ℤ rest)))) (unsigned_abs (pos (s.numerator * k) -ℤ rest)) → IsMove s k v m
+move_is : (s : Step) (k : ℕ) (v : Fraction) (low high rest : ℤ) (m : ℕ) → 0 < k → 0 < v.denominator → 0 < s.numerator →
+    low ≡ floor_of_multiple (2 * (s.denominator * k)) v → high ≡ ceiling_of_multiple (2 * (s.denominator * k)) v →
+    rest ≡ int_rem_euclid (low +ℤ pos (s.numerator * k)) (pos (2 * (s.numerator * k))) →
+    m ≡ max (unsigned_abs (high -ℤ (low +ℤ (pos (s.numerator * k) -ℤ rest))))
+    (unsigned_abs (pos (s.numerator * k) -ℤ rest)) → IsMove s k v m
 move_is s k v low high rest m some p q e f r is =
     let d = v.denominator in
     let z = scaled_number s v -ℤ scaled_step s v *ℤ cell_of s v in
@@ -207,7 +228,12 @@ move_is_most s k v m p q move =
     omega (arith, next)
 
 -- the greater of the distances of both floors from the middle of the cell, in ticks
-pub distance_is_ticks : (s : Step) (k : ℕ) (v : Fraction) (low high rest : ℤ) (m : ℕ) → 0 < k → 0 < v.denominator → 0 < s.numerator → low ≡ floor_of_multiple (2 * (s.denominator * k)) v → high ≡ ceiling_of_multiple (2 * (s.denominator * k)) v → rest ≡ int_rem_euclid (low +ℤ pos (s.numerator * k)) (pos (2 * (s.numerator * k))) → m ≡ max (unsigned_abs (high -ℤ (low +ℤ (pos (s.numerator * k) -ℤ rest)))) (unsigned_abs (pos (s.numerator * k) -ℤ rest)) → (m ≡ ticks_of s k v) × (m ≤ s.numerator * k)
+pub distance_is_ticks : (s : Step) (k : ℕ) (v : Fraction) (low high rest : ℤ) (m : ℕ) → 0 < k → 0 < v.denominator →
+    0 < s.numerator → low ≡ floor_of_multiple (2 * (s.denominator * k)) v →
+    high ≡ ceiling_of_multiple (2 * (s.denominator * k)) v →
+    rest ≡ int_rem_euclid (low +ℤ pos (s.numerator * k)) (pos (2 * (s.numerator * k))) →
+    m ≡ max (unsigned_abs (high -ℤ (low +ℤ (pos (s.numerator * k) -ℤ rest))))
+    (unsigned_abs (pos (s.numerator * k) -ℤ rest)) → (m ≡ ticks_of s k v) × (m ≤ s.numerator * k)
 distance_is_ticks s k v low high rest m some p q e f r is =
     let move = move_is s k v low high rest m some p q e f r is in
     (ticks_are s k v m p move, move_is_most s k v m p q move)

@@ -30,7 +30,10 @@ module _ (s : Step) (fineness : ℕ) (vertices : List Vertex) where
   greatest_none fs = zero-max (greatest_square s fineness vertices fs)
 
   -- the greatest of those before and those to come, one triangle later
-  pub greatest_more : (fs : List Facet) (i old new : ℕ) (f d : Facet) → max old (greatest_square s fineness vertices (drop i fs)) ≡ greatest_square s fineness vertices fs → new ≡ max old (facet_square s fineness vertices f) → i < length fs → f ≡ get_or fs i d → max new (greatest_square s fineness vertices (drop (i + 1) fs)) ≡ greatest_square s fineness vertices fs
+  pub greatest_more : (fs : List Facet) (i old new : ℕ) (f d : Facet) →
+      max old (greatest_square s fineness vertices (drop i fs)) ≡ greatest_square s fineness vertices fs →
+      new ≡ max old (facet_square s fineness vertices f) → i < length fs → f ≡ get_or fs i d →
+      max new (greatest_square s fineness vertices (drop (i + 1) fs)) ≡ greatest_square s fineness vertices fs
   greatest_more fs i old new f d before e less is =
       let next : suc i ≡ i + 1 = omega arith in
       let rest = greatest_square s fineness vertices (drop (i + 1) fs) in
@@ -41,7 +44,9 @@ module _ (s : Step) (fineness : ℕ) (vertices : List Vertex) where
       ∙ ap (λ (gs : List Facet). max old (greatest_square s fineness vertices gs)) (sym here)
       ∙ before
 
-  pub greatest_all : (fs : List Facet) (i square : ℕ) → max square (greatest_square s fineness vertices (drop i fs)) ≡ greatest_square s fineness vertices fs → length fs ≤ i → square ≡ greatest_square s fineness vertices fs
+  pub greatest_all : (fs : List Facet) (i square : ℕ) →
+      max square (greatest_square s fineness vertices (drop i fs)) ≡ greatest_square s fineness vertices fs →
+      length fs ≤ i → square ≡ greatest_square s fineness vertices fs
   greatest_all fs i square before h =
       sym (max-zero square) ∙ ap (λ (gs : List Facet). max square (greatest_square s fineness vertices gs)) (sym (drop_all i fs h)) ∙ before
 
@@ -53,4 +58,5 @@ module _ (s : Step) (fineness : ℕ) (vertices : List Vertex) where
       let all = max (facet_square s fineness vertices f) rest in
       let more = le-max_right (facet_square s fineness vertices f) rest in
       All-cons (λ g. facet_square s fineness vertices g ≤ all) f fs (le-max_left (facet_square s fineness vertices f) rest)
-      (All-weaker (λ g. facet_square s fineness vertices g ≤ rest) (λ g. facet_square s fineness vertices g ≤ all) (λ g h. omega (arith, h, more)) fs (none_is_greater fs))
+      (All-weaker (λ g. facet_square s fineness vertices g ≤ rest) (λ g. facet_square s fineness vertices g ≤ all)
+      (λ g h. omega (arith, h, more)) fs (none_is_greater fs))

@@ -1,5 +1,6 @@
 -- Roots and quotients that are rounded up, and lengths that aren't below the true ones.
-use Rattle.std.proofs.Common.{◌≡◌, ◌≤◌, ◌<◌, ⊎_elim, Bool, true, false, cond, ℕ, zero, suc, ◌+◌, ◌-◌, ◌*◌, ◌^◌, nat_le, nat_lt, refl, ap, ◌∙◌, mul-le-mul, arith}
+use Rattle.std.proofs.Common.{◌≡◌, ◌≤◌, ◌<◌, ⊎_elim, Bool, true, false, cond, ℕ, zero, suc, ◌+◌, ◌-◌, ◌*◌, ◌^◌, nat_le}
+use Rattle.std.proofs.Common.{nat_lt, refl, ap, ◌∙◌, mul-le-mul, arith}
 use Rattle.std.proofs.lemmas.Bool.{cases_lt, leb-true, leb-false}
 use Rattle.ember_moves.specs.Shown.{root_up_to, root_above, rounded_up, places_up_to, length_from}
 use Rattle.ember_moves.proofs.AxisMoves.{above_quotient}
@@ -23,7 +24,8 @@ unfolding root_up_to
 root_is_up_to n zero h = record { enough = h; least = λ m l. omega arith }
 root_is_up_to n (suc most) h = by (nat_le n (most * most)) (leb-true n (most * most)) (leb-false n (most * most)) (root_is_up_to n most)
   where
-    by : (b : Bool) → (b ≡ true → n ≤ most * most) → (b ≡ false → most * most < n) → (n ≤ most * most → IsRootAbove n (root_up_to n most)) → IsRootAbove n (cond b (root_up_to n most) (suc most))
+    by : (b : Bool) → (b ≡ true → n ≤ most * most) → (b ≡ false → most * most < n) →
+        (n ≤ most * most → IsRootAbove n (root_up_to n most)) → IsRootAbove n (cond b (root_up_to n most) (suc most))
     by true f g next = next (f refl)
     by false f g next = record {
       enough = h;
@@ -70,7 +72,8 @@ places_found root under zero some h = absurd (omega (arith, some))
 places_found root under (suc places) some h = ap (λ (b : Bool). cond b (suc places) (places_up_to root under places)) h
 
 -- and otherwise there are fewer
-pub places_fewer : (root under places : ℕ) → 0 < places → nat_lt (rounded_up root under places) (10 ^ 9) ≡ false → places_up_to root under places ≡ places_up_to root under (places - 1)
+pub places_fewer : (root under places : ℕ) → 0 < places → nat_lt (rounded_up root under places) (10 ^ 9) ≡ false →
+    places_up_to root under places ≡ places_up_to root under (places - 1)
 unfolding places_up_to
 places_fewer root under zero some h = absurd (omega (arith, some))
 places_fewer root under (suc places) some h =
@@ -83,7 +86,9 @@ no_places root under = refl
 
 -- ---- not below the true ones
 -- n is the square of a length, times the square of `under`
-pub length_not_below : (n under : ℕ) → 0 < under → n * (10 ^ (length_from (root_above n) under).places * 10 ^ (length_from (root_above n) under).places) ≤ under * (length_from (root_above n) under).size * (under * (length_from (root_above n) under).size)
+pub length_not_below : (n under : ℕ) → 0 < under →
+    n * (10 ^ (length_from (root_above n) under).places * 10 ^ (length_from (root_above n) under).places) ≤ under
+    * (length_from (root_above n) under).size * (under * (length_from (root_above n) under).size)
 length_not_below n under p =
     let size = (length_from (root_above n) under).size in
     let root = root_above n in

@@ -1,7 +1,8 @@
 -- The numbers that lists of digits spell.
 use Rattle.std.specs.List.{list_all}
 use Rattle.std.specs.Char.{is_ascii_digit}
-use Rattle.std.proofs.Common.{◌≡◌, ◌≤◌, ◌<◌, ℕ, zero, suc, Bool, true, false, ◌&&◌, ◌+◌, ◌-◌, ◌*◌, ◌^◌, List, [], ◌∷◌, ◌++◌, length, drop, get_or, refl, ◌∙◌, sym, ap, arith}
+use Rattle.std.proofs.Common.{◌≡◌, ◌≤◌, ◌<◌, ℕ, zero, suc, Bool, true, false, ◌&&◌, ◌+◌, ◌-◌, ◌*◌, ◌^◌, List, [], ◌∷◌}
+use Rattle.std.proofs.Common.{◌++◌, length, drop, get_or, refl, ◌∙◌, sym, ap, arith}
 use Rattle.std.proofs.lemmas.Bool.Decides.{nat_tests}
 use Rattle.std.proofs.Math.Nat.{pow-suc, mul-le-mul_left}
 use Rattle.ember_dec.specs.Decimal.{number_from}
@@ -17,7 +18,8 @@ start_moves s x p r f g a b = omega arith
 number_from-start : (s : ℕ) (ds : List ℕ) → number_from s ds ≡ s * 10 ^ length ds + number_from 0 ds
 number_from-start s [] = omega arith
 number_from-start s (d ∷ ds) =
-    rw pow-suc (start_moves s (d - 48) (10 ^ length ds) (number_from 0 ds) _ _ (number_from-start (s * 10 + (d - 48)) ds) (number_from-start (0 * 10 + (d - 48)) ds))
+    rw pow-suc (start_moves s (d - 48) (10 ^ length ds) (number_from 0 ds) _ _
+    (number_from-start (s * 10 + (d - 48)) ds) (number_from-start (0 * 10 + (d - 48)) ds))
 
 -- digits behind digits
 pub number_from-behind : (xs ys : List ℕ) → number_from 0 (xs ++ ys) ≡ number_from 0 xs * 10 ^ length ys + number_from 0 ys
@@ -48,7 +50,8 @@ pub number_from-below : (ds : List ℕ) → list_all is_ascii_digit ds ≡ true 
 number_from-below [] h = omega arith
 number_from-below (d ∷ ds) h =
     let parts = both_true (is_ascii_digit d) (list_all is_ascii_digit ds) h in
-    rw pow-suc (below_step (d - 48) (10 ^ length ds) (number_from 0 ds) (number_from 0 (d ∷ ds)) (number_from-digit d ds) (digit_small d parts.0) (number_from-below ds parts.1))
+    rw pow-suc (below_step (d - 48) (10 ^ length ds) (number_from 0 ds) (number_from 0 (d ∷ ds))
+    (number_from-digit d ds) (digit_small d parts.0) (number_from-below ds parts.1))
 
 -- a digit by its place
 digit_at : (ds : List ℕ) (i : ℕ) → list_all is_ascii_digit ds ≡ true → i < length ds → is_ascii_digit (get_or ds i 0) ≡ true
@@ -82,7 +85,8 @@ digit_before up start factor ds i value h e =
 -- the same, as a loop that goes from the last digit to the first meets it
 pub digit_before_end : (up : Bool) (start factor : ℕ) (ds : List ℕ) (end value : ℕ) → 0 < end → end ≤ length ds
     → value ≡ quotient up (start + factor * number_from 0 (drop end ds)) (10 ^ length (drop end ds))
-    → quotient up (value + (get_or ds (end - 1) 0 - 48) * factor) 10 ≡ quotient up (start + factor * number_from 0 (drop (end - 1) ds)) (10 ^ length (drop (end - 1) ds))
+    → quotient up (value + (get_or ds (end - 1) 0 - 48) * factor) 10 ≡ quotient up
+    (start + factor * number_from 0 (drop (end - 1) ds)) (10 ^ length (drop (end - 1) ds))
 digit_before_end up start factor ds zero value p h e = absurd (omega arith)
 digit_before_end up start factor ds (suc i) value p h e =
     let last : suc i - 1 ≡ i = omega arith in rw last (digit_before up start factor ds i value (omega arith) e)

@@ -1,5 +1,6 @@
 -- Multiples of whole numbers that are multiplied or divided by a power of two.
-use Rattle.std.proofs.Common.{◌≡◌, ◌≤◌, ◌<◌, ℕ, zero, suc, Bool, true, false, ltb, cond, Some, None, ◌+◌, ◌-◌, ◌*◌, ◌/◌, ◌%◌, ◌^◌, min, refl, ◌∙◌, sym, ap, arith, pow-add}
+use Rattle.std.proofs.Common.{◌≡◌, ◌≤◌, ◌<◌, ℕ, zero, suc, Bool, true, false, ltb, cond, Some, None, ◌+◌, ◌-◌, ◌*◌, ◌/◌}
+use Rattle.std.proofs.Common.{◌%◌, ◌^◌, min, refl, ◌∙◌, sym, ap, arith, pow-add}
 use Rattle.std.proofs.lemmas.Bool.Decides.{nat_tests}
 use Rattle.std.proofs.lemmas.Nat.{pow_pos, one_shl, shl_whole}
 use Rattle.std.proofs.Math.Nat.{mul-le-mul_left, mul-lt-mul_of_pos_left, div-le_self, div-lt_iff_lt-mul, pow-le-pow_right}
@@ -10,7 +11,8 @@ use Rattle.ember_number.proofs.Rounding.{by_lt, quotient_exact, quotient_cancel,
 size_cancel : (up : Bool) (factor x k c : ℕ) → 0 < k → 0 < c → size_of_multiple up factor (x * c) (k * c) ≡ size_of_multiple up factor x k
 size_cancel up factor x k c p q =
     let product : factor * (x * c) ≡ (factor * x) * c = omega arith in
-    let value : quotient up (factor * (x * c)) (k * c) ≡ quotient up (factor * x) k = ap (λ (n : ℕ). quotient up n (k * c)) product ∙ quotient_cancel up (factor * x) k c p q in
+    let value : quotient up (factor * (x * c)) (k * c) ≡ quotient up (factor * x) k =
+    ap (λ (n : ℕ). quotient up n (k * c)) product ∙ quotient_cancel up (factor * x) k c p q in
     let test : ltb (x * c) (10 ^ 15 * (k * c)) ≡ ltb x (10 ^ 15 * k) =
     by_lt x (10 ^ 15 * k)
     (λ h. let m : c * x < c * (10 ^ 15 * k) = mul-lt-mul_of_pos_left h q in let far : x * c < 10 ^ 15 * (k * c) = omega (arith, m) in grind (arith, nat_tests))
@@ -18,7 +20,8 @@ size_cancel up factor x k c p q =
     rw (test, value) refl
 
 -- more doublings than 50 change nothing: a number above 0 has reached the limit
-doublings_enough : (s places : ℕ) → (ltb (s * 2 ^ min places 50) (10 ^ 15) ≡ ltb (s * 2 ^ places) (10 ^ 15)) × (s * 2 ^ min places 50 < 10 ^ 15 → s * 2 ^ min places 50 ≡ s * 2 ^ places)
+doublings_enough : (s places : ℕ) → (ltb (s * 2 ^ min places 50) (10 ^ 15) ≡ ltb (s * 2 ^ places) (10 ^ 15)) ×
+    (s * 2 ^ min places 50 < 10 ^ 15 → s * 2 ^ min places 50 ≡ s * 2 ^ places)
 doublings_enough zero places = let none : 0 * 2 ^ min places 50 ≡ 0 * 2 ^ places = omega arith in (ap (λ (n : ℕ). ltb n (10 ^ 15)) none, λ h. none)
 doublings_enough (suc s) places =
     by_lt 50 places
@@ -73,7 +76,8 @@ pub shifted_down : (x places p : ℕ) → x < 2 ^ 105 → p ≡ min places 105 �
 shifted_down x places p h e = ap (λ (n : ℕ). quotient false x (2 ^ n)) e ∙ halvings_enough false x places h
 
 -- the multiple of a whole number times a power of two, if the number is below 10^15
-pub raised_below : (s places factor : ℕ) → s < 2 ^ 64 → (s * 2 ^ min places 50) % 2 ^ 128 < 10 ^ 15 → (up : Bool) → Some ((s * 2 ^ min places 50) % 2 ^ 128 * factor) ≡ size_of_multiple up factor (s * 2 ^ places) 1
+pub raised_below : (s places factor : ℕ) → s < 2 ^ 64 → (s * 2 ^ min places 50) % 2 ^ 128 < 10 ^ 15 → (up : Bool) →
+    Some ((s * 2 ^ min places 50) % 2 ^ 128 * factor) ≡ size_of_multiple up factor (s * 2 ^ places) 1
 raised_below s places factor h less up =
     let m = min places 50 in
     let enough = doublings_enough s places in
@@ -86,7 +90,8 @@ raised_below s places factor h less up =
     ap (λ (n : ℕ). Some n) value ∙ sym (multiple_of_whole up factor (s * 2 ^ places) ∙ ap (λ (b : Bool). cond b (Some (s * 2 ^ places * factor)) None) passes)
 
 -- the number is refused if it reaches 10^15
-pub raised_reached : (s places factor : ℕ) → s < 2 ^ 64 → 10 ^ 15 ≤ (s * 2 ^ min places 50) % 2 ^ 128 → (up : Bool) → None ≡ size_of_multiple up factor (s * 2 ^ places) 1
+pub raised_reached : (s places factor : ℕ) → s < 2 ^ 64 → 10 ^ 15 ≤ (s * 2 ^ min places 50) % 2 ^ 128 → (up : Bool) →
+    None ≡ size_of_multiple up factor (s * 2 ^ places) 1
 raised_reached s places factor h more up =
     let m = min places 50 in
     let enough = doublings_enough s places in
@@ -97,7 +102,8 @@ raised_reached s places factor h more up =
     sym (multiple_of_whole up factor (s * 2 ^ places) ∙ ap (λ (b : Bool). cond b (Some (s * 2 ^ places * factor)) None) fails)
 
 -- the multiple of a whole number over a power of two, if the number is below 10^15
-pub lowered_below : (up : Bool) (s places factor : ℕ) → s / 2 ^ places < 10 ^ 15 → Some (quotient up (s * factor) (2 ^ places)) ≡ size_of_multiple up factor s (2 ^ places)
+pub lowered_below : (up : Bool) (s places factor : ℕ) → s / 2 ^ places < 10 ^ 15 →
+    Some (quotient up (s * factor) (2 ^ places)) ≡ size_of_multiple up factor s (2 ^ places)
 lowered_below up s places factor less =
     let test : ltb (s / 2 ^ places) (10 ^ 15) ≡ true = grind (arith, nat_tests) in
     let passes : ltb s (10 ^ 15 * 2 ^ places) ≡ true = sym (limit_of_quotient s (2 ^ places) (pow_pos places)) ∙ test in
@@ -105,18 +111,22 @@ lowered_below up s places factor less =
     rw passes (ap (λ (n : ℕ). Some (quotient up n (2 ^ places))) turned)
 
 -- a number below 2^24 is below the limit
-pub short_lowered_below : (up : Bool) (s places factor : ℕ) → s < 2 ^ 24 → Some (quotient up (s * factor) (2 ^ places)) ≡ size_of_multiple up factor s (2 ^ places)
+pub short_lowered_below : (up : Bool) (s places factor : ℕ) → s < 2 ^ 24 →
+    Some (quotient up (s * factor) (2 ^ places)) ≡ size_of_multiple up factor s (2 ^ places)
 short_lowered_below up s places factor h = lowered_below up s places factor (omega (arith, h, div-le_self s (2 ^ places)))
 
 -- a power of two above and one below: only their difference counts
-pub scaled_down : (up : Bool) (factor s power scale : ℕ) → power < scale → size_of_multiple up factor s (2 ^ (scale - power)) ≡ size_of_multiple up factor (s * 2 ^ power) (2 ^ scale)
+pub scaled_down : (up : Bool) (factor s power scale : ℕ) → power < scale →
+    size_of_multiple up factor s (2 ^ (scale - power)) ≡ size_of_multiple up factor (s * 2 ^ power) (2 ^ scale)
 scaled_down up factor s power scale h =
     let sum : (scale - power) + power ≡ scale = omega arith in
     let under : 2 ^ (scale - power) * 2 ^ power ≡ 2 ^ scale = sym (pow-add 2 (scale - power) power) ∙ ap (λ (n : ℕ). 2 ^ n) sum in
-    sym (size_cancel up factor s (2 ^ (scale - power)) (2 ^ power) (pow_pos (scale - power)) (pow_pos power)) ∙ ap (λ (n : ℕ). size_of_multiple up factor (s * 2 ^ power) n) under
+    sym (size_cancel up factor s (2 ^ (scale - power)) (2 ^ power) (pow_pos (scale - power)) (pow_pos power))
+    ∙ ap (λ (n : ℕ). size_of_multiple up factor (s * 2 ^ power) n) under
 
 -- a number times one power of two over another, not larger, is a whole number times a power of two
-pub scaled_up : (up : Bool) (factor s power scale : ℕ) → scale ≤ power → size_of_multiple up factor (s * 2 ^ (power - scale)) 1 ≡ size_of_multiple up factor (s * 2 ^ power) (2 ^ scale)
+pub scaled_up : (up : Bool) (factor s power scale : ℕ) → scale ≤ power →
+    size_of_multiple up factor (s * 2 ^ (power - scale)) 1 ≡ size_of_multiple up factor (s * 2 ^ power) (2 ^ scale)
 scaled_up up factor s power scale h =
     let sum : (power - scale) + scale ≡ power = omega arith in
     let product : 2 ^ (power - scale) * 2 ^ scale ≡ 2 ^ power = sym (pow-add 2 (power - scale) scale) ∙ ap (λ (n : ℕ). 2 ^ n) sum in

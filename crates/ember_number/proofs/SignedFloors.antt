@@ -1,5 +1,6 @@
 -- The floor of a number with a sign, from its size.
-use Rattle.std.proofs.Common.{◌≡◌, ◌<◌, ℕ, zero, suc, Bool, true, false, cond, ltb, Some, None, ◌+◌, ◌-◌, ◌*◌, ◌/◌, ◌^◌, pos, neg_ℤ, ◌*ℤ◌, refl, ◌∙◌, sym, ap, arith}
+use Rattle.std.proofs.Common.{◌≡◌, ◌<◌, ℕ, zero, suc, Bool, true, false, cond, ltb, Some, None, ◌+◌, ◌-◌, ◌*◌, ◌/◌, ◌^◌}
+use Rattle.std.proofs.Common.{pos, neg_ℤ, ◌*ℤ◌, refl, ◌∙◌, sym, ap, arith}
 use borrow.Author.Differences.{ints}
 use Rattle.std.specs.Int.{int_div_euclid}
 use Rattle.std.specs.Int.RustNames.{unsigned_abs}
@@ -34,7 +35,9 @@ sign_last true minus n = refl
 sign_last false minus n = refl
 
 -- what the size of a multiple gives once it has its sign
-pub signed_multiple : (minus : Bool) (factor over under : ℕ) → 0 < under → floor_times factor (record { numerator = signed_whole minus over; denominator = under }) ≡ option_map (signed_whole minus) (size_of_multiple minus factor over under)
+pub signed_multiple : (minus : Bool) (factor over under : ℕ) → 0 < under →
+    floor_times factor (record { numerator = signed_whole minus over; denominator = under }) ≡ option_map
+    (signed_whole minus) (size_of_multiple minus factor over under)
 signed_multiple minus factor over under p =
     rw (unsigned_abs-signed_whole minus over, times_signed minus factor over, floor_signed minus (factor * over) under p)
     (sign_last (ltb over (10 ^ 15 * under)) minus (quotient minus (factor * over) under))

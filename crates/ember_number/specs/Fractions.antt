@@ -1,5 +1,6 @@
 -- Exact numbers, and the whole numbers below their multiples
-use Rattle.std.specs.Prelude.{ℕ, ◌*◌, ◌^◌, Bool, true, false, ℤ, pos, neg_ℤ, ◌*ℤ◌, Option, Some, None, if◌then◌else◌, nat_lt, unsigned_abs}
+use Rattle.std.specs.Prelude.{ℕ, ◌*◌, ◌^◌, Bool, true, false, ℤ, pos, neg_ℤ, ◌*ℤ◌, Option, Some, None}
+use Rattle.std.specs.Prelude.{if◌then◌else◌, nat_lt, unsigned_abs}
 use Rattle.std.specs.Int.{int_div_euclid}
 
 -- a whole number divided by one that is above 0

@@ -13,7 +13,8 @@ after_fault places mesh fault [] = refl
 after_fault places mesh fault (line ∷ lines) = refl
 
 -- lines, the first of them too long
-pub long_line : (places mesh number : ℕ) (table : Table) (lines : List Line) → BeginsLong number lines → after_lines places mesh (Ok table) lines ≡ Err (LongLine number)
+pub long_line : (places mesh number : ℕ) (table : Table) (lines : List Line) → BeginsLong number lines →
+    after_lines places mesh (Ok table) lines ≡ Err (LongLine number)
 long_line places mesh number table [] long = absurd long
 long_line places mesh number table (line ∷ lines) long =
     rw (lt-ltb 65536 (length line.text) long.1) (after_fault places mesh (LongLine line.number) lines ∙ ap (λ n. Err (LongLine n)) long.0)

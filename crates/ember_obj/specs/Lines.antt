@@ -1,5 +1,6 @@
 -- The lines of a file.
-use Rattle.std.specs.Prelude.{◌≡◌, ◌<◌, ℕ, ◌+◌, ◌-◌, Bool, not, ◌&&◌, List, [], ◌∷◌, ◌++◌, if◌then◌else◌, ◌==◌, nat_eq, length, take, drop, map}
+use Rattle.std.specs.Prelude.{◌≡◌, ◌<◌, ℕ, ◌+◌, ◌-◌, Bool, not, ◌&&◌, List, [], ◌∷◌, ◌++◌, if◌then◌else◌}
+use Rattle.std.specs.Prelude.{◌==◌, nat_eq, length, take, drop, map}
 use Rattle.std.specs.List.{list_any, starts_with, ends_with}
 use Rattle.ember_obj.specs.Scan.{before}
 

@@ -1,5 +1,6 @@
 -- What the bytes of an OBJ file mean: its triangles with their lines, or its first fault.
-use Rattle.std.specs.Prelude.{◌≡◌, ℕ, ◌+◌, List, [], ◌∷◌, ◌++◌, if◌then◌else◌, ◌==◌, nat_lt, nat_le, length, replicate, Option, None, Some, Result, Ok, Err, ℤ}
+use Rattle.std.specs.Prelude.{◌≡◌, ℕ, ◌+◌, List, [], ◌∷◌, ◌++◌, if◌then◌else◌, ◌==◌, nat_lt, nat_le}
+use Rattle.std.specs.Prelude.{length, replicate, Option, None, Some, Result, Ok, Err, ℤ}
 use Rattle.ember_dec.specs.Decimal.{coordinate_of}
 use Rattle.ember_dec.specs.declared.DecFault.{DecFault}
 use Rattle.ember_model.specs.declared.point.Corner.{Corner}

@@ -1,5 +1,6 @@
 -- What the bytes of an OFF file mean: points and triangles, or the first fault
-use Rattle.std.specs.Prelude.{codes, ℕ, ◌+◌, Bool, ◌||◌, List, [], ◌∷◌, ◌++◌, if◌then◌else◌, nat_lt, nat_le, length, take, drop, zero, suc, Option, None, Some, Result, Ok, Err}
+use Rattle.std.specs.Prelude.{codes, ℕ, ◌+◌, Bool, ◌||◌, List, [], ◌∷◌, ◌++◌, if◌then◌else◌, nat_lt}
+use Rattle.std.specs.Prelude.{nat_le, length, take, drop, zero, suc, Option, None, Some, Result, Ok, Err}
 use Rattle.std.specs.Str.{str_eq_ignore_ascii_case}
 use Rattle.ember_number.specs.Fractions.{Fraction}
 use Rattle.ember_number.specs.Naturals.{number_of, below}
@@ -8,7 +9,9 @@ use Rattle.ember_scan.specs.Parts.{Piece, span_of, first_three}
 use Rattle.ember_surface.specs.declared.surface.Facet.{Facet}
 use Rattle.ember_surface.specs.Surfaces.{Point, Content, fan, first_far}
 use Rattle.ember_off.specs.declared.fault.OffFault.{OffFault}
-use Rattle.ember_off.specs.declared.fault.OffFault.TheVariants.{NoOff, NoCounts, FewLines, FewCoordinates, NotANumber, Face, NoTriangles, TooLarge}
+use Rattle.ember_off.specs.declared.fault.OffFault.TheVariants.{NoOff, NoCounts, FewLines}
+use Rattle.ember_off.specs.declared.fault.OffFault.TheVariants.{FewCoordinates, NotANumber, Face}
+use Rattle.ember_off.specs.declared.fault.OffFault.TheVariants.{NoTriangles, TooLarge}
 use Rattle.ember_off.specs.Rows.{Words, rows_of}
 
 -- ---- rows in order, up to the first fault

@@ -1,5 +1,6 @@
 -- Edges that lead around a convex polygon are the outline of its face.
-use Rattle.std.proofs.Common.{◌≡◌, ℕ, zero, suc, ◌+◌, ◌<◌, ◌≤◌, List, [], ◌∷◌, ◌++◌, map, length, length-append, append_assoc, Some, None, inl, refl, sym, ap, ◌∙◌, subst, arith}
+use Rattle.std.proofs.Common.{◌≡◌, ℕ, zero, suc, ◌+◌, ◌<◌, ◌≤◌, List, [], ◌∷◌, ◌++◌, map, length, length-append}
+use Rattle.std.proofs.Common.{append_assoc, Some, None, inl, refl, sym, ap, ◌∙◌, subst, arith}
 use Rattle.std.specs.List.{AllByRecursion, slice_get}
 use Rattle.std.proofs.lemmas.List.{map-append}
 use Rattle.ember_chain.specs.Chains.{IsOutlined}
@@ -69,11 +70,13 @@ in_planes before p after s e q =
       here = (λ k. get_or (before ++ p ∷ after) (q k) (e k)) ∙ here_after before p after ∙ sym e;
     }
 
-listed : (gs before : List Plane) (index : ℕ) (es : List RingEdge) → before ++ planes es ≡ gs → index ≡ length before → AllByRecursion (λ s. IsInPlanes gs s) (sides_from index es)
+listed : (gs before : List Plane) (index : ℕ) (es : List RingEdge) → before ++ planes es ≡ gs → index ≡ length before →
+    AllByRecursion (λ s. IsInPlanes gs s) (sides_from index es)
 listed gs before index [] q n = tt
 listed gs before index (e ∷ es) q n = (
   subst (λ (ps : List Plane). IsInPlanes ps (side_from index e)) q (in_planes before e.plane (planes es) (side_from index e) refl n),
-  listed gs (before ++ e.plane ∷ []) (index + 1) es (append_assoc before (e.plane ∷ []) (planes es) ∙ q) (omega (arith, n, length-append before (e.plane ∷ []))),
+  listed gs (before ++ e.plane ∷ []) (index + 1) es (append_assoc before (e.plane ∷ []) (planes es) ∙ q)
+      (omega (arith, n, length-append before (e.plane ∷ []))),
 )
 
 -- a fact of the sides' planes is one of the planes
@@ -82,7 +85,8 @@ each_plane P index [] h = tt
 each_plane P index (e ∷ es) h = (h.0, each_plane P (index + 1) es h.1)
 
 -- each plane has its side
-side_with_index : (index i : ℕ) (es : List RingEdge) (h : Plane) → slice_get (planes es) i ≡ Some h → (s : Side) × (slice_get (sides_from index es) i ≡ Some s) × (s.plane_index ≡ index + i)
+side_with_index : (index i : ℕ) (es : List RingEdge) (h : Plane) → slice_get (planes es) i ≡ Some h →
+    (s : Side) × (slice_get (sides_from index es) i ≡ Some s) × (s.plane_index ≡ index + i)
 side_with_index index i [] h q = absurd (none q)
   where
     none : None ≡ Some h → ⊥
@@ -124,5 +128,7 @@ round_is_outlined w round =
       follow = λ v h. each_plane (λ g. IsBelow g v) 0 es h.within;
       follow_closed = λ v h. each_plane (λ g. IsNotAbove g v) 0 es h.within;
     } in
-    let counted : EachHasSideOrNoEdge n gs xs = λ i h q. let s = side_with_index 0 i es h q in inl (record { at = i; side = s.0; here = s.1; plane_index = omega (arith, s.2) }) in
-    subst (λ (ds : List RingEdge). IsOutline (record { support = n; edges = gs }) ds) (outline_of_sides 0 es) (ring_outline n gs xs represents counted (oldest es))
+    let counted : EachHasSideOrNoEdge n gs xs = λ i h q. let s = side_with_index 0 i es h q in
+    inl (record { at = i; side = s.0; here = s.1; plane_index = omega (arith, s.2) }) in
+    subst (λ (ds : List RingEdge). IsOutline (record { support = n; edges = gs }) ds) (outline_of_sides 0 es)
+    (ring_outline n gs xs represents counted (oldest es))

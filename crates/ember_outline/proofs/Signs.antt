@@ -85,29 +85,39 @@ on_plane n e = is_zero (value_at n (spot_of e.start))
 abbrev HasCornerOff : Plane → List CorneredEdge → Type 0
 HasCornerOff n es = Any (λ (e : RingEdge). value_at n e.start ≢ pos 0) (map edge_of es)
 
-off_here_or_later : (n : Plane) (x : CorneredEdge) (xs : List CorneredEdge) (b : Bool) → on_plane n x ≡ b → on_plane n x && list_all (on_plane n) xs ≡ false → (list_all (on_plane n) xs ≡ false → HasCornerOff n xs) → HasCornerOff n (x ∷ xs)
+off_here_or_later : (n : Plane) (x : CorneredEdge) (xs : List CorneredEdge) (b : Bool) → on_plane n x ≡ b →
+    on_plane n x && list_all (on_plane n) xs ≡ false → (list_all (on_plane n) xs ≡ false → HasCornerOff n xs) →
+    HasCornerOff n (x ∷ xs)
 off_here_or_later n x xs false q e later = (0, edge_of x, omega arith, refl, zero_missed _ q)
 off_here_or_later n x xs true q e later =
     let rest = later (sym (ap (λ b. b && list_all (on_plane n) xs) q) ∙ e) in
     (suc rest.0, rest.1, omega (arith, rest.2), rest.3, rest.4)
 
 -- a corner is off the plane if not all are on it
-pub off_found : (n : Plane) (es : List CorneredEdge) → list_all (λ (e : CorneredEdge). is_zero (value_at n (spot_of e.start))) es ≡ false → Any (λ (e : RingEdge). value_at n e.start ≢ pos 0) (map edge_of es)
+pub off_found : (n : Plane) (es : List CorneredEdge) →
+    list_all (λ (e : CorneredEdge). is_zero (value_at n (spot_of e.start))) es ≡ false →
+    Any (λ (e : RingEdge). value_at n e.start ≢ pos 0) (map edge_of es)
 off_found n [] e = absurd (false≢true (sym e))
 off_found n (x ∷ xs) e = off_here_or_later n x xs (on_plane n x) refl e (off_found n xs)
 
 -- ---- all corners behind a plane
-pub starts_found : (g : Plane) (es : List CorneredEdge) → list_all (λ (e : CorneredEdge). is_negative (value_at g (spot_of e.start))) es ≡ true → AllByRecursion (λ t. IsBelow g t.corner) (map side_at es)
+pub starts_found : (g : Plane) (es : List CorneredEdge) →
+    list_all (λ (e : CorneredEdge). is_negative (value_at g (spot_of e.start))) es ≡ true →
+    AllByRecursion (λ t. IsBelow g t.corner) (map side_at es)
 starts_found g es e = all_found _ side_at (λ t. IsBelow g t.corner) (λ x q. below_found g (spot_of x.start) q) es e
 
-pub starts_tested : (g : Plane) (es : List CorneredEdge) → AllByRecursion (λ t. IsBelow g t.corner) (map side_at es) → list_all (λ (e : CorneredEdge). is_negative (value_at g (spot_of e.start))) es ≡ true
+pub starts_tested : (g : Plane) (es : List CorneredEdge) → AllByRecursion (λ t. IsBelow g t.corner) (map side_at es) →
+    list_all (λ (e : CorneredEdge). is_negative (value_at g (spot_of e.start))) es ≡ true
 starts_tested g es h = all_tested _ side_at (λ t. IsBelow g t.corner) (λ x q. below_tested g (spot_of x.start) q) es h
 
 -- ---- a corner behind all planes
-pub lies_found : (v : Spot) (es : List CorneredEdge) → list_all (λ (e : CorneredEdge). is_negative (value_at e.plane v)) es ≡ true → AllByRecursion (λ t. IsBelow t.plane v) (map side_at es)
+pub lies_found : (v : Spot) (es : List CorneredEdge) →
+    list_all (λ (e : CorneredEdge). is_negative (value_at e.plane v)) es ≡ true →
+    AllByRecursion (λ t. IsBelow t.plane v) (map side_at es)
 lies_found v es e = all_found _ side_at (λ t. IsBelow t.plane v) (λ x q. below_found x.plane v q) es e
 
-pub lies_tested : (v : Spot) (es : List CorneredEdge) → AllByRecursion (λ t. IsBelow t.plane v) (map side_at es) → list_all (λ (e : CorneredEdge). is_negative (value_at e.plane v)) es ≡ true
+pub lies_tested : (v : Spot) (es : List CorneredEdge) → AllByRecursion (λ t. IsBelow t.plane v) (map side_at es) →
+    list_all (λ (e : CorneredEdge). is_negative (value_at e.plane v)) es ≡ true
 lies_tested v es h = all_tested _ side_at (λ t. IsBelow t.plane v) (λ x q. below_tested x.plane v q) es h
 
 -- the sides of the edges

@@ -15,7 +15,9 @@ joined : (a b c d e f : List ℕ) → a ++ (b ++ (c ++ (d ++ (e ++ f)))) ≡ ((a
 joined a b c d e f = simp append_assoc
 
 -- of a page with this text of numbers
-pub read_back : (ts : List WrittenTriangle) (title text page : List ℕ) → page ≡ HEAD.now ++ (escaped title ++ (PANEL.now ++ (text ++ (COUNTS.now ++ DRAWING.now)))) → decode_of standard text ≡ Ok (flat_map corner_bytes ts) → IsReadBack ts page
+pub read_back : (ts : List WrittenTriangle) (title text page : List ℕ) →
+    page ≡ HEAD.now ++ (escaped title ++ (PANEL.now ++ (text ++ (COUNTS.now ++ DRAWING.now)))) →
+    decode_of standard text ≡ Ok (flat_map corner_bytes ts) → IsReadBack ts page
 read_back ts title text page is decoded = record {
   front = HEAD.now ++ escaped title;
   text = text;

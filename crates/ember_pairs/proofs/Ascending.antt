@@ -1,5 +1,6 @@
 -- Ascending lists of places, and the pairs of their members.
-use Rattle.std.proofs.Common.{◌≡◌, ◌⊎◌, ⊎_elim, inl, inr, ℕ, zero, suc, ◌+◌, ◌<◌, ◌≤◌, refl, sym, ap, subst, arith, Bool, true, false, cond, List, [], ◌∷◌, ◌++◌, filter}
+use Rattle.std.proofs.Common.{◌≡◌, ◌⊎◌, ⊎_elim, inl, inr, ℕ, zero, suc, ◌+◌, ◌<◌, ◌≤◌, refl, sym, ap, subst, arith}
+use Rattle.std.proofs.Common.{Bool, true, false, cond, List, [], ◌∷◌, ◌++◌, filter}
 use Rattle.std.specs.List.{range_with_len}
 use Rattle.std.proofs.lemmas.Bool.{cases_lt}
 use Rattle.ember_model.proofs.SignTests.{In}
@@ -95,11 +96,16 @@ sorted_append (p ∷ ps) qs s t f =
 
 row_sorted : (k : ℕ) (is : List ℕ) → Ascending is → Sorted (row k is)
 row_sorted k [] a = tt
-row_sorted k (i ∷ is) a =
-    ((λ q m. let r = in_map_out (λ n. pair k n) q is m in subst (λ (x : Pair). Precedes (pair k i) x) (sym r.is) (inr (refl, a.0 r.of r.member))), row_sorted k is a.1)
+row_sorted k (i ∷ is) a = (
+  (λ q m. let r = in_map_out (λ n. pair k n) q is m in
+      subst (λ (x : Pair). Precedes (pair k i) x) (sym r.is) (inr (refl, a.0 r.of r.member))),
+  row_sorted k is a.1,
+)
 
 -- the pairs of an ascending list are sorted
 pub pairs_sorted : (is : List ℕ) → Ascending is → Sorted (pairs_of is)
 pairs_sorted [] a = tt
 pairs_sorted (k ∷ is) a =
-    sorted_append (row k is) (pairs_of is) (row_sorted k is a.1) (pairs_sorted is a.1) (λ p q m n. let r = in_map_out (λ j. pair k j) p is m in let s = pair_out is q a.1 n in subst (λ (x : Pair). Precedes x q) (sym r.is) (inl (a.0 q.low s.low)))
+    sorted_append (row k is) (pairs_of is) (row_sorted k is a.1) (pairs_sorted is a.1) (λ p q m n. let r =
+    in_map_out (λ j. pair k j) p is m in let s = pair_out is q a.1 n in
+    subst (λ (x : Pair). Precedes x q) (sym r.is) (inl (a.0 q.low s.low)))

@@ -35,7 +35,12 @@ module _ (t : Tri) (full : is_flat t ≡ false) (p : Plane) where
   corners : none_behind (heights_of p t) ≡ true → Corners
   corners e =
       let k = three (not (is_negative h.a)) (not (is_negative h.b)) (not (is_negative h.c)) e in
-      record { a = record { at_least = not_negative_out h.a k.a }; b = record { at_least = not_negative_out h.b k.b }; c = record { at_least = not_negative_out h.c k.c } }
+      record {
+        a = record { at_least = not_negative_out h.a k.a };
+        b =
+            record { at_least = not_negative_out h.b k.b };
+        c = record { at_least = not_negative_out h.c k.c };
+      }
 
   -- if no corner is behind a plane, neither is a point of the closed face
   pub closed_beyond : lie_beyond (heights_of p t) ≡ true → (v : Spot) → is_in_closed (face_of t) v ≡ true → IsNotBelow p v
@@ -43,14 +48,17 @@ module _ (t : Tri) (full : is_flat t ≡ false) (p : Plane) where
   closed_beyond e v k =
       let q = and_parts (none_behind (heights_of p t)) (not (all_on (heights_of p t))) e in
       let o = corners q.0 in
-      least_from_opposite p v (corners_at_most (support_of t) (opposite p) v (tri_sides t) (stands t full).sound (most_opposite p _ o.a, (most_opposite p _ o.b, (most_opposite p _ o.c, tt))) (closed_from_face (support_of t) (tri_planes t) (tri_sides t) v (stands t full) (closed_out (face_of t) v k)))
+      least_from_opposite p v (corners_at_most (support_of t) (opposite p) v (tri_sides t) (stands t full).sound
+      (most_opposite p _ o.a, (most_opposite p _ o.b, (most_opposite p _ o.c, tt)))
+      (closed_from_face (support_of t) (tri_planes t) (tri_sides t) v (stands t full) (closed_out (face_of t) v k)))
 
   -- if also not all are on it, the inside points are in front
   pub inside_beyond : lie_beyond (heights_of p t) ≡ true → (v : Spot) → is_inside (face_of t) v ≡ true → IsAbove p v
   unfolding face_of
   inside_beyond e v i =
       let q = and_parts (none_behind (heights_of p t)) (not (all_on (heights_of p t))) e in
-      over (corners q.0) (some_over h.a h.b h.c (corners q.0).a.at_least (corners q.0).b.at_least (corners q.0).c.at_least (not_true (all_on (heights_of p t)) q.1))
+      over (corners q.0) (some_over h.a h.b h.c (corners q.0).a.at_least (corners q.0).b.at_least
+      (corners q.0).c.at_least (not_true (all_on (heights_of p t)) q.1))
     where
       ring : IsInsideRing (support_of t) (tri_sides t) v
       ring = inside_from_face (support_of t) (tri_planes t) (tri_sides t) v (stands t full) (inside_out (face_of t) v i)
@@ -66,22 +74,29 @@ module _ (t : Tri) (full : is_flat t ≡ false) (p : Plane) where
 -- ---- some of several planes
 module _ (t : Tri) (full : is_flat t ≡ false) (v : Spot) where
   -- a point of the closed face isn't behind all
-  closed_not_behind : (planes : List Plane) → lies_beyond_some (heights_over planes t) ≡ true → is_in_closed (face_of t) v ≡ true → AllByRecursion (λ p. IsBelow p v) planes → ⊥
+  closed_not_behind : (planes : List Plane) → lies_beyond_some (heights_over planes t) ≡ true →
+      is_in_closed (face_of t) v ≡ true → AllByRecursion (λ p. IsBelow p v) planes → ⊥
   closed_not_behind [] e k a = absurd (false≢true e)
   closed_not_behind (p ∷ planes) e k a =
-      ⊎_elim (λ here. omega (arith, linear, a.0.under, (closed_beyond t full p here v k).at_least)) (λ later. closed_not_behind planes later k a.1) (or_cases (lie_beyond (heights_of p t)) (lies_beyond_some (heights_over planes t)) e)
+      ⊎_elim (λ here. omega (arith, linear, a.0.under, (closed_beyond t full p here v k).at_least))
+      (λ later. closed_not_behind planes later k a.1)
+      (or_cases (lie_beyond (heights_of p t)) (lies_beyond_some (heights_over planes t)) e)
 
   -- an inside point is in front of one
-  inside_in_front : (planes : List Plane) → lies_beyond_some (heights_over planes t) ≡ true → is_inside (face_of t) v ≡ true → AllByRecursion (λ p. IsNotAbove p v) planes → ⊥
+  inside_in_front : (planes : List Plane) → lies_beyond_some (heights_over planes t) ≡ true →
+      is_inside (face_of t) v ≡ true → AllByRecursion (λ p. IsNotAbove p v) planes → ⊥
   inside_in_front [] e i a = absurd (false≢true e)
   inside_in_front (p ∷ planes) e i a =
-      ⊎_elim (λ here. omega (arith, linear, a.0.at_most, (inside_beyond t full p here v i).over)) (λ later. inside_in_front planes later i a.1) (or_cases (lie_beyond (heights_of p t)) (lies_beyond_some (heights_over planes t)) e)
+      ⊎_elim (λ here. omega (arith, linear, a.0.at_most, (inside_beyond t full p here v i).over))
+      (λ later. inside_in_front planes later i a.1)
+      (or_cases (lie_beyond (heights_of p t)) (lies_beyond_some (heights_over planes t)) e)
 
 -- a triangle beyond an edge plane of another doesn't meet it
 parted_by_edge : (t u : Tri) → lies_beyond_some (heights_over (edges_of t) u) ≡ true → AreMeeting t u → ⊥
 unfolding face_of
 parted_by_edge t u e m =
-    ⊎_elim (λ x. closed_not_behind u m.other x.at (edges_of t) e x.holds (inside_out (face_of t) x.at x.inside).within) (λ y. inside_in_front u m.other y.at (edges_of t) e y.inside (closed_out (face_of t) y.at y.holds).within) m.meet
+    ⊎_elim (λ x. closed_not_behind u m.other x.at (edges_of t) e x.holds (inside_out (face_of t) x.at x.inside).within)
+    (λ y. inside_in_front u m.other y.at (edges_of t) e y.inside (closed_out (face_of t) y.at y.holds).within) m.meet
 
 -- ---- the answers of the code
 true_if_none : (b : Bool) (hs : List Heights) → None ≡ cond b None (Some hs) → b ≡ true

@@ -36,7 +36,8 @@ conjunction_turned x y z = sym (and_assoc x y z) ∙ and_comm (x && y) z
 -- a triangle lies beyond a plane exactly if it does so with its second corner first
 beyond_from_next_corner : (h : Heights) → lie_beyond (turned B h) ≡ lie_beyond h
 beyond_from_next_corner h =
-    ap2 (λ x y. x && not y) (conjunction_turned (not (is_negative h.b)) (not (is_negative h.c)) (not (is_negative h.a))) (conjunction_turned (is_zero h.b) (is_zero h.c) (is_zero h.a))
+    ap2 (λ x y. x && not y) (conjunction_turned (not (is_negative h.b)) (not (is_negative h.c)) (not (is_negative h.a)))
+    (conjunction_turned (is_zero h.b) (is_zero h.c) (is_zero h.a))
 
 -- a triangle lies beyond a plane if it does so with any corner first
 beyond_from_any_corner : (name : CornerName) (h : Heights) → lie_beyond (turned name h) ≡ true → lie_beyond h ≡ true
@@ -54,8 +55,11 @@ mixed_value : (k : ℤ) (e : Plane) (l : ℤ) (m : Plane) (v : Spot) → value_a
 mixed_value k e l m v =
     by k l e.a e.b e.c e.d m.a m.b m.c m.d v.x v.y v.z v.w
   where
-    by : (k l a b c d e f g h x y z w : ℤ) → ((k *ℤ a -ℤ l *ℤ e) *ℤ x +ℤ (k *ℤ b -ℤ l *ℤ f) *ℤ y +ℤ (k *ℤ c -ℤ l *ℤ g) *ℤ z -ℤ (k *ℤ d -ℤ l *ℤ h) *ℤ w) ≡ (k *ℤ (a *ℤ x +ℤ b *ℤ y +ℤ c *ℤ z -ℤ d *ℤ w) -ℤ l *ℤ (e *ℤ x +ℤ f *ℤ y +ℤ g *ℤ z -ℤ h *ℤ w))
-    by = solve 14 (λ k l a b c d e f g h x y z w. (k ⊗ a ⊖ l ⊗ e) ⊗ x ⊕ (k ⊗ b ⊖ l ⊗ f) ⊗ y ⊕ (k ⊗ c ⊖ l ⊗ g) ⊗ z ⊖ (k ⊗ d ⊖ l ⊗ h) ⊗ w ≈ k ⊗ (a ⊗ x ⊕ b ⊗ y ⊕ c ⊗ z ⊖ d ⊗ w) ⊖ l ⊗ (e ⊗ x ⊕ f ⊗ y ⊕ g ⊗ z ⊖ h ⊗ w)) cancels
+    by : (k l a b c d e f g h x y z w : ℤ) → ((k *ℤ a -ℤ l *ℤ e) *ℤ x +ℤ (k *ℤ b -ℤ l *ℤ f) *ℤ y +ℤ (k *ℤ c -ℤ l *ℤ g)
+        *ℤ z -ℤ (k *ℤ d -ℤ l *ℤ h) *ℤ w) ≡ (k *ℤ (a *ℤ x +ℤ b *ℤ y +ℤ c *ℤ z -ℤ d *ℤ w) -ℤ l *ℤ
+        (e *ℤ x +ℤ f *ℤ y +ℤ g *ℤ z -ℤ h *ℤ w))
+    by = solve 14 (λ k l a b c d e f g h x y z w. (k ⊗ a ⊖ l ⊗ e) ⊗ x ⊕ (k ⊗ b ⊖ l ⊗ f) ⊗ y ⊕ (k ⊗ c ⊖ l ⊗ g) ⊗ z ⊖
+        (k ⊗ d ⊖ l ⊗ h) ⊗ w ≈ k ⊗ (a ⊗ x ⊕ b ⊗ y ⊕ c ⊗ z ⊖ d ⊗ w) ⊖ l ⊗ (e ⊗ x ⊕ f ⊗ y ⊕ g ⊗ z ⊖ h ⊗ w)) cancels
 
 -- 0, and the heights of the chord's ends
 abbrev level : Heights → Heights → Heights
@@ -66,7 +70,13 @@ level h e =
 mixed_heights : (e m : Plane) (u : Tri) → heights_of (mixed (heights_of m u).a e (heights_of e u).a m) u ≡ level (heights_of m u) (heights_of e u)
 mixed_heights e m u =
     let h = heights_of m u in let g = heights_of e u in
-    λ i. record { a = (mixed_value h.a e g.a m (spot_of_corner u.a) ∙ same h.a g.a) i; b = (mixed_value h.a e g.a m (spot_of_corner u.b) ∙ swapped h.a g.b g.a h.b) i; c = (mixed_value h.a e g.a m (spot_of_corner u.c) ∙ swapped h.a g.c g.a h.c) i }
+    λ i. record {
+      a = (mixed_value h.a e g.a m (spot_of_corner u.a) ∙ same h.a g.a) i;
+      b =
+          (mixed_value h.a e g.a m (spot_of_corner u.b) ∙ swapped h.a g.b g.a h.b) i;
+      c =
+          (mixed_value h.a e g.a m (spot_of_corner u.c) ∙ swapped h.a g.c g.a h.c) i;
+    }
   where
     same : (a b : ℤ) → a *ℤ b -ℤ b *ℤ a ≡ pos 0
     same = solve 2 (λ a b. a ⊗ b ⊖ b ⊗ a ≈ num (pos 0)) cancels
@@ -110,18 +120,22 @@ module _ (u : Tri) (name : CornerName) (full : is_flat u ≡ false) (m e : Plane
       let x : lie_beyond (heights_of q first) ≡ true = ap lie_beyond (mixed_heights e m first) ∙ b in
       beyond_from_any_corner name (heights_of q u) (sym (ap lie_beyond (turned_triangle_heights name q u)) ∙ x)
 
-  module _ (above : pos 0 <ℤ (heights_of m first).a) (b : is_beyond (chord_of (heights_of m first) (heights_of e first)) ≡ true) (v : Spot) (on : value_at m v ≡ pos 0) where
-    -- then a point of its closed face on the plane that cuts isn't behind e
-    closed_over : is_in_closed (face_of u) v ≡ true → pos 0 ≤ℤ value_at e v
-    closed_over c =
-        let s = (closed_beyond u full q (lies_beyond_mixed b) v c).at_least in
-        factor_left_out_of_at_least (heights_of m first).a (value_at e v) above (rw (← mixed_value_on_cutting_plane (heights_of m first).a e (heights_of e first).a m v on) s)
+  module _ (above : pos 0 <ℤ (heights_of m first).a)
+      (b : is_beyond (chord_of (heights_of m first) (heights_of e first)) ≡ true) (v : Spot) (on : value_at m v ≡ pos 0)
+    where
+      -- then a point of its closed face on the plane that cuts isn't behind e
+      closed_over : is_in_closed (face_of u) v ≡ true → pos 0 ≤ℤ value_at e v
+      closed_over c =
+          let s = (closed_beyond u full q (lies_beyond_mixed b) v c).at_least in
+          factor_left_out_of_at_least (heights_of m first).a (value_at e v) above
+          (rw (← mixed_value_on_cutting_plane (heights_of m first).a e (heights_of e first).a m v on) s)
 
-    -- and an inside point is in front of it
-    inside_over : is_inside (face_of u) v ≡ true → pos 0 <ℤ value_at e v
-    inside_over i =
-        let s = (inside_beyond u full q (lies_beyond_mixed b) v i).over in
-        factor_left_out_of_over (heights_of m first).a (value_at e v) above (rw (← mixed_value_on_cutting_plane (heights_of m first).a e (heights_of e first).a m v on) s)
+      -- and an inside point is in front of it
+      inside_over : is_inside (face_of u) v ≡ true → pos 0 <ℤ value_at e v
+      inside_over i =
+          let s = (inside_beyond u full q (lies_beyond_mixed b) v i).over in
+          factor_left_out_of_over (heights_of m first).a (value_at e v) above
+          (rw (← mixed_value_on_cutting_plane (heights_of m first).a e (heights_of e first).a m v on) s)
 
 -- ---- some of several edge planes
 module _ (n : Plane) (u : Tri) (full : is_flat u ≡ false) (lone : LoneCorner) (l : IsLone (heights_of n u) lone) (v : Spot) (on : value_at n v ≡ pos 0) where
@@ -130,23 +144,49 @@ module _ (n : Plane) (u : Tri) (full : is_flat u ≡ false) (lone : LoneCorner) 
   above = subst (λ (h : Heights). pos 0 <ℤ h.a) (plane_turned_to_lone_corner n u lone l).heights l.alone.first
 
   -- the heights of the chord are those over this plane and the edge plane
-  chord_is : (e : Plane) → chord_heights lone (heights_of e u) ≡ chord_of (heights_of (plane_turned_to_lone_corner n u lone l).plane (turned_triangle lone.name u)) (heights_of e (turned_triangle lone.name u))
+  chord_is : (e : Plane) → chord_heights lone (heights_of e u) ≡ chord_of
+      (heights_of (plane_turned_to_lone_corner n u lone l).plane (turned_triangle lone.name u))
+      (heights_of e (turned_triangle lone.name u))
   chord_is e = ap2 chord_of (plane_turned_to_lone_corner n u lone l).heights (sym (turned_triangle_heights lone.name e u))
 
   -- a point of the closed face on the plane that cuts isn't behind all
-  closed_not_behind : (planes : List Plane) → list_any is_beyond (chord_over lone (heights_over planes u)) ≡ true → is_in_closed (face_of u) v ≡ true → AllByRecursion (λ p. IsBelow p v) planes → ⊥
+  closed_not_behind : (planes : List Plane) → list_any is_beyond (chord_over lone (heights_over planes u)) ≡ true →
+      is_in_closed (face_of u) v ≡ true → AllByRecursion (λ p. IsBelow p v) planes → ⊥
   closed_not_behind [] e k a = absurd (false≢true e)
   closed_not_behind (p ∷ planes) e k a =
-      ⊎_elim (λ here. omega (arith, linear, a.0.under, closed_over u lone.name full (plane_turned_to_lone_corner n u lone l).plane p above (sym (ap is_beyond (chord_is p)) ∙ here) v ((plane_turned_to_lone_corner n u lone l).off v on) k)) (λ later. closed_not_behind planes later k a.1) (or_cases (is_beyond (chord_heights lone (heights_of p u))) (list_any is_beyond (chord_over lone (heights_over planes u))) e)
+      ⊎_elim (λ here. omega (
+        arith,
+        linear,
+        a.0.under,
+        closed_over u lone.name full (plane_turned_to_lone_corner n u lone l).plane p above
+            (sym (ap is_beyond (chord_is p)) ∙ here) v ((plane_turned_to_lone_corner n u lone l).off v on) k,
+      ))
+      (λ later. closed_not_behind planes later k a.1)
+      (or_cases (is_beyond (chord_heights lone (heights_of p u)))
+      (list_any is_beyond (chord_over lone (heights_over planes u))) e)
 
   -- an inside point on it is in front of one
-  inside_in_front : (planes : List Plane) → list_any is_beyond (chord_over lone (heights_over planes u)) ≡ true → is_inside (face_of u) v ≡ true → AllByRecursion (λ p. IsNotAbove p v) planes → ⊥
+  inside_in_front : (planes : List Plane) → list_any is_beyond (chord_over lone (heights_over planes u)) ≡ true →
+      is_inside (face_of u) v ≡ true → AllByRecursion (λ p. IsNotAbove p v) planes → ⊥
   inside_in_front [] e i a = absurd (false≢true e)
   inside_in_front (p ∷ planes) e i a =
-      ⊎_elim (λ here. omega (arith, linear, a.0.at_most, inside_over u lone.name full (plane_turned_to_lone_corner n u lone l).plane p above (sym (ap is_beyond (chord_is p)) ∙ here) v ((plane_turned_to_lone_corner n u lone l).off v on) i)) (λ later. inside_in_front planes later i a.1) (or_cases (is_beyond (chord_heights lone (heights_of p u))) (list_any is_beyond (chord_over lone (heights_over planes u))) e)
+      ⊎_elim (λ here. omega (
+        arith,
+        linear,
+        a.0.at_most,
+        inside_over u lone.name full (plane_turned_to_lone_corner n u lone l).plane p above
+            (sym (ap is_beyond (chord_is p)) ∙ here) v ((plane_turned_to_lone_corner n u lone l).off v on) i,
+      ))
+      (λ later. inside_in_front planes later i a.1)
+      (or_cases (is_beyond (chord_heights lone (heights_of p u)))
+      (list_any is_beyond (chord_over lone (heights_over planes u))) e)
 
 -- triangles don't meet if the chord of one lies beyond an edge of the other
 pub parted_by_chord : (t u : Tri) → HasChordBeyond (heights_of (support_of t) u) (heights_over (edges_of t) u) → AreMeeting t u → ⊥
 unfolding face_of
 parted_by_chord t u x m =
-    ⊎_elim (λ i. closed_not_behind (support_of t) u m.other x.lone x.is_lone i.at (inside_out (face_of t) i.at i.inside).flat (edges_of t) x.beyond i.holds (inside_out (face_of t) i.at i.inside).within) (λ c. inside_in_front (support_of t) u m.other x.lone x.is_lone c.at (closed_out (face_of t) c.at c.holds).flat (edges_of t) x.beyond c.inside (closed_out (face_of t) c.at c.holds).within) m.meet
+    ⊎_elim (λ i. closed_not_behind (support_of t) u m.other x.lone x.is_lone i.at
+    (inside_out (face_of t) i.at i.inside).flat (edges_of t) x.beyond i.holds
+    (inside_out (face_of t) i.at i.inside).within)
+    (λ c. inside_in_front (support_of t) u m.other x.lone x.is_lone c.at (closed_out (face_of t) c.at c.holds).flat
+    (edges_of t) x.beyond c.inside (closed_out (face_of t) c.at c.holds).within) m.meet

@@ -19,10 +19,14 @@ use Rattle.ember_pairs.specs.declared.samples.Weights.{Weights}
 use Rattle.ember_pairs.specs.declared.chords.LoneCorner.{LoneCorner}
 use Rattle.ember_pairs.specs.Heights.{heights_of, heights_over}
 use Rattle.ember_pairs.specs.Samples.{sample_point, sample_height}
-use Rattle.ember_pairs.specs.Chords.{turned, end_height, IsFirstAlone, chord_heights, chord_over, is_first_behind, is_second_behind, is_middle_within, is_edge, HasChordWithin}
+use Rattle.ember_pairs.specs.Chords.{turned, end_height, IsFirstAlone, chord_heights, chord_over, is_first_behind}
+use Rattle.ember_pairs.specs.Chords.{is_second_behind, is_middle_within, is_edge, HasChordWithin}
 use Rattle.ember_pairs.specs.Pairs.{AreMeeting}
 use Rattle.ember_pairs.proofs.PartedTriangles.{some_under}
-use Rattle.ember_pairs.proofs.CornerSums.{AreNotNegative, ArePositive, positive_weights_are_not_negative, HasCornersOf, face_has_triangle_corners, turned_triangle_corners, turned_triangle, turned_triangle_heights, value_at_sum, sum_has_positive_weight, sum_is_closed, sum_is_inside}
+use Rattle.ember_pairs.proofs.CornerSums.{AreNotNegative, ArePositive, positive_weights_are_not_negative, HasCornersOf}
+use Rattle.ember_pairs.proofs.CornerSums.{face_has_triangle_corners, turned_triangle_corners, turned_triangle}
+use Rattle.ember_pairs.proofs.CornerSums.{turned_triangle_heights, value_at_sum, sum_has_positive_weight, sum_is_closed}
+use Rattle.ember_pairs.proofs.CornerSums.{sum_is_inside}
 use Rattle.ember_pairs.proofs.CuttingPlanes.{Cutting, plane_turned_to_lone_corner}
 
 -- ---- the ends and the middle of the chord
@@ -70,7 +74,13 @@ middle_on_plane h = solve 3 (λ a b c. neg (b ⊕ c) ⊗ a ⊕ a ⊗ b ⊕ a ⊗
 -- the first end has weights that aren't negative
 first_weights : {h : Heights} → IsFirstAlone h → AreNotNegative (first_end h)
 first_weights {h} k =
-    record { a = omega (arith, linear, k.second); b = omega (arith, linear, k.first); c = omega (arith, linear); some = omega (arith, linear, k.first, k.second) }
+    record {
+      a = omega (arith, linear, k.second);
+      b = omega (arith, linear, k.first);
+      c = omega (arith, linear);
+      some =
+          omega (arith, linear, k.first, k.second);
+    }
 
 -- the second end has weights that aren't negative
 second_weights : {h : Heights} → IsFirstAlone h → AreNotNegative (second_end h)
@@ -92,12 +102,35 @@ module _ (f g : Face) (u : Tri) (k : HasCornersOf g u) (w : Weights) (flat : val
   -- a sum of the corners that is behind all edge planes is an inside point of f in the closed face g
   point_behind_all_meets : AreNotNegative w → AllByRecursion (λ p. sample_height (heights_of p u) w <ℤ pos 0) f.edges → Meets f g
   point_behind_all_meets n a =
-      record { at = sample_point u w; inside = inside_in f (sample_point u w) (record { flat = flat; weight = sum_has_positive_weight u w n; within = each_map (λ p. sample_height (heights_of p u) w <ℤ pos 0) (λ p. IsBelow p (sample_point u w)) f.edges (λ p l. record { under = rw (value_at_sum p u w) l }) a }); holds = sum_is_closed g u k w n }
+      record {
+        at = sample_point u w;
+        inside = inside_in f (sample_point u w)
+            (record {
+              flat = flat;
+              weight = sum_has_positive_weight u w n;
+              within =
+                  each_map (λ p. sample_height (heights_of p u) w <ℤ pos 0) (λ p. IsBelow p (sample_point u w)) f.edges
+                  (λ p l. record { under = rw (value_at_sum p u w) l }) a;
+            });
+        holds = sum_is_closed g u k w n;
+      }
 
   -- one with positive weights that is in front of none is an inside point of g in the closed face f
   inside_point_in_front_of_none_meets : ArePositive w → AllByRecursion (λ p. sample_height (heights_of p u) w ≤ℤ pos 0) f.edges → Meets g f
   inside_point_in_front_of_none_meets n a =
-      record { at = sample_point u w; inside = sum_is_inside g u k w n; holds = closed_in f (sample_point u w) (record { flat = flat; weight = sum_has_positive_weight u w (positive_weights_are_not_negative n); within = each_map (λ p. sample_height (heights_of p u) w ≤ℤ pos 0) (λ p. IsNotAbove p (sample_point u w)) f.edges (λ p l. record { at_most = rw (value_at_sum p u w) l }) a }) }
+      record {
+        at = sample_point u w;
+        inside = sum_is_inside g u k w n;
+        holds =
+            closed_in f (sample_point u w) (record {
+              flat = flat;
+              weight =
+                  sum_has_positive_weight u w (positive_weights_are_not_negative n);
+              within =
+                  each_map (λ p. sample_height (heights_of p u) w ≤ℤ pos 0) (λ p. IsNotAbove p (sample_point u w)) f.edges
+                  (λ p l. record { at_most = rw (value_at_sum p u w) l }) a;
+            });
+      }
 
 -- ---- from the tests of the code
 module _ (u : Tri) (lone : LoneCorner) where
@@ -110,31 +143,52 @@ module _ (u : Tri) (lone : LoneCorner) where
   moved P p h = subst P (sym (turned_triangle_heights lone.name p u)) h
 
   -- the first end is behind all planes if the test says so
-  first_within : (planes : List Plane) → is_first_behind (chord_over lone (heights_over planes u)) ≡ true → AllByRecursion (λ p. sample_height (heights_of p v) (first_end lone.over) <ℤ pos 0) planes
+  first_within : (planes : List Plane) → is_first_behind (chord_over lone (heights_over planes u)) ≡ true →
+      AllByRecursion (λ p. sample_height (heights_of p v) (first_end lone.over) <ℤ pos 0) planes
   first_within [] e = tt
   first_within (p ∷ planes) e =
-      let q = and_parts (is_negative (chord_heights lone (heights_of p u)).first) (is_first_behind (chord_over lone (heights_over planes u))) e in
-      (moved (λ h. sample_height h (first_end lone.over) <ℤ pos 0) p (rw (first_height lone.over (turned lone.name (heights_of p u))) (negative_out (chord_heights lone (heights_of p u)).first q.0)), first_within planes q.1)
+      let q = and_parts (is_negative (chord_heights lone (heights_of p u)).first) (is_first_behind (chord_over lone (heights_over planes u))) e in (
+        moved (λ h. sample_height h (first_end lone.over) <ℤ pos 0) p
+            (rw (first_height lone.over (turned lone.name (heights_of p u)))
+            (negative_out (chord_heights lone (heights_of p u)).first q.0)),
+        first_within planes q.1,
+      )
 
   -- the second end is behind all planes if the test says so
-  second_within : (planes : List Plane) → is_second_behind (chord_over lone (heights_over planes u)) ≡ true → AllByRecursion (λ p. sample_height (heights_of p v) (second_end lone.over) <ℤ pos 0) planes
+  second_within : (planes : List Plane) → is_second_behind (chord_over lone (heights_over planes u)) ≡ true →
+      AllByRecursion (λ p. sample_height (heights_of p v) (second_end lone.over) <ℤ pos 0) planes
   second_within [] e = tt
   second_within (p ∷ planes) e =
-      let q = and_parts (is_negative (chord_heights lone (heights_of p u)).second) (is_second_behind (chord_over lone (heights_over planes u))) e in
-      (moved (λ h. sample_height h (second_end lone.over) <ℤ pos 0) p (rw (second_height lone.over (turned lone.name (heights_of p u))) (negative_out (chord_heights lone (heights_of p u)).second q.0)), second_within planes q.1)
+      let q = and_parts (is_negative (chord_heights lone (heights_of p u)).second) (is_second_behind (chord_over lone (heights_over planes u))) e in (
+        moved (λ h. sample_height h (second_end lone.over) <ℤ pos 0) p
+            (rw (second_height lone.over (turned lone.name (heights_of p u)))
+            (negative_out (chord_heights lone (heights_of p u)).second q.0)),
+        second_within planes q.1,
+      )
 
   -- the middle is in front of no plane if the test says so
-  middle_within : (planes : List Plane) → is_middle_within (chord_over lone (heights_over planes u)) ≡ true → AllByRecursion (λ p. sample_height (heights_of p v) (middle lone.over) ≤ℤ pos 0) planes
+  middle_within : (planes : List Plane) → is_middle_within (chord_over lone (heights_over planes u)) ≡ true →
+      AllByRecursion (λ p. sample_height (heights_of p v) (middle lone.over) ≤ℤ pos 0) planes
   middle_within [] e = tt
   middle_within (p ∷ planes) e =
-      let q = and_parts (not (is_positive (chord_heights lone (heights_of p u)).middle)) (is_middle_within (chord_over lone (heights_over planes u))) e in
-      (moved (λ h. sample_height h (middle lone.over) ≤ℤ pos 0) p (rw (middle_height lone.over (turned lone.name (heights_of p u))) (not_positive_out (chord_heights lone (heights_of p u)).middle q.0)), middle_within planes q.1)
+      let q = and_parts (not (is_positive (chord_heights lone (heights_of p u)).middle)) (is_middle_within (chord_over lone (heights_over planes u))) e in (
+        moved (λ h. sample_height h (middle lone.over) ≤ℤ pos 0) p
+            (rw (middle_height lone.over (turned lone.name (heights_of p u)))
+            (not_positive_out (chord_heights lone (heights_of p u)).middle q.0)),
+        middle_within planes q.1,
+      )
 
 -- triangles meet if an end of the chord or its middle is within the edges
-pub met_by_chord : (t u : Tri) → is_flat t ≡ false → is_flat u ≡ false → HasChordWithin (heights_of (support_of t) u) (heights_over (edges_of t) u) → AreMeeting t u
+pub met_by_chord : (t u : Tri) → is_flat t ≡ false → is_flat u ≡ false →
+    HasChordWithin (heights_of (support_of t) u) (heights_over (edges_of t) u) → AreMeeting t u
 unfolding face_of
 met_by_chord t u one other x =
-    record { one = one; other = other; meet = ⊎_elim (λ e. inl (first e)) (λ more. ⊎_elim (λ e. inl (second e)) (λ e. inr (within e)) (or_cases _ _ more)) (or_cases _ _ x.within) }
+    record {
+      one = one;
+      other = other;
+      meet = ⊎_elim (λ e. inl (first e))
+          (λ more. ⊎_elim (λ e. inl (second e)) (λ e. inr (within e)) (or_cases _ _ more)) (or_cases _ _ x.within);
+    }
   where
     cut : Cutting (support_of t) u x.lone
     cut = plane_turned_to_lone_corner (support_of t) u x.lone x.is_lone
@@ -145,17 +199,25 @@ met_by_chord t u one other x =
     -- a point of the chord is on the plane of t
     flat : (w : Weights) → sample_height x.lone.over w ≡ pos 0 → value_at (support_of t) (sample_point (turned_triangle x.lone.name u) w) ≡ pos 0
     flat w z =
-        cut.back (sample_point (turned_triangle x.lone.name u) w) (value_at_sum cut.plane (turned_triangle x.lone.name u) w ∙ ap (λ (h : Heights). sample_height h w) (sym cut.heights) ∙ z)
+        cut.back (sample_point (turned_triangle x.lone.name u) w)
+        (value_at_sum cut.plane (turned_triangle x.lone.name u) w
+        ∙ ap (λ (h : Heights). sample_height h w) (sym cut.heights) ∙ z)
 
     first : is_first_behind (chord_over x.lone (heights_over (edges_of t) u)) ≡ true → Meets (face_of t) (face_of u)
     first e =
-        point_behind_all_meets (face_of t) (face_of u) (turned_triangle x.lone.name u) corners (first_end x.lone.over) (flat (first_end x.lone.over) (first_end_on_plane x.lone.over)) (first_weights x.is_lone.alone) (first_within u x.lone (edges_of t) e)
+        point_behind_all_meets (face_of t) (face_of u) (turned_triangle x.lone.name u) corners (first_end x.lone.over)
+        (flat (first_end x.lone.over) (first_end_on_plane x.lone.over)) (first_weights x.is_lone.alone)
+        (first_within u x.lone (edges_of t) e)
 
     second : is_second_behind (chord_over x.lone (heights_over (edges_of t) u)) ≡ true → Meets (face_of t) (face_of u)
     second e =
-        point_behind_all_meets (face_of t) (face_of u) (turned_triangle x.lone.name u) corners (second_end x.lone.over) (flat (second_end x.lone.over) (second_end_on_plane x.lone.over)) (second_weights x.is_lone.alone) (second_within u x.lone (edges_of t) e)
+        point_behind_all_meets (face_of t) (face_of u) (turned_triangle x.lone.name u) corners (second_end x.lone.over)
+        (flat (second_end x.lone.over) (second_end_on_plane x.lone.over)) (second_weights x.is_lone.alone)
+        (second_within u x.lone (edges_of t) e)
 
     within : not (is_edge x.lone) && is_middle_within (chord_over x.lone (heights_over (edges_of t) u)) ≡ true → Meets (face_of u) (face_of t)
     within e =
         let q = and_parts (not (is_edge x.lone)) (is_middle_within (chord_over x.lone (heights_over (edges_of t) u))) e in
-        inside_point_in_front_of_none_meets (face_of t) (face_of u) (turned_triangle x.lone.name u) corners (middle x.lone.over) (flat (middle x.lone.over) (middle_on_plane x.lone.over)) (middle_weights x.is_lone.alone (not_true (is_edge x.lone) q.0)) (middle_within u x.lone (edges_of t) q.1)
+        inside_point_in_front_of_none_meets (face_of t) (face_of u) (turned_triangle x.lone.name u) corners
+        (middle x.lone.over) (flat (middle x.lone.over) (middle_on_plane x.lone.over))
+        (middle_weights x.is_lone.alone (not_true (is_edge x.lone) q.0)) (middle_within u x.lone (edges_of t) q.1)

@@ -28,8 +28,15 @@ pub value_at_sum : (p : Plane) (t : Tri) (w : Weights) → value_at p (sample_po
 value_at_sum p t w =
     by w.a w.b w.c p.a p.b p.c p.d t.a.x t.a.y t.a.z t.b.x t.b.y t.b.z t.c.x t.c.y t.c.z
   where
-    by : (i j k a b c d x y z u v q r s o : ℤ) → (a *ℤ (i *ℤ x +ℤ j *ℤ u +ℤ k *ℤ r) +ℤ b *ℤ (i *ℤ y +ℤ j *ℤ v +ℤ k *ℤ s) +ℤ c *ℤ (i *ℤ z +ℤ j *ℤ q +ℤ k *ℤ o) -ℤ d *ℤ (i *ℤ pos 1 +ℤ j *ℤ pos 1 +ℤ k *ℤ pos 1)) ≡ (i *ℤ (a *ℤ x +ℤ b *ℤ y +ℤ c *ℤ z -ℤ d *ℤ pos 1) +ℤ j *ℤ (a *ℤ u +ℤ b *ℤ v +ℤ c *ℤ q -ℤ d *ℤ pos 1) +ℤ k *ℤ (a *ℤ r +ℤ b *ℤ s +ℤ c *ℤ o -ℤ d *ℤ pos 1))
-    by = solve 16 (λ i j k a b c d x y z u v q r s o. a ⊗ (i ⊗ x ⊕ j ⊗ u ⊕ k ⊗ r) ⊕ b ⊗ (i ⊗ y ⊕ j ⊗ v ⊕ k ⊗ s) ⊕ c ⊗ (i ⊗ z ⊕ j ⊗ q ⊕ k ⊗ o) ⊖ d ⊗ (i ⊗ num (pos 1) ⊕ j ⊗ num (pos 1) ⊕ k ⊗ num (pos 1)) ≈ i ⊗ (a ⊗ x ⊕ b ⊗ y ⊕ c ⊗ z ⊖ d ⊗ num (pos 1)) ⊕ j ⊗ (a ⊗ u ⊕ b ⊗ v ⊕ c ⊗ q ⊖ d ⊗ num (pos 1)) ⊕ k ⊗ (a ⊗ r ⊕ b ⊗ s ⊕ c ⊗ o ⊖ d ⊗ num (pos 1))) cancels
+    by : (i j k a b c d x y z u v q r s o : ℤ) →
+        (a *ℤ (i *ℤ x +ℤ j *ℤ u +ℤ k *ℤ r) +ℤ b *ℤ (i *ℤ y +ℤ j *ℤ v +ℤ k *ℤ s) +ℤ c *ℤ (i *ℤ z +ℤ j *ℤ q +ℤ k *ℤ o) -ℤ d
+        *ℤ (i *ℤ pos 1 +ℤ j *ℤ pos 1 +ℤ k *ℤ pos 1))
+        ≡ (i *ℤ (a *ℤ x +ℤ b *ℤ y +ℤ c *ℤ z -ℤ d *ℤ pos 1) +ℤ j *ℤ (a *ℤ u +ℤ b *ℤ v +ℤ c *ℤ q -ℤ d *ℤ pos 1) +ℤ k *ℤ
+        (a *ℤ r +ℤ b *ℤ s +ℤ c *ℤ o -ℤ d *ℤ pos 1))
+    by = solve 16 (λ i j k a b c d x y z u v q r s o. a ⊗ (i ⊗ x ⊕ j ⊗ u ⊕ k ⊗ r) ⊕ b ⊗ (i ⊗ y ⊕ j ⊗ v ⊕ k ⊗ s) ⊕ c ⊗
+        (i ⊗ z ⊕ j ⊗ q ⊕ k ⊗ o) ⊖ d ⊗ (i ⊗ num (pos 1) ⊕ j ⊗ num (pos 1) ⊕ k ⊗ num (pos 1)) ≈ i ⊗
+        (a ⊗ x ⊕ b ⊗ y ⊕ c ⊗ z ⊖ d ⊗ num (pos 1)) ⊕ j ⊗ (a ⊗ u ⊕ b ⊗ v ⊕ c ⊗ q ⊖ d ⊗ num (pos 1)) ⊕ k ⊗
+        (a ⊗ r ⊕ b ⊗ s ⊕ c ⊗ o ⊖ d ⊗ num (pos 1))) cancels
 
 -- weights of which none is negative, and one is positive
 pub record AreNotNegative (w : Weights) : Type 0 where
@@ -125,12 +132,25 @@ module _ (f : Face) (t : Tri) (k : HasCornersOf f t) (w : Weights) where
   -- a sum of the corners with weights that aren't negative is in the closed face
   pub sum_is_closed : AreNotNegative w → is_in_closed f (sample_point t w) ≡ true
   sum_is_closed n =
-      closed_in f (sample_point t w) (record { flat = flat; weight = sum_has_positive_weight t w n; within = each_map (λ p. LeanBack (heights_of p t)) (λ p. IsNotAbove p (sample_point t w)) f.edges (λ p l. record { at_most = rw (value_at_sum p t w) (sum_is_at_most_zero l n) }) k.within })
+      closed_in f (sample_point t w) (record {
+        flat = flat;
+        weight = sum_has_positive_weight t w n;
+        within =
+            each_map (λ p. LeanBack (heights_of p t)) (λ p. IsNotAbove p (sample_point t w)) f.edges
+            (λ p l. record { at_most = rw (value_at_sum p t w) (sum_is_at_most_zero l n) }) k.within;
+      })
 
   -- a sum of the corners with positive weights is an inside point
   pub sum_is_inside : ArePositive w → is_inside f (sample_point t w) ≡ true
   sum_is_inside n =
-      inside_in f (sample_point t w) (record { flat = flat; weight = sum_has_positive_weight t w (positive_weights_are_not_negative n); within = each_map (λ p. LeanBack (heights_of p t)) (λ p. IsBelow p (sample_point t w)) f.edges (λ p l. record { under = rw (value_at_sum p t w) (sum_is_negative l n) }) k.within })
+      inside_in f (sample_point t w) (record {
+        flat = flat;
+        weight =
+            sum_has_positive_weight t w (positive_weights_are_not_negative n);
+        within =
+            each_map (λ p. LeanBack (heights_of p t)) (λ p. IsBelow p (sample_point t w)) f.edges
+            (λ p l. record { under = rw (value_at_sum p t w) (sum_is_negative l n) }) k.within;
+      })
 
 -- ---- another corner first
 -- the same triangle with this corner first
@@ -149,6 +169,20 @@ turned_triangle_heights C p t = λ i. turned C (heights_of p t)
 pub turned_triangle_corners : (name : CornerName) (f : Face) (t : Tri) → HasCornersOf f t → HasCornersOf f (turned_triangle name t)
 turned_triangle_corners A f t k = k
 turned_triangle_corners B f t k =
-    record { a = k.b; b = k.c; c = k.a; within = each_map (λ p. LeanBack (heights_of p t)) (λ p. LeanBack (turned B (heights_of p t))) f.edges (λ p l. record { a = l.b; b = l.c; c = l.a; some = omega (arith, linear, l.some) }) k.within }
+    record {
+      a = k.b;
+      b = k.c;
+      c = k.a;
+      within =
+          each_map (λ p. LeanBack (heights_of p t)) (λ p. LeanBack (turned B (heights_of p t))) f.edges
+          (λ p l. record { a = l.b; b = l.c; c = l.a; some = omega (arith, linear, l.some) }) k.within;
+    }
 turned_triangle_corners C f t k =
-    record { a = k.c; b = k.a; c = k.b; within = each_map (λ p. LeanBack (heights_of p t)) (λ p. LeanBack (turned C (heights_of p t))) f.edges (λ p l. record { a = l.c; b = l.a; c = l.b; some = omega (arith, linear, l.some) }) k.within }
+    record {
+      a = k.c;
+      b = k.a;
+      c = k.b;
+      within =
+          each_map (λ p. LeanBack (heights_of p t)) (λ p. LeanBack (turned C (heights_of p t))) f.edges
+          (λ p l. record { a = l.c; b = l.a; c = l.b; some = omega (arith, linear, l.some) }) k.within;
+    }

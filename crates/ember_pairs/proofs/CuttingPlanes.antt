@@ -38,4 +38,11 @@ plane_turned_to_lone_corner n u lone l = by l.over
     by (inl e) =
         record { plane = n; heights = e ∙ sym (turned_triangle_heights lone.name n u); off = λ v z. z; back = λ v z. z }
     by (inr e) =
-        record { plane = opposite n; heights = e ∙ (λ i. turned lone.name (sym (opposite_plane_heights n u) i)) ∙ sym (turned_triangle_heights lone.name (opposite n) u); off = λ v z. opposite_plane n v ∙ zero z; back = λ v z. zero_back (sym (opposite_plane n v) ∙ z) }
+        record {
+          plane = opposite n;
+          heights = e ∙ (λ i. turned lone.name (sym (opposite_plane_heights n u) i))
+              ∙ sym (turned_triangle_heights lone.name (opposite n) u);
+          off = λ v z. opposite_plane n v ∙ zero z;
+          back =
+              λ v z. zero_back (sym (opposite_plane n v) ∙ z);
+        }

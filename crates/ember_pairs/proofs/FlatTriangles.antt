@@ -26,7 +26,8 @@ all_on_flat t e v =
   where
     zero : (a b c x y z w p q r : ℤ) → a ≡ pos 0 → b ≡ pos 0 → c ≡ pos 0 → a *ℤ x +ℤ b *ℤ y +ℤ c *ℤ z -ℤ (a *ℤ p +ℤ b *ℤ q +ℤ c *ℤ r) *ℤ w ≡ pos 0
     zero a b c x y z w p q r ea eb ec =
-        rw (ea, eb, ec) (solve 7 (λ x y z w p q r. num (pos 0) ⊗ x ⊕ num (pos 0) ⊗ y ⊕ num (pos 0) ⊗ z ⊖ (num (pos 0) ⊗ p ⊕ num (pos 0) ⊗ q ⊕ num (pos 0) ⊗ r) ⊗ w ≈ num (pos 0)) cancels x y z w p q r)
+        rw (ea, eb, ec) (solve 7 (λ x y z w p q r. num (pos 0) ⊗ x ⊕ num (pos 0) ⊗ y ⊕ num (pos 0) ⊗ z ⊖
+        (num (pos 0) ⊗ p ⊕ num (pos 0) ⊗ q ⊕ num (pos 0) ⊗ r) ⊗ w ≈ num (pos 0)) cancels x y z w p q r)
 
 -- a triangle isn't flat if a corner of another is off its plane
 pub full_if_off : (t u : Tri) → all_on (heights_of (support_of t) u) ≡ false → is_flat t ≡ false
@@ -44,16 +45,23 @@ full_if_off t u e = by (is_flat t) refl
 -- ---- listed triangles have the same meeting pairs without flat ones
 module _ (ts : List Tri) where
   -- the pairs of a flat triangle give nothing
-  flat_row : {later out : List Pair} (i : ℕ) (js : List ℕ) → is_flat (tri_at ts i) ≡ true → Each (AtPair ts) later out → Each (AtPair ts) (row i js ++ later) out
+  flat_row : {later out : List Pair} (i : ℕ) (js : List ℕ) → is_flat (tri_at ts i) ≡ true → Each (AtPair ts) later out →
+      Each (AtPair ts) (row i js ++ later) out
   flat_row i [] f e = e
   flat_row {out = out} i (j ∷ js) f e = more {ys = []} {zs = out} (apart (λ m. clash f m.one)) (flat_row i js f e)
 
   -- nor do the pairs with flat triangles
-  fill_row : (i : ℕ) (js : List ℕ) (xs ys : List Pair) → ((out : List Pair) → Each (AtPair ts) xs out → Each (AtPair ts) ys out) → (out : List Pair) → Each (AtPair ts) (row i (with_faces ts js) ++ xs) out → Each (AtPair ts) (row i js ++ ys) out
+  fill_row : (i : ℕ) (js : List ℕ) (xs ys : List Pair) →
+      ((out : List Pair) → Each (AtPair ts) xs out → Each (AtPair ts) ys out) → (out : List Pair) →
+      Each (AtPair ts) (row i (with_faces ts js) ++ xs) out → Each (AtPair ts) (row i js ++ ys) out
   fill_row i [] xs ys rest out e = rest out e
   fill_row i (j ∷ js) xs ys rest out e = by (is_flat (tri_at ts j)) refl (fill_row i js xs ys rest) out e
     where
-      by : (flat : Bool) → is_flat (tri_at ts j) ≡ flat → ((out : List Pair) → Each (AtPair ts) (row i (with_faces ts js) ++ xs) out → Each (AtPair ts) (row i js ++ ys) out) → (out : List Pair) → Each (AtPair ts) (row i (cond (not flat) (j ∷ with_faces ts js) (with_faces ts js)) ++ xs) out → Each (AtPair ts) (pair i j ∷ (row i js ++ ys)) out
+      by : (flat : Bool) → is_flat (tri_at ts j) ≡ flat →
+          ((out : List Pair) → Each (AtPair ts) (row i (with_faces ts js) ++ xs) out →
+          Each (AtPair ts) (row i js ++ ys) out) → (out : List Pair) →
+          Each (AtPair ts) (row i (cond (not flat) (j ∷ with_faces ts js) (with_faces ts js)) ++ xs) out →
+          Each (AtPair ts) (pair i j ∷ (row i js ++ ys)) out
       by true f filled out e = more {ys = []} {zs = out} (apart (λ m. clash f m.other)) (filled out e)
       by false f filled _ (more {zs = zs} r e) = more r (filled zs e)
 
@@ -62,6 +70,9 @@ module _ (ts : List Tri) where
   all_pairs [] out e = e
   all_pairs (i ∷ indices) out e = by (is_flat (tri_at ts i)) refl (all_pairs indices) out e
     where
-      by : (flat : Bool) → is_flat (tri_at ts i) ≡ flat → ((out : List Pair) → AreMeetingPairs ts (with_faces ts indices) out → AreMeetingPairs ts indices out) → (out : List Pair) → AreMeetingPairs ts (cond (not flat) (i ∷ with_faces ts indices) (with_faces ts indices)) out → AreMeetingPairs ts (i ∷ indices) out
+      by : (flat : Bool) → is_flat (tri_at ts i) ≡ flat →
+          ((out : List Pair) → AreMeetingPairs ts (with_faces ts indices) out → AreMeetingPairs ts indices out) →
+          (out : List Pair) → AreMeetingPairs ts (cond (not flat) (i ∷ with_faces ts indices) (with_faces ts indices)) out
+          → AreMeetingPairs ts (i ∷ indices) out
       by true f rest out e = flat_row i indices f (rest out e)
       by false f rest out e = fill_row i indices (pairs_of (with_faces ts indices)) (pairs_of indices) rest out e

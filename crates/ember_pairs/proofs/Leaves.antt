@@ -1,5 +1,7 @@
 -- Two triangles that meet share a leaf: in each box that holds the point at which they meet both are near.
-use Rattle.std.proofs.Common.{◌≡◌, ◌⊎◌, ⊎_elim, inl, inr, ℕ, zero, suc, pred, ◌^◌, ◌<◌, ◌≤◌, refl, sym, ap, ◌∙◌, subst, arith, Bool, true, false, if◌then◌else◌, List, [], ◌∷◌, length, ℤ, pos, negsuc, ◌+ℤ◌, ◌*ℤ◌, neg_ℤ, ◌≤ℤ◌, ◌<ℤ◌}
+use Rattle.std.proofs.Common.{◌≡◌, ◌⊎◌, ⊎_elim, inl, inr, ℕ, zero, suc, pred, ◌^◌, ◌<◌, ◌≤◌, refl, sym, ap, ◌∙◌, subst}
+use Rattle.std.proofs.Common.{arith, Bool, true, false, if◌then◌else◌, List, [], ◌∷◌, length, ℤ, pos, negsuc, ◌+ℤ◌}
+use Rattle.std.proofs.Common.{◌*ℤ◌, neg_ℤ, ◌≤ℤ◌, ◌<ℤ◌}
 use borrow.Author.Differences.{ints}
 use Rattle.std.proofs.lemmas.Int.{by_lt_z}
 use Rattle.std.proofs.lemmas.Bool.{le-ltb}
@@ -31,10 +33,13 @@ use Rattle.ember_pairs.proofs.Members.{in_filter}
 use Rattle.ember_pairs.proofs.Ascending.{in_range}
 
 -- ---- points of halves
-left_across : (l : ℤ) (n : ℕ) (x w : ℤ) → IsAcross (record { low = l; high = l +ℤ pos (2 ^ n) }) x w → x ≤ℤ ((l +ℤ pos (2 ^ pred n)) *ℤ w) → IsAcross (record { low = l; high = l +ℤ pos (2 ^ pred n) }) x w
+left_across : (l : ℤ) (n : ℕ) (x w : ℤ) → IsAcross (record { low = l; high = l +ℤ pos (2 ^ n) }) x w →
+    x ≤ℤ ((l +ℤ pos (2 ^ pred n)) *ℤ w) → IsAcross (record { low = l; high = l +ℤ pos (2 ^ pred n) }) x w
 left_across l n x w a h = record { from = a.from; to = h }
 
-right_across : (l : ℤ) (n : ℕ) (x w : ℤ) → 0 < n → IsAcross (record { low = l; high = l +ℤ pos (2 ^ n) }) x w → ((l +ℤ pos (2 ^ pred n)) *ℤ w) ≤ℤ x → IsAcross (record { low = l +ℤ pos (2 ^ pred n); high = l +ℤ pos (2 ^ pred n) +ℤ pos (2 ^ pred n) }) x w
+right_across : (l : ℤ) (n : ℕ) (x w : ℤ) → 0 < n → IsAcross (record { low = l; high = l +ℤ pos (2 ^ n) }) x w →
+    ((l +ℤ pos (2 ^ pred n)) *ℤ w) ≤ℤ x → IsAcross
+    (record { low = l +ℤ pos (2 ^ pred n); high = l +ℤ pos (2 ^ pred n) +ℤ pos (2 ^ pred n) }) x w
 right_across l n x w p a h =
     record { from = h; to = subst (λ (e : ℤ). x ≤ℤ (e *ℤ w)) (sym (halves_end l n p)) a.to }
 
@@ -67,10 +72,14 @@ abbrev shapes : List Tri → Job → Shape
 shapes ts job = pairs_shape ts job
 
 -- what becomes of a box with two near triangles
-shape_of : (ts : List Tri) (c : Cell) → 2 ≤ length (near_indices ts c (all_indices ts)) → pairs_shape ts (job_at ts c) ≡ (if is_leaf ts c then leafed else halved (job_at ts (left_half c (halving_axis ts c))) (job_at ts (right_half c (halving_axis ts c))))
+shape_of : (ts : List Tri) (c : Cell) → 2 ≤ length (near_indices ts c (all_indices ts)) →
+    pairs_shape ts (job_at ts c) ≡ (if is_leaf ts c then leafed else halved (job_at ts (left_half c (halving_axis ts c)))
+    (job_at ts (right_half c (halving_axis ts c))))
 unfolding pairs_shape
 shape_of ts c many =
-    ap (λ b. if b then passed else (if is_leaf ts c then leafed else halved (job_at ts (left_half c (halving_axis ts c))) (job_at ts (right_half c (halving_axis ts c))))) (le-ltb (length (near_indices ts c (all_indices ts))) 2 many)
+    ap (λ b. if b then passed else (if is_leaf ts c then leafed else halved
+    (job_at ts (left_half c (halving_axis ts c))) (job_at ts (right_half c (halving_axis ts c)))))
+    (le-ltb (length (near_indices ts c (all_indices ts))) 2 many)
 
 -- a leaf that has the point
 pub record LeafAt (ts : List Tri) (jobs : List Job) (v : Spot) : Type 0 where
@@ -78,44 +87,60 @@ pub record LeafAt (ts : List Tri) (jobs : List Job) (v : Spot) : Type 0 where
   pub member : In (job_at ts cell) jobs
   pub has : HasPoint cell v
 
-leaf_here : (ts : List Tri) (n : ℕ) (c : Cell) (v : Spot) → HasPoint c v → pairs_shape ts (job_at ts c) ≡ leafed → LeafAt ts (under (shapes ts) n (job_at ts c)) v
+leaf_here : (ts : List Tri) (n : ℕ) (c : Cell) (v : Spot) → HasPoint c v → pairs_shape ts (job_at ts c) ≡ leafed →
+    LeafAt ts (under (shapes ts) n (job_at ts c)) v
 leaf_here ts n c v h e = record {
   cell = c;
   member = subst (λ (jobs : List Job). In (job_at ts c) jobs) (sym (under_leaf (shapes ts) n (job_at ts c) e)) (inl refl);
   has = h;
 }
 
-leaf_under : (ts : List Tri) (v : Spot) → ((c : Cell) → HasPoint c v → 2 ≤ length (near_indices ts c (all_indices ts))) → (n : ℕ) (c : Cell) → halvings_left c ≤ n → HasPoint c v → LeafAt ts (under (shapes ts) n (job_at ts c)) v
+leaf_under : (ts : List Tri) (v : Spot) → ((c : Cell) → HasPoint c v →
+    2 ≤ length (near_indices ts c (all_indices ts))) → (n : ℕ) (c : Cell) → halvings_left c ≤ n → HasPoint c v →
+    LeafAt ts (under (shapes ts) n (job_at ts c)) v
 leaf_under ts v many zero c few h = by (is_leaf ts c) refl
   where
     by : (b : Bool) → is_leaf ts c ≡ b → LeafAt ts (under (shapes ts) zero (job_at ts c)) v
     by true e =
-        leaf_here ts zero c v h (shape_of ts c (many c h) ∙ ap (λ b. if b then leafed else halved (job_at ts (left_half c (halving_axis ts c))) (job_at ts (right_half c (halving_axis ts c)))) e)
+        leaf_here ts zero c v h (shape_of ts c (many c h)
+        ∙ ap (λ b. if b then leafed else halved (job_at ts (left_half c (halving_axis ts c)))
+        (job_at ts (right_half c (halving_axis ts c)))) e)
     by false e =
         absurd (omega (arith, few, left_less c (halving_axis ts c) (halvable_unless_leaf ts c e)))
 leaf_under ts v many (suc n) c few h =
     by (is_leaf ts c) refl (λ d. leaf_under ts v many n d)
   where
-    by : (b : Bool) → is_leaf ts c ≡ b → ((d : Cell) → halvings_left d ≤ n → HasPoint d v → LeafAt ts (under (shapes ts) n (job_at ts d)) v) → LeafAt ts (under (shapes ts) (suc n) (job_at ts c)) v
+    by : (b : Bool) → is_leaf ts c ≡ b → ((d : Cell) → halvings_left d ≤ n → HasPoint d v →
+        LeafAt ts (under (shapes ts) n (job_at ts d)) v) → LeafAt ts (under (shapes ts) (suc n) (job_at ts c)) v
     by true e f =
-        leaf_here ts (suc n) c v h (shape_of ts c (many c h) ∙ ap (λ b. if b then leafed else halved (job_at ts (left_half c (halving_axis ts c))) (job_at ts (right_half c (halving_axis ts c)))) e)
+        leaf_here ts (suc n) c v h (shape_of ts c (many c h)
+        ∙ ap (λ b. if b then leafed else halved (job_at ts (left_half c (halving_axis ts c)))
+        (job_at ts (right_half c (halving_axis ts c)))) e)
     by false e f =
         let p = halvable_unless_leaf ts c e in
         let low = job_at ts (left_half c (halving_axis ts c)) in let high = job_at ts (right_half c (halving_axis ts c)) in
         let s : pairs_shape ts (job_at ts c) ≡ halved low high = shape_of ts c (many c h) ∙ ap (λ b. if b then leafed else halved low high) e in
         let le = left_less c (halving_axis ts c) p in
         let first = under (shapes ts) n low in let second = under (shapes ts) n high in
-        subst (λ (jobs : List Job). LeafAt ts jobs v) (sym (under_halved (shapes ts) n (job_at ts c) low high s)) (⊎_elim (λ a. let r = f (left_half c (halving_axis ts c)) (omega (arith, few, le)) a in record { cell = r.cell; member = in_append_left (job_at ts r.cell) first second r.member; has = r.has }) (λ a. let r = f (right_half c (halving_axis ts c)) (omega (arith, few, le)) a in record { cell = r.cell; member = in_append_right (job_at ts r.cell) first second r.member; has = r.has }) (half_has c (halving_axis ts c) v p h))
+        subst (λ (jobs : List Job). LeafAt ts jobs v) (sym (under_halved (shapes ts) n (job_at ts c) low high s))
+        (⊎_elim (λ a. let r = f (left_half c (halving_axis ts c)) (omega (arith, few, le)) a in
+        record { cell = r.cell; member = in_append_left (job_at ts r.cell) first second r.member; has = r.has })
+        (λ a. let r = f (right_half c (halving_axis ts c)) (omega (arith, few, le)) a in
+        record { cell = r.cell; member = in_append_right (job_at ts r.cell) first second r.member; has = r.has })
+        (half_has c (halving_axis ts c) v p h))
 
 root_has : (t : Tri) (v : Spot) → IsValidTri t → is_flat t ≡ false → is_in_closed (face_of t) v ≡ true → HasPoint root v
 root_has t v valid nf h =
     let w = (closed_parts (face_of t) v h).0 in
     let x = past_corners X (pos 1) (neg_ℤ (pos 2047)) t v nf (least_corner t.a.x valid.a.x) (least_corner t.b.x valid.b.x) (least_corner t.c.x valid.c.x) h in
-    let x' = past_corners X (neg_ℤ (pos 1)) (neg_ℤ (pos 2047)) t v nf (greatest_corner t.a.x valid.a.x) (greatest_corner t.b.x valid.b.x) (greatest_corner t.c.x valid.c.x) h in
+    let x' = past_corners X (neg_ℤ (pos 1)) (neg_ℤ (pos 2047)) t v nf (greatest_corner t.a.x valid.a.x)
+    (greatest_corner t.b.x valid.b.x) (greatest_corner t.c.x valid.c.x) h in
     let y = past_corners Y (pos 1) (neg_ℤ (pos 2047)) t v nf (least_corner t.a.y valid.a.y) (least_corner t.b.y valid.b.y) (least_corner t.c.y valid.c.y) h in
-    let y' = past_corners Y (neg_ℤ (pos 1)) (neg_ℤ (pos 2047)) t v nf (greatest_corner t.a.y valid.a.y) (greatest_corner t.b.y valid.b.y) (greatest_corner t.c.y valid.c.y) h in
+    let y' = past_corners Y (neg_ℤ (pos 1)) (neg_ℤ (pos 2047)) t v nf (greatest_corner t.a.y valid.a.y)
+    (greatest_corner t.b.y valid.b.y) (greatest_corner t.c.y valid.c.y) h in
     let z = past_corners Z (pos 1) (neg_ℤ (pos 2047)) t v nf (least_corner t.a.z valid.a.z) (least_corner t.b.z valid.b.z) (least_corner t.c.z valid.c.z) h in
-    let z' = past_corners Z (neg_ℤ (pos 1)) (neg_ℤ (pos 2047)) t v nf (greatest_corner t.a.z valid.a.z) (greatest_corner t.b.z valid.b.z) (greatest_corner t.c.z valid.c.z) h in
+    let z' = past_corners Z (neg_ℤ (pos 1)) (neg_ℤ (pos 2047)) t v nf (greatest_corner t.a.z valid.a.z)
+    (greatest_corner t.b.z valid.b.z) (greatest_corner t.c.z valid.c.z) h in
     record {
       weight = w;
       on_x = across v.x v.w w x x';
@@ -123,7 +148,8 @@ root_has t v valid nf h =
       on_z = across v.z v.w w z z';
     }
   where
-    across : (x w : ℤ) → pos 0 <ℤ w → (neg_ℤ (pos 2047) *ℤ w) ≤ℤ (pos 1 *ℤ x) → (neg_ℤ (pos 2047) *ℤ w) ≤ℤ (neg_ℤ (pos 1) *ℤ x) → IsAcross (aabb_of_cell root).x x w
+    across : (x w : ℤ) → pos 0 <ℤ w → (neg_ℤ (pos 2047) *ℤ w) ≤ℤ (pos 1 *ℤ x) →
+        (neg_ℤ (pos 2047) *ℤ w) ≤ℤ (neg_ℤ (pos 1) *ℤ x) → IsAcross (aabb_of_cell root).x x w
     across x w p a b = record { from = omega (arith, linear); to = omega (arith, linear) }
 
 -- ---- two triangles
@@ -142,9 +168,11 @@ pub record Share (ts : List Tri) (i j : ℕ) (v : Spot) : Type 0 where
   pub in_other : is_in_closed (face_of (tri_at ts j)) v ≡ true
 
 -- a triangle with a point of its closed face in the box is near the box
-pub listed_at : (ts : List Tri) (c : Cell) (i : ℕ) (v : Spot) → i < length ts → is_flat (tri_at ts i) ≡ false → is_in_closed (face_of (tri_at ts i)) v ≡ true → HasPoint c v → In i (near_indices ts c (all_indices ts))
+pub listed_at : (ts : List Tri) (c : Cell) (i : ℕ) (v : Spot) → i < length ts → is_flat (tri_at ts i) ≡ false →
+    is_in_closed (face_of (tri_at ts i)) v ≡ true → HasPoint c v → In i (near_indices ts c (all_indices ts))
 listed_at ts c i v l nf h p =
-    in_filter (λ k. is_near c (tri_at ts k)) i (all_indices ts) (in_range 0 (length ts) i (omega arith) (omega (arith, l))) (near_point c (tri_at ts i) v nf p h)
+    in_filter (λ k. is_near c (tri_at ts k)) i (all_indices ts)
+    (in_range 0 (length ts) i (omega arith) (omega (arith, l))) (near_point c (tri_at ts i) v nf p h)
 
 -- a point in the closed faces of two triangles is in some leaf
 pub shared_leaf : (ts : List Tri) (i j : ℕ) (v : Spot) → i < j → j < length ts → IsValidTri (tri_at ts i) → Share ts i j v → LeafAt ts (leaf_jobs ts) v
@@ -153,4 +181,5 @@ shared_leaf ts i j v l m valid s =
   where
     many : (c : Cell) → HasPoint c v → 2 ≤ length (near_indices ts c (all_indices ts))
     many c p =
-        two_members (near_indices ts c (all_indices ts)) i j (listed_at ts c i v (omega (arith, l, m)) s.one s.in_one p) (listed_at ts c j v m s.other s.in_other p) l
+        two_members (near_indices ts c (all_indices ts)) i j (listed_at ts c i v (omega (arith, l, m)) s.one s.in_one p)
+        (listed_at ts c j v m s.other s.in_other p) l

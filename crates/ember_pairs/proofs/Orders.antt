@@ -29,9 +29,14 @@ same p q e =
     λ i. record { low = l i; high = h i }
 
 -- a sorted list without its repetitions
-pub sorted_pairs_are_gathered : (items : List (List Pair)) (sorted : List Pair) → IsPermutation (together items) sorted → IsSorted pair_order sorted → AreGathered items (dedup same_pair sorted)
+pub sorted_pairs_are_gathered : (items : List (List Pair)) (sorted : List Pair) →
+    IsPermutation (together items) sorted → IsSorted pair_order sorted → AreGathered items (dedup same_pair sorted)
 sorted_pairs_are_gathered items sorted moved ordered =
     record {
       in_order = IsStrictlySortedBy-dedup total_order ties sorted ordered;
-      same = λ p. (λ h. Contains-permutation sorted (together items) p (IsPermutation-sym (together items) sorted moved) (Contains-from_dedup same_pair sorted p h), λ h. Contains-dedup equivalence same sorted p (Contains-permutation (together items) sorted p moved h));
+      same = λ p. (
+        λ h. Contains-permutation sorted (together items) p (IsPermutation-sym (together items) sorted moved)
+            (Contains-from_dedup same_pair sorted p h),
+        λ h. Contains-dedup equivalence same sorted p (Contains-permutation (together items) sorted p moved h),
+      );
     }

@@ -36,7 +36,8 @@ three x y z e =
     let p = and_parts x (y && z) e in let q = and_parts y z p.1 in record { a = p.0; b = q.0; c = q.1 }
 
 -- of three numbers none of which is negative, and that aren't all 0, one is positive
-pub some_over : (x y z : ℤ) → pos 0 ≤ℤ x → pos 0 ≤ℤ y → pos 0 ≤ℤ z → is_zero x && (is_zero y && is_zero z) ≡ false → (pos 0 <ℤ x) ⊎ ((pos 0 <ℤ y) ⊎ (pos 0 <ℤ z))
+pub some_over : (x y z : ℤ) → pos 0 ≤ℤ x → pos 0 ≤ℤ y → pos 0 ≤ℤ z → is_zero x && (is_zero y && is_zero z) ≡ false →
+    (pos 0 <ℤ x) ⊎ ((pos 0 <ℤ y) ⊎ (pos 0 <ℤ z))
 some_over (pos (suc n)) y z a b c e = inl (omega (arith, ints))
 some_over (negsuc n) y z a b c e = absurd (omega (arith, ints, a))
 some_over (pos zero) (pos (suc n)) z a b c e = inr (inl (omega (arith, ints)))
@@ -46,7 +47,8 @@ some_over (pos zero) (pos zero) (negsuc n) a b c e = absurd (omega (arith, ints,
 some_over (pos zero) (pos zero) (pos zero) a b c e = absurd (clash refl e)
 
 -- of three numbers none of which is positive, and that aren't all 0, one is negative
-pub some_under : (x y z : ℤ) → x ≤ℤ pos 0 → y ≤ℤ pos 0 → z ≤ℤ pos 0 → is_zero x && (is_zero y && is_zero z) ≡ false → (x <ℤ pos 0) ⊎ ((y <ℤ pos 0) ⊎ (z <ℤ pos 0))
+pub some_under : (x y z : ℤ) → x ≤ℤ pos 0 → y ≤ℤ pos 0 → z ≤ℤ pos 0 → is_zero x && (is_zero y && is_zero z) ≡ false →
+    (x <ℤ pos 0) ⊎ ((y <ℤ pos 0) ⊎ (z <ℤ pos 0))
 some_under (pos (suc n)) y z a b c e = absurd (omega (arith, ints, a))
 some_under (negsuc n) y z a b c e = inl (omega (arith, ints))
 some_under (pos zero) (pos (suc n)) z a b c e = absurd (omega (arith, ints, b))
@@ -71,17 +73,21 @@ module _ (p : Plane) (t : Tri) where
           inr (record { under = negative_out h.a k.a }, record { under = negative_out h.b k.b }, record { under = negative_out h.c k.c })
 
   -- no inside point lies on a plane to one side of which the corners lie
-  inside_off : is_flat t ≡ false → (none_in_front (heights_of p t) || none_behind (heights_of p t)) && not (all_on (heights_of p t)) ≡ true → (v : Spot) → IsInsideRing (support_of t) (tri_sides t) v → value_at p v ≡ pos 0 → ⊥
+  inside_off : is_flat t ≡ false → (none_in_front (heights_of p t) || none_behind (heights_of p t))
+      && not (all_on (heights_of p t)) ≡ true → (v : Spot) → IsInsideRing (support_of t) (tri_sides t) v →
+      value_at p v ≡ pos 0 → ⊥
   inside_off n e v i z =
       let q = and_parts (none_in_front (heights_of p t) || none_behind (heights_of p t)) (not (all_on (heights_of p t))) e in
       by (not_true (all_on (heights_of p t)) q.1) (or_cases (none_in_front (heights_of p t)) (none_behind (heights_of p t)) q.0)
     where
-      under : (h.a <ℤ pos 0) ⊎ ((h.b <ℤ pos 0) ⊎ (h.c <ℤ pos 0)) → IsNotAbove p (spot_of_corner t.a) → IsNotAbove p (spot_of_corner t.b) → IsNotAbove p (spot_of_corner t.c) → IsBelow p v
+      under : (h.a <ℤ pos 0) ⊎ ((h.b <ℤ pos 0) ⊎ (h.c <ℤ pos 0)) → IsNotAbove p (spot_of_corner t.a) →
+          IsNotAbove p (spot_of_corner t.b) → IsNotAbove p (spot_of_corner t.c) → IsBelow p v
       under (inl o) a b c = all_below (support_of t) p v (tri_sides t) (stands t n).sound (a, (b, (c, tt))) (inl (record { under = o })) i
       under (inr (inl o)) a b c = all_below (support_of t) p v (tri_sides t) (stands t n).sound (a, (b, (c, tt))) (inr (inl (record { under = o }))) i
       under (inr (inr o)) a b c = all_below (support_of t) p v (tri_sides t) (stands t n).sound (a, (b, (c, tt))) (inr (inr (inl (record { under = o })))) i
 
-      over : (pos 0 <ℤ h.a) ⊎ ((pos 0 <ℤ h.b) ⊎ (pos 0 <ℤ h.c)) → IsNotBelow p (spot_of_corner t.a) → IsNotBelow p (spot_of_corner t.b) → IsNotBelow p (spot_of_corner t.c) → IsAbove p v
+      over : (pos 0 <ℤ h.a) ⊎ ((pos 0 <ℤ h.b) ⊎ (pos 0 <ℤ h.c)) → IsNotBelow p (spot_of_corner t.a) →
+          IsNotBelow p (spot_of_corner t.b) → IsNotBelow p (spot_of_corner t.c) → IsAbove p v
       over (inl o) a b c = all_above (support_of t) p v (tri_sides t) (stands t n).sound (a, (b, (c, tt))) (inl (record { over = o })) i
       over (inr (inl o)) a b c = all_above (support_of t) p v (tri_sides t) (stands t n).sound (a, (b, (c, tt))) (inr (inl (record { over = o }))) i
       over (inr (inr o)) a b c = all_above (support_of t) p v (tri_sides t) (stands t n).sound (a, (b, (c, tt))) (inr (inr (inl (record { over = o })))) i
@@ -105,21 +111,30 @@ inside_ring t v e =
     let k = inside_out (face_of t) v e in record { flat = k.flat; weight = k.weight; within = k.within }
 
 -- if the corners of u are strictly on one side of the plane of t
-strictly_apart : (t u : Tri) → is_flat u ≡ false → all_in_front (heights_of (support_of t) u) || all_behind (heights_of (support_of t) u) ≡ true → Meets (face_of t) (face_of u) → ⊥
+strictly_apart : (t u : Tri) → is_flat u ≡ false →
+    all_in_front (heights_of (support_of t) u) || all_behind (heights_of (support_of t) u) ≡ true →
+    Meets (face_of t) (face_of u) → ⊥
 unfolding face_of
 strictly_apart t u n e m = one_side_meets_not (face_of t) (support_of t) u refl n (one_side (support_of t) u e) m
 
 -- if those of t lie on one side of the plane of u, and not all on it
-leaning_apart : (t u : Tri) → is_flat t ≡ false → (none_in_front (heights_of (support_of u) t) || none_behind (heights_of (support_of u) t)) && not (all_on (heights_of (support_of u) t)) ≡ true → Meets (face_of t) (face_of u) → ⊥
+leaning_apart : (t u : Tri) → is_flat t ≡ false →
+    (none_in_front (heights_of (support_of u) t) || none_behind (heights_of (support_of u) t))
+    && not (all_on (heights_of (support_of u) t)) ≡ true → Meets (face_of t) (face_of u) → ⊥
 unfolding face_of
 leaning_apart t u n e m =
     inside_off (support_of u) t n e m.at (inside_ring t m.at m.inside) (closed_out (face_of u) m.at m.holds).flat
 
 -- what lies strictly on one side lies on one side
-leans : (p : Plane) (t : Tri) → all_in_front (heights_of p t) || all_behind (heights_of p t) ≡ true → (none_in_front (heights_of p t) || none_behind (heights_of p t)) && not (all_on (heights_of p t)) ≡ true
+leans : (p : Plane) (t : Tri) → all_in_front (heights_of p t) || all_behind (heights_of p t) ≡ true →
+    (none_in_front (heights_of p t) || none_behind (heights_of p t)) && not (all_on (heights_of p t)) ≡ true
 leans p t e = by (heights_of p t).a (heights_of p t).b (heights_of p t).c e
   where
-    by : (x y z : ℤ) → (is_positive x && (is_positive y && is_positive z)) || (is_negative x && (is_negative y && is_negative z)) ≡ true → ((not (is_positive x) && (not (is_positive y) && not (is_positive z))) || (not (is_negative x) && (not (is_negative y) && not (is_negative z)))) && not (is_zero x && (is_zero y && is_zero z)) ≡ true
+    by : (x y z : ℤ) → (is_positive x && (is_positive y && is_positive z))
+        || (is_negative x && (is_negative y && is_negative z)) ≡ true →
+        ((not (is_positive x) && (not (is_positive y) && not (is_positive z)))
+        || (not (is_negative x) && (not (is_negative y) && not (is_negative z))))
+        && not (is_zero x && (is_zero y && is_zero z)) ≡ true
     by (pos zero) y z e = absurd (cc)
     by (pos (suc n)) (pos zero) z e = absurd (cc)
     by (pos (suc n)) (pos (suc m)) (pos zero) e = absurd (cc)
@@ -142,9 +157,13 @@ pub meeting_is_symmetric : {t u : Tri} → AreMeeting t u → AreMeeting u t
 meeting_is_symmetric m = record { one = m.other; other = m.one; meet = ⊎_elim (λ x. inr x) (λ y. inl y) m.meet }
 
 -- the corners of each lie on one side of the plane of the other
-pub parted_by_both : (t u : Tri) → (none_in_front (heights_of (support_of u) t) || none_behind (heights_of (support_of u) t)) && not (all_on (heights_of (support_of u) t)) ≡ true → (none_in_front (heights_of (support_of t) u) || none_behind (heights_of (support_of t) u)) && not (all_on (heights_of (support_of t) u)) ≡ true → AreMeeting t u → ⊥
+pub parted_by_both : (t u : Tri) → (none_in_front (heights_of (support_of u) t)
+    || none_behind (heights_of (support_of u) t)) && not (all_on (heights_of (support_of u) t)) ≡ true →
+    (none_in_front (heights_of (support_of t) u) || none_behind (heights_of (support_of t) u))
+    && not (all_on (heights_of (support_of t) u)) ≡ true → AreMeeting t u → ⊥
 parted_by_both t u e f m = ⊎_elim (λ x. leaning_apart t u m.one e x) (λ y. leaning_apart u t m.other f y) m.meet
 
 -- ---- the tests of the code
-pub heights_answer_moved : (f : Heights → Bool) (u : Tri) {p q : Plane} {h : Heights} {b : Bool} → p ≡ q → h ≡ heights_of p u → b ≡ f h → b ≡ true → f (heights_of q u) ≡ true
+pub heights_answer_moved : (f : Heights → Bool) (u : Tri) {p q : Plane} {h : Heights} {b : Bool} → p ≡ q →
+    h ≡ heights_of p u → b ≡ f h → b ≡ true → f (heights_of q u) ≡ true
 heights_answer_moved f u {p} {q} {h} e k r s = sym (ap f (k ∙ ap (λ (p : Plane). heights_of p u) e)) ∙ sym r ∙ s

@@ -1,5 +1,6 @@
 -- The gathered pairs of all leaves are the meeting pairs of the scene.
-use Rattle.std.proofs.Common.{◌≡◌, ⊎_elim, inl, inr, ℕ, zero, suc, ◌<◌, refl, sym, ap, ◌∙◌, subst, arith, Bool, true, false, if◌then◌else◌, nat_lt, List, [], ◌∷◌, length, All}
+use Rattle.std.proofs.Common.{◌≡◌, ⊎_elim, inl, inr, ℕ, zero, suc, ◌<◌, refl, sym, ap, ◌∙◌, subst, arith, Bool, true}
+use Rattle.std.proofs.Common.{false, if◌then◌else◌, nat_lt, List, [], ◌∷◌, length, All}
 use Rattle.std.specs.List.{AllByRecursion}
 use Rattle.std.specs.List.Sorted.{IsStrictlySortedBy}
 use Rattle.std.specs.Ordering.{MatchOrdering, ordering_then, nat_cmp}
@@ -27,7 +28,8 @@ use Rattle.ember_pairs.specs.Works.{job_at, pairs_shape}
 use Rattle.ember_pairs.specs.Gathering.{pair_order, together, AreGathered}
 use Rattle.ember_pairs.specs.Whole.{AreItems, leaf_jobs}
 use Rattle.ember_pairs.proofs.Members.{in_filter_out, in_from_contains, contains_from_in}
-use Rattle.ember_pairs.proofs.Ascending.{Ascending, in_range_out, range_ascending, filter_ascending, pair_in, pair_out, Precedes, precedes_not, precedes_itself, Sorted, pairs_sorted}
+use Rattle.ember_pairs.proofs.Ascending.{Ascending, in_range_out, range_ascending, filter_ascending, pair_in, pair_out}
+use Rattle.ember_pairs.proofs.Ascending.{Precedes, precedes_not, precedes_itself, Sorted, pairs_sorted}
 use Rattle.ember_pairs.proofs.Leaves.{Share, listed_at, shared_leaf}
 
 abbrev Meeting : List Tri → Pair → Type 0
@@ -55,7 +57,8 @@ each_has ts all ps p (more (apart b) e) (inl s) a = absurd (b (subst (λ (x : Pa
 each_has ts all ps p (more {xs = xs} {zs = zs} (apart b) e) (inr m) a = each_has ts xs zs p e m a
 
 -- a sorted list of just the meeting pairs is the list of them
-each_of : (ts : List Tri) (all ps : List Pair) → Sorted all → Sorted ps → ((p : Pair) → In p ps → Listed ts all p) → ((p : Pair) → In p all → Meeting ts p → In p ps) → Each (AtPair ts) all ps
+each_of : (ts : List Tri) (all ps : List Pair) → Sorted all → Sorted ps → ((p : Pair) → In p ps → Listed ts all p) →
+    ((p : Pair) → In p all → Meeting ts p → In p ps) → Each (AtPair ts) all ps
 each_of ts [] [] s t f g = none
 each_of ts [] (q ∷ qs) s t f g = absurd (f q (inl refl)).member
 each_of ts (p ∷ all) [] s t f g =
@@ -63,19 +66,34 @@ each_of ts (p ∷ all) [] s t f g =
 each_of ts (p ∷ all) (q ∷ qs) s t f g =
     by (f q (inl refl)).member (λ xs. each_of ts all xs s.1)
   where
-    by : In q (p ∷ all) → ((xs : List Pair) → Sorted xs → ((x : Pair) → In x xs → Listed ts all x) → ((x : Pair) → In x all → Meeting ts x → In x xs) → Each (AtPair ts) all xs) → Each (AtPair ts) (p ∷ all) (q ∷ qs)
+    by : In q (p ∷ all) → ((xs : List Pair) → Sorted xs → ((x : Pair) → In x xs → Listed ts all x) →
+        ((x : Pair) → In x all → Meeting ts x → In x xs) → Each (AtPair ts) all xs) → Each (AtPair ts) (p ∷ all) (q ∷ qs)
     by (inl e) h =
-        subst (λ (x : Pair). Each (AtPair ts) (p ∷ all) (x ∷ qs)) (sym e) (more (meeting (subst (λ (x : Pair). Meeting ts x) e (f q (inl refl)).meets)) (h qs t.1 (λ x m. let r = f x (inr m) in record { member = ⊎_elim (λ d. absurd (precedes_itself q x (e ∙ sym d) (t.0 x m))) (λ n. n) r.member; meets = r.meets }) (λ x m a. ⊎_elim (λ d. absurd (precedes_itself p x (sym (d ∙ e)) (s.0 x m))) (λ n. n) (g x (inr m) a))))
+        subst (λ (x : Pair). Each (AtPair ts) (p ∷ all) (x ∷ qs)) (sym e)
+        (more (meeting (subst (λ (x : Pair). Meeting ts x) e (f q (inl refl)).meets))
+        (h qs t.1 (λ x m. let r = f x (inr m) in
+        record {
+          member = ⊎_elim (λ d. absurd (precedes_itself q x (e ∙ sym d) (t.0 x m))) (λ n. n) r.member;
+          meets =
+              r.meets;
+        }) (λ x m a. ⊎_elim (λ d. absurd (precedes_itself p x (sym (d ∙ e)) (s.0 x m))) (λ n. n)
+        (g x (inr m) a))))
     by (inr n) h =
         let missing : In p (q ∷ qs) → ⊥ = λ m. ⊎_elim (λ d. precedes_itself p q d (s.0 q n)) (λ r. precedes_not p q (s.0 q n) (t.0 p r)) m in
-        more (apart (λ a. missing (g p (inl refl) a))) (h (q ∷ qs) t (λ x m. let r = f x m in record { member = ⊎_elim (λ d. absurd (missing (subst (λ (y : Pair). In y (q ∷ qs)) d m))) (λ k. k) r.member; meets = r.meets }) (λ x m a. g x (inr m) a))
+        more (apart (λ a. missing (g p (inl refl) a)))
+        (h (q ∷ qs) t (λ x m. let r = f x m in
+        record {
+          member = ⊎_elim (λ d. absurd (missing (subst (λ (y : Pair). In y (q ∷ qs)) d m))) (λ k. k) r.member;
+          meets = r.meets;
+        }) (λ x m a. g x (inr m) a))
 
 -- ---- the order of the library
 first_before : (p q : Pair) → pair_order p q ≡ Less → Precedes p q
 first_before p q e =
     by (nat_cmp p.low q.low) (nat_cmp p.high q.high) (ranks p.low q.low) (ranks p.high q.high) e
   where
-    by : (r s : Ordering) → MatchOrdering r (p.low < q.low) (p.low ≡ q.low) (q.low < p.low) → MatchOrdering s (p.high < q.high) (p.high ≡ q.high) (q.high < p.high) → ordering_then r s ≡ Less → Precedes p q
+    by : (r s : Ordering) → MatchOrdering r (p.low < q.low) (p.low ≡ q.low) (q.low < p.low) →
+        MatchOrdering s (p.high < q.high) (p.high ≡ q.high) (q.high < p.high) → ordering_then r s ≡ Less → Precedes p q
     by Less s m n e = inl m
     by Equal Less m n e = inr (m, n)
     by Equal Equal m n e = cc
@@ -128,7 +146,8 @@ record SomeItem (items : List (List Pair)) (p : Pair) : Type 0 where
 some_item : (items : List (List Pair)) (p : Pair) → In p (together items) → SomeItem items p
 some_item [] p m = absurd m
 some_item (ps ∷ items) p m =
-    ⊎_elim (λ l. record { item = ps; member = inl refl; has = l }) (λ r. let s = some_item items p r in record { item = s.item; member = inr s.member; has = s.has }) (in_append_out p ps (together items) m)
+    ⊎_elim (λ l. record { item = ps; member = inl refl; has = l }) (λ r. let s = some_item items p r in
+    record { item = s.item; member = inr s.member; has = s.has }) (in_append_out p ps (together items) m)
 
 in_together : (items : List (List Pair)) (ps : List Pair) (p : Pair) → In ps items → In p ps → In p (together items)
 in_together [] ps p m n = absurd m
@@ -152,11 +171,14 @@ becomes ts c = by (nat_lt (length (near_indices ts c (all_indices ts))) 2) (is_l
   where
     by : (few leaf : Bool) → nat_lt (length (near_indices ts c (all_indices ts))) 2 ≡ few → is_leaf ts c ≡ leaf → Becomes ts c
     by true leaf e d =
-        passes (ap (λ b. if b then passed else (if is_leaf ts c then leafed else halved (job_at ts (left_half c (halving_axis ts c))) (job_at ts (right_half c (halving_axis ts c))))) e)
+        passes (ap (λ b. if b then passed else (if is_leaf ts c then leafed else halved
+        (job_at ts (left_half c (halving_axis ts c))) (job_at ts (right_half c (halving_axis ts c))))) e)
     by false true e d =
-        ends (λ i. if e i then passed else (if d i then leafed else halved (job_at ts (left_half c (halving_axis ts c))) (job_at ts (right_half c (halving_axis ts c)))))
+        ends (λ i. if e i then passed else (if d i then leafed else halved (job_at ts (left_half c (halving_axis ts c)))
+        (job_at ts (right_half c (halving_axis ts c)))))
     by false false e d =
-        splits (λ i. if e i then passed else (if d i then leafed else halved (job_at ts (left_half c (halving_axis ts c))) (job_at ts (right_half c (halving_axis ts c)))))
+        splits (λ i. if e i then passed else (if d i then leafed else halved
+        (job_at ts (left_half c (halving_axis ts c))) (job_at ts (right_half c (halving_axis ts c)))))
 
 visited_at : (ts : List Tri) (n : ℕ) (c : Cell) (j : Job) → In j (visited_within (λ job. pairs_shape ts job) n (job_at ts c)) → AtBox ts j
 visited_at ts zero c j (inl e) = record { cell = c; is = e }
@@ -178,7 +200,8 @@ visited_at ts (suc n) c j m = by (becomes ts c) (λ d. visited_at ts n d j)
     by (splits e) f =
         let low = left_half c (halving_axis ts c) in let high = right_half c (halving_axis ts c) in
         let r = subst (λ (s : Shape). In j (below_shape (visited_within (λ job. pairs_shape ts job) n) (job_at ts c) s)) e m in
-        let first = visited_within (λ job. pairs_shape ts job) n (job_at ts low) in let second = visited_within (λ job. pairs_shape ts job) n (job_at ts high) in
+        let first = visited_within (λ job. pairs_shape ts job) n (job_at ts low) in let second =
+        visited_within (λ job. pairs_shape ts job) n (job_at ts high) in
         ⊎_elim (λ d. record { cell = c; is = d }) (λ k. ⊎_elim (λ a. f low a) (λ b. f high b) (in_append_out j first second k)) r
 
 leaf_visited : (shape : Job → Shape) (jobs : List Job) (j : Job) → In j (leaves_among shape jobs) → In j jobs
@@ -194,7 +217,8 @@ leaf_visited shape (x ∷ jobs) j m =
 
 leaf_at : (ts : List Tri) (j : Job) → In j (leaf_jobs ts) → AtBox ts j
 leaf_at ts j m =
-    visited_at ts (halvings_left root) root j (leaf_visited (λ job. pairs_shape ts job) (visited_within (λ job. pairs_shape ts job) (halvings_left root) (job_at ts root)) j m)
+    visited_at ts (halvings_left root) root j (leaf_visited (λ job. pairs_shape ts job)
+    (visited_within (λ job. pairs_shape ts job) (halvings_left root) (job_at ts root)) j m)
 
 -- ---- the law
 near_ascending : (ts : List Tri) (c : Cell) → Ascending (near_indices ts c (all_indices ts))
@@ -204,7 +228,12 @@ near_ascending ts c =
 from_leaf : (ts : List Tri) (c : Cell) (p : Pair) → Listed ts (pairs_of (near_indices ts c (all_indices ts))) p → Listed ts (pairs_of (all_indices ts)) p
 from_leaf ts c p l =
     let r = pair_out (near_indices ts c (all_indices ts)) p (near_ascending ts c) l.member in
-    record { member = pair_in (all_indices ts) p.low p.high (range_ascending 0 (length ts)) (in_filter_out (λ i. is_near c (tri_at ts i)) p.low (all_indices ts) r.low) (in_filter_out (λ i. is_near c (tri_at ts i)) p.high (all_indices ts) r.high) r.less; meets = l.meets }
+    record {
+      member = pair_in (all_indices ts) p.low p.high (range_ascending 0 (length ts))
+          (in_filter_out (λ i. is_near c (tri_at ts i)) p.low (all_indices ts) r.low)
+          (in_filter_out (λ i. is_near c (tri_at ts i)) p.high (all_indices ts) r.high) r.less;
+      meets = l.meets;
+    }
 
 record SharePoint (ts : List Tri) (i j : ℕ) : Type 0 where
   at : Spot
@@ -212,9 +241,29 @@ record SharePoint (ts : List Tri) (i j : ℕ) : Type 0 where
 
 share_point : (ts : List Tri) (i j : ℕ) → AreMeeting (tri_at ts i) (tri_at ts j) → SharePoint ts i j
 share_point ts i j m =
-    ⊎_elim (λ a. record { at = a.at; shares = record { one = m.one; other = m.other; in_one = inside_closed (face_of (tri_at ts i)) a.at a.inside; in_other = a.holds } }) (λ a. record { at = a.at; shares = record { one = m.one; other = m.other; in_one = a.holds; in_other = inside_closed (face_of (tri_at ts j)) a.at a.inside } }) m.meet
+    ⊎_elim (λ a. record {
+      at = a.at;
+      shares = record {
+        one = m.one;
+        other = m.other;
+        in_one =
+            inside_closed (face_of (tri_at ts i)) a.at a.inside;
+        in_other = a.holds;
+      };
+    })
+    (λ a. record {
+      at = a.at;
+      shares = record {
+        one = m.one;
+        other = m.other;
+        in_one = a.holds;
+        in_other =
+            inside_closed (face_of (tri_at ts j)) a.at a.inside;
+      };
+    }) m.meet
 
-found : (ts : List Tri) (items : List (List Pair)) (p : Pair) → All IsValidTri ts → AreItems ts (leaf_jobs ts) items → In p (pairs_of (all_indices ts)) → Meeting ts p → In p (together items)
+found : (ts : List Tri) (items : List (List Pair)) (p : Pair) → All IsValidTri ts → AreItems ts (leaf_jobs ts) items →
+    In p (pairs_of (all_indices ts)) → Meeting ts p → In p (together items)
 found ts items p valid a m meets =
     let r = pair_out (all_indices ts) p (range_ascending 0 (length ts)) m in
     let l = in_range_out 0 (length ts) p.low r.low in let h = in_range_out 0 (length ts) p.high r.high in
@@ -223,16 +272,25 @@ found ts items p valid a m meets =
     let leaf = shared_leaf ts p.low p.high s.at r.less high_in (All-get_or IsValidTri ts p.low no_tri low_in valid) s.shares in
     let c = leaf.cell in
     let item = item_of ts (leaf_jobs ts) items (job_at ts c) a leaf.member in
-    let listed = pair_in (near_indices ts c (all_indices ts)) p.low p.high (near_ascending ts c) (listed_at ts c p.low s.at low_in s.shares.one s.shares.in_one leaf.has) (listed_at ts c p.high s.at high_in s.shares.other s.shares.in_other leaf.has) r.less in
+    let listed = pair_in (near_indices ts c (all_indices ts)) p.low p.high (near_ascending ts c)
+    (listed_at ts c p.low s.at low_in s.shares.one s.shares.in_one leaf.has)
+    (listed_at ts c p.high s.at high_in s.shares.other s.shares.in_other leaf.has) r.less in
     in_together items item.item p item.member (each_has ts (pairs_of (near_indices ts c (all_indices ts))) item.item p item.is listed meets)
 
-right_pairs : (ts : List Tri) (items : List (List Pair)) (p : Pair) → AreItems ts (leaf_jobs ts) items → In p (together items) → Listed ts (pairs_of (all_indices ts)) p
+right_pairs : (ts : List Tri) (items : List (List Pair)) (p : Pair) → AreItems ts (leaf_jobs ts) items →
+    In p (together items) → Listed ts (pairs_of (all_indices ts)) p
 right_pairs ts items p a m =
     let s = some_item items p m in let j = job_of ts (leaf_jobs ts) items s.item a s.member in
     let b = leaf_at ts j.job j.member in
-    from_leaf ts b.cell p (each_in ts (pairs_of (near_indices ts b.cell (all_indices ts))) s.item p (subst (λ (x : Job). AreMeetingPairs ts x.list s.item) b.is j.is) s.has)
+    from_leaf ts b.cell p (each_in ts (pairs_of (near_indices ts b.cell (all_indices ts))) s.item p
+    (subst (λ (x : Job). AreMeetingPairs ts x.list s.item) b.is j.is) s.has)
 
 -- the gathered pairs of all leaves are all pairs that meet
-pub gathered_whole : (ts : List Tri) (items : List (List Pair)) (ps : List Pair) → All IsValidTri ts → AreItems ts (leaf_jobs ts) items → AreGathered items ps → ArePairs ts ps
+pub gathered_whole : (ts : List Tri) (items : List (List Pair)) (ps : List Pair) → All IsValidTri ts →
+    AreItems ts (leaf_jobs ts) items → AreGathered items ps → ArePairs ts ps
 gathered_whole ts items ps valid a g =
-    each_of ts (pairs_of (all_indices ts)) ps (pairs_sorted (all_indices ts) (range_ascending 0 (length ts))) (sorted_from ps g.in_order) (λ p m. right_pairs ts items p a (in_from_contains (together items) p ((g.same p).0 (contains_from_in ps p m)))) (λ p m meets. in_from_contains ps p ((g.same p).1 (contains_from_in (together items) p (found ts items p valid a m meets))))
+    each_of ts (pairs_of (all_indices ts)) ps (pairs_sorted (all_indices ts) (range_ascending 0 (length ts)))
+    (sorted_from ps g.in_order) (λ p m. right_pairs ts items p a
+    (in_from_contains (together items) p ((g.same p).0 (contains_from_in ps p m))))
+    (λ p m meets. in_from_contains ps p ((g.same p).1
+    (contains_from_in (together items) p (found ts items p valid a m meets))))

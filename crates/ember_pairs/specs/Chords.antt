@@ -35,7 +35,8 @@ pub record IsLone (h : Heights) (lone : LoneCorner) : Type 0 where
 -- ---- the chord
 -- its first end lies on the edge from the lone corner to the second one, its second end on that to the third.
 -- The height of an end over an edge plane, times a positive number: `lone` and `next` are the heights of the edge's two
--- corners over the plane that cuts, `from` and `to` those over the edge plane. The end is the sum of the two corners with
+-- corners over the plane that cuts, `from` and `to` those over the edge plane. The end is the sum of the
+-- two corners with
 -- the weights -next and lone
 abbrev pub end_height : ℤ → ℤ → ℤ → ℤ → ℤ
 end_height lone next from to = lone *ℤ to -ℤ next *ℤ from

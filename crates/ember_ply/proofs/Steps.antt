@@ -13,24 +13,32 @@ use Rattle.ember_ply.specs.Cursors.{Cursor}
 use Rattle.ember_ply.specs.Rows.{and_then, one_scalar, corner_of, corners_from}
 
 -- the first line is read
-header_step : (all : Result (Header × ℕ) PlyFault) (n : ℕ) (h : Header) (lines more : List Piece) (line : Piece) (e : Option Entry) → all ≡ header_from n h lines → lines ≡ line ∷ more → entry_of h.kind (words_of line) ≡ e → all ≡ behind_entry n h e (λ k. header_from (n + 1) k more)
+header_step : (all : Result (Header × ℕ) PlyFault) (n : ℕ) (h : Header) (lines more : List Piece) (line : Piece)
+    (e : Option Entry) → all ≡ header_from n h lines → lines ≡ line ∷ more → entry_of h.kind (words_of line) ≡ e →
+    all ≡ behind_entry n h e (λ k. header_from (n + 1) k more)
 header_step all n h lines more line e so_far is read = so_far ∙ ap (header_from n h) is ∙ ap (λ r. behind_entry n h r (λ k. header_from (n + 1) k more)) read
 
 -- a line that doesn't end the header
-pub header_more : (all : Result (Header × ℕ) PlyFault) (n : ℕ) (h new : Header) (lines more : List Piece) (line : Piece) (e : Entry) → all ≡ header_from n h lines → lines ≡ line ∷ more → Some e ≡ entry_of h.kind (words_of line) → is_end e ≡ false → new ≡ with_entry h e → all ≡ header_from (n + 1) new more
+pub header_more : (all : Result (Header × ℕ) PlyFault) (n : ℕ) (h new : Header) (lines more : List Piece) (line : Piece)
+    (e : Entry) → all ≡ header_from n h lines → lines ≡ line ∷ more → Some e ≡ entry_of h.kind (words_of line) →
+    is_end e ≡ false → new ≡ with_entry h e → all ≡ header_from (n + 1) new more
 header_more all n h new lines more line e so_far is read goes_on same =
     header_step all n h lines more line (Some e) so_far is (sym read)
     ∙ ap (λ t. if t then Ok (h, n) else header_from (n + 1) (with_entry h e) more) goes_on
     ∙ ap (λ k. header_from (n + 1) k more) (sym same)
 
 -- the last line of the header
-pub header_ended : (all : Result (Header × ℕ) PlyFault) (n : ℕ) (h : Header) (lines more : List Piece) (line : Piece) (e : Entry) → all ≡ header_from n h lines → lines ≡ line ∷ more → Some e ≡ entry_of h.kind (words_of line) → is_end e ≡ true → all ≡ Ok (h, n)
+pub header_ended : (all : Result (Header × ℕ) PlyFault) (n : ℕ) (h : Header) (lines more : List Piece) (line : Piece)
+    (e : Entry) → all ≡ header_from n h lines → lines ≡ line ∷ more → Some e ≡ entry_of h.kind (words_of line) →
+    is_end e ≡ true → all ≡ Ok (h, n)
 header_ended all n h lines more line e so_far is read ends =
     header_step all n h lines more line (Some e) so_far is (sym read)
     ∙ ap (λ t. if t then Ok (h, n) else header_from (n + 1) (with_entry h e) more) ends
 
 -- a line that isn't understood
-pub header_fault : (all : Result (Header × ℕ) PlyFault) (n : ℕ) (h : Header) (lines more : List Piece) (line : Piece) → all ≡ header_from n h lines → lines ≡ line ∷ more → None ≡ entry_of h.kind (words_of line) → all ≡ Err (NotUnderstood n)
+pub header_fault : (all : Result (Header × ℕ) PlyFault) (n : ℕ) (h : Header) (lines more : List Piece) (line : Piece) →
+    all ≡ header_from n h lines → lines ≡ line ∷ more → None ≡ entry_of h.kind (words_of line) →
+    all ≡ Err (NotUnderstood n)
 header_fault all n h lines more line so_far is read = header_step all n h lines more line None so_far is (sym read)
 
 -- the first of two parts
@@ -42,7 +50,10 @@ pub first_fault : {A B : Type 0} (r : Result A PlyFault) (fault : PlyFault) (nex
 first_fault r fault next e = ap (λ q. and_then q next) e
 
 -- a corner that is no vertex
-pub corners_fault : (all : Result (List ℕ × Cursor) PlyFault) (place : RowPlace) (item : ScalarType) (left : ℕ) (corners : List ℕ) (c rest : Cursor) (s : Scalar) (fault : PlyFault) → 0 < left → all ≡ corners_from place item left corners c → one_scalar place item c ≡ Ok (s, rest) → corner_of place s ≡ Err fault → all ≡ Err fault
+pub corners_fault : (all : Result (List ℕ × Cursor) PlyFault) (place : RowPlace) (item : ScalarType) (left : ℕ)
+    (corners : List ℕ) (c rest : Cursor) (s : Scalar) (fault : PlyFault) → 0 < left →
+    all ≡ corners_from place item left corners c → one_scalar place item c ≡ Ok (s, rest) →
+    corner_of place s ≡ Err fault → all ≡ Err fault
 corners_fault all place item zero corners c rest s fault some so_far read is = absurd (omega arith)
 corners_fault all place item (suc left) corners c rest s fault some so_far read is =
     so_far

@@ -1,10 +1,12 @@
 -- The header of a PLY file: the encoding of what follows it, and its elements with their properties
-use Rattle.std.specs.Prelude.{codes, ℕ, ◌+◌, Bool, true, false, ◌||◌, List, [], ◌∷◌, ◌++◌, if◌then◌else◌, min, Option, None, Some, Result, Ok, Err}
+use Rattle.std.specs.Prelude.{codes, ℕ, ◌+◌, Bool, true, false, ◌||◌, List, [], ◌∷◌, ◌++◌, if◌then◌else◌}
+use Rattle.std.specs.Prelude.{min, Option, None, Some, Result, Ok, Err}
 use Rattle.std.specs.Str.{bytes_eq}
 use Rattle.ember_number.specs.Naturals.{number_of}
 use Rattle.ember_scan.specs.Parts.{Piece, span_of, words_of, lines_from, after_lines}
 use Rattle.ember_ply.specs.declared.declarations.ScalarType.{ScalarType}
-use Rattle.ember_ply.specs.declared.declarations.ScalarType.TheVariants.{Int8, Uint8, Int16, Uint16, Int32, Uint32, Float32, Float64}
+use Rattle.ember_ply.specs.declared.declarations.ScalarType.TheVariants.{Int8, Uint8, Int16, Uint16}
+use Rattle.ember_ply.specs.declared.declarations.ScalarType.TheVariants.{Int32, Uint32, Float32, Float64}
 use Rattle.ember_ply.specs.declared.declarations.ByteOrder.TheVariants.{Little, Big}
 use Rattle.ember_ply.specs.declared.declarations.Encoding.{Encoding}
 use Rattle.ember_ply.specs.declared.declarations.Encoding.TheVariants.{Ascii, Binary}

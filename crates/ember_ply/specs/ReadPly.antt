@@ -1,5 +1,6 @@
 -- What the bytes of a PLY file mean: points and triangles, or the first fault
-use Rattle.std.specs.Prelude.{ℕ, zero, suc, ◌+◌, ◌==◌, List, [], ◌∷◌, ◌++◌, length, nat_lt, if◌then◌else◌, Option, None, Some, Result, Ok, Err}
+use Rattle.std.specs.Prelude.{ℕ, zero, suc, ◌+◌, ◌==◌, List, [], ◌∷◌, ◌++◌, length, nat_lt}
+use Rattle.std.specs.Prelude.{if◌then◌else◌, Option, None, Some, Result, Ok, Err}
 use Rattle.ember_number.specs.Fractions.{Fraction}
 use Rattle.ember_surface.specs.declared.surface.Facet.{Facet}
 use Rattle.ember_surface.specs.Surfaces.{Point, Content, fan, first_far}
@@ -11,7 +12,8 @@ use Rattle.ember_ply.specs.declared.declarations.Declaration.{Declaration}
 use Rattle.ember_ply.specs.declared.declarations.Declaration.TheVariants as declaration
 use Rattle.ember_ply.specs.declared.place.RowPlace.{RowPlace}
 use Rattle.ember_ply.specs.declared.fault.PlyFault.{PlyFault}
-use Rattle.ember_ply.specs.declared.fault.PlyFault.TheVariants.{NoFormat, NoCoordinates, NoCorners, FewCorners, NoTriangles, TooLarge}
+use Rattle.ember_ply.specs.declared.fault.PlyFault.TheVariants.{NoFormat, NoCoordinates, NoCorners}
+use Rattle.ember_ply.specs.declared.fault.PlyFault.TheVariants.{FewCorners, NoTriangles, TooLarge}
 use Rattle.ember_ply.specs.Header.{header_of_file}
 use Rattle.ember_ply.specs.Cursors.{Cursor, begun}
 use Rattle.ember_ply.specs.Rows.{and_then, Row, begins_property, row_at}

@@ -1,5 +1,6 @@
 -- The rows of a file: what their properties say
-use Rattle.std.specs.Prelude.{ℕ, zero, suc, Bool, true, false, List, [], ◌∷◌, ◌++◌, min, Option, None, Some, Result, Ok, Err}
+use Rattle.std.specs.Prelude.{ℕ, zero, suc, Bool, true, false, List, [], ◌∷◌, ◌++◌, min, Option, None}
+use Rattle.std.specs.Prelude.{Some, Result, Ok, Err}
 use Rattle.std.specs.Option.{option_map}
 use Rattle.ember_number.specs.Fractions.{Fraction}
 use Rattle.ember_number.specs.Naturals.{below}

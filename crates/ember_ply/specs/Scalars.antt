@@ -6,7 +6,8 @@ use Rattle.ember_number.specs.Floats.{binary32_value, binary64_value}
 use Rattle.ember_number.specs.Naturals.{number_of}
 use Rattle.ember_number.specs.Texts.{value_of_text}
 use Rattle.ember_ply.specs.declared.declarations.ScalarType.{ScalarType}
-use Rattle.ember_ply.specs.declared.declarations.ScalarType.TheVariants.{Int8, Uint8, Int16, Uint16, Int32, Uint32, Float32, Float64}
+use Rattle.ember_ply.specs.declared.declarations.ScalarType.TheVariants.{Int8, Uint8, Int16, Uint16}
+use Rattle.ember_ply.specs.declared.declarations.ScalarType.TheVariants.{Int32, Uint32, Float32, Float64}
 use Rattle.ember_ply.specs.declared.declarations.ByteOrder.{ByteOrder}
 use Rattle.ember_ply.specs.declared.declarations.ByteOrder.TheVariants.{Little, Big}
 

@@ -26,21 +26,33 @@ for_zE p = record { x = p.x; y = p.y; z = p.w }
 
 abbrev determinantsE : TupleE → TupleE → TupleE → TupleE
 determinantsE p q r =
-    record { x = detE (for_xE p) (for_xE q) (for_xE r); y = detE (for_yE p) (for_yE q) (for_yE r); z = detE (for_zE p) (for_zE q) (for_zE r); w = detE (normalE p) (normalE q) (normalE r) }
+    record {
+      x = detE (for_xE p) (for_xE q) (for_xE r);
+      y = detE (for_yE p) (for_yE q) (for_yE r);
+      z =
+          detE (for_zE p) (for_zE q) (for_zE r);
+      w = detE (normalE p) (normalE q) (normalE r);
+    }
 
 module _ (p q r : Plane) where
   -- ---- on each plane
   on_first_by : (k : ℤ) → value_at p (scaled k (determinants p q r)) ≡ pos 0
   on_first_by k =
-      identity (scalar ∷ tuple ∷ tuple ∷ tuple ∷ []) (λ k p q r. let m = determinantsE p q r in p.x ⊗ (k ⊗ m.x) ⊕ p.y ⊗ (k ⊗ m.y) ⊕ p.z ⊗ (k ⊗ m.z) ⊖ p.w ⊗ (k ⊗ m.w) ≈ num (pos 0)) cancels k (plane_tuple p) (plane_tuple q) (plane_tuple r)
+      identity (scalar ∷ tuple ∷ tuple ∷ tuple ∷ []) (λ k p q r. let m = determinantsE p q r in
+      p.x ⊗ (k ⊗ m.x) ⊕ p.y ⊗ (k ⊗ m.y) ⊕ p.z ⊗ (k ⊗ m.z) ⊖ p.w ⊗ (k ⊗ m.w) ≈ num (pos 0)) cancels k (plane_tuple p)
+      (plane_tuple q) (plane_tuple r)
 
   on_second_by : (k : ℤ) → value_at q (scaled k (determinants p q r)) ≡ pos 0
   on_second_by k =
-      identity (scalar ∷ tuple ∷ tuple ∷ tuple ∷ []) (λ k p q r. let m = determinantsE p q r in q.x ⊗ (k ⊗ m.x) ⊕ q.y ⊗ (k ⊗ m.y) ⊕ q.z ⊗ (k ⊗ m.z) ⊖ q.w ⊗ (k ⊗ m.w) ≈ num (pos 0)) cancels k (plane_tuple p) (plane_tuple q) (plane_tuple r)
+      identity (scalar ∷ tuple ∷ tuple ∷ tuple ∷ []) (λ k p q r. let m = determinantsE p q r in
+      q.x ⊗ (k ⊗ m.x) ⊕ q.y ⊗ (k ⊗ m.y) ⊕ q.z ⊗ (k ⊗ m.z) ⊖ q.w ⊗ (k ⊗ m.w) ≈ num (pos 0)) cancels k (plane_tuple p)
+      (plane_tuple q) (plane_tuple r)
 
   on_third_by : (k : ℤ) → value_at r (scaled k (determinants p q r)) ≡ pos 0
   on_third_by k =
-      identity (scalar ∷ tuple ∷ tuple ∷ tuple ∷ []) (λ k p q r. let m = determinantsE p q r in r.x ⊗ (k ⊗ m.x) ⊕ r.y ⊗ (k ⊗ m.y) ⊕ r.z ⊗ (k ⊗ m.z) ⊖ r.w ⊗ (k ⊗ m.w) ≈ num (pos 0)) cancels k (plane_tuple p) (plane_tuple q) (plane_tuple r)
+      identity (scalar ∷ tuple ∷ tuple ∷ tuple ∷ []) (λ k p q r. let m = determinantsE p q r in
+      r.x ⊗ (k ⊗ m.x) ⊕ r.y ⊗ (k ⊗ m.y) ⊕ r.z ⊗ (k ⊗ m.z) ⊖ r.w ⊗ (k ⊗ m.w) ≈ num (pos 0)) cancels k (plane_tuple p)
+      (plane_tuple q) (plane_tuple r)
 
   -- the meet lies on the first plane
   pub on_first : value_at p (meet_of p q r) ≡ pos 0
@@ -59,17 +71,26 @@ module _ (p q r : Plane) where
     -- X of a meet, as the code computes it
     pub x_is : p.d *ℤ u.x +ℤ q.d *ℤ v.x +ℤ r.d *ℤ t.x ≡ (determinants p q r).x
     x_is =
-        rw (eu, ev, et) (identity (tuple ∷ tuple ∷ tuple ∷ []) (λ p q r. p.w ⊗ (crossE (normalE q) (normalE r)).x ⊕ q.w ⊗ (crossE (normalE r) (normalE p)).x ⊕ r.w ⊗ (crossE (normalE p) (normalE q)).x ≈ (determinantsE p q r).x) cancels (plane_tuple p) (plane_tuple q) (plane_tuple r))
+        rw (eu, ev, et) (identity (tuple ∷ tuple ∷ tuple ∷ [])
+        (λ p q r. p.w ⊗ (crossE (normalE q) (normalE r)).x ⊕ q.w ⊗ (crossE (normalE r) (normalE p)).x ⊕ r.w ⊗
+        (crossE (normalE p) (normalE q)).x ≈ (determinantsE p q r).x) cancels (plane_tuple p) (plane_tuple q)
+        (plane_tuple r))
 
     -- Y of a meet, as the code computes it
     pub y_is : p.d *ℤ u.y +ℤ q.d *ℤ v.y +ℤ r.d *ℤ t.y ≡ (determinants p q r).y
     y_is =
-        rw (eu, ev, et) (identity (tuple ∷ tuple ∷ tuple ∷ []) (λ p q r. p.w ⊗ (crossE (normalE q) (normalE r)).y ⊕ q.w ⊗ (crossE (normalE r) (normalE p)).y ⊕ r.w ⊗ (crossE (normalE p) (normalE q)).y ≈ (determinantsE p q r).y) cancels (plane_tuple p) (plane_tuple q) (plane_tuple r))
+        rw (eu, ev, et) (identity (tuple ∷ tuple ∷ tuple ∷ [])
+        (λ p q r. p.w ⊗ (crossE (normalE q) (normalE r)).y ⊕ q.w ⊗ (crossE (normalE r) (normalE p)).y ⊕ r.w ⊗
+        (crossE (normalE p) (normalE q)).y ≈ (determinantsE p q r).y) cancels (plane_tuple p) (plane_tuple q)
+        (plane_tuple r))
 
     -- Z of a meet, as the code computes it
     pub z_is : p.d *ℤ u.z +ℤ q.d *ℤ v.z +ℤ r.d *ℤ t.z ≡ (determinants p q r).z
     z_is =
-        rw (eu, ev, et) (identity (tuple ∷ tuple ∷ tuple ∷ []) (λ p q r. p.w ⊗ (crossE (normalE q) (normalE r)).z ⊕ q.w ⊗ (crossE (normalE r) (normalE p)).z ⊕ r.w ⊗ (crossE (normalE p) (normalE q)).z ≈ (determinantsE p q r).z) cancels (plane_tuple p) (plane_tuple q) (plane_tuple r))
+        rw (eu, ev, et) (identity (tuple ∷ tuple ∷ tuple ∷ [])
+        (λ p q r. p.w ⊗ (crossE (normalE q) (normalE r)).z ⊕ q.w ⊗ (crossE (normalE r) (normalE p)).z ⊕ r.w ⊗
+        (crossE (normalE p) (normalE q)).z ≈ (determinantsE p q r).z) cancels (plane_tuple p) (plane_tuple q)
+        (plane_tuple r))
 
     -- the weight of a meet, as a product of the first normal and the other two's cross product
     pub w_is : dot (normal p) u ≡ weight p q r
@@ -85,7 +106,8 @@ turned s a b e h = rw e (omega (arith, linear, h))
 abbrev pub same_as : Spot → Spot → Type 0
 same_as u v = u ≡ v
 
-module _ (p q r : Plane) (x y z w : ℤ) (ex : x ≡ (determinants p q r).x) (ey : y ≡ (determinants p q r).y) (ez : z ≡ (determinants p q r).z) (ew : w ≡ weight p q r) where
+module _ (p q r : Plane) (x y z w : ℤ) (ex : x ≡ (determinants p q r).x) (ey : y ≡ (determinants p q r).y)
+    (ez : z ≡ (determinants p q r).z) (ew : w ≡ weight p q r) where
   pub plain_meet : pos 0 <ℤ w → same_as (record { x = x; y = y; z = z; w = w }) (meet_of p q r)
   plain_meet l =
       let e : sign (weight p q r) ≡ pos 1 = sign_pos (subst (λ a. pos 0 <ℤ a) ew l) in

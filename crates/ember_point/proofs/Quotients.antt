@@ -1,5 +1,6 @@
 -- Division by the greatest common divisor gives the same point, in lowest terms.
-use Rattle.std.proofs.Common.{◌≡◌, ℕ, zero, suc, ◌*◌, ◌<◌, ◌≤◌, ℤ, pos, negsuc, ◌*ℤ◌, ◌<ℤ◌, neg_ℤ, unsigned_abs, int_div, int_rem, refl, sym, ap, subst, ◌∙◌, arith, mul-le-mul}
+use Rattle.std.proofs.Common.{◌≡◌, ℕ, zero, suc, ◌*◌, ◌<◌, ◌≤◌, ℤ, pos, negsuc, ◌*ℤ◌, ◌<ℤ◌, neg_ℤ, unsigned_abs}
+use Rattle.std.proofs.Common.{int_div, int_rem, refl, sym, ap, subst, ◌∙◌, arith, mul-le-mul}
 use Rattle.std.specs.Int.{IsGcd, ◌∣◌}
 use Rattle.std.proofs.lemmas.Int.{ints, quot-rem, unsigned_abs-mul}
 use Rattle.std.proofs.lemmas.Nat.Gcd.{mod-eq-zero_of_dvd, dvd_antisymm, dvd_trans, le_of_dvd}
@@ -37,7 +38,9 @@ factor-small {m} q d n p e s =
     record { small = omega (arith, k, f, s.small) }
 
 -- the quotient as the code keeps it
-pub stored-quotient : (x d q : ℤ) → Small 4951760157141521099596496895 x → Small 302231454903657293676543 d → pos 0 <ℤ d → unsigned_abs d ∣ unsigned_abs x → q ≡ int_div (to_z w128 (of_z w128 x)) (to_z w128 (of_z w128 d)) → to_z w128 (of_z w128 q) *ℤ d ≡ x
+pub stored-quotient : (x d q : ℤ) → Small 4951760157141521099596496895 x → Small 302231454903657293676543 d →
+    pos 0 <ℤ d → unsigned_abs d ∣ unsigned_abs x → q ≡ int_div (to_z w128 (of_z w128 x)) (to_z w128 (of_z w128 d)) →
+    to_z w128 (of_z w128 q) *ℤ d ≡ x
 stored-quotient x d q sx sd p h e =
     let i : q ≡ int_div x d = e ∙ rw (exact (sx & done) (kept 0) tt, exact (sd & done) (kept 0) tt) refl in
     let f : q *ℤ d ≡ x = ap (λ a. a *ℤ d) i ∙ exact-division x d p h in
@@ -57,7 +60,15 @@ positive_factor q d n p e l =
 -- a valid meet divided by a positive divisor is valid
 pub quotient_valid : {u v : Spot} {d : ℤ} → IsValidMeet u → pos 0 <ℤ d → IsQuotient u v d → IsValidMeet v
 quotient_valid {u} {v} {d} s p q =
-    record { x = factor-small v.x d u.x p q.x s.x; y = factor-small v.y d u.y p q.y s.y; z = factor-small v.z d u.z p q.z s.z; w = factor-small v.w d u.w p q.w s.w; weight = positive_factor v.w d u.w p q.w s.weight }
+    record {
+      x = factor-small v.x d u.x p q.x s.x;
+      y = factor-small v.y d u.y p q.y s.y;
+      z =
+          factor-small v.z d u.z p q.z s.z;
+      w = factor-small v.w d u.w p q.w s.w;
+      weight =
+          positive_factor v.w d u.w p q.w s.weight;
+    }
 
 same_ratio : (a b x w d : ℤ) → a *ℤ d ≡ x → b *ℤ d ≡ w → b *ℤ x ≡ w *ℤ a
 same_ratio a b x w d e f =
@@ -75,7 +86,11 @@ one_dvd k = subst (λ n. 1 ∣ n) (omega arith) (dvd-mul_right 1 k)
 -- a point divided by the greatest common divisor is in lowest terms
 pub quotient_lowest : {u v : Spot} {d : ℤ} → IsGreatestDivisor u d → IsQuotient u v d → IsLowest v
 quotient_lowest {u} {v} {d} g q =
-    record { lowest = λ k x y z w. dvd_antisymm (only_one k (g.greatest (k * unsigned_abs d) (up v.x u.x k x q.x) (up v.y u.y k y q.y) (up v.z u.z k z q.z) (up v.w u.w k w q.w))) (one_dvd k) }
+    record {
+      lowest = λ k x y z w. dvd_antisymm (only_one k
+          (g.greatest (k * unsigned_abs d) (up v.x u.x k x q.x) (up v.y u.y k y q.y) (up v.z u.z k z q.z)
+          (up v.w u.w k w q.w))) (one_dvd k);
+    }
   where
     up : (a b : ℤ) (k : ℕ) → k ∣ unsigned_abs a → a *ℤ d ≡ b → (k * unsigned_abs d) ∣ unsigned_abs b
     up a b k h e =
@@ -92,7 +107,9 @@ lowest_if_one {u} {d} g e =
     record { lowest = λ k x y z w. dvd_antisymm (subst (λ (n : ℤ). k ∣ unsigned_abs n) e (g.greatest k x y z w)) (one_dvd k) }
 
 -- ---- the greatest common divisor of four
-module _ (u : Spot) (valid : IsValidMeet u) (w x y z a b g : ℕ) (ew : w ≡ unsigned_abs u.w) (ex : x ≡ unsigned_abs u.x) (ey : y ≡ unsigned_abs u.y) (ez : z ≡ unsigned_abs u.z) (first : IsGcd w x a) (second : IsGcd a y b) (third : IsGcd b z g) where
+module _ (u : Spot) (valid : IsValidMeet u) (w x y z a b g : ℕ) (ew : w ≡ unsigned_abs u.w) (ex : x ≡ unsigned_abs u.x)
+    (ey : y ≡ unsigned_abs u.y) (ez : z ≡ unsigned_abs u.z) (first : IsGcd w x a) (second : IsGcd a y b)
+    (third : IsGcd b z g) where
   in_b : g ∣ b
   in_b = third.0
 
@@ -116,4 +133,16 @@ module _ (u : Spot) (valid : IsValidMeet u) (w x y z a b g : ℕ) (ew : w ≡ un
 
   pub greatest_divisor : IsGreatestDivisor u (pos g)
   greatest_divisor =
-      record { positive = divisor_positive; small = divisor_small; x = subst (λ n. g ∣ n) ex (dvd_trans g in_a first.1); y = subst (λ n. g ∣ n) ey (dvd_trans g in_b second.1); z = subst (λ n. g ∣ n) ez third.1; w = in_w; greatest = λ k kx ky kz kw. third.2 k (second.2 k (first.2 k (subst (λ n. k ∣ n) (sym ew) kw) (subst (λ n. k ∣ n) (sym ex) kx)) (subst (λ n. k ∣ n) (sym ey) ky)) (subst (λ n. k ∣ n) (sym ez) kz) }
+      record {
+        positive = divisor_positive;
+        small = divisor_small;
+        x =
+            subst (λ n. g ∣ n) ex (dvd_trans g in_a first.1);
+        y = subst (λ n. g ∣ n) ey (dvd_trans g in_b second.1);
+        z =
+            subst (λ n. g ∣ n) ez third.1;
+        w = in_w;
+        greatest =
+            λ k kx ky kz kw. third.2 k (second.2 k (first.2 k (subst (λ n. k ∣ n) (sym ew) kw)
+            (subst (λ n. k ∣ n) (sym ex) kx)) (subst (λ n. k ∣ n) (sym ey) ky)) (subst (λ n. k ∣ n) (sym ez) kz);
+      }

@@ -15,7 +15,8 @@ bounds =
     33554431 ∷ 4951760157141521099596496895 ∷ 549755813887 ∷ 302231454903657293676543 ∷ []
 
 -- the inputs_are_small for which the code's value along a line loses no bits
-pub inputs_are_small : {a x d w : ℤ} → Small 33554431 a → Small 4951760157141521099596496895 x → Small 549755813887 d → Small 302231454903657293676543 w → Inputs bounds (a ∷ x ∷ d ∷ w ∷ [])
+pub inputs_are_small : {a x d w : ℤ} → Small 33554431 a → Small 4951760157141521099596496895 x → Small 549755813887 d →
+    Small 302231454903657293676543 w → Inputs bounds (a ∷ x ∷ d ∷ w ∷ [])
 inputs_are_small a x d w = a & x & d & w & done
 
 -- the value, from numbers that are passed on
@@ -26,14 +27,17 @@ passed_on h = exact h (narrow 0 ⊠ kept 1 ⊟ narrow 2 ⊠ kept 3) tt
 -- the value of a plane across the x axis, from its two numbers that aren't 0
 pub along_x : (p : Plane) (v : Spot) → IsAlong X p → p.a *ℤ v.x -ℤ p.d *ℤ v.w ≡ value_at p v
 along_x p v h =
-    solve 6 (λ a d x y z w. a ⊗ x ⊖ d ⊗ w ≈ a ⊗ x ⊕ num (pos 0) ⊗ y ⊕ num (pos 0) ⊗ z ⊖ d ⊗ w) cancels p.a p.d v.x v.y v.z v.w ∙ (λ i. p.a *ℤ v.x +ℤ sym h.0 i *ℤ v.y +ℤ sym h.1 i *ℤ v.z -ℤ p.d *ℤ v.w)
+    solve 6 (λ a d x y z w. a ⊗ x ⊖ d ⊗ w ≈ a ⊗ x ⊕ num (pos 0) ⊗ y ⊕ num (pos 0) ⊗ z ⊖ d ⊗ w) cancels p.a p.d v.x v.y
+    v.z v.w ∙ (λ i. p.a *ℤ v.x +ℤ sym h.0 i *ℤ v.y +ℤ sym h.1 i *ℤ v.z -ℤ p.d *ℤ v.w)
 
 -- the value of a plane along y by two products
 pub along_y : (p : Plane) (v : Spot) → IsAlong Y p → p.b *ℤ v.y -ℤ p.d *ℤ v.w ≡ value_at p v
 along_y p v h =
-    solve 6 (λ b d x y z w. b ⊗ y ⊖ d ⊗ w ≈ num (pos 0) ⊗ x ⊕ b ⊗ y ⊕ num (pos 0) ⊗ z ⊖ d ⊗ w) cancels p.b p.d v.x v.y v.z v.w ∙ (λ i. sym h.0 i *ℤ v.x +ℤ p.b *ℤ v.y +ℤ sym h.1 i *ℤ v.z -ℤ p.d *ℤ v.w)
+    solve 6 (λ b d x y z w. b ⊗ y ⊖ d ⊗ w ≈ num (pos 0) ⊗ x ⊕ b ⊗ y ⊕ num (pos 0) ⊗ z ⊖ d ⊗ w) cancels p.b p.d v.x v.y
+    v.z v.w ∙ (λ i. sym h.0 i *ℤ v.x +ℤ p.b *ℤ v.y +ℤ sym h.1 i *ℤ v.z -ℤ p.d *ℤ v.w)
 
 -- the value of a plane along z by two products
 pub along_z : (p : Plane) (v : Spot) → IsAlong Z p → p.c *ℤ v.z -ℤ p.d *ℤ v.w ≡ value_at p v
 along_z p v h =
-    solve 6 (λ c d x y z w. c ⊗ z ⊖ d ⊗ w ≈ num (pos 0) ⊗ x ⊕ num (pos 0) ⊗ y ⊕ c ⊗ z ⊖ d ⊗ w) cancels p.c p.d v.x v.y v.z v.w ∙ (λ i. sym h.0 i *ℤ v.x +ℤ sym h.1 i *ℤ v.y +ℤ p.c *ℤ v.z -ℤ p.d *ℤ v.w)
+    solve 6 (λ c d x y z w. c ⊗ z ⊖ d ⊗ w ≈ num (pos 0) ⊗ x ⊕ num (pos 0) ⊗ y ⊕ c ⊗ z ⊖ d ⊗ w) cancels p.c p.d v.x v.y
+    v.z v.w ∙ (λ i. sym h.0 i *ℤ v.x +ℤ sym h.1 i *ℤ v.y +ℤ p.c *ℤ v.z -ℤ p.d *ℤ v.w)

@@ -19,7 +19,8 @@ ring_valid n gs es ms bs is = record { support = is.support; edges = is.planes }
 -- the corner at which a plane is greatest is one of the closed ring
 best_is_closed : (n p : Plane) (xs : List Side) (b : Best p xs) → IsConvexRing n xs → IsInClosedRing n xs b.at.corner
 best_is_closed n p xs b h =
-    (each-back (λ s. IsInClosedRing n xs s.corner) b.before (b.at ∷ b.behind) (subst (λ ys. AllByRecursion (λ s. IsInClosedRing n xs s.corner) ys) b.split (ring-closed n xs h))).0
+    (each-back (λ s. IsInClosedRing n xs s.corner) b.before (b.at ∷ b.behind)
+    (subst (λ ys. AllByRecursion (λ s. IsInClosedRing n xs s.corner) ys) b.split (ring-closed n xs h))).0
 
 by_best : (n p : Plane) (gs : List Plane) (xs : List Side) → Represents n gs xs → Best p xs → IsBoundedBy p (record { support = n; edges = gs })
 by_best n p gs xs is b =

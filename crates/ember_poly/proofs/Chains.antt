@@ -31,7 +31,8 @@ each_both P Q R [] f h k = tt
 each_both P Q R (x ∷ xs) f h k = (f x h.0 k.0, each_both P Q R xs f h.1 k.1)
 
 -- ---- chains
-chain-push : (n g : Plane) (xs : List Side) (t : Side) → IsSideChain n g xs → EndsAt n g xs t → AllByRecursion (λ s. IsBelow t.plane s.corner) xs → IsSideChain n g (xs ++ t ∷ [])
+chain-push : (n g : Plane) (xs : List Side) (t : Side) → IsSideChain n g xs → EndsAt n g xs t →
+    AllByRecursion (λ s. IsBelow t.plane s.corner) xs → IsSideChain n g (xs ++ t ∷ [])
 chain-push n g [] t c e u = (e, tt, tt, tt)
 chain-push n g (s ∷ xs) t c e u =
     (c.0, each-push (λ r. IsBelow g r.corner) xs t c.1 e.0, each-push (λ r. IsBelow r.plane s.corner) xs t c.2 u.0, chain-push n s.plane xs t c.3 e.1 u.1)
@@ -50,12 +51,14 @@ chain_ends n g (s ∷ xs) t ys c =
 
 -- a side's plane at the corners before it
 
-ends_make : (n g : Plane) (xs : List Side) (s t : Side) → IsBelow g t.corner → AllByRecursion (λ r. IsBelow r.plane t.corner) xs → IsCornerOf n s.plane t → EndsAt n g (xs ++ s ∷ []) t
+ends_make : (n g : Plane) (xs : List Side) (s t : Side) → IsBelow g t.corner →
+    AllByRecursion (λ r. IsBelow r.plane t.corner) xs → IsCornerOf n s.plane t → EndsAt n g (xs ++ s ∷ []) t
 ends_make n g [] s t u h j = (u, j)
 ends_make n g (r ∷ xs) s t u h j = (u, ends_make n r.plane xs s t h.0 h.1 j)
 
 -- the three facts of the corner that ends a chain of sides
-pub ends_under : (n g : Plane) (xs : List Side) (s t : Side) → EndsAt n g (xs ++ s ∷ []) t → IsBelow g t.corner × AllByRecursion (λ r. IsBelow r.plane t.corner) xs × IsCornerOf n s.plane t
+pub ends_under : (n g : Plane) (xs : List Side) (s t : Side) → EndsAt n g (xs ++ s ∷ []) t →
+    IsBelow g t.corner × AllByRecursion (λ r. IsBelow r.plane t.corner) xs × IsCornerOf n s.plane t
 ends_under n g [] s t e = (e.0, tt, e.1)
 ends_under n g (r ∷ xs) s t e =
     let h = ends_under n r.plane xs s t e.1 in (e.0, (h.0, h.1), h.2)
@@ -74,10 +77,18 @@ ring_turned_by_one n s (t ∷ u ∷ xs) h =
 
 -- ---- a chain that is closed by one more side
 -- a chain with a side that closes it is a ring
-pub chain_is_closed : (n : Plane) (f : Side) (ks : List Side) (l p : Side) → IsSideChain n f.plane (ks ++ l ∷ []) → IsBelow f.plane p.corner → AllByRecursion (λ r. IsBelow r.plane p.corner) ks → IsCornerOf n l.plane p → AllByRecursion (λ r. IsBelow r.plane f.corner) (ks ++ l ∷ []) → IsCornerOf n p.plane f → AllByRecursion (λ r. IsBelow p.plane r.corner) (ks ++ l ∷ []) → IsConvexRing n (f ∷ (ks ++ l ∷ []) ++ p ∷ [])
+pub chain_is_closed : (n : Plane) (f : Side) (ks : List Side) (l p : Side) → IsSideChain n f.plane (ks ++ l ∷ []) →
+    IsBelow f.plane p.corner → AllByRecursion (λ r. IsBelow r.plane p.corner) ks → IsCornerOf n l.plane p →
+    AllByRecursion (λ r. IsBelow r.plane f.corner) (ks ++ l ∷ []) → IsCornerOf n p.plane f →
+    AllByRecursion (λ r. IsBelow p.plane r.corner) (ks ++ l ∷ []) → IsConvexRing n (f ∷ (ks ++ l ∷ []) ++ p ∷ [])
 chain_is_closed n f [] l p c u h j v k b =
     let first : IsSideChain n f.plane (l ∷ p ∷ []) = chain-push n f.plane (l ∷ []) p c (u, j) b in
     (tt, first, chain-push n l.plane (p ∷ []) f first.3 (v.0, k) first.1)
 chain_is_closed n f (m ∷ ks) l p c u h j v k b =
-    let first : IsSideChain n f.plane (m ∷ (ks ++ l ∷ []) ++ p ∷ []) = chain-push n f.plane (m ∷ (ks ++ l ∷ [])) p c (ends_make n f.plane (m ∷ ks) l p u h j) b in
-    (not_empty-push (ks ++ l ∷ []) p, first, chain-push n m.plane ((ks ++ l ∷ []) ++ p ∷ []) f first.3 (ends_make n m.plane (ks ++ l ∷ []) p f v.0 v.1 k) first.1)
+    let first : IsSideChain n f.plane (m ∷ (ks ++ l ∷ []) ++ p ∷ []) =
+    chain-push n f.plane (m ∷ (ks ++ l ∷ [])) p c (ends_make n f.plane (m ∷ ks) l p u h j) b in (
+      not_empty-push (ks ++ l ∷ []) p,
+      first,
+      chain-push n m.plane ((ks ++ l ∷ []) ++ p ∷ []) f first.3
+          (ends_make n m.plane (ks ++ l ∷ []) p f v.0 v.1 k) first.1,
+    )

@@ -38,7 +38,9 @@ record Ends (n p : Plane) (f l : Side) (y z : Spot) (whole : List Side) : Type 0
   pub first : IsBelow f.plane y
   pub last : IsBelow l.plane z
 
-ends_of : (n p : Plane) (f l : Side) (ks ds : List Side) (y z : Spot) → IsMeet n f.plane p z → IsMeet n l.plane p y → IsConvexRing n (f ∷ (ks ++ l ∷ []) ++ ds) → AllByRecursion (λ s. IsBelow p s.corner) (ks ++ l ∷ []) → IsNotBelow p f.corner → Leaves p f ds → Ends n p f l y z (f ∷ (ks ++ l ∷ []) ++ ds)
+ends_of : (n p : Plane) (f l : Side) (ks ds : List Side) (y z : Spot) → IsMeet n f.plane p z → IsMeet n l.plane p y →
+    IsConvexRing n (f ∷ (ks ++ l ∷ []) ++ ds) → AllByRecursion (λ s. IsBelow p s.corner) (ks ++ l ∷ []) →
+    IsNotBelow p f.corner → Leaves p f ds → Ends n p f l y z (f ∷ (ks ++ l ∷ []) ++ ds)
 ends_of n p f l ks [] y z mz my s u a q =
     let o = below_all n p f l y z 0 q.over my mz ks (subst (λ zs. IsConvexRing n (f ∷ zs)) (append-nil (ks ++ l ∷ [])) s) u in
     let c = head_closed n f ((ks ++ l ∷ []) ++ []) s in
@@ -55,7 +57,8 @@ ends_of n p f l ks (d ∷ ds) y z mz my s u a q =
     record {
       at_y = at_y n p f l ks (d ∷ ds) y z 0 d.corner s c o;
       at_z = at_z n p f l ks (d ∷ ds) y z 0 d.corner s c o;
-      middle = middle_under n p f l ks (d ∷ ds) y z 0 d.corner s c o (dropped_side_is_above_one_corner n p f l d ks ds y z 0 s o.exit o.entry (plane_has_corners_above p f d ds q));
+      middle = middle_under n p f l ks (d ∷ ds) y z 0 d.corner s c o
+          (dropped_side_is_above_one_corner n p f l d ks ds y z 0 s o.exit o.entry (plane_has_corners_above p f d ds q));
       first = front_y n (with_start f z) l (closing_side p y 0) ks o.sound;
       last = (each-back (λ s. IsBelow s.plane z) ks (l ∷ []) (kept_z n (with_start f z) l (closing_side p y 0) ks o.sound)).0;
     }
@@ -90,7 +93,9 @@ zeros i j k e f g =
     rw (e, f, g) (solve 3 (λ i j k. i ⊗ num (pos 0) ⊖ j ⊗ num (pos 0) ⊖ k ⊗ num (pos 0) ≈ num (pos 0)) cancels i j k)
 
 -- ---- the points of the chord
-module _ (n p : Plane) (f l : Side) (ks ds : List Side) (y z : Spot) (mz : IsMeet n f.plane p z) (my : IsMeet n l.plane p y) (s : IsConvexRing n (f ∷ (ks ++ l ∷ []) ++ ds)) (u : AllByRecursion (λ s. IsBelow p s.corner) (ks ++ l ∷ [])) (a : IsNotBelow p f.corner) (q : Leaves p f ds) where
+module _ (n p : Plane) (f l : Side) (ks ds : List Side) (y z : Spot) (mz : IsMeet n f.plane p z)
+    (my : IsMeet n l.plane p y) (s : IsConvexRing n (f ∷ (ks ++ l ∷ []) ++ ds))
+    (u : AllByRecursion (λ s. IsBelow p s.corner) (ks ++ l ∷ [])) (a : IsNotBelow p f.corner) (q : Leaves p f ds) where
   abbrev whole : List Side
   whole = f ∷ (ks ++ l ∷ []) ++ ds
 
@@ -102,7 +107,15 @@ module _ (n p : Plane) (f l : Side) (ks ds : List Side) (y z : Spot) (mz : IsMee
       record {
         flat = flat_sum i j y z n my.first mz.first;
         weight = weight_sum (least pi) pj my.weight mz.weight;
-        within = each_both (λ s. IsNotAbove s.plane y × IsNotAbove s.plane z) (λ s. IsBelow s.plane (combination (pos 1) (pos 1) y z)) (λ s. IsBelow s.plane (combination i j y z)) whole (λ s a m. record { under = rw (combination_value i j y z s.plane) (between pi pj a.0.at_most a.1.at_most (subst (λ k. k <ℤ pos 0) (combination_value (pos 1) (pos 1) y z s.plane) m.under)) }) (each_both (λ s. IsNotAbove s.plane y) (λ s. IsNotAbove s.plane z) (λ s. IsNotAbove s.plane y × IsNotAbove s.plane z) whole (λ s u v. (u, v)) ends.at_y ends.at_z) ends.middle;
+        within = each_both (λ s. IsNotAbove s.plane y × IsNotAbove s.plane z)
+            (λ s. IsBelow s.plane (combination (pos 1) (pos 1) y z)) (λ s. IsBelow s.plane (combination i j y z)) whole
+            (λ s a m. record {
+              under = rw (combination_value i j y z s.plane)
+                  (between pi pj a.0.at_most a.1.at_most
+                  (subst (λ k. k <ℤ pos 0) (combination_value (pos 1) (pos 1) y z s.plane) m.under));
+            })
+            (each_both (λ s. IsNotAbove s.plane y) (λ s. IsNotAbove s.plane z)
+            (λ s. IsNotAbove s.plane y × IsNotAbove s.plane z) whole (λ s u v. (u, v)) ends.at_y ends.at_z) ends.middle;
       }
     where
       least : {k : ℤ} → pos 0 <ℤ k → pos 0 ≤ℤ k
@@ -131,15 +144,21 @@ module _ (n p : Plane) (f l : Side) (ks ds : List Side) (y z : Spot) (mz : IsMee
 
     on_f : value_at f.plane rest ≡ pos 0
     on_f =
-        blend_value i j h x y z f.plane ∙ rw mz.second (solve 4 (λ a b c d. (b ⊗ c) ⊗ a ⊖ (a ⊗ c) ⊗ b ⊖ (b ⊗ d) ⊗ num (pos 0) ≈ num (pos 0)) cancels (value_at f.plane x) (value_at f.plane y) (value_at l.plane z) (value_at l.plane x))
+        blend_value i j h x y z f.plane ∙ rw mz.second
+        (solve 4 (λ a b c d. (b ⊗ c) ⊗ a ⊖ (a ⊗ c) ⊗ b ⊖ (b ⊗ d) ⊗ num (pos 0) ≈ num (pos 0)) cancels
+        (value_at f.plane x) (value_at f.plane y) (value_at l.plane z) (value_at l.plane x))
 
     on_l : value_at l.plane rest ≡ pos 0
     on_l =
-        blend_value i j h x y z l.plane ∙ rw my.second (solve 4 (λ a b c d. (b ⊗ c) ⊗ d ⊖ (a ⊗ c) ⊗ num (pos 0) ⊖ (b ⊗ d) ⊗ c ≈ num (pos 0)) cancels (value_at f.plane x) (value_at f.plane y) (value_at l.plane z) (value_at l.plane x))
+        blend_value i j h x y z l.plane ∙ rw my.second
+        (solve 4 (λ a b c d. (b ⊗ c) ⊗ d ⊖ (a ⊗ c) ⊗ num (pos 0) ⊖ (b ⊗ d) ⊗ c ≈ num (pos 0)) cancels
+        (value_at f.plane x) (value_at f.plane y) (value_at l.plane z) (value_at l.plane x))
 
     index : (e : Plane) → rest.w *ℤ value_at e z ≡ z.w *ℤ value_at e rest
     index e =
-        same_place n p f.plane (not_zero (turns_of n p f l ks ds s u a q).1) e rest z (blend_value i j h x y z n ∙ zeros i j h k.flat my.first mz.first) (blend_value i j h x y z p ∙ zeros i j h on my.third mz.third) on_f mz.first mz.third mz.second
+        same_place n p f.plane (not_zero (turns_of n p f l ks ds s u a q).1) e rest z
+        (blend_value i j h x y z n ∙ zeros i j h k.flat my.first mz.first)
+        (blend_value i j h x y z p ∙ zeros i j h on my.third mz.third) on_f mz.first mz.third mz.second
 
     values_combine : (e : Plane) → i *ℤ value_at e x ≡ j *ℤ value_at e y +ℤ h *ℤ value_at e z
     values_combine e =
@@ -152,7 +171,19 @@ module _ (n p : Plane) (f l : Side) (ks ds : List Side) (y z : Spot) (mz : IsMee
 
     chord_open : (hs : List Plane) → none_positive hs x ≡ true → IsOpen hs y z
     chord_open hs e =
-        record { i = j; j = h; from_y = mul_neg_neg at_f ends.last.under; from_z = mul_neg_neg ends.first.under at_l; free = all_in hs (combination j h y z) (each_map (λ g. IsNotAbove g x) (λ g. IsNotAbove g (combination j h y z)) hs (λ g a. record { at_most = rw (combination_value j h y z g) (subst (λ k. k ≤ℤ pos 0) (values_combine g) (lower (mul_neg_neg ends.first.under ends.last.under) a.at_most)) }) (all_out hs x e)) }
+        record {
+          i = j;
+          j = h;
+          from_y = mul_neg_neg at_f ends.last.under;
+          from_z =
+              mul_neg_neg ends.first.under at_l;
+          free =
+              all_in hs (combination j h y z) (each_map (λ g. IsNotAbove g x) (λ g. IsNotAbove g (combination j h y z)) hs
+              (λ g a. record {
+                at_most = rw (combination_value j h y z g)
+                    (subst (λ k. k ≤ℤ pos 0) (values_combine g) (lower (mul_neg_neg ends.first.under ends.last.under) a.at_most));
+              }) (all_out hs x e));
+        }
 
 -- ---- the rotated ring
 inside_turned : (n : Plane) (v : Spot) (xs ys : List Side) → IsInsideRing n (xs ++ ys) v → IsInsideRing n (ys ++ xs) v
@@ -171,25 +202,51 @@ module _ (n p : Plane) (gs : List Plane) (xs : List Side) (at : Passage) (q : Is
 
   sound : IsConvexRing n begun
   sound =
-      subst (λ zs. IsConvexRing n zs) q.turned (turned_by n (take at.entry_edge xs) (drop at.entry_edge xs) (subst (λ zs. IsConvexRing n zs) (sym (take-append-drop at.entry_edge xs)) st.sound))
+      subst (λ zs. IsConvexRing n zs) q.turned (turned_by n (take at.entry_edge xs) (drop at.entry_edge xs)
+      (subst (λ zs. IsConvexRing n zs) (sym (take-append-drop at.entry_edge xs)) st.sound))
 
   into : (v : Spot) → IsInsideRing n xs v → IsInsideRing n begun v
   into v k =
-      subst (λ zs. IsInsideRing n zs v) q.turned (inside_turned n v (take at.entry_edge xs) (drop at.entry_edge xs) (subst (λ zs. IsInsideRing n zs v) (sym (take-append-drop at.entry_edge xs)) k))
+      subst (λ zs. IsInsideRing n zs v) q.turned
+      (inside_turned n v (take at.entry_edge xs) (drop at.entry_edge xs)
+      (subst (λ zs. IsInsideRing n zs v) (sym (take-append-drop at.entry_edge xs)) k))
 
   out : (v : Spot) → IsInsideRing n begun v → IsInsideRing n xs v
   out v k =
-      subst (λ zs. IsInsideRing n zs v) (take-append-drop at.entry_edge xs) (inside_turned n v (drop at.entry_edge xs) (take at.entry_edge xs) (subst (λ zs. IsInsideRing n zs v) (sym q.turned) k))
+      subst (λ zs. IsInsideRing n zs v) (take-append-drop at.entry_edge xs)
+      (inside_turned n v (drop at.entry_edge xs) (take at.entry_edge xs)
+      (subst (λ zs. IsInsideRing n zs v) (sym q.turned) k))
 
   chord_line : IsLine n p y z
   chord_line =
-      record { flat_y = q.exit.first; flat_z = q.entry.first; on_y = q.exit.third; on_z = q.entry.third; weight_y = q.exit.weight; weight_z = q.entry.weight; across = q.head.plane; turns = not_zero (turns_of n p q.head q.last q.firsts q.others sound q.under q.enters q.leaves).1 }
+      record {
+        flat_y = q.exit.first;
+        flat_z = q.entry.first;
+        on_y = q.exit.third;
+        on_z = q.entry.third;
+        weight_y =
+            q.exit.weight;
+        weight_z = q.entry.weight;
+        across = q.head.plane;
+        turns =
+            not_zero (turns_of n p q.head q.last q.firsts q.others sound q.under q.enters q.leaves).1;
+      }
 
   chord_meets : (hs : List Plane) → IsOpen hs y z → MeetsFace (record { support = n; edges = gs }) (face_with p hs)
   chord_meets hs o =
       let v = combination o.i o.j y z in
       let k = out v (chord_inside n p q.head q.last q.firsts q.others y z q.entry q.exit sound q.under q.enters q.leaves o.i o.j o.from_y o.from_z) in
-      record { at = v; inside = seen_inside n p gs xs st v k; holds = closed_in (face_with p hs) v (record { flat = flat_sum o.i o.j y z p q.exit.third q.entry.third; weight = k.weight; within = all_out hs v o.free }) }
+      record {
+        at = v;
+        inside = seen_inside n p gs xs st v k;
+        holds =
+            closed_in (face_with p hs) v (record {
+              flat = flat_sum o.i o.j y z p q.exit.third q.entry.third;
+              weight =
+                  k.weight;
+              within = all_out hs v o.free;
+            });
+      }
 
   meets_chord : (hs : List Plane) → MeetsFace (record { support = n; edges = gs }) (face_with p hs) → IsOpen hs y z
   meets_chord hs m =
@@ -198,7 +255,9 @@ module _ (n p : Plane) (gs : List Plane) (xs : List Side) (at : Passage) (q : Is
       chord_open n p q.head q.last q.firsts q.others y z q.entry q.exit sound q.under q.enters q.leaves m.at k c.flat hs (all_in hs m.at c.within)
 
 -- the chord of the ring's face
-pub chord_of : (f : Face) (n p : Plane) (gs : List Plane) (xs : List Side) (at : Passage) → IsPassage n p xs at → Represents n gs xs → record { support = n; edges = gs } ≡ f → Cuts f p → IsChord f p (spot_of at.exit) (spot_of at.entry)
+pub chord_of : (f : Face) (n p : Plane) (gs : List Plane) (xs : List Side) (at : Passage) → IsPassage n p xs at →
+    Represents n gs xs → record { support = n; edges = gs } ≡ f → Cuts f p →
+    IsChord f p (spot_of at.exit) (spot_of at.entry)
 chord_of f n p gs xs at q s e k =
     record {
       cuts = k;

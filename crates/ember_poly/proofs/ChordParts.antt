@@ -1,5 +1,7 @@
 -- What planes leave of the segment between two points.
-use Rattle.std.proofs.Common.{◌≡◌, ◌≢◌, ◌⊎◌, ⊎_elim, inl, inr, refl, sym, subst, ◌∙◌, arith, ℕ, zero, suc, ◌<◌, ◌≤◌, ◌+◌, Bool, true, false, List, [], ◌∷◌, ◌++◌, length, take, ℤ, pos, ◌+ℤ◌, ◌-ℤ◌, ◌*ℤ◌, neg_ℤ, ◌<ℤ◌, ◌≤ℤ◌}
+use Rattle.std.proofs.Common.{◌≡◌, ◌≢◌, ◌⊎◌, ⊎_elim, inl, inr, refl, sym, subst, ◌∙◌, arith, ℕ, zero, suc, ◌<◌, ◌≤◌}
+use Rattle.std.proofs.Common.{◌+◌, Bool, true, false, List, [], ◌∷◌, ◌++◌, length, take, ℤ, pos, ◌+ℤ◌, ◌-ℤ◌, ◌*ℤ◌}
+use Rattle.std.proofs.Common.{neg_ℤ, ◌<ℤ◌, ◌≤ℤ◌}
 use lib.ListN.{get_or}
 use Rattle.std.proofs.lemmas.List.{take_more, take_all}
 use Rattle.std.specs.List.{AllByRecursion}
@@ -50,9 +52,17 @@ decide_free hs v = by (none_positive hs v) refl
 at_most_same : {k l a b : ℤ} → pos 0 <ℤ k → pos 0 <ℤ l → k *ℤ b ≡ l *ℤ a → a ≤ℤ pos 0 → b ≤ℤ pos 0
 at_most_same {k} {l} {a} {b} pk pl e q =
     let m : pos 0 ≤ℤ neg_ℤ a = omega (arith, linear, q) in let n : pos 0 ≤ℤ l = omega (arith, linear, pl) in
-    cancel_le pk (omega (arith, linear, nonneg_mul n m, e, solve 2 (λ l a. l ⊗ neg a ≈ neg (l ⊗ a)) cancels l a, solve 1 (λ k. k ⊗ num (pos 0) ≈ num (pos 0)) cancels k))
+    cancel_le pk (omega (
+      arith,
+      linear,
+      nonneg_mul n m,
+      e,
+      solve 2 (λ l a. l ⊗ neg a ≈ neg (l ⊗ a)) cancels l a,
+      solve 1 (λ k. k ⊗ num (pos 0) ≈ num (pos 0)) cancels k,
+    ))
 
-same_free : (hs : List Plane) (u v : Spot) → pos 0 <ℤ u.w → pos 0 <ℤ v.w → ((e : Plane) → u.w *ℤ value_at e v ≡ v.w *ℤ value_at e u) → none_positive hs u ≡ true → none_positive hs v ≡ true
+same_free : (hs : List Plane) (u v : Spot) → pos 0 <ℤ u.w → pos 0 <ℤ v.w →
+    ((e : Plane) → u.w *ℤ value_at e v ≡ v.w *ℤ value_at e u) → none_positive hs u ≡ true → none_positive hs v ≡ true
 same_free hs u v pu pv e f =
     all_in hs v (each_map (λ g. IsNotAbove g u) (λ g. IsNotAbove g v) hs (λ g a. record { at_most = at_most_same pu pv (e g) a.at_most }) (all_out hs u f))
 
@@ -60,7 +70,8 @@ same_free hs u v pu pv e f =
 -- the point in which three planes meet is above none of the list, if some such point is
 pub fits_free : (n p h : Plane) (hs : List Plane) (v : Spot) → IsMeet n p h v → HasVertexWithin n p h hs → none_positive hs v ≡ true
 fits_free n p h hs v m f =
-    same_free hs f.at v f.meets.weight m.weight (λ e. same_place n p h f.turns e f.at v f.meets.first f.meets.second f.meets.third m.first m.second m.third) f.free
+    same_free hs f.at v f.meets.weight m.weight (λ e. same_place n p h f.turns e f.at v f.meets.first f.meets.second
+    f.meets.third m.first m.second m.third) f.free
 
 -- ---- a plane with opposite signs at the two ends
 abbrev pub IsAcross : Plane → Spot → Spot → Type 0
@@ -77,7 +88,10 @@ no_slope t s k x y c d z e pc pd px py =
 
 across_turns : (n p h : Plane) (a b : Spot) → IsLine n p a b → IsAcross h a b → orientation n p h ≢ pos 0
 across_turns n p h a b l s =
-    λ z. l.turns (back (swap_last n l.across p) (no_slope (orientation n p h) (orientation n l.across p) (a.w *ℤ value_at l.across b -ℤ b.w *ℤ value_at l.across a) (value_at h a) (value_at h b) a.w b.w z (value_difference_by_orientation n p h l.across a b l.flat_y l.flat_z l.on_y l.on_z) l.weight_y l.weight_z s.0 s.1))
+    λ z. l.turns (back (swap_last n l.across p) (no_slope (orientation n p h) (orientation n l.across p)
+    (a.w *ℤ value_at l.across b -ℤ b.w *ℤ value_at l.across a) (value_at h a) (value_at h b) a.w b.w z
+    (value_difference_by_orientation n p h l.across a b l.flat_y l.flat_z l.on_y l.on_z) l.weight_y l.weight_z s.0
+    s.1))
   where
     back : {x y : ℤ} → y ≡ neg_ℤ x → x ≡ pos 0 → y ≡ pos 0
     back {x} {y} e z = omega (arith, linear, e, z)
@@ -85,10 +99,22 @@ across_turns n p h a b l s =
 -- the line from the other end
 turned_line : (n p : Plane) (a b : Spot) → IsLine n p a b → IsLine n p b a
 turned_line n p a b l =
-    record { flat_y = l.flat_z; flat_z = l.flat_y; on_y = l.on_z; on_z = l.on_y; weight_y = l.weight_z; weight_z = l.weight_y; across = l.across; turns = l.turns }
+    record {
+      flat_y = l.flat_z;
+      flat_z = l.flat_y;
+      on_y = l.on_z;
+      on_z = l.on_y;
+      weight_y = l.weight_z;
+      weight_z =
+          l.weight_y;
+      across = l.across;
+      turns = l.turns;
+    }
 
 -- ---- where it meets the line
-meets_line : (i j : ℤ) (n p h : Plane) (a b : Spot) → pos 0 ≤ℤ i → pos 0 <ℤ j → value_at n a ≡ pos 0 → value_at n b ≡ pos 0 → value_at p a ≡ pos 0 → value_at p b ≡ pos 0 → pos 0 <ℤ a.w → pos 0 <ℤ b.w → i *ℤ value_at h a +ℤ j *ℤ value_at h b ≡ pos 0 → IsMeet n p h (combination i j a b)
+meets_line : (i j : ℤ) (n p h : Plane) (a b : Spot) → pos 0 ≤ℤ i → pos 0 <ℤ j → value_at n a ≡ pos 0 →
+    value_at n b ≡ pos 0 → value_at p a ≡ pos 0 → value_at p b ≡ pos 0 → pos 0 <ℤ a.w → pos 0 <ℤ b.w →
+    i *ℤ value_at h a +ℤ j *ℤ value_at h b ≡ pos 0 → IsMeet n p h (combination i j a b)
 meets_line i j n p h a b pi pj na nb ha hb wa wb e =
     record { first = flat_sum i j a b n na nb; second = flat_sum i j a b p ha hb; third = combination_value i j a b h ∙ e; weight = weight_sum pi pj wa wb }
 
@@ -96,7 +122,16 @@ meets_line i j n p h a b pi pj na nb ha hb wa wb e =
 open_across : (n p h : Plane) (hs : List Plane) (a b : Spot) → IsLine n p a b → IsAcross h a b → HasVertexWithin n p h hs → IsOpen hs a b
 open_across n p h hs a b l s f =
     let i = flip s.1 in
-    record { i = neg_ℤ (value_at h b); j = value_at h a; from_y = i; from_z = s.0; free = fits_free n p h hs (combination (neg_ℤ (value_at h b)) (value_at h a) a b) (meets_line (neg_ℤ (value_at h b)) (value_at h a) n p h a b (most i) s.0 l.flat_y l.flat_z l.on_y l.on_z l.weight_y l.weight_z (solve 2 (λ x y. neg y ⊗ x ⊕ x ⊗ y ≈ num (pos 0)) cancels (value_at h a) (value_at h b))) f }
+    record {
+      i = neg_ℤ (value_at h b);
+      j = value_at h a;
+      from_y = i;
+      from_z = s.0;
+      free =
+          fits_free n p h hs (combination (neg_ℤ (value_at h b)) (value_at h a) a b)
+          (meets_line (neg_ℤ (value_at h b)) (value_at h a) n p h a b (most i) s.0 l.flat_y l.flat_z l.on_y l.on_z
+          l.weight_y l.weight_z (solve 2 (λ x y. neg y ⊗ x ⊕ x ⊗ y ≈ num (pos 0)) cancels (value_at h a) (value_at h b))) f;
+    }
   where
     flip : {x : ℤ} → x <ℤ pos 0 → pos 0 <ℤ neg_ℤ x
     flip q = omega (arith, linear, q)
@@ -125,7 +160,13 @@ record Passing (n p : Plane) (hs : List Plane) (a b : Spot) : Type 0 where
 pub last_free : (gs : List Plane) (g : Plane) (a x : Spot) → After a x g gs → none_positive gs (combination (neg_ℤ (value_at g x)) (value_at g a) a x) ≡ true
 last_free [] g a x f = refl
 last_free (h ∷ gs) g a x f =
-    all_in (h ∷ gs) (combination (neg_ℤ (value_at g x)) (value_at g a) a x) (record { at_most = rw (combination_value (neg_ℤ (value_at g x)) (value_at g a) a x h) (below (value_at h a) (value_at h x) (value_at g a) (value_at g x) f.0) }, all_out gs (combination (neg_ℤ (value_at g x)) (value_at g a) a x) (last_free gs g a x f.1))
+    all_in (h ∷ gs) (combination (neg_ℤ (value_at g x)) (value_at g a) a x) (
+      record {
+        at_most = rw (combination_value (neg_ℤ (value_at g x)) (value_at g a) a x h)
+            (below (value_at h a) (value_at h x) (value_at g a) (value_at g x) f.0);
+      },
+      all_out gs (combination (neg_ℤ (value_at g x)) (value_at g a) a x) (last_free gs g a x f.1),
+    )
   where
     below : (ha hx ga gx : ℤ) → (ha *ℤ neg_ℤ gx) ≤ℤ (ga *ℤ neg_ℤ hx) → (neg_ℤ gx *ℤ ha +ℤ ga *ℤ hx) ≤ℤ pos 0
     below ha hx ga gx l =
@@ -151,7 +192,11 @@ passing n p hs a b l o f = by (last_zero a x hs f o.free)
     by : Last a x hs → Passing n p hs a b
     by r =
         let g = r.plane in let at : value_at g x ≤ℤ pos 0 = none_positive_member x hs g o.free r.member in
-        let s : IsAcross g a b = (r.up, falls o.i o.j (value_at g a) (value_at g b) o.from_y o.from_z r.up (subst (λ k. k ≤ℤ pos 0) (combination_value o.i o.j a b g) at)) in
+        let s : IsAcross g a b = (
+          r.up,
+          falls o.i o.j (value_at g a) (value_at g b) o.from_y o.from_z r.up
+              (subst (λ k. k ≤ℤ pos 0) (combination_value o.i o.j a b g) at),
+        ) in
         let flat : value_at n x ≡ pos 0 = flat_sum o.i o.j a b n l.flat_y l.flat_z in
         let on : value_at p x ≡ pos 0 = flat_sum o.i o.j a b p l.on_y l.on_z in
         let heavy : pos 0 <ℤ x.w = weight_sum (least o.from_y) o.from_z l.weight_y l.weight_z in
@@ -159,7 +204,16 @@ passing n p hs a b l o f = by (last_zero a x hs f o.free)
           plane = g;
           member = r.member;
           across = s;
-          has_vertex_within = record { turns = across_turns n p g a b l s; at = combination (neg_ℤ (value_at g x)) (value_at g a) a x; meets = meets_line (neg_ℤ (value_at g x)) (value_at g a) n p g a x (up at) r.up l.flat_y flat l.on_y on l.weight_y heavy (solve 2 (λ u v. neg v ⊗ u ⊕ u ⊗ v ≈ num (pos 0)) cancels (value_at g a) (value_at g x)); free = last_free hs g a x r.after };
+          has_vertex_within = record {
+            turns = across_turns n p g a b l s;
+            at =
+                combination (neg_ℤ (value_at g x)) (value_at g a) a x;
+            meets =
+                meets_line (neg_ℤ (value_at g x)) (value_at g a) n p g a x (up at) r.up l.flat_y flat l.on_y on l.weight_y
+                heavy (solve 2 (λ u v. neg v ⊗ u ⊕ u ⊗ v ≈ num (pos 0)) cancels (value_at g a) (value_at g x));
+            free =
+                last_free hs g a x r.after;
+          };
         }
 
 -- ---- the planes of a list one after another
@@ -186,7 +240,8 @@ module _ (n p : Plane) (hs : List Plane) (y z : Spot) (l : IsLine n p y z) where
   tried_free false gs h s t =
       record { passed = each-push (Passed n p hs y z) gs h t.passed (inl s); free = has-front (λ h. Spans n p hs y z Split h) gs (h ∷ []) t.free }
 
-  tried_split : (b : Bool) (gs : List Plane) (h : Plane) → Spans n p hs y z Split h → (HasVertexWithin n p h hs → ⊥) → Tried n p hs y z b gs → Tried n p hs y z false (gs ++ h ∷ [])
+  tried_split : (b : Bool) (gs : List Plane) (h : Plane) → Spans n p hs y z Split h → (HasVertexWithin n p h hs → ⊥) →
+      Tried n p hs y z b gs → Tried n p hs y z false (gs ++ h ∷ [])
   tried_split b gs h s f t =
       record { passed = each-push (Passed n p hs y z) gs h t.passed (inr (s, f)); free = has-push (λ h. Spans n p hs y z Split h) gs h s }
 
@@ -211,7 +266,17 @@ module _ (n p : Plane) (hs : List Plane) (y z : Spot) (l : IsLine n p y z) where
   all_free : AllByRecursion (λ h. Spans n p hs y z Whole h) hs → IsOpen hs y z
   all_free a =
       let one : pos 0 <ℤ pos 1 = omega (arith, linear) in
-      record { i = pos 1; j = pos 1; from_y = one; from_z = one; free = all_in hs (combination (pos 1) (pos 1) y z) (each_map (λ h. Spans n p hs y z Whole h) (λ h. IsNotAbove h (combination (pos 1) (pos 1) y z)) hs (λ h s. scaled_both (pos 1) (pos 1) y z h (omega (arith, linear)) (omega (arith, linear)) (record { at_most = s.0 }) (record { at_most = s.1 })) a) }
+      record {
+        i = pos 1;
+        j = pos 1;
+        from_y = one;
+        from_z = one;
+        free =
+            all_in hs (combination (pos 1) (pos 1) y z)
+            (each_map (λ h. Spans n p hs y z Whole h) (λ h. IsNotAbove h (combination (pos 1) (pos 1) y z)) hs
+            (λ h s. scaled_both (pos 1) (pos 1) y z h (omega (arith, linear)) (omega (arith, linear))
+            (record { at_most = s.0 }) (record { at_most = s.1 })) a);
+      }
 
   not_passed : AllByRecursion (Passed n p hs y z) hs → (h : Plane) → In h hs → HasVertexWithin n p h hs → IsAcross h y z ⊎ IsAcross h z y → ⊥
   not_passed a h m f s = by s (each_in (Passed n p hs y z) h hs m a)
@@ -238,7 +303,9 @@ module _ (n p : Plane) (hs : List Plane) (y z : Spot) (l : IsLine n p y z) where
 
       both : none_positive hs y ≡ true → none_positive hs z ≡ true → ⊥
       both a b =
-          let r = has_pick (λ h. Spans n p hs y z Split h) (λ h. IsNotAbove h y × IsNotAbove h z) hs s (each_both (λ h. IsNotAbove h y) (λ h. IsNotAbove h z) (λ h. IsNotAbove h y × IsNotAbove h z) hs (λ h u v. (u, v)) (all_out hs y a) (all_out hs z b)) in
+          let r = has_pick (λ h. Spans n p hs y z Split h) (λ h. IsNotAbove h y × IsNotAbove h z) hs s
+          (each_both (λ h. IsNotAbove h y) (λ h. IsNotAbove h z) (λ h. IsNotAbove h y × IsNotAbove h z) hs
+          (λ h u v. (u, v)) (all_out hs y a) (all_out hs z b)) in
           clash r.member r.holds r.also.0 r.also.1
 
   tried_all : (b : Bool) → Tried n p hs y z b hs → (b ≡ true → IsOpen hs y z) × (IsOpen hs y z → b ≡ true)
@@ -252,11 +319,14 @@ module _ (n p : Plane) (hs : List Plane) (y z : Spot) (l : IsLine n p y z) where
   pub shut_at : (i : ℕ) (d : Plane) → i < length hs → Spans n p hs y z Empty (get_or hs i d) → IsOpen hs y z → ⊥
   shut_at i d m s o = shut_out (get_or hs i d) (in_at i hs d m) s o
 
-  pub free_at : (b : Bool) (i : ℕ) (d : Plane) → i < length hs → Spans n p hs y z Whole (get_or hs i d) → Tried n p hs y z b (take i hs) → Tried n p hs y z b (take (i + 1) hs)
+  pub free_at : (b : Bool) (i : ℕ) (d : Plane) → i < length hs → Spans n p hs y z Whole (get_or hs i d) →
+      Tried n p hs y z b (take i hs) → Tried n p hs y z b (take (i + 1) hs)
   free_at b i d m s t =
       subst (λ gs. Tried n p hs y z b gs) (sym (take_more hs i d m)) (tried_free b (take i hs) (get_or hs i d) s t)
 
-  pub split_at : (b : Bool) (i : ℕ) (d : Plane) → i < length hs → Spans n p hs y z Split (get_or hs i d) → (HasVertexWithin n p (get_or hs i d) hs → ⊥) → Tried n p hs y z b (take i hs) → Tried n p hs y z false (take (i + 1) hs)
+  pub split_at : (b : Bool) (i : ℕ) (d : Plane) → i < length hs → Spans n p hs y z Split (get_or hs i d) →
+      (HasVertexWithin n p (get_or hs i d) hs → ⊥) → Tried n p hs y z b (take i hs) →
+      Tried n p hs y z false (take (i + 1) hs)
   split_at b i d m s f t =
       subst (λ gs. Tried n p hs y z false gs) (sym (take_more hs i d m)) (tried_split b (take i hs) (get_or hs i d) s f t)
 

@@ -1,5 +1,7 @@
 -- How corners lie relative to a plane, from runs of them, and where its negative side is entered.
-use Rattle.std.proofs.Common.{◌≡◌, ◌⊎◌, ⊎_elim, inl, inr, refl, sym, ap, subst, ◌∙◌, arith, ℕ, zero, suc, ◌<◌, ◌≤◌, ◌+◌, ◌-◌, Bool, true, false, not, List, [], ◌∷◌, ◌++◌, length, take, drop, length-drop, ℤ, pos, ◌<ℤ◌, ◌≤ℤ◌}
+use Rattle.std.proofs.Common.{◌≡◌, ◌⊎◌, ⊎_elim, inl, inr, refl, sym, ap, subst, ◌∙◌, arith, ℕ, zero, suc, ◌<◌, ◌≤◌, ◌+◌}
+use Rattle.std.proofs.Common.{◌-◌, Bool, true, false, not, List, [], ◌∷◌, ◌++◌, length, take, drop, length-drop, ℤ, pos}
+use Rattle.std.proofs.Common.{◌<ℤ◌, ◌≤ℤ◌}
 use lib.ListN.{get_or}
 use Rattle.std.specs.List.{AllByRecursion}
 use Rattle.std.proofs.lemmas.List.{take-append-drop, drop-drop, take_more, drop_more, take_all, drop_all}
@@ -13,17 +15,21 @@ use Rattle.ember_point.specs.Points.{spot_of}
 use Rattle.ember_poly.specs.declared.reach_and_cut.Reach.{Reach}
 use Rattle.ember_poly.specs.declared.reach_and_cut.Reach.TheVariants.{Both}
 use Rattle.ember_poly.specs.Rings.{IsBelow, IsAbove, IsOnPlane, IsNotAbove, IsNotBelow}
-use Rattle.ember_poly.specs.Passages.{HasMember, AreSigns, AreClassified, is_under, Stops, IsOneSidedRun, AreNotBelow, IsRunNotBelow, Enters, Straddles, EntersAt}
+use Rattle.ember_poly.specs.Passages.{HasMember, AreSigns, AreClassified, is_under, Stops, IsOneSidedRun, AreNotBelow}
+use Rattle.ember_poly.specs.Passages.{IsRunNotBelow, Enters, Straddles, EntersAt}
 use Rattle.ember_poly.proofs.Chains.{each-push, each_both}
 use Rattle.ember_poly.proofs.Rotations.{each-join}
 use Rattle.ember_poly.proofs.Members.{has-push, has-front, has-back, has_pick}
-use Rattle.ember_poly.proofs.Runs.{true_is_not_false, under_out, stops_at, stops_end, rest_of, lows, highs, run_rest, run_more, run_short, run_long, up_positive, entry_within, entry_enters}
+use Rattle.ember_poly.proofs.Runs.{true_is_not_false, under_out, stops_at, stops_end, rest_of, lows, highs, run_rest}
+use Rattle.ember_poly.proofs.Runs.{run_more, run_short, run_long, up_positive, entry_within, entry_enters}
 
 -- ---- signs
 -- corners that are neither above nor below a plane are on it
-pub on_both : (p : Plane) (ms : List Meet) → AllByRecursion (λ m. IsNotAbove p (spot_of m)) ms → AllByRecursion (λ m. IsNotBelow p (spot_of m)) ms → AllByRecursion (λ m. IsOnPlane p (spot_of m)) ms
+pub on_both : (p : Plane) (ms : List Meet) → AllByRecursion (λ m. IsNotAbove p (spot_of m)) ms →
+    AllByRecursion (λ m. IsNotBelow p (spot_of m)) ms → AllByRecursion (λ m. IsOnPlane p (spot_of m)) ms
 on_both p ms h k =
-    each_both (λ m. IsNotAbove p (spot_of m)) (λ m. IsNotBelow p (spot_of m)) (λ m. IsOnPlane p (spot_of m)) ms (λ m a b. record { on_plane = squeeze a.at_most b.at_least }) h k
+    each_both (λ m. IsNotAbove p (spot_of m)) (λ m. IsNotBelow p (spot_of m)) (λ m. IsOnPlane p (spot_of m)) ms
+    (λ m a b. record { on_plane = squeeze a.at_most b.at_least }) h k
   where
     squeeze : {a : ℤ} → a ≤ℤ pos 0 → pos 0 ≤ℤ a → a ≡ pos 0
     squeeze p q = omega (arith, linear, p, q)
@@ -75,18 +81,32 @@ module _ (p : Plane) where
 
   pub risen_over : (high : Bool) (ms : List Meet) (m : Meet) → pos 0 <ℤ value_at p (spot_of m) → AreNotBelow p high ms → AreNotBelow p true (ms ++ m ∷ [])
   risen_over high ms m l r =
-      record { all = each-push (λ m. is_under p m ≡ false) ms m r.all (negative_not (value_at p (spot_of m)) (least l)); some = λ e. has-push Raised ms m (record { over = l }); none = λ e. true_is_not_false refl e }
+      record {
+        all = each-push (λ m. is_under p m ≡ false) ms m r.all (negative_not (value_at p (spot_of m)) (least l));
+        some = λ e. has-push Raised ms m (record { over = l });
+        none = λ e. true_is_not_false refl e;
+      }
     where
       least : {a : ℤ} → pos 0 <ℤ a → pos 0 ≤ℤ a
       least p = omega (arith, linear, p)
 
-  pub risen_next : (high : Bool) (ms : List Meet) (i : ℕ) (m : Meet) → i < length ms → m ≡ get_or ms i m → AreNotBelow p high (take i ms ++ m ∷ []) → AreNotBelow p high (take (i + 1) ms)
+  pub risen_next : (high : Bool) (ms : List Meet) (i : ℕ) (m : Meet) → i < length ms → m ≡ get_or ms i m →
+      AreNotBelow p high (take i ms ++ m ∷ []) → AreNotBelow p high (take (i + 1) ms)
   risen_next high ms i m l e r =
       subst (λ ns. AreNotBelow p high ns) (sym (take_more ms i m l ∙ ap (λ n. take i ms ++ n ∷ []) (sym e))) r
 
-  pub rise_stops : (high : Bool) (ms : List Meet) (i : ℕ) (m : Meet) → i < length ms → m ≡ get_or ms i m → value_at p (spot_of m) <ℤ pos 0 → AreNotBelow p high (take i ms) → IsRunNotBelow p ms i high
+  pub rise_stops : (high : Bool) (ms : List Meet) (i : ℕ) (m : Meet) → i < length ms → m ≡ get_or ms i m →
+      value_at p (spot_of m) <ℤ pos 0 → AreNotBelow p high (take i ms) → IsRunNotBelow p ms i high
   rise_stops high ms i m l e v r =
-      record { run = record { at_most_all = omega (arith, l); all = r.all; stops = stops_at p false ms i m l (subst (λ n. is_under p n ≡ true) e (negative_in v)) }; risen = r }
+      record {
+        run = record {
+          at_most_all = omega (arith, l);
+          all = r.all;
+          stops =
+              stops_at p false ms i m l (subst (λ n. is_under p n ≡ true) e (negative_in v));
+        };
+        risen = r;
+      }
 
   pub rise_ends : (high : Bool) (ms : List Meet) (i : ℕ) → length ms ≤ i → AreNotBelow p high (take i ms) → IsRunNotBelow p ms (length ms) high
   rise_ends high ms i l r =
@@ -97,28 +117,38 @@ module _ (p : Plane) where
   abbrev Lower : Meet → Type 0
   Lower m = is_under p m ≡ true
 
-  pub run_next : (ms : List Meet) (i : ℕ) (m : Meet) → i < length ms → m ≡ get_or ms i m → value_at p (spot_of m) <ℤ pos 0 → AllByRecursion Lower (take i ms) → AllByRecursion Lower (take (i + 1) ms)
+  pub run_next : (ms : List Meet) (i : ℕ) (m : Meet) → i < length ms → m ≡ get_or ms i m →
+      value_at p (spot_of m) <ℤ pos 0 → AllByRecursion Lower (take i ms) → AllByRecursion Lower (take (i + 1) ms)
   run_next ms i m l e v h =
       subst (λ ns. AllByRecursion Lower ns) (sym (take_more ms i m l ∙ ap (λ n. take i ms ++ n ∷ []) (sym e))) (each-push Lower (take i ms) m h (negative_in v))
 
   -- a run of corners below a plane ends at a corner that isn't
-  pub run_stops : (ms : List Meet) (i : ℕ) (m : Meet) → i < length ms → m ≡ get_or ms i m → pos 0 ≤ℤ value_at p (spot_of m) → AllByRecursion Lower (take i ms) → IsOneSidedRun p true ms i
+  pub run_stops : (ms : List Meet) (i : ℕ) (m : Meet) → i < length ms → m ≡ get_or ms i m →
+      pos 0 ≤ℤ value_at p (spot_of m) → AllByRecursion Lower (take i ms) → IsOneSidedRun p true ms i
   run_stops ms i m l e v h =
-      record { at_most_all = omega (arith, l); all = h; stops = stops_at p true ms i m l (subst (λ n. is_under p n ≡ false) e (negative_not (value_at p (spot_of m)) v)) }
+      record {
+        at_most_all = omega (arith, l);
+        all = h;
+        stops =
+            stops_at p true ms i m l (subst (λ n. is_under p n ≡ false) e (negative_not (value_at p (spot_of m)) v));
+      }
 
   pub run_ends : (ms : List Meet) (i : ℕ) → length ms ≤ i → AllByRecursion Lower (take i ms) → IsOneSidedRun p true ms (length ms)
   run_ends ms i l h =
       record { at_most_all = omega arith; all = subst (λ ns. AllByRecursion Lower ns) (whole ms i l) h; stops = stops_end p true ms (length ms) (omega arith) }
 
   -- the corner behind a run
-  next_is : (high : Bool) (ms : List Meet) (i : ℕ) (m : Meet) → i < length ms → m ≡ get_or ms i m → AreNotBelow p high (m ∷ []) → AreNotBelow p high (take 1 (drop i ms))
+  next_is : (high : Bool) (ms : List Meet) (i : ℕ) (m : Meet) → i < length ms → m ≡ get_or ms i m →
+      AreNotBelow p high (m ∷ []) → AreNotBelow p high (take 1 (drop i ms))
   next_is high ms i m l e r =
       subst (λ ns. AreNotBelow p high ns) (sym (ap (λ ns. take 1 ns) (drop_more ms i m l) ∙ ap (λ n. n ∷ []) (sym e))) r
 
-  pub next_zero : (ms : List Meet) (i : ℕ) (m : Meet) → i < length ms → m ≡ get_or ms i m → value_at p (spot_of m) ≡ pos 0 → AreNotBelow p false (take 1 (drop i ms))
+  pub next_zero : (ms : List Meet) (i : ℕ) (m : Meet) → i < length ms → m ≡ get_or ms i m →
+      value_at p (spot_of m) ≡ pos 0 → AreNotBelow p false (take 1 (drop i ms))
   next_zero ms i m l e v = next_is false ms i m l e (risen_zero false [] m v risen_none)
 
-  pub next_over : (ms : List Meet) (i : ℕ) (m : Meet) → i < length ms → m ≡ get_or ms i m → pos 0 <ℤ value_at p (spot_of m) → AreNotBelow p true (take 1 (drop i ms))
+  pub next_over : (ms : List Meet) (i : ℕ) (m : Meet) → i < length ms → m ≡ get_or ms i m →
+      pos 0 <ℤ value_at p (spot_of m) → AreNotBelow p true (take 1 (drop i ms))
   next_over ms i m l e v = next_is true ms i m l e (risen_over false [] m v risen_none)
 
   pub next_none : (ms : List Meet) → AreNotBelow p false (take 1 (drop (length ms) ms))
@@ -126,13 +156,17 @@ module _ (p : Plane) where
       subst (λ ns. AreNotBelow p false (take 1 ns)) (sym (drop_all (length ms) ms (omega arith))) risen_none
 
   -- in the list as code has it
-  pub next_first : (high : Bool) (ms : List Meet) (d : ℕ) → AreNotBelow p high (take 1 (drop d ms)) → AreNotBelow p high (take 1 (take (length ms - d) (drop d ms)))
+  pub next_first : (high : Bool) (ms : List Meet) (d : ℕ) → AreNotBelow p high (take 1 (drop d ms)) →
+      AreNotBelow p high (take 1 (take (length ms - d) (drop d ms)))
   next_first high ms d r = subst (λ ns. AreNotBelow p high (take 1 ns)) (sym (rest_of d ms)) r
 
   -- the corner behind a rise
-  pub known_low : (ms : List Meet) (d u : ℕ) (high : Bool) → IsRunNotBelow p (take (length ms - d) (drop d ms)) u high → AllByRecursion Lower (take 1 (take (length ms - (d + u)) (drop (d + u) ms)))
+  pub known_low : (ms : List Meet) (d u : ℕ) (high : Bool) → IsRunNotBelow p (take (length ms - d) (drop d ms)) u high →
+      AllByRecursion Lower (take 1 (take (length ms - (d + u)) (drop (d + u) ms)))
   known_low ms d u high r =
-      subst (λ ns. AllByRecursion Lower (take 1 ns)) (ap (λ ns. drop u ns) (rest_of d ms) ∙ drop-drop u d ms ∙ sym (rest_of (d + u) ms)) (by (drop u (take (length ms - d) (drop d ms))) r.run.stops)
+      subst (λ ns. AllByRecursion Lower (take 1 ns))
+      (ap (λ ns. drop u ns) (rest_of d ms) ∙ drop-drop u d ms ∙ sym (rest_of (d + u) ms))
+      (by (drop u (take (length ms - d) (drop d ms))) r.run.stops)
     where
       by : (ns : List Meet) → Stops p false ns → AllByRecursion (λ m. is_under p m ≡ true) (take 1 ns)
       by [] s = tt
@@ -140,11 +174,15 @@ module _ (p : Plane) where
 
   pub some_raised : (ms : List Meet) (i : ℕ) (m : Meet) → i < length ms → m ≡ get_or ms i m → is_positive (value_at p (spot_of m)) ≡ true → HasMember Raised ms
   some_raised ms i m l e v =
-      has-drop Raised i ms (subst (λ ns. HasMember Raised ns) (sym (drop_more ms i m l)) (inl (subst Raised e (record { over = positive_out (value_at p (spot_of m)) v }))))
+      has-drop Raised i ms (subst (λ ns. HasMember Raised ns) (sym (drop_more ms i m l))
+      (inl (subst Raised e (record { over = positive_out (value_at p (spot_of m)) v }))))
 
-  pub level_next : (ms : List Meet) (i : ℕ) (m : Meet) → i < length ms → m ≡ get_or ms i m → is_positive (value_at p (spot_of m)) ≡ false → AllByRecursion Level (take i ms) → AllByRecursion Level (take (i + 1) ms)
+  pub level_next : (ms : List Meet) (i : ℕ) (m : Meet) → i < length ms → m ≡ get_or ms i m →
+      is_positive (value_at p (spot_of m)) ≡ false → AllByRecursion Level (take i ms) →
+      AllByRecursion Level (take (i + 1) ms)
   level_next ms i m l e v h =
-      subst (λ ns. AllByRecursion Level ns) (sym (take_more ms i m l ∙ ap (λ n. take i ms ++ n ∷ []) (sym e))) (each-push Level (take i ms) m h (record { at_most = not_positive_out (value_at p (spot_of m)) (ap not v) }))
+      subst (λ ns. AllByRecursion Level ns) (sym (take_more ms i m l ∙ ap (λ n. take i ms ++ n ∷ []) (sym e)))
+      (each-push Level (take i ms) m h (record { at_most = not_positive_out (value_at p (spot_of m)) (ap not v) }))
 
 -- ---- all corners
 has_run : (p : Plane) (ms : List Meet) (k : ℕ) → IsOneSidedRun p true ms k → 0 < k → HasMember (λ m. IsBelow p (spot_of m)) ms
@@ -162,7 +200,12 @@ run_front p b [] (suc k) (suc f) l r = absurd (omega (arith, r.at_most_all))
 run_front p b (m ∷ ms) (suc k) (suc f) l r =
     run_more p b m (take f ms) k r.all.0 (run_front p b ms k f (omega (arith, l)) (run_rest p b m ms k r))
 
-module _ (p : Plane) (ms : List Meet) (d u c : ℕ) (some high : Bool) (down : IsOneSidedRun p true ms d) (up' : IsRunNotBelow p (take (length ms - d) (drop d ms)) u some) (back' : IsOneSidedRun p true (take (length ms - (d + u)) (drop (d + u) ms)) c) (over' : high ≡ true → (some ≡ true) ⊎ HasMember (λ m. IsAbove p (spot_of m)) (take (length ms - (d + u + c)) (drop (d + u + c) ms))) (most' : high ≡ false → (some ≡ false) × AllByRecursion (λ m. IsNotAbove p (spot_of m)) (take (length ms - (d + u + c)) (drop (d + u + c) ms))) where
+module _ (p : Plane) (ms : List Meet) (d u c : ℕ) (some high : Bool) (down : IsOneSidedRun p true ms d)
+    (up' : IsRunNotBelow p (take (length ms - d) (drop d ms)) u some)
+    (back' : IsOneSidedRun p true (take (length ms - (d + u)) (drop (d + u) ms)) c) (over' : high ≡ true →
+    (some ≡ true) ⊎ HasMember (λ m. IsAbove p (spot_of m)) (take (length ms - (d + u + c)) (drop (d + u + c) ms)))
+    (most' : high ≡ false → (some ≡ false) × AllByRecursion (λ m. IsNotAbove p (spot_of m))
+    (take (length ms - (d + u + c)) (drop (d + u + c) ms))) where
   up : IsRunNotBelow p (drop d ms) u some
   up = subst (λ ns. IsRunNotBelow p ns u some) (rest_of d ms) up'
 
@@ -198,7 +241,8 @@ module _ (p : Plane) (ms : List Meet) (d u c : ℕ) (some high : Bool) (down : I
   none_under e =
       let start : AllByRecursion High (take d ms) = subst (λ k. AllByRecursion High (take k ms)) (zero_left e) tt in
       let end : Stops p true (drop (d + u) ms) = subst (λ k. Stops p true (drop k (drop (d + u) ms))) (zero_right e) back.stops in
-      joined High d ms start (joined High u (drop d ms) (highs p (take u (drop d ms)) up.run.all) (ended (drop u (drop d ms)) up.run.stops (subst (λ ns. Stops p true ns) (sym behind) end)))
+      joined High d ms start (joined High u (drop d ms) (highs p (take u (drop d ms)) up.run.all)
+      (ended (drop u (drop d ms)) up.run.stops (subst (λ ns. Stops p true ns) (sym behind) end)))
     where
       zero_left : d + c ≡ 0 → 0 ≡ d
       zero_left e = omega (arith, e)
@@ -223,7 +267,10 @@ module _ (p : Plane) (ms : List Meet) (d u c : ℕ) (some high : Bool) (down : I
 
   some_over : high ≡ true → HasMember (λ m. IsAbove p (spot_of m)) ms
   some_over e =
-      ⊎_elim (λ k. has-drop (λ m. IsAbove p (spot_of m)) d ms (subst (λ ns. HasMember (λ m. IsAbove p (spot_of m)) ns) (take-append-drop u (drop d ms)) (has-front (λ m. IsAbove p (spot_of m)) (take u (drop d ms)) (drop u (drop d ms)) (up.risen.some k)))) (λ h. has-drop (λ m. IsAbove p (spot_of m)) (d + u + c) ms h) (over e)
+      ⊎_elim (λ k. has-drop (λ m. IsAbove p (spot_of m)) d ms
+      (subst (λ ns. HasMember (λ m. IsAbove p (spot_of m)) ns) (take-append-drop u (drop d ms))
+      (has-front (λ m. IsAbove p (spot_of m)) (take u (drop d ms)) (drop u (drop d ms)) (up.risen.some k))))
+      (λ h. has-drop (λ m. IsAbove p (spot_of m)) (d + u + c) ms h) (over e)
 
   -- one more corner has been classified
   pub corner_is_classified : AreClassified p (d + c) high ms
@@ -255,4 +302,10 @@ module _ (p : Plane) (ms : List Meet) (d u c : ℕ) (some high : Bool) (down : I
 
     pub entry_long : length ms ≤ d + u + c → EntersAt p ms first (c + d)
     entry_long l =
-        record { within = within; enters = enters; run = run_long p true (drop (first + 1) ms) (take first ms) c d (omega (arith, l, left)) kept (run_front p true ms d first (omega (arith, next, rises)) down) }
+        record {
+          within = within;
+          enters = enters;
+          run =
+              run_long p true (drop (first + 1) ms) (take first ms) c d (omega (arith, l, left)) kept
+              (run_front p true ms d first (omega (arith, next, rises)) down);
+        }

@@ -15,7 +15,8 @@ use Rattle.ember_poly.proofs.ReachBySigns.{reach_is}
 
 -- ---- the side, from what a ring keeps
 -- the signs at a ring's corners give its reach
-pub reach_seen : (f : Face) (n p : Plane) (gs es : List Plane) (ms : List Meet) (bs : List ℕ) (r : Reach) → record { support = n; edges = gs } ≡ f → IsRing n gs es ms bs → AreSigns p ms r → IsReach f p r
+pub reach_seen : (f : Face) (n p : Plane) (gs es : List Plane) (ms : List Meet) (bs : List ℕ) (r : Reach) →
+    record { support = n; edges = gs } ≡ f → IsRing n gs es ms bs → AreSigns p ms r → IsReach f p r
 reach_seen f n p gs es ms bs r e v s =
     subst (λ f. IsReach f p r) e (reach_is n p gs es ms bs r v.corners v.plane_indices v.represents s)
 

@@ -112,11 +112,15 @@ module _ (p : Plane) (ms : List Meet) (m : Meet) where
   seen_high Both l s = (keep_low s.0, high l)
 
 -- the signs of one corner more
-pub signs_next : (p : Plane) (ms : List Meet) (i : ℕ) (m : Meet) (r : Reach) → i < length ms → m ≡ get_or ms i m → AreSigns p (take i ms ++ m ∷ []) r → AreSigns p (take (i + 1) ms) r
+pub signs_next : (p : Plane) (ms : List Meet) (i : ℕ) (m : Meet) (r : Reach) → i < length ms → m ≡ get_or ms i m →
+    AreSigns p (take i ms ++ m ∷ []) r → AreSigns p (take (i + 1) ms) r
 signs_next p ms i m r l e s =
     subst (λ ns. AreSigns p ns r) (sym (take_more ms i m l ∙ ap (λ n. take i ms ++ n ∷ []) (sym e))) s
 
 -- corners on both sides among the first ones
 pub seen_both : (p : Plane) (ms : List Meet) (k : ℕ) → AreSigns p (take k ms) Both → AreSigns p ms Both
 seen_both p ms k s =
-    subst (λ ns. AreSigns p ns Both) (take-append-drop k ms) (has-front (λ m. IsBelow p (spot_of m)) (take k ms) (drop k ms) s.0, has-front (λ m. IsAbove p (spot_of m)) (take k ms) (drop k ms) s.1)
+    subst (λ ns. AreSigns p ns Both) (take-append-drop k ms) (
+      has-front (λ m. IsBelow p (spot_of m)) (take k ms) (drop k ms) s.0,
+      has-front (λ m. IsAbove p (spot_of m)) (take k ms) (drop k ms) s.1,
+    )

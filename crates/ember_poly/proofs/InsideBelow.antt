@@ -14,7 +14,8 @@ use Rattle.ember_poly.proofs.InsideSigns.{corners_under}
 use Rattle.ember_poly.proofs.InsidePoints.{corner_closed}
 
 -- a relation of all members of two lists holds in either order
-pub each_swap : {X Y : Type 0} (R : X → Y → Type 0) (xs : List X) (ys : List Y) → AllByRecursion (λ x. AllByRecursion (λ y. R x y) ys) xs → AllByRecursion (λ y. AllByRecursion (λ x. R x y) xs) ys
+pub each_swap : {X Y : Type 0} (R : X → Y → Type 0) (xs : List X) (ys : List Y) →
+    AllByRecursion (λ x. AllByRecursion (λ y. R x y) ys) xs → AllByRecursion (λ y. AllByRecursion (λ x. R x y) xs) ys
 each_swap R [] ys h = every (λ y. tt) ys
   where
     every : {Y : Type 0} {Q : Y → Type 0} → ((y : Y) → Q y) → (ys : List Y) → AllByRecursion Q ys
@@ -24,7 +25,8 @@ each_swap R (x ∷ xs) ys h =
     each_both (λ y. R x y) (λ y. AllByRecursion (λ z. R z y) xs) (λ y. R x y × AllByRecursion (λ z. R z y) xs) ys (λ y a b. (a, b)) h.0 (each_swap R xs ys h.1)
 
 -- the planes behind l are negative at l's corner
-chain_after : (n g : Plane) (xs : List Side) (t : Side) (ys : List Side) → IsSideChain n g ((xs ++ t ∷ []) ++ ys) → AllByRecursion (λ r. IsBelow r.plane t.corner) ys
+chain_after : (n g : Plane) (xs : List Side) (t : Side) (ys : List Side) → IsSideChain n g ((xs ++ t ∷ []) ++ ys) →
+    AllByRecursion (λ r. IsBelow r.plane t.corner) ys
 chain_after n g [] t ys c = c.2
 chain_after n g (x ∷ xs) t ys c = chain_after n x.plane xs t ys c.3
 
@@ -32,8 +34,11 @@ chain_after n g (x ∷ xs) t ys c = chain_after n x.plane xs t ys c.3
 all_closed : (n : Plane) (xs ys : List Side) → IsConvexRing n (xs ++ ys) → AllByRecursion (λ s. IsInClosedRing n (xs ++ ys) s.corner) ys
 all_closed n xs [] h = tt
 all_closed n xs (y ∷ ys) h =
-    let e : xs ++ y ∷ ys ≡ (xs ++ y ∷ []) ++ ys = sym (append_assoc xs (y ∷ []) ys) in
-    (corner_closed n xs y ys h, subst (λ zs. AllByRecursion (λ s. IsInClosedRing n zs s.corner) ys) (sym e) (all_closed n (xs ++ y ∷ []) ys (subst (λ zs. IsConvexRing n zs) e h)))
+    let e : xs ++ y ∷ ys ≡ (xs ++ y ∷ []) ++ ys = sym (append_assoc xs (y ∷ []) ys) in (
+      corner_closed n xs y ys h,
+      subst (λ zs. AllByRecursion (λ s. IsInClosedRing n zs s.corner) ys) (sym e)
+          (all_closed n (xs ++ y ∷ []) ys (subst (λ zs. IsConvexRing n zs) e h)),
+    )
 
 -- the corners of a convex ring are in the closed ring
 pub ring-closed : (n : Plane) (xs : List Side) → IsConvexRing n xs → AllByRecursion (λ s. IsInClosedRing n xs s.corner) xs
@@ -64,14 +69,24 @@ module _ (n p : Plane) (f l : Side) (ks ds : List Side) (y z : Spot) (b : ℕ) (
       by [] h = h.0
       by (k ∷ ks') h = h.0
 
-  dropped_at : IsConvexRing n old → IsInClosedRing n old at → Outcome n p new l.corner at y (head_of l ks).corner f.corner z → AllByRecursion (λ d. AllByRecursion (λ s. IsNotAbove d.plane s.corner) new) ds
+  dropped_at : IsConvexRing n old → IsInClosedRing n old at →
+      Outcome n p new l.corner at y (head_of l ks).corner f.corner z →
+      AllByRecursion (λ d. AllByRecursion (λ s. IsNotAbove d.plane s.corner) new) ds
   dropped_at h c o =
       let all = ring-closed n old h in let kept = each-front (λ s. IsInClosedRing n old s.corner) (ks ++ l ∷ []) ds all.1 in
       let last = (each-back (λ s. IsInClosedRing n old s.corner) ks (l ∷ []) kept).0 in let first = head-closed-of kept in
-      let at_z = each_both (λ d. IsNotAbove d.plane (head_of l ks).corner) (λ d. IsNotAbove d.plane f.corner) (λ d. IsNotAbove d.plane z) ds (λ d u v. most_at o.entry d.plane u v) (dropped (head_of l ks).corner first) (dropped f.corner all.0) in
-      let at_y = each_both (λ d. IsNotAbove d.plane l.corner) (λ d. IsNotAbove d.plane at) (λ d. IsNotAbove d.plane y) ds (λ d u v. most_at o.exit d.plane u v) (dropped l.corner last) (dropped at c) in
-      let at_kept = each_map (λ s. IsInClosedRing n old s.corner) (λ s. AllByRecursion (λ d. IsNotAbove d.plane s.corner) ds) (ks ++ l ∷ []) (λ s k. dropped s.corner k) kept in
-      each_swap (λ s d. IsNotAbove d.plane s.corner) new ds (at_z, each-join (λ s. AllByRecursion (λ d. IsNotAbove d.plane s.corner) ds) (ks ++ l ∷ []) (closing_side p y b ∷ []) at_kept (at_y, tt))
+      let at_z = each_both (λ d. IsNotAbove d.plane (head_of l ks).corner) (λ d. IsNotAbove d.plane f.corner)
+      (λ d. IsNotAbove d.plane z) ds (λ d u v. most_at o.entry d.plane u v) (dropped (head_of l ks).corner first)
+      (dropped f.corner all.0) in
+      let at_y = each_both (λ d. IsNotAbove d.plane l.corner) (λ d. IsNotAbove d.plane at) (λ d. IsNotAbove d.plane y)
+      ds (λ d u v. most_at o.exit d.plane u v) (dropped l.corner last) (dropped at c) in
+      let at_kept = each_map (λ s. IsInClosedRing n old s.corner)
+      (λ s. AllByRecursion (λ d. IsNotAbove d.plane s.corner) ds) (ks ++ l ∷ []) (λ s k. dropped s.corner k) kept in
+      each_swap (λ s d. IsNotAbove d.plane s.corner) new ds (
+        at_z,
+        each-join (λ s. AllByRecursion (λ d. IsNotAbove d.plane s.corner) ds) (ks ++ l ∷ []) (closing_side p y b ∷ [])
+            at_kept (at_y, tt),
+      )
 
   -- each is negative at the last kept corner
   strict : IsConvexRing n old → AllByRecursion (λ d. IsBelow d.plane l.corner) ds
@@ -90,8 +105,51 @@ module _ (n p : Plane) (f l : Side) (ks ds : List Side) (y z : Spot) (b : ℕ) (
       let low = dropped_at h c o in let sharp = strict h in
       let root = (each-back (λ s. Rooted n s) ks (l ∷ []) (each-front (λ s. Rooted n s) (ks ++ l ∷ []) ds (ring-rooted n old h).1)).0 in
       record {
-        into = λ x i u. record { flat = i.flat; weight = i.weight; within = (i.within.0, each-join (λ s. IsBelow s.plane x) (ks ++ l ∷ []) (closing_side p y b ∷ []) (each-front (λ s. IsBelow s.plane x) (ks ++ l ∷ []) ds i.within.1) (u, tt)) };
-        out = λ x i. (record { flat = i.flat; weight = i.weight; within = (i.within.0, each-join (λ s. IsBelow s.plane x) (ks ++ l ∷ []) ds (each-front (λ s. IsBelow s.plane x) (ks ++ l ∷ []) (closing_side p y b ∷ []) i.within.1) (each_both (λ d. AllByRecursion (λ s. IsNotAbove d.plane s.corner) new) (λ d. IsBelow d.plane l.corner) (λ d. IsBelow d.plane x) ds (λ d a e. corners_under n d.plane x l.corner new o.sound a root.flat e i) low sharp)) }, (each-back (λ s. IsBelow s.plane x) (ks ++ l ∷ []) (closing_side p y b ∷ []) i.within.1).0);
-        into_closed = λ x i u. record { flat = i.flat; weight = i.weight; within = (i.within.0, each-join (λ s. IsNotAbove s.plane x) (ks ++ l ∷ []) (closing_side p y b ∷ []) (each-front (λ s. IsNotAbove s.plane x) (ks ++ l ∷ []) ds i.within.1) (u, tt)) };
-        out_closed = λ x i. (record { flat = i.flat; weight = i.weight; within = (i.within.0, each-join (λ s. IsNotAbove s.plane x) (ks ++ l ∷ []) ds (each-front (λ s. IsNotAbove s.plane x) (ks ++ l ∷ []) (closing_side p y b ∷ []) i.within.1) (each_map (λ d. AllByRecursion (λ s. IsNotAbove d.plane s.corner) new) (λ d. IsNotAbove d.plane x) ds (λ d a. corners_at_most n d.plane x new o.sound a i) low)) }, (each-back (λ s. IsNotAbove s.plane x) (ks ++ l ∷ []) (closing_side p y b ∷ []) i.within.1).0);
+        into = λ x i u. record {
+          flat = i.flat;
+          weight = i.weight;
+          within = (
+            i.within.0,
+            each-join (λ s. IsBelow s.plane x) (ks ++ l ∷ []) (closing_side p y b ∷ [])
+                (each-front (λ s. IsBelow s.plane x) (ks ++ l ∷ []) ds i.within.1) (u, tt),
+          );
+        };
+        out = λ x i. (
+          record {
+            flat = i.flat;
+            weight = i.weight;
+            within = (
+              i.within.0,
+              each-join (λ s. IsBelow s.plane x) (ks ++ l ∷ []) ds
+                  (each-front (λ s. IsBelow s.plane x) (ks ++ l ∷ []) (closing_side p y b ∷ []) i.within.1)
+                  (each_both (λ d. AllByRecursion (λ s. IsNotAbove d.plane s.corner) new) (λ d. IsBelow d.plane l.corner)
+                  (λ d. IsBelow d.plane x) ds (λ d a e. corners_under n d.plane x l.corner new o.sound a root.flat e i) low
+                  sharp),
+            );
+          },
+          (each-back (λ s. IsBelow s.plane x) (ks ++ l ∷ []) (closing_side p y b ∷ []) i.within.1).0,
+        );
+        into_closed = λ x i u. record {
+          flat = i.flat;
+          weight = i.weight;
+          within = (
+            i.within.0,
+            each-join (λ s. IsNotAbove s.plane x) (ks ++ l ∷ []) (closing_side p y b ∷ [])
+                (each-front (λ s. IsNotAbove s.plane x) (ks ++ l ∷ []) ds i.within.1) (u, tt),
+          );
+        };
+        out_closed = λ x i. (
+          record {
+            flat = i.flat;
+            weight = i.weight;
+            within = (
+              i.within.0,
+              each-join (λ s. IsNotAbove s.plane x) (ks ++ l ∷ []) ds
+                  (each-front (λ s. IsNotAbove s.plane x) (ks ++ l ∷ []) (closing_side p y b ∷ []) i.within.1)
+                  (each_map (λ d. AllByRecursion (λ s. IsNotAbove d.plane s.corner) new) (λ d. IsNotAbove d.plane x) ds
+                  (λ d a. corners_at_most n d.plane x new o.sound a i) low),
+            );
+          },
+          (each-back (λ s. IsNotAbove s.plane x) (ks ++ l ∷ []) (closing_side p y b ∷ []) i.within.1).0,
+        );
       }

@@ -1,5 +1,6 @@
 -- Inside points of a face that lie above no plane of a list.
-use Rattle.std.proofs.Common.{◌≡◌, ◌⊎◌, ⊎_elim, inl, inr, refl, sym, subst, ◌∙◌, arith, ℕ, ◌<◌, ◌≤◌, ◌+◌, Bool, true, false, not, List, [], ◌∷◌, ◌++◌, length, take, ℤ, pos, neg_ℤ, ◌<ℤ◌, ◌≤ℤ◌}
+use Rattle.std.proofs.Common.{◌≡◌, ◌⊎◌, ⊎_elim, inl, inr, refl, sym, subst, ◌∙◌, arith, ℕ, ◌<◌, ◌≤◌, ◌+◌, Bool, true}
+use Rattle.std.proofs.Common.{false, not, List, [], ◌∷◌, ◌++◌, length, take, ℤ, pos, neg_ℤ, ◌<ℤ◌, ◌≤ℤ◌}
 use lib.ListN.{get_or}
 use Rattle.std.proofs.lemmas.List.{take_more, take_all}
 use Rattle.std.specs.List.{AllByRecursion}
@@ -26,10 +27,18 @@ use Rattle.ember_poly.proofs.FaceTests.{all_in, all_out, inside_in, inside_out, 
 use Rattle.ember_poly.proofs.ChordParts.{each_in, in_at, last_free, decide_free}
 
 -- ---- two inside points
-inside_combination : (f : Face) (i j : ℤ) (u v : Spot) → pos 0 ≤ℤ i → pos 0 <ℤ j → is_inside f u ≡ true → is_inside f v ≡ true → is_inside f (combination i j u v) ≡ true
+inside_combination : (f : Face) (i j : ℤ) (u v : Spot) → pos 0 ≤ℤ i → pos 0 <ℤ j → is_inside f u ≡ true →
+    is_inside f v ≡ true → is_inside f (combination i j u v) ≡ true
 inside_combination f i j u v pi pj eu ev =
     let a = inside_out f u eu in let b = inside_out f v ev in
-    inside_in f (combination i j u v) (record { flat = flat_sum i j u v f.support a.flat b.flat; weight = weight_sum pi pj a.weight b.weight; within = each_both (λ g. IsBelow g u) (λ g. IsBelow g v) (λ g. IsBelow g (combination i j u v)) f.edges (λ g x y. scaled_under i j u v g pi pj (below_is_not_above x) y) a.within b.within })
+    inside_in f (combination i j u v) (record {
+      flat = flat_sum i j u v f.support a.flat b.flat;
+      weight =
+          weight_sum pi pj a.weight b.weight;
+      within =
+          each_both (λ g. IsBelow g u) (λ g. IsBelow g v) (λ g. IsBelow g (combination i j u v)) f.edges
+          (λ g x y. scaled_under i j u v g pi pj (below_is_not_above x) y) a.within b.within;
+    })
 
 -- ---- a plane for which no inside point is above it
 abbrev pub IsLow : Face → Plane → Type 0
@@ -81,12 +90,14 @@ module _ (f : Face) (hs : List Plane) where
   low_at b i d m s t =
       subst (λ gs. Tested b gs) (sym (take_more hs i d m)) (tested_low b (take i hs) (get_or hs i d) s t)
 
-  pub cut_at : (b : Bool) (i : ℕ) (d : Plane) → i < length hs → Cuts f (get_or hs i d) → (Meets f (face_with (get_or hs i d) hs) → ⊥) → Tested b (take i hs) → Tested false (take (i + 1) hs)
+  pub cut_at : (b : Bool) (i : ℕ) (d : Plane) → i < length hs → Cuts f (get_or hs i d) →
+      (Meets f (face_with (get_or hs i d) hs) → ⊥) → Tested b (take i hs) → Tested false (take (i + 1) hs)
   cut_at b i d m s n t =
       subst (λ gs. Tested false gs) (sym (take_more hs i d m)) (tested_cut b (take i hs) (get_or hs i d) s n t)
 
   -- all inside points are above a plane
-  pub above_at : (i : ℕ) (d : Plane) → i < length hs → IsWhole f (λ v. is_positive (value_at (get_or hs i d) v) ≡ true) → Somewhere f (λ v. none_positive hs v ≡ true) → ⊥
+  pub above_at : (i : ℕ) (d : Plane) → i < length hs →
+      IsWhole f (λ v. is_positive (value_at (get_or hs i d) v) ≡ true) → Somewhere f (λ v. none_positive hs v ≡ true) → ⊥
   above_at i d m w s =
       let h = get_or hs i d in
       absurd (omega (arith, linear, positive_out (value_at h s.at) (w.everywhere.holds s.at s.inside), none_positive_member s.at hs h s.holds (in_at i hs d m)))
@@ -99,7 +110,13 @@ module _ (f : Face) (hs : List Plane) where
   -- the end of the list
   all_low : HasInside f → AllByRecursion (λ h. IsLow f h) hs → Somewhere f (λ v. none_positive hs v ≡ true)
   all_low s a =
-      record { at = s.at; inside = s.inside; holds = all_in hs s.at (each_map (λ h. IsLow f h) (λ h. IsNotAbove h s.at) hs (λ h l. record { at_most = not_positive_out (value_at h s.at) (l.holds s.at s.inside) }) a) }
+      record {
+        at = s.at;
+        inside = s.inside;
+        holds =
+            all_in hs s.at (each_map (λ h. IsLow f h) (λ h. IsNotAbove h s.at) hs
+            (λ h l. record { at_most = not_positive_out (value_at h s.at) (l.holds s.at s.inside) }) a);
+      }
 
   -- from a point above a plane to one above none: the last plane that is passed meets the list there
   module _ (u x : Spot) (eu : is_inside f u ≡ true) (ex : is_inside f x ≡ true) (e : none_positive hs x ≡ true) (r : Last u x hs) where
@@ -115,11 +132,23 @@ module _ (f : Face) (hs : List Plane) where
 
     zero : value_at r.plane between ≡ pos 0
     zero =
-        combination_value (neg_ℤ (value_at r.plane x)) (value_at r.plane u) u x r.plane ∙ solve 2 (λ u v. neg v ⊗ u ⊕ u ⊗ v ≈ num (pos 0)) cancels (value_at r.plane u) (value_at r.plane x)
+        combination_value (neg_ℤ (value_at r.plane x)) (value_at r.plane u) u x r.plane
+        ∙ solve 2 (λ u v. neg v ⊗ u ⊕ u ⊗ v ≈ num (pos 0)) cancels (value_at r.plane u) (value_at r.plane x)
 
     met_last : Meets f (face_with r.plane hs)
     met_last =
-        record { at = between; inside = here; holds = closed_in (face_with r.plane hs) between (record { flat = zero; weight = (inside_out f between here).weight; within = all_out hs between (last_free hs r.plane u x r.after) }) }
+        record {
+          at = between;
+          inside = here;
+          holds =
+              closed_in (face_with r.plane hs) between
+              (record {
+                flat = zero;
+                weight = (inside_out f between here).weight;
+                within =
+                    all_out hs between (last_free hs r.plane u x r.after);
+              });
+        }
 
     passed_last : AllByRecursion Passed hs → ⊥
     passed_last a = by (each_in Passed r.plane hs r.member a)
@@ -131,7 +160,10 @@ module _ (f : Face) (hs : List Plane) where
   none_met : AllByRecursion Passed hs → HasMember (λ h. Cuts f h) hs → Somewhere f (λ v. none_positive hs v ≡ true) → ⊥
   none_met a c s =
       let k = has_pick (λ h. Cuts f h) (λ h. In h hs) hs c (all_in_list hs) in let u = k.holds.some_above in
-      ⊎_elim (λ e. clash (value_at k.member u.at) (positive_out (value_at k.member u.at) u.holds) (not_positive_in (value_at k.member u.at) (none_positive_member u.at hs k.member e k.also))) (λ e. passed_last u.at s.at u.inside s.inside s.holds (last_zero u.at s.at hs e s.holds) a) (decide_free hs u.at)
+      ⊎_elim (λ e. clash (value_at k.member u.at) (positive_out (value_at k.member u.at) u.holds)
+      (not_positive_in (value_at k.member u.at) (none_positive_member u.at hs k.member e k.also)))
+      (λ e. passed_last u.at s.at u.inside s.inside s.holds (last_zero u.at s.at hs e s.holds) a)
+      (decide_free hs u.at)
     where
       later : (xs ys : List Plane) (x : Plane) → AllByRecursion (λ h. In h ys) xs → AllByRecursion (λ h. In h (x ∷ ys)) xs
       later xs ys x h = each_map (λ h. In h ys) (λ h. In h (x ∷ ys)) xs (λ h m. inr m) h
@@ -140,7 +172,9 @@ module _ (f : Face) (hs : List Plane) where
       all_in_list [] = tt
       all_in_list (x ∷ xs) = (inl refl, later xs xs x (all_in_list xs))
 
-  pub tested_end : (b : Bool) (i : ℕ) → length hs ≤ i → Tested b (take i hs) → HasInside f → (b ≡ true → Somewhere f (λ v. none_positive hs v ≡ true)) × (Somewhere f (λ v. none_positive hs v ≡ true) → b ≡ true)
+  pub tested_end : (b : Bool) (i : ℕ) → length hs ≤ i → Tested b (take i hs) → HasInside f →
+      (b ≡ true → Somewhere f (λ v. none_positive hs v ≡ true)) × (Somewhere f (λ v. none_positive hs v ≡ true) →
+      b ≡ true)
   tested_end b i m t s = by b (subst (λ gs. Tested b gs) (take_all i hs m) t)
     where
       differ : false ≡ true → ⊥
@@ -166,11 +200,25 @@ module _ (f : Face) (is_cut : Bool) (gs : List Plane) (h : Plane) where
 
   counted_low : (is_cut_twice : Bool) → IsLow f h → Counted f is_cut is_cut_twice gs → Counted f is_cut is_cut_twice (gs ++ h ∷ [])
   counted_low is_cut_twice l c =
-      record { low = λ e. each-push (λ h. IsLow f h) gs h (c.low e) l; free = λ e. (let s = c.free e in free_push s (record { at_most = not_positive_out (value_at h s.at) (l.holds s.at s.inside) })) }
+      record {
+        low = λ e. each-push (λ h. IsLow f h) gs h (c.low e) l;
+        free =
+            λ e. (let s = c.free e in free_push s (record {
+              at_most =
+                  not_positive_out (value_at h s.at) (l.holds s.at s.inside);
+            }));
+      }
 
   counted_cut : (is_cut_twice : Bool) → Cuts f h → Counted f is_cut is_cut_twice gs → Counted f true is_cut (gs ++ h ∷ [])
   counted_cut is_cut_twice k c =
-      record { low = λ e. absurd (differ e); free = λ e. free_push (below_all e) (record { at_most = most (negative_out (value_at h k.some_below.at) k.some_below.holds) }) }
+      record {
+        low = λ e. absurd (differ e);
+        free =
+            λ e. free_push (below_all e) (record {
+              at_most =
+                  most (negative_out (value_at h k.some_below.at) k.some_below.holds);
+            });
+      }
     where
       differ : true ≡ false → ⊥
       differ e = cc
@@ -180,7 +228,16 @@ module _ (f : Face) (is_cut : Bool) (gs : List Plane) (h : Plane) where
 
       below_all : is_cut ≡ false → Somewhere f (λ v. none_positive gs v ≡ true)
       below_all e =
-          record { at = k.some_below.at; inside = k.some_below.inside; holds = all_in gs k.some_below.at (each_map (λ h. IsLow f h) (λ h. IsNotAbove h k.some_below.at) gs (λ h l. record { at_most = not_positive_out (value_at h k.some_below.at) (l.holds k.some_below.at k.some_below.inside) }) (c.low e)) }
+          record {
+            at = k.some_below.at;
+            inside = k.some_below.inside;
+            holds =
+                all_in gs k.some_below.at (each_map (λ h. IsLow f h) (λ h. IsNotAbove h k.some_below.at) gs
+                (λ h l. record {
+                  at_most = not_positive_out (value_at h k.some_below.at)
+                      (l.holds k.some_below.at k.some_below.inside);
+                }) (c.low e));
+          }
 
 -- the same at a place of a list
 module _ (f : Face) (hs : List Plane) (is_cut is_cut_twice : Bool) (i : ℕ) (d : Plane) (m : i < length hs) (c : Counted f is_cut is_cut_twice (take i hs)) where
@@ -194,6 +251,18 @@ module _ (f : Face) (hs : List Plane) (is_cut is_cut_twice : Bool) (i : ℕ) (d 
 
 -- ---- a face in one plane with the other, or off it
 -- if a face lies on a plane and has an inside point above none of the planes, it meets the face of both
-pub met_on : (f : Face) (n : Plane) (hs : List Plane) → IsWhole f (λ v. is_zero (value_at n v) ≡ true) → Somewhere f (λ v. none_positive hs v ≡ true) → Meets f (face_with n hs)
+pub met_on : (f : Face) (n : Plane) (hs : List Plane) → IsWhole f (λ v. is_zero (value_at n v) ≡ true) →
+    Somewhere f (λ v. none_positive hs v ≡ true) → Meets f (face_with n hs)
 met_on f n hs w s =
-    record { at = s.at; inside = s.inside; holds = closed_in (face_with n hs) s.at (record { flat = zero_out (value_at n s.at) (w.everywhere.holds s.at s.inside); weight = (inside_out f s.at s.inside).weight; within = all_out hs s.at s.holds }) }
+    record {
+      at = s.at;
+      inside = s.inside;
+      holds =
+          closed_in (face_with n hs) s.at (record {
+            flat =
+                zero_out (value_at n s.at) (w.everywhere.holds s.at s.inside);
+            weight =
+                (inside_out f s.at s.inside).weight;
+            within = all_out hs s.at s.holds;
+          });
+    }

@@ -70,7 +70,14 @@ scaled_both i j u v e p q a b =
     sum : {i j a b : ℤ} → pos 0 ≤ℤ i → pos 0 ≤ℤ j → a ≤ℤ pos 0 → b ≤ℤ pos 0 → (i *ℤ a +ℤ j *ℤ b) ≤ℤ pos 0
     sum {i} {j} {a} {b} p q r s =
         let m : pos 0 ≤ℤ neg_ℤ a = omega (arith, linear) in let o : pos 0 ≤ℤ neg_ℤ b = omega (arith, linear) in
-        omega (arith, linear, nonneg_mul p m, nonneg_mul q o, solve 2 (λ i a. i ⊗ neg a ≈ neg (i ⊗ a)) cancels i a, solve 2 (λ j b. j ⊗ neg b ≈ neg (j ⊗ b)) cancels j b)
+        omega (
+          arith,
+          linear,
+          nonneg_mul p m,
+          nonneg_mul q o,
+          solve 2 (λ i a. i ⊗ neg a ≈ neg (i ⊗ a)) cancels i a,
+          solve 2 (λ j b. j ⊗ neg b ≈ neg (j ⊗ b)) cancels j b,
+        )
 
 -- a combination of two points on a plane is on it
 pub flat_sum : (i j : ℤ) (u v : Spot) (n : Plane) → value_at n u ≡ pos 0 → value_at n v ≡ pos 0 → value_at n (combination i j u v) ≡ pos 0
@@ -83,13 +90,22 @@ weight_sum {i} {j} {a} {b} p q r s =
     let m : pos 0 ≤ℤ a = omega (arith, linear) in omega (arith, linear, nonneg_mul p m, pos_mul q s)
 
 -- between a point of the closed ring and an inside point, all are inside
-pub inside_sum : (i j : ℤ) (n : Plane) (xs : List Side) (u v : Spot) → pos 0 ≤ℤ i → pos 0 <ℤ j → IsInClosedRing n xs u → IsInsideRing n xs v → IsInsideRing n xs (combination i j u v)
+pub inside_sum : (i j : ℤ) (n : Plane) (xs : List Side) (u v : Spot) → pos 0 ≤ℤ i → pos 0 <ℤ j → IsInClosedRing n xs u →
+    IsInsideRing n xs v → IsInsideRing n xs (combination i j u v)
 inside_sum i j n xs u v p q a b =
-    record { flat = flat_sum i j u v n a.flat b.flat; weight = weight_sum p q a.weight b.weight; within = each_both (λ s. IsNotAbove s.plane u) (λ s. IsBelow s.plane v) (λ s. IsBelow s.plane (combination i j u v)) xs (λ s x y. scaled_under i j u v s.plane p q x y) a.within b.within }
+    record {
+      flat = flat_sum i j u v n a.flat b.flat;
+      weight = weight_sum p q a.weight b.weight;
+      within =
+          each_both (λ s. IsNotAbove s.plane u) (λ s. IsBelow s.plane v) (λ s. IsBelow s.plane (combination i j u v)) xs
+          (λ s x y. scaled_under i j u v s.plane p q x y) a.within b.within;
+    }
 
 -- ---- i c0 + j c1 + k c2 is inside, for i, j, k > 0
 -- a point strictly between three corners is inside the ring
-pub corner_sum_is_inside : (i j k : ℤ) (n : Plane) (s t u : Side) (xs : List Side) → pos 0 <ℤ i → pos 0 <ℤ j → pos 0 <ℤ k → IsConvexRing n (s ∷ t ∷ u ∷ xs) → IsInsideRing n (s ∷ t ∷ u ∷ xs) (combination i (pos 1) s.corner (combination j k t.corner u.corner))
+pub corner_sum_is_inside : (i j k : ℤ) (n : Plane) (s t u : Side) (xs : List Side) → pos 0 <ℤ i → pos 0 <ℤ j →
+    pos 0 <ℤ k → IsConvexRing n (s ∷ t ∷ u ∷ xs) →
+    IsInsideRing n (s ∷ t ∷ u ∷ xs) (combination i (pos 1) s.corner (combination j k t.corner u.corner))
 corner_sum_is_inside i j k n s t u xs pi pj pk h =
     let c0 = head_closed n s (t ∷ u ∷ xs) h in let c1 = corner_closed n (s ∷ []) t (u ∷ xs) h in
     let c2 = corner_closed n (s ∷ t ∷ []) u xs h in
@@ -101,9 +117,22 @@ corner_sum_is_inside i j k n s t u xs pi pj pk h =
     let second : IsNotAbove t.plane tail = scaled_both j k t.corner u.corner t.plane j0 k0 c1.within.1.0 c2.within.1.0 in
     let back : IsBelow t.plane s.corner = (each-back (λ r. IsBelow t.plane r.corner) xs (s ∷ []) h.2.1).0 in
     let third : IsBelow u.plane tail = scaled_first j k t.corner u.corner u.plane pj k0 h.1.2.0 c2.within.1.1.0 in
-    let rest : AllByRecursion (λ r. IsBelow r.plane tail) xs = each_both (λ r. IsBelow r.plane t.corner) (λ r. IsNotAbove r.plane u.corner) (λ r. IsBelow r.plane tail) xs (λ r x y. scaled_first j k t.corner u.corner r.plane pj k0 x y) h.1.2.1 c2.within.1.1.1 in
+    let rest : AllByRecursion (λ r. IsBelow r.plane tail) xs =
+    each_both (λ r. IsBelow r.plane t.corner) (λ r. IsNotAbove r.plane u.corner) (λ r. IsBelow r.plane tail) xs
+    (λ r x y. scaled_first j k t.corner u.corner r.plane pj k0 x y) h.1.2.1 c2.within.1.1.1 in
     record {
       flat = flat_sum i (pos 1) s.corner tail n c0.flat (flat_sum j k t.corner u.corner n c1.flat c2.flat);
       weight = weight_sum i0 one c0.weight (weight_sum j0 pk c1.weight c2.weight);
-      within = (scaled_under i (pos 1) s.corner tail s.plane i0 one c0.within.0 first, (scaled_first i (pos 1) s.corner tail t.plane pi one0 back second, (scaled_under i (pos 1) s.corner tail u.plane i0 one c0.within.1.1.0 third, each_both (λ r. IsNotAbove r.plane s.corner) (λ r. IsBelow r.plane tail) (λ r. IsBelow r.plane (combination i (pos 1) s.corner tail)) xs (λ r x y. scaled_under i (pos 1) s.corner tail r.plane i0 one x y) c0.within.1.1.1 rest)));
+      within = (
+        scaled_under i (pos 1) s.corner tail s.plane i0 one c0.within.0 first,
+        (
+          scaled_first i (pos 1) s.corner tail t.plane pi one0 back second,
+          (
+            scaled_under i (pos 1) s.corner tail u.plane i0 one c0.within.1.1.0 third,
+            each_both (λ r. IsNotAbove r.plane s.corner) (λ r. IsBelow r.plane tail)
+                (λ r. IsBelow r.plane (combination i (pos 1) s.corner tail)) xs
+                (λ r x y. scaled_under i (pos 1) s.corner tail r.plane i0 one x y) c0.within.1.1.1 rest,
+          ),
+        ),
+      );
     }

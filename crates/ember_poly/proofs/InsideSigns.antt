@@ -25,11 +25,14 @@ combinationE i j u v =
 -- a plane's value at a combination of two points is that combination of its values
 pub combination_value : (i j : ℤ) (u v : Spot) (e : Plane) → value_at e (combination i j u v) ≡ i *ℤ value_at e u +ℤ j *ℤ value_at e v
 combination_value i j u v e =
-    identity (scalar ∷ scalar ∷ tuple ∷ tuple ∷ tuple ∷ []) (λ i j u v e. valueE e (combinationE i j u v) ≈ i ⊗ valueE e u ⊕ j ⊗ valueE e v) cancels i j (spot_tuple u) (spot_tuple v) (plane_tuple e)
+    identity (scalar ∷ scalar ∷ tuple ∷ tuple ∷ tuple ∷ [])
+    (λ i j u v e. valueE e (combinationE i j u v) ≈ i ⊗ valueE e u ⊕ j ⊗ valueE e v) cancels i j (spot_tuple u)
+    (spot_tuple v) (plane_tuple e)
 
 -- ---- Eventually, over a list
 -- what holds of each member from some number on holds of all from some number on
-pub eventually_each : {X : Type 0} (P : X → ℕ → Type 0) (xs : List X) → AllByRecursion (λ x. Eventually (P x)) xs → Eventually (λ m. AllByRecursion (λ x. P x m) xs)
+pub eventually_each : {X : Type 0} (P : X → ℕ → Type 0) (xs : List X) → AllByRecursion (λ x. Eventually (P x)) xs →
+    Eventually (λ m. AllByRecursion (λ x. P x m) xs)
 eventually_each P [] h = record { from = 0; holds = λ m l. tt }
 eventually_each P (x ∷ xs) h =
     eventually_map (λ m p. (p.0, p.1)) (eventually_both h.0 (eventually_each P xs h.1))
@@ -53,12 +56,16 @@ beyond x c m = combination (pos m) (pos 1) x (negated c)
 
 beyond_value : (e : Plane) (x c : Spot) (m : ℕ) → value_at e (beyond x c m) ≡ value_at e x *ℤ pos m -ℤ value_at e c
 beyond_value e x c m =
-    combination_value (pos m) (pos 1) x (negated c) e ∙ rw (negated_value e c) (solve 3 (λ m a b. m ⊗ a ⊕ num (pos 1) ⊗ neg b ≈ a ⊗ m ⊖ b) cancels (pos m) (value_at e x) (value_at e c))
+    combination_value (pos m) (pos 1) x (negated c) e
+    ∙ rw (negated_value e c) (solve 3 (λ m a b. m ⊗ a ⊕ num (pos 1) ⊗ neg b ≈ a ⊗ m ⊖ b) cancels (pos m)
+    (value_at e x) (value_at e c))
 
 -- a negative value_at stays so
 beyond_under : (x c : Spot) (e : Plane) → IsBelow e x → Eventually (λ m. IsNotAbove e (beyond x c m))
 beyond_under x c e u =
-    eventually_map (λ m p. record { at_most = rw (beyond_value e x c m) (flip (value_at e x) (pos m) (value_at e c) p) }) (eventually_pos {a = neg_ℤ (value_at e x)} (value_at e c) (positive u.under))
+    eventually_map (λ m p. record {
+      at_most = rw (beyond_value e x c m) (flip (value_at e x) (pos m) (value_at e c) p);
+    }) (eventually_pos {a = neg_ℤ (value_at e x)} (value_at e c) (positive u.under))
   where
     positive : {a : ℤ} → a <ℤ pos 0 → pos 0 <ℤ neg_ℤ a
     positive q = omega (arith, linear, q)
@@ -68,7 +75,11 @@ beyond_under x c e u =
 
 beyond_closed : (n : Plane) (xs : List Side) (x c : Spot) → value_at n c ≡ pos 0 → IsInsideRing n xs x → Eventually (λ m. IsInClosedRing n xs (beyond x c m))
 beyond_closed n xs x c nc k =
-    eventually_map (λ m p. record { flat = beyond_value n x c m ∙ flat m; weight = weight m p.0; within = p.1 }) (eventually_both (eventually_pos (neg_ℤ c.w) k.weight) (eventually_each (λ s m. IsNotAbove s.plane (beyond x c m)) xs (each_map (λ s. IsBelow s.plane x) (λ s. Eventually (λ m. IsNotAbove s.plane (beyond x c m))) xs (λ s u. beyond_under x c s.plane u) k.within)))
+    eventually_map (λ m p. record { flat = beyond_value n x c m ∙ flat m; weight = weight m p.0; within = p.1 })
+    (eventually_both (eventually_pos (neg_ℤ c.w) k.weight)
+    (eventually_each (λ s m. IsNotAbove s.plane (beyond x c m)) xs
+    (each_map (λ s. IsBelow s.plane x) (λ s. Eventually (λ m. IsNotAbove s.plane (beyond x c m))) xs
+    (λ s u. beyond_under x c s.plane u) k.within)))
   where
     flat : (m : ℕ) → value_at n x *ℤ pos m -ℤ value_at n c ≡ pos 0
     flat m = rw (k.flat, nc) (solve 1 (λ m. num (pos 0) ⊗ m ⊖ num (pos 0) ≈ num (pos 0)) cancels (pos m))
@@ -78,7 +89,9 @@ beyond_closed n xs x c nc k =
         omega (arith, linear, p, solve 2 (λ m w. m ⊗ w ≈ w ⊗ m) cancels (pos m) x.w, solve 1 (λ w. num (pos 1) ⊗ neg w ≈ neg w) cancels c.w)
 
 -- if no corner is above a plane and one point of the ring's plane is below, the inside is below
-pub corners_under : (n p : Plane) (x c : Spot) (xs : List Side) → IsConvexRing n xs → AllByRecursion (λ r. IsNotAbove p r.corner) xs → value_at n c ≡ pos 0 → IsBelow p c → IsInsideRing n xs x → IsBelow p x
+pub corners_under : (n p : Plane) (x c : Spot) (xs : List Side) → IsConvexRing n xs →
+    AllByRecursion (λ r. IsNotAbove p r.corner) xs → value_at n c ≡ pos 0 → IsBelow p c → IsInsideRing n xs x →
+    IsBelow p x
 corners_under n p x c xs h a nc u k =
     by_lt_z (value_at p x) (pos 0) (λ l. record { under = l }) (λ l. absurd (never l (beyond_closed n xs x c nc k)))
   where

@@ -13,14 +13,16 @@ use Rattle.ember_poly.proofs.Chains.{each_map}
 use Rattle.ember_poly.proofs.Face.{each_at}
 use Rattle.ember_poly.proofs.RingOutline.{edge_of, outline, ring_outline}
 
-outline-sides_of : (es : List Plane) (ms : List Meet) (bs : List ℕ) → length ms ≡ length es → length bs ≡ length es → outline (sides_of es ms bs) ≡ ring_edges es ms
+outline-sides_of : (es : List Plane) (ms : List Meet) (bs : List ℕ) → length ms ≡ length es → length bs ≡ length es →
+    outline (sides_of es ms bs) ≡ ring_edges es ms
 outline-sides_of [] ms bs p q = refl
 outline-sides_of (e ∷ es) [] bs p q = absurd (omega (arith, p))
 outline-sides_of (e ∷ es) (m ∷ ms) [] p q = absurd (omega (arith, q))
 outline-sides_of (e ∷ es) (m ∷ ms) (b ∷ bs) p q =
     ap (λ zs. edge_of (record { plane = e; corner = spot_of m; plane_index = b }) ∷ zs) (outline-sides_of es ms bs (omega (arith, p)) (omega (arith, q)))
 
-planes-sides_of : (es : List Plane) (ms : List Meet) (bs : List ℕ) → length ms ≡ length es → length bs ≡ length es → map (λ (s : Side). s.plane) (sides_of es ms bs) ≡ es
+planes-sides_of : (es : List Plane) (ms : List Meet) (bs : List ℕ) → length ms ≡ length es → length bs ≡ length es →
+    map (λ (s : Side). s.plane) (sides_of es ms bs) ≡ es
 planes-sides_of [] ms bs p q = refl
 planes-sides_of (e ∷ es) [] bs p q = absurd (omega (arith, p))
 planes-sides_of (e ∷ es) (m ∷ ms) [] p q = absurd (omega (arith, q))
@@ -48,7 +50,9 @@ sound_three n (s ∷ t ∷ u ∷ xs) h = omega arith
 module _ (n : Plane) (gs es : List Plane) (ms : List Meet) (bs : List ℕ) (r : IsRing n gs es ms bs) where
   lists_are_outline : IsOutline (record { support = n; edges = gs }) (ring_edges es ms)
   lists_are_outline =
-      subst (λ zs. IsOutline (record { support = n; edges = gs }) zs) (outline-sides_of es ms bs r.corners r.plane_indices) (ring_outline n gs (sides_of es ms bs) r.represents r.counted r.oldest)
+      subst (λ zs. IsOutline (record { support = n; edges = gs }) zs)
+      (outline-sides_of es ms bs r.corners r.plane_indices)
+      (ring_outline n gs (sides_of es ms bs) r.represents r.counted r.oldest)
 
   pub lists_have_three : 3 ≤ length es
   lists_have_three =
@@ -56,10 +60,14 @@ module _ (n : Plane) (gs es : List Plane) (ms : List Meet) (bs : List ℕ) (r : 
 
   -- the planes that are lent are valid
   pub lent_valid : All IsValidPlane es
-  lent_valid = λ k d l. each_at IsValidPlane es k d l (subst (λ ps. AllByRecursion IsValidPlane ps) (planes-sides_of es ms bs r.corners r.plane_indices) (each_plane (sides_of es ms bs) (each_map (λ s. IsInPlanes gs s) (λ s. IsValidPlane s.plane) (sides_of es ms bs) (λ s l. subst IsValidPlane l.here (r.planes s.plane_index s.plane l.index)) r.represents.listed)))
+  lent_valid = λ k d l. each_at IsValidPlane es k d l
+      (subst (λ ps. AllByRecursion IsValidPlane ps) (planes-sides_of es ms bs r.corners r.plane_indices)
+      (each_plane (sides_of es ms bs) (each_map (λ s. IsInPlanes gs s) (λ s. IsValidPlane s.plane) (sides_of es ms bs)
+      (λ s l. subst IsValidPlane l.here (r.planes s.plane_index s.plane l.index)) r.represents.listed)))
 
 -- as the calls see the ring
-module _ (n : Plane) (gs es : List Plane) (ms : List Meet) (bs : List ℕ) (r : IsRing n gs es ms bs) (f : Face) (seen : f ≡ record { support = n; edges = gs }) where
+module _ (n : Plane) (gs es : List Plane) (ms : List Meet) (bs : List ℕ) (r : IsRing n gs es ms bs) (f : Face)
+    (seen : f ≡ record { support = n; edges = gs }) where
   pub outline_of : {us : List Plane} {cs : List Meet} → us ≡ es → cs ≡ ms → IsOutline f (ring_edges us cs)
   outline_of ea ec = rw (seen, ea, ec) (lists_are_outline n gs es ms bs r)
 

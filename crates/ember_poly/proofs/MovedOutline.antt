@@ -8,7 +8,8 @@ use Rattle.ember_model.specs.declared.plane.Plane.{Plane}
 use Rattle.ember_model.specs.declared.point.Spot.{Spot}
 use Rattle.ember_model.specs.declared.face.Face.{Face}
 use Rattle.ember_model.specs.Planes.{value_at}
-use Rattle.ember_model.specs.Edges.{SamePoint, is_on_edge, HasEdge, IsEarliest, SameEdge, position_along, IsBefore, IsNotAfter, RingEdge, IsEdge, IsEdgeChain, HasEdgeOf, HaveDistinctEdges, IsOutline}
+use Rattle.ember_model.specs.Edges.{SamePoint, is_on_edge, HasEdge, IsEarliest, SameEdge, position_along, IsBefore}
+use Rattle.ember_model.specs.Edges.{IsNotAfter, RingEdge, IsEdge, IsEdgeChain, HasEdgeOf, HaveDistinctEdges, IsOutline}
 use Rattle.ember_poly.specs.Rings.{IsNotAbove, edge_direction}
 use Rattle.ember_poly.proofs.Chains.{each_map}
 use Rattle.ember_poly.proofs.RingBelow.{not_zero}
@@ -28,18 +29,22 @@ most_moved u v a b p q e l =
 
 first_moved : (p q p' q' a a' : ℤ) → p' *ℤ a ≡ p *ℤ a' → (p *ℤ q) *ℤ (q' *ℤ a') ≡ (q' *ℤ p') *ℤ (q *ℤ a)
 first_moved p q p' q' a a' e =
-    solve 4 (λ p q r b. (p ⊗ q) ⊗ (r ⊗ b) ≈ (q ⊗ r) ⊗ (p ⊗ b)) cancels p q q' a' ∙ ap (λ x. (q *ℤ q') *ℤ x) (sym e) ∙ solve 4 (λ q r s a. (q ⊗ r) ⊗ (s ⊗ a) ≈ (r ⊗ s) ⊗ (q ⊗ a)) cancels q q' p' a
+    solve 4 (λ p q r b. (p ⊗ q) ⊗ (r ⊗ b) ≈ (q ⊗ r) ⊗ (p ⊗ b)) cancels p q q' a' ∙ ap (λ x. (q *ℤ q') *ℤ x) (sym e)
+    ∙ solve 4 (λ q r s a. (q ⊗ r) ⊗ (s ⊗ a) ≈ (r ⊗ s) ⊗ (q ⊗ a)) cancels q q' p' a
 
-lt_moved : (p q p' q' a b a' b' : ℤ) → pos 0 <ℤ p → pos 0 <ℤ q → pos 0 <ℤ p' → pos 0 <ℤ q' → p' *ℤ a ≡ p *ℤ a' → q' *ℤ b ≡ q *ℤ b' → (q *ℤ a) <ℤ (p *ℤ b) → (q' *ℤ a') <ℤ (p' *ℤ b')
+lt_moved : (p q p' q' a b a' b' : ℤ) → pos 0 <ℤ p → pos 0 <ℤ q → pos 0 <ℤ p' → pos 0 <ℤ q' → p' *ℤ a ≡ p *ℤ a' →
+    q' *ℤ b ≡ q *ℤ b' → (q *ℤ a) <ℤ (p *ℤ b) → (q' *ℤ a') <ℤ (p' *ℤ b')
 lt_moved p q p' q' a b a' b' hp hq hp' hq' ea eb l =
     let m = mul_lt (pos_mul hq' hp') l in
     cancel_lt (pos_mul hp hq) (rw (first_moved p q p' q' a a' ea, second) m)
   where
     second : (p *ℤ q) *ℤ (p' *ℤ b') ≡ (q' *ℤ p') *ℤ (p *ℤ b)
     second =
-        solve 4 (λ p q r b. (p ⊗ q) ⊗ (r ⊗ b) ≈ (q ⊗ p) ⊗ (r ⊗ b)) cancels p q p' b' ∙ first_moved q p q' p' b b' eb ∙ solve 4 (λ r s p b. (r ⊗ s) ⊗ (p ⊗ b) ≈ (s ⊗ r) ⊗ (p ⊗ b)) cancels p' q' p b
+        solve 4 (λ p q r b. (p ⊗ q) ⊗ (r ⊗ b) ≈ (q ⊗ p) ⊗ (r ⊗ b)) cancels p q p' b' ∙ first_moved q p q' p' b b' eb
+        ∙ solve 4 (λ r s p b. (r ⊗ s) ⊗ (p ⊗ b) ≈ (s ⊗ r) ⊗ (p ⊗ b)) cancels p' q' p b
 
-le_moved : (p q p' q' a b a' b' : ℤ) → pos 0 <ℤ p → pos 0 <ℤ q → pos 0 <ℤ p' → pos 0 <ℤ q' → p' *ℤ a ≡ p *ℤ a' → q' *ℤ b ≡ q *ℤ b' → (q *ℤ a) ≤ℤ (p *ℤ b) → (q' *ℤ a') ≤ℤ (p' *ℤ b')
+le_moved : (p q p' q' a b a' b' : ℤ) → pos 0 <ℤ p → pos 0 <ℤ q → pos 0 <ℤ p' → pos 0 <ℤ q' → p' *ℤ a ≡ p *ℤ a' →
+    q' *ℤ b ≡ q *ℤ b' → (q *ℤ a) ≤ℤ (p *ℤ b) → (q' *ℤ a') ≤ℤ (p' *ℤ b')
 le_moved p q p' q' a b a' b' hp hq hp' hq' ea eb l =
     let m = mul_le (weaken (pos_mul hq' hp')) l in
     cancel_le (pos_mul hp hq) (rw (first_moved p q p' q' a a' ea, second) m)
@@ -49,7 +54,8 @@ le_moved p q p' q' a b a' b' hp hq hp' hq' ea eb l =
 
     second : (p *ℤ q) *ℤ (p' *ℤ b') ≡ (q' *ℤ p') *ℤ (p *ℤ b)
     second =
-        solve 4 (λ p q r b. (p ⊗ q) ⊗ (r ⊗ b) ≈ (q ⊗ p) ⊗ (r ⊗ b)) cancels p q p' b' ∙ first_moved q p q' p' b b' eb ∙ solve 4 (λ r s p b. (r ⊗ s) ⊗ (p ⊗ b) ≈ (s ⊗ r) ⊗ (p ⊗ b)) cancels p' q' p b
+        solve 4 (λ p q r b. (p ⊗ q) ⊗ (r ⊗ b) ≈ (q ⊗ p) ⊗ (r ⊗ b)) cancels p q p' b' ∙ first_moved q p q' p' b b' eb
+        ∙ solve 4 (λ r s p b. (r ⊗ s) ⊗ (p ⊗ b) ≈ (s ⊗ r) ⊗ (p ⊗ b)) cancels p' q' p b
 
 -- ---- points
 -- u and v are one point, and both weights are positive
@@ -67,21 +73,40 @@ reach_moved {u} {v} n g m = rw (position_is_value_along n g u, position_is_value
 edge_moved : {u v : Spot} (f : Face) (g : Plane) → SameWithWeights u v → is_on_edge f g u ≡ true → is_on_edge f g v ≡ true
 edge_moved {u} {v} f g m e =
     let o = edge_out f g u e in
-    edge_in f g v (record { flat = zero_moved u.w v.w (value_at f.support u) (value_at f.support v) m.from (same_value m.same f.support) o.closed.flat; weight = m.to; within = each_map (λ h. IsNotAbove h u) (λ h. IsNotAbove h v) f.edges (λ h l. record { at_most = most_moved u.w v.w (value_at h u) (value_at h v) m.from m.to (same_value m.same h) l.at_most }) o.closed.within }) (zero_moved u.w v.w (value_at g u) (value_at g v) m.from (same_value m.same g) o.zero)
+    edge_in f g v (record {
+      flat = zero_moved u.w v.w (value_at f.support u) (value_at f.support v) m.from
+          (same_value m.same f.support) o.closed.flat;
+      weight = m.to;
+      within =
+          each_map (λ h. IsNotAbove h u) (λ h. IsNotAbove h v) f.edges
+          (λ h l. record {
+            at_most = most_moved u.w v.w (value_at h u) (value_at h v) m.from m.to (same_value m.same h)
+                l.at_most;
+          }) o.closed.within;
+    }) (zero_moved u.w v.w (value_at g u) (value_at g v) m.from (same_value m.same g)
+    o.zero)
 
 before_moved : {u u' v v' : Spot} (n g : Plane) → SameWithWeights u u' → SameWithWeights v v' → IsBefore n g u v → IsBefore n g u' v'
 before_moved {u} {u'} {v} {v'} n g a b h =
-    record { before = lt_moved u.w v.w u'.w v'.w (position_along n g u) (position_along n g v) (position_along n g u') (position_along n g v') a.from b.from a.to b.to (reach_moved n g a) (reach_moved n g b) h.before }
+    record {
+      before = lt_moved u.w v.w u'.w v'.w (position_along n g u) (position_along n g v) (position_along n g u')
+          (position_along n g v') a.from b.from a.to b.to (reach_moved n g a) (reach_moved n g b) h.before;
+    }
 
 not_after_moved : {u u' v v' : Spot} (n g : Plane) → SameWithWeights u u' → SameWithWeights v v' → IsNotAfter n g u v → IsNotAfter n g u' v'
 not_after_moved {u} {u'} {v} {v'} n g a b h =
-    record { not_after = le_moved u.w v.w u'.w v'.w (position_along n g u) (position_along n g v) (position_along n g u') (position_along n g v') a.from b.from a.to b.to (reach_moved n g a) (reach_moved n g b) h.not_after }
+    record {
+      not_after = le_moved u.w v.w u'.w v'.w (position_along n g u) (position_along n g v)
+          (position_along n g u') (position_along n g v') a.from b.from a.to b.to (reach_moved n g a) (reach_moved n g b)
+          h.not_after;
+    }
 
 -- ---- edges
 abbrev pub at_start : RingEdge → Spot → RingEdge
 at_start e v = record e { start = v }
 
-is_edge_moved : {end end' start' : Spot} (f : Face) (e : RingEdge) → SameWithWeights e.start start' → SameWithWeights end end' → IsEdge f e end → IsEdge f (at_start e start') end'
+is_edge_moved : {end end' start' : Spot} (f : Face) (e : RingEdge) → SameWithWeights e.start start' →
+    SameWithWeights end end' → IsEdge f e end → IsEdge f (at_start e start') end'
 is_edge_moved {end} {end'} {start'} f e a b h =
     record {
       is_earliest = h.is_earliest;
@@ -100,11 +125,13 @@ HaveSameStarts [] (e ∷ es) = ⊥
 HaveSameStarts (d ∷ ds) [] = ⊥
 HaveSameStarts (d ∷ ds) (e ∷ es) = (d.plane ≡ e.plane) × SameWithWeights d.start e.start × HaveSameStarts ds es
 
-is_edge_of : {end end' : Spot} (f : Face) (d e : RingEdge) → d.plane ≡ e.plane → SameWithWeights d.start e.start → SameWithWeights end end' → IsEdge f d end → IsEdge f e end'
+is_edge_of : {end end' : Spot} (f : Face) (d e : RingEdge) → d.plane ≡ e.plane → SameWithWeights d.start e.start →
+    SameWithWeights end end' → IsEdge f d end → IsEdge f e end'
 is_edge_of {end} {end'} f d e p a b h =
     subst (λ (c : RingEdge). IsEdge f c end') (λ i. record { plane = p i; start = e.start }) (is_edge_moved f d a b h)
 
-path_moved : {end end' : Spot} (f : Face) (ds es : List RingEdge) → HaveSameStarts ds es → SameWithWeights end end' → IsEdgeChain f end ds → IsEdgeChain f end' es
+path_moved : {end end' : Spot} (f : Face) (ds es : List RingEdge) → HaveSameStarts ds es → SameWithWeights end end' →
+    IsEdgeChain f end ds → IsEdgeChain f end' es
 path_moved f [] [] m k h = tt
 path_moved f [] (e ∷ es) m k h = absurd m
 path_moved f (d ∷ ds) [] m k h = absurd m
@@ -120,7 +147,8 @@ among_moved f h (d ∷ ds) [] m a = absurd m
 among_moved f h (d ∷ ds) (e ∷ es) m (inl s) = inl (subst (λ p. SameEdge f h p) m.0 s)
 among_moved f h (d ∷ ds) (e ∷ es) m (inr a) = inr (among_moved f h ds es m.2 a)
 
-other_moved : (f : Face) (p : Plane) (ds es : List RingEdge) → HaveSameStarts ds es → AllByRecursion (λ d. SameEdge f p d.plane → ⊥) ds → AllByRecursion (λ d. SameEdge f p d.plane → ⊥) es
+other_moved : (f : Face) (p : Plane) (ds es : List RingEdge) → HaveSameStarts ds es →
+    AllByRecursion (λ d. SameEdge f p d.plane → ⊥) ds → AllByRecursion (λ d. SameEdge f p d.plane → ⊥) es
 other_moved f p [] [] m h = tt
 other_moved f p [] (e ∷ es) m h = absurd m
 other_moved f p (d ∷ ds) [] m h = absurd m

@@ -15,7 +15,11 @@ pub record LeastOf (ns : List ℕ) (m k : ℕ) : Type 0 where
 -- a number that isn't less than the least so far leaves it the least
 pub least_keep : (ns : List ℕ) (i k d : ℕ) → i < length ns → LeastOf ns i k → get_or ns k d ≤ get_or ns i d → LeastOf ns (i + 1) k
 least_keep ns i k d l h b =
-    record { within = h.within; least = λ e. subst (λ ys. AllByRecursion (λ c. get_or ns k e ≤ c) ys) (sym (take_more ns i e l)) (each-push (λ c. get_or ns k e ≤ c) (take i ns) (get_or ns i e) (h.least e) (at e)) }
+    record {
+      within = h.within;
+      least = λ e. subst (λ ys. AllByRecursion (λ c. get_or ns k e ≤ c) ys)
+          (sym (take_more ns i e l)) (each-push (λ c. get_or ns k e ≤ c) (take i ns) (get_or ns i e) (h.least e) (at e));
+    }
   where
     at : (e : ℕ) → get_or ns k e ≤ get_or ns i e
     at e =
@@ -24,7 +28,12 @@ least_keep ns i k d l h b =
 -- a number that is less than the least so far is the least
 pub least_new : (ns : List ℕ) (i k d : ℕ) → i < length ns → LeastOf ns i k → get_or ns i d < get_or ns k d → LeastOf ns (i + 1) i
 least_new ns i k d l h b =
-    least_keep ns i i d l (record { within = l; least = λ e. each_map (λ c. get_or ns k e ≤ c) (λ c. get_or ns i e ≤ c) (take i ns) (λ c q. less (at e) q) (h.least e) }) (same (get_or ns i d))
+    least_keep ns i i d l (record {
+      within = l;
+      least =
+          λ e. each_map (λ c. get_or ns k e ≤ c) (λ c. get_or ns i e ≤ c) (take i ns) (λ c q. less (at e) q) (h.least e);
+    })
+    (same (get_or ns i d))
   where
     at : (e : ℕ) → get_or ns i e < get_or ns k e
     at e =
@@ -55,4 +64,6 @@ least_first (n ∷ ns) m k l h = subst (λ ys. LeastFirst (ys ++ take k all)) (s
 
     others : AllByRecursion (λ b. c ≤ b) (c ∷ drop (k + 1) all ++ take k all)
     others =
-        subst (λ ys. AllByRecursion (λ b. c ≤ b) (ys ++ take k all)) e (each-turned (λ b. c ≤ b) (take k all) (drop k all) (subst (λ ys. AllByRecursion (λ b. c ≤ b) ys) (sym (take-append-drop k all)) every))
+        subst (λ ys. AllByRecursion (λ b. c ≤ b) (ys ++ take k all)) e
+        (each-turned (λ b. c ≤ b) (take k all) (drop k all)
+        (subst (λ ys. AllByRecursion (λ b. c ≤ b) ys) (sym (take-append-drop k all)) every))

@@ -21,13 +21,21 @@ use Rattle.ember_poly.proofs.TriangleRing.{tri_sides, tri_planes, stands}
 use Rattle.ember_poly.proofs.ReachBySigns.{over_opposite, over_from_opposite}
 
 -- a plane that is negative at each corner is negative at each closed point
-corners_negative : (n p : Plane) (x : Spot) (xs : List Side) → IsConvexRing n xs → AllByRecursion (λ r. IsBelow p r.corner) xs → IsInClosedRing n xs x → IsBelow p x
+corners_negative : (n p : Plane) (x : Spot) (xs : List Side) → IsConvexRing n xs →
+    AllByRecursion (λ r. IsBelow p r.corner) xs → IsInClosedRing n xs x → IsBelow p x
 corners_negative n p x [] h a k = absurd h
 corners_negative n p x (s ∷ xs) h a k = by (find_best n p s xs (ring-rooted n (s ∷ xs) h))
   where
     fall : (px cw pc xw : ℤ) → pos 0 <ℤ cw → pos 0 <ℤ xw → pc <ℤ pos 0 → (px *ℤ cw) ≤ℤ (pc *ℤ xw) → px <ℤ pos 0
     fall px cw pc xw p q r h =
-        cancel_lt p (omega (arith, linear, h, mul_neg_pos r q, solve 2 (λ cw px. cw ⊗ px ≈ px ⊗ cw) cancels cw px, solve 1 (λ cw. cw ⊗ num (pos 0) ≈ num (pos 0)) cancels cw))
+        cancel_lt p (omega (
+          arith,
+          linear,
+          h,
+          mul_neg_pos r q,
+          solve 2 (λ cw px. cw ⊗ px ≈ px ⊗ cw) cancels cw px,
+          solve 1 (λ cw. cw ⊗ num (pos 0) ≈ num (pos 0)) cancels cw,
+        ))
 
     by : Best p (s ∷ xs) → IsBelow p x
     by b =
@@ -35,7 +43,10 @@ corners_negative n p x (s ∷ xs) h a k = by (find_best n p s xs (ring-rooted n 
         let w' : AllByRecursion (λ r. Rooted n r) (b.before ++ b.at ∷ b.behind) = rw (← b.split) (ring-rooted n (s ∷ xs) h) in
         let here = (each-back (λ r. IsBelow p r.corner) b.before (b.at ∷ b.behind) a').0 in
         let root = (each-back (λ r. Rooted n r) b.before (b.at ∷ b.behind) w').0 in
-        record { under = fall (value_at p x) b.at.corner.w (value_at p b.at.corner) x.w root.weight k.weight here.under (best_above n p x (s ∷ xs) b h k).not_above }
+        record {
+          under = fall (value_at p x) b.at.corner.w (value_at p b.at.corner) x.w root.weight k.weight here.under
+              (best_above n p x (s ∷ xs) b h k).not_above;
+        }
 
 -- a face doesn't meet a triangle strictly on one side of its plane
 pub one_side_meets_not : (f : Face) (n : Plane) (t : Tri) → f.support ≡ n → is_flat t ≡ false → IsOnOneSide n t → Meets f (face_of t) → ⊥

@@ -49,9 +49,27 @@ parts P Q (g ∷ gs) a = by a.0 (parts P Q gs a.1)
   where
     by : P g ⊎ Q g → Parts P Q gs → Parts P Q (g ∷ gs)
     by (inl p) s =
-        record { one = g ∷ s.one; other = s.other; are_other = s.are_other; are_one = (p, s.are_one); join = λ R x y. (x.0, s.join R x.1 y); of_one = λ R x. (x.0, s.of_one R x.1); of_other = λ R x. s.of_other R x.1 }
+        record {
+          one = g ∷ s.one;
+          other = s.other;
+          are_other = s.are_other;
+          are_one = (p, s.are_one);
+          join =
+              λ R x y. (x.0, s.join R x.1 y);
+          of_one = λ R x. (x.0, s.of_one R x.1);
+          of_other = λ R x. s.of_other R x.1;
+        }
     by (inr q) s =
-        record { one = s.one; other = g ∷ s.other; are_other = (q, s.are_other); are_one = s.are_one; join = λ R x y. (y.0, s.join R x y.1); of_one = λ R x. s.of_one R x.1; of_other = λ R x. (x.0, s.of_other R x.1) }
+        record {
+          one = s.one;
+          other = g ∷ s.other;
+          are_other = (q, s.are_other);
+          are_one = s.are_one;
+          join =
+              λ R x y. (y.0, s.join R x y.1);
+          of_one = λ R x. s.of_one R x.1;
+          of_other = λ R x. (x.0, s.of_other R x.1);
+        }
 
 -- ---- the edges of an outline
 -- the edge with some end
@@ -66,7 +84,8 @@ edge_has_end f end (e ∷ []) p = (record { end = end; is = p }, tt)
 edge_has_end f end (e ∷ d ∷ es) p = (record { end = d.start; is = p.0 }, edge_has_end f end (d ∷ es) p.1)
 
 -- what all planes of f have, the outline's have
-of_edges : (f : Face) (P : Plane → Type 0) (es : List RingEdge) → AllByRecursion (λ e. Ended f e) es → AllByRecursion P f.edges → AllByRecursion P (map (λ e. e.plane) es)
+of_edges : (f : Face) (P : Plane → Type 0) (es : List RingEdge) → AllByRecursion (λ e. Ended f e) es →
+    AllByRecursion P f.edges → AllByRecursion P (map (λ e. e.plane) es)
 of_edges f P es ends all =
     each_plane P es (each_map (λ e. Ended f e) (λ e. P e.plane) es (λ e d. each_get P f.edges d.is.is_earliest.index e.plane all d.is.is_earliest.here) ends)
 
@@ -78,9 +97,13 @@ module _ (f : Face) (o q : Spot) (io : InFace f.support f.edges o) (flat : value
       let gx = edge_out f g e.start (same e.start ∙ d.is.starts) in
       let gy = edge_out f g d.end (same d.end ∙ d.is.ends) in
       let eo = each_get (λ h. IsBelow h o) f.edges d.is.is_earliest.index e.plane io.within d.is.is_earliest.here in
-      record { under = same_side f.support e.plane g e.start d.end d.is.leads x.closed.flat y.closed.flat x.zero y.zero gx.zero gy.zero o q x.closed.weight io.flat flat eo.under low.under u.under }
+      record {
+        under = same_side f.support e.plane g e.start d.end d.is.leads x.closed.flat y.closed.flat x.zero y.zero
+            gx.zero gy.zero o q x.closed.weight io.flat flat eo.under low.under u.under;
+      }
 
-  among_under : (g : Plane) → IsBelow g o → (es : List RingEdge) → AllByRecursion (λ e. Ended f e) es → AllByRecursion (λ e. IsBelow e.plane q) es → HasEdgeOf f g es → IsBelow g q
+  among_under : (g : Plane) → IsBelow g o → (es : List RingEdge) → AllByRecursion (λ e. Ended f e) es →
+      AllByRecursion (λ e. IsBelow e.plane q) es → HasEdgeOf f g es → IsBelow g q
   among_under g low [] ends us m = absurd m
   among_under g low (e ∷ es) ends us (inl same) = with_edge e g ends.0 low same us.0
   among_under g low (e ∷ es) ends us (inr m) = among_under g low es ends.1 us.1 m
@@ -101,7 +124,10 @@ module _ (f : Face) (es : List RingEdge) (o : Spot) (io : InFace f.support f.edg
   -- each plane is negative at q, or doesn't count
   sides : (q : Spot) → InFace f.support planes q → AllByRecursion (λ g. IsBelow g q ⊎ (HasEdge f g → ⊥)) f.edges
   sides q iq =
-      each_place (λ g. IsBelow g q ⊎ (HasEdge f g → ⊥)) f.edges (λ i g e. by_lt_z (value_at g q) (pos 0) (λ l. inl (record { under = l })) (λ l. inr (λ c. clash l (among_under f o q io iq.flat g (each_get (λ g. IsBelow g o) f.edges i g io.within e) es ends (plane_each (λ g. IsBelow g q) es iq.within) (line.all i g e c)).under)))
+      each_place (λ g. IsBelow g q ⊎ (HasEdge f g → ⊥)) f.edges
+      (λ i g e. by_lt_z (value_at g q) (pos 0) (λ l. inl (record { under = l }))
+      (λ l. inr (λ c. clash l (among_under f o q io iq.flat g (each_get (λ g. IsBelow g o) f.edges i g io.within e) es
+      ends (plane_each (λ g. IsBelow g q) es iq.within) (line.all i g e c)).under)))
     where
       clash : {a : ℤ} → pos 0 ≤ℤ a → a <ℤ pos 0 → ⊥
       clash p l = absurd (omega (arith, linear, p, l))
@@ -111,7 +137,17 @@ module _ (f : Face) (es : List RingEdge) (o : Spot) (io : InFace f.support f.edg
     where
       by : Parts (λ g. IsBelow g q) (λ g. HasEdge f g → ⊥) f.edges → AllByRecursion (λ g. IsBelow g q) f.edges
       by s =
-          s.join (λ g. IsBelow g q) s.are_one (plane_follows f.support line.first.plane (toward line.first.start first_end.end) turns o f s.one s.other (record { flat = io.flat; weight = io.weight; within = s.of_one (λ g. IsBelow g o) io.within }) (s.of_other (λ g. IsBelow g o) io.within) s.are_other (λ v i a. closed_in f v (record { flat = i.flat; weight = i.weight; within = s.join (λ g. IsNotAbove g v) i.within a })) q (record { flat = iq.flat; weight = iq.weight; within = s.are_one }))
+          s.join (λ g. IsBelow g q) s.are_one (plane_follows f.support line.first.plane
+          (toward line.first.start first_end.end) turns o f s.one s.other
+          (record { flat = io.flat; weight = io.weight; within = s.of_one (λ g. IsBelow g o) io.within })
+          (s.of_other (λ g. IsBelow g o) io.within) s.are_other
+          (λ v i a. closed_in f v (record {
+            flat = i.flat;
+            weight = i.weight;
+            within =
+                s.join (λ g. IsNotAbove g v) i.within a;
+          })) q
+          (record { flat = iq.flat; weight = iq.weight; within = s.are_one }))
 
   to_outline : (q : Spot) → InFace f.support f.edges q → InFace f.support planes q
   to_outline q iq =
@@ -119,7 +155,12 @@ module _ (f : Face) (es : List RingEdge) (o : Spot) (io : InFace f.support f.edg
 
   from_closed : (q : Spot) → InClosedFace f.support planes q → InClosedFace f.support f.edges q
   from_closed q iq =
-      record { flat = iq.flat; weight = iq.weight; within = closed_follows f.support planes f.edges o (to_outline o io) io.within (λ v i. (from_outline v i).within) q iq }
+      record {
+        flat = iq.flat;
+        weight = iq.weight;
+        within =
+            closed_follows f.support planes f.edges o (to_outline o io) io.within (λ v i. (from_outline v i).within) q iq;
+      }
 
   to_closed : (q : Spot) → InClosedFace f.support f.edges q → InClosedFace f.support planes q
   to_closed q iq =
@@ -131,8 +172,12 @@ outline_has_its_points f es h line =
     let g = face_of_edges f.support es in
     record {
       support = refl;
-      inside = λ v. same_test (is_inside f v) (is_inside g v) (λ e. inside_in g v (to_outline f es h.at io line v (inside_out f v e))) (λ e. inside_in f v (from_outline f es h.at io line v (inside_out g v e)));
-      closed = λ v. same_test (is_in_closed f v) (is_in_closed g v) (λ e. closed_in g v (to_closed f es h.at io line v (closed_out f v e))) (λ e. closed_in f v (from_closed f es h.at io line v (closed_out g v e)));
+      inside = λ v. same_test (is_inside f v) (is_inside g v)
+          (λ e. inside_in g v (to_outline f es h.at io line v (inside_out f v e)))
+          (λ e. inside_in f v (from_outline f es h.at io line v (inside_out g v e)));
+      closed = λ v. same_test (is_in_closed f v) (is_in_closed g v)
+          (λ e. closed_in g v (to_closed f es h.at io line v (closed_out f v e)))
+          (λ e. closed_in f v (from_closed f es h.at io line v (closed_out g v e)));
     }
   where
     io : InFace f.support f.edges h.at

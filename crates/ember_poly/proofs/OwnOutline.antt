@@ -1,5 +1,6 @@
 -- An outline of a face is one of the face that has the outline's planes alone.
-use Rattle.std.proofs.Common.{◌≡◌, inl, inr, refl, sym, ap, subst, ◌∙◌, arith, ℕ, zero, suc, ◌<◌, Bool, ◌&&◌, Some, slice_get, List, [], ◌∷◌, ◌++◌, map, length, append_assoc}
+use Rattle.std.proofs.Common.{◌≡◌, inl, inr, refl, sym, ap, subst, ◌∙◌, arith, ℕ, zero, suc, ◌<◌, Bool, ◌&&◌, Some}
+use Rattle.std.proofs.Common.{slice_get, List, [], ◌∷◌, ◌++◌, map, length, append_assoc}
 use Rattle.std.specs.List.{AllByRecursion}
 use Rattle.ember_algebra.specs.Sign.{is_zero}
 use Rattle.ember_model.specs.declared.plane.Plane.{Plane}
@@ -23,7 +24,9 @@ same_some : {g h : Plane} → Some g ≡ Some h → g ≡ h
 same_some e = cc
 
 -- no earlier plane gives its edge
-none_earlier : (f : Face) (us : List RingEdge) (e : RingEdge) (ws : List RingEdge) → HaveDistinctEdges f (us ++ e ∷ ws) → (i : ℕ) (h : Plane) → i < length us → slice_get (planes_of (us ++ e ∷ ws)) i ≡ Some h → SameEdge f h e.plane → ⊥
+none_earlier : (f : Face) (us : List RingEdge) (e : RingEdge) (ws : List RingEdge) →
+    HaveDistinctEdges f (us ++ e ∷ ws) → (i : ℕ) (h : Plane) → i < length us →
+    slice_get (planes_of (us ++ e ∷ ws)) i ≡ Some h → SameEdge f h e.plane → ⊥
 none_earlier f [] e ws a i h l g s = absurd (omega arith)
 none_earlier f (u ∷ us) e ws a zero h l g s =
     apart us a.0 (subst (λ (h : Plane). SameEdge f h e.plane) (sym (same_some g)) s)
@@ -44,7 +47,8 @@ among f (e ∷ es) zero h g = inl (λ v. ap (λ (p : Plane). is_on_edge f p v) (
 among f (e ∷ es) (suc i) h g = inr (among f es i h g)
 
 -- ---- the face of the outline's planes has the points of f
-module _ (f : Face) (es : List RingEdge) (line : IsOutline f es) (on : (g : Plane) (v : Spot) → is_on_edge f g v ≡ is_on_edge (face_of_edges f.support es) g v) where
+module _ (f : Face) (es : List RingEdge) (line : IsOutline f es) (on : (g : Plane) (v : Spot) →
+    is_on_edge f g v ≡ is_on_edge (face_of_edges f.support es) g v) where
   abbrev own : Face
   own = face_of_edges f.support es
 
@@ -66,7 +70,9 @@ module _ (f : Face) (es : List RingEdge) (line : IsOutline f es) (on : (g : Plan
           index = length us;
           here = ap (λ (cs : List RingEdge). slice_get (planes_of cs) (length us)) q ∙ at_its_place us e ws;
           holds = λ v. refl;
-          earliest = λ i h l g s. none_earlier own us e ws (subst (λ (cs : List RingEdge). HaveDistinctEdges own cs) q own_apart) i h l (sym (ap (λ (cs : List RingEdge). slice_get (planes_of cs) i) q) ∙ g) s;
+          earliest = λ i h l g s. none_earlier own us e ws
+              (subst (λ (cs : List RingEdge). HaveDistinctEdges own cs) q own_apart) i h l
+              (sym (ap (λ (cs : List RingEdge). slice_get (planes_of cs) i) q) ∙ g) s;
         };
         starts = sym (on e.plane e.start) ∙ h.starts;
         ends = sym (on e.plane end) ∙ h.ends;
@@ -83,7 +89,14 @@ module _ (f : Face) (es : List RingEdge) (line : IsOutline f es) (on : (g : Plan
 
   counts : (g : Plane) → HasEdge f g → HasEdge own g
   counts g c =
-      record { one = c.one; other = c.other; holds_one = sym (on g c.one) ∙ c.holds_one; holds_other = sym (on g c.other) ∙ c.holds_other; different = c.different }
+      record {
+        one = c.one;
+        other = c.other;
+        holds_one = sym (on g c.one) ∙ c.holds_one;
+        holds_other =
+            sym (on g c.other) ∙ c.holds_other;
+        different = c.different;
+      }
 
   is_own_outline : IsOutline own es
   is_own_outline =
@@ -91,7 +104,12 @@ module _ (f : Face) (es : List RingEdge) (line : IsOutline f es) (on : (g : Plan
         first = line.first;
         rest = line.rest;
         begins = line.begins;
-        earliest = record { index = 0; here = ap (λ (cs : List RingEdge). slice_get (planes_of cs) 0) line.begins; holds = counts line.first.plane line.earliest.holds; earliest = λ i h l. absurd (omega arith) };
+        earliest = record {
+          index = 0;
+          here = ap (λ (cs : List RingEdge). slice_get (planes_of cs) 0) line.begins;
+          holds = counts line.first.plane line.earliest.holds;
+          earliest = λ i h l. absurd (omega arith);
+        };
         round = own_path [] es line.first.start refl line.round;
         all = λ i h g c. among own es i h g;
         once = own_apart;

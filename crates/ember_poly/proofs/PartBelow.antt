@@ -1,5 +1,6 @@
 -- The part of a ring below a plane: its sides, and what it keeps.
-use Rattle.std.proofs.Common.{◌≡◌, ◌⊎◌, ⊎_elim, inl, inr, refl, sym, ap, subst, ◌∙◌, arith, ℕ, ◌<◌, ◌≤◌, ◌+◌, Some, List, [], ◌∷◌, ◌++◌, length, take, drop, slice_get, All, ℤ, pos, ◌*ℤ◌}
+use Rattle.std.proofs.Common.{◌≡◌, ◌⊎◌, ⊎_elim, inl, inr, refl, sym, ap, subst, ◌∙◌, arith, ℕ, ◌<◌, ◌≤◌, ◌+◌, Some}
+use Rattle.std.proofs.Common.{List, [], ◌∷◌, ◌++◌, length, take, drop, slice_get, All, ℤ, pos, ◌*ℤ◌}
 use lib.ListN.{get_or}
 use Rattle.std.proofs.lemmas.List.{take-append-drop, append-nil, length_push, get_or_append_left}
 use Rattle.std.proofs.lemmas.Bool.{cases_lt}
@@ -15,7 +16,8 @@ use Rattle.ember_model.specs.Edges.{SamePoint}
 use Rattle.ember_point.specs.declared.meet_point.Meet.{Meet}
 use Rattle.ember_point.specs.Points.{spot_of}
 use Rattle.ember_poly.specs.declared.passage.Passage.{Passage}
-use Rattle.ember_poly.specs.Rings.{with_start, closing_side, Side, IsBelow, IsNotAbove, IsNotBelow, IsBelowAllButOne, IsMeet, IsConvexRing, IsInClosedRing, IsInPlanes, Represents}
+use Rattle.ember_poly.specs.Rings.{with_start, closing_side, Side, IsBelow, IsNotAbove, IsNotBelow, IsBelowAllButOne}
+use Rattle.ember_poly.specs.Rings.{IsMeet, IsConvexRing, IsInClosedRing, IsInPlanes, Represents}
 use Rattle.ember_poly.specs.Sides.{sides_of, HasPlaneIndex, IsZeroAtOnePoint, EachHasSideOrNoEdge, IsRing}
 use Rattle.ember_poly.specs.Boundaries.{rotated, part_sides, with_first_start, LeastFirst}
 use Rattle.ember_poly.specs.Passages.{HasMember, Leaves, IsPassage}
@@ -40,11 +42,16 @@ take_front xs ys k e = ap (λ j. take j (xs ++ ys)) e ∙ by xs ys
     by (x ∷ xs) ys = ap (λ zs. x ∷ zs) (by xs ys)
 
 -- the kept sides
-kept_sides : (n p : Plane) (xs : List Side) (at : Passage) (q : IsPassage n p xs at) → take (at.below_count + 1) (rotated at.entry_edge xs) ≡ q.head ∷ (q.firsts ++ q.last ∷ [])
+kept_sides : (n p : Plane) (xs : List Side) (at : Passage) (q : IsPassage n p xs at) →
+    take (at.below_count + 1) (rotated at.entry_edge xs) ≡ q.head ∷ (q.firsts ++ q.last ∷ [])
 kept_sides n p xs at q =
-    ap (λ zs. take (at.below_count + 1) zs) q.turned ∙ take_front (q.head ∷ (q.firsts ++ q.last ∷ [])) q.others (at.below_count + 1) (omega (arith, q.count, length_push q.firsts q.last))
+    ap (λ zs. take (at.below_count + 1) zs) q.turned
+    ∙ take_front (q.head ∷ (q.firsts ++ q.last ∷ [])) q.others (at.below_count + 1)
+    (omega (arith, q.count, length_push q.firsts q.last))
 
-part_is : (n p : Plane) (xs : List Side) (at : Passage) (q : IsPassage n p xs at) (b : ℕ) → part_sides xs at p b ≡ with_start q.head (spot_of at.entry) ∷ (q.firsts ++ q.last ∷ []) ++ closing_side p (spot_of at.exit) b ∷ []
+part_is : (n p : Plane) (xs : List Side) (at : Passage) (q : IsPassage n p xs at) (b : ℕ) →
+    part_sides xs at p b ≡ with_start q.head (spot_of at.entry) ∷ (q.firsts ++ q.last ∷ [])
+    ++ closing_side p (spot_of at.exit) b ∷ []
 part_is n p xs at q b =
     ap (λ zs. with_first_start (spot_of at.entry) zs ++ closing_side p (spot_of at.exit) b ∷ []) (kept_sides n p xs at q)
 
@@ -69,10 +76,14 @@ same_from u v h =
 -- ---- what is counted, after a turn
 counted_turned : (n : Plane) (gs : List Plane) (xs ys : List Side) → EachHasSideOrNoEdge n gs (xs ++ ys) → EachHasSideOrNoEdge n gs (ys ++ xs)
 counted_turned n gs xs ys c =
-    λ i h e. ⊎_elim (λ b. inl (has_born i (ys ++ xs) (has-turned (λ s. s.plane_index ≡ i) xs ys (born_has i (xs ++ ys) b)))) (λ s. inr (λ u v ku kv. s u v (closed_turned n u ys xs ku) (closed_turned n v ys xs kv))) (c i h e)
+    λ i h e. ⊎_elim (λ b. inl (has_born i (ys ++ xs)
+    (has-turned (λ s. s.plane_index ≡ i) xs ys (born_has i (xs ++ ys) b))))
+    (λ s. inr (λ u v ku kv. s u v (closed_turned n u ys xs ku) (closed_turned n v ys xs kv))) (c i h e)
 
 -- ---- the sides that are dropped
-module _ (n p : Plane) (gs : List Plane) (f l : Side) (ks : List Side) (y z : Spot) (mz : IsMeet n f.plane p z) (my : IsMeet n l.plane p y) (under : AllByRecursion (λ s. IsBelow p s.corner) (ks ++ l ∷ [])) (enters : IsNotBelow p f.corner) where
+module _ (n p : Plane) (gs : List Plane) (f l : Side) (ks : List Side) (y z : Spot) (mz : IsMeet n f.plane p z)
+    (my : IsMeet n l.plane p y) (under : AllByRecursion (λ s. IsBelow p s.corner) (ks ++ l ∷ []))
+    (enters : IsNotBelow p f.corner) where
   abbrev part : List Side
   part = with_start f z ∷ (ks ++ l ∷ []) ++ closing_side p y (length gs) ∷ []
 
@@ -95,12 +106,21 @@ module _ (n p : Plane) (gs : List Plane) (f l : Side) (ks : List Side) (y z : Sp
       let o = below_some n p f l d ds y z (length gs) enters.at_least q.0.at_least my mz ks s.sound under in
       let r = part_of n p f l ks (d ∷ ds) y z (length gs) d.corner s.sound (corner_closed n (f ∷ (ks ++ l ∷ [])) d ds s.sound) o in
       let lone = dropped_lone n p f l d ks ds y z (length gs) s.sound o.exit o.entry (plane_has_corners_above p f d ds q) in
-      let most = each_swap (λ (s t : Side). IsNotAbove t.plane s.corner) part (d ∷ ds) (each_map (λ s. IsInClosedRing n part s.corner) (λ s. AllByRecursion (λ t. IsNotAbove t.plane s.corner) (d ∷ ds)) part (λ s k. each-back (λ t. IsNotAbove t.plane s.corner) (ks ++ l ∷ []) (d ∷ ds) (r.out_closed s.corner k).0.within.1) (ring-closed n part o.sound)) in
+      let most = each_swap (λ (s t : Side). IsNotAbove t.plane s.corner) part (d ∷ ds)
+      (each_map (λ s. IsInClosedRing n part s.corner)
+      (λ s. AllByRecursion (λ t. IsNotAbove t.plane s.corner) (d ∷ ds)) part
+      (λ s k. each-back (λ t. IsNotAbove t.plane s.corner) (ks ++ l ∷ []) (d ∷ ds)
+      (r.out_closed s.corner k).0.within.1) (ring-closed n part o.sound)) in
       let listed = each-back (λ t. IsInPlanes gs t) (ks ++ l ∷ []) (d ∷ ds) s.listed.1 in
       record {
         represents = cut_some n p gs f l ks y z my mz d ds s enters.at_least q.0.at_least under;
         out = λ v k. (r.out_closed v k).0;
-        gone = each_both (λ t. IsInPlanes gs t) (λ t. IsBelowAllButOne t.plane part × AllByRecursion (λ s. IsNotAbove t.plane s.corner) part) (λ t. Gone t) (d ∷ ds) (λ t a b. record { listed = a; lone = b.0; at_most = b.1 }) listed (each_both (λ t. IsBelowAllButOne t.plane part) (λ t. AllByRecursion (λ s. IsNotAbove t.plane s.corner) part) (λ t. IsBelowAllButOne t.plane part × AllByRecursion (λ s. IsNotAbove t.plane s.corner) part) (d ∷ ds) (λ t a b. (a, b)) lone most);
+        gone = each_both (λ t. IsInPlanes gs t) (λ t. IsBelowAllButOne t.plane part × AllByRecursion
+            (λ s. IsNotAbove t.plane s.corner) part) (λ t. Gone t) (d ∷ ds)
+            (λ t a b. record { listed = a; lone = b.0; at_most = b.1 }) listed
+            (each_both (λ t. IsBelowAllButOne t.plane part) (λ t. AllByRecursion (λ s. IsNotAbove t.plane s.corner) part)
+            (λ t. IsBelowAllButOne t.plane part × AllByRecursion (λ s. IsNotAbove t.plane s.corner) part) (d ∷ ds)
+            (λ t a b. (a, b)) lone most);
       }
 
   -- a dropped side's plane is 0 at one place of the part at most
@@ -124,12 +144,18 @@ module _ (n p : Plane) (gs : List Plane) (f l : Side) (ks : List Side) (y z : Sp
 
       lost : (i : ℕ) (h : Plane) → slice_get gs i ≡ Some h → Found (λ s. s.plane_index ≡ i) (λ d. Gone d) → IsZeroAtOnePoint n part h
       lost i h e t =
-          gone_single t.member h dv.represents.sound t.also (sym t.also.listed.here ∙ ap (λ j. get_or gs j t.member.plane) t.holds ∙ get_or_from_slice_get gs i h t.member.plane e)
+          gone_single t.member h dv.represents.sound t.also
+          (sym t.also.listed.here ∙ ap (λ j. get_or gs j t.member.plane) t.holds
+          ∙ get_or_from_slice_get gs i h t.member.plane e)
 
-      born : (i : ℕ) (h : Plane) → slice_get gs i ≡ Some h → HasMember (λ s. s.plane_index ≡ i) (f ∷ (ks ++ l ∷ []) ++ ds) → HasPlaneIndex i part ⊎ IsZeroAtOnePoint n part h
+      born : (i : ℕ) (h : Plane) → slice_get gs i ≡ Some h →
+          HasMember (λ s. s.plane_index ≡ i) (f ∷ (ks ++ l ∷ []) ++ ds) → HasPlaneIndex i part ⊎ IsZeroAtOnePoint n part h
       born i h e (inl b) = inl (has_born i part (inl b))
       born i h e (inr b) =
-          ⊎_elim (λ a. inl (has_born i part (inr (has-front (λ s. s.plane_index ≡ i) (ks ++ l ∷ []) (closing_side p y (length gs) ∷ []) a)))) (λ a. inr (lost i h e (has_pick (λ s. s.plane_index ≡ i) (λ d. Gone d) ds a dv.gone))) (has-split (λ s. s.plane_index ≡ i) (ks ++ l ∷ []) ds b)
+          ⊎_elim (λ a. inl (has_born i part (inr
+          (has-front (λ s. s.plane_index ≡ i) (ks ++ l ∷ []) (closing_side p y (length gs) ∷ []) a))))
+          (λ a. inr (lost i h e (has_pick (λ s. s.plane_index ≡ i) (λ d. Gone d) ds a dv.gone)))
+          (has-split (λ s. s.plane_index ≡ i) (ks ++ l ∷ []) ds b)
 
       before : (i : ℕ) (h : Plane) → slice_get gs i ≡ Some h → HasPlaneIndex i part ⊎ IsZeroAtOnePoint n part h
       before i h e =
@@ -145,19 +171,28 @@ begun_counted : (n : Plane) (gs : List Plane) (k : ℕ) (xs : List Side) → Eac
 begun_counted n gs k xs c =
     counted_turned n gs (take k xs) (drop k xs) (subst (λ zs. EachHasSideOrNoEdge n gs zs) (sym (take-append-drop k xs)) c)
 
-module _ (n p : Plane) (gs : List Plane) (xs : List Side) (at : Passage) (q : IsPassage n p xs at) (st : Represents n gs xs) (ct : EachHasSideOrNoEdge n gs xs) where
+module _ (n p : Plane) (gs : List Plane) (xs : List Side) (at : Passage) (q : IsPassage n p xs at)
+    (st : Represents n gs xs) (ct : EachHasSideOrNoEdge n gs xs) where
   abbrev below_sides : List Side
   below_sides = with_start q.head (spot_of at.entry) ∷ (q.firsts ++ q.last ∷ []) ++ closing_side p (spot_of at.exit) (length gs) ∷ []
 
   division : Division n p gs q.head q.last q.firsts (spot_of at.exit) (spot_of at.entry) q.entry q.exit q.under q.enters q.others
   division =
-      divide n p gs q.head q.last q.firsts (spot_of at.exit) (spot_of at.entry) q.entry q.exit q.under q.enters q.others (subst (λ zs. Represents n gs zs) q.turned (begun_stands n gs at.entry_edge xs st)) q.leaves
+      divide n p gs q.head q.last q.firsts (spot_of at.exit) (spot_of at.entry) q.entry q.exit q.under q.enters q.others
+      (subst (λ zs. Represents n gs zs) q.turned (begun_stands n gs at.entry_edge xs st)) q.leaves
 
-  pub below_ring : (es : List Plane) (ms : List Meet) (bs : List ℕ) (k j : ℕ) (hs : List Plane) → sides_of es ms bs ≡ rotated j (rotated k (part_sides xs at p (length gs))) → LeastFirst bs → length ms ≡ length es → length bs ≡ length es → hs ≡ gs ++ p ∷ [] → IsValidPlane n → All IsValidPlane gs → IsValidPlane p → IsRing n hs es ms bs
+  pub below_ring : (es : List Plane) (ms : List Meet) (bs : List ℕ) (k j : ℕ) (hs : List Plane) →
+      sides_of es ms bs ≡ rotated j (rotated k (part_sides xs at p (length gs))) → LeastFirst bs → length ms ≡ length es →
+      length bs ≡ length es → hs ≡ gs ++ p ∷ [] → IsValidPlane n → All IsValidPlane gs → IsValidPlane p →
+      IsRing n hs es ms bs
   below_ring es ms bs k j hs et least em el eh vn vs vp =
       let e : sides_of es ms bs ≡ rotated j (rotated k below_sides) = et ∙ ap (λ zs. rotated j (rotated k zs)) (part_is n p xs at q (length gs)) in
       let s = begun_stands n (gs ++ p ∷ []) j (rotated k below_sides) (begun_stands n (gs ++ p ∷ []) k below_sides division.represents) in
-      let c = begun_counted n (gs ++ p ∷ []) j (rotated k below_sides) (begun_counted n (gs ++ p ∷ []) k below_sides (divide_counted n p gs q.head q.last q.firsts (spot_of at.exit) (spot_of at.entry) q.entry q.exit q.under q.enters q.others (subst (λ zs. EachHasSideOrNoEdge n gs zs) q.turned (begun_counted n gs at.entry_edge xs ct)) division)) in
+      let c = begun_counted n (gs ++ p ∷ []) j (rotated k below_sides)
+      (begun_counted n (gs ++ p ∷ []) k below_sides
+      (divide_counted n p gs q.head q.last q.firsts (spot_of at.exit) (spot_of at.entry) q.entry q.exit q.under
+      q.enters q.others (subst (λ zs. EachHasSideOrNoEdge n gs zs) q.turned (begun_counted n gs at.entry_edge xs ct))
+      division)) in
       record {
         represents = subst (λ us. Represents n us (sides_of es ms bs)) (sym eh) (subst (λ us. Represents n (gs ++ p ∷ []) us) (sym e) s);
         oldest = oldest_first es ms bs least;

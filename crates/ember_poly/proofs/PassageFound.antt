@@ -1,8 +1,10 @@
 -- Where a plane plane_has_corners_above a ring, from what a pass over the corners finds.
-use Rattle.std.proofs.Common.{◌≡◌, ◌⊎◌, ⊎_elim, inl, inr, sym, ap, subst, ◌∙◌, arith, ℕ, suc, ◌<◌, ◌≤◌, ◌+◌, ◌-◌, true, List, [], ◌∷◌, ◌++◌, length, take, drop, pos, ◌<ℤ◌, length-drop, length-append}
+use Rattle.std.proofs.Common.{◌≡◌, ◌⊎◌, ⊎_elim, inl, inr, sym, ap, subst, ◌∙◌, arith, ℕ, suc, ◌<◌, ◌≤◌, ◌+◌, ◌-◌, true}
+use Rattle.std.proofs.Common.{List, [], ◌∷◌, ◌++◌, length, take, drop, pos, ◌<ℤ◌, length-drop, length-append}
 use lib.ListN.{get_or}
 use Rattle.std.proofs.lemmas.Int.{by_lt_z}
-use Rattle.std.proofs.lemmas.List.{drop_more, get_or_default, take-append-drop, append_assoc, append-nil, length-take-le, get_or_append_left, get_or-append_right, get_or-drop, get_or-take}
+use Rattle.std.proofs.lemmas.List.{drop_more, get_or_default, take-append-drop, append_assoc, append-nil}
+use Rattle.std.proofs.lemmas.List.{length-take-le, get_or_append_left, get_or-append_right, get_or-drop, get_or-take}
 use Rattle.std.specs.List.{AllByRecursion}
 use Rattle.ember_model.specs.declared.plane.Plane.{Plane}
 use Rattle.ember_model.specs.Planes.{value_at}
@@ -39,11 +41,13 @@ turned_length k xs l =
     less : {a b : ℕ} → a < b → a ≤ b
     less q = omega (arith, q)
 
-same_length : {X Y : Type 0} (k : ℕ) (xs : List X) (ys : List Y) → k < length xs → length ys ≡ length xs → length (drop (k + 1) ys ++ take k ys) ≡ length (drop (k + 1) xs ++ take k xs)
+same_length : {X Y : Type 0} (k : ℕ) (xs : List X) (ys : List Y) → k < length xs → length ys ≡ length xs →
+    length (drop (k + 1) ys ++ take k ys) ≡ length (drop (k + 1) xs ++ take k xs)
 same_length k xs ys l e =
     omega (arith, e, turned_length k xs l, turned_length k ys (subst (λ j. k < j) (sym e) l))
 
-turned_get : {X : Type 0} (xs : List X) (k c r : ℕ) (d : X) → k < length xs → c < length xs → r < length xs → ((r ≡ k + c) ⊎ (r + length xs ≡ k + c)) → get_or (drop k xs ++ take k xs) c d ≡ get_or xs r d
+turned_get : {X : Type 0} (xs : List X) (k c r : ℕ) (d : X) → k < length xs → c < length xs → r < length xs →
+    ((r ≡ k + c) ⊎ (r + length xs ≡ k + c)) → get_or (drop k xs ++ take k xs) c d ≡ get_or xs r d
 turned_get xs k c r d lk lc lr p = ⊎_elim ahead behind p
   where
     ahead : r ≡ k + c → get_or (drop k xs ++ take k xs) c d ≡ get_or xs r d
@@ -58,7 +62,8 @@ turned_get xs k c r d lk lc lr p = ⊎_elim ahead behind p
         get_or-append_right (drop k xs) (take k xs) (length xs - k) c d (length-drop k xs) l ∙ ap (λ j. get_or (take k xs) j d) i ∙ get_or-take k xs r d m
 
 -- the plane of a side by its place
-plane_at : (es : List Plane) (ms : List Meet) (bs : List ℕ) (front : List Side) (l : Side) (behind : List Side) (d : Plane) → sides_of es ms bs ≡ front ++ l ∷ behind → get_or es (length front) d ≡ l.plane
+plane_at : (es : List Plane) (ms : List Meet) (bs : List ℕ) (front : List Side) (l : Side) (behind : List Side)
+    (d : Plane) → sides_of es ms bs ≡ front ++ l ∷ behind → get_or es (length front) d ≡ l.plane
 plane_at [] ms bs [] l behind d e = cc
 plane_at [] ms bs (f ∷ front) l behind d e = cc
 plane_at (e ∷ es) [] bs [] l behind d h = cc
@@ -86,24 +91,45 @@ next_high p (e ∷ es) [] bs s = tt
 next_high p (e ∷ es) (m ∷ ms) [] s = tt
 next_high p (e ∷ es) (m ∷ ms) (b ∷ bs) s = least_out p m s
 
-leaves_by : (p : Plane) (f : Side) (ks ds : List Side) → AllByRecursion (λ s. IsBelow p s.corner) ks → NextHigh p ds → (AllByRecursion (λ s. IsNotAbove p s.corner) (f ∷ ks ++ ds) → ⊥) → Leaves p f ds
+leaves_by : (p : Plane) (f : Side) (ks ds : List Side) → AllByRecursion (λ s. IsBelow p s.corner) ks → NextHigh p ds →
+    (AllByRecursion (λ s. IsNotAbove p s.corner) (f ∷ ks ++ ds) → ⊥) → Leaves p f ds
 leaves_by p f ks [] u h n =
-    by_lt_z (pos 0) (value_at p f.corner) (λ l. record { over = l }) (λ l. absurd (n (record { at_most = l }, each-join (λ s. IsNotAbove p s.corner) ks [] (each_map (λ s. IsBelow p s.corner) (λ s. IsNotAbove p s.corner) ks (λ s q. below_is_not_above q) u) tt)))
-leaves_by p f ks (d ∷ []) u h n =
-    (h, by_lt_z (pos 0) (value_at p f.corner) (λ l. inl (record { over = l })) (λ l. by_lt_z (pos 0) (value_at p d.corner) (λ k. inr (inl (record { over = k }))) (λ k. absurd (n (record { at_most = l }, each-join (λ s. IsNotAbove p s.corner) ks (d ∷ []) (each_map (λ s. IsBelow p s.corner) (λ s. IsNotAbove p s.corner) ks (λ s q. below_is_not_above q) u) (record { at_most = k }, tt))))))
+    by_lt_z (pos 0) (value_at p f.corner) (λ l. record { over = l })
+    (λ l. absurd (n (
+      record { at_most = l },
+      each-join (λ s. IsNotAbove p s.corner) ks []
+          (each_map (λ s. IsBelow p s.corner) (λ s. IsNotAbove p s.corner) ks (λ s q. below_is_not_above q) u) tt,
+    )))
+leaves_by p f ks (d ∷ []) u h n = (
+  h,
+  by_lt_z (pos 0) (value_at p f.corner) (λ l. inl (record { over = l }))
+      (λ l. by_lt_z (pos 0) (value_at p d.corner) (λ k. inr (inl (record { over = k })))
+      (λ k. absurd (n (
+        record { at_most = l },
+        each-join (λ s. IsNotAbove p s.corner) ks (d ∷ [])
+            (each_map (λ s. IsBelow p s.corner) (λ s. IsNotAbove p s.corner) ks (λ s q. below_is_not_above q) u)
+            (record { at_most = k }, tt),
+      )))),
+)
 leaves_by p f ks (d ∷ e ∷ ds) u h n = (h, inr (inr tt))
 
 -- not all that is left behind the sides below the plane lies on the plane
-pub plane_has_corners_above : (p : Plane) (f d : Side) (ds : List Side) → Leaves p f (d ∷ ds) → (pos 0 <ℤ value_at p f.corner) ⊎ ((pos 0 <ℤ value_at p d.corner) ⊎ IsNotEmpty ds)
+pub plane_has_corners_above : (p : Plane) (f d : Side) (ds : List Side) → Leaves p f (d ∷ ds) →
+    (pos 0 <ℤ value_at p f.corner) ⊎ ((pos 0 <ℤ value_at p d.corner) ⊎ IsNotEmpty ds)
 plane_has_corners_above p f d ds q = ⊎_elim (λ a. inl a.over) (λ r. inr (⊎_elim (λ a. inl a.over) (λ a. inr a) r)) q.1
 
 -- the planes at the two ends of the chord meet in one point
-pub turns_of : (n p : Plane) (f l : Side) (ks ds : List Side) → IsConvexRing n (f ∷ (ks ++ l ∷ []) ++ ds) → AllByRecursion (λ s. IsBelow p s.corner) (ks ++ l ∷ []) → IsNotBelow p f.corner → Leaves p f ds → (pos 0 <ℤ orientation n l.plane p) × (pos 0 <ℤ orientation n p f.plane)
+pub turns_of : (n p : Plane) (f l : Side) (ks ds : List Side) → IsConvexRing n (f ∷ (ks ++ l ∷ []) ++ ds) →
+    AllByRecursion (λ s. IsBelow p s.corner) (ks ++ l ∷ []) → IsNotBelow p f.corner → Leaves p f ds →
+    (pos 0 <ℤ orientation n l.plane p) × (pos 0 <ℤ orientation n p f.plane)
 turns_of n p f l ks [] s u a q =
     turns_all n p f l ks q.over (subst (λ zs. IsConvexRing n (f ∷ zs)) (append-nil (ks ++ l ∷ [])) s) u
 turns_of n p f l ks (d ∷ ds) s u a q = turns_some n p f l d ds ks a.at_least q.0.at_least s u
 
-module _ (n p : Plane) (es : List Plane) (ms : List Meet) (bs : List ℕ) (k c r : ℕ) (em : length ms ≡ length es) (eb : length bs ≡ length es) (within : k < length ms) (enters : Enters p (drop k ms ++ take k ms)) (run : IsOneSidedRun p true (drop (k + 1) ms ++ take k ms) c) (sound : IsConvexRing n (sides_of es ms bs)) (straddles : Straddles p ms) where
+module _ (n p : Plane) (es : List Plane) (ms : List Meet) (bs : List ℕ) (k c r : ℕ) (em : length ms ≡ length es)
+    (eb : length bs ≡ length es) (within : k < length ms) (enters : Enters p (drop k ms ++ take k ms))
+    (run : IsOneSidedRun p true (drop (k + 1) ms ++ take k ms) c) (sound : IsConvexRing n (sides_of es ms bs))
+    (straddles : Straddles p ms) where
   abbrev xs : List Side
   xs = sides_of es ms bs
 
@@ -167,15 +193,24 @@ module _ (n p : Plane) (es : List Plane) (ms : List Meet) (bs : List ℕ) (k c r
 
   under : AllByRecursion (λ s. IsBelow p s.corner) (w.front ++ w.last ∷ [])
   under =
-      subst (λ zs. AllByRecursion (λ s. IsBelow p s.corner) zs) (sides-take c es' ms' bs' ∙ w.taken) (each_corner (λ v. IsBelow p v) (take c es') (take c ms') (take c bs') (each_map (λ m. is_under p m ≡ true) (λ m. IsBelow p (spot_of m)) (take c ms') (λ m q. under_out p m q) run.all))
+      subst (λ zs. AllByRecursion (λ s. IsBelow p s.corner) zs) (sides-take c es' ms' bs' ∙ w.taken)
+      (each_corner (λ v. IsBelow p v) (take c es') (take c ms') (take c bs')
+      (each_map (λ m. is_under p m ≡ true) (λ m. IsBelow p (spot_of m)) (take c ms') (λ m q. under_out p m q)
+      run.all))
 
   not_all : AllByRecursion (λ s. IsNotAbove p s.corner) (head ∷ ys) → ⊥
   not_all h =
-      straddles.above (subst (λ zs. AllByRecursion (λ m. IsNotAbove p (spot_of m)) zs) (take-append-drop k ms) (each-turned (λ m. IsNotAbove p (spot_of m)) (drop k ms) (take k ms) (subst (λ zs. AllByRecursion (λ m. IsNotAbove p (spot_of m)) zs) begun_m (corner_each (λ v. IsNotAbove p v) (e.at ∷ es') (m.at ∷ ms') (b.at ∷ bs') (ap suc em') (ap suc eb') h))))
+      straddles.above (subst (λ zs. AllByRecursion (λ m. IsNotAbove p (spot_of m)) zs) (take-append-drop k ms)
+      (each-turned (λ m. IsNotAbove p (spot_of m)) (drop k ms) (take k ms)
+      (subst (λ zs. AllByRecursion (λ m. IsNotAbove p (spot_of m)) zs) begun_m
+      (corner_each (λ v. IsNotAbove p v) (e.at ∷ es') (m.at ∷ ms') (b.at ∷ bs') (ap suc em') (ap suc eb') h))))
 
   leaves : Leaves p head w.behind
   leaves =
-      leaves_by p head (w.front ++ w.last ∷ []) w.behind under (subst (λ zs. NextHigh p zs) (sides-drop c es' ms' bs' em' eb' ∙ w.left) (next_high p (drop c es') (drop c ms') (drop c bs') run.stops)) (λ h. not_all (subst (λ zs. AllByRecursion (λ s. IsNotAbove p s.corner) (head ∷ zs)) (sym whole) h))
+      leaves_by p head (w.front ++ w.last ∷ []) w.behind under
+      (subst (λ zs. NextHigh p zs) (sides-drop c es' ms' bs' em' eb' ∙ w.left)
+      (next_high p (drop c es') (drop c ms') (drop c bs') run.stops))
+      (λ h. not_all (subst (λ zs. AllByRecursion (λ s. IsNotAbove p s.corner) (head ∷ zs)) (sym whole) h))
 
   sound' : IsConvexRing n (head ∷ (w.front ++ w.last ∷ []) ++ w.behind)
   sound' =
@@ -190,7 +225,10 @@ module _ (n p : Plane) (es : List Plane) (ms : List Meet) (bs : List ℕ) (k c r
         let lc : c < length es = omega (arith, run.at_most_all, turned_length k ms within, em) in
         let lr : r < length es = subst (λ j. r < j) em in_r in
         let pl : (r ≡ k + c) ⊎ (r + length es ≡ k + c) = subst (λ j. (r ≡ k + c) ⊎ (r + j ≡ k + c)) em index in
-        sym (turned_get es k c r d in_es lc lr pl) ∙ ap (λ zs. get_or zs c d) (sym begun_e) ∙ ap (λ j. get_or (e.at ∷ es') j d) w.count ∙ plane_at (e.at ∷ es') (m.at ∷ ms') (b.at ∷ bs') (head ∷ w.front) w.last w.behind d (ap (λ zs. head ∷ zs) w.whole)
+        sym (turned_get es k c r d in_es lc lr pl) ∙ ap (λ zs. get_or zs c d) (sym begun_e)
+        ∙ ap (λ j. get_or (e.at ∷ es') j d) w.count
+        ∙ plane_at (e.at ∷ es') (m.at ∷ ms') (b.at ∷ bs') (head ∷ w.front) w.last w.behind d
+        (ap (λ zs. head ∷ zs) w.whole)
 
     pub entry_turns : (d : Plane) → pos 0 <ℤ orientation (get_or es k d) n p
     entry_turns d =
@@ -199,7 +237,9 @@ module _ (n p : Plane) (es : List Plane) (ms : List Meet) (bs : List ℕ) (k c r
     pub exit_turns : (d : Plane) → pos 0 <ℤ orientation n (get_or es r d) p
     exit_turns d = subst (λ g. pos 0 <ℤ orientation n g p) (sym (last_plane d)) turns.0
 
-    pub passage_is : (y z : Meet) (d g : Plane) → IsMeet (get_or es k d) n p (spot_of z) → IsMeet n (get_or es r g) p (spot_of y) → IsPassage n p xs (record { entry_edge = k; below_count = c; entry = z; exit = y })
+    pub passage_is : (y z : Meet) (d g : Plane) → IsMeet (get_or es k d) n p (spot_of z) →
+        IsMeet n (get_or es r g) p (spot_of y) → IsPassage n p xs
+        (record { entry_edge = k; below_count = c; entry = z; exit = y })
     passage_is y z d g mz my =
         record {
           head = head;

@@ -1,5 +1,6 @@
 -- The lists of a ring's sides, changed in place, and what a passage keeps of the sides.
-use Rattle.std.proofs.Common.{◌≡◌, refl, sym, ap, ◌∙◌, arith, ℕ, zero, suc, ◌<◌, ◌≤◌, ◌+◌, ◌-◌, List, [], ◌∷◌, ◌++◌, length, take, drop, append_assoc, length-append, length-drop}
+use Rattle.std.proofs.Common.{◌≡◌, refl, sym, ap, ◌∙◌, arith, ℕ, zero, suc, ◌<◌, ◌≤◌, ◌+◌, ◌-◌, List, [], ◌∷◌, ◌++◌}
+use Rattle.std.proofs.Common.{length, take, drop, append_assoc, length-append, length-drop}
 use lib.ListN.{set}
 use Rattle.std.proofs.Math.Seq.{take-append-add, drop-append_seam}
 use Rattle.std.proofs.lemmas.List.{drop_more, drop_all, length-take, length-take-le, take-append-drop, take-append-le, append-nil, set_split}
@@ -24,9 +25,12 @@ put_first from x xs l =
     set_split xs from x l ∙ ap (λ k. take from xs ++ x ∷ drop k xs) (sym (one from))
 
 -- of one more
-pub put_more : {X : Type 0} (from to : ℕ) (x : X) (xs : List X) → from ≤ length xs → to < length xs → take (from + 1) (replace_between from to x xs) ++ drop (suc (from + 1)) (replace_between from to x xs) ≡ replace_between from (to + 1) x xs
+pub put_more : {X : Type 0} (from to : ℕ) (x : X) (xs : List X) → from ≤ length xs → to < length xs →
+    take (from + 1) (replace_between from to x xs)
+    ++ drop (suc (from + 1)) (replace_between from to x xs) ≡ replace_between from (to + 1) x xs
 put_more from to x xs lf lt =
-    (λ i. take (count i) (replace_between from to x xs) ++ drop (suc (count i)) (replace_between from to x xs)) ∙ seam x (take from xs) (drop to xs) ∙ ap (λ ys. take from xs ++ x ∷ drop 1 ys) (drop_more xs to x lt)
+    (λ i. take (count i) (replace_between from to x xs) ++ drop (suc (count i)) (replace_between from to x xs))
+    ∙ seam x (take from xs) (drop to xs) ∙ ap (λ ys. take from xs ++ x ∷ drop 1 ys) (drop_more xs to x lt)
   where
     count : from + 1 ≡ suc (length (take from xs))
     count = omega (arith, length-take-le from xs lf)
@@ -49,12 +53,18 @@ begun_length k xs =
 
 -- ---- the sides of three lists
 -- putting items into the three lists puts a side into the sides
-pub sides_put : (es : List Plane) (ms : List Meet) (bs : List ℕ) → length ms ≡ length es → length bs ≡ length es → (from to : ℕ) (p : Plane) (m : Meet) (b : ℕ) {us : List Plane} {ns : List Meet} {cs : List ℕ} → us ≡ replace_between from to p es → ns ≡ replace_between from to m ms → cs ≡ replace_between from to b bs → sides_of us ns cs ≡ replace_between from to (closing_side p (spot_of m) b) (sides_of es ms bs)
+pub sides_put : (es : List Plane) (ms : List Meet) (bs : List ℕ) → length ms ≡ length es → length bs ≡ length es →
+    (from to : ℕ) (p : Plane) (m : Meet) (b : ℕ) {us : List Plane} {ns : List Meet} {cs : List ℕ} →
+    us ≡ replace_between from to p es → ns ≡ replace_between from to m ms → cs ≡ replace_between from to b bs →
+    sides_of us ns cs ≡ replace_between from to (closing_side p (spot_of m) b) (sides_of es ms bs)
 sides_put es ms bs pm pb from to p m b {us} {ns} {cs} eu en ec =
-    (λ i. sides_of (eu i) (en i) (ec i)) ∙ sides-append (take from es) (p ∷ drop to es) (take from ms) (m ∷ drop to ms) (take from bs) (b ∷ drop to bs) (taken from es ms pm) (taken from es bs pb) ∙ (λ i. sides-take from es ms bs i ++ closing_side p (spot_of m) b ∷ sides-drop to es ms bs pm pb i)
+    (λ i. sides_of (eu i) (en i) (ec i)) ∙ sides-append (take from es) (p ∷ drop to es) (take from ms) (m ∷ drop to ms)
+    (take from bs) (b ∷ drop to bs) (taken from es ms pm) (taken from es bs pb)
+    ∙ (λ i. sides-take from es ms bs i ++ closing_side p (spot_of m) b ∷ sides-drop to es ms bs pm pb i)
 
 -- changing a corner in the list changes the start of its side
-pub sides_set : (k : ℕ) (es : List Plane) (ms : List Meet) (bs : List ℕ) (m : Meet) → sides_of es (set ms k m) bs ≡ with_start_at k (spot_of m) (sides_of es ms bs)
+pub sides_set : (k : ℕ) (es : List Plane) (ms : List Meet) (bs : List ℕ) (m : Meet) →
+    sides_of es (set ms k m) bs ≡ with_start_at k (spot_of m) (sides_of es ms bs)
 sides_set zero [] ms bs m = refl
 sides_set (suc k) [] ms bs m = refl
 sides_set zero (e ∷ es) [] bs m = refl
@@ -97,18 +107,28 @@ module _ (xs : List Side) (at : Passage) (p : Plane) (plane_index : ℕ) where
   tail = drop at.entry_edge xs
 
   -- in the ring begun at the entry
-  pub part_of_rotated : (n : ℕ) → n ≡ length xs → {ys zs : List Side} → ys ≡ rotated at.entry_edge xs → zs ≡ with_start_at 0 first ys → replace_between (at.below_count + 1) n last zs ≡ rotated 0 (part_sides xs at p plane_index)
+  pub part_of_rotated : (n : ℕ) → n ≡ length xs → {ys zs : List Side} → ys ≡ rotated at.entry_edge xs →
+      zs ≡ with_start_at 0 first ys → replace_between (at.below_count + 1) n last zs ≡ rotated 0
+      (part_sides xs at p plane_index)
   part_of_rotated n e {ys} {zs} ey ez =
-      ap (λ us. replace_between (at.below_count + 1) n last us) (ez ∙ ap (λ us. with_first_start first us) ey) ∙ (λ i. starting_take first at.below_count (rotated at.entry_edge xs) i ++ last ∷ none i) ∙ sym (append-nil (part_sides xs at p plane_index))
+      ap (λ us. replace_between (at.below_count + 1) n last us) (ez ∙ ap (λ us. with_first_start first us) ey)
+      ∙ (λ i. starting_take first at.below_count (rotated at.entry_edge xs) i ++ last ∷ none i)
+      ∙ sym (append-nil (part_sides xs at p plane_index))
     where
       none : drop n (with_first_start first (rotated at.entry_edge xs)) ≡ []
       none =
-          drop_all n (with_first_start first (rotated at.entry_edge xs)) (omega (arith, e, starting_length first (rotated at.entry_edge xs), begun_length at.entry_edge xs))
+          drop_all n (with_first_start first (rotated at.entry_edge xs))
+          (omega (arith, e, starting_length first (rotated at.entry_edge xs), begun_length at.entry_edge xs))
 
   -- in the ring as it is, if the sides below the plane go on at its start
-  pub kept_around : (ahead : ℕ) → ahead + at.entry_edge ≡ length xs → 0 < ahead → at.below_count < length xs → ahead ≤ at.below_count → {zs : List Side} → zs ≡ with_start_at at.entry_edge first xs → replace_between (at.below_count + 1 - ahead) at.entry_edge last zs ≡ rotated ahead (part_sides xs at p plane_index)
+  pub kept_around : (ahead : ℕ) → ahead + at.entry_edge ≡ length xs → 0 < ahead → at.below_count < length xs →
+      ahead ≤ at.below_count → {zs : List Side} → zs ≡ with_start_at at.entry_edge first xs →
+      replace_between (at.below_count + 1 - ahead) at.entry_edge last zs ≡ rotated ahead (part_sides xs at p plane_index)
   kept_around ahead e some within long {zs} ez =
-      ap (λ us. replace_between (at.below_count + 1 - ahead) at.entry_edge last us) ez ∙ (λ i. front i ++ last ∷ back i) ∙ sym (append_assoc (take (at.below_count + 1 - ahead) head) (last ∷ []) (with_first_start first tail)) ∙ sym (turn_split (with_first_start first tail) (take (at.below_count + 1 - ahead) head ++ last ∷ []) ahead count) ∙ sym (ap (λ us. rotated ahead us) part)
+      ap (λ us. replace_between (at.below_count + 1 - ahead) at.entry_edge last us) ez ∙ (λ i. front i ++ last ∷ back i)
+      ∙ sym (append_assoc (take (at.below_count + 1 - ahead) head) (last ∷ []) (with_first_start first tail))
+      ∙ sym (turn_split (with_first_start first tail) (take (at.below_count + 1 - ahead) head ++ last ∷ []) ahead
+      count) ∙ sym (ap (λ us. rotated ahead us) part)
     where
       long_head : length head ≡ at.entry_edge
       long_head = length-take-le at.entry_edge xs (omega arith)
@@ -132,4 +152,7 @@ module _ (xs : List Side) (at : Passage) (p : Plane) (plane_index : ℕ) where
 
       part : part_sides xs at p plane_index ≡ with_first_start first tail ++ (take (at.below_count + 1 - ahead) head ++ last ∷ [])
       part =
-          ap (λ us. with_first_start first us ++ last ∷ []) kept ∙ ap (λ us. us ++ last ∷ []) (starting_append first tail (take (at.below_count + 1 - ahead) head) (omega (arith, long_tail, some))) ∙ append_assoc (with_first_start first tail) (take (at.below_count + 1 - ahead) head) (last ∷ [])
+          ap (λ us. with_first_start first us ++ last ∷ []) kept
+          ∙ ap (λ us. us ++ last ∷ []) (starting_append first tail (take (at.below_count + 1 - ahead) head)
+          (omega (arith, long_tail, some))) ∙ append_assoc (with_first_start first tail)
+          (take (at.below_count + 1 - ahead) head) (last ∷ [])

@@ -25,16 +25,30 @@ turnE n g h = detE (normalE n) (normalE g) (normalE h)
 
 abbrev pub intersectionE : TupleE → TupleE → TupleE → TupleE
 intersectionE p a b =
-    record { x = valueE p b ⊗ a.x ⊖ valueE p a ⊗ b.x; y = valueE p b ⊗ a.y ⊖ valueE p a ⊗ b.y; z = valueE p b ⊗ a.z ⊖ valueE p a ⊗ b.z; w = valueE p b ⊗ a.w ⊖ valueE p a ⊗ b.w }
+    record {
+      x = valueE p b ⊗ a.x ⊖ valueE p a ⊗ b.x;
+      y = valueE p b ⊗ a.y ⊖ valueE p a ⊗ b.y;
+      z =
+          valueE p b ⊗ a.z ⊖ valueE p a ⊗ b.z;
+      w = valueE p b ⊗ a.w ⊖ valueE p a ⊗ b.w;
+    }
 
 -- two points on three planes that meet in one point are the same place
-pub places : (n g p e : Plane) (y z : Spot) → orientation n g p *ℤ (y.w *ℤ value_at e z -ℤ z.w *ℤ value_at e y) ≡ orientation e g p *ℤ (y.w *ℤ value_at n z -ℤ z.w *ℤ value_at n y) +ℤ orientation e p n *ℤ (y.w *ℤ value_at g z -ℤ z.w *ℤ value_at g y) +ℤ orientation e n g *ℤ (y.w *ℤ value_at p z -ℤ z.w *ℤ value_at p y)
+pub places : (n g p e : Plane) (y z : Spot) → orientation n g p *ℤ (y.w *ℤ value_at e z -ℤ z.w *ℤ value_at e y)
+    ≡ orientation e g p *ℤ (y.w *ℤ value_at n z -ℤ z.w *ℤ value_at n y) +ℤ orientation e p n *ℤ
+    (y.w *ℤ value_at g z -ℤ z.w *ℤ value_at g y) +ℤ orientation e n g *ℤ (y.w *ℤ value_at p z -ℤ z.w *ℤ value_at p y)
 places n g p e y z =
-    identity (tuple ∷ tuple ∷ tuple ∷ tuple ∷ tuple ∷ tuple ∷ []) (λ n g p e y z. turnE n g p ⊗ (y.w ⊗ valueE e z ⊖ z.w ⊗ valueE e y) ≈ turnE e g p ⊗ (y.w ⊗ valueE n z ⊖ z.w ⊗ valueE n y) ⊕ turnE e p n ⊗ (y.w ⊗ valueE g z ⊖ z.w ⊗ valueE g y) ⊕ turnE e n g ⊗ (y.w ⊗ valueE p z ⊖ z.w ⊗ valueE p y)) cancels (plane_tuple n) (plane_tuple g) (plane_tuple p) (plane_tuple e) (spot_tuple y) (spot_tuple z)
+    identity (tuple ∷ tuple ∷ tuple ∷ tuple ∷ tuple ∷ tuple ∷ [])
+    (λ n g p e y z. turnE n g p ⊗ (y.w ⊗ valueE e z ⊖ z.w ⊗ valueE e y) ≈ turnE e g p ⊗
+    (y.w ⊗ valueE n z ⊖ z.w ⊗ valueE n y) ⊕ turnE e p n ⊗ (y.w ⊗ valueE g z ⊖ z.w ⊗ valueE g y) ⊕ turnE e n g ⊗
+    (y.w ⊗ valueE p z ⊖ z.w ⊗ valueE p y)) cancels (plane_tuple n) (plane_tuple g) (plane_tuple p) (plane_tuple e)
+    (spot_tuple y) (spot_tuple z)
 
 intersection_value : (p : Plane) (a b : Spot) (e : Plane) → value_at e (intersection p a b) ≡ value_at p b *ℤ value_at e a -ℤ value_at p a *ℤ value_at e b
 intersection_value p a b e =
-    identity (tuple ∷ tuple ∷ tuple ∷ tuple ∷ []) (λ p a b e. valueE e (intersectionE p a b) ≈ valueE p b ⊗ valueE e a ⊖ valueE p a ⊗ valueE e b) cancels (plane_tuple p) (spot_tuple a) (spot_tuple b) (plane_tuple e)
+    identity (tuple ∷ tuple ∷ tuple ∷ tuple ∷ [])
+    (λ p a b e. valueE e (intersectionE p a b) ≈ valueE p b ⊗ valueE e a ⊖ valueE p a ⊗ valueE e b) cancels
+    (plane_tuple p) (spot_tuple a) (spot_tuple b) (plane_tuple e)
 
 -- ---- numbers
 -- a difference of multiples of 0 is 0
@@ -65,10 +79,13 @@ pub record Crossing (p : Plane) (a b y : Spot) : Type 0 where
   pub same : (e : Plane) → y.w *ℤ value_at e (intersection p a b) ≡ (intersection p a b).w *ℤ value_at e y
 
 -- two points on three planes that meet in one point are the same place for every plane
-pub same_place : (n g p : Plane) → orientation n g p ≢ pos 0 → (e : Plane) (y z : Spot) → value_at n y ≡ pos 0 → value_at g y ≡ pos 0 → value_at p y ≡ pos 0 → value_at n z ≡ pos 0 → value_at g z ≡ pos 0 → value_at p z ≡ pos 0 → y.w *ℤ value_at e z ≡ z.w *ℤ value_at e y
+pub same_place : (n g p : Plane) → orientation n g p ≢ pos 0 → (e : Plane) (y z : Spot) → value_at n y ≡ pos 0 →
+    value_at g y ≡ pos 0 → value_at p y ≡ pos 0 → value_at n z ≡ pos 0 → value_at g z ≡ pos 0 → value_at p z ≡ pos 0 →
+    y.w *ℤ value_at e z ≡ z.w *ℤ value_at e y
 same_place n g p t e y z ny gy py nz gz pz =
     let h : orientation n g p *ℤ (y.w *ℤ value_at e z -ℤ z.w *ℤ value_at e y) ≡ orientation n g p *ℤ pos 0 =
-    places n g p e y z ∙ rw (both_zero y.w z.w nz ny, both_zero y.w z.w gz gy, both_zero y.w z.w pz py) (zeros (orientation e g p) (orientation e p n) (orientation e n g) (orientation n g p)) in
+    places n g p e y z ∙ rw (both_zero y.w z.w nz ny, both_zero y.w z.w gz gy, both_zero y.w z.w pz py)
+    (zeros (orientation e g p) (orientation e p n) (orientation e n g) (orientation n g p)) in
     equal_from (cancel_eq t h)
   where
     zeros : (a b c d : ℤ) → a *ℤ pos 0 +ℤ b *ℤ pos 0 +ℤ c *ℤ pos 0 ≡ d *ℤ pos 0
@@ -78,14 +95,20 @@ same_place n g p t e y z ny gy py nz gz pz =
     equal_from e = omega (arith, linear)
 
 -- the meet of an edge's two planes and a third one lies on the edge, if that plane parts its ends
-pub crossing_is_meet : (n g p : Plane) (a b y : Spot) → orientation n g p ≢ pos 0 → value_at n a ≡ pos 0 → value_at n b ≡ pos 0 → value_at g a ≡ pos 0 → value_at g b ≡ pos 0 → pos 0 <ℤ a.w → pos 0 <ℤ b.w → value_at p a <ℤ pos 0 → pos 0 ≤ℤ value_at p b → value_at n y ≡ pos 0 → value_at g y ≡ pos 0 → value_at p y ≡ pos 0 → pos 0 <ℤ y.w → Crossing p a b y
+pub crossing_is_meet : (n g p : Plane) (a b y : Spot) → orientation n g p ≢ pos 0 → value_at n a ≡ pos 0 →
+    value_at n b ≡ pos 0 → value_at g a ≡ pos 0 → value_at g b ≡ pos 0 → pos 0 <ℤ a.w → pos 0 <ℤ b.w →
+    value_at p a <ℤ pos 0 → pos 0 ≤ℤ value_at p b → value_at n y ≡ pos 0 → value_at g y ≡ pos 0 → value_at p y ≡ pos 0 →
+    pos 0 <ℤ y.w → Crossing p a b y
 crossing_is_meet n g p a b y t na nb ga gb wa wb pa pb ny gy py wy =
     record {
       from = pa;
       to = pb;
       here = wy;
       there = blend_weight pb pa wa wb;
-      same = λ e. same_place n g p t e y (intersection p a b) ny gy py (intersection_value p a b n ∙ both_zero (value_at p b) (value_at p a) na nb) (intersection_value p a b g ∙ both_zero (value_at p b) (value_at p a) ga gb) (intersection_value p a b p ∙ own (value_at p b) (value_at p a));
+      same = λ e. same_place n g p t e y (intersection p a b) ny gy py
+          (intersection_value p a b n ∙ both_zero (value_at p b) (value_at p a) na nb)
+          (intersection_value p a b g ∙ both_zero (value_at p b) (value_at p a) ga gb)
+          (intersection_value p a b p ∙ own (value_at p b) (value_at p a));
     }
   where
     own : (u v : ℤ) → u *ℤ v -ℤ v *ℤ u ≡ pos 0
@@ -112,7 +135,14 @@ blend_most : {u v a b : ℤ} → pos 0 ≤ℤ u → v <ℤ pos 0 → a ≤ℤ po
 blend_most {u} {v} {a} {b} p q r s =
     let m : pos 0 ≤ℤ neg_ℤ a = omega (arith, linear) in let n : pos 0 ≤ℤ neg_ℤ b = omega (arith, linear) in
     let o : pos 0 ≤ℤ neg_ℤ v = omega (arith, linear) in
-    omega (arith, linear, nonneg_mul p m, nonneg_mul o n, solve 2 (λ u a. u ⊗ neg a ≈ neg (u ⊗ a)) cancels u a, solve 2 (λ v b. neg v ⊗ neg b ≈ v ⊗ b) cancels v b)
+    omega (
+      arith,
+      linear,
+      nonneg_mul p m,
+      nonneg_mul o n,
+      solve 2 (λ u a. u ⊗ neg a ≈ neg (u ⊗ a)) cancels u a,
+      solve 2 (λ v b. neg v ⊗ neg b ≈ v ⊗ b) cancels v b,
+    )
 
 -- the point where a plane crosses an edge isn't above a plane that neither end is above
 pub most_at : {p : Plane} {a b y : Spot} → Crossing p a b y → (e : Plane) → IsNotAbove e a → IsNotAbove e b → IsNotAbove e y

@@ -72,7 +72,9 @@ least_from_opposite p v u =
 
 -- ---- no corner is above, and one is below
 -- if no corner is above a plane and some corner is below, each inside point is below
-pub all_below : (n p : Plane) (x : Spot) (xs : List Side) → IsConvexRing n xs → AllByRecursion (λ r. IsNotAbove p r.corner) xs → HasMember (λ r. IsBelow p r.corner) xs → IsInsideRing n xs x → IsBelow p x
+pub all_below : (n p : Plane) (x : Spot) (xs : List Side) → IsConvexRing n xs →
+    AllByRecursion (λ r. IsNotAbove p r.corner) xs → HasMember (λ r. IsBelow p r.corner) xs → IsInsideRing n xs x →
+    IsBelow p x
 all_below n p x xs h a u k =
     let f = has_pick (λ r. IsBelow p r.corner) (λ r. Rooted n r) xs u (ring-rooted n xs h) in
     corners_under n p x f.member.corner xs h a f.also.flat f.holds k
@@ -82,15 +84,23 @@ has_opposite p xs u =
     has_map (λ r. IsAbove p r.corner) (λ r. IsBelow (opposite p) r.corner) xs (λ r o. over_opposite p r.corner o) u
 
 -- if no corner is below a plane and one is above, the inside is above
-pub all_above : (n p : Plane) (x : Spot) (xs : List Side) → IsConvexRing n xs → AllByRecursion (λ r. IsNotBelow p r.corner) xs → HasMember (λ r. IsAbove p r.corner) xs → IsInsideRing n xs x → IsAbove p x
+pub all_above : (n p : Plane) (x : Spot) (xs : List Side) → IsConvexRing n xs →
+    AllByRecursion (λ r. IsNotBelow p r.corner) xs → HasMember (λ r. IsAbove p r.corner) xs → IsInsideRing n xs x →
+    IsAbove p x
 all_above n p x xs h a u k =
-    over_from_opposite p x (all_below n (opposite p) x xs h (each_map (λ r. IsNotBelow p r.corner) (λ r. IsNotAbove (opposite p) r.corner) xs (λ r q. most_opposite p r.corner q) a) (has_opposite p xs u) k)
+    over_from_opposite p x (all_below n (opposite p) x xs h
+    (each_map (λ r. IsNotBelow p r.corner) (λ r. IsNotAbove (opposite p) r.corner) xs
+    (λ r q. most_opposite p r.corner q) a) (has_opposite p xs u) k)
 
 -- if all corners are on a plane, each closed point is
-pub all_on : (n p : Plane) (x : Spot) (xs : List Side) → IsConvexRing n xs → AllByRecursion (λ r. IsOnPlane p r.corner) xs → IsInClosedRing n xs x → IsOnPlane p x
+pub all_on : (n p : Plane) (x : Spot) (xs : List Side) → IsConvexRing n xs →
+    AllByRecursion (λ r. IsOnPlane p r.corner) xs → IsInClosedRing n xs x → IsOnPlane p x
 all_on n p x xs h a k =
-    let u = corners_at_most n p x xs h (each_map (λ r. IsOnPlane p r.corner) (λ r. IsNotAbove p r.corner) xs (λ r o. record { at_most = most o.on_plane }) a) k in
-    let v = corners_at_most n (opposite p) x xs h (each_map (λ r. IsOnPlane p r.corner) (λ r. IsNotAbove (opposite p) r.corner) xs (λ r o. most_opposite p r.corner (record { at_least = least o.on_plane })) a) k in
+    let u = corners_at_most n p x xs h (each_map (λ r. IsOnPlane p r.corner) (λ r. IsNotAbove p r.corner) xs
+    (λ r o. record { at_most = most o.on_plane }) a) k in
+    let v = corners_at_most n (opposite p) x xs h
+    (each_map (λ r. IsOnPlane p r.corner) (λ r. IsNotAbove (opposite p) r.corner) xs
+    (λ r o. most_opposite p r.corner (record { at_least = least o.on_plane })) a) k in
     record { on_plane = squeeze u.at_most (least_from_opposite p x v).at_least }
   where
     most : {a : ℤ} → a ≡ pos 0 → a ≤ℤ pos 0
@@ -115,17 +125,26 @@ some_inside n (s ∷ []) h = absurd h
 some_inside n (s ∷ t ∷ []) h = absurd h.0
 some_inside n (s ∷ t ∷ u ∷ xs) h =
     let one : pos 0 <ℤ pos 1 = omega (arith, linear) in
-    record { point = combination (pos 1) (pos 1) s.corner (combination (pos 1) (pos 1) t.corner u.corner); inside = corner_sum_is_inside (pos 1) (pos 1) (pos 1) n s t u xs one one one h; holds = tt }
+    record {
+      point = combination (pos 1) (pos 1) s.corner (combination (pos 1) (pos 1) t.corner u.corner);
+      inside =
+          corner_sum_is_inside (pos 1) (pos 1) (pos 1) n s t u xs one one one h;
+      holds = tt;
+    }
 
 near_below : (n p : Plane) (c : Spot) (xs : List Side) → IsConvexRing n xs → IsInClosedRing n xs c → IsBelow p c → Within n xs (λ x. IsBelow p x)
 near_below n p c xs h k u =
     let q = some_inside n xs h in
-    let e : Eventually (λ m. pos 0 <ℤ (neg_ℤ (value_at p c) *ℤ pos m +ℤ neg_ℤ (value_at p q.point))) = eventually_pos (neg_ℤ (value_at p q.point)) (flip u.under) in
+    let e : Eventually (λ m. pos 0 <ℤ (neg_ℤ (value_at p c) *ℤ pos m +ℤ neg_ℤ (value_at p q.point))) =
+    eventually_pos (neg_ℤ (value_at p q.point)) (flip u.under) in
     let m = e.from in let one : pos 0 <ℤ pos 1 = omega (arith, linear) in
     record {
       point = combination (pos m) (pos 1) c q.point;
       inside = inside_sum (pos m) (pos 1) n xs c q.point (nonneg m) one k q.inside;
-      holds = record { under = rw (combination_value (pos m) (pos 1) c q.point p) (last (value_at p c) (pos m) (value_at p q.point) (e.holds m (omega arith))) };
+      holds = record {
+        under = rw (combination_value (pos m) (pos 1) c q.point p)
+            (last (value_at p c) (pos m) (value_at p q.point) (e.holds m (omega arith)));
+      };
     }
   where
     flip : {a : ℤ} → a <ℤ pos 0 → pos 0 <ℤ neg_ℤ a
@@ -152,7 +171,12 @@ some_above n p xs h u =
 -- an inside point is a closed point
 pub closed_from_inside : (n : Plane) (xs : List Side) (x : Spot) → IsInsideRing n xs x → IsInClosedRing n xs x
 closed_from_inside n xs x i =
-    record { flat = i.flat; weight = i.weight; within = each_map (λ r. IsBelow r.plane x) (λ r. IsNotAbove r.plane x) xs (λ r u. below_is_not_above u) i.within }
+    record {
+      flat = i.flat;
+      weight = i.weight;
+      within =
+          each_map (λ r. IsBelow r.plane x) (λ r. IsNotAbove r.plane x) xs (λ r u. below_is_not_above u) i.within;
+    }
 
 module _ (n p : Plane) (gs : List Plane) (xs : List Side) (s : Represents n gs xs) where
   abbrev face : Face
@@ -167,28 +191,65 @@ module _ (n p : Plane) (gs : List Plane) (xs : List Side) (s : Represents n gs x
   whole : (P : Spot → Type 0) → ((v : Spot) → IsInsideRing n xs v → P v) → IsWhole face P
   whole P h =
       let q = some_inside n xs s.sound in
-      record { somewhere = record { at = q.point; inside = seen_inside q.point q.inside; holds = h q.point q.inside }; everywhere = record { holds = λ v e. h v (inside_seen v e) } }
+      record {
+        somewhere = record { at = q.point; inside = seen_inside q.point q.inside; holds = h q.point q.inside };
+        everywhere = record { holds = λ v e. h v (inside_seen v e) };
+      }
 
   corners_on_both_sides_are_cut : HasMember (λ r. IsBelow p r.corner) xs → HasMember (λ r. IsAbove p r.corner) xs → Cuts face p
   corners_on_both_sides_are_cut a b =
       let u = some_below n p xs s.sound a in let o = some_above n p xs s.sound b in
-      record { some_below = record { at = u.point; inside = seen_inside u.point u.inside; holds = negative_in u.holds.under }; some_above = record { at = o.point; inside = seen_inside o.point o.inside; holds = positive_in o.holds.over } }
+      record {
+        some_below = record {
+          at = u.point;
+          inside = seen_inside u.point u.inside;
+          holds =
+              negative_in u.holds.under;
+        };
+        some_above =
+            record { at = o.point; inside = seen_inside o.point o.inside; holds = positive_in o.holds.over };
+      }
 
 -- a plane that corners_on_both_sides_are_cut a face does so with the opposite front
 pub cuts_opposite : (f : Face) (p : Plane) → Cuts f p → Cuts f (opposite p)
 cuts_opposite f p c =
-    record { some_below = record { at = c.some_above.at; inside = c.some_above.inside; holds = negative_in (over_opposite p c.some_above.at (record { over = positive_out (value_at p c.some_above.at) c.some_above.holds })).under }; some_above = record { at = c.some_below.at; inside = c.some_below.inside; holds = positive_in (under_opposite p c.some_below.at (record { under = negative_out (value_at p c.some_below.at) c.some_below.holds })).over } }
+    record {
+      some_below = record {
+        at = c.some_above.at;
+        inside = c.some_above.inside;
+        holds =
+            negative_in (over_opposite p c.some_above.at
+            (record { over = positive_out (value_at p c.some_above.at) c.some_above.holds })).under;
+      };
+      some_above =
+          record {
+            at = c.some_below.at;
+            inside = c.some_below.inside;
+            holds =
+                positive_in (under_opposite p c.some_below.at
+                (record { under = negative_out (value_at p c.some_below.at) c.some_below.holds })).over;
+          };
+    }
 
 -- the signs of the corners give the reach of the face
-pub reach_is : (n p : Plane) (gs es : List Plane) (ms : List Meet) (bs : List ℕ) (r : Reach) → length ms ≡ length es → length bs ≡ length es → Represents n gs (sides_of es ms bs) → AreSigns p ms r → IsReach (record { support = n; edges = gs }) p r
+pub reach_is : (n p : Plane) (gs es : List Plane) (ms : List Meet) (bs : List ℕ) (r : Reach) → length ms ≡ length es →
+    length bs ≡ length es → Represents n gs (sides_of es ms bs) → AreSigns p ms r →
+    IsReach (record { support = n; edges = gs }) p r
 reach_is n p gs es ms bs Below em eb s q =
     let xs = sides_of es ms bs in
-    whole n p gs xs s (λ v. is_negative (value_at p v) ≡ true) (λ v i. negative_in (all_below n p v xs s.sound (each_corner (λ v. IsNotAbove p v) es ms bs q.0) (has_corner (λ v. IsBelow p v) es ms bs em eb q.1) i).under)
+    whole n p gs xs s (λ v. is_negative (value_at p v) ≡ true)
+    (λ v i. negative_in (all_below n p v xs s.sound (each_corner (λ v. IsNotAbove p v) es ms bs q.0)
+    (has_corner (λ v. IsBelow p v) es ms bs em eb q.1) i).under)
 reach_is n p gs es ms bs Above em eb s q =
     let xs = sides_of es ms bs in
-    whole n p gs xs s (λ v. is_positive (value_at p v) ≡ true) (λ v i. positive_in (all_above n p v xs s.sound (each_corner (λ v. IsNotBelow p v) es ms bs q.0) (has_corner (λ v. IsAbove p v) es ms bs em eb q.1) i).over)
+    whole n p gs xs s (λ v. is_positive (value_at p v) ≡ true)
+    (λ v i. positive_in (all_above n p v xs s.sound (each_corner (λ v. IsNotBelow p v) es ms bs q.0)
+    (has_corner (λ v. IsAbove p v) es ms bs em eb q.1) i).over)
 reach_is n p gs es ms bs On em eb s q =
     let xs = sides_of es ms bs in
-    whole n p gs xs s (λ v. is_zero (value_at p v) ≡ true) (λ v i. zero_in (all_on n p v xs s.sound (each_corner (λ v. IsOnPlane p v) es ms bs q) (closed_from_inside n xs v i)).on_plane)
+    whole n p gs xs s (λ v. is_zero (value_at p v) ≡ true)
+    (λ v i. zero_in (all_on n p v xs s.sound (each_corner (λ v. IsOnPlane p v) es ms bs q)
+    (closed_from_inside n xs v i)).on_plane)
 reach_is n p gs es ms bs Both em eb s q =
-    corners_on_both_sides_are_cut n p gs (sides_of es ms bs) s (has_corner (λ v. IsBelow p v) es ms bs em eb q.0) (has_corner (λ v. IsAbove p v) es ms bs em eb q.1)
+    corners_on_both_sides_are_cut n p gs (sides_of es ms bs) s (has_corner (λ v. IsBelow p v) es ms bs em eb q.0)
+    (has_corner (λ v. IsAbove p v) es ms bs em eb q.1)

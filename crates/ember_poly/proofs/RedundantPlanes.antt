@@ -31,13 +31,22 @@ closed_of_inside {n} {gs} {v} i =
     record { flat = i.flat; weight = i.weight; within = each_map (λ g. IsBelow g v) (λ g. IsNotAbove g v) gs (λ g u. below_is_not_above u) i.within }
 
 -- i u + j v, where u is closed and v is inside
-combination_inside : (i j : ℤ) (n : Plane) (gs : List Plane) (u v : Spot) → pos 0 ≤ℤ i → pos 0 <ℤ j → InClosedFace n gs u → InFace n gs v → InFace n gs (combination i j u v)
+combination_inside : (i j : ℤ) (n : Plane) (gs : List Plane) (u v : Spot) → pos 0 ≤ℤ i → pos 0 <ℤ j →
+    InClosedFace n gs u → InFace n gs v → InFace n gs (combination i j u v)
 combination_inside i j n gs u v p q a b =
-    record { flat = flat_sum i j u v n a.flat b.flat; weight = weight_sum p q a.weight b.weight; within = each_both (λ g. IsNotAbove g u) (λ g. IsBelow g v) (λ g. IsBelow g (combination i j u v)) gs (λ g x y. scaled_under i j u v g p q x y) a.within b.within }
+    record {
+      flat = flat_sum i j u v n a.flat b.flat;
+      weight = weight_sum p q a.weight b.weight;
+      within =
+          each_both (λ g. IsNotAbove g u) (λ g. IsBelow g v) (λ g. IsBelow g (combination i j u v)) gs
+          (λ g x y. scaled_under i j u v g p q x y) a.within b.within;
+    }
 
 -- ---- inside points decide closed points: if the planes hs are negative where all of gs are,
 -- and at some such point, they are at most 0 where all of gs are
-pub closed_follows : (n : Plane) (gs hs : List Plane) (o : Spot) → InFace n gs o → AllByRecursion (λ h. IsBelow h o) hs → ((v : Spot) → InFace n gs v → AllByRecursion (λ h. IsBelow h v) hs) → (r : Spot) → InClosedFace n gs r → AllByRecursion (λ h. IsNotAbove h r) hs
+pub closed_follows : (n : Plane) (gs hs : List Plane) (o : Spot) → InFace n gs o →
+    AllByRecursion (λ h. IsBelow h o) hs → ((v : Spot) → InFace n gs v → AllByRecursion (λ h. IsBelow h v) hs) →
+    (r : Spot) → InClosedFace n gs r → AllByRecursion (λ h. IsNotAbove h r) hs
 closed_follows n gs hs o io low follow r ir =
     by hs low (λ m. follow (combination (pos m) (pos 1) r o) (combination_inside (pos m) (pos 1) n gs r o (least m) (omega (arith, linear)) ir io))
   where
@@ -54,7 +63,9 @@ closed_follows n gs hs o io low follow r ir =
         clash x m y a b =
             absurd (omega (arith, linear, a, b, solve 2 (λ x m. m ⊗ x ≈ x ⊗ m) cancels x m, solve 1 (λ y. num (pos 1) ⊗ y ≈ y) cancels y))
 
-    by : (hs : List Plane) → AllByRecursion (λ h. IsBelow h o) hs → ((m : ℕ) → AllByRecursion (λ h. IsBelow h (combination (pos m) (pos 1) r o)) hs) → AllByRecursion (λ h. IsNotAbove h r) hs
+    by : (hs : List Plane) → AllByRecursion (λ h. IsBelow h o) hs →
+        ((m : ℕ) → AllByRecursion (λ h. IsBelow h (combination (pos m) (pos 1) r o)) hs) →
+        AllByRecursion (λ h. IsNotAbove h r) hs
     by [] l all = tt
     by (h ∷ hs) l all =
         (by_lt_z (pos 0) (value_at h r) (λ p. absurd (never h (λ m. (all m).0) p)) (λ p. record { at_most = p }), by hs l.1 (λ m. (all m).1))
@@ -75,7 +86,8 @@ way_zero n h = identity (tuple ∷ tuple ∷ []) (λ n h. valueE h (wayE n h) �
 
 turn_way : (n h p : Plane) → orientation h p n ≡ p.a *ℤ (way n h).x +ℤ p.b *ℤ (way n h).y +ℤ p.c *ℤ (way n h).z
 turn_way n h p =
-    identity (tuple ∷ tuple ∷ tuple ∷ []) (λ n h p. turnE h p n ≈ p.x ⊗ (wayE n h).x ⊕ p.y ⊗ (wayE n h).y ⊕ p.z ⊗ (wayE n h).z) cancels (plane_tuple n) (plane_tuple h) (plane_tuple p)
+    identity (tuple ∷ tuple ∷ tuple ∷ []) (λ n h p. turnE h p n ≈ p.x ⊗ (wayE n h).x ⊕ p.y ⊗ (wayE n h).y ⊕ p.z ⊗
+    (wayE n h).z) cancels (plane_tuple n) (plane_tuple h) (plane_tuple p)
 
 no_way : (n h p : Plane) → (way n h).x ≡ pos 0 → (way n h).y ≡ pos 0 → (way n h).z ≡ pos 0 → orientation h p n ≡ pos 0
 no_way n h p ex ey ez = turn_way n h p ∙ rw (ex, ey, ez) (nothing p.a p.b p.c)
@@ -84,9 +96,18 @@ no_way n h p ex ey ez = turn_way n h p ∙ rw (ex, ey, ez) (nothing p.a p.b p.c)
     nothing = solve 3 (λ x y z. x ⊗ num (pos 0) ⊕ y ⊗ num (pos 0) ⊕ z ⊗ num (pos 0) ≈ num (pos 0)) cancels
 
 -- a plane that differs at two points of the plane n isn't parallel to n
-not_parallel : (n g p h : Plane) (o r : Spot) → orientation n g p ≢ pos 0 → value_at n o ≡ pos 0 → value_at n r ≡ pos 0 → pos 0 <ℤ r.w → value_at h o <ℤ pos 0 → value_at h r ≡ pos 0 → (way n h).x ≡ pos 0 → (way n h).y ≡ pos 0 → (way n h).z ≡ pos 0 → ⊥
+not_parallel : (n g p h : Plane) (o r : Spot) → orientation n g p ≢ pos 0 → value_at n o ≡ pos 0 →
+    value_at n r ≡ pos 0 → pos 0 <ℤ r.w → value_at h o <ℤ pos 0 → value_at h r ≡ pos 0 → (way n h).x ≡ pos 0 →
+    (way n h).y ≡ pos 0 → (way n h).z ≡ pos 0 → ⊥
 not_parallel n g p h o r t flat_o flat_r wr ho hr ex ey ez =
-    ⊎_elim (λ z. t z) (λ z. differs z) (zero_product (places n g p h o r ∙ rw (both_zero o.w r.w flat_r flat_o, no_way n h p ex ey ez, swap_last h g n ∙ opposite_zero (no_way n h g ex ey ez)) (nothing (orientation h g p) (o.w *ℤ value_at g r -ℤ r.w *ℤ value_at g o) (o.w *ℤ value_at p r -ℤ r.w *ℤ value_at p o))))
+    ⊎_elim (λ z. t z) (λ z. differs z) (zero_product
+    (places n g p h o r ∙ rw (
+      both_zero o.w r.w flat_r flat_o,
+      no_way n h p ex ey ez,
+      swap_last h g n ∙ opposite_zero (no_way n h g ex ey ez),
+    )
+    (nothing (orientation h g p) (o.w *ℤ value_at g r -ℤ r.w *ℤ value_at g o)
+    (o.w *ℤ value_at p r -ℤ r.w *ℤ value_at p o))))
   where
     opposite_zero : {a : ℤ} → a ≡ pos 0 → neg_ℤ a ≡ pos 0
     opposite_zero e = omega (arith, linear, e)
@@ -103,7 +124,8 @@ not_parallel n g p h o r t flat_o flat_r wr ho hr ex ey ez =
         absurd (omega (arith, linear, e, z, mul_pos_neg wr ho))
 
 -- ---- if h is negative at o and not at q, it vanishes at two places between all other planes
-module _ (n g p h : Plane) (turns : orientation n g p ≢ pos 0) (gs : List Plane) (o q : Spot) (io : InFace n gs o) (iq : InFace n gs q) (low : IsBelow h o) (high : pos 0 ≤ℤ value_at h q) where
+module _ (n g p h : Plane) (turns : orientation n g p ≢ pos 0) (gs : List Plane) (o q : Spot) (io : InFace n gs o)
+    (iq : InFace n gs q) (low : IsBelow h o) (high : pos 0 ≤ℤ value_at h q) where
   abbrev on : Spot
   on = combination (value_at h q) (neg_ℤ (value_at h o)) o q
 
@@ -123,7 +145,11 @@ module _ (n g p h : Plane) (turns : orientation n g p ≢ pos 0) (gs : List Plan
 
   moved_under : (e : Plane) → IsBelow e on → Eventually (λ m. IsBelow e (moved m))
   moved_under e u =
-      eventually_map (λ m p. record { under = rw (combination_value (pos m) (pos 1) on (way n h) e) (flip (value_at e on) (pos m) (value_at e (way n h)) p) }) (eventually_pos {a = neg_ℤ (value_at e on)} (neg_ℤ (value_at e (way n h))) (positive u.under))
+      eventually_map (λ m p. record {
+        under = rw (combination_value (pos m) (pos 1) on (way n h) e)
+            (flip (value_at e on) (pos m) (value_at e (way n h)) p);
+      })
+      (eventually_pos {a = neg_ℤ (value_at e on)} (neg_ℤ (value_at e (way n h))) (positive u.under))
     where
       positive : {a : ℤ} → a <ℤ pos 0 → pos 0 <ℤ neg_ℤ a
       positive q = omega (arith, linear, q)
@@ -134,7 +160,15 @@ module _ (n g p h : Plane) (turns : orientation n g p ≢ pos 0) (gs : List Plan
 
   moved_inside : Eventually (λ m. InFace n gs (moved m))
   moved_inside =
-      eventually_map (λ m p. record { flat = flat_sum (pos m) (pos 1) on (way n h) n on_inside.flat (way_flat n h); weight = weight on.w (pos m) p.0; within = p.1 }) (eventually_both (eventually_pos (pos 0) on_inside.weight) (eventually_each (λ e m. IsBelow e (moved m)) gs (each_map (λ e. IsBelow e on) (λ e. Eventually (λ m. IsBelow e (moved m))) gs (λ e u. moved_under e u) on_inside.within)))
+      eventually_map (λ m p. record {
+        flat = flat_sum (pos m) (pos 1) on (way n h) n on_inside.flat (way_flat n h);
+        weight = weight on.w (pos m) p.0;
+        within = p.1;
+      })
+      (eventually_both (eventually_pos (pos 0) on_inside.weight)
+      (eventually_each (λ e m. IsBelow e (moved m)) gs
+      (each_map (λ e. IsBelow e on) (λ e. Eventually (λ m. IsBelow e (moved m))) gs (λ e u. moved_under e u)
+      on_inside.within)))
     where
       weight : (w m : ℤ) → pos 0 <ℤ (w *ℤ m +ℤ pos 0) → pos 0 <ℤ (m *ℤ w +ℤ pos 1 *ℤ pos 0)
       weight w m p =
@@ -145,7 +179,8 @@ module _ (n g p h : Plane) (turns : orientation n g p ≢ pos 0) (gs : List Plan
 
   moved_apart : (m : ℕ) → SamePoint on (moved m) → ⊥
   moved_apart m s =
-      not_parallel n g p h o on turns io.flat on_inside.flat on_inside.weight low.under on_zero (still on.x (way n h).x s.x) (still on.y (way n h).y s.y) (still on.z (way n h).z s.z)
+      not_parallel n g p h o on turns io.flat on_inside.flat on_inside.weight low.under on_zero
+      (still on.x (way n h).x s.x) (still on.y (way n h).y s.y) (still on.z (way n h).z s.z)
     where
       still : (x d : ℤ) → (pos m *ℤ on.w +ℤ pos 1 *ℤ pos 0) *ℤ x ≡ on.w *ℤ (pos m *ℤ x +ℤ pos 1 *ℤ d) → d ≡ pos 0
       still x d e =
@@ -153,7 +188,14 @@ module _ (n g p h : Plane) (turns : orientation n g p ≢ pos 0) (gs : List Plan
         where
           zero : (m w x d : ℤ) → (m *ℤ w +ℤ pos 1 *ℤ pos 0) *ℤ x ≡ w *ℤ (m *ℤ x +ℤ pos 1 *ℤ d) → w *ℤ d ≡ pos 0
           zero m w x d e =
-              omega (arith, linear, e, solve 3 (λ m w x. (m ⊗ w ⊕ num (pos 1) ⊗ num (pos 0)) ⊗ x ≈ m ⊗ w ⊗ x) cancels m w x, solve 4 (λ m w x d. w ⊗ (m ⊗ x ⊕ num (pos 1) ⊗ d) ≈ m ⊗ w ⊗ x ⊕ w ⊗ d) cancels m w x d)
+              omega (
+                arith,
+                linear,
+                e,
+                solve 3 (λ m w x. (m ⊗ w ⊕ num (pos 1) ⊗ num (pos 0)) ⊗ x ≈ m ⊗ w ⊗ x) cancels m
+                    w x,
+                solve 4 (λ m w x d. w ⊗ (m ⊗ x ⊕ num (pos 1) ⊗ d) ≈ m ⊗ w ⊗ x ⊕ w ⊗ d) cancels m w x d,
+              )
 
   counted_between : (f : Face) → ((v : Spot) → InClosedFace n gs v → value_at h v ≡ pos 0 → is_in_closed f v ≡ true) → HasEdge f h
   counted_between f holds =
@@ -179,7 +221,10 @@ module _ (n g p : Plane) (turns : orientation n g p ≢ pos 0) (o : Spot) (f : F
   abbrev Whole : List Plane → List Plane → Type 0
   Whole gs hs = (v : Spot) → InClosedFace n gs v → AllByRecursion (λ h. IsNotAbove h v) hs → is_in_closed f v ≡ true
 
-  one_more : (gs : List Plane) (h : Plane) (hs : List Plane) → InFace n gs o → AllByRecursion (λ h. IsBelow h o) (h ∷ hs) → (HasEdge f h → ⊥) → Whole gs (h ∷ hs) → ((v : Spot) → InFace n (h ∷ gs) v → AllByRecursion (λ h. IsBelow h v) hs) → (v : Spot) → InFace n gs v → AllByRecursion (λ h. IsBelow h v) (h ∷ hs)
+  one_more : (gs : List Plane) (h : Plane) (hs : List Plane) → InFace n gs o →
+      AllByRecursion (λ h. IsBelow h o) (h ∷ hs) → (HasEdge f h → ⊥) → Whole gs (h ∷ hs) →
+      ((v : Spot) → InFace n (h ∷ gs) v → AllByRecursion (λ h. IsBelow h v) hs) → (v : Spot) → InFace n gs v →
+      AllByRecursion (λ h. IsBelow h v) (h ∷ hs)
   one_more gs h hs io low none whole rest v iv =
       let u = negative in (u, rest v (with_plane iv u))
     where
@@ -192,7 +237,10 @@ module _ (n g p : Plane) (turns : orientation n g p ≢ pos 0) (o : Spot) (f : F
       negative =
           by_lt_z (value_at h v) (pos 0) (λ l. record { under = l }) (λ l. absurd (none (counted_between n g p h turns gs o v io iv low.0 l f closed)))
 
-  pub plane_follows : (gs hs : List Plane) → InFace n gs o → AllByRecursion (λ h. IsBelow h o) hs → AllByRecursion (λ h. HasEdge f h → ⊥) hs → Whole gs hs → (v : Spot) → InFace n gs v → AllByRecursion (λ h. IsBelow h v) hs
+  pub plane_follows : (gs hs : List Plane) → InFace n gs o → AllByRecursion (λ h. IsBelow h o) hs →
+      AllByRecursion (λ h. HasEdge f h → ⊥) hs → Whole gs hs → (v : Spot) → InFace n gs v →
+      AllByRecursion (λ h. IsBelow h v) hs
   plane_follows gs [] io low none whole v iv = tt
   plane_follows gs (h ∷ hs) io low none whole v iv =
-      one_more gs h hs io low none.0 whole (plane_follows (h ∷ gs) hs (with_plane io low.0) low.1 none.1 (λ v i a. whole v (without_plane i) (i.within.0, a))) v iv
+      one_more gs h hs io low none.0 whole (plane_follows (h ∷ gs) hs (with_plane io low.0) low.1 none.1
+      (λ v i a. whole v (without_plane i) (i.within.0, a))) v iv

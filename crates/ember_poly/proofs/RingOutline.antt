@@ -1,5 +1,6 @@
 -- The sides of a ring are the outline of its face.
-use Rattle.std.proofs.Common.{◌≡◌, ◌⊎◌, inl, inr, ⊎_elim, refl, sym, ap, subst, ◌∙◌, arith, ℕ, zero, suc, ◌<◌, ◌≤◌, Some, None, true, List, [], ◌∷◌, ◌++◌, length, map, slice_get, ℤ, pos, ◌*ℤ◌, ◌<ℤ◌}
+use Rattle.std.proofs.Common.{◌≡◌, ◌⊎◌, inl, inr, ⊎_elim, refl, sym, ap, subst, ◌∙◌, arith, ℕ, zero, suc, ◌<◌, ◌≤◌}
+use Rattle.std.proofs.Common.{Some, None, true, List, [], ◌∷◌, ◌++◌, length, map, slice_get, ℤ, pos, ◌*ℤ◌, ◌<ℤ◌}
 use Rattle.std.specs.List.{AllByRecursion}
 use Rattle.std.proofs.lemmas.Option.{slice_get-get_or}
 use Rattle.std.proofs.lemmas.List.{append_assoc}
@@ -10,7 +11,8 @@ use Rattle.ember_model.specs.declared.plane.Plane.{Plane}
 use Rattle.ember_model.specs.declared.point.Spot.{Spot}
 use Rattle.ember_model.specs.declared.face.Face.{Face}
 use Rattle.ember_model.specs.Planes.{value_at}
-use Rattle.ember_model.specs.Edges.{SamePoint, is_on_edge, HasEdge, SameEdge, IsEarliest, RingEdge, IsEdge, IsEdgeChain, HasEdgeOf, HaveDistinctEdges, IsOutline}
+use Rattle.ember_model.specs.Edges.{SamePoint, is_on_edge, HasEdge, SameEdge, IsEarliest, RingEdge, IsEdge, IsEdgeChain}
+use Rattle.ember_model.specs.Edges.{HasEdgeOf, HaveDistinctEdges, IsOutline}
 use Rattle.ember_poly.specs.Rings.{Side, IsBelow, IsNotAbove, IsConvexRing, IsInClosedRing, IsInPlanes, Represents}
 use Rattle.ember_poly.specs.Sides.{OldestFirst, HasPlaneIndex, IsZeroAtOnePoint, EachHasSideOrNoEdge}
 use Rattle.ember_poly.proofs.Chains.{each-front, each-back, each_map}
@@ -35,7 +37,8 @@ each_get P (y ∷ xs) zero x h e = subst P (by e) h.0
 each_get P (y ∷ xs) (suc i) x h e = each_get P xs i x h.1 e
 
 -- a member of a list with c in it is c, or has what all others have
-member_is_here_or_else : {X : Type 0} (P : X → Type 0) (us : List X) (c : X) (ws : List X) (i : ℕ) (x : X) → AllByRecursion P us → AllByRecursion P ws → slice_get (us ++ c ∷ ws) i ≡ Some x → P x ⊎ ((x ≡ c) × (i ≡ length us))
+member_is_here_or_else : {X : Type 0} (P : X → Type 0) (us : List X) (c : X) (ws : List X) (i : ℕ) (x : X) →
+    AllByRecursion P us → AllByRecursion P ws → slice_get (us ++ c ∷ ws) i ≡ Some x → P x ⊎ ((x ≡ c) × (i ≡ length us))
 member_is_here_or_else P [] c ws zero x h k e = inr (by e, refl)
   where
     by : Some c ≡ Some x → x ≡ c
@@ -65,7 +68,10 @@ pub record Begun (n : Plane) (us : List Side) (c : Side) (ws : List Side) : Type
 begin : (n : Plane) (us : List Side) (c : Side) (ws : List Side) → IsConvexRing n (us ++ c ∷ ws) → Begun n us c ws
 begin n us c ws s = by (ws ++ us) (turned_by n us (c ∷ ws) s) (λ P e. each-turned P us (c ∷ ws) e) (λ P e. e) refl
   where
-    third : (q : Side) (front : List Side) → IsConvexRing n (q ∷ c ∷ front) → ((P : Side → Type 0) → AllByRecursion P (us ++ c ∷ ws) → AllByRecursion P (q ∷ c ∷ front)) → ((P : Side → Type 0) → AllByRecursion P (q ∷ front) → AllByRecursion P (ws ++ us)) → head_or c (ws ++ us) ≡ head_or q front → Begun n us c ws
+    third : (q : Side) (front : List Side) → IsConvexRing n (q ∷ c ∷ front) →
+        ((P : Side → Type 0) → AllByRecursion P (us ++ c ∷ ws) → AllByRecursion P (q ∷ c ∷ front)) →
+        ((P : Side → Type 0) → AllByRecursion P (q ∷ front) → AllByRecursion P (ws ++ us)) →
+        head_or c (ws ++ us) ≡ head_or q front → Begun n us c ws
     third q [] s m r e = absurd s.0
     third q (y ∷ ys) s m r e = record { before = q; behind = y; others = ys; sound = s; move = m; rest = r; next = e }
 
@@ -73,17 +79,26 @@ begin n us c ws s = by (ws ++ us) (turned_by n us (c ∷ ws) s) (λ P e. each-tu
     front_head y ys [] q e = cc
     front_head y ys (z ∷ zs) q e = cc
 
-    by : (all : List Side) → IsConvexRing n (c ∷ all) → ((P : Side → Type 0) → AllByRecursion P (us ++ c ∷ ws) → AllByRecursion P (c ∷ all)) → ((P : Side → Type 0) → AllByRecursion P all → AllByRecursion P (ws ++ us)) → head_or c (ws ++ us) ≡ head_or c all → Begun n us c ws
+    by : (all : List Side) → IsConvexRing n (c ∷ all) →
+        ((P : Side → Type 0) → AllByRecursion P (us ++ c ∷ ws) → AllByRecursion P (c ∷ all)) →
+        ((P : Side → Type 0) → AllByRecursion P all → AllByRecursion P (ws ++ us)) →
+        head_or c (ws ++ us) ≡ head_or c all → Begun n us c ws
     by [] s m r e = absurd s
     by (y ∷ ys) s m r e =
         let l = last_of y ys in
-        third l.last l.front (turned_by n (c ∷ l.front) (l.last ∷ []) (subst (λ zs. IsConvexRing n (c ∷ zs)) l.split s)) (λ P a. each-turned P (c ∷ l.front) (l.last ∷ []) (subst (λ zs. AllByRecursion P (c ∷ zs)) l.split (m P a))) (λ P a. r P (subst (λ zs. AllByRecursion P zs) (sym l.split) (each-turned P (l.last ∷ []) l.front a))) (e ∙ front_head y ys l.front l.last l.split)
+        third l.last l.front (turned_by n (c ∷ l.front) (l.last ∷ []) (subst (λ zs. IsConvexRing n (c ∷ zs)) l.split s))
+        (λ P a. each-turned P (c ∷ l.front) (l.last ∷ []) (subst (λ zs. AllByRecursion P (c ∷ zs)) l.split (m P a)))
+        (λ P a. r P (subst (λ zs. AllByRecursion P zs) (sym l.split) (each-turned P (l.last ∷ []) l.front a)))
+        (e ∙ front_head y ys l.front l.last l.split)
 
 -- ---- one place has one sign
 -- a plane has the same value at two tuples of one point, up to their weights
 pub same_value : {u v : Spot} → SamePoint u v → (e : Plane) → v.w *ℤ value_at e u ≡ u.w *ℤ value_at e v
 same_value {u} {v} s e =
-    solve 9 (λ a b c d x y z w k. k ⊗ (a ⊗ x ⊕ b ⊗ y ⊕ c ⊗ z ⊖ d ⊗ w) ≈ a ⊗ (k ⊗ x) ⊕ b ⊗ (k ⊗ y) ⊕ c ⊗ (k ⊗ z) ⊖ d ⊗ (k ⊗ w)) cancels e.a e.b e.c e.d u.x u.y u.z u.w v.w ∙ rw (s.x, s.y, s.z) (solve 9 (λ a b c d x y z w k. a ⊗ (k ⊗ x) ⊕ b ⊗ (k ⊗ y) ⊕ c ⊗ (k ⊗ z) ⊖ d ⊗ (w ⊗ k) ≈ k ⊗ (a ⊗ x ⊕ b ⊗ y ⊕ c ⊗ z ⊖ d ⊗ w)) cancels e.a e.b e.c e.d v.x v.y v.z v.w u.w)
+    solve 9 (λ a b c d x y z w k. k ⊗ (a ⊗ x ⊕ b ⊗ y ⊕ c ⊗ z ⊖ d ⊗ w) ≈ a ⊗ (k ⊗ x) ⊕ b ⊗ (k ⊗ y) ⊕ c ⊗ (k ⊗ z) ⊖ d ⊗
+    (k ⊗ w)) cancels e.a e.b e.c e.d u.x u.y u.z u.w v.w
+    ∙ rw (s.x, s.y, s.z) (solve 9 (λ a b c d x y z w k. a ⊗ (k ⊗ x) ⊕ b ⊗ (k ⊗ y) ⊕ c ⊗ (k ⊗ z) ⊖ d ⊗ (w ⊗ k) ≈ k ⊗
+    (a ⊗ x ⊕ b ⊗ y ⊕ c ⊗ z ⊖ d ⊗ w)) cancels e.a e.b e.c e.d v.x v.y v.z v.w u.w)
 
 apart_places : {u v : Spot} (q : Plane) → pos 0 <ℤ u.w → value_at q u ≡ pos 0 → IsBelow q v → SamePoint u v → ⊥
 apart_places {u} {v} q w z l s =
@@ -144,8 +159,11 @@ module _ (n : Plane) (gs : List Plane) (xs : List Side) (represents : Represents
       where
         by : (ps zs : List Side) → xs ≡ ps ++ zs → AllByRecursion (λ s. IsInClosedRing n xs s.corner) zs
         by ps [] e = tt
-        by ps (z ∷ zs) e =
-            (subst (λ ys. IsInClosedRing n ys z.corner) (sym e) (corner_closed n ps z zs (subst (λ ys. IsConvexRing n ys) e represents.sound)), by (ps ++ z ∷ []) zs (e ∙ sym (append_assoc ps (z ∷ []) zs)))
+        by ps (z ∷ zs) e = (
+          subst (λ ys. IsInClosedRing n ys z.corner) (sym e)
+              (corner_closed n ps z zs (subst (λ ys. IsConvexRing n ys) e represents.sound)),
+          by (ps ++ z ∷ []) zs (e ∙ sym (append_assoc ps (z ∷ []) zs)),
+        )
 
     abbrev end : Spot
     end = begun.behind.corner
@@ -164,7 +182,13 @@ module _ (n : Plane) (gs : List Plane) (xs : List Side) (represents : Represents
 
     begun_closed : (v : Spot) → IsInClosedRing n xs v → IsInClosedRing n (begun.before ∷ c ∷ begun.behind ∷ begun.others) v
     begun_closed v k =
-        record { flat = k.flat; weight = k.weight; within = begun.move (λ s. IsNotAbove s.plane v) (subst (λ zs. AllByRecursion (λ s. IsNotAbove s.plane v) zs) split k.within) }
+        record {
+          flat = k.flat;
+          weight = k.weight;
+          within =
+              begun.move (λ s. IsNotAbove s.plane v)
+              (subst (λ zs. AllByRecursion (λ s. IsNotAbove s.plane v) zs) split k.within);
+        }
 
     different : SamePoint c.corner end → ⊥
     different s = apart_places begun.before.plane start_closed.weight begun.sound.1.0.before begun.sound.1.1.0 s
@@ -172,7 +196,11 @@ module _ (n : Plane) (gs : List Plane) (xs : List Side) (represents : Represents
     -- each other side is negative at the start or at the end
     apart : AllByRecursion (λ s. IsBelow s.plane c.corner ⊎ IsBelow s.plane end) (ws ++ us)
     apart =
-        begun.rest (λ s. IsBelow s.plane c.corner ⊎ IsBelow s.plane end) (inr begun.sound.1.1.0, each_map (λ s. IsBelow s.plane c.corner) (λ s. IsBelow s.plane c.corner ⊎ IsBelow s.plane end) (begun.behind ∷ begun.others) (λ s u. inl u) begun.sound.1.2)
+        begun.rest (λ s. IsBelow s.plane c.corner ⊎ IsBelow s.plane end) (
+          inr begun.sound.1.1.0,
+          each_map (λ s. IsBelow s.plane c.corner) (λ s. IsBelow s.plane c.corner ⊎ IsBelow s.plane end)
+              (begun.behind ∷ begun.others) (λ s u. inl u) begun.sound.1.2,
+        )
 
     starts_on : is_on_edge face c.plane c.corner ≡ true
     starts_on = on_edge c.plane c.corner start_closed start_zero
@@ -200,7 +228,11 @@ module _ (n : Plane) (gs : List Plane) (xs : List Side) (represents : Represents
     -- a side with this edge is c
     only : (i : ℕ) (s : Side) → slice_get xs i ≡ Some s → SameEdge face s.plane c.plane → (s ≡ c) × (i ≡ length us)
     only i s e same =
-        ⊎_elim (λ u. absurd (other_edge s u same)) (λ q. q) (member_is_here_or_else (λ s. IsBelow s.plane c.corner ⊎ IsBelow s.plane end) us c ws i s (each-back (λ s. IsBelow s.plane c.corner ⊎ IsBelow s.plane end) ws us apart) (each-front (λ s. IsBelow s.plane c.corner ⊎ IsBelow s.plane end) ws us apart) (subst (λ zs. slice_get zs i ≡ Some s) split e))
+        ⊎_elim (λ u. absurd (other_edge s u same)) (λ q. q)
+        (member_is_here_or_else (λ s. IsBelow s.plane c.corner ⊎ IsBelow s.plane end) us c ws i s
+        (each-back (λ s. IsBelow s.plane c.corner ⊎ IsBelow s.plane end) ws us apart)
+        (each-front (λ s. IsBelow s.plane c.corner ⊎ IsBelow s.plane end) ws us apart)
+        (subst (λ zs. slice_get zs i ≡ Some s) split e))
 
     at : slice_get xs (length us) ≡ Some c
     at = subst (λ zs. slice_get zs (length us) ≡ Some c) (sym split) (by us)
@@ -211,7 +243,13 @@ module _ (n : Plane) (gs : List Plane) (xs : List Side) (represents : Represents
 
     stands_for : IsEarliest (λ h. SameEdge face h c.plane) gs c.plane
     stands_for =
-        record { index = c.plane_index; here = here_of (length us) c at; holds = λ v. refl; earliest = λ i h l e same. ⊎_elim (λ b. later i h l e same b) (λ s. single_edge h s same) (counted i h e) }
+        record {
+          index = c.plane_index;
+          here = here_of (length us) c at;
+          holds = λ v. refl;
+          earliest =
+              λ i h l e same. ⊎_elim (λ b. later i h l e same b) (λ s. single_edge h s same) (counted i h e);
+        }
       where
         one : (g h : Plane) → Some g ≡ Some h → g ≡ h
         one g h e = cc
@@ -229,8 +267,12 @@ module _ (n : Plane) (gs : List Plane) (xs : List Side) (represents : Represents
           starts = starts_on;
           ends = ends_on;
           leads = edge_leads n begun.before c begun.behind begun.others begun.sound;
-          from_start = λ v e. not_after n c.plane c.corner v (edge_start n begun.before c begun.behind begun.others v begun.sound (begun_closed v (closed_of c.plane v e)) (zero_of c.plane v e));
-          to_end = λ v e. not_after n c.plane v end (edge_end n begun.before c begun.behind begun.others v begun.sound (begun_closed v (closed_of c.plane v e)) (zero_of c.plane v e));
+          from_start = λ v e. not_after n c.plane c.corner v
+              (edge_start n begun.before c begun.behind begun.others v begun.sound
+              (begun_closed v (closed_of c.plane v e)) (zero_of c.plane v e));
+          to_end = λ v e. not_after n c.plane v end
+              (edge_end n begun.before c begun.behind begun.others v begun.sound (begun_closed v (closed_of c.plane v e))
+              (zero_of c.plane v e));
         })
 
   -- ---- once round
@@ -248,15 +290,28 @@ module _ (n : Plane) (gs : List Plane) (xs : List Side) (represents : Represents
 
     uncounted : (h : Plane) → IsZeroAtOnePoint n xs h → HasEdge face h → ⊥
     uncounted h s k =
-        k.different (s k.one k.other (closed_of h k.one k.holds_one) (closed_of h k.other k.holds_other) (zero_of h k.one k.holds_one) (zero_of h k.other k.holds_other))
+        k.different (s k.one k.other (closed_of h k.one k.holds_one) (closed_of h k.other k.holds_other)
+        (zero_of h k.one k.holds_one) (zero_of h k.other k.holds_other))
 
     no_older : (s : Side) (i : ℕ) → slice_get xs i ≡ Some s → s.plane_index < first.plane_index → ⊥
     no_older s i e l =
-        ⊎_elim (λ p. absurd (omega (arith, l, p))) (λ q. absurd (omega (arith, l, ap (λ (s : Side). s.plane_index) q.0))) (member_is_here_or_else (λ r. first.plane_index ≤ r.plane_index) [] first rest i s tt (subst (λ zs. OldestFirst zs) begins oldest) (subst (λ zs. slice_get zs i ≡ Some s) begins e))
+        ⊎_elim (λ p. absurd (omega (arith, l, p)))
+        (λ q. absurd (omega (arith, l, ap (λ (s : Side). s.plane_index) q.0)))
+        (member_is_here_or_else (λ r. first.plane_index ≤ r.plane_index) [] first rest i s tt
+        (subst (λ zs. OldestFirst zs) begins oldest) (subst (λ zs. slice_get zs i ≡ Some s) begins e))
 
     earliest : IsEarliest (λ h. HasEdge face h) gs first.plane
     earliest =
-        record { index = first.plane_index; here = here_of 0 first (subst (λ zs. slice_get zs 0 ≡ Some first) (sym begins) refl); holds = counts [] first rest begins; earliest = λ i h l e k. ⊎_elim (λ b. no_older b.side b.at b.here (subst (λ j. j < first.plane_index) (sym b.plane_index) l)) (λ s. uncounted h s k) (counted i h e) }
+        record {
+          index = first.plane_index;
+          here =
+              here_of 0 first (subst (λ zs. slice_get zs 0 ≡ Some first) (sym begins) refl);
+          holds =
+              counts [] first rest begins;
+          earliest =
+              λ i h l e k. ⊎_elim (λ b. no_older b.side b.at b.here
+              (subst (λ j. j < first.plane_index) (sym b.plane_index) l)) (λ s. uncounted h s k) (counted i h e);
+        }
 
     among : (i : ℕ) (h : Plane) → slice_get gs i ≡ Some h → HasEdge face h → HasEdgeOf face h (outline xs)
     among i h e k = ⊎_elim born (λ s. absurd (uncounted h s k)) (counted i h e)
@@ -271,18 +326,33 @@ module _ (n : Plane) (gs : List Plane) (xs : List Side) (represents : Represents
 
     once : (us zs : List Side) → xs ≡ us ++ zs → HaveDistinctEdges face (outline zs)
     once us [] e = tt
-    once us (c ∷ ws) e =
-        (each_outline (λ d. SameEdge face c.plane d.plane → ⊥) ws (each_map (λ s. IsBelow s.plane c.corner ⊎ IsBelow s.plane (end us c ws e)) (λ s. SameEdge face c.plane s.plane → ⊥) ws (λ s u same. other_edge us c ws e s u (λ v. sym (same v))) (each-front (λ s. IsBelow s.plane c.corner ⊎ IsBelow s.plane (end us c ws e)) ws us (apart us c ws e))), once (us ++ c ∷ []) ws (e ∙ sym (append_assoc us (c ∷ []) ws)))
+    once us (c ∷ ws) e = (
+      each_outline (λ d. SameEdge face c.plane d.plane →
+          ⊥) ws (each_map (λ s. IsBelow s.plane c.corner ⊎ IsBelow s.plane (end us c ws e))
+          (λ s. SameEdge face c.plane s.plane → ⊥) ws (λ s u same. other_edge us c ws e s u (λ v. sym (same v)))
+          (each-front (λ s. IsBelow s.plane c.corner ⊎ IsBelow s.plane (end us c ws e)) ws us (apart us c ws e))),
+      once (us ++ c ∷ []) ws (e ∙ sym (append_assoc us (c ∷ []) ws)),
+    )
 
     is_outline : IsOutline face (outline xs)
     is_outline =
-        record { first = edge_of first; rest = outline rest; begins = ap (λ zs. outline zs) begins; earliest = earliest; round = path [] xs refl; all = among; once = once [] xs refl }
+        record {
+          first = edge_of first;
+          rest = outline rest;
+          begins = ap (λ zs. outline zs) begins;
+          earliest =
+              earliest;
+          round = path [] xs refl;
+          all = among;
+          once = once [] xs refl;
+        }
 
 sound_begins : (n : Plane) (xs : List Side) → IsConvexRing n xs → (first : Side) × (rest : List Side) × (xs ≡ first ∷ rest)
 sound_begins n [] h = absurd h
 sound_begins n (x ∷ xs) h = (x, xs, refl)
 
 -- the sides of a ring are the outline of its face
-pub ring_outline : (n : Plane) (gs : List Plane) (xs : List Side) → Represents n gs xs → EachHasSideOrNoEdge n gs xs → OldestFirst xs → IsOutline (record { support = n; edges = gs }) (outline xs)
+pub ring_outline : (n : Plane) (gs : List Plane) (xs : List Side) → Represents n gs xs → EachHasSideOrNoEdge n gs xs →
+    OldestFirst xs → IsOutline (record { support = n; edges = gs }) (outline xs)
 ring_outline n gs xs s k o =
     let b = sound_begins n xs s.sound in is_outline n gs xs s k b.0 b.1 b.2 o

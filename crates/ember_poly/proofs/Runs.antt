@@ -1,5 +1,7 @@
 -- Runs of corners on one side of a plane, and the corner where the plane's negative side is entered.
-use Rattle.std.proofs.Common.{◌≡◌, refl, sym, ap, subst, ◌∙◌, arith, ℕ, zero, suc, ◌<◌, ◌≤◌, ◌+◌, ◌-◌, Bool, true, false, not, List, [], ◌∷◌, ◌++◌, length, take, drop, ℤ, pos, negsuc, ◌≤ℤ◌, length-drop, length-append}
+use Rattle.std.proofs.Common.{◌≡◌, refl, sym, ap, subst, ◌∙◌, arith, ℕ, zero, suc, ◌<◌, ◌≤◌, ◌+◌, ◌-◌, Bool, true}
+use Rattle.std.proofs.Common.{false, not, List, [], ◌∷◌, ◌++◌, length, take, drop, ℤ, pos, negsuc, ◌≤ℤ◌, length-drop}
+use Rattle.std.proofs.Common.{length-append}
 use lib.ListN.{get_or}
 use Rattle.std.proofs.lemmas.Int.{ints}
 use Rattle.std.proofs.lemmas.List.{drop_more, drop_all, take_all, take-append-drop, append_assoc, append-nil, length-take-le}
@@ -62,7 +64,8 @@ run_short p b (m ∷ us) bs (suc k) l r =
     run_more p b m (us ++ bs) k r.all.0 (run_short p b us bs k (omega (arith, l)) (run_rest p b m us k r))
 
 -- a run that goes on behind the list
-pub run_long : (p : Plane) (b : Bool) (us bs : List Meet) (k h : ℕ) → length us ≤ k → IsOneSidedRun p b us k → IsOneSidedRun p b bs h → IsOneSidedRun p b (us ++ bs) (k + h)
+pub run_long : (p : Plane) (b : Bool) (us bs : List Meet) (k h : ℕ) → length us ≤ k → IsOneSidedRun p b us k →
+    IsOneSidedRun p b bs h → IsOneSidedRun p b (us ++ bs) (k + h)
 run_long p b [] bs zero h l r s = subst (λ j. IsOneSidedRun p b bs j) (none h) s
   where
     none : (h : ℕ) → h ≡ 0 + h
@@ -70,7 +73,8 @@ run_long p b [] bs zero h l r s = subst (λ j. IsOneSidedRun p b bs j) (none h) 
 run_long p b [] bs (suc k) h l r s = absurd (omega (arith, r.at_most_all))
 run_long p b (m ∷ us) bs zero h l r s = absurd (omega (arith, l))
 run_long p b (m ∷ us) bs (suc k) h l r s =
-    subst (λ j. IsOneSidedRun p b (m ∷ (us ++ bs)) j) (one k h) (run_more p b m (us ++ bs) (k + h) r.all.0 (run_long p b us bs k h (omega (arith, l)) (run_rest p b m us k r) s))
+    subst (λ j. IsOneSidedRun p b (m ∷ (us ++ bs)) j) (one k h)
+    (run_more p b m (us ++ bs) (k + h) r.all.0 (run_long p b us bs k h (omega (arith, l)) (run_rest p b m us k r) s))
   where
     one : (k h : ℕ) → suc (k + h) ≡ suc k + h
     one k h = omega arith
@@ -112,7 +116,16 @@ last_of_first (suc zero) (y ∷ ys) z l =
     record { front = []; last = y; behind = ys; whole = refl; taken = refl; left = refl; count = refl }
 last_of_first (suc (suc u)) (y ∷ ys) z l =
     let r = last_of_first (suc u) ys (omega arith) (omega (arith, l)) in
-    record { front = y ∷ r.front; last = r.last; behind = r.behind; whole = ap (λ zs. y ∷ zs) r.whole; taken = ap (λ zs. y ∷ zs) r.taken; left = r.left; count = ap suc r.count }
+    record {
+      front = y ∷ r.front;
+      last = r.last;
+      behind = r.behind;
+      whole = ap (λ zs. y ∷ zs) r.whole;
+      taken =
+          ap (λ zs. y ∷ zs) r.taken;
+      left = r.left;
+      count = ap suc r.count;
+    }
 
 module _ (p : Plane) where
   abbrev IsLow : Meet → Type 0
@@ -127,7 +140,8 @@ module _ (p : Plane) where
   pub highs : (us : List Meet) → AllByRecursion IsHigh us → AllByRecursion (λ m. IsNotBelow p (spot_of m)) us
   highs us h = each_map IsHigh (λ m. IsNotBelow p (spot_of m)) us (λ m e. least_out p m e) h
 
-  enters_at : (us bs : List Meet) (y : Meet) (cs : List Meet) → AllByRecursion IsLow us → AllByRecursion IsHigh bs → IsHigh y → Stops p false cs → Straddles p (us ++ (bs ++ y ∷ cs)) → Enters p ((y ∷ cs) ++ (us ++ bs))
+  enters_at : (us bs : List Meet) (y : Meet) (cs : List Meet) → AllByRecursion IsLow us → AllByRecursion IsHigh bs →
+      IsHigh y → Stops p false cs → Straddles p (us ++ (bs ++ y ∷ cs)) → Enters p ((y ∷ cs) ++ (us ++ bs))
   enters_at us bs y (c ∷ cs) ha hb hy s t = (hy, s)
   enters_at (a ∷ us) bs y [] ha hb hy s t = (hy, ha.0)
   enters_at [] bs y [] ha hb hy s t =
@@ -153,10 +167,18 @@ module _ (p : Plane) where
     entry_enters =
         let w = last_of_first u (drop d ms) up_positive up.at_most_all in
         let high = subst (λ zs. AllByRecursion IsHigh zs) w.taken up.all in
-        let e = enters_at (take d ms) w.front w.last w.behind down.all (each-front IsHigh w.front (w.last ∷ []) high) (each-back IsHigh w.front (w.last ∷ []) high).0 (subst (λ zs. Stops p false zs) w.left up.stops) (subst (λ zs. Straddles p (take d ms ++ zs)) w.whole apart) in
-        let whole : ms ≡ (take d ms ++ w.front) ++ w.last ∷ w.behind = sym (take-append-drop d ms) ∙ ap (λ zs. take d ms ++ zs) w.whole ∙ sym (append_assoc (take d ms) w.front (w.last ∷ w.behind)) in
-        let count : d + u - 1 ≡ length (take d ms ++ w.front) = ap (λ k. d + k - 1) w.count ∙ less d (length w.front) ∙ sym (length-append (take d ms) w.front ∙ ap (λ k. k + length w.front) (length-take-le d ms down.at_most_all)) in
-        subst (λ zs. Enters p zs) (sym ((λ i. drop (d + u - 1) (whole i) ++ take (d + u - 1) (whole i)) ∙ turn_split (take d ms ++ w.front) (w.last ∷ w.behind) (d + u - 1) count)) e
+        let e = enters_at (take d ms) w.front w.last w.behind down.all (each-front IsHigh w.front (w.last ∷ []) high)
+        (each-back IsHigh w.front (w.last ∷ []) high).0 (subst (λ zs. Stops p false zs) w.left up.stops)
+        (subst (λ zs. Straddles p (take d ms ++ zs)) w.whole apart) in
+        let whole : ms ≡ (take d ms ++ w.front) ++ w.last ∷ w.behind =
+        sym (take-append-drop d ms) ∙ ap (λ zs. take d ms ++ zs) w.whole
+        ∙ sym (append_assoc (take d ms) w.front (w.last ∷ w.behind)) in
+        let count : d + u - 1 ≡ length (take d ms ++ w.front) =
+        ap (λ k. d + k - 1) w.count ∙ less d (length w.front)
+        ∙ sym (length-append (take d ms) w.front
+        ∙ ap (λ k. k + length w.front) (length-take-le d ms down.at_most_all)) in
+        subst (λ zs. Enters p zs) (sym ((λ i. drop (d + u - 1) (whole i) ++ take (d + u - 1) (whole i))
+        ∙ turn_split (take d ms ++ w.front) (w.last ∷ w.behind) (d + u - 1) count)) e
       where
         less : (d k : ℕ) → d + suc k - 1 ≡ d + k
         less d k = omega arith

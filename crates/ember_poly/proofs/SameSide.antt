@@ -26,7 +26,10 @@ towardE u v =
 
 turn_toward : (n g : Plane) (u v : Spot) → orientation n g (toward u v) ≡ u.w *ℤ position_along n g v -ℤ v.w *ℤ position_along n g u
 turn_toward n g u v =
-    identity (tuple ∷ tuple ∷ tuple ∷ tuple ∷ []) (λ n g u v. turnE n g (towardE u v) ≈ u.w ⊗ dotE (crossE (normalE n) (normalE g)) (normalE v) ⊖ v.w ⊗ dotE (crossE (normalE n) (normalE g)) (normalE u)) cancels (plane_tuple n) (plane_tuple g) (spot_tuple u) (spot_tuple v)
+    identity (tuple ∷ tuple ∷ tuple ∷ tuple ∷ [])
+    (λ n g u v. turnE n g (towardE u v) ≈ u.w ⊗ dotE (crossE (normalE n) (normalE g)) (normalE v) ⊖ v.w ⊗ dotE
+    (crossE (normalE n) (normalE g)) (normalE u)) cancels (plane_tuple n) (plane_tuple g) (spot_tuple u)
+    (spot_tuple v)
 
 rising : {a b : ℤ} → a <ℤ b → pos 0 <ℤ (b -ℤ a)
 rising l = omega (arith, linear, l)
@@ -36,10 +39,13 @@ pub turns_toward : (n g : Plane) (u v : Spot) → IsBefore n g u v → pos 0 <�
 turns_toward n g u v l = rw (turn_toward n g u v) (rising l.before)
 
 -- ---- two planes through u and v
-module _ (n g h : Plane) (u v : Spot) (l : IsBefore n g u v) (nu : value_at n u ≡ pos 0) (nv : value_at n v ≡ pos 0) (gu : value_at g u ≡ pos 0) (gv : value_at g v ≡ pos 0) (hu : value_at h u ≡ pos 0) (hv : value_at h v ≡ pos 0) where
+module _ (n g h : Plane) (u v : Spot) (l : IsBefore n g u v) (nu : value_at n u ≡ pos 0) (nv : value_at n v ≡ pos 0)
+    (gu : value_at g u ≡ pos 0) (gv : value_at g v ≡ pos 0) (hu : value_at h u ≡ pos 0) (hv : value_at h v ≡ pos 0) where
   parallel : orientation n g h ≡ pos 0
   parallel =
-      ⊎_elim (λ z. z) (λ z. absurd (positive_nonzero far z)) (zero_product (value_difference_by_orientation n g h (edge_direction n g) u v nu nv gu gv ∙ rw (both_zero u.w v.w hv hu) (nothing (orientation n (edge_direction n g) g))))
+      ⊎_elim (λ z. z) (λ z. absurd (positive_nonzero far z))
+      (zero_product (value_difference_by_orientation n g h (edge_direction n g) u v nu nv gu gv
+      ∙ rw (both_zero u.w v.w hv hu) (nothing (orientation n (edge_direction n g) g))))
     where
       far : pos 0 <ℤ (u.w *ℤ value_at (edge_direction n g) v -ℤ v.w *ℤ value_at (edge_direction n g) u)
       far = rw (← position_is_value_along n g u, ← position_is_value_along n g v) (rising l.before)
@@ -51,7 +57,8 @@ module _ (n g h : Plane) (u v : Spot) (l : IsBefore n g u v) (nu : value_at n u 
   agree : (z : Spot) → value_at n z ≡ pos 0 → orientation n g (toward u v) *ℤ (u.w *ℤ value_at h z) ≡ orientation h (toward u v) n *ℤ (u.w *ℤ value_at g z)
   agree z nz =
       let p = toward u v in
-      shape (orientation n g p) (orientation h g p) (orientation h p n) u.w z.w (value_at h z) (value_at g z) (u.w *ℤ value_at p z -ℤ z.w *ℤ value_at p u) hu gu (both_zero u.w z.w nz nu) other (places n g p h u z)
+      shape (orientation n g p) (orientation h g p) (orientation h p n) u.w z.w (value_at h z) (value_at g z)
+      (u.w *ℤ value_at p z -ℤ z.w *ℤ value_at p u) hu gu (both_zero u.w z.w nz nu) other (places n g p h u z)
     where
       turned : (n g h : Plane) → orientation h n g ≡ orientation n g h
       turned n g h = identity (tuple ∷ tuple ∷ tuple ∷ []) (λ n g h. turnE h n g ≈ turnE n g h) cancels (plane_tuple n) (plane_tuple g) (plane_tuple h)
@@ -59,11 +66,16 @@ module _ (n g h : Plane) (u v : Spot) (l : IsBefore n g u v) (nu : value_at n u 
       other : orientation h n g ≡ pos 0
       other = turned n g h ∙ parallel
 
-      shape : (t r s w k x y d : ℤ) {a b c e : ℤ} → a ≡ pos 0 → b ≡ pos 0 → c ≡ pos 0 → e ≡ pos 0 → t *ℤ (w *ℤ x -ℤ k *ℤ a) ≡ r *ℤ c +ℤ s *ℤ (w *ℤ y -ℤ k *ℤ b) +ℤ e *ℤ d → t *ℤ (w *ℤ x) ≡ s *ℤ (w *ℤ y)
+      shape : (t r s w k x y d : ℤ) {a b c e : ℤ} → a ≡ pos 0 → b ≡ pos 0 → c ≡ pos 0 → e ≡ pos 0 →
+          t *ℤ (w *ℤ x -ℤ k *ℤ a) ≡ r *ℤ c +ℤ s *ℤ (w *ℤ y -ℤ k *ℤ b) +ℤ e *ℤ d → t *ℤ (w *ℤ x) ≡ s *ℤ (w *ℤ y)
       shape t r s w k x y d {a} {b} {c} {e} ea eb ec ee q =
-          solve 4 (λ t w k x. t ⊗ (w ⊗ x) ≈ t ⊗ (w ⊗ x ⊖ k ⊗ num (pos 0))) cancels t w k x ∙ rw (← ea) (q ∙ rw (eb, ec, ee) (solve 6 (λ r s w k y d. r ⊗ num (pos 0) ⊕ s ⊗ (w ⊗ y ⊖ k ⊗ num (pos 0)) ⊕ num (pos 0) ⊗ d ≈ s ⊗ (w ⊗ y)) cancels r s w k y d))
+          solve 4 (λ t w k x. t ⊗ (w ⊗ x) ≈ t ⊗ (w ⊗ x ⊖ k ⊗ num (pos 0))) cancels t w k x
+          ∙ rw (← ea) (q ∙ rw (eb, ec, ee) (solve 6
+          (λ r s w k y d. r ⊗ num (pos 0) ⊕ s ⊗ (w ⊗ y ⊖ k ⊗ num (pos 0)) ⊕ num (pos 0) ⊗ d ≈ s ⊗ (w ⊗ y)) cancels r s
+          w k y d))
 
-  pub same_side : (o q : Spot) → pos 0 <ℤ u.w → value_at n o ≡ pos 0 → value_at n q ≡ pos 0 → value_at g o <ℤ pos 0 → value_at h o <ℤ pos 0 → value_at g q <ℤ pos 0 → value_at h q <ℤ pos 0
+  pub same_side : (o q : Spot) → pos 0 <ℤ u.w → value_at n o ≡ pos 0 → value_at n q ≡ pos 0 → value_at g o <ℤ pos 0 →
+      value_at h o <ℤ pos 0 → value_at g q <ℤ pos 0 → value_at h q <ℤ pos 0
   same_side o q w flat_o flat_q go ho gq =
       let t = turns_toward n g u v l in
       let up = (pos_factor (mul_pos_neg w go) (mul_pos_neg t (mul_pos_neg w ho)) (backward (agree o flat_o))) in

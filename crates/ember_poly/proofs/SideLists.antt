@@ -11,14 +11,16 @@ use Rattle.ember_poly.specs.Passages.{HasMember}
 
 -- ---- what all corners or one corner has
 -- what holds of all corners of the list holds of the sides' corners
-pub each_corner : (P : Spot → Type 0) (es : List Plane) (ms : List Meet) (bs : List ℕ) → AllByRecursion (λ m. P (spot_of m)) ms → AllByRecursion (λ s. P s.corner) (sides_of es ms bs)
+pub each_corner : (P : Spot → Type 0) (es : List Plane) (ms : List Meet) (bs : List ℕ) →
+    AllByRecursion (λ m. P (spot_of m)) ms → AllByRecursion (λ s. P s.corner) (sides_of es ms bs)
 each_corner P [] ms bs h = tt
 each_corner P (e ∷ es) [] bs h = tt
 each_corner P (e ∷ es) (m ∷ ms) [] h = tt
 each_corner P (e ∷ es) (m ∷ ms) (b ∷ bs) h = (h.0, each_corner P es ms bs h.1)
 
 -- what holds of the sides' corners holds of all corners of the list
-pub corner_each : (P : Spot → Type 0) (es : List Plane) (ms : List Meet) (bs : List ℕ) → length ms ≡ length es → length bs ≡ length es → AllByRecursion (λ s. P s.corner) (sides_of es ms bs) → AllByRecursion (λ m. P (spot_of m)) ms
+pub corner_each : (P : Spot → Type 0) (es : List Plane) (ms : List Meet) (bs : List ℕ) → length ms ≡ length es →
+    length bs ≡ length es → AllByRecursion (λ s. P s.corner) (sides_of es ms bs) → AllByRecursion (λ m. P (spot_of m)) ms
 corner_each P es [] bs p q h = tt
 corner_each P [] (m ∷ ms) bs p q h = absurd (omega (arith, p))
 corner_each P (e ∷ es) (m ∷ ms) [] p q h = absurd (omega (arith, q))
@@ -26,7 +28,8 @@ corner_each P (e ∷ es) (m ∷ ms) (b ∷ bs) p q h =
     (h.0, corner_each P es ms bs (omega (arith, p)) (omega (arith, q)) h.1)
 
 -- some corner of the list is the corner of some side
-pub has_corner : (P : Spot → Type 0) (es : List Plane) (ms : List Meet) (bs : List ℕ) → length ms ≡ length es → length bs ≡ length es → HasMember (λ m. P (spot_of m)) ms → HasMember (λ s. P s.corner) (sides_of es ms bs)
+pub has_corner : (P : Spot → Type 0) (es : List Plane) (ms : List Meet) (bs : List ℕ) → length ms ≡ length es →
+    length bs ≡ length es → HasMember (λ m. P (spot_of m)) ms → HasMember (λ s. P s.corner) (sides_of es ms bs)
 has_corner P [] [] bs p q h = absurd h
 has_corner P [] (m ∷ ms) bs p q h = absurd (omega (arith, p))
 has_corner P (e ∷ es) [] bs p q h = absurd h
@@ -37,7 +40,8 @@ has_corner P (e ∷ es) (m ∷ ms) (b ∷ bs) p q (inr h) =
 
 -- ---- joined, cut
 -- the sides of lists put together are the sides of the first, and then those of the second
-pub sides-append : (es us : List Plane) (ms ns : List Meet) (bs cs : List ℕ) → length ms ≡ length es → length bs ≡ length es → sides_of (es ++ us) (ms ++ ns) (bs ++ cs) ≡ sides_of es ms bs ++ sides_of us ns cs
+pub sides-append : (es us : List Plane) (ms ns : List Meet) (bs cs : List ℕ) → length ms ≡ length es →
+    length bs ≡ length es → sides_of (es ++ us) (ms ++ ns) (bs ++ cs) ≡ sides_of es ms bs ++ sides_of us ns cs
 sides-append [] us [] ns [] cs p q = refl
 sides-append [] us (m ∷ ms) ns bs cs p q = absurd (omega (arith, p))
 sides-append [] us [] ns (b ∷ bs) cs p q = absurd (omega (arith, q))
@@ -56,7 +60,8 @@ sides-take (suc k) (e ∷ es) (m ∷ ms) (b ∷ bs) =
     ap (λ zs. record { plane = e; corner = spot_of m; plane_index = b } ∷ zs) (sides-take k es ms bs)
 
 -- the sides behind the first k, of those of each list
-pub sides-drop : (k : ℕ) (es : List Plane) (ms : List Meet) (bs : List ℕ) → length ms ≡ length es → length bs ≡ length es → sides_of (drop k es) (drop k ms) (drop k bs) ≡ drop k (sides_of es ms bs)
+pub sides-drop : (k : ℕ) (es : List Plane) (ms : List Meet) (bs : List ℕ) → length ms ≡ length es →
+    length bs ≡ length es → sides_of (drop k es) (drop k ms) (drop k bs) ≡ drop k (sides_of es ms bs)
 sides-drop zero es ms bs p q = refl
 sides-drop (suc k) [] ms bs p q = refl
 sides-drop (suc k) (e ∷ es) [] bs p q = absurd (omega (arith, p))
@@ -68,9 +73,13 @@ drop_keeps_equal_lengths : {X Y : Type 0} (k : ℕ) (xs : List X) (ys : List Y) 
 drop_keeps_equal_lengths k xs ys e = rw (length-drop k ys, length-drop k xs, e) refl
 
 -- the sides from the k-th on round the ring, of the turned lists
-pub sides-turned : (k : ℕ) (es us : List Plane) (ms ns : List Meet) (bs cs : List ℕ) → length ms ≡ length es → length bs ≡ length es → us ≡ drop k es ++ take k es → ns ≡ drop k ms ++ take k ms → cs ≡ drop k bs ++ take k bs → sides_of us ns cs ≡ drop k (sides_of es ms bs) ++ take k (sides_of es ms bs)
+pub sides-turned : (k : ℕ) (es us : List Plane) (ms ns : List Meet) (bs cs : List ℕ) → length ms ≡ length es →
+    length bs ≡ length es → us ≡ drop k es ++ take k es → ns ≡ drop k ms ++ take k ms → cs ≡ drop k bs ++ take k bs →
+    sides_of us ns cs ≡ drop k (sides_of es ms bs) ++ take k (sides_of es ms bs)
 sides-turned k es us ms ns bs cs p q eu en ec =
-    rw (eu, en, ec) (sides-append (drop k es) (take k es) (drop k ms) (take k ms) (drop k bs) (take k bs) (drop_keeps_equal_lengths k es ms p) (drop_keeps_equal_lengths k es bs q)) ∙ (λ i. sides-drop k es ms bs p q i ++ sides-take k es ms bs i)
+    rw (eu, en, ec) (sides-append (drop k es) (take k es) (drop k ms) (take k ms) (drop k bs) (take k bs)
+    (drop_keeps_equal_lengths k es ms p) (drop_keeps_equal_lengths k es bs q))
+    ∙ (λ i. sides-drop k es ms bs p q i ++ sides-take k es ms bs i)
 
 -- ---- plane indices
 each_birth : (P : ℕ → Type 0) (es : List Plane) (ms : List Meet) (bs : List ℕ) → AllByRecursion P bs → AllByRecursion (λ s. P s.plane_index) (sides_of es ms bs)

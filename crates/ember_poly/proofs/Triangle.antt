@@ -70,27 +70,39 @@ module _ (s : ℤ) (f : Vector) (u v w : Corner) where
 
   opposite_uv : value_at (edge_along s f u v) (spot_of_corner w) ≡ neg_ℤ size
   opposite_uv =
-      identity (scalar ∷ vector ∷ vector ∷ vector ∷ vector ∷ []) (λ s f u v w. valueE (edgeE s f u v) (pointE w) ≈ neg (s ⊗ dotE (normalOfE u v w) f)) cancels s f (vector_of u) (vector_of v) (vector_of w)
+      identity (scalar ∷ vector ∷ vector ∷ vector ∷ vector ∷ [])
+      (λ s f u v w. valueE (edgeE s f u v) (pointE w) ≈ neg (s ⊗ dotE (normalOfE u v w) f)) cancels s f (vector_of u)
+      (vector_of v) (vector_of w)
 
   opposite_vw : value_at (edge_along s f v w) (spot_of_corner u) ≡ neg_ℤ size
   opposite_vw =
-      identity (scalar ∷ vector ∷ vector ∷ vector ∷ vector ∷ []) (λ s f u v w. valueE (edgeE s f v w) (pointE u) ≈ neg (s ⊗ dotE (normalOfE u v w) f)) cancels s f (vector_of u) (vector_of v) (vector_of w)
+      identity (scalar ∷ vector ∷ vector ∷ vector ∷ vector ∷ [])
+      (λ s f u v w. valueE (edgeE s f v w) (pointE u) ≈ neg (s ⊗ dotE (normalOfE u v w) f)) cancels s f (vector_of u)
+      (vector_of v) (vector_of w)
 
   opposite_wu : value_at (edge_along s f w u) (spot_of_corner v) ≡ neg_ℤ size
   opposite_wu =
-      identity (scalar ∷ vector ∷ vector ∷ vector ∷ vector ∷ []) (λ s f u v w. valueE (edgeE s f w u) (pointE v) ≈ neg (s ⊗ dotE (normalOfE u v w) f)) cancels s f (vector_of u) (vector_of v) (vector_of w)
+      identity (scalar ∷ vector ∷ vector ∷ vector ∷ vector ∷ [])
+      (λ s f u v w. valueE (edgeE s f w u) (pointE v) ≈ neg (s ⊗ dotE (normalOfE u v w) f)) cancels s f (vector_of u)
+      (vector_of v) (vector_of w)
 
   turn_v : orientation (support_plane u v w) (edge_along s f u v) (edge_along s f v w) ≡ size *ℤ size
   turn_v =
-      identity (scalar ∷ vector ∷ vector ∷ vector ∷ vector ∷ []) (λ s f u v w. turnE (supportE u v w) (edgeE s f u v) (edgeE s f v w) ≈ (s ⊗ dotE (normalOfE u v w) f) ⊗ (s ⊗ dotE (normalOfE u v w) f)) cancels s f (vector_of u) (vector_of v) (vector_of w)
+      identity (scalar ∷ vector ∷ vector ∷ vector ∷ vector ∷ [])
+      (λ s f u v w. turnE (supportE u v w) (edgeE s f u v) (edgeE s f v w) ≈ (s ⊗ dotE (normalOfE u v w) f) ⊗
+      (s ⊗ dotE (normalOfE u v w) f)) cancels s f (vector_of u) (vector_of v) (vector_of w)
 
   turn_w : orientation (support_plane u v w) (edge_along s f v w) (edge_along s f w u) ≡ size *ℤ size
   turn_w =
-      identity (scalar ∷ vector ∷ vector ∷ vector ∷ vector ∷ []) (λ s f u v w. turnE (supportE u v w) (edgeE s f v w) (edgeE s f w u) ≈ (s ⊗ dotE (normalOfE u v w) f) ⊗ (s ⊗ dotE (normalOfE u v w) f)) cancels s f (vector_of u) (vector_of v) (vector_of w)
+      identity (scalar ∷ vector ∷ vector ∷ vector ∷ vector ∷ [])
+      (λ s f u v w. turnE (supportE u v w) (edgeE s f v w) (edgeE s f w u) ≈ (s ⊗ dotE (normalOfE u v w) f) ⊗
+      (s ⊗ dotE (normalOfE u v w) f)) cancels s f (vector_of u) (vector_of v) (vector_of w)
 
   turn_u : orientation (support_plane u v w) (edge_along s f w u) (edge_along s f u v) ≡ size *ℤ size
   turn_u =
-      identity (scalar ∷ vector ∷ vector ∷ vector ∷ vector ∷ []) (λ s f u v w. turnE (supportE u v w) (edgeE s f w u) (edgeE s f u v) ≈ (s ⊗ dotE (normalOfE u v w) f) ⊗ (s ⊗ dotE (normalOfE u v w) f)) cancels s f (vector_of u) (vector_of v) (vector_of w)
+      identity (scalar ∷ vector ∷ vector ∷ vector ∷ vector ∷ [])
+      (λ s f u v w. turnE (supportE u v w) (edgeE s f w u) (edgeE s f u v) ≈ (s ⊗ dotE (normalOfE u v w) f) ⊗
+      (s ⊗ dotE (normalOfE u v w) f)) cancels s f (vector_of u) (vector_of v) (vector_of w)
 
 negative : {a b : ℤ} → pos 0 <ℤ b → a ≡ neg_ℤ b → a <ℤ pos 0
 negative p e = omega (arith, linear, p, e)
@@ -102,18 +114,45 @@ one : pos 0 <ℤ pos 1
 one = omega (arith, linear)
 
 -- the three edges of a triangle_is_convex_ring, if s times the normal's product with f is positive
-triangle_is_convex_ring : (s : ℤ) (f : Vector) (u v w : Corner) → pos 0 <ℤ (s *ℤ dot (normal_of u v w) f) → IsConvexRing (support_plane u v w) (side_along s f u v 0 ∷ side_along s f v w 1 ∷ side_along s f w u 2 ∷ [])
+triangle_is_convex_ring : (s : ℤ) (f : Vector) (u v w : Corner) → pos 0 <ℤ (s *ℤ dot (normal_of u v w) f) →
+    IsConvexRing (support_plane u v w) (side_along s f u v 0 ∷ side_along s f v w 1 ∷ side_along s f w u 2 ∷ [])
 triangle_is_convex_ring s f u v w p =
-    let at_u : IsCornerOf (support_plane u v w) (edge_along s f w u) (side_along s f u v 0) = record { flat = flat_u s f u v w; weight = one; before = ends s f w u v; after = starts s f u v w; turns = square p (turn_u s f u v w) } in
-    let at_v : IsCornerOf (support_plane u v w) (edge_along s f u v) (side_along s f v w 1) = record { flat = flat_v s f u v w; weight = one; before = ends s f u v w; after = starts s f v w u; turns = square p (turn_v s f u v w) } in
-    let at_w : IsCornerOf (support_plane u v w) (edge_along s f v w) (side_along s f w u 2) = record { flat = flat_w s f u v w; weight = one; before = ends s f v w u; after = starts s f w u v; turns = square p (turn_w s f u v w) } in
+    let at_u : IsCornerOf (support_plane u v w) (edge_along s f w u) (side_along s f u v 0) =
+    record {
+      flat = flat_u s f u v w;
+      weight = one;
+      before = ends s f w u v;
+      after = starts s f u v w;
+      turns =
+          square p (turn_u s f u v w);
+    } in
+    let at_v : IsCornerOf (support_plane u v w) (edge_along s f u v) (side_along s f v w 1) =
+    record {
+      flat = flat_v s f u v w;
+      weight = one;
+      before = ends s f u v w;
+      after = starts s f v w u;
+      turns =
+          square p (turn_v s f u v w);
+    } in
+    let at_w : IsCornerOf (support_plane u v w) (edge_along s f v w) (side_along s f w u 2) =
+    record {
+      flat = flat_w s f u v w;
+      weight = one;
+      before = ends s f v w u;
+      after = starts s f w u v;
+      turns =
+          square p (turn_w s f u v w);
+    } in
     let uv : IsBelow (edge_along s f u v) (spot_of_corner w) = record { under = negative p (opposite_uv s f u v w) } in
     let vw : IsBelow (edge_along s f v w) (spot_of_corner u) = record { under = negative p (opposite_vw s f u v w) } in
     let wu : IsBelow (edge_along s f w u) (spot_of_corner v) = record { under = negative p (opposite_wu s f u v w) } in
     (tt, (at_v, (uv, tt), (wu, tt), (at_w, tt, tt, tt)), (at_w, (vw, tt), (uv, tt), (at_u, tt, tt, tt)))
 
 -- the three edge planes along a direction, with the triangle's corners, are a ring
-pub triangle_stands : (s : ℤ) (f : Vector) (u v w : Corner) → pos 0 <ℤ (s *ℤ dot (normal_of u v w) f) → Represents (support_plane u v w) (edge_along s f u v ∷ edge_along s f v w ∷ edge_along s f w u ∷ []) (side_along s f u v 0 ∷ side_along s f v w 1 ∷ side_along s f w u 2 ∷ [])
+pub triangle_stands : (s : ℤ) (f : Vector) (u v w : Corner) → pos 0 <ℤ (s *ℤ dot (normal_of u v w) f) →
+    Represents (support_plane u v w) (edge_along s f u v ∷ edge_along s f v w ∷ edge_along s f w u ∷ [])
+    (side_along s f u v 0 ∷ side_along s f v w 1 ∷ side_along s f w u 2 ∷ [])
 triangle_stands s f u v w p =
     record {
       sound = triangle_is_convex_ring s f u v w p;

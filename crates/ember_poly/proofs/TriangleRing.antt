@@ -1,5 +1,6 @@
 -- The edges of a triangle's face, with its corners, are a ring.
-use Rattle.std.proofs.Common.{◌≡◌, ◌≢◌, inl, refl, sym, ap, subst, ◌∙◌, ℕ, zero, suc, ◌≤◌, Bool, true, false, cond, ◌&&◌, leb, None, Some, List, All, [], ◌∷◌, arith, ℤ, pos, ◌*ℤ◌, ◌<ℤ◌, unsigned_abs}
+use Rattle.std.proofs.Common.{◌≡◌, ◌≢◌, inl, refl, sym, ap, subst, ◌∙◌, ℕ, zero, suc, ◌≤◌, Bool, true, false, cond}
+use Rattle.std.proofs.Common.{◌&&◌, leb, None, Some, List, All, [], ◌∷◌, arith, ℤ, pos, ◌*ℤ◌, ◌<ℤ◌, unsigned_abs}
 use Rattle.std.proofs.lemmas.Int.{ints}
 use Rattle.std.proofs.lemmas.Bool.{leb-true}
 use Rattle.std.proofs.Math.Dec.{leb-zero}
@@ -41,7 +42,9 @@ both_true false b e = absurd (by e)
     by : false ≡ true → ⊥
     by h = cc
 
-by_tests : (p : Plane) → (p.a ≡ pos 0 → p.b ≡ pos 0 → p.c ≡ pos 0 → ⊥) → (x y : Bool) → (leb (unsigned_abs p.b) (unsigned_abs p.a) && leb (unsigned_abs p.c) (unsigned_abs p.a)) ≡ x → leb (unsigned_abs p.c) (unsigned_abs p.b) ≡ y → along p (cond x X (cond y Y Z)) ≢ pos 0
+by_tests : (p : Plane) → (p.a ≡ pos 0 → p.b ≡ pos 0 → p.c ≡ pos 0 → ⊥) → (x y : Bool) →
+    (leb (unsigned_abs p.b) (unsigned_abs p.a) && leb (unsigned_abs p.c) (unsigned_abs p.a)) ≡ x →
+    leb (unsigned_abs p.c) (unsigned_abs p.b) ≡ y → along p (cond x X (cond y Y Z)) ≢ pos 0
 by_tests p n true y e f z =
     let h = both_true (leb (unsigned_abs p.b) (unsigned_abs p.a)) (leb (unsigned_abs p.c) (unsigned_abs p.a)) e in
     n z (no_size p.a p.b (leb-true _ _ h.0) z) (no_size p.a p.c (leb-true _ _ h.1) z)
@@ -71,10 +74,13 @@ dot_unit v d Y = solve 3 (λ x y z. x ⊗ num (pos 0) ⊕ y ⊗ num (pos 1) ⊕ 
 dot_unit v d Z = solve 3 (λ x y z. x ⊗ num (pos 0) ⊕ y ⊗ num (pos 0) ⊕ z ⊗ num (pos 1) ≈ z) cancels v.x v.y v.z
 
 -- the triangle's normal points along its main axis as the sign says
-faces_axis : (t : Tri) → is_flat t ≡ false → pos 0 <ℤ (sign (along (support_of t) (main_axis (support_of t))) *ℤ dot (normal_of t.a t.b t.c) (unit (main_axis (support_of t))))
+faces_axis : (t : Tri) → is_flat t ≡ false → pos 0 <ℤ
+    (sign (along (support_of t) (main_axis (support_of t))) *ℤ dot (normal_of t.a t.b t.c)
+    (unit (main_axis (support_of t))))
 unfolding is_flat
 faces_axis t e =
-    rw (dot_unit (normal_of t.a t.b t.c) (support_of t).d (main_axis (support_of t))) (sign_times (along (support_of t) (main_axis (support_of t))) (main_entry (support_of t) e))
+    rw (dot_unit (normal_of t.a t.b t.c) (support_of t).d (main_axis (support_of t)))
+    (sign_times (along (support_of t) (main_axis (support_of t))) (main_entry (support_of t) e))
 
 -- ---- the ring
 abbrev pub tri_sides : Tri → List Side
@@ -104,18 +110,37 @@ counted t (suc (suc (suc i))) h e = absurd (none e)
 abbrev places : Meet → Meet → Meet → List Meet
 places u v w = u ∷ v ∷ w ∷ []
 
-same_sides : (t : Tri) (u v w : Meet) → spot_of u ≡ spot_of_corner t.a → spot_of v ≡ spot_of_corner t.b → spot_of w ≡ spot_of_corner t.c → sides_of (tri_planes t) (places u v w) (0 ∷ 1 ∷ 2 ∷ []) ≡ tri_sides t
+same_sides : (t : Tri) (u v w : Meet) → spot_of u ≡ spot_of_corner t.a → spot_of v ≡ spot_of_corner t.b →
+    spot_of w ≡ spot_of_corner t.c → sides_of (tri_planes t) (places u v w) (0 ∷ 1 ∷ 2 ∷ []) ≡ tri_sides t
 same_sides t u v w eu ev ew =
     let k = main_axis (support_of t) in let s = sign (along (support_of t) k) in
-    λ i. record { plane = (side_along s (unit k) t.a t.b 0).plane; corner = eu i; plane_index = 0 } ∷ record { plane = (side_along s (unit k) t.b t.c 1).plane; corner = ev i; plane_index = 1 } ∷ record { plane = (side_along s (unit k) t.c t.a 2).plane; corner = ew i; plane_index = 2 } ∷ []
+    λ i. record { plane = (side_along s (unit k) t.a t.b 0).plane; corner = eu i; plane_index = 0 }
+    ∷ record { plane = (side_along s (unit k) t.b t.c 1).plane; corner = ev i; plane_index = 1 }
+    ∷ record { plane = (side_along s (unit k) t.c t.a 2).plane; corner = ew i; plane_index = 2 } ∷ []
 
-ring_of : (t : Tri) (u v w : Meet) → is_flat t ≡ false → spot_of u ≡ spot_of_corner t.a → spot_of v ≡ spot_of_corner t.b → spot_of w ≡ spot_of_corner t.c → IsValidPlane (support_of t) → All IsValidPlane (tri_planes t) → IsRing (support_of t) (tri_planes t) (tri_planes t) (places u v w) (0 ∷ 1 ∷ 2 ∷ [])
+ring_of : (t : Tri) (u v w : Meet) → is_flat t ≡ false → spot_of u ≡ spot_of_corner t.a →
+    spot_of v ≡ spot_of_corner t.b → spot_of w ≡ spot_of_corner t.c → IsValidPlane (support_of t) →
+    All IsValidPlane (tri_planes t) → IsRing (support_of t) (tri_planes t) (tri_planes t) (places u v w) (0 ∷ 1 ∷ 2 ∷ [])
 ring_of t u v w e eu ev ew vn vs =
     let q = sym (same_sides t u v w eu ev ew) in
-    record { represents = subst (λ xs. Represents (support_of t) (tri_planes t) xs) q (stands t e); oldest = subst (λ xs. OldestFirst xs) q (omega arith, (omega arith, tt)); counted = subst (λ xs. EachHasSideOrNoEdge (support_of t) (tri_planes t) xs) q (counted t); corners = refl; plane_indices = refl; support = vn; planes = vs }
+    record {
+      represents = subst (λ xs. Represents (support_of t) (tri_planes t) xs) q (stands t e);
+      oldest =
+          subst (λ xs. OldestFirst xs) q (omega arith, (omega arith, tt));
+      counted =
+          subst (λ xs. EachHasSideOrNoEdge (support_of t) (tri_planes t) xs) q (counted t);
+      corners = refl;
+      plane_indices =
+          refl;
+      support = vn;
+      planes = vs;
+    }
 
 -- from what the code holds
-pub tri_ring : (t : Tri) (n : Plane) (u v w : Meet) {fs gs es : List Plane} {ms : List Meet} {bs : List ℕ} → is_flat t ≡ false → n ≡ support_of t → IsValidPlane n → fs ≡ tri_planes t → All IsValidPlane fs → gs ≡ fs → es ≡ fs → ms ≡ places u v w → bs ≡ 0 ∷ 1 ∷ 2 ∷ [] → spot_of u ≡ spot_of_corner t.a → spot_of v ≡ spot_of_corner t.b → spot_of w ≡ spot_of_corner t.c → IsRing n gs es ms bs
+pub tri_ring : (t : Tri) (n : Plane) (u v w : Meet) {fs gs es : List Plane} {ms : List Meet} {bs : List ℕ} →
+    is_flat t ≡ false → n ≡ support_of t → IsValidPlane n → fs ≡ tri_planes t → All IsValidPlane fs → gs ≡ fs → es ≡ fs →
+    ms ≡ places u v w → bs ≡ 0 ∷ 1 ∷ 2 ∷ [] → spot_of u ≡ spot_of_corner t.a → spot_of v ≡ spot_of_corner t.b →
+    spot_of w ≡ spot_of_corner t.c → IsRing n gs es ms bs
 tri_ring t n u v w {fs} {gs} {es} {ms} {bs} e en vn ef vs eg ee em eb eu ev ew =
     let r = ring_of t u v w e eu ev ew (subst (λ p. IsValidPlane p) en vn) (subst (λ ps. All IsValidPlane ps) ef vs) in
     rw (en, eg, ee, ef, em, eb) r
@@ -128,7 +153,8 @@ flat_is t n b en e =
     ap (λ (p : Plane). is_zero p.a && (is_zero p.b && is_zero p.c)) (sym en) ∙ sym e
 
 -- the support plane with the three edge planes is the face of a triangle that isn't flat
-pub face_is : (t : Tri) (n : Plane) (gs : List Plane) → is_flat t ≡ false → n ≡ support_of t → gs ≡ tri_planes t → Some (record { support = n; edges = gs }) ≡ cond (is_flat t) None (Some (face_of t))
+pub face_is : (t : Tri) (n : Plane) (gs : List Plane) → is_flat t ≡ false → n ≡ support_of t → gs ≡ tri_planes t →
+    Some (record { support = n; edges = gs }) ≡ cond (is_flat t) None (Some (face_of t))
 unfolding face_of
 face_is t n gs e en eg =
     (λ i. Some (record { support = en i; edges = eg i })) ∙ sym (ap (λ b. cond b None (Some (face_of t))) e)

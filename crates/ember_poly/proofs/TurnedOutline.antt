@@ -1,5 +1,6 @@
 -- The outline of a face seen from the other side.
-use Rattle.std.proofs.Common.{◌≡◌, inl, inr, refl, sym, ap, subst, ◌∙◌, arith, not, ◌&&◌, List, [], ◌∷◌, ◌++◌, zero, suc, ℤ, pos, negsuc, ◌*ℤ◌, neg_ℤ, ◌<ℤ◌, ◌≤ℤ◌}
+use Rattle.std.proofs.Common.{◌≡◌, inl, inr, refl, sym, ap, subst, ◌∙◌, arith, not, ◌&&◌, List, [], ◌∷◌, ◌++◌, zero}
+use Rattle.std.proofs.Common.{suc, ℤ, pos, negsuc, ◌*ℤ◌, neg_ℤ, ◌<ℤ◌, ◌≤ℤ◌}
 use Rattle.std.specs.List.{AllByRecursion, list_all}
 use Rattle.ember_algebra.specs.Sign.{is_zero, is_positive}
 use Rattle.ember_algebra.proofs.Laws.{linear}
@@ -10,7 +11,8 @@ use Rattle.ember_model.specs.declared.point.Spot.{Spot}
 use Rattle.ember_model.specs.declared.face.Face.{Face}
 use Rattle.ember_model.specs.Planes.{value_at, opposite}
 use Rattle.ember_model.specs.Faces.{flipped_face}
-use Rattle.ember_model.specs.Edges.{is_on_edge, HasEdge, SameEdge, IsEarliest, position_along, IsBefore, IsNotAfter, RingEdge, IsEdge, IsEdgeChain, HasEdgeOf, HaveDistinctEdges, IsOutline}
+use Rattle.ember_model.specs.Edges.{is_on_edge, HasEdge, SameEdge, IsEarliest, position_along, IsBefore, IsNotAfter}
+use Rattle.ember_model.specs.Edges.{RingEdge, IsEdge, IsEdgeChain, HasEdgeOf, HaveDistinctEdges, IsOutline}
 use Rattle.ember_model.proofs.Tuples.{plane_tuple, spot_tuple, normalE}
 use Rattle.ember_poly.proofs.Chains.{each-push}
 use Rattle.ember_poly.proofs.InsideSigns.{opposite_plane}
@@ -23,7 +25,8 @@ is_zero-neg (negsuc n) = refl
 
 on_turned : (f : Face) (g : Plane) (v : Spot) → is_on_edge (flipped_face f) g v ≡ is_on_edge f g v
 on_turned f g v =
-    ap (λ b. (is_positive v.w && (b && list_all (λ e. not (is_positive (value_at e v))) f.edges)) && is_zero (value_at g v)) (ap is_zero (opposite_plane f.support v) ∙ is_zero-neg (value_at f.support v))
+    ap (λ b. (is_positive v.w && (b && list_all (λ e. not (is_positive (value_at e v))) f.edges))
+    && is_zero (value_at g v)) (ap is_zero (opposite_plane f.support v) ∙ is_zero-neg (value_at f.support v))
 
 same_turned : (f : Face) (g h : Plane) → SameEdge f g h → SameEdge (flipped_face f) g h
 same_turned f g h e v = on_turned f g v ∙ e v ∙ sym (on_turned f h v)
@@ -33,18 +36,33 @@ same_back f g h e v = sym (on_turned f g v) ∙ e v ∙ on_turned f h v
 
 counts_turned : (f : Face) (g : Plane) → HasEdge f g → HasEdge (flipped_face f) g
 counts_turned f g c =
-    record { one = c.one; other = c.other; holds_one = on_turned f g c.one ∙ c.holds_one; holds_other = on_turned f g c.other ∙ c.holds_other; different = c.different }
+    record {
+      one = c.one;
+      other = c.other;
+      holds_one = on_turned f g c.one ∙ c.holds_one;
+      holds_other =
+          on_turned f g c.other ∙ c.holds_other;
+      different = c.different;
+    }
 
 counts_back : (f : Face) (g : Plane) → HasEdge (flipped_face f) g → HasEdge f g
 counts_back f g c =
-    record { one = c.one; other = c.other; holds_one = sym (on_turned f g c.one) ∙ c.holds_one; holds_other = sym (on_turned f g c.other) ∙ c.holds_other; different = c.different }
+    record {
+      one = c.one;
+      other = c.other;
+      holds_one = sym (on_turned f g c.one) ∙ c.holds_one;
+      holds_other =
+          sym (on_turned f g c.other) ∙ c.holds_other;
+      different = c.different;
+    }
 
 abbrev oppositeE : TupleE → TupleE
 oppositeE v = record { x = neg v.x; y = neg v.y; z = neg v.z; w = neg v.w }
 
 reach_turned : (n g : Plane) (v : Spot) → position_along (opposite n) g v ≡ neg_ℤ (position_along n g v)
 reach_turned n g v =
-    identity (tuple ∷ tuple ∷ tuple ∷ []) (λ n g v. dotE (crossE (normalE (oppositeE n)) (normalE g)) (normalE v) ≈ neg (dotE (crossE (normalE n) (normalE g)) (normalE v))) cancels (plane_tuple n) (plane_tuple g) (spot_tuple v)
+    identity (tuple ∷ tuple ∷ tuple ∷ []) (λ n g v. dotE (crossE (normalE (oppositeE n)) (normalE g)) (normalE v) ≈ neg
+    (dotE (crossE (normalE n) (normalE g)) (normalE v))) cancels (plane_tuple n) (plane_tuple g) (spot_tuple v)
 
 before_turned : (n g : Plane) (u v : Spot) → IsBefore n g u v → IsBefore (opposite n) g v u
 before_turned n g u v h =
@@ -69,7 +87,14 @@ from_end e end = record e { start = end }
 edge_turned : (f : Face) (e : RingEdge) (end : Spot) → IsEdge f e end → IsEdge (flipped_face f) (from_end e end) e.start
 edge_turned f e end h =
     record {
-      is_earliest = record { index = h.is_earliest.index; here = h.is_earliest.here; holds = same_turned f e.plane e.plane h.is_earliest.holds; earliest = λ i g l k s. h.is_earliest.earliest i g l k (same_back f g e.plane s) };
+      is_earliest = record {
+        index = h.is_earliest.index;
+        here = h.is_earliest.here;
+        holds =
+            same_turned f e.plane e.plane h.is_earliest.holds;
+        earliest =
+            λ i g l k s. h.is_earliest.earliest i g l k (same_back f g e.plane s);
+      };
       starts = on_turned f e.plane end ∙ h.ends;
       ends = on_turned f e.plane e.start ∙ h.starts;
       leads = before_turned f.support e.plane e.start end h.leads;
@@ -105,7 +130,8 @@ path_cons : (f : Face) (end at : Spot) (d : RingEdge) (xs : List RingEdge) → I
 path_cons f end at d [] h s p = absurd s
 path_cons f end at d (x ∷ xs) h s p = (subst (λ v. IsEdge f d v) (sym s) h, p)
 
-path_back : (f : Face) (end : Spot) (e : RingEdge) (es : List RingEdge) → IsEdgeChain f end (e ∷ es) → IsEdgeChain (flipped_face f) e.start (turn_back end (e ∷ es))
+path_back : (f : Face) (end : Spot) (e : RingEdge) (es : List RingEdge) → IsEdgeChain f end (e ∷ es) →
+    IsEdgeChain (flipped_face f) e.start (turn_back end (e ∷ es))
 path_back f end e [] p = edge_turned f e end p
 path_back f end e (d ∷ es) p =
     path_push (flipped_face f) e.start (turn_back end (d ∷ es)) (from_end e d.start) (path_back f end d es p.1) (edge_turned f e d.start p.0)
@@ -133,7 +159,8 @@ among_back f h end (e ∷ d ∷ es) (inl s) = among_last f h (turn_back end (d �
 among_back f h end (e ∷ d ∷ es) (inr a) =
     among_left f h (turn_back end (d ∷ es)) (from_end e d.start ∷ []) (among_back f h end (d ∷ es) a)
 
-each_edge_back : (P : Plane → Type 0) (end : Spot) (es : List RingEdge) → AllByRecursion (λ e. P e.plane) es → AllByRecursion (λ e. P e.plane) (turn_back end es)
+each_edge_back : (P : Plane → Type 0) (end : Spot) (es : List RingEdge) → AllByRecursion (λ e. P e.plane) es →
+    AllByRecursion (λ e. P e.plane) (turn_back end es)
 each_edge_back P end [] h = tt
 each_edge_back P end (e ∷ []) h = (h.0, tt)
 each_edge_back P end (e ∷ d ∷ es) h =
@@ -143,7 +170,8 @@ each_swap : (f : Face) (p : Plane) (es : List RingEdge) → AllByRecursion (λ d
 each_swap f p [] h = tt
 each_swap f p (e ∷ es) h = (λ s. h.0 (λ v. sym (s v)), each_swap f p es h.1)
 
-each_turned : (f : Face) (p : Plane) (es : List RingEdge) → AllByRecursion (λ d. SameEdge f p d.plane → ⊥) es → AllByRecursion (λ d. SameEdge (flipped_face f) p d.plane → ⊥) es
+each_turned : (f : Face) (p : Plane) (es : List RingEdge) → AllByRecursion (λ d. SameEdge f p d.plane → ⊥) es →
+    AllByRecursion (λ d. SameEdge (flipped_face f) p d.plane → ⊥) es
 each_turned f p [] h = tt
 each_turned f p (e ∷ es) h = (λ s. h.0 (same_back f p e.plane s), each_turned f p es h.1)
 
@@ -151,7 +179,8 @@ apart_turned : (f : Face) (es : List RingEdge) → HaveDistinctEdges f es → Ha
 apart_turned f [] h = tt
 apart_turned f (e ∷ es) h = (each_turned f e.plane es h.0, apart_turned f es h.1)
 
-apart_push : (f : Face) (xs : List RingEdge) (e : RingEdge) → HaveDistinctEdges f xs → AllByRecursion (λ d. SameEdge f d.plane e.plane → ⊥) xs → HaveDistinctEdges f (xs ++ e ∷ [])
+apart_push : (f : Face) (xs : List RingEdge) (e : RingEdge) → HaveDistinctEdges f xs →
+    AllByRecursion (λ d. SameEdge f d.plane e.plane → ⊥) xs → HaveDistinctEdges f (xs ++ e ∷ [])
 apart_push f [] e h k = (tt, tt)
 apart_push f (x ∷ xs) e h k =
     (each-push (λ d. SameEdge f x.plane d.plane → ⊥) xs e h.0 k.0, apart_push f xs e h.1 k.1)
@@ -160,7 +189,8 @@ apart_back : (f : Face) (end : Spot) (es : List RingEdge) → HaveDistinctEdges 
 apart_back f end [] h = tt
 apart_back f end (e ∷ []) h = (tt, tt)
 apart_back f end (e ∷ d ∷ es) h =
-    apart_push f (turn_back end (d ∷ es)) (from_end e d.start) (apart_back f end (d ∷ es) h.1) (each_edge_back (λ p. SameEdge f p e.plane → ⊥) end (d ∷ es) (each_swap f e.plane (d ∷ es) h.0))
+    apart_push f (turn_back end (d ∷ es)) (from_end e d.start) (apart_back f end (d ∷ es) h.1)
+    (each_edge_back (λ p. SameEdge f p e.plane → ⊥) end (d ∷ es) (each_swap f e.plane (d ∷ es) h.0))
 
 -- ---- the outline
 -- the first edge first, and then the others from the last to the second, each from its end to its start
@@ -177,9 +207,14 @@ outline_turned f e d es o =
       rest = turn_back e.start (d ∷ es);
       begins = refl;
       earliest = early (subst (λ (c : RingEdge). IsEarliest (λ h. HasEdge f h) f.edges c.plane) q o.earliest);
-      round = path_cons (flipped_face f) d.start e.start (from_end e d.start) (turn_back e.start (d ∷ es)) (edge_turned f e d.start round.0) (back_starts e.start d es) (path_back f e.start d es round.1);
+      round = path_cons (flipped_face f) d.start e.start (from_end e d.start) (turn_back e.start (d ∷ es))
+          (edge_turned f e d.start round.0) (back_starts e.start d es) (path_back f e.start d es round.1);
       all = λ i h k c. member h (among_turned f h (e ∷ d ∷ es) (o.all i h k (counts_back f h c)));
-      once = (each_edge_back (λ p. SameEdge (flipped_face f) e.plane p → ⊥) e.start (d ∷ es) (each_turned f e.plane (d ∷ es) o.once.0), apart_back (flipped_face f) e.start (d ∷ es) (apart_turned f (d ∷ es) o.once.1));
+      once = (
+        each_edge_back (λ p. SameEdge (flipped_face f) e.plane p →
+            ⊥) e.start (d ∷ es) (each_turned f e.plane (d ∷ es) o.once.0),
+        apart_back (flipped_face f) e.start (d ∷ es) (apart_turned f (d ∷ es) o.once.1),
+      );
     }
   where
     first : {x : RingEdge} {xs : List RingEdge} → e ∷ d ∷ es ≡ x ∷ xs → x ≡ e

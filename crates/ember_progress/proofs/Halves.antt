@@ -45,7 +45,11 @@ few_digits j p low small = lt_of_not-le (λ long. omega (arith, pow_mono long, l
 
 weighs_half : (j k p : ℕ) → j + suc k ≡ 16 → 2 ^ j ≤ p → p < 2 ^ suc j → weight_of (2 * p) * 2 ≡ weight_of p
 weighs_half j k p e low high =
-    rw (weight_between (suc j) k (2 * p) (omega (arith, e)) (omega (arith, pow-suc 2 j)) (omega (arith, pow-suc 2 (suc j))), weight_between j (suc k) p e low high)
+    rw (
+      weight_between (suc j) k (2 * p) (omega (arith, e)) (omega (arith, pow-suc 2 j))
+          (omega (arith, pow-suc 2 (suc j))),
+      weight_between j (suc k) p e low high,
+    )
     (sym (pow-suc 2 k))
 
 pub left_weighs_half : (p : ℕ) → 0 < p → p < 2 ^ 16 → weight_of (2 * p) * 2 ≡ weight_of p

@@ -15,7 +15,10 @@ use Rattle.ember_text.proofs.DocumentsWithFaces.{faces_have_document}
 use Rattle.ember_meaning.specs.Solids.{AreJournalsOfSolid, AreSolidFaces, IsSolid, IsSolidReport}
 use Rattle.ember_query.proofs.SolidRuns.{of_run}
 
-module _ (tris : List Tri) (formula : Formula) (lists : List (List Face)) (journals : List (List Entry)) (count : ℕ) (report : Report) (faces : List Face) (law : LeafFacesJoin tris formula) (are : AreLeafFaces tris formula lists) (holds : AreJournalsOfSolid tris formula journals) (of_journals : report ≡ report_from journals count) (counted : count ≡ length faces) (joined : faces ≡ flat_map (λ list. list) lists) where
+module _ (tris : List Tri) (formula : Formula) (lists : List (List Face)) (journals : List (List Entry)) (count : ℕ)
+    (report : Report) (faces : List Face) (law : LeafFacesJoin tris formula) (are : AreLeafFaces tris formula lists)
+    (holds : AreJournalsOfSolid tris formula journals) (of_journals : report ≡ report_from journals count)
+    (counted : count ≡ length faces) (joined : faces ≡ flat_map (λ list. list) lists) where
   scene_faces : AreSceneFaces tris formula faces
   scene_faces = subst (AreSceneFaces tris formula) (sym joined) (law lists are)
 
@@ -24,7 +27,9 @@ module _ (tris : List Tri) (formula : Formula) (lists : List (List Face)) (journ
       let kept = scene_faces.kept in
       record {
         written = scene_faces.has;
-        report_is = of_run tris formula journals count (length kept) report holds of_journals (counted ∙ AllZip-long IsFaceInText (map written_face kept) faces scene_faces.faces_of ∙ length-map kept written_face);
+        report_is = of_run tris formula journals count (length kept) report holds of_journals
+            (counted ∙ AllZip-long IsFaceInText (map written_face kept) faces scene_faces.faces_of
+            ∙ length-map kept written_face);
       }
 
   -- they are the solid's faces

@@ -30,41 +30,70 @@ use Rattle.ember_query.specs.Leaves.{IsWrittenAt}
 use Rattle.ember_query.specs.Queries.{IsAnswer, IsQuery}
 
 -- what the leaves give answers the query for pairs
-pub pairs_found : (asked : Query) (scene : Bor Scene) (root : Job) (items : Vec (List Pair) Global) → asked ≡ query.Pairs scene → root ≡ job_at scene.now.tris boxes.root → EachAnswers (λ job ps. AreMeetingPairs scene.now.tris job.list ps) (leaves (λ job. pairs_shape scene.now.tris job) root) items.items → IsAnswer asked (answer.Pairs items)
+pub pairs_found : (asked : Query) (scene : Bor Scene) (root : Job) (items : Vec (List Pair) Global) →
+    asked ≡ query.Pairs scene → root ≡ job_at scene.now.tris boxes.root →
+    EachAnswers (λ job ps. AreMeetingPairs scene.now.tris job.list ps)
+    (leaves (λ job. pairs_shape scene.now.tris job) root) items.items → IsAnswer asked (answer.Pairs items)
 pairs_found asked scene root items e f are =
-    subst (λ (asked : Query). IsAnswer asked (answer.Pairs items)) (sym e) (subst (λ (root : Job). EachAnswers (λ job ps. AreMeetingPairs scene.now.tris job.list ps) (leaves (λ job. pairs_shape scene.now.tris job) root) items.items) f are)
+    subst (λ (asked : Query). IsAnswer asked (answer.Pairs items)) (sym e)
+    (subst (λ (root : Job). EachAnswers (λ job ps. AreMeetingPairs scene.now.tris job.list ps)
+    (leaves (λ job. pairs_shape scene.now.tris job) root) items.items) f are)
 
 -- the root is a job of the lattice
-pub fills_root : (asked : Query) (scene : Bor Scene) (expr : Bor Tree) (size : ℕ) (root : Job) → IsQuery asked → asked ≡ query.Fills scene expr size → root ≡ root_job scene.now.tris → lattice.IsVoxelJob scene.now.tris size root
+pub fills_root : (asked : Query) (scene : Bor Scene) (expr : Bor Tree) (size : ℕ) (root : Job) → IsQuery asked →
+    asked ≡ query.Fills scene expr size → root ≡ root_job scene.now.tris → lattice.IsVoxelJob scene.now.tris size root
 fills_root asked scene expr size root may e f =
     let sized : (4 ≤ size) × (size ≤ 12) = subst IsQuery e may in
     subst (lattice.IsVoxelJob scene.now.tris size) (sym f) (root_is_voxel_job scene.now.tris scene.now.meshes size scene.now.kept sized.1)
 
 -- what the leaves give answers the query for fills
-pub fills_found : (asked : Query) (scene : Bor Scene) (expr : Bor Tree) (size : ℕ) (root : Job) (fills : Vec Fill Global) → asked ≡ query.Fills scene expr size → root ≡ root_job scene.now.tris → EachAnswers (IsFill (formula_of expr.now)) (leaves (lattice.shape scene.now.tris (formula_of expr.now) size) root) fills.items → IsAnswer asked (answer.Fills fills)
+pub fills_found : (asked : Query) (scene : Bor Scene) (expr : Bor Tree) (size : ℕ) (root : Job)
+    (fills : Vec Fill Global) → asked ≡ query.Fills scene expr size → root ≡ root_job scene.now.tris →
+    EachAnswers (IsFill (formula_of expr.now)) (leaves (lattice.shape scene.now.tris (formula_of expr.now) size) root)
+    fills.items → IsAnswer asked (answer.Fills fills)
 fills_found asked scene expr size root fills e f are =
-    subst (λ (asked : Query). IsAnswer asked (answer.Fills fills)) (sym e) (subst (λ (root : Job). EachAnswers (IsFill (formula_of expr.now)) (leaves (lattice.shape scene.now.tris (formula_of expr.now) size) root) fills.items) f are)
+    subst (λ (asked : Query). IsAnswer asked (answer.Fills fills)) (sym e)
+    (subst (λ (root : Job). EachAnswers (IsFill (formula_of expr.now))
+    (leaves (lattice.shape scene.now.tris (formula_of expr.now) size) root) fills.items) f are)
 
 -- what the leaves give answers the query for texts
-pub texts_found : (asked : Query) (scene : Bor Scene) (expr : Bor Tree) (root : Job) (found : RunResult FacesText) → asked ≡ query.Texts scene expr → root ≡ root_job scene.now.tris → EachAnswers (λ job text. IsBoxText scene.now.tris (formula_of expr.now) job.cell text) (leaves (values.shape scene.now.tris (formula_of expr.now)) root) found.items.items → AreJournalsOf (values.shape scene.now.tris (formula_of expr.now)) root found.journals → IsAnswer asked (answer.Texts found)
+pub texts_found : (asked : Query) (scene : Bor Scene) (expr : Bor Tree) (root : Job) (found : RunResult FacesText) →
+    asked ≡ query.Texts scene expr → root ≡ root_job scene.now.tris →
+    EachAnswers (λ job text. IsBoxText scene.now.tris (formula_of expr.now) job.cell text)
+    (leaves (values.shape scene.now.tris (formula_of expr.now)) root) found.items.items →
+    AreJournalsOf (values.shape scene.now.tris (formula_of expr.now)) root found.journals →
+    IsAnswer asked (answer.Texts found)
 texts_found asked scene expr root found e f are holds =
     subst (λ (asked : Query). IsAnswer asked (answer.Texts found)) (sym e) (
-      subst (λ (root : Job). EachAnswers (λ job text. IsBoxText scene.now.tris (formula_of expr.now) job.cell text) (leaves (values.shape scene.now.tris (formula_of expr.now)) root) found.items.items) f are,
+      subst (λ (root : Job). EachAnswers (λ job text. IsBoxText scene.now.tris (formula_of expr.now) job.cell text)
+          (leaves (values.shape scene.now.tris (formula_of expr.now)) root) found.items.items) f are,
       subst (λ (root : Job). AreJournalsOf (values.shape scene.now.tris (formula_of expr.now)) root found.journals) f holds,
     )
 
 -- what the leaves give answers the query for faces
-pub faces_found : (asked : Query) (scene : Bor Scene) (expr : Bor Tree) (root : Job) (found : RunResult (List Face)) → asked ≡ query.Faces scene expr → root ≡ root_job scene.now.tris → EachAnswers (λ job faces. AreBoxFaces scene.now.tris (formula_of expr.now) job.cell faces) (leaves (values.shape scene.now.tris (formula_of expr.now)) root) found.items.items → AreJournalsOf (values.shape scene.now.tris (formula_of expr.now)) root found.journals → IsAnswer asked (answer.Faces found)
+pub faces_found : (asked : Query) (scene : Bor Scene) (expr : Bor Tree) (root : Job) (found : RunResult (List Face)) →
+    asked ≡ query.Faces scene expr → root ≡ root_job scene.now.tris →
+    EachAnswers (λ job faces. AreBoxFaces scene.now.tris (formula_of expr.now) job.cell faces)
+    (leaves (values.shape scene.now.tris (formula_of expr.now)) root) found.items.items →
+    AreJournalsOf (values.shape scene.now.tris (formula_of expr.now)) root found.journals →
+    IsAnswer asked (answer.Faces found)
 faces_found asked scene expr root found e f are holds =
     subst (λ (asked : Query). IsAnswer asked (answer.Faces found)) (sym e) (
-      subst (λ (root : Job). EachAnswers (λ job faces. AreBoxFaces scene.now.tris (formula_of expr.now) job.cell faces) (leaves (values.shape scene.now.tris (formula_of expr.now)) root) found.items.items) f are,
+      subst (λ (root : Job). EachAnswers (λ job faces. AreBoxFaces scene.now.tris (formula_of expr.now) job.cell faces)
+          (leaves (values.shape scene.now.tris (formula_of expr.now)) root) found.items.items) f are,
       subst (λ (root : Job). AreJournalsOf (values.shape scene.now.tris (formula_of expr.now)) root found.journals) f holds,
     )
 
 -- what the leaves give answers the query for counts
-pub counts_found : (asked : Query) (scene : Bor Scene) (expr : Bor Tree) (root : Job) (found : RunResult ℕ) → asked ≡ query.Counts scene expr → root ≡ root_job scene.now.tris → EachAnswers (λ job n. IsCount (IsWrittenAt scene.now.tris (formula_of expr.now) job) n) (leaves (values.shape scene.now.tris (formula_of expr.now)) root) found.items.items → AreJournalsOf (values.shape scene.now.tris (formula_of expr.now)) root found.journals → IsAnswer asked (answer.Counts found)
+pub counts_found : (asked : Query) (scene : Bor Scene) (expr : Bor Tree) (root : Job) (found : RunResult ℕ) →
+    asked ≡ query.Counts scene expr → root ≡ root_job scene.now.tris →
+    EachAnswers (λ job n. IsCount (IsWrittenAt scene.now.tris (formula_of expr.now) job) n)
+    (leaves (values.shape scene.now.tris (formula_of expr.now)) root) found.items.items →
+    AreJournalsOf (values.shape scene.now.tris (formula_of expr.now)) root found.journals →
+    IsAnswer asked (answer.Counts found)
 counts_found asked scene expr root found e f are holds =
     subst (λ (asked : Query). IsAnswer asked (answer.Counts found)) (sym e) (
-      subst (λ (root : Job). EachAnswers (λ job n. IsCount (IsWrittenAt scene.now.tris (formula_of expr.now) job) n) (leaves (values.shape scene.now.tris (formula_of expr.now)) root) found.items.items) f are,
+      subst (λ (root : Job). EachAnswers (λ job n. IsCount (IsWrittenAt scene.now.tris (formula_of expr.now) job) n)
+          (leaves (values.shape scene.now.tris (formula_of expr.now)) root) found.items.items) f are,
       subst (λ (root : Job). AreJournalsOf (values.shape scene.now.tris (formula_of expr.now)) root found.journals) f holds,
     )

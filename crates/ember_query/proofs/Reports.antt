@@ -1,5 +1,6 @@
 -- How many boxes a run ends, and how many of each kind.
-use Rattle.std.proofs.Common.{◌≡◌, ℕ, zero, suc, ◌+◌, ◌*◌, ◌<◌, ◌≤◌, ◌^◌, Bool, cond, List, [], ◌∷◌, ◌++◌, length, refl, sym, ap, subst, ◌∙◌, arith, length-append}
+use Rattle.std.proofs.Common.{◌≡◌, ℕ, zero, suc, ◌+◌, ◌*◌, ◌<◌, ◌≤◌, ◌^◌, Bool, cond, List, [], ◌∷◌, ◌++◌, length, refl}
+use Rattle.std.proofs.Common.{sym, ap, subst, ◌∙◌, arith, length-append}
 use Rattle.std.specs.Prelude.{count_by}
 use Rattle.std.specs.List.{fold, sum_by}
 use Rattle.std.proofs.lemmas.List.{length-map}
@@ -17,7 +18,8 @@ abbrev most : ℕ → ℕ
 most zero = 1
 most (suc n) = 2 * most n + 1
 
-few_shape : (shape : Job → Shape) (n : ℕ) → ((job : Job) → length (visited_within shape n job) ≤ most n) → (job : Job) (s : Shape) → length (below_shape (visited_within shape n) job s) ≤ 2 * most n + 1
+few_shape : (shape : Job → Shape) (n : ℕ) → ((job : Job) → length (visited_within shape n job) ≤ most n) →
+    (job : Job) (s : Shape) → length (below_shape (visited_within shape n) job s) ≤ 2 * most n + 1
 few_shape shape n few job (halved low high) =
     let a = few low in let b = few high in
     let e = length-append (job ∷ visited_within shape n low) (visited_within shape n high) in omega (arith, a, b, e)
@@ -52,14 +54,17 @@ count_weighs p xs =
 sum_weighs : {X : Type 0} (f g : X → ℕ) → ((x : X) → f x ≡ g x) → (xs : List X) → sum_by f xs ≡ weigh g xs
 sum_weighs f g e xs = let q : sum_by f xs ≡ 0 + weigh g xs = fold_weighs f g e 0 xs in omega (arith, q)
 
-sum_same : (shape : Job → Shape) (root : Job) (journals : List (List Entry)) → AreJournalsOf shape root journals → (f : List Entry → ℕ) (h : Entry → ℕ) → ((es : List Entry) → f es ≡ weigh h es) → sum_by f journals ≡ sum_by f (entries shape root ∷ [])
+sum_same : (shape : Job → Shape) (root : Job) (journals : List (List Entry)) → AreJournalsOf shape root journals →
+    (f : List Entry → ℕ) (h : Entry → ℕ) → ((es : List Entry) → f es ≡ weigh h es) →
+    sum_by f journals ≡ sum_by f (entries shape root ∷ [])
 sum_same shape root journals holds f h e =
     let a = sum_weighs f (weigh h) e journals in
     let b = sum_weighs f (weigh h) e (entries shape root ∷ []) in
     let c = holds h in omega (arith, a, b, c)
 
 -- the report of the journals is that of the visited boxes
-pub same_report : (shape : Job → Shape) (root : Job) (journals : List (List Entry)) (faces : ℕ) → AreJournalsOf shape root journals → report_from journals faces ≡ run_report shape root faces
+pub same_report : (shape : Job → Shape) (root : Job) (journals : List (List Entry)) (faces : ℕ) →
+    AreJournalsOf shape root journals → report_from journals faces ≡ run_report shape root faces
 same_report shape root journals faces holds =
     let b = sum_same shape root journals holds length (λ x. 1) length_weighs in
     let l = sum_same shape root journals holds (count_by is_leaf) (λ x. cond (is_leaf x) 1 0) (count_weighs is_leaf) in
@@ -67,7 +72,8 @@ same_report shape root journals faces holds =
     λ i. record { boxes = b i; leaves = l i; skipped = s i; faces = faces }
 
 -- the number of all entries fits into 64 bits
-pub entries_fit : (shape : Job → Shape) (root : Job) (journals : List (List Entry)) → root.cell ≡ boxes.root → AreJournalsOf shape root journals → sum_by length journals < 2 ^ 64
+pub entries_fit : (shape : Job → Shape) (root : Job) (journals : List (List Entry)) → root.cell ≡ boxes.root →
+    AreJournalsOf shape root journals → sum_by length journals < 2 ^ 64
 entries_fit shape root journals e holds =
     let b = sum_same shape root journals holds length (λ x. 1) length_weighs in
     let m = length-map (visited shape root) (entry_of shape) in
@@ -80,5 +86,6 @@ weigh_more h [] = refl
 weigh_more h (j ∷ js) = ap (λ (n : ℕ). weigh h j + n) (weigh_more h js)
 
 -- an empty journal of the caller may be left out
-pub holds_alone : (shape : Job → Shape) (root : Job) (journals : List (List Entry)) → AreJournalsOf shape root (journals ++ [] ∷ []) → AreJournalsOf shape root journals
+pub holds_alone : (shape : Job → Shape) (root : Job) (journals : List (List Entry)) →
+    AreJournalsOf shape root (journals ++ [] ∷ []) → AreJournalsOf shape root journals
 holds_alone shape root journals holds h = sym (weigh_more h journals) ∙ holds h

@@ -26,10 +26,13 @@ use Rattle.ember_leaf.specs.declared.kept.Kept.{Kept}
 use Rattle.ember_text.specs.Documents.{IsDocumentText, IsTextOf, joined, written_face}
 
 -- ---- the run
-pub journals_fit : (tris : List Tri) (formula : Formula) (journals : List (List Entry)) → AreJournalsOf (shape tris formula) (root_job tris) journals → sum_by length journals < 2 ^ 64
+pub journals_fit : (tris : List Tri) (formula : Formula) (journals : List (List Entry)) →
+    AreJournalsOf (shape tris formula) (root_job tris) journals → sum_by length journals < 2 ^ 64
 journals_fit tris formula journals holds = entries_fit (shape tris formula) (root_job tris) journals refl holds
 
-pub of_run : (tris : List Tri) (formula : Formula) (journals : List (List Entry)) (faces count : ℕ) (report : Report) → AreJournalsOfSolid tris formula journals → report ≡ report_from journals faces → faces ≡ count → report ≡ run_report (shape tris formula) (root_job tris) count
+pub of_run : (tris : List Tri) (formula : Formula) (journals : List (List Entry)) (faces count : ℕ) (report : Report) →
+    AreJournalsOfSolid tris formula journals → report ≡ report_from journals faces → faces ≡ count →
+    report ≡ run_report (shape tris formula) (root_job tris) count
 of_run tris formula journals faces count report holds e f =
     e ∙ same_report (shape tris formula) (root_job tris) journals faces holds ∙ ap (run_report (shape tris formula) (root_job tris)) f
 
@@ -39,7 +42,10 @@ VisitedWriteAll tris formula =
     (kept : List Kept) → Each (IsWrittenAt tris formula) (leaves (shape tris formula) (root_job tris)) kept → IsWritten tris formula kept
 
 -- the counts of the leaves give the solid's report
-pub is_solid_report : (tris : List Tri) (formula : Formula) (counts : List ℕ) (journals : List (List Entry)) (faces : ℕ) (report : Report) → VisitedWriteAll tris formula → AreRegionCounts tris formula counts → AreJournalsOfSolid tris formula journals → report ≡ report_from journals faces → faces ≡ sum counts → IsSolidReport tris formula report
+pub is_solid_report : (tris : List Tri) (formula : Formula) (counts : List ℕ) (journals : List (List Entry)) (faces : ℕ)
+    (report : Report) → VisitedWriteAll tris formula → AreRegionCounts tris formula counts →
+    AreJournalsOfSolid tris formula journals → report ≡ report_from journals faces → faces ≡ sum counts →
+    IsSolidReport tris formula report
 is_solid_report tris formula counts journals faces report law are holds e f =
     let jobs = leaves (shape tris formula) (root_job tris) in
     let lists = are_counted (IsWrittenAt tris formula) jobs counts are in
@@ -53,19 +59,34 @@ is_solid_report tris formula counts journals faces report law are holds e f =
     }
 
 -- ---- the texts of the leaves
-scene_solid : (tris : List Tri) (formula : Formula) (text : FacesText) (journals : List (List Entry)) (faces : ℕ) (report : Report) → AreJournalsOfSolid tris formula journals → report ≡ report_from journals faces → faces ≡ text.count → (is : IsSceneText tris formula text) → IsSolid tris formula is.kept report
+scene_solid : (tris : List Tri) (formula : Formula) (text : FacesText) (journals : List (List Entry)) (faces : ℕ)
+    (report : Report) → AreJournalsOfSolid tris formula journals → report ≡ report_from journals faces →
+    faces ≡ text.count → (is : IsSceneText tris formula text) → IsSolid tris formula is.kept report
 scene_solid tris formula text journals faces report holds e f is = record {
   written = is.has;
   report_is = of_run tris formula journals faces (length is.kept) report holds e (f ∙ is.text_of.count ∙ length-map is.kept written_face);
 }
 
 -- the texts of the leaves give the solid's document
-pub solid_text_of : (tris : List Tri) (formula : Formula) (texts : List FacesText) (journals : List (List Entry)) (faces : ℕ) (report : Report) (bytes : List ℕ) → LeafTextsJoin tris formula → AreLeafTexts tris formula texts → AreJournalsOfSolid tris formula journals → report ≡ report_from journals faces → faces ≡ (joined texts).count → ((fs : List Face) → IsTextOf fs (joined texts) → IsDocumentText fs bytes) → IsSolidText tris formula bytes
+pub solid_text_of : (tris : List Tri) (formula : Formula) (texts : List FacesText) (journals : List (List Entry))
+    (faces : ℕ) (report : Report) (bytes : List ℕ) → LeafTextsJoin tris formula → AreLeafTexts tris formula texts →
+    AreJournalsOfSolid tris formula journals → report ≡ report_from journals faces → faces ≡ (joined texts).count →
+    ((fs : List Face) → IsTextOf fs (joined texts) → IsDocumentText fs bytes) → IsSolidText tris formula bytes
 solid_text_of tris formula texts journals faces report bytes law are holds e f file =
     let is = law texts are in
-    record { kept = is.kept; report = report; solid = scene_solid tris formula (joined texts) journals faces report holds e f is; text = file (map written_face is.kept) is.text_of }
+    record {
+      kept = is.kept;
+      report = report;
+      solid =
+          scene_solid tris formula (joined texts) journals faces report holds e f is;
+      text =
+          file (map written_face is.kept) is.text_of;
+    }
 
 -- and its report
-pub solid_report_of : (tris : List Tri) (formula : Formula) (texts : List FacesText) (journals : List (List Entry)) (faces : ℕ) (report : Report) → LeafTextsJoin tris formula → AreLeafTexts tris formula texts → AreJournalsOfSolid tris formula journals → report ≡ report_from journals faces → faces ≡ (joined texts).count → IsSolidReport tris formula report
+pub solid_report_of : (tris : List Tri) (formula : Formula) (texts : List FacesText) (journals : List (List Entry))
+    (faces : ℕ) (report : Report) → LeafTextsJoin tris formula → AreLeafTexts tris formula texts →
+    AreJournalsOfSolid tris formula journals → report ≡ report_from journals faces → faces ≡ (joined texts).count →
+    IsSolidReport tris formula report
 solid_report_of tris formula texts journals faces report law are holds e f =
     let is = law texts are in record { kept = is.kept; solid = scene_solid tris formula (joined texts) journals faces report holds e f is }

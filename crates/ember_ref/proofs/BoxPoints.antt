@@ -82,7 +82,15 @@ side_positive n = omega (arith, ints, above n)
 own_unit : (c : Cell) → HasUnit c c.lo
 own_unit c =
     let x = side_positive (c.log X) in let y = side_positive (c.log Y) in let z = side_positive (c.log Z) in
-    record { from_x = omega (arith, linear); from_y = omega (arith, linear); from_z = omega (arith, linear); to_x = omega (arith, linear, x); to_y = omega (arith, linear, y); to_z = omega (arith, linear, z) }
+    record {
+      from_x = omega (arith, linear);
+      from_y = omega (arith, linear);
+      from_z = omega (arith, linear);
+      to_x =
+          omega (arith, linear, x);
+      to_y = omega (arith, linear, y);
+      to_z = omega (arith, linear, z);
+    }
 
 half_unit : (c : Cell) (k : Axis) → 0 < c.log k → HasUnit c (right_half c k).lo
 half_unit c X l =
@@ -116,9 +124,17 @@ pub size_at_least : (z : ℤ) → pos 0 ≤ℤ size z
 size_at_least z = omega (arith, ints)
 
 -- a combination of two points of the closed box is a point of the box
-pub has_combination : (c : Cell) (k m : ℤ) (p q : Spot) → HasPoint c p → HasPoint c q → pos 0 ≤ℤ k → pos 0 ≤ℤ m → pos 0 <ℤ (combination k m p q).w → HasPoint c (combination k m p q)
+pub has_combination : (c : Cell) (k m : ℤ) (p q : Spot) → HasPoint c p → HasPoint c q → pos 0 ≤ℤ k → pos 0 ≤ℤ m →
+    pos 0 <ℤ (combination k m p q).w → HasPoint c (combination k m p q)
 has_combination c k m p q f g a b w =
-    record { weight = w; on_x = combined (aabb_of_cell c).x k m p.x q.x p.w q.w a b f.on_x g.on_x; on_y = combined (aabb_of_cell c).y k m p.y q.y p.w q.w a b f.on_y g.on_y; on_z = combined (aabb_of_cell c).z k m p.z q.z p.w q.w a b f.on_z g.on_z }
+    record {
+      weight = w;
+      on_x = combined (aabb_of_cell c).x k m p.x q.x p.w q.w a b f.on_x g.on_x;
+      on_y =
+          combined (aabb_of_cell c).y k m p.y q.y p.w q.w a b f.on_y g.on_y;
+      on_z =
+          combined (aabb_of_cell c).z k m p.z q.z p.w q.w a b f.on_z g.on_z;
+    }
 
 -- so is the point at which the segment from one to the other meets a plane
 pub has_between : (n : Plane) (c : Cell) (p q : Spot) → HasPoint c p → HasPoint c q → pos 0 <ℤ (between n p q).w → HasPoint c (between n p q)

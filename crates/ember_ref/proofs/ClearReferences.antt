@@ -27,7 +27,8 @@ off_plane : {m : ℕ} (h : Plane) (v : Vector) → m < 2 ^ 27 → EachSmall m (h
 off_plane h v l s e =
     off_horner (2 ^ 27) (value_at h (spot_of_vector v)) h.a h.b h.c l s (sym (value_shifted h (spot_of_vector v) (pos (2 ^ 27))) ∙ e)
 
-off_edge : (u w : Corner) (k : Axis) (v : Vector) → IsValidCorner u → IsValidCorner w → value_at (edge_through u w (unit k)) (reference_at v) ≡ pos 0 → NoNormal (edge_through u w (unit k))
+off_edge : (u w : Corner) (k : Axis) (v : Vector) → IsValidCorner u → IsValidCorner w →
+    value_at (edge_through u w (unit k)) (reference_at v) ≡ pos 0 → NoNormal (edge_through u w (unit k))
 off_edge u w k v iu iw =
     let h = edge_through u w (unit k) in let s = edge_sized u w k (pos 1) iu iw (record { small = le_refl 1 }) in
     off_plane {m = 4095} h v (lit< tt) (subst (Small 4095) (one-*ℤ h.a) s.a, (subst (Small 4095) (one-*ℤ h.b) s.b, (subst (Small 4095) (one-*ℤ h.c) s.c, tt)))

@@ -41,7 +41,8 @@ inside_closed f x h = let p = inside_parts f x h in closed_on f x (positive_in p
 leg_outside : (f : Face) (p q : Spot) → is_inside f (between f.support p q) ≡ false → leg f p q ≡ pos 0
 unfolding leg
 leg_outside f p q e =
-    ap (λ (b : Bool). cond (is_negative (value_at f.support p *ℤ value_at f.support q) && b) (sign (value_at f.support q)) (pos 0)) e ∙ none (is_negative (value_at f.support p *ℤ value_at f.support q))
+    ap (λ (b : Bool). cond (is_negative (value_at f.support p *ℤ value_at f.support q) && b)
+    (sign (value_at f.support q)) (pos 0)) e ∙ none (is_negative (value_at f.support p *ℤ value_at f.support q))
   where
     none : (b : Bool) → cond (b && false) (sign (value_at f.support q)) (pos 0) ≡ pos 0
     none true = refl
@@ -51,7 +52,8 @@ leg_outside f p q e =
 pub leg_far : (c : Cell) (t : Tri) (p q : Spot) → HasPoint c p → HasPoint c q → is_near c t ≡ false → leg (face_of t) p q ≡ pos 0
 leg_far c t p q f g far = by (flat_case t)
   where
-    outside : is_flat t ≡ false → (b : Bool) → is_inside (face_of t) (between (face_of t).support p q) ≡ b → is_inside (face_of t) (between (face_of t).support p q) ≡ false
+    outside : is_flat t ≡ false → (b : Bool) → is_inside (face_of t) (between (face_of t).support p q) ≡ b →
+        is_inside (face_of t) (between (face_of t).support p q) ≡ false
     outside nf true e =
         let x = between (face_of t).support p q in let w = (inside_parts (face_of t) x e).0 in
         absurd (clash (near_point c t x nf (has_between (face_of t).support c p q f g w) (inside_closed (face_of t) x e)) far)
@@ -71,18 +73,24 @@ misses_far c t p q nf far f g k m a b = by (is_in_closed (face_of t) (combinatio
   where
     by : (r : Bool) → is_in_closed (face_of t) (combination k m p q) ≡ r → is_in_closed (face_of t) (combination k m p q) ≡ false
     by true e =
-        let x = combination k m p q in let w = (closed_parts (face_of t) x e).0 in absurd (clash (near_point c t x nf (has_combination c k m p q f g a b w) e) far)
+        let x = combination k m p q in let w = (closed_parts (face_of t) x e).0 in
+        absurd (clash (near_point c t x nf (has_combination c k m p q f g a b w) e) far)
     by false e = e
 
-all_missed : (c : Cell) (p q : Spot) (ts : List Tri) → HasPoint c p → HasPoint c q → All (λ t. is_near c t ≡ false) ts → AllByRecursion (MissesFace p q) (faces_of ts)
+all_missed : (c : Cell) (p q : Spot) (ts : List Tri) → HasPoint c p → HasPoint c q → All (λ t. is_near c t ≡ false) ts →
+    AllByRecursion (MissesFace p q) (faces_of ts)
 all_missed c p q [] f g h = tt
 all_missed c p q (t ∷ ts) f g h =
     by (is_flat t) refl (all_missed c p q ts f g (All-tail (λ t. is_near c t ≡ false) t ts h))
   where
-    by : (b : Bool) → is_flat t ≡ b → AllByRecursion (MissesFace p q) (faces_of ts) → AllByRecursion (MissesFace p q) (map face_of (cond (not b) (t ∷ filter (λ t. not (is_flat t)) ts) (filter (λ t. not (is_flat t)) ts)))
+    by : (b : Bool) → is_flat t ≡ b → AllByRecursion (MissesFace p q) (faces_of ts) →
+        AllByRecursion (MissesFace p q) (map face_of
+        (cond (not b) (t ∷ filter (λ t. not (is_flat t)) ts) (filter (λ t. not (is_flat t)) ts)))
     by true e r = r
     by false e r = (misses_far c t p q e (All-head (λ t. is_near c t ≡ false) t ts h) f g, r)
 
 -- a mesh with no triangle near the box has one winding number at all clear points of the box
-pub winds_far : (a b : Axis) (c : Cell) (p q : Spot) (ts : List Tri) → IsBalanced ts → All (λ t. is_near c t ≡ false) ts → HasPoint c p → HasPoint c q → AreClear (faces_of ts) p → AreClear (faces_of ts) q → wind a (faces_of ts) p ≡ wind b (faces_of ts) q
+pub winds_far : (a b : Axis) (c : Cell) (p q : Spot) (ts : List Tri) → IsBalanced ts →
+    All (λ t. is_near c t ≡ false) ts → HasPoint c p → HasPoint c q → AreClear (faces_of ts) p →
+    AreClear (faces_of ts) q → wind a (faces_of ts) p ≡ wind b (faces_of ts) q
 winds_far a b c p q ts l h f g kp kq = segment_law a b p q ts l f.weight g.weight kp kq (all_missed c p q ts f g h)

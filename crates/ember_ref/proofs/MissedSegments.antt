@@ -42,7 +42,11 @@ apart Y a b e = outer (intervals_meet a.x b.x) (intervals_meet a.y b.y) (interva
 apart Z a b e = ap (λ c. c && intervals_meet a.z b.z) e
 
 -- the segment between two reference points doesn't cross a triangle whose bounding box lies beside the column
-pub leg_missed : (c : Cell) (k : Axis) (along : Axis) (t : Tri) → 0 < c.log k → aabbs_meet_beside along (aabb_of_tri t) (aabb_of_cell (column c k)) ≡ false → leg (face_of t) (reference (right_half c k)) (reference c) ≡ pos 0
+pub leg_missed : (c : Cell) (k : Axis) (along : Axis) (t : Tri) → 0 < c.log k →
+    aabbs_meet_beside along (aabb_of_tri t) (aabb_of_cell (column c k)) ≡ false →
+    leg (face_of t) (reference (right_half c k)) (reference c) ≡ pos 0
 leg_missed c k along t l e =
-    let far : is_near (column c k) t ≡ false = near_is (column c k) t ∙ ap (λ b. b && crosses (support_of t) (aabb_of_cell (column c k))) (apart along (aabb_of_tri t) (aabb_of_cell (column c k)) e) in
+    let far : is_near (column c k) t ≡ false = near_is (column c k) t
+    ∙ ap (λ b. b && crosses (support_of t) (aabb_of_cell (column c k)))
+    (apart along (aabb_of_tri t) (aabb_of_cell (column c k)) e) in
     leg_far (column c k) t (reference (right_half c k)) (reference c) (has_end c k l) (has_start c k) far

@@ -55,14 +55,26 @@ least_part (pos zero) x w s b = rising_low (pos zero) x w s (omega (arith, ints)
 least_part (pos (suc n)) x w s b = rising_low (pos (suc n)) x w s (omega (arith, ints)) b
 least_part (negsuc n) x w s b =
     let z : pos 0 ≤ℤ pos (suc n) = omega (arith, ints) in
-    omega (arith, linear, mul_le z b.to, solve 2 (λ a x. neg a ⊗ x ≈ neg (a ⊗ x)) cancels (pos (suc n)) x, solve 3 (λ w n l. w ⊗ (neg n ⊗ l) ≈ neg (n ⊗ (l ⊗ w))) cancels w (pos (suc n)) s.high)
+    omega (
+      arith,
+      linear,
+      mul_le z b.to,
+      solve 2 (λ a x. neg a ⊗ x ≈ neg (a ⊗ x)) cancels (pos (suc n)) x,
+      solve 3 (λ w n l. w ⊗ (neg n ⊗ l) ≈ neg (n ⊗ (l ⊗ w))) cancels w (pos (suc n)) s.high,
+    )
 
 greatest_part : (n x w : ℤ) (s : Interval) → IsAcross s x w → (n *ℤ x) ≤ℤ (w *ℤ (n *ℤ greatest_end n s))
 greatest_part (pos zero) x w s b = rising_high (pos zero) x w s (omega (arith, ints)) b
 greatest_part (pos (suc n)) x w s b = rising_high (pos (suc n)) x w s (omega (arith, ints)) b
 greatest_part (negsuc n) x w s b =
     let z : pos 0 ≤ℤ pos (suc n) = omega (arith, ints) in
-    omega (arith, linear, mul_le z b.from, solve 2 (λ a x. neg a ⊗ x ≈ neg (a ⊗ x)) cancels (pos (suc n)) x, solve 3 (λ w n l. w ⊗ (neg n ⊗ l) ≈ neg (n ⊗ (l ⊗ w))) cancels w (pos (suc n)) s.low)
+    omega (
+      arith,
+      linear,
+      mul_le z b.from,
+      solve 2 (λ a x. neg a ⊗ x ≈ neg (a ⊗ x)) cancels (pos (suc n)) x,
+      solve 3 (λ w n l. w ⊗ (neg n ⊗ l) ≈ neg (n ⊗ (l ⊗ w))) cancels w (pos (suc n)) s.low,
+    )
 
 -- a plane that is 0 at a point of a box crosses the box
 crosses_there : (p : Plane) (c : Cell) (v : Spot) → HasPoint c v → value_at p v ≡ pos 0 → crosses p (aabb_of_cell c) ≡ true
@@ -70,8 +82,30 @@ unfolding crosses
 crosses_there p c v h z =
     let b = aabb_of_cell c in
     and_from (int_le (least_value p b) p.d) (int_le p.d (greatest_value p b))
-    (le_in (least_value p b) p.d (cancel_le h.weight (omega (arith, linear, z, least_part p.a v.x v.w b.x h.on_x, least_part p.b v.y v.w b.y h.on_y, least_part p.c v.z v.w b.z h.on_z, solve 4 (λ w x y z. w ⊗ (x ⊕ y ⊕ z) ≈ w ⊗ x ⊕ w ⊗ y ⊕ w ⊗ z) cancels v.w (p.a *ℤ least_end p.a b.x) (p.b *ℤ least_end p.b b.y) (p.c *ℤ least_end p.c b.z), solve 2 (λ w d. w ⊗ d ≈ d ⊗ w) cancels v.w p.d))))
-    (le_in p.d (greatest_value p b) (cancel_le h.weight (omega (arith, linear, z, greatest_part p.a v.x v.w b.x h.on_x, greatest_part p.b v.y v.w b.y h.on_y, greatest_part p.c v.z v.w b.z h.on_z, solve 4 (λ w x y z. w ⊗ (x ⊕ y ⊕ z) ≈ w ⊗ x ⊕ w ⊗ y ⊕ w ⊗ z) cancels v.w (p.a *ℤ greatest_end p.a b.x) (p.b *ℤ greatest_end p.b b.y) (p.c *ℤ greatest_end p.c b.z), solve 2 (λ w d. w ⊗ d ≈ d ⊗ w) cancels v.w p.d))))
+    (le_in (least_value p b) p.d (cancel_le h.weight
+    (omega (
+      arith,
+      linear,
+      z,
+      least_part p.a v.x v.w b.x h.on_x,
+      least_part p.b v.y v.w b.y h.on_y,
+      least_part p.c v.z v.w b.z h.on_z,
+      solve 4 (λ w x y z. w ⊗ (x ⊕ y ⊕ z) ≈ w ⊗ x ⊕ w ⊗ y ⊕ w ⊗ z) cancels v.w
+          (p.a *ℤ least_end p.a b.x) (p.b *ℤ least_end p.b b.y) (p.c *ℤ least_end p.c b.z),
+      solve 2 (λ w d. w ⊗ d ≈ d ⊗ w) cancels v.w p.d,
+    ))))
+    (le_in p.d (greatest_value p b) (cancel_le h.weight
+    (omega (
+      arith,
+      linear,
+      z,
+      greatest_part p.a v.x v.w b.x h.on_x,
+      greatest_part p.b v.y v.w b.y h.on_y,
+      greatest_part p.c v.z v.w b.z h.on_z,
+      solve 4 (λ w x y z. w ⊗ (x ⊕ y ⊕ z) ≈ w ⊗ x ⊕ w ⊗ y ⊕ w ⊗ z) cancels v.w
+          (p.a *ℤ greatest_end p.a b.x) (p.b *ℤ greatest_end p.b b.y) (p.c *ℤ greatest_end p.c b.z),
+      solve 2 (λ w d. w ⊗ d ≈ d ⊗ w) cancels v.w p.d,
+    ))))
 
 -- ---- the bounding box
 -- above the coordinate d of an axis, times s
@@ -93,10 +127,13 @@ corner_is Z u = refl
 -- if all corners lie past a coordinate, so does each point of the closed face
 corner_value : (k : Axis) (s d : ℤ) (u : Corner) → d ≤ℤ (s *ℤ entry_along k (vector_of u)) → pos 0 ≤ℤ value_at (axis_plane k s d) (spot_of_corner u)
 corner_value k s d u l =
-    let e = axis_value k s d (spot_of_corner u) in let f = ap (λ (x : ℤ). s *ℤ x) (corner_is k u) in let g : d *ℤ pos 1 ≡ d = omega (arith, ints) in omega (arith, linear, e, f, g, l)
+    let e = axis_value k s d (spot_of_corner u) in let f = ap (λ (x : ℤ). s *ℤ x) (corner_is k u) in
+    let g : d *ℤ pos 1 ≡ d = omega (arith, ints) in omega (arith, linear, e, f, g, l)
 
 -- if all corners of a triangle are on one side of a place along an axis, so is its closed face
-pub past_corners : (k : Axis) (s d : ℤ) (t : Tri) (v : Spot) → is_flat t ≡ false → d ≤ℤ (s *ℤ entry_along k (vector_of t.a)) → d ≤ℤ (s *ℤ entry_along k (vector_of t.b)) → d ≤ℤ (s *ℤ entry_along k (vector_of t.c)) → is_in_closed (face_of t) v ≡ true → (d *ℤ v.w) ≤ℤ (s *ℤ coordinate k v)
+pub past_corners : (k : Axis) (s d : ℤ) (t : Tri) (v : Spot) → is_flat t ≡ false →
+    d ≤ℤ (s *ℤ entry_along k (vector_of t.a)) → d ≤ℤ (s *ℤ entry_along k (vector_of t.b)) →
+    d ≤ℤ (s *ℤ entry_along k (vector_of t.c)) → is_in_closed (face_of t) v ≡ true → (d *ℤ v.w) ≤ℤ (s *ℤ coordinate k v)
 past_corners k s d t v nf a b c h =
     let p = axis_plane k s d in let e = axis_value k s d v in
     let r = above_corners t p v nf (corner_value k s d t.a a) (corner_value k s d t.b b) (corner_value k s d t.c c) h in omega (arith, linear, e, r)
@@ -131,12 +168,20 @@ some_above a b c h f =
     (λ l. second (int_le h a) (int_le h b) (int_le h c) (le_in h b l)))
     (λ l. first (int_le h a) (int_le h b) (int_le h c) (le_in h a l))
 
-meets_along : (c : Cell) (k : Axis) (t : Tri) (v : Spot) → is_flat t ≡ false → pos 0 <ℤ v.w → (low c k *ℤ v.w) ≤ℤ coordinate k v → coordinate k v ≤ℤ (high c k *ℤ v.w) → is_in_closed (face_of t) v ≡ true → spans_meet c t k ≡ true
+meets_along : (c : Cell) (k : Axis) (t : Tri) (v : Spot) → is_flat t ≡ false → pos 0 <ℤ v.w →
+    (low c k *ℤ v.w) ≤ℤ coordinate k v → coordinate k v ≤ℤ (high c k *ℤ v.w) → is_in_closed (face_of t) v ≡ true →
+    spans_meet c t k ≡ true
 meets_along c k t v nf w lo hi h =
     let a = entry_along k (vector_of t.a) in let b = entry_along k (vector_of t.b) in let d = entry_along k (vector_of t.c) in
     and_from (int_le a (high c k) || (int_le b (high c k) || int_le d (high c k))) (int_le (low c k) a || (int_le (low c k) b || int_le (low c k) d))
-    (some_below a b d (high c k) (λ x y z. let r = past_corners k (pos 1) (high c k +ℤ pos 1) t v nf (up a x) (up b y) (up d z) h in let e = solve 2 (λ h w. (h ⊕ num (pos 1)) ⊗ w ≈ h ⊗ w ⊕ w) cancels (high c k) v.w in let f = solve 1 (λ x. num (pos 1) ⊗ x ≈ x) cancels (coordinate k v) in omega (arith, linear, r, e, f, w, hi)))
-    (some_above a b d (low c k) (λ x y z. let r = past_corners k (negsuc 0) (pos 1 -ℤ low c k) t v nf (down a x) (down b y) (down d z) h in let e = solve 2 (λ h w. (num (pos 1) ⊖ h) ⊗ w ≈ w ⊖ h ⊗ w) cancels (low c k) v.w in let f = solve 1 (λ x. num (negsuc 0) ⊗ x ≈ neg x) cancels (coordinate k v) in omega (arith, linear, r, e, f, w, lo)))
+    (some_below a b d (high c k) (λ x y z. let r =
+    past_corners k (pos 1) (high c k +ℤ pos 1) t v nf (up a x) (up b y) (up d z) h in let e =
+    solve 2 (λ h w. (h ⊕ num (pos 1)) ⊗ w ≈ h ⊗ w ⊕ w) cancels (high c k) v.w in let f =
+    solve 1 (λ x. num (pos 1) ⊗ x ≈ x) cancels (coordinate k v) in omega (arith, linear, r, e, f, w, hi)))
+    (some_above a b d (low c k) (λ x y z. let r =
+    past_corners k (negsuc 0) (pos 1 -ℤ low c k) t v nf (down a x) (down b y) (down d z) h in let e =
+    solve 2 (λ h w. (num (pos 1) ⊖ h) ⊗ w ≈ w ⊖ h ⊗ w) cancels (low c k) v.w in let f =
+    solve 1 (λ x. num (negsuc 0) ⊗ x ≈ neg x) cancels (coordinate k v) in omega (arith, linear, r, e, f, w, lo)))
   where
     up : (x : ℤ) → high c k <ℤ x → (high c k +ℤ pos 1) ≤ℤ (pos 1 *ℤ x)
     up x l = let f = solve 1 (λ x. num (pos 1) ⊗ x ≈ x) cancels x in omega (arith, linear, f, l)

@@ -66,13 +66,22 @@ exchanged false true v = refl
 exchanged false false v = refl
 
 -- where n is the support plane, s and e its signs at the ends, and v what they tell
-pub leg_told : (k : Axis) (p q : List ℤ) (t : Tri) (n : Plane) (s e : Sign) (v : ℤ) → DifferAlong k (reference_at_list p) (reference_at_list q) → n ≡ support_of t → s ≡ sgn (value_at n (reference_at_list p)) → e ≡ sgn (value_at n (reference_at_list q)) → v ≡ cond (is_neg (times s e)) (number e) (pos 0) → leg (face_of t) (reference_at_list p) (reference_at_list q) ≡ cond (all_negative (edge_planes t k) (reference_at_list p)) v (pos 0)
+pub leg_told : (k : Axis) (p q : List ℤ) (t : Tri) (n : Plane) (s e : Sign) (v : ℤ) →
+    DifferAlong k (reference_at_list p) (reference_at_list q) → n ≡ support_of t →
+    s ≡ sgn (value_at n (reference_at_list p)) → e ≡ sgn (value_at n (reference_at_list q)) →
+    v ≡ cond (is_neg (times s e)) (number e) (pos 0) →
+    leg (face_of t) (reference_at_list p) (reference_at_list q) ≡ cond
+    (all_negative (edge_planes t k) (reference_at_list p)) v (pos 0)
 leg_told k p q t n s e v d en es ee ev =
-    let x = value_at (support_of t) (reference_at_list p) in let y = value_at (support_of t) (reference_at_list q) in let b = all_negative (edge_planes t k) (reference_at_list p) in
-    let sx = es ∙ ap (λ (n : Plane). sgn (value_at n (reference_at_list p))) en in let sy = ee ∙ ap (λ (n : Plane). sgn (value_at n (reference_at_list q))) en in
+    let x = value_at (support_of t) (reference_at_list p) in let y = value_at (support_of t) (reference_at_list q) in
+    let b = all_negative (edge_planes t k) (reference_at_list p) in
+    let sx = es ∙ ap (λ (n : Plane). sgn (value_at n (reference_at_list p))) en in let sy =
+    ee ∙ ap (λ (n : Plane). sgn (value_at n (reference_at_list q))) en in
     let m = ap is_neg (sgn-mul x y) in let f = sign-number y in
     let told = ev ∙ (λ i. cond (is_neg (times (sx i) (sy i))) (number (sy i)) (pos 0)) in
-    leg_is k (reference_at_list p) (reference_at_list q) t (weight_of p) (weight_of q) d ∙ (λ i. cond (m i && b) (f i) (pos 0)) ∙ exchanged (is_neg (times (sgn x) (sgn y))) b (number (sgn y)) ∙ ap (λ (v : ℤ). cond b v (pos 0)) (sym told)
+    leg_is k (reference_at_list p) (reference_at_list q) t (weight_of p) (weight_of q) d
+    ∙ (λ i. cond (m i && b) (f i) (pos 0)) ∙ exchanged (is_neg (times (sgn x) (sgn y))) b (number (sgn y))
+    ∙ ap (λ (v : ℤ). cond b v (pos 0)) (sym told)
 
 -- 0 is what a condition gives if both its branches are 0
 pub nothing_told : (b : Bool) (v : ℤ) → v ≡ pos 0 → pos 0 ≡ cond b v (pos 0)

@@ -27,21 +27,28 @@ next_sign : {m : ℕ} (n : ℕ) (v a : ℤ) → Small m a → m < n → sgn (v *
 next_sign n v a s l =
     by_sign v
     (λ p. sgn_pos (large_pos s l p) ∙ sym (ap (λ (s : Sign). or_sign s (sgn a)) (sgn_pos p)))
-    (λ z. let e = zero_times v (pos n) z in let f : v *ℤ pos n +ℤ a ≡ a = omega (arith, linear, e) in ap sgn f ∙ sym (ap (λ (v : ℤ). or_sign (sgn v) (sgn a)) z))
+    (λ z. let e = zero_times v (pos n) z in let f : v *ℤ pos n +ℤ a ≡ a = omega (arith, linear, e) in
+    ap sgn f ∙ sym (ap (λ (v : ℤ). or_sign (sgn v) (sgn a)) z))
     (λ p. sgn_neg (large_neg s l p) ∙ sym (ap (λ (s : Sign). or_sign s (sgn a)) (sgn_neg p)))
 
 abbrev pub sign_beside : Plane → Vector → Sign
 sign_beside p v = or_sign (sgn (value_at p (spot_of_vector v))) (or_sign (sgn p.a) (or_sign (sgn p.b) (sgn p.c)))
 
 -- with any number above the entries' sizes in the place of 2^27
-pub sign_near : {m : ℕ} (n : ℕ) (p : Plane) (v : Vector) → m < n → Small m p.a → Small m p.b → Small m p.c → sgn (value_at p (offset_by (spot_of_vector v) (pos n))) ≡ sign_beside p v
+pub sign_near : {m : ℕ} (n : ℕ) (p : Plane) (v : Vector) → m < n → Small m p.a → Small m p.b → Small m p.c →
+    sgn (value_at p (offset_by (spot_of_vector v) (pos n))) ≡ sign_beside p v
 sign_near n p v l a b c =
     let x = value_at p (spot_of_vector v) in let y = x *ℤ pos n +ℤ p.a in let z = y *ℤ pos n +ℤ p.b in
     let e = next_sign n x p.a a l in let f = next_sign n y p.b b l in let g = next_sign n z p.c c l in
-    ap sgn (value_shifted p (spot_of_vector v) (pos n)) ∙ g ∙ ap (λ (s : Sign). or_sign s (sgn p.c)) (f ∙ ap (λ (s : Sign). or_sign s (sgn p.b)) e) ∙ ap (λ (s : Sign). or_sign s (sgn p.c)) (or_sign_assoc (sgn x) (sgn p.a) (sgn p.b)) ∙ or_sign_assoc (sgn x) (or_sign (sgn p.a) (sgn p.b)) (sgn p.c) ∙ ap (λ (s : Sign). or_sign (sgn x) s) (or_sign_assoc (sgn p.a) (sgn p.b) (sgn p.c))
+    ap sgn (value_shifted p (spot_of_vector v) (pos n)) ∙ g
+    ∙ ap (λ (s : Sign). or_sign s (sgn p.c)) (f ∙ ap (λ (s : Sign). or_sign s (sgn p.b)) e)
+    ∙ ap (λ (s : Sign). or_sign s (sgn p.c)) (or_sign_assoc (sgn x) (sgn p.a) (sgn p.b))
+    ∙ or_sign_assoc (sgn x) (or_sign (sgn p.a) (sgn p.b)) (sgn p.c)
+    ∙ ap (λ (s : Sign). or_sign (sgn x) s) (or_sign_assoc (sgn p.a) (sgn p.b) (sgn p.c))
 
 -- the sign of a plane at a reference point, by the corner and then by the plane's coefficients
-pub sign_at_reference : {m : ℕ} (p : Plane) (v : Vector) → m < 2 ^ 27 → Small m p.a → Small m p.b → Small m p.c → sgn (value_at p (reference_at v)) ≡ sign_beside p v
+pub sign_at_reference : {m : ℕ} (p : Plane) (v : Vector) → m < 2 ^ 27 → Small m p.a → Small m p.b → Small m p.c →
+    sgn (value_at p (reference_at v)) ≡ sign_beside p v
 sign_at_reference p v l a b c = sign_near (2 ^ 27) p v l a b c
 
 -- ---- it is zero only if the normal is

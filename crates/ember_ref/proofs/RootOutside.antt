@@ -1,5 +1,6 @@
 -- The reference point of the root box lies outside all meshes.
-use Rattle.std.proofs.Common.{◌≡◌, inl, inr, ◌⊎◌, refl, ap, ◌∙◌, arith, ℕ, Bool, true, false, cond, ◌&&◌, List, get_or, replicate, ℤ, pos, negsuc, ◌+ℤ◌, ◌*ℤ◌, neg_ℤ, ◌<ℤ◌, ◌≤ℤ◌}
+use Rattle.std.proofs.Common.{◌≡◌, inl, inr, ◌⊎◌, refl, ap, ◌∙◌, arith, ℕ, Bool, true, false, cond, ◌&&◌, List, get_or}
+use Rattle.std.proofs.Common.{replicate, ℤ, pos, negsuc, ◌+ℤ◌, ◌*ℤ◌, neg_ℤ, ◌<ℤ◌, ◌≤ℤ◌}
 use borrow.Author.Differences.{ints}
 use Rattle.ember_algebra.specs.Size.{Small}
 use Rattle.ember_algebra.specs.Sign.{sign, is_negative}
@@ -40,7 +41,8 @@ at_least (negsuc n) s = omega (arith, ints, s.small)
 crossing_outside : (f : Face) (p : Spot) → is_inside f (hit f.support X p) ≡ false → crossing f X p ≡ pos 0
 unfolding crossing
 crossing_outside f p e =
-    ap (λ (b : Bool). cond (is_negative (value_at f.support p *ℤ along f.support X) && b) (sign (along f.support X)) (pos 0)) e ∙ none (is_negative (value_at f.support p *ℤ along f.support X))
+    ap (λ (b : Bool). cond (is_negative (value_at f.support p *ℤ along f.support X) && b) (sign (along f.support X))
+    (pos 0)) e ∙ none (is_negative (value_at f.support p *ℤ along f.support X))
   where
     none : (b : Bool) → cond (b && false) (sign (along f.support X)) (pos 0) ≡ pos 0
     none true = refl
@@ -50,10 +52,12 @@ crossing_outside f p e =
 crossing_below : (t : Tri) (p : Spot) → IsValidTri t → (p.y +ℤ pos 2047 *ℤ p.w) <ℤ pos 0 → crossing (face_of t) X p ≡ pos 0
 crossing_below t p v l = by (flat_case t)
   where
-    outside : is_flat t ≡ false → (b : Bool) → is_inside (face_of t) (hit (face_of t).support X p) ≡ b → is_inside (face_of t) (hit (face_of t).support X p) ≡ false
+    outside : is_flat t ≡ false → (b : Bool) → is_inside (face_of t) (hit (face_of t).support X p) ≡ b →
+        is_inside (face_of t) (hit (face_of t).support X p) ≡ false
     outside nf true e =
         let k = size (along (face_of t).support X) in let x = hit (face_of t).support X p in
-        let h = past_corners Y (pos 1) (neg_ℤ (pos 2047)) t x nf (at_least t.a.y v.a.y) (at_least t.b.y v.b.y) (at_least t.c.y v.c.y) (inside_closed (face_of t) x e) in
+        let h = past_corners Y (pos 1) (neg_ℤ (pos 2047)) t x nf (at_least t.a.y v.a.y) (at_least t.b.y v.b.y)
+        (at_least t.c.y v.c.y) (inside_closed (face_of t) x e) in
         absurd (below_all k p.y p.w (size_at_least (along (face_of t).support X)) l h (inside_parts (face_of t) x e).0)
     outside nf false e = e
 

@@ -16,9 +16,11 @@ use Rattle.ember_ref.proofs.BoxPoints.{has_reference, has_half_reference}
 use Rattle.ember_ref.proofs.FarTriangles.{legs_near}
 
 -- the winding numbers at the right half's reference point, by those at the box's and the near triangles
-pub shift_law : (ts ns : List Tri) (c : Cell) (k : Axis) (counts : List ℤ) → 0 < c.log k → Fits ts ns c counts → vector_at ts (right_half c k) ≡ counts_at_right_half ns c k counts
+pub shift_law : (ts ns : List Tri) (c : Cell) (k : Axis) (counts : List ℤ) → 0 < c.log k → Fits ts ns c counts →
+    vector_at ts (right_half c k) ≡ counts_at_right_half ns c k counts
 shift_law ts ns c k counts l f =
     let p = reference (right_half c k) in let q = reference c in
-    let law = legs_law ts 64 f.scene k X p q (weight_at (right_half c k).lo) (weight_at c.lo) (halves_differ c k) (clear_references (right_half c k).lo ts f.scene.valid) (clear_references c.lo ts f.scene.valid) in
+    let law = legs_law ts 64 f.scene k X p q (weight_at (right_half c k).lo) (weight_at c.lo) (halves_differ c k)
+    (clear_references (right_half c k).lo ts f.scene.valid) (clear_references c.lo ts f.scene.valid) in
     let legs = sym (legs_near ts c p q (has_half_reference c k l) (has_reference c)) ∙ ap (λ (us : List Tri). leg_vector us p q) f.near in
     law ∙ ap2 added f.at legs

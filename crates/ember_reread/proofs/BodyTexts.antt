@@ -57,7 +57,9 @@ count_of : {fs : List Face} {a b : List ℕ} (h : HasFaces fs a b) → length h.
 count_of h = sym (ap (λ (l : List Face). length l) h.are ∙ length-map h.faces face_in)
 
 -- a text that goes on with no face, and not with the ending, is no body of a face file
-pub no_body : {fs : List Face} {bytes rest : List ℕ} → IsShort bytes → HasFaces fs bytes rest → ((w : WrittenFace) (r : List ℕ) → IsFaceLines w rest r → ⊥) → (rest ≡ ending (length fs) → ⊥) → (gs : List Face) → IsBody gs bytes → ⊥
+pub no_body : {fs : List Face} {bytes rest : List ℕ} → IsShort bytes → HasFaces fs bytes rest →
+    ((w : WrittenFace) (r : List ℕ) → IsFaceLines w rest r → ⊥) → (rest ≡ ending (length fs) → ⊥) → (gs : List Face) →
+    IsBody gs bytes → ⊥
 no_body {fs} {bytes} {rest} q h f e gs k =
     ⊎_elim
     (λ n. e (chain_same_end IsShort stays_short faces_end q h.lines k.faces.lines n ∙ ap ending (sym (count_of k.faces) ∙ sym n ∙ count_of h)))
@@ -71,8 +73,11 @@ no_body {fs} {bytes} {rest} q h f e gs k =
 pub faces_text : {ws : List WrittenFace} {a b : List ℕ} → Chain IsFaceLines ws a b → (a ≡ flat_map lines_in ws ++ b) × AllByRecursion IsWrittenFace ws
 faces_text done = (refl, tt)
 faces_text (step {x = w} {xs = ws} {c = c} h k) =
-    let t = faces_text k in
-    (h.is ∙ ap (λ l. lines_in w ++ l) t.0 ∙ sym (append_assoc (lines_in w) (flat_map lines_in ws) c) ∙ ap (λ l. l ++ c) (sym (flat_map-cons lines_in w ws)), (h.written, t.1))
+    let t = faces_text k in (
+      h.is ∙ ap (λ l. lines_in w ++ l) t.0 ∙ sym (append_assoc (lines_in w) (flat_map lines_in ws) c)
+          ∙ ap (λ l. l ++ c) (sym (flat_map-cons lines_in w ws)),
+      (h.written, t.1),
+    )
 
 -- written faces, face by face
 pub faces_chain : (ws : List WrittenFace) (rest : List ℕ) → AllByRecursion IsWrittenFace ws → Chain IsFaceLines ws (flat_map lines_in ws ++ rest) rest
@@ -96,8 +101,19 @@ file_found {fs} {bytes} {s} e h =
 pub no_file : {bytes s : List ℕ} → bytes ≡ header ++ s → ((fs : List Face) → IsBody fs s → ⊥) → (fs : List Face) → IsFaceFile bytes fs → ⊥
 no_file {bytes} {s} e f fs h =
     let n : length fs ≡ length h.written = ap (λ (l : List Face). length l) h.faces ∙ length-map h.written face_in in
-    let rest : s ≡ flat_map lines_in h.written ++ ending (length fs) = tail_injective (tail_injective (tail_injective (tail_injective (tail_injective (tail_injective (tail_injective (tail_injective (sym e ∙ h.is)))))))) ∙ ap (λ k. flat_map lines_in h.written ++ ending k) (sym n) in
-    f fs (record { faces = record { faces = h.written; lines = subst (λ a. Chain IsFaceLines h.written a (ending (length fs))) (sym rest) (faces_chain h.written (ending (length fs)) (each_of IsWrittenFace h.written h.well_formed)); are = h.faces } })
+    let rest : s ≡ flat_map lines_in h.written ++ ending (length fs) =
+    tail_injective (tail_injective (tail_injective
+    (tail_injective (tail_injective (tail_injective (tail_injective (tail_injective (sym e ∙ h.is))))))))
+    ∙ ap (λ k. flat_map lines_in h.written ++ ending k) (sym n) in
+    f fs (record {
+      faces = record {
+        faces = h.written;
+        lines =
+            subst (λ a. Chain IsFaceLines h.written a (ending (length fs))) (sym rest)
+            (faces_chain h.written (ending (length fs)) (each_of IsWrittenFace h.written h.well_formed));
+        are = h.faces;
+      };
+    })
 
 faces_fit : {ws : List WrittenFace} {a b : List ℕ} → Chain IsFaceLines ws a b → length ws ≤ length a
 faces_fit done = omega arith

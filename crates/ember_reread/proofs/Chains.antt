@@ -2,7 +2,8 @@
 use Rattle.std.proofs.Common.{◌≡◌, refl, subst, arith, ◌<◌, List, length}
 use Rattle.ember_algebra.specs.Relations.{Chain, done, step}
 
-module _ {X A : Type 0} {R : X → A → A → Type 0} (Q : A → Type 0) (keeps : (x : X) (a b : A) → Q a → R x a b → Q b) (end : (x y : X) (a b c : A) → Q a → R x a b → R y a c → b ≡ c) where
+module _ {X A : Type 0} {R : X → A → A → Type 0} (Q : A → Type 0) (keeps : (x : X) (a b : A) → Q a → R x a b →
+    Q b) (end : (x y : X) (a b c : A) → Q a → R x a b → R y a c → b ≡ c) where
   -- one member more, where another chain from the same start is longer
   pub chain_ahead : {xs ys : List X} {a b c : A} → Q a → Chain R xs a b → Chain R ys a c → length xs < length ys → (y : X) × (d : A) × R y b d
   chain_ahead h done done l = absurd (omega arith)

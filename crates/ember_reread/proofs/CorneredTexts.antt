@@ -21,7 +21,8 @@ no_cornered_edges bytes e =
     record { lines = subst (λ (es : List CorneredEdge). Chain IsEdgeLine (map edge_of es) bytes bytes) (sym e) done; many = ap length e }
 
 -- one edge more
-pub push_cornered_edge : {n : ℕ} (e : CorneredEdge) {es fs : List CorneredEdge} {a b c : List ℕ} → HasCorneredEdges n es a b → IsEdgeLine (edge_of e) b c → fs ≡ es ++ e ∷ [] → HasCorneredEdges (n + 1) fs a c
+pub push_cornered_edge : {n : ℕ} (e : CorneredEdge) {es fs : List CorneredEdge} {a b c : List ℕ} →
+    HasCorneredEdges n es a b → IsEdgeLine (edge_of e) b c → fs ≡ es ++ e ∷ [] → HasCorneredEdges (n + 1) fs a c
 push_cornered_edge e {es = es} {a = a} {c = c} h k q =
     let same = sym (map-append edge_of es (e ∷ [])) ∙ ap (map edge_of) (sym q) in
     record {
@@ -35,7 +36,8 @@ planes_of_cornered [] = refl
 planes_of_cornered (e ∷ es) = ap (λ (ps : List Plane). e.plane ∷ ps) (planes_of_cornered es)
 
 -- the edges without their corners
-pub cornered_are_edges : {n : ℕ} {es : List CorneredEdge} {a b : List ℕ} → HasCorneredEdges n es a b → HasEdges n (map (λ (e : RingEdge). e.plane) (map edge_of es)) a b
+pub cornered_are_edges : {n : ℕ} {es : List CorneredEdge} {a b : List ℕ} → HasCorneredEdges n es a b →
+    HasEdges n (map (λ (e : RingEdge). e.plane) (map edge_of es)) a b
 cornered_are_edges {es = es} h =
     record { edges = map edge_of es; lines = h.lines; many = length-map es edge_of ∙ h.many; planes = refl }
 
@@ -45,7 +47,9 @@ pub no_cornered_faces : {fs : List CorneredFace} (bytes : List ℕ) → fs ≡ [
 no_cornered_faces bytes e = subst (λ (fs : List CorneredFace). Chain IsFaceLines (map face_of fs) bytes bytes) (sym e) done
 
 -- one face more
-pub push_cornered_face : (f : CorneredFace) (fs : List CorneredFace) {gs : List CorneredFace} {a b c : List ℕ} → Chain IsFaceLines (map face_of fs) a b → IsFaceLines (face_of f) b c → gs ≡ fs ++ f ∷ [] → Chain IsFaceLines (map face_of gs) a c
+pub push_cornered_face : (f : CorneredFace) (fs : List CorneredFace) {gs : List CorneredFace} {a b c : List ℕ} →
+    Chain IsFaceLines (map face_of fs) a b → IsFaceLines (face_of f) b c → gs ≡ fs ++ f ∷ [] →
+    Chain IsFaceLines (map face_of gs) a c
 push_cornered_face f fs {a = a} {c = c} h k q =
     subst (λ (ws : List WrittenFace). Chain IsFaceLines ws a c) (sym (map-append face_of fs (f ∷ [])) ∙ ap (map face_of) (sym q)) (chain_push h k)
 
@@ -58,7 +62,9 @@ pub as_many_cornered : (fs : List CorneredFace) → length (map face_in (map fac
 as_many_cornered fs = length-map (map face_of fs) face_in ∙ length-map fs face_of
 
 -- the last line ends a body
-pub cornered_body : (fs : List CorneredFace) {bytes rest : List ℕ} {count : ℕ} → Chain IsFaceLines (map face_of fs) bytes rest → rest ≡ ending count → count ≡ length fs → IsCorneredBody (map face_of fs) bytes
+pub cornered_body : (fs : List CorneredFace) {bytes rest : List ℕ} {count : ℕ} →
+    Chain IsFaceLines (map face_of fs) bytes rest → rest ≡ ending count → count ≡ length fs →
+    IsCorneredBody (map face_of fs) bytes
 cornered_body fs {bytes} h e many =
     subst (λ (rest : List ℕ). Chain IsFaceLines (map face_of fs) bytes rest) (e ∙ ap ending (many ∙ sym (length-map fs face_of))) h
 

@@ -1,5 +1,7 @@
 -- Digits, and the numbers that they spell.
-use Rattle.std.proofs.Common.{◌≡◌, sym, ap, ◌∙◌, arith, ℕ, zero, suc, ◌+◌, ◌-◌, ◌*◌, ◌/◌, ◌%◌, ◌^◌, ◌<◌, ◌≤◌, true, false, not, ◌&&◌, eqb, List, [], ◌∷◌, ◌++◌, length, get_or, length-append, decimal, append-nil, append_assoc, rules}
+use Rattle.std.proofs.Common.{◌≡◌, sym, ap, ◌∙◌, arith, ℕ, zero, suc, ◌+◌, ◌-◌, ◌*◌, ◌/◌, ◌%◌, ◌^◌, ◌<◌, ◌≤◌, true}
+use Rattle.std.proofs.Common.{false, not, ◌&&◌, eqb, List, [], ◌∷◌, ◌++◌, length, get_or, length-append, decimal}
+use Rattle.std.proofs.Common.{append-nil, append_assoc, rules}
 use Rattle.std.specs.List.{list_all}
 use Rattle.std.specs.Char.{is_ascii_digit, digit_value}
 use Rattle.std.specs.Str.Parse.{AllDigits, digits_value, digits_value_after}
@@ -30,15 +32,20 @@ pub decimal_injective_wide : (m n : ℕ) → m < 10 ^ 64 → n < 10 ^ 64 → dec
 decimal_injective_wide m n p q e = sym (number_decimal m p) ∙ ap (number_from 0) e ∙ number_decimal n q
 
 -- what follows the digits of a number spells the rest of it
-decimal_after : (n : ℕ) (ds : List ℕ) → 0 < n → AllDigits 10 ds → digits_value_after 10 n ds < 10 ^ 64 → n ≤ digits_value_after 10 n ds × (decimal (digits_value_after 10 n ds) ≡ decimal n ++ ds)
+decimal_after : (n : ℕ) (ds : List ℕ) → 0 < n → AllDigits 10 ds → digits_value_after 10 n ds < 10 ^ 64 →
+    n ≤ digits_value_after 10 n ds × (decimal (digits_value_after 10 n ds) ≡ decimal n ++ ds)
 decimal_after n [] some d small = (omega arith, sym (append-nil (decimal n)))
 decimal_after n (c ∷ cs) some d small =
     let m : ℕ = n * 10 + digit_value c in
     let k = digit_value_digit c (digit_from_value c d.0) in
     let front : m / 10 ≡ n = omega (arith, d.0) in
     let end : 48 + m % 10 ≡ c = omega (arith, d.0) in
-    let more = decimal_after m cs (omega arith) d.1 small in
-    (omega (arith, more.0), more.1 ∙ ap (λ x. x ++ cs) (decimal_step_wide m (omega arith) (omega (arith, more.0)) ∙ (λ i. decimal (front i) ++ (end i ∷ []))) ∙ append_assoc (decimal n) (c ∷ []) cs)
+    let more = decimal_after m cs (omega arith) d.1 small in (
+      omega (arith, more.0),
+      more.1 ∙ ap (λ x. x ++ cs)
+          (decimal_step_wide m (omega arith) (omega (arith, more.0)) ∙ (λ i. decimal (front i) ++ (end i ∷ [])))
+          ∙ append_assoc (decimal n) (c ∷ []) cs,
+    )
 
 decimal_value : (ds : List ℕ) → AllDigits 10 ds → is_padded ds ≡ false → digits_value 10 ds < 10 ^ 64 → decimal (digits_value 10 ds) ≡ ds
 decimal_value [] d lead small = absurd (cc)
@@ -81,6 +88,7 @@ size_value {n = n} l h =
     ap (number_from 0) h.is ∙ number_decimal n (omega (arith, h.small))
 
 -- unpadded digits are the size that they spell
-pub value_size : {most : ℕ} {ds : List ℕ} → most < 2 ^ 124 → list_all is_ascii_digit ds ≡ true → is_padded ds ≡ false → number_from 0 ds ≤ most → IsSize most (number_from 0 ds) ds
+pub value_size : {most : ℕ} {ds : List ℕ} → most < 2 ^ 124 → list_all is_ascii_digit ds ≡ true → is_padded ds ≡ false →
+    number_from 0 ds ≤ most → IsSize most (number_from 0 ds) ds
 value_size {ds = ds} l d p small =
     record { small = small; is = sym (decimal_number ds d p (omega arith)) }

@@ -1,5 +1,6 @@
 -- The lines of faces, line by line.
-use Rattle.std.proofs.Common.{◌≡◌, refl, sym, ap, subst, ◌∙◌, arith, ℕ, suc, ◌+◌, ◌^◌, ◌<◌, ◌≤◌, List, [], ◌∷◌, ◌++◌, length, length-append, map, flat_map, append_assoc, All}
+use Rattle.std.proofs.Common.{◌≡◌, refl, sym, ap, subst, ◌∙◌, arith, ℕ, suc, ◌+◌, ◌^◌, ◌<◌, ◌≤◌, List, [], ◌∷◌, ◌++◌}
+use Rattle.std.proofs.Common.{length, length-append, map, flat_map, append_assoc, All}
 use Rattle.std.specs.List.{AllByRecursion}
 use Rattle.std.proofs.lemmas.List.{map-append}
 use Rattle.std.proofs.lemmas.List.Concat.{flat_map-cons}
@@ -48,7 +49,9 @@ edges_end : (x y : RingEdge) (a b c : List ℕ) → Any a → IsEdgeLine x a b �
 edges_end x y a b c q h k = (same_edge h k).1
 
 -- if fewer edges than needed are followed by no edge line, there aren't that many
-pub no_more_edges : {n count : ℕ} {ps : List Plane} {a b : List ℕ} → HasEdges n ps a b → n < count → ((e : RingEdge) (rest : List ℕ) → IsEdgeLine e b rest → ⊥) → (qs : List Plane) (rest : List ℕ) → HasEdges count qs a rest → ⊥
+pub no_more_edges : {n count : ℕ} {ps : List Plane} {a b : List ℕ} → HasEdges n ps a b → n < count →
+    ((e : RingEdge) (rest : List ℕ) → IsEdgeLine e b rest → ⊥) → (qs : List Plane) (rest : List ℕ) →
+    HasEdges count qs a rest → ⊥
 no_more_edges h l f qs rest k =
     let t = chain_ahead Any (λ x a b q r. tt) edges_end tt h.lines k.lines (omega (arith, l, h.many, k.many)) in f t.0 t.1 t.2
 
@@ -56,8 +59,11 @@ no_more_edges h l f qs rest k =
 edges_text : {es : List RingEdge} {a b : List ℕ} → Chain IsEdgeLine es a b → (a ≡ flat_map edge_line es ++ b) × AllByRecursion IsWrittenEdge es
 edges_text done = (refl, tt)
 edges_text (step {x = e} {xs = es} {c = c} h k) =
-    let t = edges_text k in
-    (h.is ∙ ap (λ l. edge_line e ++ l) t.0 ∙ sym (append_assoc (edge_line e) (flat_map edge_line es) c) ∙ ap (λ l. l ++ c) (sym (flat_map-cons edge_line e es)), (h.written, t.1))
+    let t = edges_text k in (
+      h.is ∙ ap (λ l. edge_line e ++ l) t.0 ∙ sym (append_assoc (edge_line e) (flat_map edge_line es) c)
+          ∙ ap (λ l. l ++ c) (sym (flat_map-cons edge_line e es)),
+      (h.written, t.1),
+    )
 
 -- written edges, line by line
 pub edges_chain : (es : List RingEdge) (rest : List ℕ) → AllByRecursion IsWrittenEdge es → Chain IsEdgeLine es (flat_map edge_line es ++ rest) rest
@@ -88,7 +94,12 @@ module _ {w : WrittenFace} {bytes rest : List ℕ} (h : IsFaceLines w bytes rest
 
   pub face_support : IsSupportLine w.support (length w.edges) bytes behind_support
   face_support =
-      record { plane = h.written.support; enough = h.written.at_least_three; is = h.is ∙ append_assoc (support_line w.support (length w.edges)) (flat_map edge_line w.edges) rest }
+      record {
+        plane = h.written.support;
+        enough = h.written.at_least_three;
+        is =
+            h.is ∙ append_assoc (support_line w.support (length w.edges)) (flat_map edge_line w.edges) rest;
+      }
 
   face_edges : HasEdges (length w.edges) (map (λ (e : RingEdge). e.plane) w.edges) behind_support rest
   face_edges =
@@ -96,20 +107,32 @@ module _ {w : WrittenFace} {bytes rest : List ℕ} (h : IsFaceLines w bytes rest
 
   face_fits : length w.edges ≤ length bytes
   face_fits =
-      omega (arith, ap (λ (q : List ℕ). length q) face_support.is, length-append (support_line w.support (length w.edges)) behind_support, length-append (flat_map edge_line w.edges) rest, edges_fit w.edges)
+      omega (
+        arith,
+        ap (λ (q : List ℕ). length q) face_support.is,
+        length-append (support_line w.support (length w.edges)) behind_support,
+        length-append (flat_map edge_line w.edges) rest,
+        edges_fit w.edges,
+      )
 
 -- bytes without a support line aren't the lines of a face
-pub no_face_support : {bytes : List ℕ} → ((n : Plane) (count : ℕ) (rest : List ℕ) → count ≤ length bytes → IsSupportLine n count bytes rest → ⊥) → (w : WrittenFace) (rest : List ℕ) → IsFaceLines w bytes rest → ⊥
+pub no_face_support : {bytes : List ℕ} → ((n : Plane) (count : ℕ) (rest : List ℕ) → count ≤ length bytes →
+    IsSupportLine n count bytes rest → ⊥) → (w : WrittenFace) (rest : List ℕ) → IsFaceLines w bytes rest → ⊥
 no_face_support f w rest h = f _ _ _ (face_fits h) (face_support h)
 
 -- bytes with a support line, but without its edges, aren't the lines of a face
-pub no_face_edges : {n : Plane} {count : ℕ} {bytes t : List ℕ} → length bytes < 10 ^ 64 → count ≤ length bytes → IsSupportLine n count bytes t → ((ps : List Plane) (rest : List ℕ) → HasEdges count ps t rest → ⊥) → (w : WrittenFace) (rest : List ℕ) → IsFaceLines w bytes rest → ⊥
+pub no_face_edges : {n : Plane} {count : ℕ} {bytes t : List ℕ} → length bytes < 10 ^ 64 → count ≤ length bytes →
+    IsSupportLine n count bytes t → ((ps : List Plane) (rest : List ℕ) → HasEdges count ps t rest → ⊥) →
+    (w : WrittenFace) (rest : List ℕ) → IsFaceLines w bytes rest → ⊥
 no_face_edges {n} {count} {bytes} {t} l k s f w rest h =
     let e = same_support (omega (arith, l, face_fits h)) (omega (arith, l, k)) (face_support h) s in
-    f _ rest (subst (λ b. HasEdges count (map (λ (e : RingEdge). e.plane) w.edges) b rest) e.2 (subst (λ m. HasEdges m (map (λ (e : RingEdge). e.plane) w.edges) (behind_support h) rest) e.1 (face_edges h)))
+    f _ rest (subst (λ b. HasEdges count (map (λ (e : RingEdge). e.plane) w.edges) b rest) e.2
+    (subst (λ m. HasEdges m (map (λ (e : RingEdge). e.plane) w.edges) (behind_support h) rest) e.1 (face_edges h)))
 
 -- a support line with its edges is the lines of a face
-pub face_lines_found : {n : Plane} {count : ℕ} {bytes t rest : List ℕ} (es : List RingEdge) → IsSupportLine n count bytes t → Chain IsEdgeLine es t rest → length es ≡ count → IsFaceLines (record { support = n; edges = es }) bytes rest
+pub face_lines_found : {n : Plane} {count : ℕ} {bytes t rest : List ℕ} (es : List RingEdge) →
+    IsSupportLine n count bytes t → Chain IsEdgeLine es t rest → length es ≡ count →
+    IsFaceLines (record { support = n; edges = es }) bytes rest
 face_lines_found {n} {count} {bytes} {t} {rest} es s h many =
     let texts = edges_text h in
     let lines : bytes ≡ support_line n (length es) ++ t = s.is ∙ ap (λ m. support_line n m ++ t) (sym many) in
@@ -119,7 +142,9 @@ face_lines_found {n} {count} {bytes} {t} {rest} es s h many =
     }
 
 -- and they have this face
-pub face_found : {n : Plane} {count : ℕ} {ps : List Plane} {f : Face} {bytes t rest : List ℕ} → IsSupportLine n count bytes t → HasEdges count ps t rest → f ≡ record { support = n; edges = ps } → HasFace f bytes rest
+pub face_found : {n : Plane} {count : ℕ} {ps : List Plane} {f : Face} {bytes t rest : List ℕ} →
+    IsSupportLine n count bytes t → HasEdges count ps t rest → f ≡ record { support = n; edges = ps } →
+    HasFace f bytes rest
 face_found {n} s h e =
     record {
       face = record { support = n; edges = h.edges };

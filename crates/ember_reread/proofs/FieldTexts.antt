@@ -40,7 +40,8 @@ module _ {most last : ℕ} {bytes b : List ℕ} {x : ℤ} (hx : IsField most x b
     no_last hz f v rest h = f _ _ (subst (λ l. IsField last v.w l rest) (same_rest (third v rest h) hz) h.w)
 
 -- a line has one reading as four fields
-pub same_fields : {m n : ℕ} {u v : Four} {bytes r s : List ℕ} → m < 10 ^ 64 → n < 10 ^ 64 → AreFields m n u bytes r → AreFields m n v bytes s → (u ≡ v) × (r ≡ s)
+pub same_fields : {m n : ℕ} {u v : Four} {bytes r s : List ℕ} → m < 10 ^ 64 → n < 10 ^ 64 → AreFields m n u bytes r →
+    AreFields m n v bytes s → (u ≡ v) × (r ≡ s)
 same_fields {m} {n} {u} {v} {bytes} {r} {s} l k h i =
     let ex = same_field l h.x i.x in
     let hy = subst (λ b. IsField m u.y b h.after_y) (same_rest h.x i.x) h.y in

@@ -36,9 +36,11 @@ four_numbers v = v.x ∷ v.y ∷ v.z ∷ v.w ∷ []
 
 four_spaced : {m n : ℕ} {v : Four} {bytes rest : List ℕ} → AreFields m n v bytes rest → bytes ≡ spaced (four_numbers v) rest
 four_spaced {v = v} h =
-    h.x.is ∙ ap (λ l. 32 ∷ (signed_decimal v.x ++ l)) (h.y.is ∙ ap (λ l. 32 ∷ (signed_decimal v.y ++ l)) (h.z.is ∙ ap (λ l. 32 ∷ (signed_decimal v.z ++ l)) h.w.is))
+    h.x.is ∙ ap (λ l. 32 ∷ (signed_decimal v.x ++ l))
+    (h.y.is ∙ ap (λ l. 32 ∷ (signed_decimal v.y ++ l)) (h.z.is ∙ ap (λ l. 32 ∷ (signed_decimal v.z ++ l)) h.w.is))
 
-spaced_four : {m n : ℕ} (v : Four) (rest : List ℕ) → Small m v.x → Small m v.y → Small m v.z → Small n v.w → IsEnd rest → AreFields m n v (spaced (four_numbers v) rest) rest
+spaced_four : {m n : ℕ} (v : Four) (rest : List ℕ) → Small m v.x → Small m v.y → Small m v.z → Small n v.w →
+    IsEnd rest → AreFields m n v (spaced (four_numbers v) rest) rest
 spaced_four v rest sx sy sz sw e =
     record {
       after_x = spaced (v.y ∷ v.z ∷ v.w ∷ []) rest;
@@ -140,7 +142,9 @@ module _ {bytes s : List ℕ} (name : bytes ≡ 101 ∷ s) where
       edge_found {rest} end =
           record {
             written = record { plane = plane_valid plane; start = corner.written };
-            is = name ∙ ap (λ l. 101 ∷ l) (plane_spaced plane ∙ ap (λ l. spaced (plane_numbers p) l) (corner_spaced corner ∙ ap (λ l. spaced (corner_numbers v) l) end)) ∙ sym (line_spaced 101 (p.a ∷ p.b ∷ p.c ∷ p.d ∷ corner_numbers v) rest);
+            is = name ∙ ap (λ l. 101 ∷ l) (plane_spaced plane
+                ∙ ap (λ l. spaced (plane_numbers p) l) (corner_spaced corner ∙ ap (λ l. spaced (corner_numbers v) l) end))
+                ∙ sym (line_spaced 101 (p.a ∷ p.b ∷ p.c ∷ p.d ∷ corner_numbers v) rest);
           }
 
 -- a line is that of one edge
@@ -190,7 +194,8 @@ module _ {bytes s : List ℕ} (name : bytes ≡ 102 ∷ s) where
   no_support_plane f n count rest l h = f _ _ (support_plane (support_parts h))
 
   module _ {p : Plane} {t : List ℕ} (plane : IsPlane p s t) where
-    support_number : {most : ℕ} {n : Plane} {count : ℕ} {rest : List ℕ} → count ≤ most → SupportParts n count bytes rest → IsField most (pos count) t (10 ∷ rest)
+    support_number : {most : ℕ} {n : Plane} {count : ℕ} {rest : List ℕ} → count ≤ most →
+        SupportParts n count bytes rest → IsField most (pos count) t (10 ∷ rest)
     support_number {most} {n} {count} {rest} l q =
         larger l (subst (λ b. IsField count (pos count) b (10 ∷ rest)) (same_planes (support_plane q) plane).1 q.number)
 
@@ -209,7 +214,9 @@ module _ {bytes s : List ℕ} (name : bytes ≡ 102 ∷ s) where
           record {
             plane = plane_valid plane;
             enough = l;
-            is = name ∙ ap (λ l. 102 ∷ l) (plane_spaced plane ∙ ap (λ l. spaced (plane_numbers p) l) (number.is ∙ (λ i. 32 ∷ (signed_decimal (e i) ++ end i)))) ∙ sym (line_spaced 102 (p.a ∷ p.b ∷ p.c ∷ p.d ∷ pos count ∷ []) rest);
+            is = name ∙ ap (λ l. 102 ∷ l) (plane_spaced plane
+                ∙ ap (λ l. spaced (plane_numbers p) l) (number.is ∙ (λ i. 32 ∷ (signed_decimal (e i) ++ end i))))
+                ∙ sym (line_spaced 102 (p.a ∷ p.b ∷ p.c ∷ p.d ∷ pos count ∷ []) rest);
           }
 
 -- two readings of it have one plane, and what follows is the same
@@ -220,7 +227,8 @@ support_line_once {count = count} {r = r} h i =
     (t.0, tail_injective (same_rest (subst (λ b. IsField count (pos count) b (10 ∷ r)) t.1 p.number) q.number))
 
 -- a support line has one reading
-pub same_support : {n m : Plane} {count many : ℕ} {bytes r s : List ℕ} → count < 10 ^ 64 → many < 10 ^ 64 → IsSupportLine n count bytes r → IsSupportLine m many bytes s → (n ≡ m) × (count ≡ many) × (r ≡ s)
+pub same_support : {n m : Plane} {count many : ℕ} {bytes r s : List ℕ} → count < 10 ^ 64 → many < 10 ^ 64 →
+    IsSupportLine n count bytes r → IsSupportLine m many bytes s → (n ≡ m) × (count ≡ many) × (r ≡ s)
 same_support {n} {m} {count} {many} {bytes} {r} {s} k l h i =
     let p = support_parts h in let q = support_parts i in
     let f = support_number q.name q.plane {most = 10 ^ 64 - 1} (omega arith) p in

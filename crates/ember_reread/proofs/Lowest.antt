@@ -49,7 +49,13 @@ add_entry a b t x y e f = omega (arith, ints, e, f)
 
 add_multiple : (a b : ℕ) (t u v : Spot) → IsMultiple a t u → IsMultiple b t (less v u) → IsMultiple (b + a) t v
 add_multiple a b t u v h k =
-    record { x = add_entry a b t.x u.x v.x h.x k.x; y = add_entry a b t.y u.y v.y h.y k.y; z = add_entry a b t.z u.z v.z h.z k.z; w = add_entry a b t.w u.w v.w h.w k.w }
+    record {
+      x = add_entry a b t.x u.x v.x h.x k.x;
+      y = add_entry a b t.y u.y v.y h.y k.y;
+      z =
+          add_entry a b t.z u.z v.z h.z k.z;
+      w = add_entry a b t.w u.w v.w h.w k.w;
+    }
 
 equal_entry : (a b x y : ℤ) → pos 0 <ℤ a → b -ℤ a ≡ pos 0 → b *ℤ x ≡ a *ℤ y → y ≡ pos 1 *ℤ x
 equal_entry a b x y p e s =
@@ -66,7 +72,20 @@ unit_of (suc n) u v p q l s =
     by_sign (v.w -ℤ u.w)
     (λ h. let k = unit_of n u (less v u) p h (omega (arith, ints, p, q, l)) (same_less u v s) in
     record { unit = k.unit; a = k.a; b = k.b + k.a; first = k.first; second = add_multiple k.a k.b k.unit u v k.first k.second })
-    (λ e. record { unit = u; a = 1; b = 1; first = once u; second = record { x = equal_entry u.w v.w u.x v.x p e s.x; y = equal_entry u.w v.w u.y v.y p e s.y; z = equal_entry u.w v.w u.z v.z p e s.z; w = omega (arith, ints, e) } })
+    (λ e. record {
+      unit = u;
+      a = 1;
+      b = 1;
+      first = once u;
+      second =
+          record {
+            x = equal_entry u.w v.w u.x v.x p e s.x;
+            y = equal_entry u.w v.w u.y v.y p e s.y;
+            z =
+                equal_entry u.w v.w u.z v.z p e s.z;
+            w = omega (arith, ints, e);
+          };
+    })
     (λ h. let k = unit_of n v (less u v) q (omega (arith, ints, h)) (omega (arith, ints, p, q, l)) (same_less v u (turned s)) in
     record { unit = k.unit; a = k.b + k.a; b = k.a; first = add_multiple k.a k.b k.unit v u k.first k.second; second = k.first })
 
@@ -87,7 +106,10 @@ pub same_lowest : (u v : Spot) → pos 0 <ℤ u.w → pos 0 <ℤ v.w → SamePoi
 same_lowest u v p q s l m =
     let k = unit_of (unsigned_abs (u.w +ℤ v.w)) u v p q (omega (arith, ints, p, q)) s in
     let a = only_once k.first l in let b = only_once k.second m in
-    same_spot (same_entry k.a k.b k.unit.x u.x v.x a b k.first.x k.second.x) (same_entry k.a k.b k.unit.y u.y v.y a b k.first.y k.second.y) (same_entry k.a k.b k.unit.z u.z v.z a b k.first.z k.second.z) (same_entry k.a k.b k.unit.w u.w v.w a b k.first.w k.second.w)
+    same_spot (same_entry k.a k.b k.unit.x u.x v.x a b k.first.x k.second.x)
+    (same_entry k.a k.b k.unit.y u.y v.y a b k.first.y k.second.y)
+    (same_entry k.a k.b k.unit.z u.z v.z a b k.first.z k.second.z)
+    (same_entry k.a k.b k.unit.w u.w v.w a b k.first.w k.second.w)
 
 -- a point of weight 1 is in lowest terms
 pub whole_lowest : (v : Spot) → v.w ≡ pos 1 → IsLowest v

@@ -1,5 +1,6 @@
 -- The texts of numbers, at the front of bytes
-use Rattle.std.proofs.Common.{◌≡◌, refl, sym, ap, ◌∙◌, arith, ℕ, zero, suc, ◌+◌, ◌/◌, ◌%◌, ◌^◌, ◌<◌, ◌≤◌, Bool, true, false, ◌&&◌, cond, eqb, leb, List, [], ◌∷◌, ◌++◌, length, ℤ, pos, negsuc, decimal}
+use Rattle.std.proofs.Common.{◌≡◌, refl, sym, ap, ◌∙◌, arith, ℕ, zero, suc, ◌+◌, ◌/◌, ◌%◌, ◌^◌, ◌<◌, ◌≤◌, Bool, true}
+use Rattle.std.proofs.Common.{false, ◌&&◌, cond, eqb, leb, List, [], ◌∷◌, ◌++◌, length, ℤ, pos, negsuc, decimal}
 use Rattle.std.specs.List.{list_all}
 use Rattle.std.specs.Char.{is_ascii_digit}
 use Rattle.std.specs.Fmt.{digits, digits_onto, digit_glyph}
@@ -49,8 +50,10 @@ front [] (b ∷ bs) p e =
     (none_passed (b ∷ digits_of bs) [] (is_ascii_digit b) t, none_passed (behind_digits bs) (b ∷ bs) (is_ascii_digit b) t)
 front (d ∷ ds) r p e =
     let q = both (is_ascii_digit d) (list_all is_ascii_digit ds) p in
-    let f = front ds r q.1 e in
-    (digit_passed (d ∷ digits_of (ds ++ r)) [] (is_ascii_digit d) q.0 ∙ ap (λ l. d ∷ l) f.0, digit_passed (behind_digits (ds ++ r)) (d ∷ (ds ++ r)) (is_ascii_digit d) q.0 ∙ f.1)
+    let f = front ds r q.1 e in (
+      digit_passed (d ∷ digits_of (ds ++ r)) [] (is_ascii_digit d) q.0 ∙ ap (λ l. d ∷ l) f.0,
+      digit_passed (behind_digits (ds ++ r)) (d ∷ (ds ++ r)) (is_ascii_digit d) q.0 ∙ f.1,
+    )
 
 -- the bytes are their first digits and what follows them
 digits_whole : (bs : List ℕ) → bs ≡ digits_of bs ++ behind_digits bs

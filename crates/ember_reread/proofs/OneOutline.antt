@@ -1,5 +1,7 @@
 -- A face has one outline with corners in lowest terms, so faces have one text.
-use Rattle.std.proofs.Common.{◌≡◌, ⊎_elim, refl, sym, ap, subst, ◌∙◌, arith, ℕ, Bool, true, false, ◌&&◌, nat_lt, List, [], ◌∷◌, ◌++◌, length, All, None, Some, zero, suc, slice_get, pos, ◌+ℤ◌, ◌-ℤ◌, ◌*ℤ◌, neg_ℤ, ◌<ℤ◌, ◌≤ℤ◌}
+use Rattle.std.proofs.Common.{◌≡◌, ⊎_elim, refl, sym, ap, subst, ◌∙◌, arith, ℕ, Bool, true, false, ◌&&◌, nat_lt, List}
+use Rattle.std.proofs.Common.{[], ◌∷◌, ◌++◌, length, All, None, Some, zero, suc, slice_get, pos, ◌+ℤ◌, ◌-ℤ◌, ◌*ℤ◌}
+use Rattle.std.proofs.Common.{neg_ℤ, ◌<ℤ◌, ◌≤ℤ◌}
 use Rattle.std.specs.List.{AllByRecursion}
 use Rattle.std.proofs.lemmas.Bool.{ltb-true, ltb-false}
 use Rattle.std.proofs.lemmas.List.Elements.{All-head, All-tail}
@@ -28,17 +30,24 @@ use Rattle.ember_reread.proofs.Lowest.{same_lowest}
 abbrev away : Spot → Spot → Vector
 away s v = record { x = s.w *ℤ v.x -ℤ v.w *ℤ s.x; y = s.w *ℤ v.y -ℤ v.w *ℤ s.y; z = s.w *ℤ v.z -ℤ v.w *ℤ s.z }
 
-dot_away : (q : Vector) (s v : Spot) → dot q (away s v) ≡ s.w *ℤ dot q (record { x = v.x; y = v.y; z = v.z }) -ℤ v.w *ℤ dot q (record { x = s.x; y = s.y; z = s.z })
+dot_away : (q : Vector) (s v : Spot) → dot q (away s v) ≡ s.w *ℤ dot q (record { x = v.x; y = v.y; z = v.z }) -ℤ v.w *ℤ
+    dot q (record { x = s.x; y = s.y; z = s.z })
 dot_away q s v =
-    solve 11 (λ a b c x y z w e f g h. a ⊗ (w ⊗ e ⊖ h ⊗ x) ⊕ b ⊗ (w ⊗ f ⊖ h ⊗ y) ⊕ c ⊗ (w ⊗ g ⊖ h ⊗ z) ≈ w ⊗ (a ⊗ e ⊕ b ⊗ f ⊕ c ⊗ g) ⊖ h ⊗ (a ⊗ x ⊕ b ⊗ y ⊕ c ⊗ z)) cancels q.x q.y q.z s.x s.y s.z s.w v.x v.y v.z v.w
+    solve 11 (λ a b c x y z w e f g h. a ⊗ (w ⊗ e ⊖ h ⊗ x) ⊕ b ⊗ (w ⊗ f ⊖ h ⊗ y) ⊕ c ⊗ (w ⊗ g ⊖ h ⊗ z) ≈ w ⊗
+    (a ⊗ e ⊕ b ⊗ f ⊕ c ⊗ g) ⊖ h ⊗ (a ⊗ x ⊕ b ⊗ y ⊕ c ⊗ z)) cancels q.x q.y q.z s.x s.y s.z s.w v.x v.y v.z v.w
 
 plane_away : (p : Plane) (s v : Spot) → dot (normal p) (away s v) ≡ s.w *ℤ value_at p v -ℤ v.w *ℤ value_at p s
 plane_away p s v =
-    solve 12 (λ a b c d x y z w e f g h. a ⊗ (w ⊗ e ⊖ h ⊗ x) ⊕ b ⊗ (w ⊗ f ⊖ h ⊗ y) ⊕ c ⊗ (w ⊗ g ⊖ h ⊗ z) ≈ w ⊗ (a ⊗ e ⊕ b ⊗ f ⊕ c ⊗ g ⊖ d ⊗ h) ⊖ h ⊗ (a ⊗ x ⊕ b ⊗ y ⊕ c ⊗ z ⊖ d ⊗ w)) cancels p.a p.b p.c p.d s.x s.y s.z s.w v.x v.y v.z v.w
+    solve 12 (λ a b c d x y z w e f g h. a ⊗ (w ⊗ e ⊖ h ⊗ x) ⊕ b ⊗ (w ⊗ f ⊖ h ⊗ y) ⊕ c ⊗ (w ⊗ g ⊖ h ⊗ z) ≈ w ⊗
+    (a ⊗ e ⊕ b ⊗ f ⊕ c ⊗ g ⊖ d ⊗ h) ⊖ h ⊗ (a ⊗ x ⊕ b ⊗ y ⊕ c ⊗ z ⊖ d ⊗ w)) cancels p.a p.b p.c p.d s.x s.y s.z s.w v.x
+    v.y v.z v.w
 
-split_along : (n h d q : Vector) → dot (cross n h) (cross n h) *ℤ dot q d ≡ dot (cross n h) d *ℤ dot q (cross n h) +ℤ dot n d *ℤ dot q (cross h (cross n h)) +ℤ dot h d *ℤ dot q (cross (cross n h) n)
+split_along : (n h d q : Vector) → dot (cross n h) (cross n h) *ℤ dot q d ≡ dot (cross n h) d *ℤ dot q (cross n h) +ℤ
+    dot n d *ℤ dot q (cross h (cross n h)) +ℤ dot h d *ℤ dot q (cross (cross n h) n)
 split_along =
-    identity (vector ∷ vector ∷ vector ∷ vector ∷ []) (λ n h d q. dotE (crossE n h) (crossE n h) ⊗ dotE q d ≈ dotE (crossE n h) d ⊗ dotE q (crossE n h) ⊕ dotE n d ⊗ dotE q (crossE h (crossE n h)) ⊕ dotE h d ⊗ dotE q (crossE (crossE n h) n)) cancels
+    identity (vector ∷ vector ∷ vector ∷ vector ∷ [])
+    (λ n h d q. dotE (crossE n h) (crossE n h) ⊗ dotE q d ≈ dotE (crossE n h) d ⊗ dotE q (crossE n h) ⊕ dotE n d ⊗
+    dotE q (crossE h (crossE n h)) ⊕ dotE h d ⊗ dotE q (crossE (crossE n h) n)) cancels
 
 turned_about : (n h g : Vector) → dot h (cross n g) ≡ neg_ℤ (dot g (cross n h))
 turned_about =
@@ -91,7 +100,9 @@ module _ (f : Face) (g : Plane) (s v : Spot) (os : On f g s) (ov : On f g v) whe
 
   one_place : (dot z z ≡ pos 0 → ⊥) → dot z (away s v) ≡ pos 0 → SamePoint s v
   one_place nz e =
-      let x = entry (record { x = pos 1; y = pos 0; z = pos 0 }) in let y = entry (record { x = pos 0; y = pos 1; z = pos 0 }) in let t = entry (record { x = pos 0; y = pos 0; z = pos 1 }) in
+      let x = entry (record { x = pos 1; y = pos 0; z = pos 0 }) in let y =
+      entry (record { x = pos 0; y = pos 1; z = pos 0 }) in let t =
+      entry (record { x = pos 0; y = pos 0; z = pos 1 }) in
       let d = away s v in
       let ex = solve 3 (λ a b c. num (pos 1) ⊗ a ⊕ num (pos 0) ⊗ b ⊕ num (pos 0) ⊗ c ≈ a) cancels d.x d.y d.z in
       let ey = solve 3 (λ a b c. num (pos 0) ⊗ a ⊕ num (pos 1) ⊗ b ⊕ num (pos 0) ⊗ c ≈ b) cancels d.x d.y d.z in
@@ -150,16 +161,20 @@ module _ (f : Face) (g : Plane) (s a : Spot) (e : IsEdge f (side g s) a) where
         let l : dot (normal k) (away s a) ≤ℤ pos 0 = omega (arith, linear, c, c0, c1, c2) in
         let q = square_length way in let r = mul_le q l in let r0 = zero_scaled (dot way way) (pos 0) refl in
         let t = along_line f g s a at_start at_end (normal k) in
-        by_sign (dot (normal k) way) (λ o. absurd (let u = pos_mul ahead o in omega (arith, linear, u, t, r, r0))) (λ o. omega (arith, linear, o)) (λ o. omega (arith, linear, o))
+        by_sign (dot (normal k) way) (λ o. absurd (let u = pos_mul ahead o in omega (arith, linear, u, t, r, r0)))
+        (λ o. omega (arith, linear, o)) (λ o. omega (arith, linear, o))
 
     zero_too : dot (normal k) way ≡ pos 0 → (v : Spot) → is_on_edge f g v ≡ true → is_on_edge f k v ≡ true
     zero_too z v i =
         let ov = on_edge f g v i in
         let t = along_line f g s v at_start ov (normal k) in let t0 = zero_scaled (dot way (away s v)) (dot (normal k) way) z in
         let c = plane_away k s v in let c0 = zero_scaled v.w (value_at k s) k_at_start in
-        let u : dot (normal k) (away s v) ≡ pos 0 = ⊎_elim (λ o. absurd (long o)) (λ o. o) (zero_product {a = dot way way} {b = dot (normal k) (away s v)} (omega (arith, linear, t, t0))) in
+        let u : dot (normal k) (away s v) ≡ pos 0 =
+        ⊎_elim (λ o. absurd (long o)) (λ o. o)
+        (zero_product {a = dot way way} {b = dot (normal k) (away s v)} (omega (arith, linear, t, t0))) in
         let ws = at_start.weight in
-        let x : value_at k v ≡ pos 0 = ⊎_elim (λ o. absurd (omega (arith, linear, o, ws))) (λ o. o) (zero_product {a = s.w} {b = value_at k v} (omega (arith, linear, u, c, c0))) in
+        let x : value_at k v ≡ pos 0 = ⊎_elim (λ o. absurd (omega (arith, linear, o, ws))) (λ o. o)
+        (zero_product {a = s.w} {b = value_at k v} (omega (arith, linear, u, c, c0))) in
         let p = (and_parts (is_in_closed f v) (is_zero (value_at g v)) i).0 in let y = ap is_zero x in λ i. p i && y i
 
 both_ways : (s t : Bool) → (s ≡ true → t ≡ true) → (t ≡ true → s ≡ true) → s ≡ t
@@ -175,7 +190,8 @@ one_edge f g k s a b e d v =
     both_ways (is_on_edge f g v) (is_on_edge f k v) (zero_too f g s a e k b d z v) (zero_too f k s b d g a e (omega (arith, linear, z, t)) v)
 
 -- ---- the earliest plane is one
-earliest_one : (P Q : Plane → Type 0) (gs : List Plane) (g h : Plane) → ((x : Plane) → P x → Q x) → ((x : Plane) → Q x → P x) → IsEarliest P gs g → IsEarliest Q gs h → g ≡ h
+earliest_one : (P Q : Plane → Type 0) (gs : List Plane) (g h : Plane) → ((x : Plane) → P x → Q x) →
+    ((x : Plane) → Q x → P x) → IsEarliest P gs g → IsEarliest Q gs h → g ≡ h
 earliest_one P Q gs g h pq qp a b = by (nat_lt a.index b.index) (nat_lt b.index a.index) refl refl
   where
     at_one : {x y : Plane} → Some x ≡ Some y → x ≡ y
@@ -210,7 +226,8 @@ led f end e [] p = record { end = end; is_edge = p }
 led f end e (d ∷ es) p = record { end = d.start; is_edge = p.0 }
 
 -- the edge after another is determined
-next_one : (f : Face) (e d c : RingEdge) → IsEdge f e d.start → IsEdge f e c.start → Lowest d → Lowest c → Led f d → Led f c → SameEdge f d.plane c.plane × (d ≡ c)
+next_one : (f : Face) (e d c : RingEdge) → IsEdge f e d.start → IsEdge f e c.start → Lowest d → Lowest c → Led f d →
+    Led f c → SameEdge f d.plane c.plane × (d ≡ c)
 next_one f e d c a b l m p q =
     let start : d.start ≡ c.start = corner_one f e.plane e.plane d.start c.start a.ends b.ends (same_end f e.plane e.start d.start a e.start c.start b) l m in
     let r : IsEdge f (side c.plane d.start) q.end = subst (λ s. IsEdge f (side c.plane s) q.end) (sym start) q.is_edge in
@@ -228,13 +245,16 @@ module _ (f : Face) (first : RingEdge) (first_led : Led f first) (first_lowest :
   not_on e c cs a p l aside =
       aside.0 (next_one f e first c a p.0 first_lowest l first_led (led f first.start c cs p.1)).0
 
-  path_one : (e : RingEdge) (ds cs : List RingEdge) → IsEdgeChain f first.start (e ∷ ds) → IsEdgeChain f first.start (e ∷ cs) → All Lowest ds → All Lowest cs → Aside ds → Aside cs → ds ≡ cs
+  path_one : (e : RingEdge) (ds cs : List RingEdge) → IsEdgeChain f first.start (e ∷ ds) →
+      IsEdgeChain f first.start (e ∷ cs) → All Lowest ds → All Lowest cs → Aside ds → Aside cs → ds ≡ cs
   path_one e [] [] p q l m a b = refl
   path_one e [] (c ∷ cs) p q l m a b = absurd (not_on e c cs p q (All-head Lowest c cs m) b)
   path_one e (d ∷ ds) [] p q l m a b = absurd (not_on e d ds q p (All-head Lowest d ds l) a)
   path_one e (d ∷ ds) (c ∷ cs) p q l m a b =
-      let same : d ≡ c = (next_one f e d c p.0 q.0 (All-head Lowest d ds l) (All-head Lowest c cs m) (led f first.start d ds p.1) (led f first.start c cs q.1)).1 in
-      let rest = path_one d ds cs p.1 (subst (λ x. IsEdgeChain f first.start (x ∷ cs)) (sym same) q.1) (All-tail Lowest d ds l) (All-tail Lowest c cs m) a.1 b.1 in
+      let same : d ≡ c = (next_one f e d c p.0 q.0 (All-head Lowest d ds l) (All-head Lowest c cs m)
+      (led f first.start d ds p.1) (led f first.start c cs q.1)).1 in
+      let rest = path_one d ds cs p.1 (subst (λ x. IsEdgeChain f first.start (x ∷ cs)) (sym same) q.1)
+      (All-tail Lowest d ds l) (All-tail Lowest c cs m) a.1 b.1 in
       λ i. same i ∷ rest i
 
 record Begun (f : Face) (es : List RingEdge) (first : RingEdge) (rest : List RingEdge) : Type 0 where
@@ -245,7 +265,13 @@ record Begun (f : Face) (es : List RingEdge) (first : RingEdge) (rest : List Rin
 
 begun : (f : Face) (es : List RingEdge) (o : IsOutline f es) → All Lowest es → Begun f es o.first o.rest
 begun f es o l =
-    record { earliest = o.earliest; round = subst (λ xs. IsEdgeChain f o.first.start xs) o.begins o.round; aside = (subst (λ xs. HaveDistinctEdges f xs) o.begins o.once).0; lowest = subst (λ xs. All Lowest xs) o.begins l }
+    record {
+      earliest = o.earliest;
+      round = subst (λ xs. IsEdgeChain f o.first.start xs) o.begins o.round;
+      aside =
+          (subst (λ xs. HaveDistinctEdges f xs) o.begins o.once).0;
+      lowest = subst (λ xs. All Lowest xs) o.begins l;
+    }
 
 begun_one : (f : Face) (es cs : List RingEdge) (d c : RingEdge) (ds bs : List RingEdge) → Begun f es d ds → Begun f cs c bs → d ∷ ds ≡ c ∷ bs
 begun_one f es cs d c ds bs a b =
@@ -255,11 +281,14 @@ begun_one f es cs d c ds bs a b =
     let r : IsEdge f (side d.plane c.start) q.end = subst (λ g. IsEdge f (side g c.start) q.end) (sym plane) q.is_edge in
     let start = corner_one f d.plane d.plane d.start c.start p.is_edge.starts r.starts (same_start f d.plane d.start p.end p.is_edge c.start q.end r) ld lc in
     let same : d ≡ c = λ i. record { plane = plane i; start = start i } in
-    let rest = path_one f d p ld d ds bs a.round (subst (λ x. IsEdgeChain f x.start (x ∷ bs)) (sym same) b.round) (All-tail Lowest d ds a.lowest) (All-tail Lowest c bs b.lowest) a.aside (subst (λ x. AllByRecursion (λ h. SameEdge f x.plane h.plane → ⊥) bs) (sym same) b.aside) in
+    let rest = path_one f d p ld d ds bs a.round (subst (λ x. IsEdgeChain f x.start (x ∷ bs)) (sym same) b.round)
+    (All-tail Lowest d ds a.lowest) (All-tail Lowest c bs b.lowest) a.aside
+    (subst (λ x. AllByRecursion (λ h. SameEdge f x.plane h.plane → ⊥) bs) (sym same) b.aside) in
     λ i. same i ∷ rest i
 
 -- a face has one outline with corners in lowest terms
-pub outline_one : (f : Face) (es cs : List RingEdge) → IsOutline f es → IsOutline f cs → All (λ e. IsLowest e.start) es → All (λ e. IsLowest e.start) cs → es ≡ cs
+pub outline_one : (f : Face) (es cs : List RingEdge) → IsOutline f es → IsOutline f cs →
+    All (λ e. IsLowest e.start) es → All (λ e. IsLowest e.start) cs → es ≡ cs
 outline_one f es cs a b l m =
     a.begins ∙ begun_one f es cs a.first b.first a.rest b.rest (begun f es a l) (begun f cs b m) ∙ sym b.begins
 

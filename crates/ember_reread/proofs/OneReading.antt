@@ -58,5 +58,9 @@ same_faces {b = b} l m (step {x = w} {xs = ws} r e) (step {x = v} q d) =
 -- two readings of a face file are of the same written faces
 pub face_file_is_read_once : (bytes : List ℕ) (fs gs : List Face) (h : IsFaceFile bytes fs) (k : IsFaceFile bytes gs) → h.written ≡ k.written
 face_file_is_read_once bytes fs gs h k =
-    let e = tail_injective (tail_injective (tail_injective (tail_injective (tail_injective (tail_injective (tail_injective (tail_injective (sym h.is ∙ k.is)))))))) in
-    same_faces (ending_is_last (length h.written)) (ending_is_last (length k.written)) (subst (λ z. Chain IsFaceLines h.written z (ending (length h.written))) e (faces_chain h.written (ending (length h.written)) (each_of IsWrittenFace h.written h.well_formed))) (faces_chain k.written (ending (length k.written)) (each_of IsWrittenFace k.written k.well_formed))
+    let e = tail_injective (tail_injective (tail_injective
+    (tail_injective (tail_injective (tail_injective (tail_injective (tail_injective (sym h.is ∙ k.is)))))))) in
+    same_faces (ending_is_last (length h.written)) (ending_is_last (length k.written))
+    (subst (λ z. Chain IsFaceLines h.written z (ending (length h.written))) e
+    (faces_chain h.written (ending (length h.written)) (each_of IsWrittenFace h.written h.well_formed)))
+    (faces_chain k.written (ending (length k.written)) (each_of IsWrittenFace k.written k.well_formed))

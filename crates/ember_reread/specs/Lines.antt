@@ -8,7 +8,8 @@ use Rattle.ember_model.specs.declared.point.Spot.{Spot}
 use Rattle.ember_model.specs.declared.face.Face.{Face}
 use Rattle.ember_model.specs.Valid.{IsValidPlane}
 use Rattle.ember_model.specs.Edges.{RingEdge}
-use Rattle.ember_model.specs.FaceFiles.{edge_line, support_line, face_lines, ending, IsWrittenCorner, IsWrittenEdge, WrittenFace, IsWrittenFace}
+use Rattle.ember_model.specs.FaceFiles.{edge_line, support_line, face_lines, ending, IsWrittenCorner}
+use Rattle.ember_model.specs.FaceFiles.{IsWrittenEdge, WrittenFace, IsWrittenFace}
 use Rattle.ember_reread.specs.declared.fields.Four.{Four}
 use Rattle.ember_reread.specs.Numbers.{IsEnd}
 

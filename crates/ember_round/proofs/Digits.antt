@@ -23,7 +23,9 @@ places_left zero r l n = absurd (n (omega arith))
 places_left (suc k) r l n = omega arith
 
 -- a text grows by a digit
-pub text_more : (xs ys zs : List ℕ) (left unit r : ℕ) → (r ≡ 0 → ⊥) → 0 < left → unit ≡ 10 ^ (left - 1) → ys ≡ xs ++ ((48 + r / unit) ∷ []) → xs ++ fraction_digits left r ≡ zs → ys ++ fraction_digits (left - 1) (r % unit) ≡ zs
+pub text_more : (xs ys zs : List ℕ) (left unit r : ℕ) → (r ≡ 0 → ⊥) → 0 < left → unit ≡ 10 ^ (left - 1) →
+    ys ≡ xs ++ ((48 + r / unit) ∷ []) → xs ++ fraction_digits left r ≡ zs →
+    ys ++ fraction_digits (left - 1) (r % unit) ≡ zs
 text_more xs ys zs zero unit r n l eu ey t = absurd (omega arith)
 text_more xs ys zs (suc k) unit r n l eu ey t =
     let e : suc k - 1 ≡ k = omega arith in

@@ -50,7 +50,9 @@ rest_near n d whole rest p e l = by (rounds_up whole rest d) refl
         let least : min rest (d - rest) ≡ d - rest = omega (arith, upper whole rest d f) in
         ap (λ (m : ℕ). gap n (m * d)) (sym (rounded_up n d whole rest e l f)) ∙ here ∙ sym least
 
-pub error_is : (v : Fraction) (places whole rest : ℕ) → 0 < v.denominator → whole * v.denominator + rest ≡ unsigned_abs v.numerator * 10 ^ places → rest < v.denominator → min rest (v.denominator - rest) ≡ distance v.numerator v.denominator (decimal_number places v)
+pub error_is : (v : Fraction) (places whole rest : ℕ) → 0 < v.denominator →
+    whole * v.denominator + rest ≡ unsigned_abs v.numerator * 10 ^ places → rest < v.denominator →
+    min rest (v.denominator - rest) ≡ distance v.numerator v.denominator (decimal_number places v)
 error_is v places whole rest p e l =
     let s = int_lt v.numerator (pos 0) in
     let size = nearest_whole (unsigned_abs v.numerator * 10 ^ places) v.denominator in

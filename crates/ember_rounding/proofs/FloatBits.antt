@@ -14,7 +14,11 @@ pub record IsFloatAt (minus : Bool) (significand place : ℕ) (v : Fraction) : T
   pub place_most : place ≤ 253
   pub normal : 0 < place → 2 ^ 23 ≤ significand
 
-parts : (minus : Bool) (exponent fraction : ℕ) (last least : Bool) (w : Fraction) → fraction < 8388608 → exponent < 256 → eqb exponent 255 ≡ last → eqb exponent 0 ≡ least → cond last None (cond least (Some (binary_value minus fraction 0 149)) (Some (binary_value minus (2 ^ 23 + fraction) (exponent - 1) 149))) ≡ Some w → IsFloatAt minus (cond least fraction (2 ^ 23 + fraction)) (exponent - 1) w
+parts : (minus : Bool) (exponent fraction : ℕ) (last least : Bool) (w : Fraction) → fraction < 8388608 →
+    exponent < 256 → eqb exponent 255 ≡ last → eqb exponent 0 ≡ least →
+    cond last None (cond least (Some (binary_value minus fraction 0 149))
+    (Some (binary_value minus (2 ^ 23 + fraction) (exponent - 1) 149))) ≡ Some w →
+    IsFloatAt minus (cond least fraction (2 ^ 23 + fraction)) (exponent - 1) w
 parts minus exponent fraction true least w l k f z e = absurd (none-some w e)
 parts minus exponent fraction false true w l k f z e =
     let none : exponent ≡ 0 = grind (arith, nat_tests) in
@@ -35,4 +39,5 @@ parts minus exponent fraction false false w l k f z e =
     }
 
 pub float_at : (bits : ℕ) (w : Fraction) → binary32_value bits ≡ Some w → IsFloatAt (is_below_zero bits) (significand_of bits) (last_place bits) w
-float_at bits w e = parts (eqb (bits / 2147483648) 1) (bits / 8388608 % 256) (bits % 8388608) (eqb (bits / 8388608 % 256) 255) (eqb (bits / 8388608 % 256) 0) w (omega arith) (omega arith) refl refl e
+float_at bits w e = parts (eqb (bits / 2147483648) 1) (bits / 8388608 % 256) (bits % 8388608)
+    (eqb (bits / 8388608 % 256) 255) (eqb (bits / 8388608 % 256) 0) w (omega arith) (omega arith) refl refl e

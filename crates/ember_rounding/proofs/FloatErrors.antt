@@ -1,5 +1,6 @@
 -- A nearest float is less than its last bit away.
-use Rattle.std.proofs.Common.{◌≡◌, ℕ, ◌+◌, ◌-◌, ◌*◌, ◌^◌, ◌<◌, ◌≤◌, Bool, true, false, Some, ℤ, pos, negsuc, unsigned_abs, subst, mul-le-mul, refl, sym, ap, ◌∙◌, arith}
+use Rattle.std.proofs.Common.{◌≡◌, ℕ, ◌+◌, ◌-◌, ◌*◌, ◌^◌, ◌<◌, ◌≤◌, Bool, true, false, Some, ℤ, pos, negsuc}
+use Rattle.std.proofs.Common.{unsigned_abs, subst, mul-le-mul, refl, sym, ap, ◌∙◌, arith}
 use Rattle.std.specs.Prelude.{not}
 use Rattle.std.proofs.lemmas.Nat.{pow_pos}
 use Rattle.ember_number.specs.Fractions.{Fraction, signed_whole}
@@ -42,15 +43,19 @@ last_of_all k d m l e =
     let same : m * 2 ^ 253 * d + 2 ^ 253 * d ≡ (m + 1) * 2 ^ 253 * d = omega arith in
     rw (same, e) (omega (arith, l))
 
-module _ (minus : Bool) (k d p m : ℕ) (v : Fraction) (pos_d : 0 < d) (below : k < (2 ^ 128 - 2 ^ 103) * d) (at : IsFloatAt minus m p v) (near : (other : ℕ) (w : Fraction) → binary32_value other ≡ Some w → distance (signed_whole minus k) d v ≤ distance (signed_whole minus k) d w) where
+module _ (minus : Bool) (k d p m : ℕ) (v : Fraction) (pos_d : 0 < d) (below : k < (2 ^ 128 - 2 ^ 103) * d)
+    (at : IsFloatAt minus m p v) (near : (other : ℕ) (w : Fraction) → binary32_value other ≡ Some w →
+    distance (signed_whole minus k) d v ≤ distance (signed_whole minus k) d w) where
   distance_is : distance (signed_whole minus k) d v ≡ gap (k * 2 ^ 149) (m * 2 ^ p * d)
   distance_is = ap (λ (w : Fraction). distance (signed_whole minus k) d w) at.is ∙ distance_same minus k d (m * 2 ^ p) (2 ^ 149)
 
-  than_other : (q s : ℕ) → q ≤ 253 → s ≤ 16777216 → (0 < q → 8388608 ≤ s) → q * 8388608 + s < 255 * 8388608 → gap (k * 2 ^ 149) (m * 2 ^ p * d) ≤ gap (k * 2 ^ 149) (s * 2 ^ q * d)
+  than_other : (q s : ℕ) → q ≤ 253 → s ≤ 16777216 → (0 < q → 8388608 ≤ s) → q * 8388608 + s < 255 * 8388608 →
+      gap (k * 2 ^ 149) (m * 2 ^ p * d) ≤ gap (k * 2 ^ 149) (s * 2 ^ q * d)
   than_other q s l h normal fits =
       let bits = sign_bit minus + (q * 8388608 + s) in
       let other : binary32_value bits ≡ Some (number minus (s * 2 ^ q)) = joined_value minus q s bits l h normal fits refl in
-      let least : distance (signed_whole minus k) d v ≤ distance (signed_whole minus k) d (number minus (s * 2 ^ q)) = near bits (number minus (s * 2 ^ q)) other in
+      let least : distance (signed_whole minus k) d v ≤ distance (signed_whole minus k) d (number minus (s * 2 ^ q)) =
+      near bits (number minus (s * 2 ^ q)) other in
       rw (distance_is, distance_same minus k d (s * 2 ^ q) (2 ^ 149)) at least
 
   bit_positive : 0 < 2 ^ p * d
@@ -109,22 +114,28 @@ module _ (minus : Bool) (k d p m : ℕ) (v : Fraction) (pos_d : 0 < d) (below : 
       let near = within (k * 2 ^ 149) (m * 2 ^ p * d) (2 ^ p * d) not_far_above not_far_below in
       omega (arith, distance_is, near)
 
-module _ (minus : Bool) (k d p m : ℕ) (v : Fraction) (pos_d : 0 < d) (at : IsFloatAt (not minus) m p v) (near : (other : ℕ) (w : Fraction) → binary32_value other ≡ Some w → distance (signed_whole minus k) d v ≤ distance (signed_whole minus k) d w) where
+module _ (minus : Bool) (k d p m : ℕ) (v : Fraction) (pos_d : 0 < d) (at : IsFloatAt (not minus) m p v)
+    (near : (other : ℕ) (w : Fraction) → binary32_value other ≡ Some w →
+    distance (signed_whole minus k) d v ≤ distance (signed_whole minus k) d w) where
   far_distance : distance (signed_whole minus k) d v ≡ k * 2 ^ 149 + m * 2 ^ p * d
   far_distance = ap (λ (w : Fraction). distance (signed_whole minus k) d w) at.is ∙ distance_other minus k d (m * 2 ^ p) (2 ^ 149)
 
   than_least : k * 2 ^ 149 + m * 2 ^ p * d ≤ gap (k * 2 ^ 149) (1 * d)
   than_least =
       let bits = sign_bit minus + (0 * 8388608 + 1) in
-      let other : binary32_value bits ≡ Some (number minus (1 * 2 ^ 0)) = joined_value minus 0 1 bits (omega arith) (omega arith) (λ h. absurd (omega (arith, h))) (omega arith) refl in
-      let least : distance (signed_whole minus k) d v ≤ distance (signed_whole minus k) d (number minus (1 * 2 ^ 0)) = near bits (number minus (1 * 2 ^ 0)) other in
+      let other : binary32_value bits ≡ Some (number minus (1 * 2 ^ 0)) =
+      joined_value minus 0 1 bits (omega arith) (omega arith) (λ h. absurd (omega (arith, h))) (omega arith) refl in
+      let least : distance (signed_whole minus k) d v ≤ distance (signed_whole minus k) d (number minus (1 * 2 ^ 0)) =
+      near bits (number minus (1 * 2 ^ 0)) other in
       rw (far_distance, distance_same minus k d (1 * 2 ^ 0) (2 ^ 149)) at least
 
   than_zero : k * 2 ^ 149 + m * 2 ^ p * d ≤ gap (k * 2 ^ 149) (0 * d)
   than_zero =
       let bits = sign_bit minus + (0 * 8388608 + 0) in
-      let other : binary32_value bits ≡ Some (number minus (0 * 2 ^ 0)) = joined_value minus 0 0 bits (omega arith) (omega arith) (λ h. absurd (omega (arith, h))) (omega arith) refl in
-      let least : distance (signed_whole minus k) d v ≤ distance (signed_whole minus k) d (number minus (0 * 2 ^ 0)) = near bits (number minus (0 * 2 ^ 0)) other in
+      let other : binary32_value bits ≡ Some (number minus (0 * 2 ^ 0)) =
+      joined_value minus 0 0 bits (omega arith) (omega arith) (λ h. absurd (omega (arith, h))) (omega arith) refl in
+      let least : distance (signed_whole minus k) d v ≤ distance (signed_whole minus k) d (number minus (0 * 2 ^ 0)) =
+      near bits (number minus (0 * 2 ^ 0)) other in
       rw (far_distance, distance_same minus k d (0 * 2 ^ 0) (2 ^ 149)) at least
 
   gap_zero : gap (k * 2 ^ 149) (0 * d) ≡ k * 2 ^ 149
@@ -143,14 +154,20 @@ signs : (n : ℤ) → (minus : Bool) × (n ≡ signed_whole minus (unsigned_abs 
 signs (pos k) = (false, refl)
 signs (negsuc k) = (true, refl)
 
-by_signs : (t minus : Bool) (k d p m : ℕ) (v : Fraction) → 0 < d → k < (2 ^ 128 - 2 ^ 103) * d → IsFloatAt t m p v → ((other : ℕ) (w : Fraction) → binary32_value other ≡ Some w → distance (signed_whole minus k) d v ≤ distance (signed_whole minus k) d w) → distance (signed_whole minus k) d v ≤ d * 2 ^ p
+by_signs : (t minus : Bool) (k d p m : ℕ) (v : Fraction) → 0 < d → k < (2 ^ 128 - 2 ^ 103) * d → IsFloatAt t m p v →
+    ((other : ℕ) (w : Fraction) → binary32_value other ≡ Some w →
+    distance (signed_whole minus k) d v ≤ distance (signed_whole minus k) d w) →
+    distance (signed_whole minus k) d v ≤ d * 2 ^ p
 by_signs true true k d p m v l h at near = same_sign_near true k d p m v l h at near
 by_signs false false k d p m v l h at near = same_sign_near false k d p m v l h at near
 by_signs true false k d p m v l h at near = other_sign_near false k d p m v l at near
 by_signs false true k d p m v l h at near = other_sign_near true k d p m v l at near
 
-pub error_is_small : (n : ℤ) (d bits : ℕ) → 0 < d → unsigned_abs n < (2 ^ 128 - 2 ^ 103) * d → (near : IsNearestBinary32 n d bits) → distance n d near.value ≤ d * 2 ^ last_place bits
+pub error_is_small : (n : ℤ) (d bits : ℕ) → 0 < d → unsigned_abs n < (2 ^ 128 - 2 ^ 103) * d →
+    (near : IsNearestBinary32 n d bits) → distance n d near.value ≤ d * 2 ^ last_place bits
 error_is_small n d bits l h near =
     let sign = signs n in
     let least = subst (λ (z : ℤ). (other : ℕ) (w : Fraction) → binary32_value other ≡ Some w → distance z d near.value ≤ distance z d w) sign.1 near.near in
-    subst (λ (z : ℤ). distance z d near.value ≤ d * 2 ^ last_place bits) (sym sign.1) (by_signs (is_below_zero bits) sign.0 (unsigned_abs n) d (last_place bits) (significand_of bits) near.value l h (float_at bits near.value near.finite) least)
+    subst (λ (z : ℤ). distance z d near.value ≤ d * 2 ^ last_place bits) (sym sign.1)
+    (by_signs (is_below_zero bits) sign.0 (unsigned_abs n) d (last_place bits) (significand_of bits) near.value l h
+    (float_at bits near.value near.finite) least)

@@ -1,5 +1,6 @@
 -- The error of a float, as the code finds it.
-use Rattle.std.proofs.Common.{◌≡◌, ℕ, ◌+◌, ◌-◌, ◌*◌, ◌^◌, ◌<◌, ◌≤◌, min, Bool, true, false, if◌then◌else◌, Some, ℤ, pos, neg_ℤ, ◌+ℤ◌, unsigned_abs, mul-le-mul, refl, sym, ap, ◌∙◌, arith}
+use Rattle.std.proofs.Common.{◌≡◌, ℕ, ◌+◌, ◌-◌, ◌*◌, ◌^◌, ◌<◌, ◌≤◌, min, Bool, true, false, if◌then◌else◌, Some, ℤ, pos}
+use Rattle.std.proofs.Common.{neg_ℤ, ◌+ℤ◌, unsigned_abs, mul-le-mul, refl, sym, ap, ◌∙◌, arith}
 use Rattle.std.specs.Prelude.{not}
 use borrow.Author.Differences.{ints}
 use Rattle.std.proofs.lemmas.Nat.{pow_pos, pow-add}
@@ -97,7 +98,10 @@ module _ (t : Bool) (k d bits : ℕ) (v : Fraction) (finite : binary32_value bit
   pub number_under : (float_number bits).denominator ≡ 2 ^ 149
   number_under = ap (λ (w : Fraction). w.denominator) (number_is ∙ at.is)
 
-  pub error_is : (a s : ℕ) → a ≡ k * 2 ^ (149 - last_place bits) → s ≡ significand_of bits * 2 ^ (last_place bits - 149) * d → unsigned_abs (wide t a +ℤ wide (not (is_below_zero bits)) s) * 2 ^ min (last_place bits) 149 ≡ distance (wide t k) d (float_number bits)
+  pub error_is : (a s : ℕ) → a ≡ k * 2 ^ (149 - last_place bits) →
+      s ≡ significand_of bits * 2 ^ (last_place bits - 149) * d →
+      unsigned_abs (wide t a +ℤ wide (not (is_below_zero bits)) s) * 2 ^ min (last_place bits) 149 ≡ distance (wide t k) d
+      (float_number bits)
   error_is a s is_a is_s =
       let p = last_place bits in
       let sum : (149 - p) + min p 149 ≡ 149 = omega arith in

@@ -27,7 +27,9 @@ module _ {A : Type 0} (f : A → ℕ) where
   greatest_none xs = zero-max (greatest_of f xs)
 
   -- the greatest of those before and those to come, one item later
-  pub greatest_more : (xs : List A) (i old new : ℕ) (x d : A) → max old (greatest_of f (drop i xs)) ≡ greatest_of f xs → new ≡ max old (f x) → i < length xs → x ≡ get_or xs i d → max new (greatest_of f (drop (i + 1) xs)) ≡ greatest_of f xs
+  pub greatest_more : (xs : List A) (i old new : ℕ) (x d : A) → max old (greatest_of f (drop i xs)) ≡ greatest_of f xs →
+      new ≡ max old (f x) → i < length xs → x ≡ get_or xs i d →
+      max new (greatest_of f (drop (i + 1) xs)) ≡ greatest_of f xs
   greatest_more xs i old new x d before e less is =
       let next : suc i ≡ i + 1 = omega arith in
       let rest = greatest_of f (drop (i + 1) xs) in

@@ -18,7 +18,8 @@ module _ (root : ℕ) (tick : Tick) (p : 0 < tick.denominator) where
       let most : root * tick.numerator * 10 ^ i ≤ root * tick.numerator * 10 ^ j = mul-le-mul (omega arith) (tens_grow i j l) in
       quotient_grows (root * tick.numerator * 10 ^ i) (root * tick.numerator * 10 ^ j) tick.denominator p most
 
-  places_with : (most : ℕ) (b : Bool) → nat_lt (rounded_up root tick (suc most)) (10 ^ 9) ≡ b → places_up_to root tick (suc most) ≡ cond b (suc most) (places_up_to root tick most)
+  places_with : (most : ℕ) (b : Bool) → nat_lt (rounded_up root tick (suc most)) (10 ^ 9) ≡ b →
+      places_up_to root tick (suc most) ≡ cond b (suc most) (places_up_to root tick most)
   unfolding places_up_to
   places_with most b e = ap (λ (t : Bool). cond t (suc most) (places_up_to root tick most)) e
 
@@ -26,7 +27,8 @@ module _ (root : ℕ) (tick : Tick) (p : 0 < tick.denominator) where
   is_short places l = lt-ltb (rounded_up root tick places) (10 ^ 9) l
 
   -- with so many places there are at most nine digits, and with one more there are more
-  pub places_are : (most places : ℕ) → places ≤ most → (0 < places → rounded_up root tick places < 10 ^ 9) → (places < most → 10 ^ 9 ≤ rounded_up root tick (places + 1)) → places ≡ places_up_to root tick most
+  pub places_are : (most places : ℕ) → places ≤ most → (0 < places → rounded_up root tick places < 10 ^ 9) →
+      (places < most → 10 ^ 9 ≤ rounded_up root tick (places + 1)) → places ≡ places_up_to root tick most
   unfolding places_up_to
   places_are zero places few short long = omega (arith, few)
   places_are (suc most) places few short long =
@@ -49,7 +51,8 @@ module _ (root : ℕ) (tick : Tick) (p : 0 < tick.denominator) where
 pub few_places : (size places : ℕ) → 10 ^ places ≤ 10 ^ 4 * size → (0 < places → size < 10 ^ 9) → places ≤ 17
 few_places size places large short =
     ⊎_elim
-    (λ l. absurd (let power = tens_grow 18 places (omega (arith, l)) in let less : size < 10 ^ 9 = short (omega (arith, l)) in omega (arith, power, large, less)))
+    (λ l. absurd (let power = tens_grow 18 places (omega (arith, l)) in let less : size < 10 ^ 9 =
+    short (omega (arith, l)) in omega (arith, power, large, less)))
     (λ l. l)
     (cases_lt 17 places)
 
@@ -63,7 +66,8 @@ under_own : (x d : ℕ) → 0 < d → x ≤ d * x
 under_own x d p = let most : 1 * x ≤ d * x = mul-le-mul p (omega arith) in omega (arith, most)
 
 -- the size of a move is small, with places and without
-pub size_small : (root : ℕ) (tick : Tick) (places : ℕ) → root ≤ 2 ^ 64 → IsTick tick → (0 < places → rounded_up root tick places < 10 ^ 9) → rounded_up root tick places < 2 ^ 108
+pub size_small : (root : ℕ) (tick : Tick) (places : ℕ) → root ≤ 2 ^ 64 → IsTick tick →
+    (0 < places → rounded_up root tick places < 10 ^ 9) → rounded_up root tick places < 2 ^ 108
 size_small root tick zero small is short =
     let over = root * tick.numerator * 10 ^ 0 in
     let numerator : tick.numerator ≤ 2 ^ 44 - 1 = omega (arith, is.numerator_small) in
@@ -73,7 +77,8 @@ size_small root tick zero small is short =
 size_small root tick (suc places) small is short = let few : rounded_up root tick (suc places) < 10 ^ 9 = short (omega arith) in omega (arith, few)
 
 -- ---- one place more
-pub next_over : (root : ℕ) (tick : Tick) (places over next : ℕ) → over ≡ root * tick.numerator * 10 ^ places → next ≡ over * 10 → next ≡ root * tick.numerator * 10 ^ (places + 1)
+pub next_over : (root : ℕ) (tick : Tick) (places over next : ℕ) → over ≡ root * tick.numerator * 10 ^ places →
+    next ≡ over * 10 → next ≡ root * tick.numerator * 10 ^ (places + 1)
 next_over root tick places over next e f =
     let power : 10 ^ (places + 1) ≡ 10 ^ places * 10 = pow_more 10 places in
     f ∙ rw (e, power) (omega arith)

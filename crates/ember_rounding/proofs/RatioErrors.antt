@@ -64,39 +64,52 @@ module _ (r : Ratio) (bits : ℕ) (below : size_of r.numerator.size < (2 ^ 128 -
       mul-le-mul whole under
 
   -- the size of their sum
-  pub sum_is_error : (a s : ℕ) (sum : Wide) → a ≡ size_of r.numerator.size * 2 ^ (149 - last_place bits) → s ≡ significand_of bits * 2 ^ (last_place bits - 149) * r.denominator → value_of sum ≡ wide r.numerator.negative a +ℤ wide (not (is_below_zero bits)) s → size_of sum.size * 2 ^ min (last_place bits) 149 ≡ distance (value_of r.numerator) r.denominator (float_number bits)
+  pub sum_is_error : (a s : ℕ) (sum : Wide) → a ≡ size_of r.numerator.size * 2 ^ (149 - last_place bits) →
+      s ≡ significand_of bits * 2 ^ (last_place bits - 149) * r.denominator →
+      value_of sum ≡ wide r.numerator.negative a +ℤ wide (not (is_below_zero bits)) s →
+      size_of sum.size * 2 ^ min (last_place bits) 149 ≡ distance (value_of r.numerator) r.denominator (float_number bits)
   sum_is_error a s sum is_a is_s is =
       let size = sym (size_of_value sum) ∙ ap unsigned_abs is in
       ap (λ (n : ℕ). n * 2 ^ min (last_place bits) 149) size
       ∙ sums.error_is r.numerator.negative (size_of r.numerator.size) r.denominator bits near.value near.finite a s is_a is_s
 
-  module _ (e top : ℕ) (place : last_place bits ≤ top) (error : e * 2 ^ min (last_place bits) 149 ≡ distance (value_of r.numerator) r.denominator (float_number bits)) where
-    within_unit : e ≤ r.denominator * 2 ^ (last_place bits - 149)
-    within_unit = sums.error_most r.numerator.negative (size_of r.numerator.size) r.denominator bits near.value near.finite small e error
+  module _ (e top : ℕ) (place : last_place bits ≤ top)
+      (error : e * 2 ^ min (last_place bits) 149 ≡ distance (value_of r.numerator) r.denominator (float_number bits))
+    where
+      within_unit : e ≤ r.denominator * 2 ^ (last_place bits - 149)
+      within_unit = sums.error_most r.numerator.negative (size_of r.numerator.size) r.denominator bits near.value near.finite small e error
 
-    pub error_short : e ≤ r.denominator * 2 ^ 104
-    error_short =
-        let most : r.denominator * 2 ^ (last_place bits - 149) ≤ r.denominator * 2 ^ 104 = mul-le-mul (omega arith) power_most in
-        omega (arith, within_unit, most)
+      pub error_short : e ≤ r.denominator * 2 ^ 104
+      error_short =
+          let most : r.denominator * 2 ^ (last_place bits - 149) ≤ r.denominator * 2 ^ 104 = mul-le-mul (omega arith) power_most in
+          omega (arith, within_unit, most)
 
-    pub error_within : e ≤ r.denominator * 2 ^ (top - min (last_place bits) 149)
-    error_within =
-        let power : 2 ^ (last_place bits - 149) ≤ 2 ^ (top - min (last_place bits) 149) = pow_mono {i = last_place bits - 149} {j = top - min (last_place bits) 149} (omega (arith, place)) in
-        let most : r.denominator * 2 ^ (last_place bits - 149) ≤ r.denominator * 2 ^ (top - min (last_place bits) 149) = mul-le-mul (omega arith) power in
-        omega (arith, within_unit, most)
+      pub error_within : e ≤ r.denominator * 2 ^ (top - min (last_place bits) 149)
+      error_within =
+          let power : 2 ^ (last_place bits - 149) ≤ 2 ^ (top - min (last_place bits) 149) =
+          pow_mono {i = last_place bits - 149} {j = top - min (last_place bits) 149} (omega (arith, place)) in
+          let most : r.denominator * 2 ^ (last_place bits - 149) ≤ r.denominator * 2 ^ (top - min (last_place bits) 149) = mul-le-mul (omega arith) power in
+          omega (arith, within_unit, most)
 
-    pub ticks_of_error : quotient true (e * 2 ^ 62) (r.denominator * 2 ^ (top - min (last_place bits) 149)) ≡ ticks_between (power_tick top) (fraction_of r) (float_number bits)
-    ticks_of_error =
-        let g = min (last_place bits) 149 in
-        let sum : g + (top - g) ≡ top = omega (arith, place) in
-        float_ticks_are top g (top - g) e (fraction_of r) (float_number bits) r.positive (sums.number_under r.numerator.negative (size_of r.numerator.size) r.denominator bits near.value near.finite) sum error
+      pub ticks_of_error : quotient true (e * 2 ^ 62) (r.denominator * 2 ^ (top - min (last_place bits) 149))
+          ≡ ticks_between (power_tick top) (fraction_of r) (float_number bits)
+      ticks_of_error =
+          let g = min (last_place bits) 149 in
+          let sum : g + (top - g) ≡ top = omega (arith, place) in
+          float_ticks_are top g (top - g) e (fraction_of r) (float_number bits) r.positive
+          (sums.number_under r.numerator.negative (size_of r.numerator.size) r.denominator bits near.value near.finite)
+          sum error
 
 -- ---- a number and its decimal
 module _ (r : Ratio) (places whole rest : ℕ) (e : whole * r.denominator + rest ≡ size_of r.numerator.size * 10 ^ places) (l : rest < r.denominator) where
   pub rest_is_error : min rest (r.denominator - rest) ≡ distance (value_of r.numerator) r.denominator (decimal_number places (fraction_of r))
   rest_is_error =
-      let same : whole * r.denominator + rest ≡ unsigned_abs (value_of r.numerator) * 10 ^ places = e ∙ ap (λ (n : ℕ). n * 10 ^ places) (sym (size_of_value r.numerator)) in
+      let same : whole * r.denominator + rest ≡ unsigned_abs (value_of r.numerator) * 10 ^ places =
+      e ∙ ap (λ (n : ℕ). n * 10 ^ places) (sym (size_of_value r.numerator)) in
       decimal.error_is (fraction_of r) places whole rest r.positive same l
 
-pub ticks_of_decimal : (r : Ratio) (places e : ℕ) → e ≡ distance (value_of r.numerator) r.denominator (decimal_number places (fraction_of r)) → quotient true (e * 2 ^ 62) (r.denominator * 2 ^ 0) ≡ ticks_between (decimal_tick places) (fraction_of r) (decimal_number places (fraction_of r))
+pub ticks_of_decimal : (r : Ratio) (places e : ℕ) →
+    e ≡ distance (value_of r.numerator) r.denominator (decimal_number places (fraction_of r)) →
+    quotient true (e * 2 ^ 62) (r.denominator * 2 ^ 0) ≡ ticks_between (decimal_tick places) (fraction_of r)
+    (decimal_number places (fraction_of r))
 ticks_of_decimal r places e is = decimal_ticks_are places e (fraction_of r) (decimal_number places (fraction_of r)) r.positive refl is

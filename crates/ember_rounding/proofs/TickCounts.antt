@@ -57,19 +57,26 @@ powers top g shift e =
     first ∙ sym up ∙ ap (λ (k : ℕ). 2 ^ k) both ∙ down ∙ ap (λ (k : ℕ). 2 ^ (211 - top) * k) last
 
 -- from an error in units of a power
-pub float_ticks_are : (top g shift e : ℕ) (v w : Fraction) → 0 < v.denominator → w.denominator ≡ 2 ^ 149 → g + shift ≡ top → e * 2 ^ g ≡ distance v.numerator v.denominator w → quotient true (e * 2 ^ 62) (v.denominator * 2 ^ shift) ≡ ticks_between (power_tick top) v w
+pub float_ticks_are : (top g shift e : ℕ) (v w : Fraction) → 0 < v.denominator → w.denominator ≡ 2 ^ 149 →
+    g + shift ≡ top → e * 2 ^ g ≡ distance v.numerator v.denominator w →
+    quotient true (e * 2 ^ 62) (v.denominator * 2 ^ shift) ≡ ticks_between (power_tick top) v w
 float_ticks_are top g shift e v w p under sum is =
     let d = v.denominator in
     let far = distance v.numerator d w in
     let some : 0 < d * w.denominator * 2 ^ (top - 211) = mul-pos (mul-pos p (rw under (omega arith))) (pow_pos (top - 211)) in
     let first : e * 2 ^ 62 * (d * w.denominator * 2 ^ (top - 211)) ≡ e * d * (2 ^ 62 * (2 ^ 149 * 2 ^ (top - 211))) = rw under (omega arith) in
-    let middle : e * d * (2 ^ 62 * (2 ^ 149 * 2 ^ (top - 211))) ≡ e * d * (2 ^ (211 - top) * (2 ^ g * 2 ^ shift)) = ap (λ (k : ℕ). e * d * k) (powers top g shift sum) in
+    let middle : e * d * (2 ^ 62 * (2 ^ 149 * 2 ^ (top - 211))) ≡ e * d * (2 ^ (211 - top) * (2 ^ g * 2 ^ shift)) =
+    ap (λ (k : ℕ). e * d * k) (powers top g shift sum) in
     let last : e * d * (2 ^ (211 - top) * (2 ^ g * 2 ^ shift)) ≡ 2 ^ (211 - top) * (e * 2 ^ g) * (d * 2 ^ shift) = omega arith in
-    let end : 2 ^ (211 - top) * (e * 2 ^ g) * (d * 2 ^ shift) ≡ 2 ^ (211 - top) * far * (d * 2 ^ shift) = ap (λ (k : ℕ). 2 ^ (211 - top) * k * (d * 2 ^ shift)) is in
-    same_quotient (e * 2 ^ 62) (d * 2 ^ shift) (2 ^ (211 - top) * far) (d * w.denominator * 2 ^ (top - 211)) (mul-pos p (pow_pos shift)) some (first ∙ middle ∙ last ∙ end)
+    let end : 2 ^ (211 - top) * (e * 2 ^ g) * (d * 2 ^ shift) ≡ 2 ^ (211 - top) * far * (d * 2 ^ shift) =
+    ap (λ (k : ℕ). 2 ^ (211 - top) * k * (d * 2 ^ shift)) is in
+    same_quotient (e * 2 ^ 62) (d * 2 ^ shift) (2 ^ (211 - top) * far) (d * w.denominator * 2 ^ (top - 211))
+    (mul-pos p (pow_pos shift)) some (first ∙ middle ∙ last ∙ end)
 
 -- from an error in units of the last place
-pub decimal_ticks_are : (places e : ℕ) (v w : Fraction) → 0 < v.denominator → w.denominator ≡ 10 ^ places → e ≡ distance v.numerator v.denominator w → quotient true (e * 2 ^ 62) (v.denominator * 2 ^ 0) ≡ ticks_between (decimal_tick places) v w
+pub decimal_ticks_are : (places e : ℕ) (v w : Fraction) → 0 < v.denominator → w.denominator ≡ 10 ^ places →
+    e ≡ distance v.numerator v.denominator w → quotient true (e * 2 ^ 62) (v.denominator * 2 ^ 0) ≡ ticks_between
+    (decimal_tick places) v w
 decimal_ticks_are places e v w p under is =
     let d = v.denominator in
     let far = distance v.numerator d w in

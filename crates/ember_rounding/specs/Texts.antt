@@ -1,5 +1,6 @@
 -- Moves as text
-use Rattle.std.specs.Prelude.{ℕ, ◌+◌, ◌-◌, ◌*◌, ◌/◌, ◌%◌, ◌^◌, nat_le, ◌==◌, false, if◌then◌else◌, List, [], ◌∷◌, ◌++◌, length, decimal}
+use Rattle.std.specs.Prelude.{ℕ, ◌+◌, ◌-◌, ◌*◌, ◌/◌, ◌%◌, ◌^◌, nat_le, ◌==◌, false, if◌then◌else◌, List}
+use Rattle.std.specs.Prelude.{[], ◌∷◌, ◌++◌, length, decimal}
 use Rattle.ember_round.specs.Decimals.{decimal_text}
 use Rattle.ember_rounding.specs.Shown.{Rounded}
 

@@ -5,10 +5,14 @@ use Rattle.std.specs.Io.KnownBytes.{Appends}
 use Rattle.ember_io.specs.Sinks.{AppendsPrefix, IsFlushed}
 use Rattle.ember_words.specs.declared.command.Command.{Command}
 use Rattle.ember_verdict.specs.declared.status.Status.{Status}
-use Rattle.ember_verdict.specs.declared.status.Status.TheVariants.{Done, Words, ReadFault, WriteFault, ObjRefused, MeshRefused, ExprRefused, Unbounded, Limit, NotClear, FaceRefused, OutOfMemory}
+use Rattle.ember_verdict.specs.declared.status.Status.TheVariants.{Done, Words, ReadFault, WriteFault, ObjRefused}
+use Rattle.ember_verdict.specs.declared.status.Status.TheVariants.{MeshRefused, ExprRefused, Unbounded, Limit, NotClear}
+use Rattle.ember_verdict.specs.declared.status.Status.TheVariants.{FaceRefused, OutOfMemory}
 use Rattle.ember_run.specs.declared.reply.Reply.{Reply}
 use Rattle.ember_verdict.specs.Outputs.{Output}
-use Rattle.ember_verdict.specs.Statuses.{HasOutput, IsBegun, IsBegunIfTold, IsRefusal, IsRefusalIfTold, IsText, IsTextIfTold, IsWritten, IsWrittenIfTold, hides_memory, is_before_files, is_refusal, refused_file}
+use Rattle.ember_verdict.specs.Statuses.{HasOutput, IsBegun, IsBegunIfTold, IsRefusal, IsRefusalIfTold, IsText}
+use Rattle.ember_verdict.specs.Statuses.{IsTextIfTold, IsWritten, IsWrittenIfTold, hides_memory, is_before_files}
+use Rattle.ember_verdict.specs.Statuses.{is_refusal, refused_file}
 use Rattle.ember_verdict.specs.Devices.{ShelfCall, SinkCall, HasShelfFailed, HasSinkFailed}
 use Rattle.ember_verdict.specs.Held.{MayHold}
 use Rattle.ember_verdict.specs.Lines.{line_on_err, text_on_err}
@@ -33,7 +37,8 @@ pub record Owes (v : Verdict) (R W : Type 0) (old new : Option (List ℕ)) (stat
   pub read_fault : (i : ℕ) → status ≡ ReadFault i → R
   pub write_fault : status ≡ WriteFault → W × IsBegunIfTold v old new
 
-output_or_memory : (output : Output) (R W : Type 0) (old new : Option (List ℕ)) (status : Status) → Owes (Writes output) R W old new status → ¬ R → ¬ W → (status ≡ Done) ⊎ (status ≡ OutOfMemory)
+output_or_memory : (output : Output) (R W : Type 0) (old new : Option (List ℕ)) (status : Status) →
+    Owes (Writes output) R W old new status → ¬ R → ¬ W → (status ≡ Done) ⊎ (status ≡ OutOfMemory)
 output_or_memory output R W old new Done o r w = inl refl
 output_or_memory output R W old new Words o r w = absurd (o.refused refl)
 output_or_memory output R W old new (ReadFault i) o r w = absurd (r (o.read_fault i refl))
@@ -47,7 +52,8 @@ output_or_memory output R W old new NotClear o r w = absurd (o.refused refl)
 output_or_memory output R W old new (FaceRefused fault) o r w = absurd (o.refused refl)
 output_or_memory output R W old new OutOfMemory o r w = inr refl
 
-refusal_or_memory : (refusal : Status) (R W : Type 0) (old new : Option (List ℕ)) (status : Status) → Owes (Refused refusal) R W old new status → ¬ R → (status ≡ refusal) ⊎ (status ≡ OutOfMemory)
+refusal_or_memory : (refusal : Status) (R W : Type 0) (old new : Option (List ℕ)) (status : Status) →
+    Owes (Refused refusal) R W old new status → ¬ R → (status ≡ refusal) ⊎ (status ≡ OutOfMemory)
 refusal_or_memory refusal R W old new Done o r = absurd (o.done refl).1
 refusal_or_memory refusal R W old new Words o r = inl (sym (o.refused refl))
 refusal_or_memory refusal R W old new (ReadFault i) o r = absurd (r (o.read_fault i refl))
@@ -62,7 +68,9 @@ refusal_or_memory refusal R W old new (FaceRefused fault) o r = inl (sym (o.refu
 refusal_or_memory refusal R W old new OutOfMemory o r = inr refl
 
 -- ---- a slice
-slice_or_memory : (at : ℤ) (bytes : List ℕ) (R W : Type 0) (old new : Option (List ℕ)) (status : Status) → IsSliceable at bytes → Owes (Slices at bytes) R W old new status → ¬ R → ¬ W → (status ≡ Done) ⊎ (status ≡ OutOfMemory)
+slice_or_memory : (at : ℤ) (bytes : List ℕ) (R W : Type 0) (old new : Option (List ℕ)) (status : Status) →
+    IsSliceable at bytes → Owes (Slices at bytes) R W old new status → ¬ R → ¬ W →
+    (status ≡ Done) ⊎ (status ≡ OutOfMemory)
 slice_or_memory at bytes R W old new Done s o r w = inl refl
 slice_or_memory at bytes R W old new Words s o r w = absurd (o.refused refl)
 slice_or_memory at bytes R W old new (ReadFault i) s o r w = absurd (r (o.read_fault i refl))
@@ -76,7 +84,9 @@ slice_or_memory at bytes R W old new NotClear s o r w = absurd (o.refused refl)
 slice_or_memory at bytes R W old new (FaceRefused fault) s o r w = absurd (sliceable_or_fault at bytes fault s (o.refused refl))
 slice_or_memory at bytes R W old new OutOfMemory s o r w = inr refl
 
-fault_or_memory : (at : ℤ) (bytes : List ℕ) (other : FaceFault) (R W : Type 0) (old new : Option (List ℕ)) (status : Status) → IsFaceFault at bytes other → Owes (Slices at bytes) R W old new status → ¬ R → (status ≡ FaceRefused other) ⊎ (status ≡ OutOfMemory)
+fault_or_memory : (at : ℤ) (bytes : List ℕ) (other : FaceFault) (R W : Type 0) (old new : Option (List ℕ))
+    (status : Status) → IsFaceFault at bytes other → Owes (Slices at bytes) R W old new status → ¬ R →
+    (status ≡ FaceRefused other) ⊎ (status ≡ OutOfMemory)
 fault_or_memory at bytes other R W old new Done f o r = let t = o.done refl in absurd (slice_or_fault at bytes t.0 other t.1 f)
 fault_or_memory at bytes other R W old new Words f o r = absurd (o.refused refl)
 fault_or_memory at bytes other R W old new (ReadFault i) f o r = absurd (r (o.read_fault i refl))
@@ -91,13 +101,15 @@ fault_or_memory at bytes other R W old new (FaceRefused fault) f o r = inl (ap F
 fault_or_memory at bytes other R W old new OutOfMemory f o r = inr refl
 
 -- ---- any verdict
-output_given : (v : Verdict) (R W : Type 0) (old new : Option (List ℕ)) (status : Status) → HasOutput v → Owes v R W old new status → ¬ R → ¬ W → (status ≡ Done) ⊎ (status ≡ OutOfMemory)
+output_given : (v : Verdict) (R W : Type 0) (old new : Option (List ℕ)) (status : Status) → HasOutput v →
+    Owes v R W old new status → ¬ R → ¬ W → (status ≡ Done) ⊎ (status ≡ OutOfMemory)
 output_given Unknown R W old new status a o r w = absurd a
 output_given (Refused refusal) R W old new status a o r w = absurd a
 output_given (Writes output) R W old new status a o r w = output_or_memory output R W old new status o r w
 output_given (Slices at bytes) R W old new status a o r w = slice_or_memory at bytes R W old new status a o r w
 
-refused_slice : (at : ℤ) (bytes : List ℕ) (refusal : Status) → IsSliceRefusal at bytes refusal → (fault : FaceFault) × (refusal ≡ FaceRefused fault) × IsFaceFault at bytes fault
+refused_slice : (at : ℤ) (bytes : List ℕ) (refusal : Status) → IsSliceRefusal at bytes refusal →
+    (fault : FaceFault) × (refusal ≡ FaceRefused fault) × IsFaceFault at bytes fault
 refused_slice at bytes Done a = absurd a
 refused_slice at bytes Words a = absurd a
 refused_slice at bytes (ReadFault i) a = absurd a
@@ -111,9 +123,11 @@ refused_slice at bytes NotClear a = absurd a
 refused_slice at bytes (FaceRefused fault) a = (fault, refl, a)
 refused_slice at bytes OutOfMemory a = absurd a
 
-refusal_given : (v : Verdict) (refusal : Status) (R W : Type 0) (old new : Option (List ℕ)) (status : Status) → IsRefusal refusal v → Owes v R W old new status → ¬ R → (status ≡ refusal) ⊎ (status ≡ OutOfMemory)
+refusal_given : (v : Verdict) (refusal : Status) (R W : Type 0) (old new : Option (List ℕ)) (status : Status) →
+    IsRefusal refusal v → Owes v R W old new status → ¬ R → (status ≡ refusal) ⊎ (status ≡ OutOfMemory)
 refusal_given Unknown refusal R W old new status a o r = absurd a
-refusal_given (Refused other) refusal R W old new status a o r = subst (λ (s : Status). (status ≡ s) ⊎ (status ≡ OutOfMemory)) a (refusal_or_memory other R W old new status o r)
+refusal_given (Refused other) refusal R W old new status a o r =
+    subst (λ (s : Status). (status ≡ s) ⊎ (status ≡ OutOfMemory)) a (refusal_or_memory other R W old new status o r)
 refusal_given (Writes output) refusal R W old new status a o r = absurd a
 refusal_given (Slices at bytes) refusal R W old new status a o r =
     let f = refused_slice at bytes refusal a in
@@ -121,12 +135,16 @@ refusal_given (Slices at bytes) refusal R W old new status a o r =
 
 -- ---- contents that the files may have
 -- all are given, so the verdict is known
-refusal_held : (command : Option Command) (told : List ℕ → Option (List ℕ)) (status : Status) → MayHold told (names_of command) (λ contents. IsRefusalIfTold status (verdict_of command contents)) → MayHold told (names_of command) (λ contents. IsRefusal status (verdict_of command contents))
+refusal_held : (command : Option Command) (told : List ℕ → Option (List ℕ)) (status : Status) →
+    MayHold told (names_of command) (λ contents. IsRefusalIfTold status (verdict_of command contents)) →
+    MayHold told (names_of command) (λ contents. IsRefusal status (verdict_of command contents))
 refusal_held command told status h =
     let v = verdict_of command (map Some h.0) in
     (h.0, h.1, known_refusal status v (verdict_known command h.0 (contents_count told (names_of command) h.0 h.1)) h.2)
 
-text_held : (command : Option Command) (told : List ℕ → Option (List ℕ)) (text : List ℕ) → MayHold told (names_of command) (λ contents. IsTextIfTold (verdict_of command contents) text) → MayHold told (names_of command) (λ contents. IsText (verdict_of command contents) text)
+text_held : (command : Option Command) (told : List ℕ → Option (List ℕ)) (text : List ℕ) →
+    MayHold told (names_of command) (λ contents. IsTextIfTold (verdict_of command contents) text) →
+    MayHold told (names_of command) (λ contents. IsText (verdict_of command contents) text)
 text_held command told text h =
     let v = verdict_of command (map Some h.0) in
     (h.0, h.1, known_text v text (verdict_known command h.0 (contents_count told (names_of command) h.0 h.1)) h.2)
@@ -141,17 +159,23 @@ pub record Rows (command : Option Command) (shelf : ShelfCall) (out : SinkCall) 
   pub begun_read : status ≡ WriteFault → MayHold shelf.told (names_of command) (λ contents. IsBegun (verdict_of command contents) out.taken out.taken_after)
   pub refused : is_refusal status ≡ true → IsRefusalIfTold status (told_verdict command shelf.told)
   pub refused_read : is_refusal status ≡ true → MayHold shelf.told (names_of command) (λ contents. IsRefusal status (verdict_of command contents))
-  pub read_fault : (i : ℕ) → status ≡ ReadFault i → HasShelfFailed shelf × (shelf.fault_at ≡ i) × (verdict_before i command shelf.told ≡ Unknown) × IsFileIn (names_of command) i
+  pub read_fault : (i : ℕ) → status ≡ ReadFault i →
+      HasShelfFailed shelf × (shelf.fault_at ≡ i) × (verdict_before i command shelf.told ≡ Unknown) × IsFileIn
+      (names_of command) i
   pub words : status ≡ Words → command ≡ None
   pub before_files : is_before_files status ≡ true → verdict_before 1 command shelf.told ≡ Refused status
-  pub in_file : (i : ℕ) → refused_file status ≡ Some i → (others : Contents) → length others ≡ length (names_of command) → IsRefusalIfTold status (verdict_of command (with_others i (map shelf.told (names_of command)) others))
+  pub in_file : (i : ℕ) → refused_file status ≡ Some i → (others : Contents) →
+      length others ≡ length (names_of command) → IsRefusalIfTold status
+      (verdict_of command (with_others i (map shelf.told (names_of command)) others))
   pub one_of : (i : ℕ) → refused_file status ≡ Some i → IsFileIn (names_of command) i
   pub memory : hides_memory status ≡ false
   pub write_fault : status ≡ WriteFault → HasSinkFailed out × IsBegunIfTold (told_verdict command shelf.told) out.taken out.taken_after
   pub untouched : status ≢ Done → status ≢ WriteFault → out.taken_after ≡ out.taken
 
 -- what is refused with no file known is refused, or memory was short
-before_given : (command : Option Command) (shelf : ShelfCall) (out : SinkCall) (status : Status) → Rows command shelf out status → (refusal : Status) → verdict_before 1 command shelf.told ≡ Refused refusal → (status ≡ refusal) ⊎ (status ≡ OutOfMemory)
+before_given : (command : Option Command) (shelf : ShelfCall) (out : SinkCall) (status : Status) →
+    Rows command shelf out status → (refusal : Status) → verdict_before 1 command shelf.told ≡ Refused refusal →
+    (status ≡ refusal) ⊎ (status ≡ OutOfMemory)
 before_given command shelf out status rows refusal e =
     let contents = map shelf.told (names_of command) in
     let is : told_verdict command shelf.told ≡ Refused refusal = refused_with_any command contents contents refusal refl e in
@@ -159,15 +183,25 @@ before_given command shelf out status rows refusal e =
     (record {
       done = λ p. subst (λ (v : Verdict). IsWrittenIfTold v out.taken out.taken_after) is (rows.done p).0;
       refused = λ p. subst (λ (v : Verdict). IsRefusalIfTold status v) is (rows.refused p);
-      read_fault = λ i p. unknown_refused (sym (rows.read_fault i p).2 ∙ refused_with_any command contents (first_told (i - 1) contents) refusal (length_told (i - 1) contents) e);
+      read_fault = λ i p. unknown_refused (sym (rows.read_fault i p).2
+          ∙ refused_with_any command contents (first_told (i - 1) contents) refusal (length_told (i - 1) contents) e);
       write_fault = λ p. let w = rows.write_fault p in (w.0, subst (λ (v : Verdict). IsBegunIfTold v out.taken out.taken_after) is w.1);
     })
     (λ f. f)
 
-served : (command : Option Command) (shelf : ShelfCall) (out err : SinkCall) (status : Status) (text : List ℕ) → Rows command shelf out status → IsErrText command shelf.told status text → AppendsUntilFault err.faults err.faults_after err.taken err.taken_after text → Serves command shelf out err status
+served : (command : Option Command) (shelf : ShelfCall) (out err : SinkCall) (status : Status) (text : List ℕ) →
+    Rows command shelf out status → IsErrText command shelf.told status text →
+    AppendsUntilFault err.faults err.faults_after err.taken err.taken_after text → Serves command shelf out err status
 served command shelf out err status text rows is said =
     let v = told_verdict command shelf.told in
-    let owes : Owes v (HasShelfFailed shelf) (HasSinkFailed out) out.taken out.taken_after status = record { done = λ p. (rows.done p).0; refused = rows.refused; read_fault = λ i p. (rows.read_fault i p).0; write_fault = rows.write_fault } in
+    let owes : Owes v (HasShelfFailed shelf) (HasSinkFailed out) out.taken out.taken_after status =
+    record {
+      done = λ p. (rows.done p).0;
+      refused = rows.refused;
+      read_fault =
+          λ i p. (rows.read_fault i p).0;
+      write_fault = rows.write_fault;
+    } in
     record {
       contents = rows.contents;
       later = rows.later;
@@ -177,7 +211,8 @@ served command shelf out err status text rows is said =
       refused = rows.refused;
       refused_read = rows.refused_read;
       words = rows.words;
-      no_command = λ e. before_given command shelf out status rows Words (subst (λ (command : Option Command). verdict_before 1 command shelf.told ≡ Refused Words) (sym e) refl);
+      no_command = λ e. before_given command shelf out status rows Words
+          (subst (λ (command : Option Command). verdict_before 1 command shelf.told ≡ Refused Words) (sym e) refl);
       before_files = rows.before_files;
       before_files_given = before_given command shelf out status rows;
       in_file = rows.in_file;
@@ -210,13 +245,24 @@ touched status (inl e) d w = d e
 touched status (inr e) d w = w e
 
 -- a reply that was written, or begun, is served
-pub replied_call_serves : (command : Command) (shelf : ShelfCall) (out err : SinkCall) (status : Status) (reply : Reply) (text line : List ℕ) → shelf.told_after ≡ shelf.told → shelf.faults ≤ shelf.faults_after → out.faults ≤ out.faults_after → IsReply command shelf.told reply → MayHold shelf.told (names_of (Some command)) (λ contents. IsTextIfTold (verdict_of (Some command) contents) reply.text.items) → text ≡ reply.text.items → line ≡ reply.report.items
-    → (status ≡ Done → Appends out.taken out.taken_after text × IsFlushed out.taken_after out.flushed_after) → (status ≡ WriteFault → HasSinkFailed out × AppendsPrefix out.taken out.taken_after text) → (status ≡ Done) ⊎ (status ≡ WriteFault)
-    → AppendsUntilFault err.faults err.faults_after err.taken err.taken_after (text_on_err (names_of (Some command)) status line) → Serves (Some command) shelf out err status
+pub replied_call_serves : (command : Command) (shelf : ShelfCall) (out err : SinkCall) (status : Status) (reply : Reply)
+    (text line : List ℕ) → shelf.told_after ≡ shelf.told → shelf.faults ≤ shelf.faults_after →
+    out.faults ≤ out.faults_after → IsReply command shelf.told reply →
+    MayHold shelf.told (names_of (Some command)) (λ contents. IsTextIfTold (verdict_of (Some command) contents)
+    reply.text.items) → text ≡ reply.text.items → line ≡ reply.report.items
+    → (status ≡ Done → Appends out.taken out.taken_after text × IsFlushed out.taken_after out.flushed_after) →
+    (status ≡ WriteFault → HasSinkFailed out × AppendsPrefix out.taken out.taken_after text) →
+    (status ≡ Done) ⊎ (status ≡ WriteFault)
+    → AppendsUntilFault err.faults err.faults_after err.taken err.taken_after
+    (text_on_err (names_of (Some command)) status line) → Serves (Some command) shelf out err status
 replied_call_serves command shelf out err status reply text line same later out_later is text_read t l done fault either said =
     let verdict = told_verdict (Some command) shelf.told in
     let is_text : IsTextIfTold verdict text = subst (λ (bytes : List ℕ). IsTextIfTold verdict bytes) (sym t) is.text in
-    let known_held : MayHold shelf.told (names_of (Some command)) (λ contents. IsText (verdict_of (Some command) contents) text) = text_held (Some command) shelf.told text (subst (λ (bytes : List ℕ). MayHold shelf.told (names_of (Some command)) (λ contents. IsTextIfTold (verdict_of (Some command) contents) bytes)) (sym t) text_read) in
+    let known_held : MayHold shelf.told (names_of (Some command))
+    (λ contents. IsText (verdict_of (Some command) contents) text) =
+    text_held (Some command) shelf.told text (subst
+    (λ (bytes : List ℕ). MayHold shelf.told (names_of (Some command))
+    (λ contents. IsTextIfTold (verdict_of (Some command) contents) bytes)) (sym t) text_read) in
     served (Some command) shelf out err status (text_on_err (names_of (Some command)) status line)
     (record {
       contents = same;
@@ -236,11 +282,16 @@ replied_call_serves command shelf out err status reply text line same later out_
       write_fault = λ e. let f = fault e in (f.0, (text, is_text, f.1));
       untouched = λ d w. absurd (touched status either d w);
     })
-    (err_text (Some command) shelf.told status line (λ d. subst (λ (bytes : List ℕ). IsReportOfVerdictIfAsked (asks_report (Some command)) verdict bytes) (sym l) is.report)) said
+    (err_text (Some command) shelf.told status line
+    (λ d. subst (λ (bytes : List ℕ). IsReportOfVerdictIfAsked (asks_report (Some command)) verdict bytes) (sym l)
+    is.report)) said
 
 -- ---- a call that has no answer
-pub stopped_call_serves : (command : Command) (shelf : ShelfCall) (out err : SinkCall) (status : Status) → shelf.told_after ≡ shelf.told → shelf.faults ≤ shelf.faults_after → out.faults ≤ out.faults_after → out.taken_after ≡ out.taken → IsNoReply (verdict_of (Some command)) (names_of (Some command)) shelf status
-    → AppendsUntilFault err.faults err.faults_after err.taken err.taken_after (text_on_err (names_of (Some command)) status []) → Serves (Some command) shelf out err status
+pub stopped_call_serves : (command : Command) (shelf : ShelfCall) (out err : SinkCall) (status : Status) →
+    shelf.told_after ≡ shelf.told → shelf.faults ≤ shelf.faults_after → out.faults ≤ out.faults_after →
+    out.taken_after ≡ out.taken → IsNoReply (verdict_of (Some command)) (names_of (Some command)) shelf status
+    → AppendsUntilFault err.faults err.faults_after err.taken err.taken_after
+    (text_on_err (names_of (Some command)) status []) → Serves (Some command) shelf out err status
 stopped_call_serves command shelf out err status same later out_later untouched no_reply said =
     served (Some command) shelf out err status (text_on_err (names_of (Some command)) status [])
     (record {
@@ -264,7 +315,10 @@ stopped_call_serves command shelf out err status same later out_later untouched 
     (err_text (Some command) shelf.told status [] (λ e. absurd (no_reply.never.0 e))) said
 
 -- ---- a call that reads no command
-pub refused_words_serve : (command : Option Command) (shelf : ShelfCall) (out err : SinkCall) → command ≡ None → shelf.told_after ≡ shelf.told → shelf.faults ≤ shelf.faults_after → out.faults ≤ out.faults_after → out.taken_after ≡ out.taken → AppendsUntilFault err.faults err.faults_after err.taken err.taken_after (line_on_err [] Words) → Serves command shelf out err Words
+pub refused_words_serve : (command : Option Command) (shelf : ShelfCall) (out err : SinkCall) → command ≡ None →
+    shelf.told_after ≡ shelf.told → shelf.faults ≤ shelf.faults_after → out.faults ≤ out.faults_after →
+    out.taken_after ≡ out.taken → AppendsUntilFault err.faults err.faults_after err.taken err.taken_after
+    (line_on_err [] Words) → Serves command shelf out err Words
 refused_words_serve command shelf out err none same later out_later untouched said =
     subst (λ (command : Option Command). Serves command shelf out err Words) (sym none)
     (served None shelf out err Words (line_on_err [] Words)

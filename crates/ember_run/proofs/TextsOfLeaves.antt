@@ -21,7 +21,11 @@ use Rattle.ember_verdict.specs.Lattices.{IsLatticeText}
 use Rattle.ember_verdict.specs.PairLists.{IsPairsText}
 
 -- ---- pairs
-pub pairs_text_if : {E : Type 0} (tris : List Tri) (items : List (List Pair)) (ps shown : List Pair) (result : Result (Vec ℕ Global) E) → ((items : List (List Pair)) (ps : List Pair) → AreItems tris (leaf_jobs tris) items → AreGathered items ps → ArePairs tris ps) → ArePairsOfLeaves tris items → AreGathered items ps → shown ≡ ps → IfOk result (λ text. text.items ≡ pairs_text shown) → IfOk result (λ text. IsPairsText tris text.items)
+pub pairs_text_if : {E : Type 0} (tris : List Tri) (items : List (List Pair)) (ps shown : List Pair)
+    (result : Result (Vec ℕ Global) E) → ((items : List (List Pair)) (ps : List Pair) →
+    AreItems tris (leaf_jobs tris) items → AreGathered items ps → ArePairs tris ps) → ArePairsOfLeaves tris items →
+    AreGathered items ps → shown ≡ ps → IfOk result (λ text. text.items ≡ pairs_text shown) →
+    IfOk result (λ text. IsPairsText tris text.items)
 pairs_text_if tris items ps shown (Ok text) law are gathered e is =
     (ps, law items ps are gathered, is ∙ ap pairs_text e)
 pairs_text_if tris items ps shown (Err error) law are gathered e is = tt
@@ -36,7 +40,11 @@ fills_are formula (job ∷ jobs) (fill ∷ fills) h =
     let is : fill ≡ fill_of formula job = h.0 in ap₂ (λ x xs. x ∷ xs) is (fills_are formula jobs fills h.1)
 
 -- the text of the leaves' boxes is that of the lattice
-pub lattice_text_if : {E : Type 0} (tris : List Tri) (formula : Formula) (size : ℕ) (fills given : List Fill) (result : Result (Vec ℕ Global) E) → ((size : ℕ) (fills : List Fill) (text : List ℕ) → size ≤ 12 → fills ≡ leaf_fills tris formula size → IsGridText size fills text → IsVoxelText tris formula size text) → size ≤ 12 → AreFills tris formula size fills → given ≡ fills → IfOk result (λ text. IsGridText size given text.items) → IfOk result (λ text. IsLatticeText tris formula size text.items)
+pub lattice_text_if : {E : Type 0} (tris : List Tri) (formula : Formula) (size : ℕ) (fills given : List Fill)
+    (result : Result (Vec ℕ Global) E) → ((size : ℕ) (fills : List Fill) (text : List ℕ) → size ≤ 12 →
+    fills ≡ leaf_fills tris formula size → IsGridText size fills text → IsVoxelText tris formula size text) → size ≤ 12 →
+    AreFills tris formula size fills → given ≡ fills → IfOk result (λ text. IsGridText size given text.items) →
+    IfOk result (λ text. IsLatticeText tris formula size text.items)
 lattice_text_if tris formula size fills given (Ok text) law le are e is =
     law size given text.items le (e ∙ fills_are formula (leaves (shape tris formula size) (root_job tris)) fills are) is
 lattice_text_if tris formula size fills given (Err error) law le are e is = tt

@@ -5,7 +5,9 @@ use Rattle.ember_io.specs.Sinks.{IsFlushed}
 use Rattle.ember_words.specs.declared.command.Command.{Command}
 use Rattle.ember_words.specs.Canonical.{CommandLine, IsCanonical, command_of_line, words_of}
 use Rattle.ember_words.specs.WordsCommand.{command_of}
-use Rattle.ember_verdict.specs.Statuses.{HasOutput, IsBegun, IsBegunIfTold, IsRefusal, IsRefusalIfTold, IsTextIfTold, IsWritten, IsWrittenIfTold, hides_memory, is_before_files, is_refusal, refused_file}
+use Rattle.ember_verdict.specs.Statuses.{HasOutput, IsBegun, IsBegunIfTold, IsRefusal, IsRefusalIfTold}
+use Rattle.ember_verdict.specs.Statuses.{IsTextIfTold, IsWritten, IsWrittenIfTold, hides_memory}
+use Rattle.ember_verdict.specs.Statuses.{is_before_files, is_refusal, refused_file}
 use Rattle.ember_verdict.specs.Devices.{ShelfCall, SinkCall, HasShelfFailed, HasSinkFailed}
 use Rattle.ember_verdict.specs.Held.{MayHold}
 use Rattle.ember_verdict.specs.Messages.{AppendsUntilFault}
@@ -27,7 +29,8 @@ abbrev pub ReadsCanonical : List (List ℕ) → Type 0
 ReadsCanonical words =
     (line : CommandLine) → IsCanonical line → words ≡ words_of line → command_of words ≡ command_of_line line
 
--- what a call promises if its words ask for this command, or for none. The fields say nothing of `told_verdict` if it is
+-- what a call promises if its words ask for this command, or for none. The fields say nothing of
+-- `told_verdict` if it is
 -- Unknown, nor of bytes that aren't told; those whose names end in `_read` say what holds then, too. The system's files
 -- and streams tell no bytes (README.md, "What is guaranteed")
 pub record Serves (command : Option Command) (shelf : ShelfCall) (out err : SinkCall) (status : Status) : Type 0 where

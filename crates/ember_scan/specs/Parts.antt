@@ -1,5 +1,6 @@
 -- Parts of a file: its lines and their words, each with its place
-use Rattle.std.specs.Prelude.{ℕ, ◌+◌, ◌-◌, Bool, ◌||◌, List, [], ◌∷◌, ◌++◌, if◌then◌else◌, ◌==◌, length, drop, zero, suc, Option, None, Some}
+use Rattle.std.specs.Prelude.{ℕ, ◌+◌, ◌-◌, Bool, ◌||◌, List, [], ◌∷◌, ◌++◌, if◌then◌else◌, ◌==◌, length}
+use Rattle.std.specs.Prelude.{drop, zero, suc, Option, None, Some}
 use Rattle.ember_scan.specs.declared.part.Part.{Part}
 use Rattle.ember_scan.specs.declared.part.Span.{Span}
 

@@ -25,7 +25,9 @@ difference xs ys n = count n xs - count n ys
 excess_is_below : (xs ys : List ℕ) (limit : ℕ) → limit_of xs ≤ limit → number_excess xs ys ≡ below (difference xs ys) limit
 unfolding number_excess
 excess_is_below xs ys limit l =
-    once_is_below (difference xs ys) limit xs (below_limit xs limit l) ∙ below_same (λ n. gated (count n xs) (difference xs ys n)) (difference xs ys) limit (λ n m. open_gate (count n xs) (count n ys))
+    once_is_below (difference xs ys) limit xs (below_limit xs limit l)
+    ∙ below_same (λ n. gated (count n xs) (difference xs ys n)) (difference xs ys) limit
+    (λ n m. open_gate (count n xs) (count n ys))
   where
     open_gate : (k c : ℕ) → gated k (k - c) ≡ k - c
     open_gate zero c = omega arith
@@ -39,17 +41,21 @@ excess_nothing ys = refl
 -- second lists that have the first one's numbers equally often
 pub excess_same : (xs ys zs : List ℕ) → ((n : ℕ) → 0 < count n xs → count n ys ≡ count n zs) → number_excess xs ys ≡ number_excess xs zs
 excess_same xs ys zs h =
-    excess_is_below xs ys (limit_of xs) (omega arith) ∙ below_same (difference xs ys) (difference xs zs) (limit_of xs) (λ n l. by n (cases_lt 0 (count n xs))) ∙ sym (excess_is_below xs zs (limit_of xs) (omega arith))
+    excess_is_below xs ys (limit_of xs) (omega arith)
+    ∙ below_same (difference xs ys) (difference xs zs) (limit_of xs) (λ n l. by n (cases_lt 0 (count n xs)))
+    ∙ sym (excess_is_below xs zs (limit_of xs) (omega arith))
   where
     by : (n : ℕ) → (0 < count n xs) ⊎ (count n xs ≤ 0) → difference xs ys n ≡ difference xs zs n
     by n (inl l) = ap (λ (c : ℕ). count n xs - c) (h n l)
     by n (inr l) = omega (arith, l)
 
 -- lists with the same numbers, in any order
-pub excess_permuted : (xs us ys zs : List ℕ) → ((n : ℕ) → count n xs ≡ count n us) → ((n : ℕ) → count n ys ≡ count n zs) → number_excess xs ys ≡ number_excess us zs
+pub excess_permuted : (xs us ys zs : List ℕ) → ((n : ℕ) → count n xs ≡ count n us) →
+    ((n : ℕ) → count n ys ≡ count n zs) → number_excess xs ys ≡ number_excess us zs
 excess_permuted xs us ys zs h k =
     let limit = limit_of xs + limit_of us in
-    excess_is_below xs ys limit (omega arith) ∙ below_same (difference xs ys) (difference us zs) limit (λ n l. let a = h n in let b = k n in omega (arith, a, b)) ∙ sym (excess_is_below us zs limit (omega arith))
+    excess_is_below xs ys limit (omega arith) ∙ below_same (difference xs ys) (difference us zs) limit (λ n l. let a =
+    h n in let b = k n in omega (arith, a, b)) ∙ sym (excess_is_below us zs limit (omega arith))
 
 -- a number more, which the second list doesn't have
 pub excess_first : (x : ℕ) (xs ys : List ℕ) → count x ys ≡ 0 → number_excess (x ∷ xs) ys ≡ number_excess xs ys + 1
@@ -69,7 +75,9 @@ excess_first x xs ys e =
 pub excess_both : (x : ℕ) (xs ys : List ℕ) → number_excess (x ∷ xs) (x ∷ ys) ≡ number_excess xs ys
 excess_both x xs ys =
     let limit = limit_of (x ∷ xs) in
-    excess_is_below (x ∷ xs) (x ∷ ys) limit (omega arith) ∙ below_same (difference (x ∷ xs) (x ∷ ys)) (difference xs ys) limit (λ n l. omega arith) ∙ sym (excess_is_below xs ys limit (omega arith))
+    excess_is_below (x ∷ xs) (x ∷ ys) limit (omega arith)
+    ∙ below_same (difference (x ∷ xs) (x ∷ ys)) (difference xs ys) limit (λ n l. omega arith)
+    ∙ sym (excess_is_below xs ys limit (omega arith))
 
 -- ---- the steps of the code, over lists in order
 rises_drop : (k : ℕ) (xs : List ℕ) → Rises xs → Rises (drop k xs)
@@ -78,13 +86,15 @@ rises_drop (suc k) [] r = tt
 rises_drop (suc k) (x ∷ xs) r = rises_drop k xs r.1
 
 -- the numbers from some number on stay where a lesser one is passed over
-pub counts_past : (number : ℕ) (xs : List ℕ) (i : ℕ) → i < length xs → get_or xs i 0 < number → (n : ℕ) → number ≤ n → count n (drop (i + 1) xs) ≡ count n (drop i xs)
+pub counts_past : (number : ℕ) (xs : List ℕ) (i : ℕ) → i < length xs → get_or xs i 0 < number → (n : ℕ) → number ≤ n →
+    count n (drop (i + 1) xs) ≡ count n (drop i xs)
 counts_past number xs i l m n h =
     let a : count n (drop i xs) ≡ count n (get_or xs i 0 ∷ drop (i + 1) xs) = ap (count n) (drop_more xs i 0 l) in
     let b : count n (get_or xs i 0 ∷ drop (i + 1) xs) ≡ count n (drop (i + 1) xs) = rw (ne_eqb n (get_or xs i 0) (λ e. omega (arith, e, m, h))) (omega arith) in
     sym b ∙ sym a
 
-module _ (there back : List ℕ) (rises_there : IsNonDecreasing there) (i next : ℕ) (l : i < length there) (after : ℕ) (counts : (n : ℕ) → get_or there i 0 ≤ n → count n (drop after back) ≡ count n (drop next back)) where
+module _ (there back : List ℕ) (rises_there : IsNonDecreasing there) (i next : ℕ) (l : i < length there) (after : ℕ)
+    (counts : (n : ℕ) → get_or there i 0 ≤ n → count n (drop after back) ≡ count n (drop next back)) where
   abbrev number : ℕ
   number = get_or there i 0
 
@@ -99,19 +109,23 @@ module _ (there back : List ℕ) (rises_there : IsNonDecreasing there) (i next :
 
   past : number_excess (drop i there) (drop next back) ≡ number_excess (number ∷ rest) (drop after back)
   past =
-      ap (λ (xs : List ℕ). number_excess xs (drop next back)) fronts ∙ excess_same (number ∷ rest) (drop next back) (drop after back) (λ n m. by n m (cases_lt n number))
+      ap (λ (xs : List ℕ). number_excess xs (drop next back)) fronts
+      ∙ excess_same (number ∷ rest) (drop next back) (drop after back) (λ n m. by n m (cases_lt n number))
     where
       by : (n : ℕ) → 0 < count n (number ∷ rest) → (n < number) ⊎ (number ≤ n) → count n (drop next back) ≡ count n (drop after back)
       by n m (inl k) = absurd (let z = absent_below n number rest k ordered in omega (arith, m, z))
       by n m (inr k) = sym (counts n k)
 
   -- both lists go on with the same number
-  pub excess_taken : after < length back → get_or back after 0 ≡ number → number_excess (drop i there) (drop next back) ≡ number_excess (drop (i + 1) there) (drop (after + 1) back)
+  pub excess_taken : after < length back → get_or back after 0 ≡ number →
+      number_excess (drop i there) (drop next back) ≡ number_excess (drop (i + 1) there) (drop (after + 1) back)
   excess_taken m e =
-      past ∙ ap (number_excess (number ∷ rest)) (drop_more back after 0 m ∙ ap (λ (n : ℕ). n ∷ drop (after + 1) back) e) ∙ excess_both number rest (drop (after + 1) back)
+      past ∙ ap (number_excess (number ∷ rest)) (drop_more back after 0 m ∙ ap (λ (n : ℕ). n ∷ drop (after + 1) back) e)
+      ∙ excess_both number rest (drop (after + 1) back)
 
   -- the second list goes on with a greater number, or ends
-  pub excess_left : IsNonDecreasing back → (after < length back → number < get_or back after 0) → number_excess (drop i there) (drop next back) ≡ number_excess (drop (i + 1) there) (drop after back) + 1
+  pub excess_left : IsNonDecreasing back → (after < length back → number < get_or back after 0) →
+      number_excess (drop i there) (drop next back) ≡ number_excess (drop (i + 1) there) (drop after back) + 1
   excess_left rises_back h =
       past ∙ excess_first number rest (drop after back) (by (cases_lt after (length back)))
     where
@@ -119,7 +133,8 @@ module _ (there back : List ℕ) (rises_there : IsNonDecreasing there) (i next :
       by (inr m) = ap (count number) (drop_all after back m)
       by (inl m) =
           let e = drop_more back after 0 m in
-          ap (count number) e ∙ absent_below number (get_or back after 0) (drop (after + 1) back) (h m) (subst Rises e (rises_drop after back (rises back rises_back)))
+          ap (count number) e ∙ absent_below number (get_or back after 0) (drop (after + 1) back) (h m)
+          (subst Rises e (rises_drop after back (rises back rises_back)))
 
 -- behind the end of the first list nothing is left
 pub excess_end : (there back : List ℕ) (i next : ℕ) → length there ≤ i → number_excess (drop i there) (drop next back) ≡ 0

@@ -18,12 +18,16 @@ by_number : (e : Edge) → IsValidEdge e → (es : List Edge) → AllByRecursion
 by_number = times_is_count edge_number (λ e f v w. same_edges v w)
 
 -- a sum over valid edges, each once, is that over their numbers
-once_by_number : (f : Edge → ℕ) (g : ℕ → ℕ) → ((e : Edge) → IsValidEdge e → f e ≡ g (edge_number e)) → (es : List Edge) → AllByRecursion IsValidEdge es → sum_by f (each_once same_edge es) ≡ sum_by g (each_once eqb (map edge_number es))
+once_by_number : (f : Edge → ℕ) (g : ℕ → ℕ) → ((e : Edge) → IsValidEdge e → f e ≡ g (edge_number e)) →
+    (es : List Edge) → AllByRecursion IsValidEdge es →
+    sum_by f (each_once same_edge es) ≡ sum_by g (each_once eqb (map edge_number es))
 once_by_number f g h [] a = refl
 once_by_number f g h (e ∷ es) a =
     by (edge_count e es) (count (edge_number e) (map edge_number es)) (by_number e a.0 es a.1) (once_by_number f g h es a.1)
   where
-    by : (k m : ℕ) → k ≡ m → sum_by f (each_once same_edge es) ≡ sum_by g (each_once eqb (map edge_number es)) → sum_by f (cond (eqb k 0) (e ∷ each_once same_edge es) (each_once same_edge es)) ≡ sum_by g (cond (eqb m 0) (edge_number e ∷ each_once eqb (map edge_number es)) (each_once eqb (map edge_number es)))
+    by : (k m : ℕ) → k ≡ m → sum_by f (each_once same_edge es) ≡ sum_by g (each_once eqb (map edge_number es)) →
+        sum_by f (cond (eqb k 0) (e ∷ each_once same_edge es) (each_once same_edge es)) ≡ sum_by g
+        (cond (eqb m 0) (edge_number e ∷ each_once eqb (map edge_number es)) (each_once eqb (map edge_number es)))
     by zero zero p r =
         let s = sum_by-cons f e (each_once same_edge es) in
         let t = sum_by-cons g (edge_number e) (each_once eqb (map edge_number es)) in
@@ -53,4 +57,7 @@ module _ (ts : List Tri) (valid : All IsValidTri ts) where
   pub excess_is_loose_count : (there back : List ℕ) → AreSorted numbers there → AreSorted reverses back → number_excess there back ≡ loose_count ts
   unfolding loose_count number_excess
   excess_is_loose_count there back s r =
-      excess_permuted there numbers back reverses (λ n. count_permutation n numbers there s.permutation) (λ n. count_permutation n reverses back r.permutation) ∙ sym (once_by_number (excess es) (λ n. count n numbers - count n reverses) same_excess es (valid_edges ts valid))
+      excess_permuted there numbers back reverses (λ n. count_permutation n numbers there s.permutation)
+      (λ n. count_permutation n reverses back r.permutation)
+      ∙ sym (once_by_number (excess es) (λ n. count n numbers - count n reverses) same_excess es
+      (valid_edges ts valid))

@@ -1,5 +1,6 @@
 -- The meshes of surfaces on a grid, and all their triangles
-use Rattle.std.proofs.Common.{◌≡◌, ℕ, suc, ◌+◌, ◌<◌, Bool, true, false, cond, List, [], ◌∷◌, ◌++◌, map, length, take, get_or, refl, sym, ap, ◌∙◌, arith, length-append}
+use Rattle.std.proofs.Common.{◌≡◌, ℕ, suc, ◌+◌, ◌<◌, Bool, true, false, cond, List, [], ◌∷◌, ◌++◌, map, length, take}
+use Rattle.std.proofs.Common.{get_or, refl, sym, ap, ◌∙◌, arith, length-append}
 use Rattle.std.specs.List.{flat_map}
 use Rattle.std.proofs.lemmas.List.{take_more, length-map, length-take-le}
 use Rattle.std.proofs.lemmas.Grind.{flat_map-append}
@@ -25,7 +26,9 @@ unfolding is_flat
 flat_numbers at m k [] = refl
 flat_numbers at m k (f ∷ fs) = by (is_flat (image at m f)) (flat_numbers at m k fs)
   where
-    by : (b : Bool) → length (flat_ones (map (image at m) fs)) ≡ length (flat_ones (map (image at k) fs)) → length (cond b (image at m f ∷ flat_ones (map (image at m) fs)) (flat_ones (map (image at m) fs))) ≡ length (cond b (image at k f ∷ flat_ones (map (image at k) fs)) (flat_ones (map (image at k) fs)))
+    by : (b : Bool) → length (flat_ones (map (image at m) fs)) ≡ length (flat_ones (map (image at k) fs)) →
+        length (cond b (image at m f ∷ flat_ones (map (image at m) fs)) (flat_ones (map (image at m) fs))) ≡ length
+        (cond b (image at k f ∷ flat_ones (map (image at k) fs)) (flat_ones (map (image at k) fs)))
     by true r = ap suc r
     by false r = r
 
@@ -35,7 +38,8 @@ length-flat_images g m k s =
     flat_numbers (corner_at g s.vertices.items) m k (kept (corner_at g s.vertices.items) s.facets.items)
 
 -- ---- one surface more
-pub meshes_on-push : (g : Grid) (m : ℕ) (ss : List Surface) (s : Surface) → meshes_on g m (ss ++ s ∷ []) ≡ meshes_on g m ss ++ images_on g (m + length ss) s ∷ []
+pub meshes_on-push : (g : Grid) (m : ℕ) (ss : List Surface) (s : Surface) →
+    meshes_on g m (ss ++ s ∷ []) ≡ meshes_on g m ss ++ images_on g (m + length ss) s ∷ []
 meshes_on-push g m [] s =
     let e : m ≡ m + 0 = omega arith in ap (λ (k : ℕ). images_on g k s ∷ []) e
 meshes_on-push g m (t ∷ ts) s =
@@ -43,17 +47,22 @@ meshes_on-push g m (t ∷ ts) s =
     ap (λ (us : List (List Tri)). images_on g m t ∷ us) (meshes_on-push g (m + 1) ts s ∙ ap (λ (k : ℕ). meshes_on g (m + 1) ts ++ images_on g k s ∷ []) e)
 
 -- the meshes of one surface more
-pub meshes_more : (g : Grid) (ss : List Surface) (i : ℕ) (d : Surface) → i < length ss → meshes_on g 1 (take (i + 1) ss) ≡ meshes_on g 1 (take i ss) ++ images_on g (i + 1) (get_or ss i d) ∷ []
+pub meshes_more : (g : Grid) (ss : List Surface) (i : ℕ) (d : Surface) → i < length ss →
+    meshes_on g 1 (take (i + 1) ss) ≡ meshes_on g 1 (take i ss) ++ images_on g (i + 1) (get_or ss i d) ∷ []
 meshes_more g ss i d l =
-    ap (meshes_on g 1) (take_more ss i d l) ∙ meshes_on-push g 1 (take i ss) (get_or ss i d) ∙ ap (λ (k : ℕ). meshes_on g 1 (take i ss) ++ images_on g k (get_or ss i d) ∷ []) e
+    ap (meshes_on g 1) (take_more ss i d l) ∙ meshes_on-push g 1 (take i ss) (get_or ss i d)
+    ∙ ap (λ (k : ℕ). meshes_on g 1 (take i ss) ++ images_on g k (get_or ss i d) ∷ []) e
   where
     e : 1 + length (take i ss) ≡ i + 1
     e = let t = length-take-le i ss (omega (arith, l)) in omega (arith, t)
 
 -- the number of triangles with those of one surface more
-pub length-images_more : (g : Grid) (ss : List Surface) (i : ℕ) (d : Surface) → i < length ss → length (images_of g (take (i + 1) ss)) ≡ length (images_of g (take i ss)) + length (images_on g 0 (get_or ss i d))
+pub length-images_more : (g : Grid) (ss : List Surface) (i : ℕ) (d : Surface) → i < length ss →
+    length (images_of g (take (i + 1) ss)) ≡ length (images_of g (take i ss)) + length (images_on g 0 (get_or ss i d))
 length-images_more g ss i d l =
-    let all : images_of g (take (i + 1) ss) ≡ images_of g (take i ss) ++ (images_on g (i + 1) (get_or ss i d) ++ []) = ap (flat_map (λ ts. ts)) (meshes_more g ss i d l) ∙ flat_map-append (λ ts. ts) (meshes_on g 1 (take i ss)) (images_on g (i + 1) (get_or ss i d) ∷ []) in
+    let all : images_of g (take (i + 1) ss) ≡ images_of g (take i ss) ++ (images_on g (i + 1) (get_or ss i d) ++ []) =
+    ap (flat_map (λ ts. ts)) (meshes_more g ss i d l)
+    ∙ flat_map-append (λ ts. ts) (meshes_on g 1 (take i ss)) (images_on g (i + 1) (get_or ss i d) ∷ []) in
     let a = ap length all in
     let b = length-append (images_of g (take i ss)) (images_on g (i + 1) (get_or ss i d) ++ []) in
     let c = length-append (images_on g (i + 1) (get_or ss i d)) [] in

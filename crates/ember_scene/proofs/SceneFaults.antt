@@ -30,7 +30,8 @@ grid_fault_is ss wanted (grid_fault.StepTooSmall extent) h = h
 grid_fault_is ss wanted grid_fault.OutOfMemory h = tt
 
 -- a fault of the surfaces on the grid
-pub fault_on_grid_is : (g : Grid) (ss : List Surface) (wanted : Wanted) (fault : SceneFault) → IsSceneGrid ss wanted g → IsFaultOn g ss fault → IsSceneFault ss wanted fault
+pub fault_on_grid_is : (g : Grid) (ss : List Surface) (wanted : Wanted) (fault : SceneFault) → IsSceneGrid ss wanted g →
+    IsFaultOn g ss fault → IsSceneFault ss wanted fault
 fault_on_grid_is g ss wanted scene_fault.NoTriangles grid h = absurd h
 fault_on_grid_is g ss wanted (scene_fault.StepTooSmall extent) grid h = absurd h
 fault_on_grid_is g ss wanted (scene_fault.Open o) grid h =
@@ -39,7 +40,8 @@ fault_on_grid_is g ss wanted (scene_fault.TooManyTriangles n) grid h = (g, grid,
 fault_on_grid_is g ss wanted scene_fault.OutOfMemory grid h = tt
 
 -- a fault of all meshes together
-pub join_fault_is : (g : Grid) (ss : List Surface) (parts : List Closed) (cause : JoinFault) → map (λ part. part.tris) parts ≡ meshes_on g 1 ss → IsJoinFault parts cause → IsFaultOn g ss (of_join_fault cause)
+pub join_fault_is : (g : Grid) (ss : List Surface) (parts : List Closed) (cause : JoinFault) →
+    map (λ part. part.tris) parts ≡ meshes_on g 1 ss → IsJoinFault parts cause → IsFaultOn g ss (of_join_fault cause)
 join_fault_is g ss parts (join_fault.TooManyTriangles n) e h = record {
   number = h.0 ∙ ap length (joined_images g ss parts e);
   many = h.1;

@@ -1,5 +1,6 @@
 -- The closed meshes of surfaces: the first that is open or too large, and all of them together
-use Rattle.std.proofs.Common.{◌≡◌, ℕ, zero, suc, ◌+◌, ◌<◌, ◌≤◌, true, false, Some, List, [], ◌∷◌, ◌++◌, map, length, take, get_or, refl, sym, ap, subst, ◌∙◌, arith, length-append}
+use Rattle.std.proofs.Common.{◌≡◌, ℕ, zero, suc, ◌+◌, ◌<◌, ◌≤◌, true, false, Some, List, [], ◌∷◌, ◌++◌, map, length}
+use Rattle.std.proofs.Common.{take, get_or, refl, sym, ap, subst, ◌∙◌, arith, length-append}
 use Rattle.std.specs.List.{All, flat_map, take_while, slice_get}
 use Rattle.std.proofs.lemmas.Bool.{le-leb, lt-leb}
 use Rattle.std.proofs.lemmas.Option.{slice_get-get_or}
@@ -44,17 +45,24 @@ closed_are_balanced [] h = All-nil IsBalanced
 closed_are_balanced (ts ∷ meshes) h =
     let first = All-head IsClosedMesh ts meshes h in
     let e = take_while_few ts meshes (small ts first.few) in
-    subst (All IsBalanced) (sym e) (All-cons IsBalanced ts (take_while has_few meshes) first.balanced (closed_are_balanced meshes (All-tail IsClosedMesh ts meshes h)))
+    subst (All IsBalanced) (sym e) (All-cons IsBalanced ts (take_while has_few meshes) first.balanced
+    (closed_are_balanced meshes (All-tail IsClosedMesh ts meshes h)))
 
 -- ---- a surface with too many triangles
 -- if the surfaces before it are closed meshes, all before the first large one are balanced
-pub balanced_before : (g : Grid) (m k : ℕ) (ss : List Surface) (s : Surface) → slice_get ss k ≡ Some s → All IsClosedMesh (meshes_on g m (take k ss)) → 262144 < length (images_on g 0 s) → All IsBalanced (take_while has_few (meshes_on g m ss))
+pub balanced_before : (g : Grid) (m k : ℕ) (ss : List Surface) (s : Surface) → slice_get ss k ≡ Some s →
+    All IsClosedMesh (meshes_on g m (take k ss)) → 262144 < length (images_on g 0 s) →
+    All IsBalanced (take_while has_few (meshes_on g m ss))
 balanced_before g m k [] s f h l = cc
 balanced_before g m zero (t ∷ ts) s f h l =
     let same : s ≡ t = cc in
     let n = length-images_on g m 0 t in
     let k = ap (λ (u : Surface). length (images_on g 0 u)) same in
-    let e : take_while has_few (meshes_on g m (t ∷ ts)) ≡ [] = rw (take_while-cons has_few (images_on g m t) (meshes_on g (m + 1) ts), large (images_on g m t) (omega (arith, l, n, k))) refl in
+    let e : take_while has_few (meshes_on g m (t ∷ ts)) ≡ [] =
+    rw (
+      take_while-cons has_few (images_on g m t) (meshes_on g (m + 1) ts),
+      large (images_on g m t) (omega (arith, l, n, k)),
+    ) refl in
     subst (All IsBalanced) (sym e) (All-nil IsBalanced)
 balanced_before g m (suc k) (t ∷ ts) s f h l =
     let first = All-head IsClosedMesh (images_on g m t) (meshes_on g (m + 1) (take k ts)) h in
@@ -63,7 +71,8 @@ balanced_before g m (suc k) (t ∷ ts) s f h l =
     subst (All IsBalanced) (sym e) (All-cons IsBalanced (images_on g m t) (take_while has_few (meshes_on g (m + 1) ts)) first.balanced rest)
 
 -- its triangles are among all
-pub images_are_among : (g : Grid) (m k : ℕ) (ss : List Surface) (s : Surface) → slice_get ss k ≡ Some s → length (images_on g 0 s) ≤ length (flat_map (λ ts. ts) (meshes_on g m ss))
+pub images_are_among : (g : Grid) (m k : ℕ) (ss : List Surface) (s : Surface) → slice_get ss k ≡ Some s →
+    length (images_on g 0 s) ≤ length (flat_map (λ ts. ts) (meshes_on g m ss))
 images_are_among g m k [] s f = cc
 images_are_among g m zero (t ∷ ts) s f =
     let same : s ≡ t = cc in
@@ -83,18 +92,27 @@ pub surface_at : (ss : List Surface) (i : ℕ) (s : Surface) → i < length ss �
 surface_at ss i s l e = slice_get-get_or ss i s l ∙ ap (λ (t : Surface). Some t) (sym e)
 
 -- the parts with that of one surface more
-pub parts_more : (g : Grid) (ss : List Surface) (i : ℕ) (s : Surface) (before after : List Closed) (part : Closed) → i < length ss → s ≡ get_or ss i s → map (λ part. part.tris) before ≡ meshes_on g 1 (take i ss) → after ≡ before ++ part ∷ [] → part.tris ≡ images_on g (i + 1) s → map (λ part. part.tris) after ≡ meshes_on g 1 (take (i + 1) ss)
+pub parts_more : (g : Grid) (ss : List Surface) (i : ℕ) (s : Surface) (before after : List Closed) (part : Closed) →
+    i < length ss → s ≡ get_or ss i s → map (λ part. part.tris) before ≡ meshes_on g 1 (take i ss) →
+    after ≡ before ++ part ∷ [] → part.tris ≡ images_on g (i + 1) s →
+    map (λ part. part.tris) after ≡ meshes_on g 1 (take (i + 1) ss)
 parts_more g ss i s before after part l e h p q =
-    ap (map (λ (part : Closed). part.tris)) p ∙ map-append (λ part. part.tris) before (part ∷ []) ∙ (λ k. h k ++ (q ∙ ap (images_on g (i + 1)) e) k ∷ []) ∙ sym (meshes_more g ss i s l)
+    ap (map (λ (part : Closed). part.tris)) p ∙ map-append (λ part. part.tris) before (part ∷ [])
+    ∙ (λ k. h k ++ (q ∙ ap (images_on g (i + 1)) e) k ∷ []) ∙ sym (meshes_more g ss i s l)
 
 -- the counts with those of one surface more
-pub counts_more : (g : Grid) (ss : List Surface) (i : ℕ) (s : Surface) (before after : List Counts) (counts : Counts) → i < length ss → s ≡ get_or ss i s → before ≡ map (counts_on g) (take i ss) → after ≡ before ++ counts ∷ [] → counts ≡ counts_on g s → after ≡ map (counts_on g) (take (i + 1) ss)
+pub counts_more : (g : Grid) (ss : List Surface) (i : ℕ) (s : Surface) (before after : List Counts) (counts : Counts) →
+    i < length ss → s ≡ get_or ss i s → before ≡ map (counts_on g) (take i ss) → after ≡ before ++ counts ∷ [] →
+    counts ≡ counts_on g s → after ≡ map (counts_on g) (take (i + 1) ss)
 counts_more g ss i s before after counts l e h p q =
-    p ∙ (λ k. h k ++ (q ∙ ap (counts_on g) e) k ∷ []) ∙ sym (ap (map (counts_on g)) (take_more ss i s l) ∙ map-append (counts_on g) (take i ss) (get_or ss i s ∷ []))
+    p ∙ (λ k. h k ++ (q ∙ ap (counts_on g) e) k ∷ [])
+    ∙ sym (ap (map (counts_on g)) (take_more ss i s l) ∙ map-append (counts_on g) (take i ss) (get_or ss i s ∷ []))
 
 -- ---- an open surface
 -- it is the first, if those before it are closed meshes
-pub first_open_at : (g : Grid) (ss : List Surface) (i : ℕ) (s : Surface) (o : Open) → slice_get ss i ≡ Some s → All IsClosedMesh (meshes_on g 1 (take i ss)) → o.file ≡ i → IsOpenMesh (images_on g (i + 1) s) (places_on g s) o → IsFirstOpen g ss o
+pub first_open_at : (g : Grid) (ss : List Surface) (i : ℕ) (s : Surface) (o : Open) → slice_get ss i ≡ Some s →
+    All IsClosedMesh (meshes_on g 1 (take i ss)) → o.file ≡ i → IsOpenMesh (images_on g (i + 1) s) (places_on g s) o →
+    IsFirstOpen g ss o
 first_open_at g ss i s o f b e h = record {
   surface = s;
   found = ap (slice_get ss) e ∙ f;
@@ -104,7 +122,8 @@ first_open_at g ss i s o f b e h = record {
 
 -- ---- all meshes together
 -- the triangles of the parts are those of all surfaces
-pub joined_images : (g : Grid) (ss : List Surface) (parts : List Closed) → map (λ part. part.tris) parts ≡ meshes_on g 1 ss → triangles_of parts ≡ images_of g ss
+pub joined_images : (g : Grid) (ss : List Surface) (parts : List Closed) →
+    map (λ part. part.tris) parts ≡ meshes_on g 1 ss → triangles_of parts ≡ images_of g ss
 joined_images g ss parts e =
     sym (flat_map-map (λ ts. ts) (λ part. part.tris) parts) ∙ ap (flat_map (λ ts. ts)) e
 

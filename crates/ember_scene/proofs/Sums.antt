@@ -78,11 +78,13 @@ module _ (f : ℕ → ℕ) (x : ℕ) (xs : List ℕ) where
       by n (inr q) = elsewhere n q
 
 -- a sum over the elements of a list, each once, as a sum over all numbers below a limit
-pub once_is_below : (f : ℕ → ℕ) (limit : ℕ) (xs : List ℕ) → AllByRecursion (λ n. n < limit) xs → sum_by f (each_once eqb xs) ≡ below (λ n. gated (count n xs) (f n)) limit
+pub once_is_below : (f : ℕ → ℕ) (limit : ℕ) (xs : List ℕ) → AllByRecursion (λ n. n < limit) xs →
+    sum_by f (each_once eqb xs) ≡ below (λ n. gated (count n xs) (f n)) limit
 once_is_below f limit [] a = sym (below_zero limit)
 once_is_below f limit (x ∷ xs) a = by (count x xs) refl (once_is_below f limit xs a.1)
   where
-    by : (k : ℕ) → count x xs ≡ k → sum_by f (each_once eqb xs) ≡ below (without_x f x xs) limit → sum_by f (cond (eqb k 0) (x ∷ each_once eqb xs) (each_once eqb xs)) ≡ below (with_x f x xs) limit
+    by : (k : ℕ) → count x xs ≡ k → sum_by f (each_once eqb xs) ≡ below (without_x f x xs) limit →
+        sum_by f (cond (eqb k 0) (x ∷ each_once eqb xs) (each_once eqb xs)) ≡ below (with_x f x xs) limit
     by zero e r =
         let s = sum_by-cons f x (each_once eqb xs) in
         let p = first_time f x xs limit a.0 e in omega (arith, s, r, p)

@@ -1,5 +1,6 @@
 -- The lines of files
-use Rattle.std.proofs.Common.{◌≡◌, ℕ, zero, suc, ◌+◌, ◌<◌, ◌≤◌, Bool, cond, List, [], ◌∷◌, ◌++◌, length, take, get_or, sym, ap, ◌∙◌, arith, append_assoc, append-nil}
+use Rattle.std.proofs.Common.{◌≡◌, ℕ, zero, suc, ◌+◌, ◌<◌, ◌≤◌, Bool, cond, List, [], ◌∷◌, ◌++◌, length, take, get_or}
+use Rattle.std.proofs.Common.{sym, ap, ◌∙◌, arith, append_assoc, append-nil}
 use Rattle.std.specs.Prelude.{codes}
 use Rattle.std.specs.List.{zip}
 use Rattle.std.proofs.lemmas.Bool.{ne_eqb}
@@ -32,7 +33,8 @@ next_more (g ∷ fs) (suc i) f l is =
 separator_later : (i : ℕ) → separator (suc i) ≡ codes ",\n    "
 separator_later i = ap (λ (b : Bool). cond b (codes "\n    ") (codes ",\n    ")) (ne_eqb (suc i) 0 (λ e. omega arith))
 
-files_more : (fs : List File) (i : ℕ) (f : File) → i < length fs → f ≡ get_or fs i f → files_text (take (suc i) fs) ≡ files_text (take i fs) ++ (separator i ++ file_text f)
+files_more : (fs : List File) (i : ℕ) (f : File) → i < length fs → f ≡ get_or fs i f →
+    files_text (take (suc i) fs) ≡ files_text (take i fs) ++ (separator i ++ file_text f)
 files_more [] i f l is = absurd (omega arith)
 files_more (g ∷ fs) zero f l is = ap file_line (sym is)
 files_more (g ∷ fs) (suc i) f l is =
@@ -52,7 +54,8 @@ file_there names counts moves i n k m l same_counts same_moves name count move =
     let found = get_or-zip names (zip counts moves) i (n, (k, m)) l rest in
     sym (found ∙ (λ j. (sym name j, inner j)) ∙ (λ j. (n, (sym count j, sym move j))))
 
-pub file_appended : (names : List (List ℕ)) (counts : List Counts) (moves : List Length) (i : ℕ) (n : List ℕ) (k : Counts) (m : Length) (start before between after : List ℕ)
+pub file_appended : (names : List (List ℕ)) (counts : List Counts) (moves : List Length) (i : ℕ) (n : List ℕ)
+    (k : Counts) (m : Length) (start before between after : List ℕ)
     → i < length names → length counts ≡ length names → length moves ≡ length names → n ≡ get_or names i n → k ≡ get_or counts i k → m ≡ get_or moves i m
     → before ≡ start ++ files_text (take i (files_of names counts moves)) → between ≡ before ++ separator i → after ≡ between ++ file_text (n, (k, m))
     → after ≡ start ++ files_text (take (i + 1) (files_of names counts moves))

@@ -28,7 +28,8 @@ token_lexemes (boolean b) = token (boolean b) ∷ []
 token_lexemes null = token null ∷ []
 token_lexemes bad = []
 
-token_lexed : (t : Token) (r : List ℕ) → IsPrintable t → (ends t ≡ true → ends_word r ≡ true) → lex between (token_text t ++ r) ≡ token_lexemes t ++ lex between r
+token_lexed : (t : Token) (r : List ℕ) → IsPrintable t → (ends t ≡ true → ends_word r ≡ true) →
+    lex between (token_text t ++ r) ≡ token_lexemes t ++ lex between r
 unfolding lex word
 token_lexed begin_object r h ended = refl
 token_lexed end_object r h ended = refl
@@ -73,7 +74,8 @@ pieces_end ((g, boolean b) ∷ ps) r h e = refl
 pieces_end ((g, null) ∷ ps) r h e = refl
 pieces_end ((g, bad) ∷ ps) r h e = refl
 
-token_then : (t : Token) (u v : List ℕ) → IsPrintable t → (ends t ≡ true → ends_word u ≡ true) → (ends t ≡ true → ends_word v ≡ true) → lex between u ≡ lex between v
+token_then : (t : Token) (u v : List ℕ) → IsPrintable t → (ends t ≡ true → ends_word u ≡ true) →
+    (ends t ≡ true → ends_word v ≡ true) → lex between u ≡ lex between v
     → lex between (token_text t ++ u) ≡ lex between (token_text t ++ v)
 token_then t u v h end_u end_v e = token_lexed t u h end_u ∙ ap (λ l. token_lexemes t ++ l) e ∙ sym (token_lexed t v h end_v)
 

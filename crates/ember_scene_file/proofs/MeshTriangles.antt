@@ -22,7 +22,8 @@ of_mesh_more mesh ts i t b l at is =
     ∙ ap (λ (c : Bool). of_mesh mesh (take i ts) ++ cond c (t ∷ []) []) is
 
 -- the mesh with a triangle more
-pub triangle_more : (mesh : ℕ) (ts : List Tri) (i : ℕ) (t : Tri) (u : DecimalTriangle) (m : IndexedMesh) → i < length ts → t ≡ get_or ts i t → t.mesh ≡ mesh → u ≡ triangle_of t
+pub triangle_more : (mesh : ℕ) (ts : List Tri) (i : ℕ) (t : Tri) (u : DecimalTriangle) (m : IndexedMesh) →
+    i < length ts → t ≡ get_or ts i t → t.mesh ≡ mesh → u ≡ triangle_of t
     → IsMeshOf (triangles_of mesh (take i ts) ++ u ∷ []) m → IsMeshOf (triangles_of mesh (take (i + 1) ts)) m
 triangle_more mesh ts i t u m l at is shown h =
     let before = triangles_of mesh (take i ts) in

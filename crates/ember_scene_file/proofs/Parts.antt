@@ -1,5 +1,6 @@
 -- The one spelling of a step
-use Rattle.std.proofs.Common.{◌≡◌, ◌≢◌, ℕ, suc, ◌<◌, ◌^◌, false, List, [], ◌∷◌, ◌++◌, length, get_or, Option, Some, None, Result, Ok, arith, refl, ap, sym, subst, ◌∙◌, decimal}
+use Rattle.std.proofs.Common.{◌≡◌, ◌≢◌, ℕ, suc, ◌<◌, ◌^◌, false, List, [], ◌∷◌, ◌++◌, length, get_or, Option, Some}
+use Rattle.std.proofs.Common.{None, Result, Ok, arith, refl, ap, sym, subst, ◌∙◌, decimal}
 use Rattle.std.specs.Prelude.{IfNone}
 use Rattle.std.specs.Str.{bytes_eq}
 use Rattle.std.specs.Str.Parse.{ParsesUnsigned}
@@ -65,7 +66,8 @@ one_step text s t is it =
     let parts = split_once (decimal s.numerator) (decimal t.numerator) (decimal s.denominator) (decimal t.denominator)
     (no_slash s.numerator is.step.numerator_small) (no_slash t.numerator it.step.numerator_small) (sym is.spells ∙ it.spells) in
     let numerator = decimal_injective s.numerator t.numerator (omega (arith, is.step.numerator_small)) (omega (arith, it.step.numerator_small)) parts.0 in
-    let denominator = decimal_injective s.denominator t.denominator (omega (arith, is.step.denominator_small)) (omega (arith, it.step.denominator_small)) parts.1 in
+    let denominator = decimal_injective s.denominator t.denominator (omega (arith, is.step.denominator_small))
+    (omega (arith, it.step.denominator_small)) parts.1 in
     λ i. record { numerator = numerator i; denominator = denominator i }
 
 -- ---- the grid

@@ -1,5 +1,6 @@
 -- Texts of digits, points and slashes, which stand in JSON as they are
-use Rattle.std.proofs.Common.{◌≡◌, ℕ, zero, suc, ◌+◌, ◌*◌, ◌/◌, ◌%◌, ◌^◌, ◌<◌, ◌≤◌, Bool, true, false, cond, List, [], ◌∷◌, ◌++◌, get_or, IsUtf8, refl, ap₂, arith, decimal}
+use Rattle.std.proofs.Common.{◌≡◌, ℕ, zero, suc, ◌+◌, ◌*◌, ◌/◌, ◌%◌, ◌^◌, ◌<◌, ◌≤◌, Bool, true, false, cond, List, []}
+use Rattle.std.proofs.Common.{◌∷◌, ◌++◌, get_or, IsUtf8, refl, ap₂, arith, decimal}
 use Rattle.std.specs.Prelude.{All, ◌==◌, codes}
 use Rattle.std.proofs.lemmas.Fmt.{decimal_is_IsNumeral_wide}
 use Rattle.std.proofs.lemmas.List.Elements.{All-cons, All-head, All-tail, All-nil, All-append, All-from_get_or}
@@ -56,7 +57,8 @@ digits_plain (suc places) zero h = All-nil IsPlain
 digits_plain (suc places) (suc n) h =
     let positive = power_of_10_positive places in
     let raised = pow-suc 10 places in
-    All-cons IsPlain _ _ (one_digit (suc n) (10 ^ places) positive (omega (arith, h, raised))) (digits_plain places (suc n % 10 ^ places) (mod-lt (suc n) positive))
+    All-cons IsPlain _ _ (one_digit (suc n) (10 ^ places) positive (omega (arith, h, raised)))
+    (digits_plain places (suc n % 10 ^ places) (mod-lt (suc n) positive))
 
 if_plain : (b : Bool) (xs ys : List ℕ) → All IsPlain xs → All IsPlain ys → All IsPlain (cond b xs ys)
 if_plain true xs ys h k = h
@@ -78,7 +80,8 @@ move_plain l =
 pub step_plain : (s : Step) → IsStep s → All IsPlain (step_text s)
 step_plain s h =
     All-append IsPlain _ _ (decimal_plain _ (below h.numerator_small))
-    (All-append IsPlain (codes "/") _ (All-cons IsPlain 47 [] (record { low = omega arith; high = omega arith }) (All-nil IsPlain)) (decimal_plain _ (below h.denominator_small)))
+    (All-append IsPlain (codes "/") _ (All-cons IsPlain 47 [] (record { low = omega arith; high = omega arith })
+    (All-nil IsPlain)) (decimal_plain _ (below h.denominator_small)))
   where
     below : {n : ℕ} → n < 2 ^ 40 → n < 10 ^ 64
     below small = omega (arith, small)

@@ -1,5 +1,6 @@
 -- The JSON of a scene, and what is found in it
-use Rattle.std.proofs.Common.{◌≡◌, ℕ, ℤ, pos, negsuc, ◌<◌, ◌≤◌, ◌^◌, List, [], ◌∷◌, ◌++◌, Some, refl, sym, ap, ◌∙◌, append-nil, map, subst, arith, decimal, IsUtf8}
+use Rattle.std.proofs.Common.{◌≡◌, ℕ, ℤ, pos, negsuc, ◌<◌, ◌≤◌, ◌^◌, List, [], ◌∷◌, ◌++◌, Some, refl, sym, ap, ◌∙◌}
+use Rattle.std.proofs.Common.{append-nil, map, subst, arith, decimal, IsUtf8}
 use Rattle.std.specs.Prelude.{codes, All, option_and_then, option_map}
 use Rattle.std.specs.Fmt.{signed_decimal}
 use Rattle.std.proofs.lemmas.Bool.{lt-ltb}
@@ -91,7 +92,8 @@ scene_data step x y z files = object
     (put (codes "step") (string step)
     no_members)))
 
-scene_read : (step x y z : List ℕ) (l m n : Num) (js : json.Items) (ds : Items) → number_of x ≡ Some l → number_of y ≡ Some m → number_of z ≡ Some n → of_items js ≡ Some ds
+scene_read : (step x y z : List ℕ) (l m n : Num) (js : json.Items) (ds : Items) → number_of x ≡ Some l →
+    number_of y ≡ Some m → number_of z ≡ Some n → of_items js ≡ Some ds
     → of_json (scene_json step x y z js) ≡ Some (scene_data step l m n ds)
 scene_read step x y z l m n js ds ex ey ez es = rw (ex, ey, ez, es) refl
 

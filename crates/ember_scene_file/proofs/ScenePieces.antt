@@ -1,5 +1,6 @@
 -- The text of a scene as tokens of JSON with gaps between them
-use Rattle.std.proofs.Common.{◌≡◌, ℕ, ℤ, ◌<◌, ◌^◌, Bool, true, false, ◌&&◌, List, [], ◌∷◌, ◌++◌, refl, sym, ap, ◌∙◌, append_assoc, map, inl, inr, ◌⊎◌, subst, decimal, IsUtf8}
+use Rattle.std.proofs.Common.{◌≡◌, ℕ, ℤ, ◌<◌, ◌^◌, Bool, true, false, ◌&&◌, List, [], ◌∷◌, ◌++◌, refl, sym, ap, ◌∙◌}
+use Rattle.std.proofs.Common.{append_assoc, map, inl, inr, ◌⊎◌, subst, decimal, IsUtf8}
 use Rattle.std.specs.Prelude.{codes, All, ◌==◌, ◌||◌}
 use Rattle.std.specs.Fmt.{signed_decimal}
 use Rattle.std.proofs.lemmas.Bool.{and_parts, eqb-true}
@@ -19,7 +20,8 @@ use Rattle.ember_snap.specs.declared.offsets.Offset.{Offset}
 use Rattle.ember_snap.specs.declared.steps.Step.{Step}
 use Rattle.ember_snap.specs.Steps.{IsStep}
 use Rattle.ember_scene_file.specs.Fractions.{fraction_text}
-use Rattle.ember_scene_file.specs.Texts.{File, move_text, count_text, counts_text, name_text, next_text, file_text, file_line, files_text, offset_text, grid_text, text_of}
+use Rattle.ember_scene_file.specs.Texts.{File, move_text, count_text, counts_text, name_text, next_text, file_text}
+use Rattle.ember_scene_file.specs.Texts.{file_line, files_text, offset_text, grid_text, text_of}
 use Rattle.ember_scene_file.specs.ReadBack.{IsShort, IsFile}
 use Rattle.ember_scene_file.proofs.FileLines.{next_lines, joined}
 use Rattle.ember_scene_file.proofs.LexedTails.{tokens-pieces}
@@ -102,7 +104,8 @@ file_regrouped f r =
     let last = codes ", \"greatest move\": \"" ++ (move_text f.1.1 ++ (codes "\"}" ++ r)) in
     regrouped5 (name_text f.0) (counts_text f.1.0) (codes ", \"greatest move\": \"") (move_text f.1.1) (codes "\"}") r
     ∙ append_assoc (codes "{\"file\": ") (quoted f.0) (counts_text f.1.0 ++ last)
-    ∙ ap (λ (l : List ℕ). codes "{\"file\": " ++ (quoted f.0 ++ l)) (ap (λ (l : List ℕ). counts_text f.1.0 ++ l) (move_regrouped f.1.1 r) ∙ counts_regrouped f.1.0 _)
+    ∙ ap (λ (l : List ℕ). codes "{\"file\": " ++ (quoted f.0 ++ l))
+    (ap (λ (l : List ℕ). counts_text f.1.0 ++ l) (move_regrouped f.1.1 r) ∙ counts_regrouped f.1.0 _)
 
 line_regrouped : (f : File) (r : List ℕ) → file_line f ++ r ≡ codes "\n    " ++ file_then f r
 line_regrouped f r = append_assoc (codes "\n    ") (file_text f) r ∙ ap (λ (l : List ℕ). codes "\n    " ++ l) (file_regrouped f r)
@@ -152,13 +155,17 @@ grid_regrouped : (step : Step) (o : Offset) (r : List ℕ) → IsStep step
 unfolding grid_text offset_text next_text
 grid_regrouped step o r is =
     let offset = codes ", " ++ (signed_decimal o.y ++ (codes ", " ++ (signed_decimal o.z ++ (codes "],\n  \"files\": [" ++ r)))) in
-    ap (λ (l : List ℕ). codes "{\n  \"step\": " ++ l) (quoted_plain (fraction_text step) (codes ",\n  \"offset\": [" ++ (signed_decimal o.x ++ offset)) (plain_escape _ (step_plain step is)))
+    ap (λ (l : List ℕ). codes "{\n  \"step\": " ++ l)
+    (quoted_plain (fraction_text step) (codes ",\n  \"offset\": [" ++ (signed_decimal o.x ++ offset))
+    (plain_escape _ (step_plain step is)))
     ∙ sym
     (regrouped5 (codes "{\n  \"step\": \"") (fraction_text step) (codes "\",\n  \"offset\": ") (offset_text o) (codes ",\n  \"files\": [") r
     ∙ ap (λ (l : List ℕ). codes "{\n  \"step\": \"" ++ (fraction_text step ++ (codes "\",\n  \"offset\": " ++ l)))
     (regrouped5 (codes "[") (signed_decimal o.x) (next_text o.y) (next_text o.z) (codes "]") (codes ",\n  \"files\": [" ++ r)
     ∙ ap (λ (l : List ℕ). codes "[" ++ (signed_decimal o.x ++ l))
-    (append_assoc (codes ", ") (signed_decimal o.y) _ ∙ ap (λ (l : List ℕ). codes ", " ++ (signed_decimal o.y ++ l)) (append_assoc (codes ", ") (signed_decimal o.z) _))))
+    (append_assoc (codes ", ") (signed_decimal o.y) _
+    ∙ ap (λ (l : List ℕ). codes ", " ++ (signed_decimal o.y ++ l))
+    (append_assoc (codes ", ") (signed_decimal o.z) _))))
 
 pub pieces_are_text : (step : Step) (o : Offset) (fs : List File) → IsStep step
     → print_spaced false (scene_pieces step o fs) ++ 10 ∷ [] ≡ text_of step o fs
@@ -347,4 +354,5 @@ scene_utf8 step o fs is short h = (
 pub text_utf8 : (step : Step) (o : Offset) (fs : List File) → IsStep step → IsShort o → All IsFile fs → IsUtf8 (text_of step o fs)
 text_utf8 step o fs is short h =
     subst IsUtf8 (pieces_are_text step o fs is)
-    (IsUtf8-append _ (10 ∷ []) (spaced_utf8 false _ (gaps_sound (scene_pieces step o fs) (files_gaps fs)) (scene_utf8 step o fs is short h)) (IsUtf8-are_ascii (10 ∷ []) refl))
+    (IsUtf8-append _ (10 ∷ []) (spaced_utf8 false _ (gaps_sound (scene_pieces step o fs) (files_gaps fs))
+    (scene_utf8 step o fs is short h)) (IsUtf8-are_ascii (10 ∷ []) refl))

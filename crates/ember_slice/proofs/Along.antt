@@ -47,7 +47,8 @@ pub square_above : (n : Plane) → (IsFlat n → ⊥) → pos 0 <ℤ square n
 square_above n t =
     by_sign n.a
     (λ h. omega (arith, linear, square_pos (above h), square_nonneg n.b))
-    (λ e. by_sign n.b (λ h. omega (arith, linear, square_pos (above h), square_nonneg n.a)) (λ f. absurd (t (e, f))) (λ h. omega (arith, linear, square_pos (below h), square_nonneg n.a)))
+    (λ e. by_sign n.b (λ h. omega (arith, linear, square_pos (above h), square_nonneg n.a)) (λ f. absurd (t (e, f)))
+    (λ h. omega (arith, linear, square_pos (below h), square_nonneg n.a)))
     (λ h. omega (arith, linear, square_pos (below h), square_nonneg n.b))
   where
     above : {a : ℤ} → pos 0 <ℤ a → a ≢ pos 0
@@ -69,21 +70,28 @@ alongE n v = n.x ⊗ v.y ⊖ n.y ⊗ v.x
 pub nothing : (k l m o a b c d : ℤ) → a ≡ pos 0 → b ≡ pos 0 → c ≡ pos 0 → d ≡ pos 0 → k *ℤ a +ℤ l *ℤ b +ℤ m *ℤ c +ℤ o *ℤ d ≡ pos 0
 nothing k l m o a b c d ea eb ec ed = rw (ea, eb, ec, ed) (omega (arith, ints))
 
-values_compared_along_line : (n : Plane) (at : ℤ) (p : Plane) (u v : Spot) → OnLine n at u → OnLine n at v → (pos 2 *ℤ square n) *ℤ (u.w *ℤ value_at p v -ℤ v.w *ℤ value_at p u) ≡ (pos 2 *ℤ slope n p) *ℤ ahead n v u
+values_compared_along_line : (n : Plane) (at : ℤ) (p : Plane) (u v : Spot) → OnLine n at u → OnLine n at v →
+    (pos 2 *ℤ square n) *ℤ (u.w *ℤ value_at p v -ℤ v.w *ℤ value_at p u) ≡ (pos 2 *ℤ slope n p) *ℤ ahead n v u
 values_compared_along_line n at p u v hu hv =
     let m = n.a *ℤ p.a +ℤ n.b *ℤ p.b in
     let k = square n *ℤ p.c -ℤ m *ℤ n.c in
-    let e : (pos 2 *ℤ square n) *ℤ (u.w *ℤ value_at p v -ℤ v.w *ℤ value_at p u) -ℤ (pos 2 *ℤ slope n p) *ℤ ahead n v u ≡ neg_ℤ (pos 2 *ℤ m *ℤ v.w) *ℤ value_at n u +ℤ (pos 2 *ℤ m *ℤ u.w) *ℤ value_at n v +ℤ neg_ℤ (k *ℤ v.w) *ℤ value_at (level at) u +ℤ (k *ℤ u.w) *ℤ value_at (level at) v =
+    let e : (pos 2 *ℤ square n) *ℤ (u.w *ℤ value_at p v -ℤ v.w *ℤ value_at p u) -ℤ (pos 2 *ℤ slope n p) *ℤ ahead n v u
+    ≡ neg_ℤ (pos 2 *ℤ m *ℤ v.w) *ℤ value_at n u +ℤ (pos 2 *ℤ m *ℤ u.w) *ℤ value_at n v +ℤ neg_ℤ (k *ℤ v.w) *ℤ value_at
+    (level at) u +ℤ (k *ℤ u.w) *ℤ value_at (level at) v =
     identity (tuple ∷ scalar ∷ tuple ∷ tuple ∷ tuple ∷ []) (λ n at p u v.
     let s = n.x ⊗ n.x ⊕ n.y ⊗ n.y in let m = n.x ⊗ p.x ⊕ n.y ⊗ p.y in let k = s ⊗ p.z ⊖ m ⊗ n.z in let q = levelE (num (pos 2) ⊗ at ⊕ num (pos 1)) in
-    (num (pos 2) ⊗ s) ⊗ (u.w ⊗ valueE p v ⊖ v.w ⊗ valueE p u) ⊖ (num (pos 2) ⊗ (n.x ⊗ p.y ⊖ n.y ⊗ p.x)) ⊗ (u.w ⊗ alongE n v ⊖ v.w ⊗ alongE n u) ≈ neg (num (pos 2) ⊗ m ⊗ v.w) ⊗ valueE n u ⊕ (num (pos 2) ⊗ m ⊗ u.w) ⊗ valueE n v ⊕ neg (k ⊗ v.w) ⊗ valueE q u ⊕ (k ⊗ u.w) ⊗ valueE q v) cancels (plane_tuple n) at (plane_tuple p) (spot_tuple u) (spot_tuple v) in
+    (num (pos 2) ⊗ s) ⊗ (u.w ⊗ valueE p v ⊖ v.w ⊗ valueE p u) ⊖ (num (pos 2) ⊗ (n.x ⊗ p.y ⊖ n.y ⊗ p.x)) ⊗
+    (u.w ⊗ alongE n v ⊖ v.w ⊗ alongE n u) ≈ neg (num (pos 2) ⊗ m ⊗ v.w) ⊗ valueE n u ⊕ (num (pos 2) ⊗ m ⊗ u.w) ⊗
+    valueE n v ⊕ neg (k ⊗ v.w) ⊗ valueE q u ⊕ (k ⊗ u.w) ⊗ valueE q v) cancels (plane_tuple n) at (plane_tuple p)
+    (spot_tuple u) (spot_tuple v) in
     let z = e ∙ nothing _ _ _ _ _ _ _ _ hu.support hv.support hu.level hv.level in
     omega (arith, linear, z)
 
 -- ---- where the plane crosses the line, and where it doesn't
 weight_is : (n : Plane) (at : ℤ) (p : Plane) → weight n (level at) p ≡ negsuc 1 *ℤ slope n p
 weight_is n at p =
-    identity (tuple ∷ tuple ∷ []) (λ n p. detE (normalE n) (normalE (levelE (num (pos 0)))) (normalE p) ≈ num (negsuc 1) ⊗ (n.x ⊗ p.y ⊖ n.y ⊗ p.x)) cancels (plane_tuple n) (plane_tuple p)
+    identity (tuple ∷ tuple ∷ []) (λ n p. detE (normalE n) (normalE (levelE (num (pos 0)))) (normalE p) ≈ num (negsuc 1)
+    ⊗ (n.x ⊗ p.y ⊖ n.y ⊗ p.x)) cancels (plane_tuple n) (plane_tuple p)
 
 -- a plane that is parallel to the line doesn't change along it
 pub parallel_slope : (n : Plane) (at : ℤ) (p : Plane) → weight n (level at) p ≡ pos 0 → slope n p ≡ pos 0
@@ -112,7 +120,9 @@ positive_twice h = omega (arith, linear, h)
 
 same_products : (k w x y z s a : ℤ) → k ≢ pos 0 → k *ℤ (w *ℤ x -ℤ y *ℤ z) ≡ (pos 2 *ℤ s) *ℤ a → s ≡ pos 0 → w *ℤ x ≡ y *ℤ z
 same_products k w x y z s a h e f =
-    cancel_eq {c = k} h (from_two (pos 1) (pos 2 *ℤ a) e f (solve 7 (λ k w x y z s a. k ⊗ (w ⊗ x) ⊖ k ⊗ (y ⊗ z) ≈ num (pos 1) ⊗ (k ⊗ (w ⊗ x ⊖ y ⊗ z) ⊖ (num (pos 2) ⊗ s) ⊗ a) ⊕ (num (pos 2) ⊗ a) ⊗ (s ⊖ num (pos 0))) cancels k w x y z s a))
+    cancel_eq {c = k} h (from_two (pos 1) (pos 2 *ℤ a) e f
+    (solve 7 (λ k w x y z s a. k ⊗ (w ⊗ x) ⊖ k ⊗ (y ⊗ z) ≈ num (pos 1) ⊗ (k ⊗ (w ⊗ x ⊖ y ⊗ z) ⊖ (num (pos 2) ⊗ s) ⊗ a)
+    ⊕ (num (pos 2) ⊗ a) ⊗ (s ⊖ num (pos 0))) cancels k w x y z s a))
 
 module _ (n : Plane) (at : ℤ) (p : Plane) (m : Spot) (t : IsFlat n → ⊥) (hm : OnLine n at m) where
   twice_square : pos 0 <ℤ (pos 2 *ℤ square n)
@@ -121,13 +131,17 @@ module _ (n : Plane) (at : ℤ) (p : Plane) (m : Spot) (t : IsFlat n → ⊥) (h
   -- along a line that a plane is parallel to, the plane has one sign
   pub parallel_sign : slope n p ≡ pos 0 → (v : Spot) → OnLine n at v → sgn (value_at p v) ≡ sgn (value_at p m)
   parallel_sign e v hv =
-      let q = same_products (pos 2 *ℤ square n) m.w (value_at p v) v.w (value_at p m) (slope n p) (ahead n v m) (λ z. omega (arith, linear, twice_square, z)) (values_compared_along_line n at p m v hm hv) e in
+      let q = same_products (pos 2 *ℤ square n) m.w (value_at p v) v.w (value_at p m) (slope n p) (ahead n v m)
+      (λ z. omega (arith, linear, twice_square, z)) (values_compared_along_line n at p m v hm hv) e in
       sym (sgn_scaled (value_at p v) hm.weight) ∙ ap sgn q ∙ sgn_scaled (value_at p m) hv.weight
 
   module _ (e : value_at p m ≡ pos 0) where
     grows : (v : Spot) → OnLine n at v → ((pos 2 *ℤ square n) *ℤ m.w) *ℤ value_at p v ≡ (pos 2 *ℤ slope n p) *ℤ ahead n v m
     grows v hv =
-        from_two (pos 1) ((pos 2 *ℤ square n) *ℤ v.w) (values_compared_along_line n at p m v hm hv) e (solve 7 (λ k w x y z s a. (k ⊗ w) ⊗ x ⊖ s ⊗ a ≈ num (pos 1) ⊗ (k ⊗ (w ⊗ x ⊖ y ⊗ z) ⊖ s ⊗ a) ⊕ (k ⊗ y) ⊗ (z ⊖ num (pos 0))) cancels (pos 2 *ℤ square n) m.w (value_at p v) v.w (value_at p m) (pos 2 *ℤ slope n p) (ahead n v m))
+        from_two (pos 1) ((pos 2 *ℤ square n) *ℤ v.w) (values_compared_along_line n at p m v hm hv) e
+        (solve 7 (λ k w x y z s a. (k ⊗ w) ⊗ x ⊖ s ⊗ a ≈ num (pos 1) ⊗ (k ⊗ (w ⊗ x ⊖ y ⊗ z) ⊖ s ⊗ a) ⊕ (k ⊗ y) ⊗
+        (z ⊖ num (pos 0))) cancels (pos 2 *ℤ square n) m.w (value_at p v) v.w (value_at p m) (pos 2 *ℤ slope n p)
+        (ahead n v m))
 
     scaled_value : (v : Spot) → sgn (((pos 2 *ℤ square n) *ℤ m.w) *ℤ value_at p v) ≡ sgn (value_at p v)
     scaled_value v = sgn_scaled (value_at p v) (pos_mul twice_square hm.weight)
@@ -143,7 +157,9 @@ module _ (n : Plane) (at : ℤ) (p : Plane) (m : Spot) (t : IsFlat n → ⊥) (h
     enters_at h =
         record {
           on = on_line_in n at m hm;
-          signs = λ v f. sym (scaled_value v) ∙ ap sgn (grows v (on_line_out n at v f) ∙ both_turned (pos 2 *ℤ slope n p) (ahead n v m) (ahead n m v) (ahead_turned n m v)) ∙ sgn_scaled (ahead n m v) (turned_above h);
+          signs = λ v f. sym (scaled_value v) ∙ ap sgn
+              (grows v (on_line_out n at v f) ∙ both_turned (pos 2 *ℤ slope n p) (ahead n v m) (ahead n m v)
+              (ahead_turned n m v)) ∙ sgn_scaled (ahead n m v) (turned_above h);
         }
       where
         both_turned : (s a b : ℤ) → a ≡ neg_ℤ b → s *ℤ a ≡ neg_ℤ s *ℤ b

@@ -1,5 +1,6 @@
 -- The segment between two ends, and faces without one.
-use Rattle.std.proofs.Common.{◌≡◌, inl, inr, refl, sym, ap, ◌∙◌, arith, ℤ, pos, ◌+ℤ◌, ◌-ℤ◌, ◌*ℤ◌, neg_ℤ, ◌<ℤ◌, ◌≤ℤ◌, Bool, true, false, ◌&&◌, Option, Some, None, Ok}
+use Rattle.std.proofs.Common.{◌≡◌, inl, inr, refl, sym, ap, ◌∙◌, arith, ℤ, pos, ◌+ℤ◌, ◌-ℤ◌, ◌*ℤ◌, neg_ℤ, ◌<ℤ◌, ◌≤ℤ◌}
+use Rattle.std.proofs.Common.{Bool, true, false, ◌&&◌, Option, Some, None, Ok}
 use Rattle.std.specs.Prelude.{MatchOption}
 use Rattle.ember_algebra.specs.Sign.{sgn, flip, is_neg, is_negative, is_zero, is_positive}
 use Rattle.ember_algebra.proofs.Signs.{sgn-neg}
@@ -53,11 +54,15 @@ none_behind f at h = inr (λ v. cut_split f at v ∙ by v (is_on_line f.support 
 module _ {u v : Spot} (s : SamePoint u v) (pu : pos 0 <ℤ u.w) (pv : pos 0 <ℤ v.w) where
   same_value : (p : Plane) → u.w *ℤ value_at p v ≡ v.w *ℤ value_at p u
   same_value p =
-      from_three (neg_ℤ p.a) (neg_ℤ p.b) (neg_ℤ p.c) s.x s.y s.z (solve 12 (λ a b c d x y z w e f g h. w ⊗ (a ⊗ e ⊕ b ⊗ f ⊕ c ⊗ g ⊖ d ⊗ h) ⊖ h ⊗ (a ⊗ x ⊕ b ⊗ y ⊕ c ⊗ z ⊖ d ⊗ w) ≈ neg a ⊗ (h ⊗ x ⊖ w ⊗ e) ⊕ neg b ⊗ (h ⊗ y ⊖ w ⊗ f) ⊕ neg c ⊗ (h ⊗ z ⊖ w ⊗ g)) cancels p.a p.b p.c p.d u.x u.y u.z u.w v.x v.y v.z v.w)
+      from_three (neg_ℤ p.a) (neg_ℤ p.b) (neg_ℤ p.c) s.x s.y s.z
+      (solve 12 (λ a b c d x y z w e f g h. w ⊗ (a ⊗ e ⊕ b ⊗ f ⊕ c ⊗ g ⊖ d ⊗ h) ⊖ h ⊗ (a ⊗ x ⊕ b ⊗ y ⊕ c ⊗ z ⊖ d ⊗ w)
+      ≈ neg a ⊗ (h ⊗ x ⊖ w ⊗ e) ⊕ neg b ⊗ (h ⊗ y ⊖ w ⊗ f) ⊕ neg c ⊗ (h ⊗ z ⊖ w ⊗ g)) cancels p.a p.b p.c p.d u.x u.y
+      u.z u.w v.x v.y v.z v.w)
 
   value_zero : (p : Plane) → value_at p u ≡ pos 0 → value_at p v ≡ pos 0
   value_zero p e =
-      by_sign (value_at p v) (λ h. absurd (omega (arith, linear, pos_mul pu h, same_value p, zero))) (λ h. h) (λ h. absurd (omega (arith, linear, mul_pos_neg pu h, same_value p, zero)))
+      by_sign (value_at p v) (λ h. absurd (omega (arith, linear, pos_mul pu h, same_value p, zero))) (λ h. h)
+      (λ h. absurd (omega (arith, linear, mul_pos_neg pu h, same_value p, zero)))
     where
       zero : v.w *ℤ value_at p u ≡ pos 0
       zero = ap (λ a. v.w *ℤ a) e ∙ times_zero v.w
@@ -72,11 +77,13 @@ module _ {u v : Spot} (s : SamePoint u v) (pu : pos 0 <ℤ u.w) (pv : pos 0 <ℤ
 
   same_along : (n : Plane) → u.w *ℤ along_line n v ≡ v.w *ℤ along_line n u
   same_along n =
-      from_two n.b (neg_ℤ n.a) s.x s.y (solve 8 (λ a b x y w e f h. w ⊗ (a ⊗ f ⊖ b ⊗ e) ⊖ h ⊗ (a ⊗ y ⊖ b ⊗ x) ≈ b ⊗ (h ⊗ x ⊖ w ⊗ e) ⊕ neg a ⊗ (h ⊗ y ⊖ w ⊗ f)) cancels n.a n.b u.x u.y u.w v.x v.y v.w)
+      from_two n.b (neg_ℤ n.a) s.x s.y (solve 8 (λ a b x y w e f h. w ⊗ (a ⊗ f ⊖ b ⊗ e) ⊖ h ⊗ (a ⊗ y ⊖ b ⊗ x) ≈ b ⊗
+      (h ⊗ x ⊖ w ⊗ e) ⊕ neg a ⊗ (h ⊗ y ⊖ w ⊗ f)) cancels n.a n.b u.x u.y u.w v.x v.y v.w)
 
   ahead_moved : (n : Plane) (w : Spot) → u.w *ℤ ahead n v w ≡ v.w *ℤ ahead n u w
   ahead_moved n w =
-      from_one w.w (same_along n) (solve 6 (λ p q r a b c. p ⊗ (r ⊗ b ⊖ q ⊗ c) ⊖ q ⊗ (r ⊗ a ⊖ p ⊗ c) ≈ r ⊗ (p ⊗ b ⊖ q ⊗ a)) cancels u.w v.w w.w (along_line n u) (along_line n v) (along_line n w))
+      from_one w.w (same_along n) (solve 6 (λ p q r a b c. p ⊗ (r ⊗ b ⊖ q ⊗ c) ⊖ q ⊗ (r ⊗ a ⊖ p ⊗ c) ≈ r ⊗
+      (p ⊗ b ⊖ q ⊗ a)) cancels u.w v.w w.w (along_line n u) (along_line n v) (along_line n w))
 
   same_sign : (n : Plane) (w : Spot) → sgn (ahead n u w) ≡ sgn (ahead n v w)
   same_sign n w =
@@ -110,13 +117,16 @@ module _ (f : Face) (at : ℤ) (a b : End) (h : IsInterval f.support at f.edges 
   no_segment k =
       none_behind f at (λ v on. h.holds v on ∙ by v on (is_before f.support (spot_of a.point) v) (is_before f.support v (spot_of b.point)) refl refl)
     where
-      by : (v : Spot) → is_on_line f.support at v ≡ true → (s t : Bool) → is_before f.support (spot_of a.point) v ≡ s → is_before f.support v (spot_of b.point) ≡ t → s && t ≡ false
+      by : (v : Spot) → is_on_line f.support at v ≡ true → (s t : Bool) → is_before f.support (spot_of a.point) v ≡ s →
+          is_before f.support v (spot_of b.point) ≡ t → s && t ≡ false
       by v on false t p q = refl
       by v on true false p q = refl
       by v on true true p q =
-          sym (before_trans f.support (spot_of a.point) v (spot_of b.point) on_a.weight (on_line_out f.support at v on).weight on_b.weight p q) ∙ sym test_of_ends ∙ k
+          sym (before_trans f.support (spot_of a.point) v (spot_of b.point) on_a.weight
+          (on_line_out f.support at v on).weight on_b.weight p q) ∙ sym test_of_ends ∙ k
 
-  segment_between : (s : Segment) → is_negative (value_at b.plane (spot_of a.point)) ≡ true → Joins (spot_of a.point) (spot_of b.point) s → IsSegment f at (spot_of s.first) (spot_of s.last)
+  segment_between : (s : Segment) → is_negative (value_at b.plane (spot_of a.point)) ≡ true →
+      Joins (spot_of a.point) (spot_of b.point) s → IsSegment f at (spot_of s.first) (spot_of s.last)
   segment_between s k j =
       let n = f.support in
       let before : (w : Spot) → is_before n (spot_of a.point) w ≡ is_before n (spot_of s.first) w = same_before j.first on_a.weight s.first.valid.weight n in
@@ -149,7 +159,9 @@ module _ (n : Plane) (at : ℤ) (u : Spot) (on : is_on_line n at u ≡ true) whe
 
       same_level : value_at (level at) (further n u) ≡ value_at (level at) u
       same_level =
-          solve 7 (λ a b e x y z w. num (pos 0) ⊗ (x ⊖ b) ⊕ num (pos 0) ⊗ (y ⊕ a) ⊕ num (pos 2) ⊗ z ⊖ (num (pos 2) ⊗ e ⊕ num (pos 1)) ⊗ w ≈ num (pos 0) ⊗ x ⊕ num (pos 0) ⊗ y ⊕ num (pos 2) ⊗ z ⊖ (num (pos 2) ⊗ e ⊕ num (pos 1)) ⊗ w) cancels n.a n.b at u.x u.y u.z u.w
+          solve 7 (λ a b e x y z w. num (pos 0) ⊗ (x ⊖ b) ⊕ num (pos 0) ⊗ (y ⊕ a) ⊕ num (pos 2) ⊗ z ⊖
+          (num (pos 2) ⊗ e ⊕ num (pos 1)) ⊗ w ≈ num (pos 0) ⊗ x ⊕ num (pos 0) ⊗ y ⊕ num (pos 2) ⊗ z ⊖
+          (num (pos 2) ⊗ e ⊕ num (pos 1)) ⊗ w) cancels n.a n.b at u.x u.y u.z u.w
 
   nearer_on_line : is_on_line n at (nearer n u) ≡ true
   nearer_on_line =
@@ -162,16 +174,30 @@ module _ (n : Plane) (at : ℤ) (u : Spot) (on : is_on_line n at u ≡ true) whe
 
       same_level : value_at (level at) (nearer n u) ≡ value_at (level at) u
       same_level =
-          solve 7 (λ a b e x y z w. num (pos 0) ⊗ (x ⊕ b) ⊕ num (pos 0) ⊗ (y ⊖ a) ⊕ num (pos 2) ⊗ z ⊖ (num (pos 2) ⊗ e ⊕ num (pos 1)) ⊗ w ≈ num (pos 0) ⊗ x ⊕ num (pos 0) ⊗ y ⊕ num (pos 2) ⊗ z ⊖ (num (pos 2) ⊗ e ⊕ num (pos 1)) ⊗ w) cancels n.a n.b at u.x u.y u.z u.w
+          solve 7 (λ a b e x y z w. num (pos 0) ⊗ (x ⊕ b) ⊕ num (pos 0) ⊗ (y ⊖ a) ⊕ num (pos 2) ⊗ z ⊖
+          (num (pos 2) ⊗ e ⊕ num (pos 1)) ⊗ w ≈ num (pos 0) ⊗ x ⊕ num (pos 0) ⊗ y ⊕ num (pos 2) ⊗ z ⊖
+          (num (pos 2) ⊗ e ⊕ num (pos 1)) ⊗ w) cancels n.a n.b at u.x u.y u.z u.w
 
   module _ (t : IsFlat n → ⊥) where
     ahead_of_further : ahead n u (further n u) <ℤ pos 0
     ahead_of_further =
-        omega (arith, linear, pos_mul (on_line_out n at u on).weight (square_above n t), solve 5 (λ a b x y w. w ⊗ (a ⊗ y ⊖ b ⊗ x) ⊖ w ⊗ (a ⊗ (y ⊕ a) ⊖ b ⊗ (x ⊖ b)) ≈ neg (w ⊗ (a ⊗ a ⊕ b ⊗ b))) cancels n.a n.b u.x u.y u.w)
+        omega (
+          arith,
+          linear,
+          pos_mul (on_line_out n at u on).weight (square_above n t),
+          solve 5 (λ a b x y w. w ⊗ (a ⊗ y ⊖ b ⊗ x) ⊖ w ⊗ (a ⊗ (y ⊕ a) ⊖ b ⊗ (x ⊖ b)) ≈ neg (w ⊗ (a ⊗ a ⊕ b ⊗ b)))
+              cancels n.a n.b u.x u.y u.w,
+        )
 
     nearer_ahead : ahead n (nearer n u) u <ℤ pos 0
     nearer_ahead =
-        omega (arith, linear, pos_mul (on_line_out n at u on).weight (square_above n t), solve 5 (λ a b x y w. w ⊗ (a ⊗ (y ⊖ a) ⊖ b ⊗ (x ⊕ b)) ⊖ w ⊗ (a ⊗ y ⊖ b ⊗ x) ≈ neg (w ⊗ (a ⊗ a ⊕ b ⊗ b))) cancels n.a n.b u.x u.y u.w)
+        omega (
+          arith,
+          linear,
+          pos_mul (on_line_out n at u on).weight (square_above n t),
+          solve 5 (λ a b x y w. w ⊗ (a ⊗ (y ⊖ a) ⊖ b ⊗ (x ⊕ b)) ⊖ w ⊗ (a ⊗ y ⊖ b ⊗ x) ≈ neg (w ⊗ (a ⊗ a ⊕ b ⊗ b)))
+              cancels n.a n.b u.x u.y u.w,
+        )
 
 module _ (f : Face) (at : ℤ) (t : IsFlat f.support → ⊥) where
   abbrev n : Plane
@@ -191,8 +217,12 @@ module _ (f : Face) (at : ℤ) (t : IsFlat f.support → ⊥) where
     beyond : Beyond
     beyond =
         by_sign (ahead n a u)
-        (λ l. let k = ahead_of_further n at a on_a t in
-        (further n a, further_on_line n at a on_a, negative_in k, negative_in (not_after_then n u a (further n a) wu wa wa (omega (arith, linear, l, ahead_turned n a u)) k)))
+        (λ l. let k = ahead_of_further n at a on_a t in (
+          further n a,
+          further_on_line n at a on_a,
+          negative_in k,
+          negative_in (not_after_then n u a (further n a) wu wa wa (omega (arith, linear, l, ahead_turned n a u)) k),
+        ))
         (λ l. past (omega (arith, linear, l)))
         (λ l. past (omega (arith, linear, l)))
       where
@@ -204,8 +234,12 @@ module _ (f : Face) (at : ℤ) (t : IsFlat f.support → ⊥) where
     ahead_of : (p : Spot) × (is_on_line n at p ≡ true) × (is_before n p a ≡ true) × (is_before n p u ≡ true)
     ahead_of =
         by_sign (ahead n u a)
-        (λ l. let k = nearer_ahead n at a on_a t in
-        (nearer n a, nearer_on_line n at a on_a, negative_in k, negative_in (then_not_after n (nearer n a) a u wa wa wu k (omega (arith, linear, l, ahead_turned n u a)))))
+        (λ l. let k = nearer_ahead n at a on_a t in (
+          nearer n a,
+          nearer_on_line n at a on_a,
+          negative_in k,
+          negative_in (then_not_after n (nearer n a) a u wa wa wu k (omega (arith, linear, l, ahead_turned n u a))),
+        ))
         (λ l. past (omega (arith, linear, l)))
         (λ l. past (omega (arith, linear, l)))
       where
@@ -237,6 +271,10 @@ module _ (f : Face) (at : ℤ) (t : IsFlat f.support → ⊥) where
   endless_back last h = record { tilted = t; unbounded = inr (goes_back last h) }
 
 -- between two ends there is a segment exactly if the first is behind the plane of the last
-pub answer_between : (f : Face) (at : ℤ) (a b : End) → IsInterval f.support at f.edges (record { first = Some a; last = Some b }) → (r : Option Segment) → MatchOption r (is_negative (value_at b.plane (spot_of a.point)) ≡ false) (λ s. (is_negative (value_at b.plane (spot_of a.point)) ≡ true) × Joins (spot_of a.point) (spot_of b.point) s) → IsAnswer f at (Ok r)
+pub answer_between : (f : Face) (at : ℤ) (a b : End) →
+    IsInterval f.support at f.edges (record { first = Some a; last = Some b }) → (r : Option Segment) →
+    MatchOption r (is_negative (value_at b.plane (spot_of a.point)) ≡ false)
+    (λ s. (is_negative (value_at b.plane (spot_of a.point)) ≡ true) × Joins (spot_of a.point) (spot_of b.point) s) →
+    IsAnswer f at (Ok r)
 answer_between f at a b h None k = no_segment f at a b h k
 answer_between f at a b h (Some s) k = segment_between f at a b h s k.0 k.1

@@ -1,5 +1,7 @@
 -- What planes leave of a line.
-use Rattle.std.proofs.Common.{◌≡◌, refl, sym, ap, subst, ◌∙◌, arith, ℕ, ◌+◌, ◌<◌, ◌≤◌, ℤ, pos, ◌<ℤ◌, Bool, true, false, not, cond, ◌&&◌, List, [], ◌∷◌, length, drop, get_or, add-one, drop-cons, drop_of_length-le, Option, Some, None}
+use Rattle.std.proofs.Common.{◌≡◌, refl, sym, ap, subst, ◌∙◌, arith, ℕ, ◌+◌, ◌<◌, ◌≤◌, ℤ, pos, ◌<ℤ◌, Bool, true, false}
+use Rattle.std.proofs.Common.{not, cond, ◌&&◌, List, [], ◌∷◌, length, drop, get_or, add-one, drop-cons}
+use Rattle.std.proofs.Common.{drop_of_length-le, Option, Some, None}
 use Rattle.std.specs.Prelude.{MatchOption}
 use Rattle.ember_algebra.specs.Sign.{is_neg, is_pos, is_negative, is_positive}
 use Rattle.ember_algebra.proofs.Laws.{linear}
@@ -64,7 +66,8 @@ module _ (n : Plane) (at : ℤ) (new : End) (h : Enters n at new.plane (spot_of 
     later_new t k =
         let m = spot_of new.point in let a = spot_of e.point in
         let l = positive_out (ahead n m a) (sym (ap is_pos (h.signs a old.on)) ∙ t) in
-        negative_in (not_after_then n a m v weights new_weight (on_line_out n at v on).weight (omega (arith, linear, l, ahead_turned n m a)) (negative_out (ahead n m v) k))
+        negative_in (not_after_then n a m v weights new_weight (on_line_out n at v on).weight
+        (omega (arith, linear, l, ahead_turned n m a)) (negative_out (ahead n m v) k))
 
     later_old : is_positive (value_at new.plane (spot_of e.point)) ≡ false → is_before n (spot_of e.point) v ≡ true → is_before n (spot_of new.point) v ≡ true
     later_old t k =
@@ -72,7 +75,10 @@ module _ (n : Plane) (at : ℤ) (new : End) (h : Enters n at new.plane (spot_of 
         let l = not_positive_out (ahead n m a) (ap not (sym (ap is_pos (h.signs a old.on)) ∙ t)) in
         negative_in (not_after_then n m a v new_weight weights (on_line_out n at v on).weight l (negative_out (ahead n a v) k))
 
-  pub narrowed_after : (first last : Option End) (chosen : End) → MatchOption first (chosen ≡ new) (λ e. chosen ≡ cond (is_positive (value_at new.plane (spot_of e.point))) new e) → AreEnds n at (record { first = first; last = last }) → IsNarrowed n at new.plane (record { first = first; last = last }) (record { first = Some chosen; last = last })
+  pub narrowed_after : (first last : Option End) (chosen : End) →
+      MatchOption first (chosen ≡ new) (λ e. chosen ≡ cond (is_positive (value_at new.plane (spot_of e.point))) new e) →
+      AreEnds n at (record { first = first; last = last }) →
+      IsNarrowed n at new.plane (record { first = first; last = last }) (record { first = Some chosen; last = last })
   narrowed_after None last chosen q ends =
       subst (λ d. IsNarrowed n at new.plane (record { first = None; last = last }) (record { first = Some d; last = last })) (sym q) (record {
         ends = record { first = h; last = ends.last };
@@ -80,18 +86,21 @@ module _ (n : Plane) (at : ℤ) (new : End) (h : Enters n at new.plane (spot_of 
       })
   narrowed_after (Some e) last chosen q ends = by (is_positive (value_at new.plane (spot_of e.point))) refl q
     where
-      by : (t : Bool) → is_positive (value_at new.plane (spot_of e.point)) ≡ t → chosen ≡ cond t new e → IsNarrowed n at new.plane (record { first = Some e; last = last }) (record { first = Some chosen; last = last })
+      by : (t : Bool) → is_positive (value_at new.plane (spot_of e.point)) ≡ t → chosen ≡ cond t new e →
+          IsNarrowed n at new.plane (record { first = Some e; last = last }) (record { first = Some chosen; last = last })
       by true t p =
           subst (λ d. IsNarrowed n at new.plane (record { first = Some e; last = last }) (record { first = Some d; last = last })) (sym p) (record {
             ends = record { first = h; last = ends.last };
             left = λ v on. let b = is_before n (spot_of new.point) v in let a = is_before n (spot_of e.point) v in
-                join_first a b (is_until n last v) (absorbs_first a b (later_new e ends.first v on t)) ∙ ap (λ c. (a && is_until n last v) && c) (sym (behind_after v on));
+                join_first a b (is_until n last v) (absorbs_first a b (later_new e ends.first v on t))
+                ∙ ap (λ c. (a && is_until n last v) && c) (sym (behind_after v on));
           })
       by false t p =
           subst (λ d. IsNarrowed n at new.plane (record { first = Some e; last = last }) (record { first = Some d; last = last })) (sym p) (record {
             ends = record { first = ends.first; last = ends.last };
             left = λ v on. let b = is_before n (spot_of new.point) v in let a = is_before n (spot_of e.point) v in
-                keep_first a b (is_until n last v) (absorbs_second a b (later_old e ends.first v on t)) ∙ ap (λ c. (a && is_until n last v) && c) (sym (behind_after v on));
+                keep_first a b (is_until n last v) (absorbs_second a b (later_old e ends.first v on t))
+                ∙ ap (λ c. (a && is_until n last v) && c) (sym (behind_after v on));
           })
 
 -- ---- the line passes back to the plane's front
@@ -110,7 +119,8 @@ module _ (n : Plane) (at : ℤ) (new : End) (h : Leaves n at new.plane (spot_of 
     sooner_new t k =
         let m = spot_of new.point in let b = spot_of e.point in
         let l = positive_out (ahead n b m) (sym (ap is_pos (h.signs b old.on)) ∙ t) in
-        negative_in (then_not_after n v m b (on_line_out n at v on).weight last_weight old_weight (negative_out (ahead n v m) k) (omega (arith, linear, l, ahead_turned n b m)))
+        negative_in (then_not_after n v m b (on_line_out n at v on).weight last_weight old_weight
+        (negative_out (ahead n v m) k) (omega (arith, linear, l, ahead_turned n b m)))
 
     sooner_old : is_positive (value_at new.plane (spot_of e.point)) ≡ false → is_before n v (spot_of e.point) ≡ true → is_before n v (spot_of new.point) ≡ true
     sooner_old t k =
@@ -118,26 +128,34 @@ module _ (n : Plane) (at : ℤ) (new : End) (h : Leaves n at new.plane (spot_of 
         let l = not_positive_out (ahead n b m) (ap not (sym (ap is_pos (h.signs b old.on)) ∙ t)) in
         negative_in (then_not_after n v b m (on_line_out n at v on).weight old_weight last_weight (negative_out (ahead n v b) k) l)
 
-  pub narrowed_until : (first last : Option End) (chosen : End) → MatchOption last (chosen ≡ new) (λ e. chosen ≡ cond (is_positive (value_at new.plane (spot_of e.point))) new e) → AreEnds n at (record { first = first; last = last }) → IsNarrowed n at new.plane (record { first = first; last = last }) (record { first = first; last = Some chosen })
+  pub narrowed_until : (first last : Option End) (chosen : End) →
+      MatchOption last (chosen ≡ new) (λ e. chosen ≡ cond (is_positive (value_at new.plane (spot_of e.point))) new e) →
+      AreEnds n at (record { first = first; last = last }) →
+      IsNarrowed n at new.plane (record { first = first; last = last }) (record { first = first; last = Some chosen })
   narrowed_until first None chosen q ends =
       subst (λ d. IsNarrowed n at new.plane (record { first = first; last = None }) (record { first = first; last = Some d })) (sym q) (record {
         ends = record { first = ends.first; last = h };
-        left = λ v on. only_last (is_after n first v) (is_before n v (spot_of new.point)) ∙ ap (λ b. (is_after n first v && true) && b) (sym (behind_until v on));
+        left = λ v on. only_last (is_after n first v) (is_before n v (spot_of new.point))
+            ∙ ap (λ b. (is_after n first v && true) && b) (sym (behind_until v on));
       })
   narrowed_until first (Some e) chosen q ends = by (is_positive (value_at new.plane (spot_of e.point))) refl q
     where
-      by : (t : Bool) → is_positive (value_at new.plane (spot_of e.point)) ≡ t → chosen ≡ cond t new e → IsNarrowed n at new.plane (record { first = first; last = Some e }) (record { first = first; last = Some chosen })
+      by : (t : Bool) → is_positive (value_at new.plane (spot_of e.point)) ≡ t → chosen ≡ cond t new e →
+          IsNarrowed n at new.plane (record { first = first; last = Some e })
+          (record { first = first; last = Some chosen })
       by true t p =
           subst (λ d. IsNarrowed n at new.plane (record { first = first; last = Some e }) (record { first = first; last = Some d })) (sym p) (record {
             ends = record { first = ends.first; last = h };
             left = λ v on. let b = is_before n v (spot_of new.point) in let a = is_before n v (spot_of e.point) in
-                join_last (is_after n first v) a b (absorbs_first a b (sooner_new e ends.last v on t)) ∙ ap (λ c. (is_after n first v && a) && c) (sym (behind_until v on));
+                join_last (is_after n first v) a b (absorbs_first a b (sooner_new e ends.last v on t))
+                ∙ ap (λ c. (is_after n first v && a) && c) (sym (behind_until v on));
           })
       by false t p =
           subst (λ d. IsNarrowed n at new.plane (record { first = first; last = Some e }) (record { first = first; last = Some d })) (sym p) (record {
             ends = record { first = ends.first; last = ends.last };
             left = λ v on. let b = is_before n v (spot_of new.point) in let a = is_before n v (spot_of e.point) in
-                keep_last (is_after n first v) a b (absorbs_second a b (sooner_old e ends.last v on t)) ∙ ap (λ c. (is_after n first v && a) && c) (sym (behind_until v on));
+                keep_last (is_after n first v) a b (absorbs_second a b (sooner_old e ends.last v on t))
+                ∙ ap (λ c. (is_after n first v && a) && c) (sym (behind_until v on));
           })
 
 -- ---- all of the line
@@ -163,7 +181,12 @@ both_parts a false c d e = ap (λ x. x && d) (sym e)
 module _ {n : Plane} {at : ℤ} {ps qs : List Plane} {p : Plane} {s : LineInterval} (h : LeftOf n at ps (p ∷ qs) s) where
   pub less_left : {t : LineInterval} → IsNarrowed n at p s t → LeftOf n at ps qs t
   less_left {t} k =
-      record { ends = k.ends; left = λ v on. h.left v on ∙ both_parts (is_in_interval n t v) (is_in_interval n s v) (is_negative (value_at p v)) (is_behind qs v) (k.left v on) }
+      record {
+        ends = k.ends;
+        left = λ v on. h.left v on
+            ∙ both_parts (is_in_interval n t v) (is_in_interval n s v) (is_negative (value_at p v)) (is_behind qs v)
+            (k.left v on);
+      }
 
   pub nothing_left : AllOf n at p false → (v : Spot) → is_on_line n at v ≡ true → is_behind ps v ≡ false
   nothing_left k v on =
@@ -177,7 +200,8 @@ abbrev pub zero_plane : Plane
 zero_plane = record { a = pos 0; b = pos 0; c = pos 0; d = pos 0 }
 
 -- by the place of the next plane
-pub next_plane : {n : Plane} {at : ℤ} {s : LineInterval} (ps : List Plane) (i : ℕ) → i < length ps → LeftOf n at ps (drop i ps) s → LeftOf n at ps (get_or ps i zero_plane ∷ drop (i + 1) ps) s
+pub next_plane : {n : Plane} {at : ℤ} {s : LineInterval} (ps : List Plane) (i : ℕ) → i < length ps →
+    LeftOf n at ps (drop i ps) s → LeftOf n at ps (get_or ps i zero_plane ∷ drop (i + 1) ps) s
 next_plane {n} {at} {s} ps i l h =
     subst (λ qs. LeftOf n at ps qs s) (drop-cons ps i zero_plane l ∙ ap (λ k. get_or ps i zero_plane ∷ drop k ps) (sym (add-one i))) h
 

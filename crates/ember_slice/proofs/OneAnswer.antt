@@ -1,5 +1,6 @@
 -- A face gives one answer at a level, and faces have one text.
-use Rattle.std.proofs.Common.{◌≡◌, ⊎_elim, refl, sym, ap, subst, ◌∙◌, arith, ℕ, ℤ, pos, negsuc, ◌+ℤ◌, ◌-ℤ◌, ◌*ℤ◌, neg_ℤ, ◌<ℤ◌, ◌≤ℤ◌, true, ◌&&◌, List, [], ◌∷◌, ◌++◌, length, flat_map, codes}
+use Rattle.std.proofs.Common.{◌≡◌, ⊎_elim, refl, sym, ap, subst, ◌∙◌, arith, ℕ, ℤ, pos, negsuc, ◌+ℤ◌, ◌-ℤ◌, ◌*ℤ◌, neg_ℤ}
+use Rattle.std.proofs.Common.{◌<ℤ◌, ◌≤ℤ◌, true, ◌&&◌, List, [], ◌∷◌, ◌++◌, length, flat_map, codes}
 use Rattle.ember_algebra.proofs.Laws.{linear, from_one, from_two}
 use Rattle.ember_algebra.proofs.Ring.{num, neg, ◌⊕◌, ◌⊖◌, ◌⊗◌, ◌≈◌, solve, cancels}
 use Rattle.ember_algebra.proofs.Order.{by_sign, cancel_eq}
@@ -24,31 +25,46 @@ use Rattle.ember_slice.proofs.Passing.{rises, falls}
 module _ (n : Plane) (at : ℤ) (u v : Spot) (hu : OnLine n at u) (hv : OnLine n at v) where
   middle_on_line : OnLine n at (plus_s u v)
   middle_on_line =
-      record { weight = omega (arith, linear, hu.weight, hv.weight); support = sum n ∙ zeros hu.support hv.support; level = sum (level at) ∙ zeros hu.level hv.level }
+      record {
+        weight = omega (arith, linear, hu.weight, hv.weight);
+        support =
+            sum n ∙ zeros hu.support hv.support;
+        level = sum (level at) ∙ zeros hu.level hv.level;
+      }
     where
       sum : (p : Plane) → value_at p (plus_s u v) ≡ value_at p u +ℤ value_at p v
       sum p =
-          solve 12 (λ a b c d x y z w e f g h. a ⊗ (x ⊕ e) ⊕ b ⊗ (y ⊕ f) ⊕ c ⊗ (z ⊕ g) ⊖ d ⊗ (w ⊕ h) ≈ (a ⊗ x ⊕ b ⊗ y ⊕ c ⊗ z ⊖ d ⊗ w) ⊕ (a ⊗ e ⊕ b ⊗ f ⊕ c ⊗ g ⊖ d ⊗ h)) cancels p.a p.b p.c p.d u.x u.y u.z u.w v.x v.y v.z v.w
+          solve 12 (λ a b c d x y z w e f g h. a ⊗ (x ⊕ e) ⊕ b ⊗ (y ⊕ f) ⊕ c ⊗ (z ⊕ g) ⊖ d ⊗ (w ⊕ h) ≈
+          (a ⊗ x ⊕ b ⊗ y ⊕ c ⊗ z ⊖ d ⊗ w) ⊕ (a ⊗ e ⊕ b ⊗ f ⊕ c ⊗ g ⊖ d ⊗ h)) cancels p.a p.b p.c p.d u.x u.y u.z u.w
+          v.x v.y v.z v.w
 
       zeros : {a b : ℤ} → a ≡ pos 0 → b ≡ pos 0 → a +ℤ b ≡ pos 0
       zeros e f = omega (arith, linear, e, f)
 
   ahead_of_middle : ahead n u (plus_s u v) ≡ ahead n u v
   ahead_of_middle =
-      solve 8 (λ a b x y w e f h. (w ⊕ h) ⊗ (a ⊗ y ⊖ b ⊗ x) ⊖ w ⊗ (a ⊗ (y ⊕ f) ⊖ b ⊗ (x ⊕ e)) ≈ h ⊗ (a ⊗ y ⊖ b ⊗ x) ⊖ w ⊗ (a ⊗ f ⊖ b ⊗ e)) cancels n.a n.b u.x u.y u.w v.x v.y v.w
+      solve 8 (λ a b x y w e f h. (w ⊕ h) ⊗ (a ⊗ y ⊖ b ⊗ x) ⊖ w ⊗ (a ⊗ (y ⊕ f) ⊖ b ⊗ (x ⊕ e)) ≈ h ⊗ (a ⊗ y ⊖ b ⊗ x) ⊖ w
+      ⊗ (a ⊗ f ⊖ b ⊗ e)) cancels n.a n.b u.x u.y u.w v.x v.y v.w
 
   middle_ahead : ahead n (plus_s u v) v ≡ ahead n u v
   middle_ahead =
-      solve 8 (λ a b x y w e f h. h ⊗ (a ⊗ (y ⊕ f) ⊖ b ⊗ (x ⊕ e)) ⊖ (w ⊕ h) ⊗ (a ⊗ f ⊖ b ⊗ e) ≈ h ⊗ (a ⊗ y ⊖ b ⊗ x) ⊖ w ⊗ (a ⊗ f ⊖ b ⊗ e)) cancels n.a n.b u.x u.y u.w v.x v.y v.w
+      solve 8 (λ a b x y w e f h. h ⊗ (a ⊗ (y ⊕ f) ⊖ b ⊗ (x ⊕ e)) ⊖ (w ⊕ h) ⊗ (a ⊗ f ⊖ b ⊗ e) ≈ h ⊗ (a ⊗ y ⊖ b ⊗ x) ⊖ w
+      ⊗ (a ⊗ f ⊖ b ⊗ e)) cancels n.a n.b u.x u.y u.w v.x v.y v.w
 
   -- neither comes before the other
   one_place : (IsFlat n → ⊥) → ahead n u v ≡ pos 0 → SamePoint u v
   one_place t e =
-      record { x = x_from (no_gap (λ s. neg_ℤ s.x) n.b (falls n at u v hu hv)); y = y_from (no_gap (λ s. s.y) n.a (rises n at u v hu hv)); z = z_from hu.level hv.level }
+      record {
+        x = x_from (no_gap (λ s. neg_ℤ s.x) n.b (falls n at u v hu hv));
+        y =
+            y_from (no_gap (λ s. s.y) n.a (rises n at u v hu hv));
+        z = z_from hu.level hv.level;
+      }
     where
       no_gap : (c : Spot → ℤ) (k : ℤ) → (pos 2 *ℤ k) *ℤ ahead n u v ≡ (pos 2 *ℤ square n) *ℤ gap c u v → gap c u v ≡ pos 0
       no_gap c k g =
-          cancel_eq {c = pos 2 *ℤ square n} (λ z. omega (arith, linear, z, square_above n t)) (sym g ∙ ap (λ a. (pos 2 *ℤ k) *ℤ a) e ∙ zeros (pos 2 *ℤ k) (pos 2 *ℤ square n))
+          cancel_eq {c = pos 2 *ℤ square n} (λ z. omega (arith, linear, z, square_above n t))
+          (sym g ∙ ap (λ a. (pos 2 *ℤ k) *ℤ a) e ∙ zeros (pos 2 *ℤ k) (pos 2 *ℤ square n))
         where
           zeros : (x y : ℤ) → x *ℤ pos 0 ≡ y *ℤ pos 0
           zeros x y = omega (arith, linear)
@@ -60,11 +76,18 @@ module _ (n : Plane) (at : ℤ) (u v : Spot) (hu : OnLine n at u) (hv : OnLine n
       x_from g = turned v.w u.x u.w v.x g
         where
           turned : (a b c d : ℤ) → a *ℤ neg_ℤ b -ℤ c *ℤ neg_ℤ d ≡ pos 0 → a *ℤ b ≡ c *ℤ d
-          turned a b c d g = from_one (negsuc 0) g (solve 4 (λ a b c d. a ⊗ b ⊖ c ⊗ d ≈ num (negsuc 0) ⊗ ((a ⊗ neg b ⊖ c ⊗ neg d) ⊖ num (pos 0))) cancels a b c d)
+          turned a b c d g = from_one (negsuc 0) g
+              (solve 4 (λ a b c d. a ⊗ b ⊖ c ⊗ d ≈ num (negsuc 0) ⊗ ((a ⊗ neg b ⊖ c ⊗ neg d) ⊖ num (pos 0))) cancels a b c
+              d)
 
       z_from : value_at (level at) u ≡ pos 0 → value_at (level at) v ≡ pos 0 → v.w *ℤ u.z ≡ u.w *ℤ v.z
       z_from g h =
-          cancel_eq {c = pos 2} (λ z. omega (arith, linear, z)) (from_two v.w (neg_ℤ u.w) g h (solve 9 (λ e x y z w a b c d. num (pos 2) ⊗ (d ⊗ z) ⊖ num (pos 2) ⊗ (w ⊗ c) ≈ d ⊗ ((num (pos 0) ⊗ x ⊕ num (pos 0) ⊗ y ⊕ num (pos 2) ⊗ z ⊖ e ⊗ w) ⊖ num (pos 0)) ⊕ neg w ⊗ ((num (pos 0) ⊗ a ⊕ num (pos 0) ⊗ b ⊕ num (pos 2) ⊗ c ⊖ e ⊗ d) ⊖ num (pos 0))) cancels (pos 2 *ℤ at +ℤ pos 1) u.x u.y u.z u.w v.x v.y v.z v.w))
+          cancel_eq {c = pos 2} (λ z. omega (arith, linear, z))
+          (from_two v.w (neg_ℤ u.w) g h (solve 9
+          (λ e x y z w a b c d. num (pos 2) ⊗ (d ⊗ z) ⊖ num (pos 2) ⊗ (w ⊗ c) ≈ d ⊗
+          ((num (pos 0) ⊗ x ⊕ num (pos 0) ⊗ y ⊕ num (pos 2) ⊗ z ⊖ e ⊗ w) ⊖ num (pos 0)) ⊕ neg w ⊗
+          ((num (pos 0) ⊗ a ⊕ num (pos 0) ⊗ b ⊕ num (pos 2) ⊗ c ⊖ e ⊗ d) ⊖ num (pos 0))) cancels
+          (pos 2 *ℤ at +ℤ pos 1) u.x u.y u.z u.w v.x v.y v.z v.w))
 
 -- ---- two segments of one face
 module _ (f : Face) (at : ℤ) where
@@ -147,8 +170,10 @@ module _ (f : Face) (at : ℤ) where
       let hu = on_line_out n at u s.first in let hv = on_line_out n at v s.last in
       let ha = on_line_out n at a r.first in let hb = on_line_out n at b r.last in
       let first : ahead n u a ≡ pos 0 = neither (ahead n u a) (ahead n a u) (ahead_turned n u a) (begins u v a b s r) (begins a b u v r s) in
-      let last : ahead n v b ≡ pos 0 = neither (ahead n v b) (ahead n b v) (ahead_turned n v b) (ends u v a b s r) (ends a b u v r s) in
-      (same_lowest u a hu.weight ha.weight (one_place n at u a hu ha t first) s.first_lowest r.first_lowest, same_lowest v b hv.weight hb.weight (one_place n at v b hv hb t last) s.last_lowest r.last_lowest)
+      let last : ahead n v b ≡ pos 0 = neither (ahead n v b) (ahead n b v) (ahead_turned n v b) (ends u v a b s r) (ends a b u v r s) in (
+        same_lowest u a hu.weight ha.weight (one_place n at u a hu ha t first) s.first_lowest r.first_lowest,
+        same_lowest v b hv.weight hb.weight (one_place n at v b hv hb t last) s.last_lowest r.last_lowest,
+      )
     where
       neither : (x y : ℤ) → y ≡ neg_ℤ x → (x <ℤ pos 0 → ⊥) → (y <ℤ pos 0 → ⊥) → x ≡ pos 0
       neither x y e p q =

@@ -11,7 +11,8 @@ use Rattle.ember_slice.proofs.Along.{ahead_turned}
 
 -- ---- fractions
 -- of three points, with the first not after the second and the second before the third, the first is before the third
-pub weak_first : (a b c u v w : ℤ) → pos 0 <ℤ u → pos 0 <ℤ v → pos 0 <ℤ w → (v *ℤ a -ℤ u *ℤ b) ≤ℤ pos 0 → (w *ℤ b -ℤ v *ℤ c) <ℤ pos 0 → (w *ℤ a -ℤ u *ℤ c) <ℤ pos 0
+pub weak_first : (a b c u v w : ℤ) → pos 0 <ℤ u → pos 0 <ℤ v → pos 0 <ℤ w → (v *ℤ a -ℤ u *ℤ b) ≤ℤ pos 0 →
+    (w *ℤ b -ℤ v *ℤ c) <ℤ pos 0 → (w *ℤ a -ℤ u *ℤ c) <ℤ pos 0
 weak_first a b c u v w pu pv pw h k =
     let l : (v *ℤ a) ≤ℤ (u *ℤ b) = omega (arith, linear, h) in
     let m : (w *ℤ b) <ℤ (v *ℤ c) = omega (arith, linear, k) in
@@ -66,5 +67,7 @@ not_both n u v h k =
 -- a flat plane has no order
 pub tilted : (n : Plane) (u v : Spot) → is_before n u v ≡ true → IsFlat n → ⊥
 tilted n u v h t =
-    let e : ahead n u v ≡ pos 0 = (λ i. v.w *ℤ (t.0 i *ℤ u.y -ℤ t.1 i *ℤ u.x) -ℤ u.w *ℤ (t.0 i *ℤ v.y -ℤ t.1 i *ℤ v.x)) ∙ solve 6 (λ a b x y z q. a ⊗ (num (pos 0) ⊗ x ⊖ num (pos 0) ⊗ y) ⊖ b ⊗ (num (pos 0) ⊗ z ⊖ num (pos 0) ⊗ q) ≈ num (pos 0)) cancels v.w u.w u.y u.x v.y v.x in
+    let e : ahead n u v ≡ pos 0 = (λ i. v.w *ℤ (t.0 i *ℤ u.y -ℤ t.1 i *ℤ u.x) -ℤ u.w *ℤ (t.0 i *ℤ v.y -ℤ t.1 i *ℤ v.x))
+    ∙ solve 6 (λ a b x y z q. a ⊗ (num (pos 0) ⊗ x ⊖ num (pos 0) ⊗ y) ⊖ b ⊗ (num (pos 0) ⊗ z ⊖ num (pos 0) ⊗ q) ≈ num
+    (pos 0)) cancels v.w u.w u.y u.x v.y v.x in
     omega (arith, linear, negative_out (ahead n u v) h, e)

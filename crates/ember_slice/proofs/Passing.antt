@@ -1,5 +1,6 @@
 -- A ray at the level crosses a face as often as it crosses the face's segment.
-use Rattle.std.proofs.Common.{◌≡◌, ◌≢◌, ◌⊎◌, ⊎_elim, inl, inr, refl, sym, ap, ◌∙◌, arith, ℤ, pos, negsuc, ◌+ℤ◌, ◌-ℤ◌, ◌*ℤ◌, neg_ℤ, ◌<ℤ◌, ◌≤ℤ◌, Bool, true, false, cond, ◌&&◌, List, [], ◌∷◌}
+use Rattle.std.proofs.Common.{◌≡◌, ◌≢◌, ◌⊎◌, ⊎_elim, inl, inr, refl, sym, ap, ◌∙◌, arith, ℤ, pos, negsuc, ◌+ℤ◌, ◌-ℤ◌}
+use Rattle.std.proofs.Common.{◌*ℤ◌, neg_ℤ, ◌<ℤ◌, ◌≤ℤ◌, Bool, true, false, cond, ◌&&◌, List, [], ◌∷◌}
 use Rattle.ember_algebra.specs.Sign.{sign, sgn, flip, is_neg, is_pos, is_negative, is_positive}
 use Rattle.ember_algebra.specs.declared.Sign.{Sign}
 use Rattle.ember_algebra.specs.declared.Sign.TheVariants.{Neg, Zero, Pos}
@@ -35,19 +36,27 @@ use Rattle.ember_slice.proofs.Bounds.{cut_on_line}
 module _ (n : Plane) (at : ℤ) (u v : Spot) (hu : OnLine n at u) (hv : OnLine n at v) where
   pub rises : (pos 2 *ℤ n.a) *ℤ ahead n u v ≡ (pos 2 *ℤ square n) *ℤ gap (λ s. s.y) u v
   rises =
-      let e : (pos 2 *ℤ n.a) *ℤ ahead n u v -ℤ (pos 2 *ℤ square n) *ℤ gap (λ s. s.y) u v ≡ neg_ℤ (pos 2 *ℤ n.b *ℤ v.w) *ℤ value_at n u +ℤ (pos 2 *ℤ n.b *ℤ u.w) *ℤ value_at n v +ℤ (n.b *ℤ n.c *ℤ v.w) *ℤ value_at (level at) u +ℤ neg_ℤ (n.b *ℤ n.c *ℤ u.w) *ℤ value_at (level at) v =
+      let e : (pos 2 *ℤ n.a) *ℤ ahead n u v -ℤ (pos 2 *ℤ square n) *ℤ gap (λ s. s.y) u v ≡ neg_ℤ (pos 2 *ℤ n.b *ℤ v.w)
+      *ℤ value_at n u +ℤ (pos 2 *ℤ n.b *ℤ u.w) *ℤ value_at n v +ℤ (n.b *ℤ n.c *ℤ v.w) *ℤ value_at (level at) u +ℤ
+      neg_ℤ (n.b *ℤ n.c *ℤ u.w) *ℤ value_at (level at) v =
       identity (tuple ∷ scalar ∷ tuple ∷ tuple ∷ []) (λ n at u v.
       let q = levelE (num (pos 2) ⊗ at ⊕ num (pos 1)) in let s = n.x ⊗ n.x ⊕ n.y ⊗ n.y in
-      (num (pos 2) ⊗ n.x) ⊗ (v.w ⊗ alongE n u ⊖ u.w ⊗ alongE n v) ⊖ (num (pos 2) ⊗ s) ⊗ (v.w ⊗ u.y ⊖ u.w ⊗ v.y) ≈ neg (num (pos 2) ⊗ n.y ⊗ v.w) ⊗ valueE n u ⊕ (num (pos 2) ⊗ n.y ⊗ u.w) ⊗ valueE n v ⊕ (n.y ⊗ n.z ⊗ v.w) ⊗ valueE q u ⊕ neg (n.y ⊗ n.z ⊗ u.w) ⊗ valueE q v) cancels (plane_tuple n) at (spot_tuple u) (spot_tuple v) in
+      (num (pos 2) ⊗ n.x) ⊗ (v.w ⊗ alongE n u ⊖ u.w ⊗ alongE n v) ⊖ (num (pos 2) ⊗ s) ⊗ (v.w ⊗ u.y ⊖ u.w ⊗ v.y) ≈ neg
+      (num (pos 2) ⊗ n.y ⊗ v.w) ⊗ valueE n u ⊕ (num (pos 2) ⊗ n.y ⊗ u.w) ⊗ valueE n v ⊕ (n.y ⊗ n.z ⊗ v.w) ⊗ valueE q u
+      ⊕ neg (n.y ⊗ n.z ⊗ u.w) ⊗ valueE q v) cancels (plane_tuple n) at (spot_tuple u) (spot_tuple v) in
       let z = e ∙ nothing _ _ _ _ _ _ _ _ hu.support hv.support hu.level hv.level in
       omega (arith, linear, z)
 
   pub falls : (pos 2 *ℤ n.b) *ℤ ahead n u v ≡ (pos 2 *ℤ square n) *ℤ gap (λ s. neg_ℤ s.x) u v
   falls =
-      let e : (pos 2 *ℤ n.b) *ℤ ahead n u v -ℤ (pos 2 *ℤ square n) *ℤ gap (λ s. neg_ℤ s.x) u v ≡ (pos 2 *ℤ n.a *ℤ v.w) *ℤ value_at n u +ℤ neg_ℤ (pos 2 *ℤ n.a *ℤ u.w) *ℤ value_at n v +ℤ neg_ℤ (n.a *ℤ n.c *ℤ v.w) *ℤ value_at (level at) u +ℤ (n.a *ℤ n.c *ℤ u.w) *ℤ value_at (level at) v =
+      let e : (pos 2 *ℤ n.b) *ℤ ahead n u v -ℤ (pos 2 *ℤ square n) *ℤ gap (λ s. neg_ℤ s.x) u v ≡ (pos 2 *ℤ n.a *ℤ v.w)
+      *ℤ value_at n u +ℤ neg_ℤ (pos 2 *ℤ n.a *ℤ u.w) *ℤ value_at n v +ℤ neg_ℤ (n.a *ℤ n.c *ℤ v.w) *ℤ value_at
+      (level at) u +ℤ (n.a *ℤ n.c *ℤ u.w) *ℤ value_at (level at) v =
       identity (tuple ∷ scalar ∷ tuple ∷ tuple ∷ []) (λ n at u v.
       let q = levelE (num (pos 2) ⊗ at ⊕ num (pos 1)) in let s = n.x ⊗ n.x ⊕ n.y ⊗ n.y in
-      (num (pos 2) ⊗ n.y) ⊗ (v.w ⊗ alongE n u ⊖ u.w ⊗ alongE n v) ⊖ (num (pos 2) ⊗ s) ⊗ (v.w ⊗ neg u.x ⊖ u.w ⊗ neg v.x) ≈ (num (pos 2) ⊗ n.x ⊗ v.w) ⊗ valueE n u ⊕ neg (num (pos 2) ⊗ n.x ⊗ u.w) ⊗ valueE n v ⊕ neg (n.x ⊗ n.z ⊗ v.w) ⊗ valueE q u ⊕ (n.x ⊗ n.z ⊗ u.w) ⊗ valueE q v) cancels (plane_tuple n) at (spot_tuple u) (spot_tuple v) in
+      (num (pos 2) ⊗ n.y) ⊗ (v.w ⊗ alongE n u ⊖ u.w ⊗ alongE n v) ⊖ (num (pos 2) ⊗ s) ⊗ (v.w ⊗ neg u.x ⊖ u.w ⊗ neg v.x)
+      ≈ (num (pos 2) ⊗ n.x ⊗ v.w) ⊗ valueE n u ⊕ neg (num (pos 2) ⊗ n.x ⊗ u.w) ⊗ valueE n v ⊕ neg (n.x ⊗ n.z ⊗ v.w) ⊗
+      valueE q u ⊕ (n.x ⊗ n.z ⊗ u.w) ⊗ valueE q v) cancels (plane_tuple n) at (spot_tuple u) (spot_tuple v) in
       let z = e ∙ nothing _ _ _ _ _ _ _ _ hu.support hv.support hu.level hv.level in
       omega (arith, linear, z)
 
@@ -56,13 +65,20 @@ module _ (n : Plane) (at : ℤ) (u v : Spot) (hu : OnLine n at u) (hv : OnLine n
   turns p hp =
       let i = along_line n v *ℤ p.w -ℤ v.w *ℤ along_line n p in
       let j = along_line n u *ℤ p.w -ℤ u.w *ℤ along_line n p in
-      let e : (pos 2 *ℤ square n) *ℤ orientation u v p -ℤ (pos 2 *ℤ value_at n p) *ℤ ahead n u v ≡ ((pos 2 *ℤ i) *ℤ value_at n u +ℤ neg_ℤ (pos 2 *ℤ j) *ℤ value_at n v +ℤ neg_ℤ (n.c *ℤ i) *ℤ value_at (level at) u +ℤ (n.c *ℤ j) *ℤ value_at (level at) v) +ℤ neg_ℤ (n.c *ℤ ahead n u v) *ℤ value_at (level at) p =
+      let e : (pos 2 *ℤ square n) *ℤ orientation u v p -ℤ (pos 2 *ℤ value_at n p) *ℤ ahead n u v
+      ≡ ((pos 2 *ℤ i) *ℤ value_at n u +ℤ neg_ℤ (pos 2 *ℤ j) *ℤ value_at n v +ℤ neg_ℤ (n.c *ℤ i) *ℤ value_at (level at)
+      u +ℤ (n.c *ℤ j) *ℤ value_at (level at) v) +ℤ neg_ℤ (n.c *ℤ ahead n u v) *ℤ value_at (level at) p =
       identity (tuple ∷ scalar ∷ tuple ∷ tuple ∷ tuple ∷ []) (λ n at u v p.
       let q = levelE (num (pos 2) ⊗ at ⊕ num (pos 1)) in let s = n.x ⊗ n.x ⊕ n.y ⊗ n.y in
       let i = alongE n v ⊗ p.w ⊖ v.w ⊗ alongE n p in let j = alongE n u ⊗ p.w ⊖ u.w ⊗ alongE n p in
       let a = v.w ⊗ alongE n u ⊖ u.w ⊗ alongE n v in
-      (num (pos 2) ⊗ s) ⊗ (u.x ⊗ (v.y ⊗ p.w ⊖ v.w ⊗ p.y) ⊖ u.y ⊗ (v.x ⊗ p.w ⊖ v.w ⊗ p.x) ⊕ u.w ⊗ (v.x ⊗ p.y ⊖ v.y ⊗ p.x)) ⊖ (num (pos 2) ⊗ valueE n p) ⊗ a ≈ ((num (pos 2) ⊗ i) ⊗ valueE n u ⊕ neg (num (pos 2) ⊗ j) ⊗ valueE n v ⊕ neg (n.z ⊗ i) ⊗ valueE q u ⊕ (n.z ⊗ j) ⊗ valueE q v) ⊕ neg (n.z ⊗ a) ⊗ valueE q p) cancels (plane_tuple n) at (spot_tuple u) (spot_tuple v) (spot_tuple p) in
-      let z = e ∙ (λ k. nothing (pos 2 *ℤ i) (neg_ℤ (pos 2 *ℤ j)) (neg_ℤ (n.c *ℤ i)) (n.c *ℤ j) _ _ _ _ hu.support hv.support hu.level hv.level k +ℤ neg_ℤ (n.c *ℤ ahead n u v) *ℤ hp k) in
+      (num (pos 2) ⊗ s) ⊗ (u.x ⊗ (v.y ⊗ p.w ⊖ v.w ⊗ p.y) ⊖ u.y ⊗ (v.x ⊗ p.w ⊖ v.w ⊗ p.x) ⊕ u.w ⊗
+      (v.x ⊗ p.y ⊖ v.y ⊗ p.x)) ⊖ (num (pos 2) ⊗ valueE n p) ⊗ a ≈
+      ((num (pos 2) ⊗ i) ⊗ valueE n u ⊕ neg (num (pos 2) ⊗ j) ⊗ valueE n v ⊕ neg (n.z ⊗ i) ⊗ valueE q u ⊕ (n.z ⊗ j) ⊗
+      valueE q v) ⊕ neg (n.z ⊗ a) ⊗ valueE q p) cancels (plane_tuple n) at (spot_tuple u) (spot_tuple v)
+      (spot_tuple p) in
+      let z = e ∙ (λ k. nothing (pos 2 *ℤ i) (neg_ℤ (pos 2 *ℤ j)) (neg_ℤ (n.c *ℤ i)) (n.c *ℤ j) _ _ _ _ hu.support
+      hv.support hu.level hv.level k +ℤ neg_ℤ (n.c *ℤ ahead n u v) *ℤ hp k) in
       finish _ _ (neg_ℤ (n.c *ℤ ahead n u v)) z
     where
       finish : (a b c : ℤ) → a -ℤ b ≡ pos 0 +ℤ c *ℤ pos 0 → a ≡ b
@@ -126,7 +142,8 @@ both_false true false f = refl
 both_false false b f = refl
 
 -- ---- a coordinate that grows along the line as k says
-module _ (n : Plane) (at : ℤ) (c : Spot → ℤ) (k : ℤ) (t : IsFlat n → ⊥) (grows : (u v : Spot) → OnLine n at u → OnLine n at v → (pos 2 *ℤ k) *ℤ ahead n u v ≡ (pos 2 *ℤ square n) *ℤ gap c u v) where
+module _ (n : Plane) (at : ℤ) (c : Spot → ℤ) (k : ℤ) (t : IsFlat n → ⊥) (grows : (u v : Spot) → OnLine n at u →
+    OnLine n at v → (pos 2 *ℤ k) *ℤ ahead n u v ≡ (pos 2 *ℤ square n) *ℤ gap c u v) where
   twice_square : pos 0 <ℤ (pos 2 *ℤ square n)
   twice_square = twice (square_above n t)
 
@@ -139,7 +156,9 @@ module _ (n : Plane) (at : ℤ) (c : Spot → ℤ) (k : ℤ) (t : IsFlat n → �
 
   down : k <ℤ pos 0 → (u v : Spot) → OnLine n at u → OnLine n at v → is_before n u v ≡ is_lower c v u
   down h u v hu hv =
-      ap is_neg (same_sign (neg_ℤ (pos 2 *ℤ k)) (pos 2 *ℤ square n) (ahead n u v) (gap c v u) (turned_above (below h)) twice_square (turned_product (pos 2 *ℤ k) (ahead n u v) (pos 2 *ℤ square n) (gap c u v) (grows u v hu hv) ∙ ap (λ a. (pos 2 *ℤ square n) *ℤ a) (sym (gap_turned u v))))
+      ap is_neg (same_sign (neg_ℤ (pos 2 *ℤ k)) (pos 2 *ℤ square n) (ahead n u v) (gap c v u) (turned_above (below h))
+      twice_square (turned_product (pos 2 *ℤ k) (ahead n u v) (pos 2 *ℤ square n) (gap c u v) (grows u v hu hv)
+      ∙ ap (λ a. (pos 2 *ℤ square n) *ℤ a) (sym (gap_turned u v))))
     where
       below : {a : ℤ} → a <ℤ pos 0 → (pos 2 *ℤ a) <ℤ pos 0
       below h = omega (arith, linear, h)
@@ -162,7 +181,8 @@ module _ (n : Plane) (at : ℤ) (c : Spot → ℤ) (k : ℤ) (t : IsFlat n → �
   module _ (u v p : Spot) (hu : OnLine n at u) (hv : OnLine n at v) (hp : value_at (level at) p ≡ pos 0) (before : ahead n u v <ℤ pos 0) where
     turn_sign : sgn (orientation u v p) ≡ sgn (neg_ℤ (value_at n p))
     turn_sign =
-        same_sign (pos 2 *ℤ square n) (neg_ℤ (pos 2 *ℤ ahead n u v)) (orientation u v p) (neg_ℤ (value_at n p)) twice_square (turned_above (below before)) (turns n at u v hu hv p hp ∙ moved (value_at n p) (ahead n u v))
+        same_sign (pos 2 *ℤ square n) (neg_ℤ (pos 2 *ℤ ahead n u v)) (orientation u v p) (neg_ℤ (value_at n p))
+        twice_square (turned_above (below before)) (turns n at u v hu hv p hp ∙ moved (value_at n p) (ahead n u v))
       where
         below : {a : ℤ} → a <ℤ pos 0 → (pos 2 *ℤ a) <ℤ pos 0
         below h = omega (arith, linear, h)
@@ -177,7 +197,8 @@ module _ (n : Plane) (at : ℤ) (c : Spot → ℤ) (k : ℤ) (t : IsFlat n → �
     turn_right = ap is_neg turn_sign ∙ negative_turned (value_at n p)
 
 -- ---- where the ray meets the face's plane
-hit_on_line : (n : Plane) (at : ℤ) (a : Axis) (p : Spot) → along n a ≢ pos 0 → along (level at) a ≡ pos 0 → pos 0 <ℤ p.w → value_at (level at) p ≡ pos 0 → OnLine n at (hit n a p)
+hit_on_line : (n : Plane) (at : ℤ) (a : Axis) (p : Spot) → along n a ≢ pos 0 → along (level at) a ≡ pos 0 →
+    pos 0 <ℤ p.w → value_at (level at) p ≡ pos 0 → OnLine n at (hit n a p)
 hit_on_line n at a p nz flat w hp =
     let m = size (along n a) in let s = neg_ℤ (sign (along n a) *ℤ value_at n p) in
     record {
@@ -236,11 +257,13 @@ module _ (a : Axis) (c : Spot → ℤ) (p : Spot) (across : IsAcross a c p) (f :
 
   scaled_low : (u : Spot) → gap c u h ≡ size k *ℤ gap c u p
   scaled_low u =
-      (λ i. across.weight n i *ℤ c u -ℤ u.w *ℤ across.stays n i) ∙ solve 5 (λ m x y z t. (m ⊗ x) ⊗ y ⊖ z ⊗ (m ⊗ t) ≈ m ⊗ (x ⊗ y ⊖ z ⊗ t)) cancels (size k) p.w (c u) u.w (c p)
+      (λ i. across.weight n i *ℤ c u -ℤ u.w *ℤ across.stays n i)
+      ∙ solve 5 (λ m x y z t. (m ⊗ x) ⊗ y ⊖ z ⊗ (m ⊗ t) ≈ m ⊗ (x ⊗ y ⊖ z ⊗ t)) cancels (size k) p.w (c u) u.w (c p)
 
   scaled_high : (u : Spot) → gap c h u ≡ size k *ℤ gap c p u
   scaled_high u =
-      (λ i. u.w *ℤ across.stays n i -ℤ across.weight n i *ℤ c u) ∙ solve 5 (λ m x y z t. z ⊗ (m ⊗ t) ⊖ (m ⊗ x) ⊗ y ≈ m ⊗ (z ⊗ t ⊖ x ⊗ y)) cancels (size k) p.w (c u) u.w (c p)
+      (λ i. u.w *ℤ across.stays n i -ℤ across.weight n i *ℤ c u)
+      ∙ solve 5 (λ m x y z t. z ⊗ (m ⊗ t) ⊖ (m ⊗ x) ⊗ y ≈ m ⊗ (z ⊗ t ⊖ x ⊗ y)) cancels (size k) p.w (c u) u.w (c p)
 
   module _ (u v : Spot) (s : IsSegment f at u v) where
     hu : OnLine n at u
@@ -273,22 +296,34 @@ module _ (a : Axis) (c : Spot → ℤ) (p : Spot) (across : IsAcross a c p) (f :
     segment_crossed =
         by_sign k
         (λ l. let nz = positive_nonzero l in let hh = hit_on_line n at a p nz (across.flat at) w hp in
-        let inner : is_behind f.edges h ≡ is_lower c u p && is_lower c p v = inside_is nz ∙ (λ i. (up n at c k steep (across.grows n at) l u h hu hh ∙ low nz u) i && (up n at c k steep (across.grows n at) l h v hh hv ∙ high nz v) i) in
+        let inner : is_behind f.edges h ≡ is_lower c u p && is_lower c p v =
+        inside_is nz ∙ (λ i. (up n at c k steep (across.grows n at) l u h hu hh ∙ low nz u) i
+        && (up n at c k steep (across.grows n at) l h v hh hv ∙ high nz v) i) in
         let order = negative_out (gap c u v) (sym (up n at c k steep (across.grows n at) l u v hu hv) ∙ s.leads) in
-        let away = not_between n at c k steep (across.grows n at) v u p hv.weight hu.weight w (omega (arith, linear, order, gap_turned n at c k steep (across.grows n at) u v)) in
+        let away = not_between n at c k steep (across.grows n at) v u p hv.weight hu.weight w
+        (omega (arith, linear, order, gap_turned n at c k steep (across.grows n at) u v)) in
         met (is_lower c u p && is_lower c p v) nz inner
-        ∙ (λ i. cond ((facing_up l ∙ sym (turn_left n at c k steep (across.grows n at) u v p hu hv hp leads)) i && (is_lower c u p && is_lower c p v)) (sign_pos l i) (pos 0))
-        ∙ pick_first (is_positive (orientation u v p)) (is_lower c u p && is_lower c p v) (is_lower c v p && is_lower c p u) (is_negative (orientation u v p)) away)
-        (λ e. no_entry e ∙ pick_none (is_lower c u p && is_lower c p v) (is_lower c v p && is_lower c p u) (is_positive (orientation u v p)) (is_negative (orientation u v p))
+        ∙ (λ i. cond ((facing_up l ∙ sym (turn_left n at c k steep (across.grows n at) u v p hu hv hp leads)) i
+        && (is_lower c u p && is_lower c p v)) (sign_pos l i) (pos 0))
+        ∙ pick_first (is_positive (orientation u v p)) (is_lower c u p && is_lower c p v)
+        (is_lower c v p && is_lower c p u) (is_negative (orientation u v p)) away)
+        (λ e. no_entry e ∙ pick_none (is_lower c u p && is_lower c p v) (is_lower c v p && is_lower c p u)
+        (is_positive (orientation u v p)) (is_negative (orientation u v p))
         (not_between n at c k steep (across.grows n at) u v p hu.weight hv.weight w (omega (arith, linear, level_gap e)))
-        (not_between n at c k steep (across.grows n at) v u p hv.weight hu.weight w (omega (arith, linear, level_gap e, gap_turned n at c k steep (across.grows n at) u v))))
+        (not_between n at c k steep (across.grows n at) v u p hv.weight hu.weight w
+        (omega (arith, linear, level_gap e, gap_turned n at c k steep (across.grows n at) u v))))
         (λ l. let nz = negative_nonzero l in let hh = hit_on_line n at a p nz (across.flat at) w hp in
-        let inner : is_behind f.edges h ≡ is_lower c p u && is_lower c v p = inside_is nz ∙ (λ i. (down n at c k steep (across.grows n at) l u h hu hh ∙ high nz u) i && (down n at c k steep (across.grows n at) l h v hh hv ∙ low nz v) i) in
+        let inner : is_behind f.edges h ≡ is_lower c p u && is_lower c v p =
+        inside_is nz ∙ (λ i. (down n at c k steep (across.grows n at) l u h hu hh ∙ high nz u) i
+        && (down n at c k steep (across.grows n at) l h v hh hv ∙ low nz v) i) in
         let order = negative_out (gap c v u) (sym (down n at c k steep (across.grows n at) l u v hu hv) ∙ s.leads) in
-        let away = not_between n at c k steep (across.grows n at) u v p hu.weight hv.weight w (omega (arith, linear, order, gap_turned n at c k steep (across.grows n at) u v)) in
+        let away = not_between n at c k steep (across.grows n at) u v p hu.weight hv.weight w
+        (omega (arith, linear, order, gap_turned n at c k steep (across.grows n at) u v)) in
         met (is_lower c v p && is_lower c p u) nz (inner ∙ swap (is_lower c p u) (is_lower c v p))
-        ∙ (λ i. cond ((facing_down l ∙ sym (turn_right n at c k steep (across.grows n at) u v p hu hv hp leads)) i && (is_lower c v p && is_lower c p u)) (sign_neg l i) (pos 0))
-        ∙ pick_second (is_negative (orientation u v p)) (is_lower c v p && is_lower c p u) (is_lower c u p && is_lower c p v) (is_positive (orientation u v p)) away)
+        ∙ (λ i. cond ((facing_down l ∙ sym (turn_right n at c k steep (across.grows n at) u v p hu hv hp leads)) i
+        && (is_lower c v p && is_lower c p u)) (sign_neg l i) (pos 0))
+        ∙ pick_second (is_negative (orientation u v p)) (is_lower c v p && is_lower c p u)
+        (is_lower c u p && is_lower c p v) (is_positive (orientation u v p)) away)
       where
         swap : (x y : Bool) → x && y ≡ y && x
         swap true true = refl
@@ -310,7 +345,9 @@ module _ (a : Axis) (c : Spot → ℤ) (p : Spot) (across : IsAcross a c p) (f :
 
         level_gap : k ≡ pos 0 → gap c u v ≡ pos 0
         level_gap e =
-            cancel_eq {c = pos 2 *ℤ square n} (λ z. omega (arith, linear, z, twice (square_above n steep))) (sym (across.grows n at u v hu hv) ∙ ap (λ z. (pos 2 *ℤ z) *ℤ ahead n u v) e ∙ zeros (ahead n u v) (pos 2 *ℤ square n))
+            cancel_eq {c = pos 2 *ℤ square n} (λ z. omega (arith, linear, z, twice (square_above n steep)))
+            (sym (across.grows n at u v hu hv) ∙ ap (λ z. (pos 2 *ℤ z) *ℤ ahead n u v) e
+            ∙ zeros (ahead n u v) (pos 2 *ℤ square n))
           where
             zeros : (x y : ℤ) → (pos 2 *ℤ pos 0) *ℤ x ≡ y *ℤ pos 0
             zeros x y = omega (arith, linear)
@@ -319,7 +356,9 @@ module _ (a : Axis) (c : Spot → ℤ) (p : Spot) (across : IsAcross a c p) (f :
 abbrev IsLevelAxis : Axis → Type 0
 IsLevelAxis a = (a ≡ X) ⊎ (a ≡ Y)
 
-all_crossed : (a : Axis) (c : Spot → ℤ) (p : Spot) → IsAcross a c p → IsLevelAxis a → (at : ℤ) → pos 0 <ℤ p.w → value_at (level at) p ≡ pos 0 → {fs : List Face} {ss : List Directed} → Each (GivesSegments at) fs ss → total (passing c p) ss ≡ wind a fs p
+all_crossed : (a : Axis) (c : Spot → ℤ) (p : Spot) → IsAcross a c p → IsLevelAxis a → (at : ℤ) → pos 0 <ℤ p.w →
+    value_at (level at) p ≡ pos 0 → {fs : List Face} {ss : List Directed} → Each (GivesSegments at) fs ss →
+    total (passing c p) ss ≡ wind a fs p
 all_crossed a c p h o at w hp none = refl
 all_crossed a c p h o at w hp (more {x = f} {xs = fs} {ys = ys} {zs = zs} r d) =
     total-append (passing c p) ys zs ∙ (λ i. one ys r i +ℤ all_crossed a c p h o at w hp d i)
@@ -343,9 +382,11 @@ across_y p =
     turned_product = solve 2 (λ m x. neg (m ⊗ x) ≈ m ⊗ neg x) cancels
 
 -- the segments cross a ray along x as the faces do
-pub crossed_along_x : (p : Spot) (at : ℤ) → pos 0 <ℤ p.w → value_at (level at) p ≡ pos 0 → {fs : List Face} {ss : List Directed} → Each (GivesSegments at) fs ss → total (ray_x p) ss ≡ wind X fs p
+pub crossed_along_x : (p : Spot) (at : ℤ) → pos 0 <ℤ p.w → value_at (level at) p ≡ pos 0 →
+    {fs : List Face} {ss : List Directed} → Each (GivesSegments at) fs ss → total (ray_x p) ss ≡ wind X fs p
 crossed_along_x p at w hp d = all_crossed X (λ v. v.y) p (across_x p) (inl refl) at w hp d
 
 -- the segments cross a ray along y as the faces do
-pub crossed_along_y : (p : Spot) (at : ℤ) → pos 0 <ℤ p.w → value_at (level at) p ≡ pos 0 → {fs : List Face} {ss : List Directed} → Each (GivesSegments at) fs ss → total (ray_y p) ss ≡ wind Y fs p
+pub crossed_along_y : (p : Spot) (at : ℤ) → pos 0 <ℤ p.w → value_at (level at) p ≡ pos 0 →
+    {fs : List Face} {ss : List Directed} → Each (GivesSegments at) fs ss → total (ray_y p) ss ≡ wind Y fs p
 crossed_along_y p at w hp d = all_crossed Y (λ v. neg_ℤ v.x) p (across_y p) (inr refl) at w hp d

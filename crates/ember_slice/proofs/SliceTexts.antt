@@ -1,5 +1,7 @@
 -- The text of a slice, face by face.
-use Rattle.std.proofs.Common.{◌≡◌, ⊎_elim, refl, sym, ap, subst, ◌∙◌, arith, ℕ, zero, suc, ◌+◌, ◌<◌, ℤ, pos, ◌+ℤ◌, ◌-ℤ◌, ◌*ℤ◌, true, false, List, [], ◌∷◌, ◌++◌, length, length-append, take, get_or, flat_map, codes, decimal, append-nil, append_assoc, Some}
+use Rattle.std.proofs.Common.{◌≡◌, ⊎_elim, refl, sym, ap, subst, ◌∙◌, arith, ℕ, zero, suc, ◌+◌, ◌<◌, ℤ, pos, ◌+ℤ◌, ◌-ℤ◌}
+use Rattle.std.proofs.Common.{◌*ℤ◌, true, false, List, [], ◌∷◌, ◌++◌, length, length-append, take, get_or, flat_map}
+use Rattle.std.proofs.Common.{codes, decimal, append-nil, append_assoc, Some}
 use Rattle.std.specs.Prelude.{slice_get}
 use Rattle.std.proofs.lemmas.List.{take_more}
 use Rattle.std.proofs.lemmas.Option.{slice_get-get_or}
@@ -32,7 +34,9 @@ abbrev directed : Segment → Directed
 directed s = record { first = spot_of s.first; last = spot_of s.last }
 
 -- a face that gives a segment adds its line
-pub adds_one : (f : Face) (at : ℤ) (old new : List ℕ) (s : Segment) → IsSegment f at (spot_of s.first) (spot_of s.last) → new ≡ old ++ segment_line (directed s) → AddsSegment f at 1 old new
+pub adds_one : (f : Face) (at : ℤ) (old new : List ℕ) (s : Segment) →
+    IsSegment f at (spot_of s.first) (spot_of s.last) → new ≡ old ++ segment_line (directed s) →
+    AddsSegment f at 1 old new
 adds_one f at old new s h e =
     record {
       segments = directed s ∷ [];
@@ -45,16 +49,26 @@ adds_one f at old new s h e =
 -- the first line of a slice
 pub header_begins_text : (at z : ℤ) (old new : List ℕ) → old ≡ [] → z ≡ at → new ≡ old ++ line_of (codes "slice") (z ∷ []) → HasSegments [] at 0 new
 header_begins_text at z old new e q h =
-    record { segments = []; are = none; is = h ∙ (λ i. e i ++ line_of (codes "slice") (q i ∷ [])) ∙ sym (append-nil (line_of (codes "slice") (at ∷ []))); count_is = refl }
+    record {
+      segments = [];
+      are = none;
+      is = h ∙ (λ i. e i ++ line_of (codes "slice") (q i ∷ []))
+          ∙ sym (append-nil (line_of (codes "slice") (at ∷ [])));
+      count_is = refl;
+    }
 
 -- one face more
-pub one_more : {fs gs : List Face} {f : Face} {at : ℤ} {count many : ℕ} {text new : List ℕ} → HasSegments fs at count text → AddsSegment f at many text new → gs ≡ fs ++ f ∷ [] → HasSegments gs at (count + many) new
+pub one_more : {fs gs : List Face} {f : Face} {at : ℤ} {count many : ℕ} {text new : List ℕ} →
+    HasSegments fs at count text → AddsSegment f at many text new → gs ≡ fs ++ f ∷ [] →
+    HasSegments gs at (count + many) new
 one_more {fs} {gs} {f} {at} {count} {many} {text} {new} h k e =
     let head = line_of (codes "slice") (at ∷ []) in
     record {
       segments = h.segments ++ k.segments;
       are = subst (λ xs. Each (GivesSegments at) xs (h.segments ++ k.segments)) (sym e) (each_push h.are k.gives);
-      is = k.is ∙ ap (λ l. l ++ flat_map segment_line k.segments) h.is ∙ append_assoc head (flat_map segment_line h.segments) (flat_map segment_line k.segments) ∙ ap (λ l. head ++ l) (sym (flat_map-append segment_line h.segments k.segments));
+      is = k.is ∙ ap (λ l. l ++ flat_map segment_line k.segments) h.is
+          ∙ append_assoc head (flat_map segment_line h.segments) (flat_map segment_line k.segments)
+          ∙ ap (λ l. head ++ l) (sym (flat_map-append segment_line h.segments k.segments));
       count_is = omega (arith, length-append h.segments k.segments, h.count_is, k.count_is);
     }
 
@@ -63,13 +77,16 @@ pub face_taken : (fs : List Face) (i : ℕ) (f : Face) → i < length fs → f �
 face_taken fs i f l e = take_more fs i f l ∙ ap (λ g. take i fs ++ g ∷ []) (sym e)
 
 -- with its last line the text is that of the slice
-pub finished : {fs : List Face} {at : ℤ} {count : ℕ} {text new : List ℕ} (z : ℤ) → HasSegments fs at count text → z ≡ pos count → new ≡ text ++ line_of (codes "end") (z ∷ []) → IsSliceText fs at new
+pub finished : {fs : List Face} {at : ℤ} {count : ℕ} {text new : List ℕ} (z : ℤ) → HasSegments fs at count text →
+    z ≡ pos count → new ≡ text ++ line_of (codes "end") (z ∷ []) → IsSliceText fs at new
 finished {fs} {at} {count} {text} {new} z h q e =
     let head = line_of (codes "slice") (at ∷ []) in
     record {
       segments = h.segments;
       are_segments = h.are;
-      is = e ∙ (λ i. h.is i ++ line_of (codes "end") (q i ∷ [])) ∙ append_assoc head (flat_map segment_line h.segments) (line_of (codes "end") (pos count ∷ [])) ∙ ap (λ l. head ++ (flat_map segment_line h.segments ++ l)) (last_line count ∙ ap ending (sym h.count_is));
+      is = e ∙ (λ i. h.is i ++ line_of (codes "end") (q i ∷ []))
+          ∙ append_assoc head (flat_map segment_line h.segments) (line_of (codes "end") (pos count ∷ []))
+          ∙ ap (λ l. head ++ (flat_map segment_line h.segments ++ l)) (last_line count ∙ ap ending (sym h.count_is));
     }
   where
     last_line : (n : ℕ) → line_of (codes "end") (pos n ∷ []) ≡ ending n
@@ -85,8 +102,12 @@ point_on_line : (n : Plane) (at : ℤ) → (IsFlat n → ⊥) → is_on_line n a
 point_on_line n at t =
     on_line_in n at (line_point n at) (record {
       weight = omega (arith, linear, square_above n t);
-      support = solve 5 (λ a b c d at. let e = num (pos 2) ⊗ at ⊕ num (pos 1) in let k = num (pos 2) ⊗ d ⊖ c ⊗ e in let s = a ⊗ a ⊕ b ⊗ b in a ⊗ (a ⊗ k) ⊕ b ⊗ (b ⊗ k) ⊕ c ⊗ (e ⊗ s) ⊖ d ⊗ (num (pos 2) ⊗ s) ≈ num (pos 0)) cancels n.a n.b n.c n.d at;
-      level = solve 5 (λ a b c d at. let e = num (pos 2) ⊗ at ⊕ num (pos 1) in let k = num (pos 2) ⊗ d ⊖ c ⊗ e in let s = a ⊗ a ⊕ b ⊗ b in num (pos 0) ⊗ (a ⊗ k) ⊕ num (pos 0) ⊗ (b ⊗ k) ⊕ num (pos 2) ⊗ (e ⊗ s) ⊖ e ⊗ (num (pos 2) ⊗ s) ≈ num (pos 0)) cancels n.a n.b n.c n.d at;
+      support = solve 5 (λ a b c d at. let e = num (pos 2) ⊗ at ⊕ num (pos 1) in let k = num (pos 2) ⊗ d ⊖ c ⊗ e in
+          let s = a ⊗ a ⊕ b ⊗ b in a ⊗ (a ⊗ k) ⊕ b ⊗ (b ⊗ k) ⊕ c ⊗ (e ⊗ s) ⊖ d ⊗ (num (pos 2) ⊗ s) ≈ num (pos 0)) cancels
+          n.a n.b n.c n.d at;
+      level = solve 5 (λ a b c d at. let e = num (pos 2) ⊗ at ⊕ num (pos 1) in let k = num (pos 2) ⊗ d ⊖ c ⊗ e in
+          let s = a ⊗ a ⊕ b ⊗ b in num (pos 0) ⊗ (a ⊗ k) ⊕ num (pos 0) ⊗ (b ⊗ k) ⊕ num (pos 2) ⊗ (e ⊗ s) ⊖ e ⊗
+          (num (pos 2) ⊗ s) ≈ num (pos 0)) cancels n.a n.b n.c n.d at;
     })
 
 not_empty : (f : Face) (at : ℤ) → IsEndless f at → ((p : Spot) → is_cut f at p ≡ false) → ⊥
@@ -113,7 +134,8 @@ gives_bounded f at (s ∷ t ∷ ss) h e = h
 some_in : {f g : Face} → Some f ≡ Some g → f ≡ g
 some_in e = cc
 
-each_gives : (at : ℤ) {fs : List Face} {ss : List Directed} → Each (GivesSegments at) fs ss → (k : ℕ) (g : Face) → slice_get fs k ≡ Some g → (ts : List Directed) × GivesSegments at g ts
+each_gives : (at : ℤ) {fs : List Face} {ss : List Directed} → Each (GivesSegments at) fs ss → (k : ℕ) (g : Face) →
+    slice_get fs k ≡ Some g → (ts : List Directed) × GivesSegments at g ts
 each_gives at none k g e = absurd (cc)
 each_gives at (more {ys = ys} r d) zero g e = (ys, subst (λ f. GivesSegments at f ys) (some_in e) r)
 each_gives at (more r d) (suc k) g e = each_gives at d k g e
@@ -126,7 +148,9 @@ get_taken (f ∷ fs) (suc n) zero l = refl
 get_taken (f ∷ fs) (suc n) (suc k) l = get_taken fs n k (omega (arith, l))
 
 -- if the faces before it give segments, an endless face is the first one
-pub first_endless : {fs : List Face} {f : Face} {at : ℤ} {count : ℕ} {text : List ℕ} (i : ℕ) → HasSegments (take i fs) at count text → i < length fs → f ≡ get_or fs i f → IsEndless f at → IsFirstEndless fs at (i + 1)
+pub first_endless : {fs : List Face} {f : Face} {at : ℤ} {count : ℕ} {text : List ℕ} (i : ℕ) →
+    HasSegments (take i fs) at count text → i < length fs → f ≡ get_or fs i f → IsEndless f at →
+    IsFirstEndless fs at (i + 1)
 first_endless {fs} {f} {at} i h l e x =
     record {
       face = f;

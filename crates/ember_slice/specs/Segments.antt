@@ -1,5 +1,6 @@
 -- Directed segments of faces at a level, and the text of a slice
-use Rattle.std.specs.Prelude.{◌≡◌, ◌⊎◌, ℕ, ◌+◌, ◌<◌, ℤ, Bool, true, false, ◌&&◌, List, [], ◌∷◌, ◌++◌, flat_map, length, codes, Option, Some, None, Result, Ok, Err, slice_get}
+use Rattle.std.specs.Prelude.{◌≡◌, ◌⊎◌, ℕ, ◌+◌, ◌<◌, ℤ, Bool, true, false, ◌&&◌, List, [], ◌∷◌, ◌++◌}
+use Rattle.std.specs.Prelude.{flat_map, length, codes, Option, Some, None, Result, Ok, Err, slice_get}
 use Rattle.ember_algebra.specs.Sign.{is_zero}
 use Rattle.ember_algebra.specs.Relations.{Each}
 use Rattle.ember_model.specs.declared.point.Spot.{Spot}

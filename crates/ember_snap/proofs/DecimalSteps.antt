@@ -1,12 +1,15 @@
 -- Steps as decimals: trillionths, and fractions without zeros at their end.
-use Rattle.std.proofs.Common.{◌≡◌, ◌≤◌, ◌<◌, ◌⊎◌, ⊎_elim, inl, inr, ℕ, zero, suc, Bool, true, false, cond, nat_lt, Option, Some, None, ◌+◌, ◌-◌, ◌*◌, ◌/◌, ◌%◌, ◌^◌, refl, subst, ◌∙◌, sym, ap, arith, ℤ, pos, negsuc, neg_ℤ, ◌*ℤ◌, ◌<ℤ◌, ◌≤ℤ◌, mul-pos}
+use Rattle.std.proofs.Common.{◌≡◌, ◌≤◌, ◌<◌, ◌⊎◌, ⊎_elim, inl, inr, ℕ, zero, suc, Bool, true, false, cond, nat_lt}
+use Rattle.std.proofs.Common.{Option, Some, None, ◌+◌, ◌-◌, ◌*◌, ◌/◌, ◌%◌, ◌^◌, refl, subst, ◌∙◌, sym, ap, arith, ℤ}
+use Rattle.std.proofs.Common.{pos, negsuc, neg_ℤ, ◌*ℤ◌, ◌<ℤ◌, ◌≤ℤ◌, mul-pos}
 use borrow.Author.Differences.{ints}
 use Rattle.std.specs.Int.{int_div_euclid}
 use Rattle.std.specs.Int.RustNames.{unsigned_abs}
 use Rattle.std.proofs.lemmas.Bool.{cases_lt}
 use Rattle.std.proofs.lemmas.Bool.Decides.{nat_tests}
 use Rattle.std.proofs.lemmas.Nat.{pow-add}
-use Rattle.std.proofs.Math.Nat.{pow-suc, sub-add_cancel, mul-mod_left, mul-le-mul_right, le-mul_of_pos_right, pow-le-pow_right, eq_of_mul-eq-mul_left, eq_of_mul-eq-mul_right}
+use Rattle.std.proofs.Math.Nat.{pow-suc, sub-add_cancel, mul-mod_left, mul-le-mul_right, le-mul_of_pos_right}
+use Rattle.std.proofs.Math.Nat.{pow-le-pow_right, eq_of_mul-eq-mul_left, eq_of_mul-eq-mul_right}
 use Rattle.ember_algebra.proofs.Laws.{linear, *ℤ-neg, neg-*ℤ}
 use lib.IntN.{*ℤ_comm}
 use Rattle.std.proofs.Math.IntN.{neg_ℤ-neg_ℤ}
@@ -80,7 +83,19 @@ reduced_is_step m t p q h a small =
     let positive : 0 < m = by m a in
     let same : m * 10 ^ 12 ≡ t * 10 ^ p = ap (λ (x : ℕ). m * x) (pow_split p 12 h) ∙ (omega arith) ∙ ap (λ (x : ℕ). x * 10 ^ p) a in
     record {
-      step = record { step = record { numerator_positive = positive; denominator_positive = pow_ten_pos p; numerator_small = small; denominator_small = omega (arith, under) }; places = p; few = h; denominator = refl };
+      step = record {
+        step = record {
+          numerator_positive = positive;
+          denominator_positive =
+              pow_ten_pos p;
+          numerator_small = small;
+          denominator_small = omega (arith, under);
+        };
+        places = p;
+        few =
+            h;
+        denominator = refl;
+      };
       same = same;
     }
   where
@@ -90,7 +105,8 @@ reduced_is_step m t p q h a small =
 
 -- ---- whole numbers of trillionths
 -- a number that is as many steps as another is that many trillionths
-pub trillionths_of_step : (n : ℤ) (f d t over under : ℕ) → 0 < f → 0 < d → (pos f *ℤ n) ≡ (pos t *ℤ pos d) → (n *ℤ pos under) ≡ pos (over * d) → over * f ≡ t * under
+pub trillionths_of_step : (n : ℤ) (f d t over under : ℕ) → 0 < f → 0 < d → (pos f *ℤ n) ≡ (pos t *ℤ pos d) →
+    (n *ℤ pos under) ≡ pos (over * d) → over * f ≡ t * under
 trillionths_of_step (pos a) f d t over under p q e h =
     let first : f * a ≡ t * d = omega (arith, ints, e) in
     let second : a * under ≡ over * d = omega (arith, ints, h) in
@@ -110,18 +126,22 @@ step_from_trillionths (pos a) f d t over under p e h =
 step_from_trillionths (negsuc a) f d t over under p e h = absurd (omega (arith, ints, e, p))
 
 -- a decimal step is a whole number of trillionths
-pub step_has_trillionths : (n : ℤ) (d : ℕ) (s : Step) → (r : IsDecimalStep s) → (n *ℤ pos s.denominator) ≡ pos (s.numerator * d) → (pos (10 ^ 12) *ℤ n) ≡ (pos (s.numerator * 10 ^ (12 - r.places)) *ℤ pos d)
+pub step_has_trillionths : (n : ℤ) (d : ℕ) (s : Step) → (r : IsDecimalStep s) →
+    (n *ℤ pos s.denominator) ≡ pos (s.numerator * d) →
+    (pos (10 ^ 12) *ℤ n) ≡ (pos (s.numerator * 10 ^ (12 - r.places)) *ℤ pos d)
 step_has_trillionths (pos a) d s r h =
     let second : a * s.denominator ≡ s.numerator * d = omega (arith, ints, h) in
     let split : 10 ^ 12 ≡ 10 ^ (12 - r.places) * s.denominator = pow_split r.places 12 r.few ∙ ap (λ (x : ℕ). 10 ^ (12 - r.places) * x) (sym r.denominator) in
     let left : 10 ^ 12 * a ≡ 10 ^ (12 - r.places) * (a * s.denominator) = ap (λ (x : ℕ). x * a) split ∙ (omega arith) in
-    let right : 10 ^ (12 - r.places) * (a * s.denominator) ≡ s.numerator * 10 ^ (12 - r.places) * d = ap (λ (x : ℕ). 10 ^ (12 - r.places) * x) second ∙ (omega arith) in
+    let right : 10 ^ (12 - r.places) * (a * s.denominator) ≡ s.numerator * 10 ^ (12 - r.places) * d =
+    ap (λ (x : ℕ). 10 ^ (12 - r.places) * x) second ∙ (omega arith) in
     let same : 10 ^ 12 * a ≡ s.numerator * 10 ^ (12 - r.places) * d = left ∙ right in
     omega (arith, ints, same)
 step_has_trillionths (negsuc a) d s r h = absurd (omega (arith, ints, h, r.step.denominator_positive))
 
 -- a step's value is below the limit
-pub step_below_limit : (v : Fraction) (s : Step) → IsStep s → 0 < v.denominator → (v.numerator *ℤ pos s.denominator) ≡ pos (s.numerator * v.denominator) → is_below_limit v ≡ true
+pub step_below_limit : (v : Fraction) (s : Step) → IsStep s → 0 < v.denominator →
+    (v.numerator *ℤ pos s.denominator) ≡ pos (s.numerator * v.denominator) → is_below_limit v ≡ true
 step_below_limit v s r p h = by v.numerator h
   where
     by : (n : ℤ) → (n *ℤ pos s.denominator) ≡ pos (s.numerator * v.denominator) → nat_lt (unsigned_abs n) (10 ^ 15 * v.denominator) ≡ true
@@ -146,7 +166,8 @@ step_positive (negsuc a) z f d over under p q o e h =
 
 -- ---- both ways of rounding
 -- rounding down and up give the same for a whole number only
-pub floors_meet : (a : ℤ) (f d : ℕ) (y z : ℤ) → 0 < d → y ≡ int_div_euclid (pos f *ℤ a) (pos d) → z ≡ int_div_euclid (pos f *ℤ neg_ℤ a) (pos d) → y ≡ neg_ℤ z → (pos f *ℤ a) ≡ (y *ℤ pos d)
+pub floors_meet : (a : ℤ) (f d : ℕ) (y z : ℤ) → 0 < d → y ≡ int_div_euclid (pos f *ℤ a) (pos d) →
+    z ≡ int_div_euclid (pos f *ℤ neg_ℤ a) (pos d) → y ≡ neg_ℤ z → (pos f *ℤ a) ≡ (y *ℤ pos d)
 floors_meet a f d y z p e g h =
     let low = floor_low (pos f *ℤ a) d p in
     let high = floor_low (pos f *ℤ neg_ℤ a) d p in
@@ -165,7 +186,8 @@ floor_of_whole a z d p e =
     floor_is a z d p (omega (arith, linear, e, turned)) (omega (arith, linear, e, turned, positive))
 
 -- and for each whole number they do
-pub whole_floors : (a : ℤ) (f d : ℕ) (y z t : ℤ) → 0 < d → y ≡ int_div_euclid (pos f *ℤ a) (pos d) → z ≡ int_div_euclid (pos f *ℤ neg_ℤ a) (pos d) → (pos f *ℤ a) ≡ (t *ℤ pos d) → y ≡ neg_ℤ z
+pub whole_floors : (a : ℤ) (f d : ℕ) (y z t : ℤ) → 0 < d → y ≡ int_div_euclid (pos f *ℤ a) (pos d) →
+    z ≡ int_div_euclid (pos f *ℤ neg_ℤ a) (pos d) → (pos f *ℤ a) ≡ (t *ℤ pos d) → y ≡ neg_ℤ z
 whole_floors a f d y z t p e g h =
     let first : y ≡ t = e ∙ floor_of_whole (pos f *ℤ a) t d p h in
     let sign : (pos f *ℤ neg_ℤ a) ≡ (neg_ℤ t *ℤ pos d) = *ℤ-neg (pos f) a ∙ ap neg_ℤ h ∙ sym (neg-*ℤ t (pos d)) in

@@ -36,7 +36,8 @@ floor_is a y b p low high =
     omega (arith, linear, up, down)
 
 -- a floor of a sum over a floor is the floor of the whole
-pub floor_chain : (a : ℤ) (b c d : ℕ) → 0 < b → 0 < d → int_div_euclid (int_div_euclid a (pos b) +ℤ pos c) (pos d) ≡ int_div_euclid (a +ℤ pos (b * c)) (pos (b * d))
+pub floor_chain : (a : ℤ) (b c d : ℕ) → 0 < b → 0 < d →
+    int_div_euclid (int_div_euclid a (pos b) +ℤ pos c) (pos d) ≡ int_div_euclid (a +ℤ pos (b * c)) (pos (b * d))
 floor_chain a b c d p q =
     let inner = int_div_euclid a (pos b) in
     let outer = int_div_euclid (inner +ℤ pos c) (pos d) in

@@ -13,7 +13,8 @@ use Rattle.ember_snap.specs.Offsets.{middle_of, is_central, offset_of, LandsAlon
 use Rattle.ember_snap.proofs.Floors.{floor_low, floor_high}
 
 -- cells land where the least and the greatest do
-lands_between : (s : Step) (xs : List Number) (span : Span) (o : ℤ) → IsSpan s xs span → negsuc 2046 ≤ℤ (span.least -ℤ o) → (span.greatest -ℤ o) ≤ℤ pos 2047 → LandsAlong s xs o
+lands_between : (s : Step) (xs : List Number) (span : Span) (o : ℤ) → IsSpan s xs span →
+    negsuc 2046 ≤ℤ (span.least -ℤ o) → (span.greatest -ℤ o) ≤ℤ pos 2047 → LandsAlong s xs o
 lands_between s xs span o h low high = λ k d less. let within = h.within k d less in
     record { low_enough = omega (arith, ints, within.low_enough, low); high_enough = omega (arith, ints, within.high_enough, high) }
 
@@ -36,6 +37,16 @@ spans_land s c spans h = by (is_central spans.x && is_central spans.y && is_cent
     by true e =
         let front = both_true (is_central spans.x && is_central spans.y) (is_central spans.z) e in
         let parts = both_true (is_central spans.x) (is_central spans.y) front.0 in
-        rw e (record { x = lands_round_zero s c.x.now spans.x h.x parts.0; y = lands_round_zero s c.y.now spans.y h.y parts.1; z = lands_round_zero s c.z.now spans.z h.z front.1 })
+        rw e (record {
+          x = lands_round_zero s c.x.now spans.x h.x parts.0;
+          y =
+              lands_round_zero s c.y.now spans.y h.y parts.1;
+          z = lands_round_zero s c.z.now spans.z h.z front.1;
+        })
     by false e =
-        rw e (record { x = lands_round_middle s c.x.now spans.x h.x; y = lands_round_middle s c.y.now spans.y h.y; z = lands_round_middle s c.z.now spans.z h.z })
+        rw e (record {
+          x = lands_round_middle s c.x.now spans.x h.x;
+          y = lands_round_middle s c.y.now spans.y h.y;
+          z =
+              lands_round_middle s c.z.now spans.z h.z;
+        })

@@ -13,7 +13,13 @@ pub nice_is_step : (digit e f : ℕ) → 0 < digit → digit ≤ 5 → e ≤ 11 
 nice_is_step digit e f p d h k =
     let small = nice_small digit e d h in
     let under : 10 ^ f ≤ 10 ^ 12 = pow-le-pow_right {n = 10} (omega arith) {i = f} {j = 12} k in
-    record { numerator_positive = mul-pos p (pow_ten_pos e); denominator_positive = pow_ten_pos f; numerator_small = omega (arith, small); denominator_small = omega (arith, under) }
+    record {
+      numerator_positive = mul-pos p (pow_ten_pos e);
+      denominator_positive = pow_ten_pos f;
+      numerator_small =
+          omega (arith, small);
+      denominator_small = omega (arith, under);
+    }
 
 fine_small : (number e : ℕ) → number ≤ 9999 → e ≤ 8 → number * 10 ^ e ≤ 9999 * 10 ^ 8
 fine_small number e d h = mul-le-mul d (pow-le-pow_right {n = 10} (omega arith) {i = e} {j = 8} h)
@@ -23,4 +29,10 @@ pub fine_is_step : (number e f : ℕ) → 0 < number → number ≤ 9999 → e �
 fine_is_step number e f p d h k =
     let small = fine_small number e d h in
     let under : 10 ^ f ≤ 10 ^ 12 = pow-le-pow_right {n = 10} (omega arith) {i = f} {j = 12} k in
-    record { numerator_positive = mul-pos p (pow_ten_pos e); denominator_positive = pow_ten_pos f; numerator_small = omega (arith, small); denominator_small = omega (arith, under) }
+    record {
+      numerator_positive = mul-pos p (pow_ten_pos e);
+      denominator_positive = pow_ten_pos f;
+      numerator_small =
+          omega (arith, small);
+      denominator_small = omega (arith, under);
+    }

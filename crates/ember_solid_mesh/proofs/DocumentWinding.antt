@@ -34,7 +34,8 @@ module _ (bytes : List ℕ) (mesh : SolidMesh) (is : IsDocumentMesh bytes mesh) 
 
     certified : IsCertified t.planes.items t.lines.items t.corners.items t.segments.items mesh.triangles.items
     certified =
-        let on_planes = subst (λ (ps : List Plane). IsCertified ps t.lines.items mesh.corners.items t.segments.items mesh.triangles.items) is.cut.planes is.cut.certified in
+        let on_planes = subst (λ (ps : List Plane). IsCertified ps t.lines.items mesh.corners.items t.segments.items
+        mesh.triangles.items) is.cut.planes is.cut.certified in
         subst (λ (cs : List SpacePoint). IsCertified t.planes.items t.lines.items cs t.segments.items mesh.triangles.items) is.cut.corners on_planes
 
     same_faces : triangle_faces t.planes.items t.corners.items mesh.triangles.items ≡ faces_of_mesh mesh
@@ -43,9 +44,13 @@ module _ (bytes : List ℕ) (mesh : SolidMesh) (is : IsDocumentMesh bytes mesh) 
     -- the triangles wind as the faces
     pub document_winds_as_faces : WindAlike is.tables_are.faces (faces_of_mesh mesh)
     document_winds_as_faces =
-        subst (λ (faces : List Face). WindAlike faces (faces_of_mesh mesh)) (sym is.tables_are.read.faces) (subst (λ (faces : List Face). WindAlike (map face_from ws) faces) same_faces (wind_alike ws t mesh.triangles.items outlined tables_are certified))
+        subst (λ (faces : List Face). WindAlike faces (faces_of_mesh mesh)) (sym is.tables_are.read.faces)
+        (subst (λ (faces : List Face). WindAlike (map face_from ws) faces) same_faces
+        (wind_alike ws t mesh.triangles.items outlined tables_are certified))
 
     -- and near each point
     pub document_winds_as_faces_nearby : WindAlikeNearby is.tables_are.faces (faces_of_mesh mesh)
     document_winds_as_faces_nearby =
-        subst (λ (faces : List Face). WindAlikeNearby faces (faces_of_mesh mesh)) (sym is.tables_are.read.faces) (subst (λ (faces : List Face). WindAlikeNearby (map face_from ws) faces) same_faces (wind_alike_nearby ws t mesh.triangles.items outlined tables_are certified))
+        subst (λ (faces : List Face). WindAlikeNearby faces (faces_of_mesh mesh)) (sym is.tables_are.read.faces)
+        (subst (λ (faces : List Face). WindAlikeNearby (map face_from ws) faces) same_faces
+        (wind_alike_nearby ws t mesh.triangles.items outlined tables_are certified))

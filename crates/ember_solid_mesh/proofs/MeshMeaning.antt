@@ -25,7 +25,8 @@ use Rattle.ember_solid_mesh.specs.Meshes.{IsDocumentMesh, IsSolidMesh}
 use Rattle.ember_solid_mesh.proofs.DocumentWinding.{document_winds_as_faces, document_winds_as_faces_nearby}
 use Rattle.ember_solid_mesh.proofs.SolidFaces.{mesh_faces_mean}
 
-module _ (tris : List Tri) (meshes : ℕ) (formula : Formula) (mesh : SolidMesh) (scene : IsScene tris meshes) (outside : IsFalseOutside formula) (is : IsSolidMesh tris formula mesh) where
+module _ (tris : List Tri) (meshes : ℕ) (formula : Formula) (mesh : SolidMesh) (scene : IsScene tris meshes)
+    (outside : IsFalseOutside formula) (is : IsSolidMesh tris formula mesh) where
   abbrev d : IsDocumentMesh is.bytes mesh
   d = is.of_document
 
@@ -36,7 +37,8 @@ module _ (tris : List Tri) (meshes : ℕ) (formula : Formula) (mesh : SolidMesh)
   outlined : AllByRecursion IsOutlined ws
   outlined =
       let reads = document_reads tris meshes formula is.text.kept is.bytes scene is.text.solid.written outside is.text.text in
-      subst (λ (written : List WrittenFace). AllByRecursion IsOutlined written) (face_file_is_read_once is.bytes reads.faces d.tables_are.faces reads.read d.tables_are.read) reads.outlined
+      subst (λ (written : List WrittenFace). AllByRecursion IsOutlined written)
+      (face_file_is_read_once is.bytes reads.faces d.tables_are.faces reads.read d.tables_are.read) reads.outlined
 
   meaning : HaveMeaning tris formula (map face_from ws)
   meaning =
@@ -44,7 +46,8 @@ module _ (tris : List Tri) (meshes : ℕ) (formula : Formula) (mesh : SolidMesh)
 
   nearby : WindAlikeNearby (map face_from ws) (faces_of_mesh mesh)
   nearby =
-      subst (λ (faces : List Face). WindAlikeNearby faces (faces_of_mesh mesh)) d.tables_are.read.faces (document_winds_as_faces_nearby is.bytes mesh d outlined)
+      subst (λ (faces : List Face). WindAlikeNearby faces (faces_of_mesh mesh)) d.tables_are.read.faces
+      (document_winds_as_faces_nearby is.bytes mesh d outlined)
 
   -- the triangles wind as the document's faces
   pub mesh_winds_as_faces : WindAlike d.tables_are.faces (faces_of_mesh mesh)
@@ -53,12 +56,16 @@ module _ (tris : List Tri) (meshes : ℕ) (formula : Formula) (mesh : SolidMesh)
   -- once where the expression is true of the scene, and not at all elsewhere
   pub mesh_means : HaveMeaning tris formula (faces_of_mesh mesh)
   mesh_means a b p weight clear_scene clear_mesh =
-      let s = eventually_both (wind_shifted a p (faces_of_mesh mesh) weight clear_mesh) (eventually_both (nearby a p weight) (wind_nearby_as_here tris formula ws outlined meaning p weight clear_scene)) in
+      let s = eventually_both (wind_shifted a p (faces_of_mesh mesh) weight clear_mesh)
+      (eventually_both (nearby a p weight) (wind_nearby_as_here tris formula ws outlined meaning p weight
+      clear_scene)) in
       let h = s.holds s.from (le_refl s.from) in h.0 ∙ sym h.1.0 ∙ h.1.1 a b
 
   -- and once at most around each point that is clear of them
   pub mesh_winds_once_at_most : WindOnceAtMost (faces_of_mesh mesh)
   mesh_winds_once_at_most p weight clear =
-      let s = eventually_both (each_axis (λ a. wind_shifted a p (faces_of_mesh mesh) weight clear)) (eventually_both (each_axis (λ a. nearby a p weight)) (meaning_nearby tris formula ws outlined meaning p weight)) in
+      let s = eventually_both (each_axis (λ a. wind_shifted a p (faces_of_mesh mesh) weight clear))
+      (eventually_both (each_axis (λ a. nearby a p weight))
+      (meaning_nearby tris formula ws outlined meaning p weight)) in
       let h = s.holds s.from (le_refl s.from) in
       (truth (vector X tris (offset_by p (pos s.from))) formula, λ a. h.0 a ∙ sym (h.1.0 a) ∙ h.1.1 a X)

@@ -29,10 +29,12 @@ file_holds ws bytes h = record { written = ws; well_formed = h.well_formed; is =
 module _ (fs : List CorneredFace) (i : ℕ) (l : i < length fs) (face : CorneredFace) (e : face ≡ get_or fs i face) where
   one_more : map face_of (take (i + 1) fs) ≡ map face_of (take i fs) ++ face_of face ∷ []
   one_more =
-      ap (map face_of) (take_more fs i face l) ∙ map-append face_of (take i fs) (get_or fs i face ∷ []) ∙ (λ k. map face_of (take i fs) ++ face_of (sym e k) ∷ [])
+      ap (map face_of) (take_more fs i face l) ∙ map-append face_of (take i fs) (get_or fs i face ∷ [])
+      ∙ (λ k. map face_of (take i fs) ++ face_of (sym e k) ∷ [])
 
   -- one face more
-  pub faces_more : (before after : List Face) (bare : Face) → before ≡ map face_in (map face_of (take i fs)) → after ≡ before ++ bare ∷ [] → bare ≡ face_in (face_of face) → after ≡ map face_in (map face_of (take (i + 1) fs))
+  pub faces_more : (before after : List Face) (bare : Face) → before ≡ map face_in (map face_of (take i fs)) →
+      after ≡ before ++ bare ∷ [] → bare ≡ face_in (face_of face) → after ≡ map face_in (map face_of (take (i + 1) fs))
   faces_more before after bare h p q =
       p ∙ (λ k. h k ++ q k ∷ []) ∙ sym (ap (map face_in) one_more ∙ map-append face_in (map face_of (take i fs)) (face_of face ∷ []))
 
@@ -45,7 +47,8 @@ module _ (fs : List CorneredFace) (i : ℕ) (l : i < length fs) (face : Cornered
   here =
       slice_get-map face_of fs i ∙ ap (option_map face_of) (slice_get-get_or fs i face l) ∙ (λ k. Some (face_of (sym e k)))
 
-  first_face : (bytes : List ℕ) (P : WrittenFace → Type 0) → IsFileOf (map face_of fs) bytes → All IsRound (map face_of (take i fs)) → P (face_of face) → HasFirstFace bytes i P
+  first_face : (bytes : List ℕ) (P : WrittenFace → Type 0) → IsFileOf (map face_of fs) bytes →
+      All IsRound (map face_of (take i fs)) → P (face_of face) → HasFirstFace bytes i P
   unfolding file_holds
   first_face bytes P file round h = record {
     faces = map face_in (map face_of fs);
@@ -57,7 +60,8 @@ module _ (fs : List CorneredFace) (i : ℕ) (l : i < length fs) (face : Cornered
   }
 
   -- the fault of a face after round ones is that of the document
-  pub first_fault_is : (bytes : List ℕ) → IsFileOf (map face_of fs) bytes → All IsRound (map face_of (take i fs)) → (fault : OutlineFault) → IsOutlineFault (face_of face) fault → IsDocumentFault bytes (of_outline_fault i fault)
+  pub first_fault_is : (bytes : List ℕ) → IsFileOf (map face_of fs) bytes → All IsRound (map face_of (take i fs)) →
+      (fault : OutlineFault) → IsOutlineFault (face_of face) fault → IsDocumentFault bytes (of_outline_fault i fault)
   first_fault_is bytes file round OffPlane h = first_face bytes _ file round h
   first_fault_is bytes file round OffEdge h = first_face bytes _ file round h
   first_fault_is bytes file round NotRound h = first_face bytes _ file round h
@@ -69,7 +73,8 @@ each_outlined [] h = tt
 each_outlined (w ∷ ws) h = (round_is_outlined w h.0, each_outlined ws h.1)
 
 -- the mesh of a document of round faces
-pub outlined_mesh_is : (ws : List WrittenFace) (bytes : List ℕ) (mesh : SolidMesh) → IsFileOf ws bytes → All IsRound ws → IsDocumentMesh bytes mesh → IsOutlinedMesh bytes mesh
+pub outlined_mesh_is : (ws : List WrittenFace) (bytes : List ℕ) (mesh : SolidMesh) → IsFileOf ws bytes →
+    All IsRound ws → IsDocumentMesh bytes mesh → IsOutlinedMesh bytes mesh
 unfolding file_holds
 outlined_mesh_is ws bytes mesh file round is =
     let read = is.tables_are.read in

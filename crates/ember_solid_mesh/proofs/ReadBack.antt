@@ -55,7 +55,8 @@ pub solid_holds_faces : (tris : List Tri) (formula : Formula) (bytes : List ℕ)
 solid_holds_faces tris formula bytes is = document_holds_faces (map written_face is.kept) bytes is.text
 
 -- a face file isn't refused for its form
-pub never_refused : (file : List ℕ) (fault : RereadFault) → HoldsFaces file → fault ≡ Form → (fault ≡ OutOfMemory) ⊎ ((fs : List Face) → IsFaceFile file fs → ⊥) → ⊥
+pub never_refused : (file : List ℕ) (fault : RereadFault) → HoldsFaces file → fault ≡ Form →
+    (fault ≡ OutOfMemory) ⊎ ((fs : List Face) → IsFaceFile file fs → ⊥) → ⊥
 never_refused file fault held form (inl memory) = clash (sym form ∙ memory)
   where
     clash : Form ≡ OutOfMemory → ⊥

@@ -17,14 +17,19 @@ one_reading : (bytes : List ℕ) (fs gs : List Face) → IsFaceFile bytes fs →
 one_reading bytes fs gs h k =
     h.faces ∙ ap (λ (ws : List WrittenFace). map face_from ws) (face_file_is_read_once bytes fs gs h k) ∙ sym k.faces
 
-module _ (tris : List Tri) (meshes : ℕ) (formula : Formula) (mesh : SolidMesh) (scene : IsScene tris meshes) (outside : IsFalseOutside formula) (is : IsSolidMesh tris formula mesh) where
+module _ (tris : List Tri) (meshes : ℕ) (formula : Formula) (mesh : SolidMesh) (scene : IsScene tris meshes)
+    (outside : IsFalseOutside formula) (is : IsSolidMesh tris formula mesh) where
   reads : ReadsWithMeaning tris formula is.bytes
   reads = document_reads tris meshes formula is.text.kept is.bytes scene is.text.solid.written outside is.text.text
 
   pub mesh_faces_mean : HaveMeaning tris formula is.of_document.tables_are.faces
   mesh_faces_mean =
-      subst (λ (faces : List Face). HaveMeaning tris formula faces) (one_reading is.bytes reads.faces is.of_document.tables_are.faces reads.read is.of_document.tables_are.read) reads.meaning
+      subst (λ (faces : List Face). HaveMeaning tris formula faces)
+      (one_reading is.bytes reads.faces is.of_document.tables_are.faces reads.read is.of_document.tables_are.read)
+      reads.meaning
 
   pub mesh_faces_are_closed : IsClosedSurface is.of_document.tables_are.read.written
   mesh_faces_are_closed =
-      subst (λ (written : List WrittenFace). IsClosedSurface written) (face_file_is_read_once is.bytes reads.faces is.of_document.tables_are.faces reads.read is.of_document.tables_are.read) reads.closed
+      subst (λ (written : List WrittenFace). IsClosedSurface written)
+      (face_file_is_read_once is.bytes reads.faces is.of_document.tables_are.faces reads.read
+      is.of_document.tables_are.read) reads.closed

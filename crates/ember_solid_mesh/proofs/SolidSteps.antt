@@ -26,7 +26,8 @@ use Rattle.ember_solid_mesh.specs.Faults.{IsCutFault, IsDocumentFault, IsFileFau
 use Rattle.ember_solid_mesh.specs.Meshes.{IsMeshOf, IsDocumentMesh}
 
 -- triangles are certified of equal lists
-pub certified_of : {ps qs : List Plane} {ls ks : List LineKey} {cs ds : List SpacePoint} {ss us : List Segment} (ts : List Triangle) → ps ≡ qs → ls ≡ ks → cs ≡ ds → ss ≡ us → IsCertified ps ls cs ss ts → IsCertified qs ks ds us ts
+pub certified_of : {ps qs : List Plane} {ls ks : List LineKey} {cs ds : List SpacePoint} {ss us : List Segment}
+    (ts : List Triangle) → ps ≡ qs → ls ≡ ks → cs ≡ ds → ss ≡ us → IsCertified ps ls cs ss ts → IsCertified qs ks ds us ts
 certified_of {ps} {qs} {ls} {ks} {cs} {ds} {ss} {us} ts a l b d h =
     let on_planes : IsCertified qs ls cs ss ts = subst (λ (ps : List Plane). IsCertified ps ls cs ss ts) a h in
     let on_lines : IsCertified qs ks cs ss ts = subst (λ (ls : List LineKey). IsCertified qs ls cs ss ts) l on_planes in
@@ -50,7 +51,8 @@ module _ (bytes : List ℕ) (faces given : List Face) (read : IsFaceFile bytes f
         record { faces = faces; read = read; are_tables = subst (λ (fs : List Face). AreTables (face_edges_of 0 fs) tables) e are }
 
     -- the mesh of the tables is that of the document
-    pub document_mesh_is : (result : Result SolidMesh SolidFault) (count : ℕ) → count ≡ length faces → IfOk result (IsMeshOf tables) → IfOk result (λ mesh. mesh.faces ≡ count) → IfOk result (IsDocumentMesh bytes)
+    pub document_mesh_is : (result : Result SolidMesh SolidFault) (count : ℕ) → count ≡ length faces →
+        IfOk result (IsMeshOf tables) → IfOk result (λ mesh. mesh.faces ≡ count) → IfOk result (IsDocumentMesh bytes)
     unfolding tables_are
     document_mesh_is (Ok mesh) count many cut counted =
         record { tables = tables; tables_are = tables_are; cut = cut; faces = counted ∙ many }
@@ -63,7 +65,9 @@ module _ (bytes : List ℕ) (faces given : List Face) (read : IsFaceFile bytes f
     cut_fault_is OutOfMemory is = tt
 
 -- the fault of a reader
-pub reading_fault_is : (bytes : List ℕ) (cause : RereadFault) → (cause ≡ reread.OutOfMemory) ⊎ ((faces : List Face) → IsFaceFile bytes faces → ⊥) → IsDocumentFault bytes (of_reading_fault cause)
+pub reading_fault_is : (bytes : List ℕ) (cause : RereadFault) →
+    (cause ≡ reread.OutOfMemory) ⊎ ((faces : List Face) → IsFaceFile bytes faces → ⊥) →
+    IsDocumentFault bytes (of_reading_fault cause)
 reading_fault_is bytes reread.Form (inl memory) = absurd (clash memory)
   where
     clash : reread.Form ≡ reread.OutOfMemory → ⊥
@@ -78,7 +82,8 @@ mesh_fault_is bytes (NotCut fault) is = is
 mesh_fault_is bytes OutOfMemory is = tt
 
 -- the fault of a solid's mesh is that of its document
-pub solid_fault_is : (tris : List Tri) (formula : Formula) (bytes : List ℕ) → IsSolidText tris formula bytes → (fault : SolidFault) → IsFileFault bytes fault → IsSolidFault tris formula fault
+pub solid_fault_is : (tris : List Tri) (formula : Formula) (bytes : List ℕ) → IsSolidText tris formula bytes →
+    (fault : SolidFault) → IsFileFault bytes fault → IsSolidFault tris formula fault
 solid_fault_is tris formula bytes text (NoTables fault) is = (bytes, text, is)
 solid_fault_is tris formula bytes text (NotCut fault) is = (bytes, text, is)
 solid_fault_is tris formula bytes text OutOfMemory is = tt

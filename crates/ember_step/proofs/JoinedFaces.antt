@@ -22,14 +22,17 @@ AllZip-append R [] us (y ∷ ys) vs a b = absurd a
 AllZip-append R (x ∷ xs) us [] vs a b = absurd a
 AllZip-append R (x ∷ xs) us (y ∷ ys) vs a b = (a.0, AllZip-append R xs us ys vs a.1 b)
 
-both_faces : (ks ls : List Kept) (fs gs : List Face) → AreFacesInTexts (map written_face ks) fs → AreFacesInTexts (map written_face ls) gs → AreFacesInTexts (map written_face (ks ++ ls)) (fs ++ gs)
+both_faces : (ks ls : List Kept) (fs gs : List Face) → AreFacesInTexts (map written_face ks) fs →
+    AreFacesInTexts (map written_face ls) gs → AreFacesInTexts (map written_face (ks ++ ls)) (fs ++ gs)
 both_faces ks ls fs gs a b =
-    subst (λ (hs : List Face). AreFacesInTexts hs (fs ++ gs)) (sym (map-append written_face ks ls)) (AllZip-append IsFaceInText (map written_face ks) (map written_face ls) fs gs a b)
+    subst (λ (hs : List Face). AreFacesInTexts hs (fs ++ gs)) (sym (map-append written_face ks ls))
+    (AllZip-append IsFaceInText (map written_face ks) (map written_face ls) fs gs a b)
 
 abbrev all_of : List (List Face) → List Face
 all_of lists = flat_map (λ (faces : List Face). faces) lists
 
-faces_of : (Has : Job → List Kept → Type 0) (jobs : List Job) (lists : List (List Face)) → EachAnswers (λ job faces. AreRegionsFaces (Has job) faces) jobs lists → AreRegionsFaces (Each Has jobs) (all_of lists)
+faces_of : (Has : Job → List Kept → Type 0) (jobs : List Job) (lists : List (List Face)) →
+    EachAnswers (λ job faces. AreRegionsFaces (Has job) faces) jobs lists → AreRegionsFaces (Each Has jobs) (all_of lists)
 faces_of Has [] [] h = record { kept = []; has = none; faces_of = tt }
 faces_of Has [] (fs ∷ lists) h = absurd h
 faces_of Has (job ∷ jobs) [] h = absurd h
@@ -38,7 +41,9 @@ faces_of Has (job ∷ jobs) (fs ∷ lists) h =
     record {
       kept = a.kept ++ b.kept;
       has = more a.has b.has;
-      faces_of = subst (AreFacesInTexts (map written_face (a.kept ++ b.kept))) (sym (flat_map-cons (λ (faces : List Face). faces) fs lists)) (both_faces a.kept b.kept fs (all_of lists) a.faces_of b.faces_of);
+      faces_of = subst (AreFacesInTexts (map written_face (a.kept ++ b.kept)))
+          (sym (flat_map-cons (λ (faces : List Face). faces) fs lists))
+          (both_faces a.kept b.kept fs (all_of lists) a.faces_of b.faces_of);
     }
 
 -- the faces of the visited leaves, one list after another, are those of the scene's written regions

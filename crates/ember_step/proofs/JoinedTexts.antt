@@ -20,7 +20,9 @@ one_more : (t : FacesText) (ts : List FacesText) → joined (t ∷ ts) ≡ recor
 one_more t ts =
     λ i. record { bytes = flat_map-cons (λ (u : FacesText). u.bytes) t ts i; count = sum_by-cons (λ (u : FacesText). u.count) t ts i }
 
-both_texts : (ks ls : List Kept) (s t : FacesText) → IsTextOf (map written_face ks) s → IsTextOf (map written_face ls) t → IsTextOf (map written_face (ks ++ ls)) (record { bytes = s.bytes ++ t.bytes; count = s.count + t.count })
+both_texts : (ks ls : List Kept) (s t : FacesText) → IsTextOf (map written_face ks) s →
+    IsTextOf (map written_face ls) t → IsTextOf (map written_face (ks ++ ls))
+    (record { bytes = s.bytes ++ t.bytes; count = s.count + t.count })
 both_texts ks ls s t a b =
     let e : map written_face (ks ++ ls) ≡ map written_face ks ++ map written_face ls = map-append written_face ks ls in
     rw e (record {
@@ -28,7 +30,8 @@ both_texts ks ls s t a b =
       count = (λ i. a.count i + b.count i) ∙ sym (length-append (map written_face ks) (map written_face ls));
     })
 
-texts_of : (Has : Job → List Kept → Type 0) (jobs : List Job) (texts : List FacesText) → EachAnswers (λ job text. IsRegionsText (Has job) text) jobs texts → IsRegionsText (Each Has jobs) (joined texts)
+texts_of : (Has : Job → List Kept → Type 0) (jobs : List Job) (texts : List FacesText) →
+    EachAnswers (λ job text. IsRegionsText (Has job) text) jobs texts → IsRegionsText (Each Has jobs) (joined texts)
 texts_of Has [] [] h = record { kept = []; has = none; text_of = record { are_texts = none; count = refl } }
 texts_of Has [] (t ∷ ts) h = absurd h
 texts_of Has (job ∷ jobs) [] h = absurd h

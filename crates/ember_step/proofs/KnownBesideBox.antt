@@ -52,11 +52,15 @@ abbrev MissesFar : Job → Spot → Spot → Tri → Type 0
 MissesFar j p q u = is_near j.cell u ≡ false → is_flat u ≡ false → MissesFace p q (face_of u)
 
 -- so it misses the faces of a mesh that has none near
-misses_mesh : (j : Job) (p q : Spot) (n : ℕ) (us : List Tri) → AllByRecursion (MissesFar j p q) us → has_mesh (near us j.cell) n ≡ false → AllByRecursion (MissesFace p q) (faces_of (of_mesh n us))
+misses_mesh : (j : Job) (p q : Spot) (n : ℕ) (us : List Tri) → AllByRecursion (MissesFar j p q) us →
+    has_mesh (near us j.cell) n ≡ false → AllByRecursion (MissesFace p q) (faces_of (of_mesh n us))
 misses_mesh j p q n [] h far = tt
 misses_mesh j p q n (u ∷ us) h far = by (is_near j.cell u) (nat_eq u.mesh n) (is_flat u) refl refl refl far (misses_mesh j p q n us h.1)
   where
-    by : (b d e : Bool) → is_near j.cell u ≡ b → nat_eq u.mesh n ≡ d → is_flat u ≡ e → has_mesh (cond b (u ∷ near us j.cell) (near us j.cell)) n ≡ false → (has_mesh (near us j.cell) n ≡ false → AllByRecursion (MissesFace p q) (faces_of (of_mesh n us))) → AllByRecursion (MissesFace p q) (faces_of (cond d (u ∷ of_mesh n us) (of_mesh n us)))
+    by : (b d e : Bool) → is_near j.cell u ≡ b → nat_eq u.mesh n ≡ d → is_flat u ≡ e →
+        has_mesh (cond b (u ∷ near us j.cell) (near us j.cell)) n ≡ false →
+        (has_mesh (near us j.cell) n ≡ false → AllByRecursion (MissesFace p q) (faces_of (of_mesh n us))) →
+        AllByRecursion (MissesFace p q) (faces_of (cond d (u ∷ of_mesh n us) (of_mesh n us)))
     by true true e x y z far r =
         let o = or_parts (n == u.mesh) (has_mesh (near us j.cell) n) far in
         let s : (n == u.mesh) ≡ true = eq-eqb n u.mesh (sym (eqb-true u.mesh n y)) in absurd (clash s o.0)
@@ -74,7 +78,8 @@ module _ (ts : List Tri) (count : ℕ) (scene : IsScene ts count) (j : Job) (is 
 
   weight : (m : ℕ) → 1 ≤ m → pos 0 <ℤ (at m).w
   weight m l =
-      let x = moved_weight (scaled (pos m) v) k by in let z : pos 0 <ℤ pos m = omega (arith, ints, l) in let y = pos_mul z has.weight in omega (arith, linear, x, y)
+      let x = moved_weight (scaled (pos m) v) k by in let z : pos 0 <ℤ pos m = omega (arith, ints, l) in let y =
+      pos_mul z has.weight in omega (arith, linear, x, y)
 
   one_missed : (u : Tri) → Eventually (λ m. MissesFar j (at m) origin u)
   one_missed u = pick (is_near j.cell u) (is_flat u) refl refl
@@ -83,31 +88,46 @@ module _ (ts : List Tri) (count : ℕ) (scene : IsScene ts count) (j : Job) (is 
       pick true d x y = eventually_true (λ m f nf. absurd (clash x f))
       pick false true x y = eventually_true (λ m f nf. absurd (clash y nf))
       pick false false x y =
-          let o = has_reference j.cell in let s = missed_face_has_separating_edge (face_of u) v origin has.weight o.weight (misses_far j.cell u v origin y x has o) in
-          eventually_map (λ m l f nf. let e = value_beside s.plane m v k by in held_misses u (at m) origin s.plane s.low (omega (arith, linear, l, e)) s.far) (eventually_pos (by *ℤ along s.plane k) s.near)
+          let o = has_reference j.cell in let s =
+          missed_face_has_separating_edge (face_of u) v origin has.weight o.weight
+          (misses_far j.cell u v origin y x has o) in
+          eventually_map (λ m l f nf. let e = value_beside s.plane m v k by in
+          held_misses u (at m) origin s.plane s.low (omega (arith, linear, l, e)) s.far)
+          (eventually_pos (by *ℤ along s.plane k) s.near)
 
   all_missed : (us : List Tri) → Eventually (λ m. AllByRecursion (MissesFar j (at m) origin) us)
   all_missed [] = eventually_true (λ m. tt)
   all_missed (u ∷ us) = eventually_both (one_missed u) (all_missed us)
 
   -- the meshes with no triangle near the box count alike there and at the reference point
-  agree : (a : Axis) (m : ℕ) → 1 ≤ m → AllByRecursion (MissesFar j (at m) origin) ts → AreClear (faces_of ts) (at m) → AgreeOutside (has_mesh (near ts j.cell)) (vector X ts origin) (vector a ts (at m))
+  agree : (a : Axis) (m : ℕ) → 1 ≤ m → AllByRecursion (MissesFar j (at m) origin) ts → AreClear (faces_of ts) (at m) →
+      AgreeOutside (has_mesh (near ts j.cell)) (vector X ts origin) (vector a ts (at m))
   agree a m l missed clear = record {
-    same = λ n h far. count_is X ts origin n h ∙ sym (segment_law a X (at m) origin (of_mesh n ts) (scene.balanced n) (weight m l) (has_reference j.cell).weight (of_mesh_all (λ f. IsClear f (at m)) n ts clear) (of_mesh_all (λ f. IsClear f origin) n ts (clear_references j.cell.lo ts scene.valid)) (misses_mesh j (at m) origin n ts missed far)) ∙ sym (count_is a ts (at m) n h);
+    same = λ n h far. count_is X ts origin n h ∙ sym
+        (segment_law a X (at m) origin (of_mesh n ts) (scene.balanced n) (weight m l) (has_reference j.cell).weight
+        (of_mesh_all (λ f. IsClear f (at m)) n ts clear)
+        (of_mesh_all (λ f. IsClear f origin) n ts (clear_references j.cell.lo ts scene.valid))
+        (misses_mesh j (at m) origin n ts missed far)) ∙ sym (count_is a ts (at m) n h);
   }
 
-  known_steps : (f : Formula) → IsFit 64 f → (known : Bool) → box_value ts f j ≡ Some known → Eventually (λ m. AreClear (faces_of ts) (at m) → (a : Axis) → truth (vector a ts (at m)) f ≡ known)
+  known_steps : (f : Formula) → IsFit 64 f → (known : Bool) → box_value ts f j ≡ Some known →
+      Eventually (λ m. AreClear (faces_of ts) (at m) → (a : Axis) → truth (vector a ts (at m)) f ≡ known)
   unfolding box_value
   known_steps f fit known e =
       let late : Eventually (λ m. 1 ≤ m) = record { from = 1; holds = λ m l. l } in
-      eventually_map (λ m l clear a. decided_tells (has_mesh (near_of ts j)) j.at.counts (vector a ts (at m)) (told a m (agree a m l.0 l.1 clear)) f known fit e) (eventually_both late (all_missed ts))
+      eventually_map (λ m l clear a. decided_tells (has_mesh (near_of ts j)) j.at.counts (vector a ts (at m))
+      (told a m (agree a m l.0 l.1 clear)) f known fit e) (eventually_both late (all_missed ts))
     where
-      told : (a : Axis) (m : ℕ) → AgreeOutside (has_mesh (near ts j.cell)) (vector X ts origin) (vector a ts (at m)) → AgreeOutside (has_mesh (near_of ts j)) j.at.counts (vector a ts (at m))
+      told : (a : Axis) (m : ℕ) → AgreeOutside (has_mesh (near ts j.cell)) (vector X ts origin) (vector a ts (at m)) →
+          AgreeOutside (has_mesh (near_of ts j)) j.at.counts (vector a ts (at m))
       told a m r =
-          subst (λ (counts : List ℤ). AgreeOutside (has_mesh (near_of ts j)) counts (vector a ts (at m))) (sym is.at) (subst (λ (us : List Tri). AgreeOutside (has_mesh us) (vector X ts origin) (vector a ts (at m))) (near_listed ts j is) r)
+          subst (λ (counts : List ℤ). AgreeOutside (has_mesh (near_of ts j)) counts (vector a ts (at m))) (sym is.at)
+          (subst (λ (us : List Tri). AgreeOutside (has_mesh us) (vector X ts origin) (vector a ts (at m)))
+          (near_listed ts j is) r)
 
 -- a box of known value has one value, in it and directly beside it
-pub known_has_one : (ts : List Tri) (count : ℕ) → IsScene ts count → (f : Formula) → IsFit 64 f → (j : Job) → IsJob ts j → (known : Bool) → box_value ts f j ≡ Some known → HasOneValue ts f j.cell
+pub known_has_one : (ts : List Tri) (count : ℕ) → IsScene ts count → (f : Formula) → IsFit 64 f → (j : Job) →
+    IsJob ts j → (known : Bool) → box_value ts f j ≡ Some known → HasOneValue ts f j.cell
 known_has_one ts count scene f fit j is known e = record {
   value = known;
   beside = λ v has. record { steps = λ k by. known_steps ts count scene j is v has k by f fit known e };

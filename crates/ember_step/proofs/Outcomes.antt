@@ -44,12 +44,15 @@ module _ (ts : List Tri) (f : Formula) (j : Job) where
   leaf_by e l = goes_on e ∙ ap (λ b. leaf_or b halves) l
 
   -- any other job has these halves
-  pub halved_by : (left right : Job) → is_some (box_value ts f j) ≡ false → is_leaf (near_of ts j) j.cell ≡ false → AreHalfJobs ts j axis left right → shape ts f j ≡ halved left right
+  pub halved_by : (left right : Job) → is_some (box_value ts f j) ≡ false → is_leaf (near_of ts j) j.cell ≡ false →
+      AreHalfJobs ts j axis left right → shape ts f j ≡ halved left right
   halved_by left right e l h = goes_on e ∙ ap (λ b. leaf_or b halves) l ∙ ap₂ halved (sym h.is_left) (sym h.is_right)
 
 -- ---- the written regions of a leaf
 -- what holds in each scene that fits what is known at a job holds in the scene of the job
-pub written_by : (ts : List Tri) (meshes : ℕ) → IsScene ts meshes → (j : Job) → IsJob ts j → (f : Formula) (ks : List Kept) → ((scene : List Tri) → Fits scene (near_of ts j) j.cell j.at.counts → IsWrittenIn scene f j.cell (near_of ts j) ks) → IsWrittenIn ts f j.cell (near ts j.cell) ks
+pub written_by : (ts : List Tri) (meshes : ℕ) → IsScene ts meshes → (j : Job) → IsJob ts j →
+    (f : Formula) (ks : List Kept) → ((scene : List Tri) → Fits scene (near_of ts j) j.cell j.at.counts →
+    IsWrittenIn scene f j.cell (near_of ts j) ks) → IsWrittenIn ts f j.cell (near ts j.cell) ks
 written_by ts meshes s j is f ks h =
     let e = near_listed ts j is in
     subst (λ (us : List Tri). IsWrittenIn ts f j.cell us ks) (sym e) (h ts (record { scene = of_64 ts meshes s; near = e; at = sym is.at }))

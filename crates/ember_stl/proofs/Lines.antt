@@ -8,7 +8,8 @@ use Rattle.ember_stl.specs.Scan.{Line, words_from, ended_lines, numbered}
 use Rattle.ember_stl.specs.Ascii.{State, with_corners, after_words, after_lines}
 
 -- a facet of fewer or more corners than three is refused
-pub not_three_corners : (line : ℕ) (state : State) (place : ℕ) (corners : List Vertex) → length corners ≢ 3 → with_corners line state place (map point_of corners) ≡ Err (NotThreeVertices line)
+pub not_three_corners : (line : ℕ) (state : State) (place : ℕ) (corners : List Vertex) → length corners ≢ 3 →
+    with_corners line state place (map point_of corners) ≡ Err (NotThreeVertices line)
 not_three_corners line state place [] other = refl
 not_three_corners line state place (a ∷ []) other = refl
 not_three_corners line state place (a ∷ b ∷ []) other = refl
@@ -21,5 +22,8 @@ after_fault fault [] = refl
 after_fault fault (line ∷ lines) = refl
 
 -- the first line is read, and those behind it are left
-pub line_read : (number start behind : ℕ) (bytes line after : List ℕ) (state : State) → ended_lines bytes ≡ line ∷ ended_lines after → behind ≡ start + length line + 1 → after_lines (Ok state) (numbered number start (ended_lines bytes)) ≡ after_lines (after_words number state (words_from start line)) (numbered (number + 1) behind (ended_lines after))
+pub line_read : (number start behind : ℕ) (bytes line after : List ℕ) (state : State) →
+    ended_lines bytes ≡ line ∷ ended_lines after → behind ≡ start + length line + 1 →
+    after_lines (Ok state) (numbered number start (ended_lines bytes)) ≡ after_lines
+    (after_words number state (words_from start line)) (numbered (number + 1) behind (ended_lines after))
 line_read number start behind bytes line after state is e = rw (is, e) refl

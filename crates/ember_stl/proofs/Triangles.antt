@@ -30,11 +30,14 @@ next_facet bytes k =
     subst (λ (m : ℕ). first_facets bytes m ≡ with_facet_at bytes k (first_facets bytes k)) e refl
 
 -- one facet more
-pub facet_added : (bytes : List ℕ) (k : ℕ) (content more : Content) → first_facets bytes k ≡ Ok content → with_facet_at bytes k (Ok content) ≡ Ok more → first_facets bytes (k + 1) ≡ Ok more
+pub facet_added : (bytes : List ℕ) (k : ℕ) (content more : Content) → first_facets bytes k ≡ Ok content →
+    with_facet_at bytes k (Ok content) ≡ Ok more → first_facets bytes (k + 1) ≡ Ok more
 facet_added bytes k content more is one = next_facet bytes k ∙ ap (with_facet_at bytes k) is ∙ one
 
 -- the fault of a facet is that of all facets from it on
-pub facet_refused : (bytes : List ℕ) (k n : ℕ) (content : Content) (fault : StlFault) → first_facets bytes k ≡ Ok content → with_facet_at bytes k (Ok content) ≡ Err fault → k < n → first_facets bytes n ≡ Err fault
+pub facet_refused : (bytes : List ℕ) (k n : ℕ) (content : Content) (fault : StlFault) →
+    first_facets bytes k ≡ Ok content → with_facet_at bytes k (Ok content) ≡ Err fault → k < n →
+    first_facets bytes n ≡ Err fault
 facet_refused bytes k n content fault is one within =
     fault_stays bytes (k + 1) n fault (next_facet bytes k ∙ ap (with_facet_at bytes k) is ∙ one) (omega arith)
 
@@ -46,11 +49,14 @@ same_vertex (Some v) = refl
 same_corner : (vertices : List Vertex) (corner : ℕ) → is_corner_too_large vertices corner ≡ is_far (slice_get (map point_of vertices) corner)
 same_corner vertices corner = same_vertex (slice_get vertices corner) ∙ ap is_far (sym (slice_get-map point_of vertices corner))
 
-same_corners : (vertices : List Vertex) (corners : List ℕ) → list_any (is_corner_too_large vertices) corners ≡ list_any (λ corner. is_far (slice_get (map point_of vertices) corner)) corners
+same_corners : (vertices : List Vertex) (corners : List ℕ) →
+    list_any (is_corner_too_large vertices) corners ≡ list_any
+    (λ corner. is_far (slice_get (map point_of vertices) corner)) corners
 same_corners vertices [] = refl
 same_corners vertices (corner ∷ corners) = rw (same_corner vertices corner, same_corners vertices corners) refl
 
 -- the first triangle that is too large is the first with a point that is far
-pub same_first_far : (vertices : List Vertex) (facets : List Facet) → find (is_facet_too_large vertices) facets ≡ find (is_facet_far (map point_of vertices)) facets
+pub same_first_far : (vertices : List Vertex) (facets : List Facet) →
+    find (is_facet_too_large vertices) facets ≡ find (is_facet_far (map point_of vertices)) facets
 same_first_far vertices [] = refl
 same_first_far vertices (f ∷ facets) = rw (same_corners vertices f.corners, same_first_far vertices facets) refl

@@ -1,12 +1,15 @@
 -- What the lines of an ASCII STL mean.
-use Rattle.std.specs.Prelude.{ℕ, ◌+◌, Bool, ◌||◌, List, [], ◌∷◌, ◌++◌, length, map, Option, None, Some, Result, Ok, Err, if◌then◌else◌, codes}
+use Rattle.std.specs.Prelude.{ℕ, ◌+◌, Bool, ◌||◌, List, [], ◌∷◌, ◌++◌, length, map, Option, None, Some}
+use Rattle.std.specs.Prelude.{Result, Ok, Err, if◌then◌else◌, codes}
 use Rattle.std.specs.Option.{option_map}
 use Rattle.std.specs.Str.{str_eq_ignore_ascii_case}
 use Rattle.ember_number.specs.Fractions.{Fraction}
 use Rattle.ember_number.specs.Texts.{value_of_text}
 use Rattle.ember_surface.specs.Surfaces.{Point, Content, point_of, content_of}
 use Rattle.ember_stl.specs.declared.fault.StlFault.{StlFault}
-use Rattle.ember_stl.specs.declared.fault.StlFault.TheVariants.{VertexOutside, NotThreeVertices, EndsInFacet, UnknownWord, NotANumber, FewCoordinates}
+use Rattle.ember_stl.specs.declared.fault.StlFault.TheVariants.{VertexOutside, NotThreeVertices}
+use Rattle.ember_stl.specs.declared.fault.StlFault.TheVariants.{EndsInFacet, UnknownWord, NotANumber}
+use Rattle.ember_stl.specs.declared.fault.StlFault.TheVariants.{FewCoordinates}
 use Rattle.ember_stl.specs.declared.keyword.Keyword.{Keyword}
 use Rattle.ember_stl.specs.declared.keyword.Keyword.TheVariants as keyword
 use Rattle.ember_stl.specs.declared.ascii.Reader.{Reader}

@@ -1,5 +1,6 @@
 -- The triangles of a file: each has three points of its own, in order.
-use Rattle.std.specs.Prelude.{ℕ, ◌+◌, Bool, not, false, ◌&&◌, List, [], ◌∷◌, ◌++◌, length, Option, None, Some, slice_get, Result, Err, ◌≡◌, ◌⊎◌}
+use Rattle.std.specs.Prelude.{ℕ, ◌+◌, Bool, not, false, ◌&&◌, List, [], ◌∷◌, ◌++◌, length, Option, None}
+use Rattle.std.specs.Prelude.{Some, slice_get, Result, Err, ◌≡◌, ◌⊎◌}
 use Rattle.std.specs.List.{list_any, find}
 use Rattle.ember_number.specs.Fractions.{is_below_limit}
 use Rattle.ember_surface.specs.declared.surface.Facet.{Facet}

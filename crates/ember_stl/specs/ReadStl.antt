@@ -1,5 +1,6 @@
 -- What the bytes of an STL file mean: its triangles, or its first fault.
-use Rattle.std.specs.Prelude.{ℕ, ◌+◌, ◌*◌, Bool, true, false, ◌&&◌, ◌||◌, List, [], ◌∷◌, Option, None, Some, Result, Ok, Err, if◌then◌else◌, ◌==◌, nat_le, length, take, codes}
+use Rattle.std.specs.Prelude.{ℕ, ◌+◌, ◌*◌, Bool, true, false, ◌&&◌, ◌||◌, List, [], ◌∷◌, Option, None}
+use Rattle.std.specs.Prelude.{Some, Result, Ok, Err, if◌then◌else◌, ◌==◌, nat_le, length, take, codes}
 use Rattle.std.specs.Str.{str_eq_ignore_ascii_case}
 use Rattle.ember_surface.specs.declared.surface.Facet.{Facet}
 use Rattle.ember_surface.specs.Surfaces.{Content}

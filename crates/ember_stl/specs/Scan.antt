@@ -1,5 +1,6 @@
 -- The lines and the words of a file, each with the index of its first byte in the file.
-use Rattle.std.specs.Prelude.{ℕ, ◌+◌, ◌^◌, ◌<◌, Bool, ◌||◌, ◌&&◌, List, [], ◌∷◌, if◌then◌else◌, ◌==◌, nat_le, length, Option, None, Some}
+use Rattle.std.specs.Prelude.{ℕ, ◌+◌, ◌^◌, ◌<◌, Bool, ◌||◌, ◌&&◌, List, [], ◌∷◌, if◌then◌else◌, ◌==◌}
+use Rattle.std.specs.Prelude.{nat_le, length, Option, None, Some}
 use Rattle.ember_stl.specs.declared.fault.Span.{Span}
 use Rattle.ember_stl.specs.declared.scan.Text.{Text}
 

@@ -28,4 +28,5 @@ facets_of (suc k) =
 -- reading the bytes gives the triangles with these corners, in order, or refuses them for what no mesh has: no
 -- triangle, or a coordinate of 10^15 or more
 abbrev pub IsReadBack : List WrittenTriangle → List ℕ → Type 0
-IsReadBack ts bytes = (points : List Point) → AreCorners ts points → read_stl_of bytes ≡ checked true (Ok (record { points = points; facets = facets_of (length ts) }))
+IsReadBack ts bytes = (points : List Point) → AreCorners ts points →
+    read_stl_of bytes ≡ checked true (Ok (record { points = points; facets = facets_of (length ts) }))

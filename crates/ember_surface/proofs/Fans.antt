@@ -10,7 +10,8 @@ fan_round_within v place first (p ∷ q ∷ more) h hs =
     let rest : All (λ c. c < v) (q ∷ more) = All-tail (λ c. c < v) p (q ∷ more) hs in
     let third : All (λ c. c < v) (q ∷ []) = All-cons (λ c. c < v) q [] (All-head (λ c. c < v) q more rest) (All-nil (λ c. c < v)) in
     let second : All (λ c. c < v) (p ∷ q ∷ []) = All-cons (λ c. c < v) p (q ∷ []) (All-head (λ c. c < v) p (q ∷ more) hs) third in
-    All-cons (IsWithin v) (record { corners = first ∷ p ∷ q ∷ []; place = place }) (fan_round place first (q ∷ more)) (All-cons (λ c. c < v) first (p ∷ q ∷ []) h second) (fan_round_within v place first (q ∷ more) h rest)
+    All-cons (IsWithin v) (record { corners = first ∷ p ∷ q ∷ []; place = place }) (fan_round place first (q ∷ more))
+    (All-cons (λ c. c < v) first (p ∷ q ∷ []) h second) (fan_round_within v place first (q ∷ more) h rest)
 
 -- triangles of corners below a limit have corners below it
 pub fan_within : (v place : ℕ) (corners : List ℕ) → All (λ c. c < v) corners → All (IsWithin v) (fan place corners)

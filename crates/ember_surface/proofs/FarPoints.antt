@@ -16,7 +16,9 @@ far_vertex (Some v) = refl
 far_corner : (vs : List Vertex) (corner : ℕ) → is_far_point (slice_get (map point_of vs) corner) ≡ is_corner_too_large vs corner
 far_corner vs corner = ap is_far_point (slice_get-map point_of vs corner) ∙ far_vertex (slice_get vs corner)
 
-far_corners : (vs : List Vertex) (corners : List ℕ) → list_any (λ corner. is_far_point (slice_get (map point_of vs) corner)) corners ≡ list_any (is_corner_too_large vs) corners
+far_corners : (vs : List Vertex) (corners : List ℕ) →
+    list_any (λ corner. is_far_point (slice_get (map point_of vs) corner)) corners ≡ list_any (is_corner_too_large vs)
+    corners
 far_corners vs [] = refl
 far_corners vs (corner ∷ corners) = ap₂ (λ a b. a || b) (far_corner vs corner) (far_corners vs corners)
 

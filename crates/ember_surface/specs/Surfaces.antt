@@ -1,5 +1,6 @@
 -- What a mesh file holds: points in their order, and triangles over them with their places
-use Rattle.std.specs.Prelude.{ℕ, ◌<◌, Bool, false, ◌&&◌, not, List, [], ◌∷◌, length, map, All, Option, Some, None, slice_get}
+use Rattle.std.specs.Prelude.{ℕ, ◌<◌, Bool, false, ◌&&◌, not, List, [], ◌∷◌, length, map, All, Option}
+use Rattle.std.specs.Prelude.{Some, None, slice_get}
 use Rattle.std.specs.List.{list_any, find}
 use Rattle.std.specs.Option.{option_map}
 use Rattle.ember_number.specs.Fractions.{Fraction, is_below_limit}

@@ -1,5 +1,6 @@
 -- Entries of lists, and lists in pairs
-use Rattle.std.proofs.Common.{◌≡◌, inl, inr, ℕ, zero, suc, ◌+◌, ◌≤◌, List, [], ◌∷◌, ◌++◌, length, map, Some, slice_get, refl, sym, ap, subst, ◌∙◌, arith, length-append}
+use Rattle.std.proofs.Common.{◌≡◌, inl, inr, ℕ, zero, suc, ◌+◌, ◌≤◌, List, [], ◌∷◌, ◌++◌, length, map, Some, slice_get}
+use Rattle.std.proofs.Common.{refl, sym, ap, subst, ◌∙◌, arith, length-append}
 use Rattle.std.proofs.lemmas.List.{map-append, append-nil}
 use Rattle.std.specs.List.{AllZip, All}
 use Rattle.std.proofs.lemmas.Option.{none-some, same_Some}
@@ -67,7 +68,8 @@ pairs_with R S f (x ∷ xs) [] h = absurd h
 pairs_with R S f (x ∷ xs) (y ∷ ys) h = (f x y h.0, pairs_with R S f xs ys h.1)
 
 -- one pair more
-pub pairs_push : {A B : Type 0} (R : A → B → Type 0) (xs : List A) (ys : List B) (x : A) (y : B) → AllZip R xs ys → R x y → AllZip R (xs ++ x ∷ []) (ys ++ y ∷ [])
+pub pairs_push : {A B : Type 0} (R : A → B → Type 0) (xs : List A) (ys : List B) (x : A) (y : B) → AllZip R xs ys →
+    R x y → AllZip R (xs ++ x ∷ []) (ys ++ y ∷ [])
 pairs_push R [] [] x y h r = (r, tt)
 pairs_push R [] (b ∷ ys) x y h r = absurd h
 pairs_push R (a ∷ xs) [] x y h r = absurd h
@@ -75,5 +77,6 @@ pairs_push R (a ∷ xs) (b ∷ ys) x y h r = (h.0, pairs_push R xs ys x y h.1 r)
 
 -- ---- images
 -- an entry's image has its number
-pub mapped_has : {X Y : Type 0} (f : X → Y) (xs : List X) (n : ℕ) (P : X → Type 0) (Q : Y → Type 0) → ((x : X) → P x → Q (f x)) → HasEntry xs n P → HasEntry (map f xs) n Q
+pub mapped_has : {X Y : Type 0} (f : X → Y) (xs : List X) (n : ℕ) (P : X → Type 0) (Q : Y → Type 0) →
+    ((x : X) → P x → Q (f x)) → HasEntry xs n P → HasEntry (map f xs) n Q
 mapped_has f xs n P Q g h = record { entry = f h.entry; here = mapped_entry f xs n h.entry h.here; holds = g h.entry h.holds }

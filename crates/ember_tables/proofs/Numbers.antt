@@ -1,5 +1,6 @@
 -- Entries without equals
-use Rattle.std.proofs.Common.{◌≡◌, ◌⊎◌, inl, inr, ℕ, ◌<◌, ◌≤◌, Bool, true, false, true≢false, if◌then◌else◌, List, [], ◌∷◌, ◌++◌, map, Some, slice_get, sym, ap, ◌∙◌, arith}
+use Rattle.std.proofs.Common.{◌≡◌, ◌⊎◌, inl, inr, ℕ, ◌<◌, ◌≤◌, Bool, true, false, true≢false, if◌then◌else◌, List, []}
+use Rattle.std.proofs.Common.{◌∷◌, ◌++◌, map, Some, slice_get, sym, ap, ◌∙◌, arith}
 use Rattle.std.specs.Bool.{Decides}
 use Rattle.std.specs.List.{IsDistinct}
 use Rattle.std.proofs.lemmas.Bool.{cases_lt}
@@ -34,8 +35,23 @@ pub same_line_decides : (k l : LineKey) → Decides (same_line k l) (k ≡ l)
 same_line_decides k l =
     Decides-like _
     (λ t. line_from {k = k} {l = l} t.0 t.1.0 t.1.1.0 t.1.1.1.0 t.1.1.1.1.0 t.1.1.1.1.1)
-    (λ s. (ap (λ (m : LineKey). m.dx) s, (ap (λ (m : LineKey). m.dy) s, (ap (λ (m : LineKey). m.dz) s, (ap (λ (m : LineKey). m.mx) s, (ap (λ (m : LineKey). m.my) s, ap (λ (m : LineKey). m.mz) s))))))
-    (Decides-and _ _ (Decides-int_eq k.dx l.dx) (Decides-and _ _ (Decides-int_eq k.dy l.dy) (Decides-and _ _ (Decides-int_eq k.dz l.dz) (Decides-and _ _ (Decides-int_eq k.mx l.mx) (Decides-and _ _ (Decides-int_eq k.my l.my) (Decides-int_eq k.mz l.mz))))))
+    (λ s. (
+      ap (λ (m : LineKey). m.dx) s,
+      (
+        ap (λ (m : LineKey). m.dy) s,
+        (
+          ap (λ (m : LineKey). m.dz) s,
+          (
+            ap (λ (m : LineKey). m.mx) s,
+            (ap (λ (m : LineKey). m.my) s, ap (λ (m : LineKey). m.mz) s),
+          ),
+        ),
+      ),
+    ))
+    (Decides-and _ _ (Decides-int_eq k.dx l.dx) (Decides-and _ _ (Decides-int_eq k.dy l.dy)
+    (Decides-and _ _ (Decides-int_eq k.dz l.dz)
+    (Decides-and _ _ (Decides-int_eq k.mx l.mx)
+    (Decides-and _ _ (Decides-int_eq k.my l.my) (Decides-int_eq k.mz l.mz))))))
 
 spot_from : {u v : Spot} → u.x ≡ v.x → u.y ≡ v.y → u.z ≡ v.z → u.w ≡ v.w → u ≡ v
 spot_from a b c d = λ i. record { x = a i; y = b i; z = c i; w = d i }

@@ -17,7 +17,8 @@ use Rattle.ember_tables.specs.Drafts.{planes_in, IsDraftBefore}
 use Rattle.ember_tables.proofs.Lists.{Extends, entry_stays, pairs_with, pairs_push}
 
 -- a segment keeps its meaning as tables grow
-stays : (ps qs : List Plane) (ls ms : List LineKey) (cs ds : List SpacePoint) → Extends ps qs → Extends ls ms → Extends cs ds → (edge : FaceEdge) (s : Segment) → IsSegmentOf ps ls cs edge s → IsSegmentOf qs ms ds edge s
+stays : (ps qs : List Plane) (ls ms : List LineKey) (cs ds : List SpacePoint) → Extends ps qs → Extends ls ms →
+    Extends cs ds → (edge : FaceEdge) (s : Segment) → IsSegmentOf ps ls cs edge s → IsSegmentOf qs ms ds edge s
 stays ps qs ls ms cs ds p l c edge s h =
     record {
       plane = entry_stays ps qs s.plane (IsPlaneKey edge.support) p h.plane;
@@ -27,7 +28,10 @@ stays ps qs ls ms cs ds p l c edge s h =
     }
 
 -- a draft stays one as its tables grow
-pub grown : (all rest : List FaceEdge) (d e : Draft) → IsDistinct same_entry e.planes.keys → IsDistinct same_line e.lines.keys → IsDistinct same_corner e.corners.keys → All IsValidPlane (planes_in e) → Extends (planes_in d) (planes_in e) → Extends d.lines.keys e.lines.keys → Extends d.corners.keys e.corners.keys → e.segments.items ≡ d.segments.items → IsDraftBefore all rest d → IsDraftBefore all rest e
+pub grown : (all rest : List FaceEdge) (d e : Draft) → IsDistinct same_entry e.planes.keys →
+    IsDistinct same_line e.lines.keys → IsDistinct same_corner e.corners.keys → All IsValidPlane (planes_in e) →
+    Extends (planes_in d) (planes_in e) → Extends d.lines.keys e.lines.keys → Extends d.corners.keys e.corners.keys →
+    e.segments.items ≡ d.segments.items → IsDraftBefore all rest d → IsDraftBefore all rest e
 grown all rest d e i j k v p l c s h =
     record {
       done = h.done;
@@ -37,12 +41,18 @@ grown all rest d e i j k v p l c s h =
         lines = j;
         corners = k;
         valid = v;
-        segments = subst (AllZip (IsSegmentOf (planes_in e) e.lines.keys e.corners.keys) h.done) (sym s) (pairs_with (IsSegmentOf (planes_in d) d.lines.keys d.corners.keys) (IsSegmentOf (planes_in e) e.lines.keys e.corners.keys) (stays (planes_in d) (planes_in e) d.lines.keys e.lines.keys d.corners.keys e.corners.keys p l c) h.done d.segments.items h.draft.segments);
+        segments = subst (AllZip (IsSegmentOf (planes_in e) e.lines.keys e.corners.keys) h.done) (sym s)
+            (pairs_with (IsSegmentOf (planes_in d) d.lines.keys d.corners.keys)
+            (IsSegmentOf (planes_in e) e.lines.keys e.corners.keys)
+            (stays (planes_in d) (planes_in e) d.lines.keys e.lines.keys d.corners.keys e.corners.keys p l c) h.done
+            d.segments.items h.draft.segments);
       };
     }
 
 -- with a segment more it is that of an edge more
-pub edge_put : (all rest : List FaceEdge) (edge : FaceEdge) (d e : Draft) (s : Segment) → e ≡ record d { segments = e.segments } → IsSegmentOf (planes_in d) d.lines.keys d.corners.keys edge s → e.segments.items ≡ d.segments.items ++ s ∷ [] → IsDraftBefore all (edge ∷ rest) d → IsDraftBefore all rest e
+pub edge_put : (all rest : List FaceEdge) (edge : FaceEdge) (d e : Draft) (s : Segment) →
+    e ≡ record d { segments = e.segments } → IsSegmentOf (planes_in d) d.lines.keys d.corners.keys edge s →
+    e.segments.items ≡ d.segments.items ++ s ∷ [] → IsDraftBefore all (edge ∷ rest) d → IsDraftBefore all rest e
 edge_put all rest edge d e s only is t h = subst (λ (x : Draft). IsDraftBefore all rest x) (sym only) put
   where
     put : IsDraftBefore all rest (record d { segments = e.segments })
@@ -55,6 +65,8 @@ edge_put all rest edge d e s only is t h = subst (λ (x : Draft). IsDraftBefore 
             lines = h.draft.lines;
             corners = h.draft.corners;
             valid = h.draft.valid;
-            segments = subst (AllZip (IsSegmentOf (planes_in d) d.lines.keys d.corners.keys) (h.done ++ edge ∷ [])) (sym t) (pairs_push (IsSegmentOf (planes_in d) d.lines.keys d.corners.keys) h.done d.segments.items edge s h.draft.segments is);
+            segments = subst (AllZip (IsSegmentOf (planes_in d) d.lines.keys d.corners.keys) (h.done ++ edge ∷ []))
+                (sym t) (pairs_push (IsSegmentOf (planes_in d) d.lines.keys d.corners.keys) h.done d.segments.items edge s
+                h.draft.segments is);
           };
         }

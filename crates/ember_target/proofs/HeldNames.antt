@@ -1,5 +1,7 @@
 -- What the names of a target hold, over several calls.
-use Rattle.std.proofs.Common.{◌≡◌, ℕ, ◌+◌, ◌<◌, List, [], ◌++◌, length, Some, None, IfSome, Bool, true, false, refl, ◌∙◌, ap, sym, inl, inr, ◌⊎◌, arith, append_assoc, Ok, Err, Result, OnOk, OnErr, length-append}
+use Rattle.std.proofs.Common.{◌≡◌, ℕ, ◌+◌, ◌<◌, List, [], ◌++◌, length, Some, None, IfSome, Bool, true, false, refl}
+use Rattle.std.proofs.Common.{◌∙◌, ap, sym, inl, inr, ◌⊎◌, arith, append_assoc, Ok, Err, Result, OnOk, OnErr}
+use Rattle.std.proofs.Common.{length-append}
 use Rattle.std.specs.Prelude.{decimal}
 use Rattle.std.specs.Bool.{Decides}
 use Rattle.std.specs.Str.{bytes_eq}
@@ -49,7 +51,8 @@ Puts-twice (Some f) (Some g) (Some h) name first second p q = (q.0, λ other n. 
 pub Puts-undone : (a b : Option Names) (name : List ℕ) (value : Option (List ℕ)) → value_at a name ≡ value → Puts a b name value → HoldsSame a b
 Puts-undone None b name value e p = tt
 Puts-undone (Some f) None name value e p = absurd p
-Puts-undone (Some f) (Some g) name value e p = λ other. elim (names_are_decided other name) [ inl same ↦ rw same (p.0 ∙ sym e) | inr differs ↦ p.1 other differs ]
+Puts-undone (Some f) (Some g) name value e p = λ other. elim (names_are_decided other name)
+    [ inl same ↦ rw same (p.0 ∙ sym e) | inr differs ↦ p.1 other differs ]
 
 append_known-nothing : (value : Option (List ℕ)) → append_known value [] ≡ value
 append_known-nothing None = refl
@@ -68,7 +71,8 @@ Puts-nothing None name = tt
 Puts-nothing (Some f) name = (sym (append_known-nothing (f name)), λ other n. refl)
 
 -- a file that takes bytes, and then more, takes both
-pub Puts-appended : (a b c : Option Names) (name xs ys : List ℕ) → Puts a b name (append_known (value_at a name) xs) → Puts b c name (append_known (value_at b name) ys)
+pub Puts-appended : (a b c : Option Names) (name xs ys : List ℕ) → Puts a b name (append_known (value_at a name) xs) →
+    Puts b c name (append_known (value_at b name) ys)
     → Puts a c name (append_known (value_at a name) (xs ++ ys))
 Puts-appended None b c name xs ys p q = tt
 Puts-appended (Some f) None c name xs ys p q = absurd p
@@ -77,7 +81,8 @@ Puts-appended (Some f) (Some g) (Some h) name xs ys p q =
     (q.0 ∙ ap (λ w. append_known w ys) p.0 ∙ append_known-twice (f name) xs ys, λ other n. q.1 other n ∙ p.1 other n)
 
 -- a file that was given a value, and then another name, holds the value there
-pub Moves-after_Puts : (a b c : Option Names) (from to : List ℕ) (value : Option (List ℕ)) → Puts a b from value → Moves b c from to (value_at b from) → Moves a c from to value
+pub Moves-after_Puts : (a b c : Option Names) (from to : List ℕ) (value : Option (List ℕ)) → Puts a b from value →
+    Moves b c from to (value_at b from) → Moves a c from to value
 Moves-after_Puts None b c from to value p q = tt
 Moves-after_Puts (Some f) None c from to value p q = absurd p
 Moves-after_Puts (Some f) (Some g) None from to value p q = absurd q
@@ -108,7 +113,8 @@ HoldsOld-same (Some f) None name p = absurd p
 HoldsOld-same (Some f) (Some g) name p = (p name, λ other. inl (p other))
 
 -- a new file beside a name may be left
-pub HoldsOld-left : (a b : Option Names) (name path : List ℕ) (value : Option (List ℕ)) → IsBeside name path → value_at a path ≡ None → Puts a b path value → HoldsOld a b name
+pub HoldsOld-left : (a b : Option Names) (name path : List ℕ) (value : Option (List ℕ)) → IsBeside name path →
+    value_at a path ≡ None → Puts a b path value → HoldsOld a b name
 HoldsOld-left None b name path value i e p = tt
 HoldsOld-left (Some f) None name path value i e p = absurd p
 HoldsOld-left (Some f) (Some g) name path value i e p = (
@@ -127,12 +133,14 @@ Grows-twice None a b c xs ys p q = tt
 Grows-twice (Some path) a b c xs ys p q = Puts-appended a b c path xs ys p q
 
 -- a new file that took bytes before a call that changed nothing
-pub Grows-before_same : (begun : Option (List ℕ)) (a b c : Option Names) (xs : List ℕ) → Grows begun a b xs → HoldsSame b c → IfSome begun (λ path. (value : Option (List ℕ)) × Puts a c path value)
+pub Grows-before_same : (begun : Option (List ℕ)) (a b c : Option Names) (xs : List ℕ) → Grows begun a b xs →
+    HoldsSame b c → IfSome begun (λ path. (value : Option (List ℕ)) × Puts a c path value)
 Grows-before_same None a b c xs p q = tt
 Grows-before_same (Some path) a b c xs p q = (append_known (value_at a path) xs, Puts-before_same a b c path (append_known (value_at a path) xs) p q)
 
 -- a new file that took bytes, and then a name
-pub Grows-kept : (begun : Option (List ℕ)) (a b c : Option Names) (name xs : List ℕ) → Grows begun a b xs → IfSome begun (λ path. Moves b c path name (value_at b path))
+pub Grows-kept : (begun : Option (List ℕ)) (a b c : Option Names) (name xs : List ℕ) → Grows begun a b xs →
+    IfSome begun (λ path. Moves b c path name (value_at b path))
     → IfSome begun (λ path. Moves a c path name (append_known (value_at a path) xs))
 Grows-kept None a b c name xs p q = tt
 Grows-kept (Some path) a b c name xs p q = Moves-after_Puts a b c path name (append_known (value_at a path) xs) p q
@@ -149,13 +157,15 @@ IsTaken-before_same (Some f) None name p t = absurd p
 IsTaken-before_same (Some f) (Some g) name p t = rw (sym (p name)) t
 
 -- a new file is removed, or it may be left
-pub HoldsOld-discarded : {T E : Type 0} (r : Result T E) (a b c : Option Names) (name path : List ℕ) (value : Option (List ℕ)) → IsBeside name path → value_at a path ≡ None → Puts a b path value
+pub HoldsOld-discarded : {T E : Type 0} (r : Result T E) (a b c : Option Names) (name path : List ℕ)
+    (value : Option (List ℕ)) → IsBeside name path → value_at a path ≡ None → Puts a b path value
     → OnOk r (Puts b c path None) → OnErr r (HoldsSame b c) → HoldsOld a c name
 HoldsOld-discarded (Ok x) a b c name path value i e p q s = HoldsOld-same a c name (Puts-undone a c path None e (Puts-twice a b c path value None p q))
 HoldsOld-discarded (Err y) a b c name path value i e p q s = HoldsOld-left a c name path value i e (Puts-before_same a b c path value p s)
 
 -- where the names beside are taken up to a number, and this one is, they are up to the next number
-pub IsTaken-next : (a b : Option Names) (name path : List ℕ) (n : ℕ) → ((k : ℕ) → k < n → IsTaken a (beside name k)) → HoldsSame a b → path ≡ beside name n → IsTaken b path
+pub IsTaken-next : (a b : Option Names) (name path : List ℕ) (n : ℕ) → ((k : ℕ) → k < n → IsTaken a (beside name k)) →
+    HoldsSame a b → path ≡ beside name n → IsTaken b path
     → (k : ℕ) → k < n + 1 → IsTaken a (beside name k)
 IsTaken-next a b name path n before p e t k h =
     elim (≡-or-< k n h) [ inl same ↦ rw same (IsTaken-before_same a b (beside name n) p (rw (sym e) t)) | inr less ↦ before k less ]

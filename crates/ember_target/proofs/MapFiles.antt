@@ -1,5 +1,6 @@
 -- Files in a map, and what their names hold.
-use Rattle.std.proofs.Common.{◌≡◌, ℕ, List, [], ◌∷◌, Some, Bool, true, false, refl, ◌∙◌, ap, sym, subst, ◌++◌, Ok, Err, Result, is_ok, is_err, if◌then◌else◌, Vec, String, string_bytes, Global}
+use Rattle.std.proofs.Common.{◌≡◌, ℕ, List, [], ◌∷◌, Some, Bool, true, false, refl, ◌∙◌, ap, sym, subst, ◌++◌, Ok, Err}
+use Rattle.std.proofs.Common.{Result, is_ok, is_err, if◌then◌else◌, Vec, String, string_bytes, Global}
 use Rattle.std.specs.Option.{option_map}
 use Rattle.std.specs.Str.{bytes_eq}
 use Rattle.std.specs.String.{string_cmp}
@@ -31,10 +32,12 @@ first_of-entries : (es : List (String Global × Vec ℕ Global)) (name : List �
     → first_of (named es) name ≡ option_map (λ w. w.items) (lookup (is_at (λ k. slice_cmp nat_cmp name (string_bytes k))) es)
 first_of-entries [] name = refl
 first_of-entries (e ∷ es) name =
-    rw (is_eq-slice_cmp name (string_bytes e.0) ∙ bytes_eq-swap name (string_bytes e.0)) (first (bytes_eq (string_bytes e.0) name) e.1 _ _ (first_of-entries es name))
+    rw (is_eq-slice_cmp name (string_bytes e.0) ∙ bytes_eq-swap name (string_bytes e.0))
+    (first (bytes_eq (string_bytes e.0) name) e.1 _ _ (first_of-entries es name))
 
 -- a name holds the bytes that the map has for it
-pub first_of-named : (m : BTreeMap (String Global) (Vec ℕ Global)) (name : List ℕ) → first_of (named m.entries) name ≡ option_map (λ w. w.items) (get_by_text m name)
+pub first_of-named : (m : BTreeMap (String Global) (Vec ℕ Global)) (name : List ℕ) →
+    first_of (named m.entries) name ≡ option_map (λ w. w.items) (get_by_text m name)
 first_of-named m name = first_of-entries m.entries name
 
 -- a name at which the map is updated holds its new value
@@ -49,20 +52,25 @@ Puts-updated m n name value u = (
 )
 
 -- a file that the map has is what its name holds
-pub value_at-file : (m : BTreeMap (String Global) (Vec ℕ Global)) (name : List ℕ) (file : Vec ℕ Global) → Some file ≡ get_by_text m name → value_at (held_by m) name ≡ Some file.items
+pub value_at-file : (m : BTreeMap (String Global) (Vec ℕ Global)) (name : List ℕ) (file : Vec ℕ Global) →
+    Some file ≡ get_by_text m name → value_at (held_by m) name ≡ Some file.items
 value_at-file m name file e = first_of-named m name ∙ ap (option_map (λ w. w.items)) (sym e)
 
 -- a file that took bytes at its end
-pub Puts-extended : {T E : Type 0} (r : Result T E) (m n : BTreeMap (String Global) (Vec ℕ Global)) (name bytes : List ℕ) (old new : Vec ℕ Global) → Some old ≡ get_by_text m name
-    → UpdatesBy string_cmp (λ k. slice_cmp nat_cmp name (string_bytes k)) m n (Some new) → new.items ≡ (if is_ok r then old.items ++ bytes else old.items) → is_err r ≡ false
+pub Puts-extended : {T E : Type 0} (r : Result T E) (m n : BTreeMap (String Global) (Vec ℕ Global))
+    (name bytes : List ℕ) (old new : Vec ℕ Global) → Some old ≡ get_by_text m name
+    → UpdatesBy string_cmp (λ k. slice_cmp nat_cmp name (string_bytes k)) m n (Some new) →
+    new.items ≡ (if is_ok r then old.items ++ bytes else old.items) → is_err r ≡ false
     → Puts (held_by m) (held_by n) name (append_known (value_at (held_by m) name) bytes)
 Puts-extended (Ok x) m n name bytes old new e u i f =
     rw (value_at-file m name old e) (subst (λ w. Puts (held_by m) (held_by n) name (Some w)) i (Puts-updated m n name (Some new) u))
 Puts-extended (Err y) m n name bytes old new e u i f = absurd (cc)
 
 -- a file that could not take bytes
-pub HoldsSame-extended : {T E : Type 0} (r : Result T E) (m n : BTreeMap (String Global) (Vec ℕ Global)) (name bytes : List ℕ) (old new : Vec ℕ Global) → Some old ≡ get_by_text m name
-    → UpdatesBy string_cmp (λ k. slice_cmp nat_cmp name (string_bytes k)) m n (Some new) → new.items ≡ (if is_ok r then old.items ++ bytes else old.items) → is_err r ≡ true
+pub HoldsSame-extended : {T E : Type 0} (r : Result T E) (m n : BTreeMap (String Global) (Vec ℕ Global))
+    (name bytes : List ℕ) (old new : Vec ℕ Global) → Some old ≡ get_by_text m name
+    → UpdatesBy string_cmp (λ k. slice_cmp nat_cmp name (string_bytes k)) m n (Some new) →
+    new.items ≡ (if is_ok r then old.items ++ bytes else old.items) → is_err r ≡ true
     → HoldsSame (held_by m) (held_by n)
 HoldsSame-extended (Ok x) m n name bytes old new e u i f = absurd (cc)
 HoldsSame-extended (Err y) m n name bytes old new e u i f =

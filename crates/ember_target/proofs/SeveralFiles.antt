@@ -41,7 +41,8 @@ files_before_and_behind files i file h e =
 pub files_with_one_more : (files : List NamedFile) (i : ℕ) (file : NamedFile) → i < length files → file ≡ get_or files i file
     → names_and_bytes (take (i + 1) files) ≡ names_and_bytes (take i files) ++ (string_bytes file.name, file.bytes.items) ∷ []
 files_with_one_more files i file h e =
-    ap names_and_bytes (take_more files i file h) ∙ map-append _ (take i files) (get_or files i file ∷ []) ∙ ap (λ found. names_and_bytes (take i files) ++ names_and_bytes (found ∷ [])) (sym e)
+    ap names_and_bytes (take_more files i file h) ∙ map-append _ (take i files) (get_or files i file ∷ [])
+    ∙ ap (λ found. names_and_bytes (take i files) ++ names_and_bytes (found ∷ [])) (sym e)
 
 -- a count that has risen twice since a later call has done so since an earlier one
 pub risen_twice_since : {P : Type 0} (before between now : ℕ) → before ≤ between → P ⊎ HasRisenTwice between now → P ⊎ HasRisenTwice before now
@@ -55,13 +56,15 @@ cause_since held name before between now WriteFault h fault taken = omega (arith
 cause_since held name before between now NamesTaken h fault taken = taken refl
 cause_since held name before between now OutOfMemory h fault taken = tt
 
-cause_earlier : (held : Option Names) (name : List ℕ) (before between now : ℕ) (why : WriteEnd) → before ≤ between → IsWriteCause held name between now why → IsWriteCause held name before now why
+cause_earlier : (held : Option Names) (name : List ℕ) (before between now : ℕ) (why : WriteEnd) → before ≤ between →
+    IsWriteCause held name between now why → IsWriteCause held name before now why
 cause_earlier held name before between now WriteFault h cause = omega (arith, h, cause)
 cause_earlier held name before between now NamesTaken h cause = cause
 cause_earlier held name before between now OutOfMemory h cause = tt
 
 -- a call that changed nothing, and then files of which one wasn't written
-pub PutsBefore-after_same : (files : List NamedBytes) (name : List ℕ) (why : WriteEnd) (a b c : Option Names) (before between now : ℕ) → HoldsSame a b → before ≤ between
+pub PutsBefore-after_same : (files : List NamedBytes) (name : List ℕ) (why : WriteEnd) (a b c : Option Names)
+    (before between now : ℕ) → HoldsSame a b → before ≤ between
     → PutsBefore files name why b c between now → PutsBefore files name why a c before now
 PutsBefore-after_same files name why a b c before between now same later h =
     record {

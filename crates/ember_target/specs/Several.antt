@@ -27,7 +27,8 @@ IsWriteCause held name before now WriteFault = HasRisen before now
 IsWriteCause held name before now NamesTaken = (number : ℕ) → number < 100 → IsTaken held (beside name number)
 IsWriteCause held name before now OutOfMemory = ⊤
 
--- the files before one of this name are put, and that one isn't, for this reason: its name holds what it held then, and so
+-- the files before one of this name are put, and that one isn't, for this reason: its name holds what it
+-- held then, and so
 -- does each other, but a new file may be left beside it, if two calls failed
 pub record PutsBefore (files : List NamedBytes) (name : List ℕ) (why : WriteEnd) (old new : Option Names)
     (before now : ℕ) : Type 0 where

@@ -51,12 +51,20 @@ written_edges (e ∷ es) (m ∷ ms) p v =
     }
 
 -- a face has a text, and the face in it, if it has an outline as a face file has it
-in_text : (f g : Face) (es : List RingEdge) → IsValidPlane f.support → IsOutline f es → AllByRecursion IsWrittenEdge es → 3 ≤ length es → g ≡ face_of_edges f.support es → IsFaceInText f g
+in_text : (f g : Face) (es : List RingEdge) → IsValidPlane f.support → IsOutline f es →
+    AllByRecursion IsWrittenEdge es → 3 ≤ length es → g ≡ face_of_edges f.support es → IsFaceInText f g
 in_text f g es v o w three e =
     record {
       text = face_lines f.support es;
       is_text = record {
-        text_is = record { outline = es; is_outline = o; lowest = All-from_recursion (λ (e : RingEdge). IsLowest e.start) es (each_map IsWrittenEdge (λ (e : RingEdge). IsLowest e.start) es (λ e h. h.start.lowest) w); is = refl };
+        text_is = record {
+          outline = es;
+          is_outline = o;
+          lowest =
+              All-from_recursion (λ (e : RingEdge). IsLowest e.start) es
+              (each_map IsWrittenEdge (λ (e : RingEdge). IsLowest e.start) es (λ e h. h.start.lowest) w);
+          is = refl;
+        };
         written = record { support = v; edges = All-from_recursion IsWrittenEdge es w; at_least_three = three };
       };
       is = e;
@@ -67,7 +75,9 @@ planes_back : (end : Spot) (es : List RingEdge) → planes_of (turn_back end es)
 planes_back end [] = refl
 planes_back end (e ∷ []) = refl
 planes_back end (e ∷ d ∷ es) =
-    map-append (λ (e : RingEdge). e.plane) (turn_back end (d ∷ es)) (from_end e d.start ∷ []) ∙ ap (λ (ps : List Plane). ps ++ e.plane ∷ []) (planes_back end (d ∷ es)) ∙ sym (reverse-append (e.plane ∷ []) (planes_of (d ∷ es)))
+    map-append (λ (e : RingEdge). e.plane) (turn_back end (d ∷ es)) (from_end e d.start ∷ [])
+    ∙ ap (λ (ps : List Plane). ps ++ e.plane ∷ []) (planes_back end (d ∷ es))
+    ∙ sym (reverse-append (e.plane ∷ []) (planes_of (d ∷ es)))
 
 written_back : (end : Spot) (es : List RingEdge) → IsWrittenCorner end → AllByRecursion IsWrittenEdge es → AllByRecursion IsWrittenEdge (turn_back end es)
 written_back end [] c w = tt
@@ -91,7 +101,9 @@ written_turned (e ∷ d ∷ es) w =
     (record { plane = w.0.plane; start = w.1.0.start }, written_back e.start (d ∷ es) w.0.start w.1)
 
 -- ---- the face of a ring
-module _ (f : Face) (n : Plane) (es : List Plane) (ms : List Meet) (support : n ≡ f.support) (outline : IsOutline f (ring_edges es ms)) (paired : length ms ≡ length es) (three : 3 ≤ length es) (valid : All IsValidPlane es) where
+module _ (f : Face) (n : Plane) (es : List Plane) (ms : List Meet) (support : n ≡ f.support)
+    (outline : IsOutline f (ring_edges es ms)) (paired : length ms ≡ length es) (three : 3 ≤ length es)
+    (valid : All IsValidPlane es) where
   found : HasWrittenEdges es ms
   found = written_edges es ms paired (each_of IsValidPlane es valid)
 
@@ -104,18 +116,32 @@ module _ (f : Face) (n : Plane) (es : List Plane) (ms : List Meet) (support : n 
   -- the planes of a ring's outline, in order
   pub ring_face_in_text : (planes : List Plane) → IsValidPlane n → planes ≡ es → IsFaceInText f (record { support = n; edges = planes })
   ring_face_in_text planes v e =
-      in_text f (record { support = n; edges = planes }) found.edges (subst IsValidPlane support v) found_outline found.written (omega (arith, long, three)) (λ i. record { support = support i; edges = (e ∙ sym found.planes) i })
+      in_text f (record { support = n; edges = planes }) found.edges (subst IsValidPlane support v) found_outline
+      found.written (omega (arith, long, three))
+      (λ i. record { support = support i; edges = (e ∙ sym found.planes) i })
 
   -- the face with the opposite front has the planes in the turned order
-  pub flipped_in_text : (m : Plane) (planes : List Plane) → m ≡ opposite n → IsValidPlane m → planes ≡ turned_planes es → IsFaceInText (flipped_face f) (record { support = m; edges = planes })
+  pub flipped_in_text : (m : Plane) (planes : List Plane) → m ≡ opposite n → IsValidPlane m →
+      planes ≡ turned_planes es → IsFaceInText (flipped_face f) (record { support = m; edges = planes })
   flipped_in_text m planes turned_over v e =
       let front : m ≡ opposite f.support = turned_over ∙ ap opposite support in
-      in_text (flipped_face f) (record { support = m; edges = planes }) (turned found.edges) (subst IsValidPlane front v) (outline_of_turned f found.edges (omega (arith, long, three)) found_outline) (written_turned found.edges found.written) (omega (arith, length-turned found.edges, long, three)) (λ i. record { support = front i; edges = (e ∙ ap turned_planes (sym found.planes) ∙ sym (planes_turned found.edges)) i })
+      in_text (flipped_face f) (record { support = m; edges = planes }) (turned found.edges)
+      (subst IsValidPlane front v) (outline_of_turned f found.edges (omega (arith, long, three)) found_outline)
+      (written_turned found.edges found.written) (omega (arith, length-turned found.edges, long, three))
+      (λ i. record {
+        support = front i;
+        edges =
+            (e ∙ ap turned_planes (sym found.planes) ∙ sym (planes_turned found.edges)) i;
+      })
 
 -- ---- region by region
 -- one more region's face
-pub one_more_face : (ks : List Kept) (i : ℕ) (d : Kept) (gs : List Face) (g : Face) {hs : List Face} → i < length ks → AreFacesInTexts (map written_face (take i ks)) gs → IsFaceInText (written_face (get_or ks i d)) g → hs ≡ gs ++ g ∷ [] → AreFacesInTexts (map written_face (take (i + 1) ks)) hs
+pub one_more_face : (ks : List Kept) (i : ℕ) (d : Kept) (gs : List Face) (g : Face) {hs : List Face} → i < length ks →
+    AreFacesInTexts (map written_face (take i ks)) gs → IsFaceInText (written_face (get_or ks i d)) g →
+    hs ≡ gs ++ g ∷ [] → AreFacesInTexts (map written_face (take (i + 1) ks)) hs
 one_more_face ks i d gs g {hs} l so_far one e =
     let k = get_or ks i d in
-    let f : map written_face (take (i + 1) ks) ≡ map written_face (take i ks) ++ written_face k ∷ [] = ap (λ (xs : List Kept). map written_face xs) (take_more ks i d l) ∙ map-append written_face (take i ks) (k ∷ []) in
+    let f : map written_face (take (i + 1) ks) ≡ map written_face (take i ks) ++ written_face k ∷ [] =
+    ap (λ (xs : List Kept). map written_face xs) (take_more ks i d l)
+    ∙ map-append written_face (take i ks) (k ∷ []) in
     rw (e, f) (AllZip-push IsFaceInText (map written_face (take i ks)) gs (written_face k) g so_far one)

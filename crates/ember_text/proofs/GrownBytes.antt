@@ -1,5 +1,7 @@
 -- Bytes that have grown: a line from its end to its start, and a text by those of the members of a list.
-use Rattle.std.proofs.Common.{◌≡◌, sym, ap, subst, ◌∙◌, arith, ℕ, ◌+◌, ◌-◌, ◌<◌, ◌≤◌, if◌then◌else◌, List, [], ◌∷◌, ◌++◌, append_assoc, length, take, drop, get_or, slice_set, Result, Ok, Err, is_ok, OnOk, OnErr}
+use Rattle.std.proofs.Common.{◌≡◌, sym, ap, subst, ◌∙◌, arith, ℕ, ◌+◌, ◌-◌, ◌<◌, ◌≤◌, if◌then◌else◌, List, [], ◌∷◌}
+use Rattle.std.proofs.Common.{◌++◌, append_assoc, length, take, drop, get_or, slice_set, Result, Ok, Err, is_ok, OnOk}
+use Rattle.std.proofs.Common.{OnErr}
 use Rattle.std.proofs.lemmas.List.{append-nil, take_more, take_all, drop-set, length-set, length-drop}
 use Rattle.ember_algebra.specs.Relations.{Each, none}
 use Rattle.ember_algebra.proofs.Relations.{each_push}
@@ -22,11 +24,16 @@ on_ok_if ok err (Ok v) e f = e ∙ f
 on_ok_if ok err (Err e) d f = tt
 
 -- a number is written before those from a place on
-pub written_before : (xs : List ℕ) (at y n : ℕ) {rest : List ℕ} → 1 ≤ at → at ≤ n → length xs ≡ n → drop at xs ≡ rest → take (n - (at - 1)) (drop (at - 1) (slice_set xs (at - 1) y)) ≡ y ∷ rest
+pub written_before : (xs : List ℕ) (at y n : ℕ) {rest : List ℕ} → 1 ≤ at → at ≤ n → length xs ≡ n → drop at xs ≡ rest →
+    take (n - (at - 1)) (drop (at - 1) (slice_set xs (at - 1) y)) ≡ y ∷ rest
 written_before xs at y n a b l e =
     let next : at - 1 + 1 ≡ at = omega (arith, a) in
     let long = length-drop (at - 1) (slice_set xs (at - 1) y) in let same = length-set xs (at - 1) y in
-    rw (take_all (n - (at - 1)) (drop (at - 1) (slice_set xs (at - 1) y)) (omega (arith, long, same, l)), drop-set xs (at - 1) y (omega (arith, a, b, l)), next) (ap (λ ys. y ∷ ys) e)
+    rw (
+      take_all (n - (at - 1)) (drop (at - 1) (slice_set xs (at - 1) y)) (omega (arith, long, same, l)),
+      drop-set xs (at - 1) y (omega (arith, a, b, l)),
+      next,
+    ) (ap (λ ys. y ∷ ys) e)
 
 -- ---- and some more
 pub extends_by : {P : List ℕ → Type 0} (old : List ℕ) {mid new : List ℕ} → HasGrown P old mid → new ≡ mid → Extends old new
@@ -37,11 +44,14 @@ pub grown_none : {X : Type 0} {R : X → List ℕ → Type 0} (old : List ℕ) �
 grown_none old = record { more = []; is = sym (append-nil old); holds = none }
 
 -- one more member, with the text that it adds
-pub grown_push : {X : Type 0} {R : X → List ℕ → Type 0} (xs : List X) (x : X) (old : List ℕ) {mid new : List ℕ} → HasGrown (Each R xs) old mid → HasGrown (R x) mid new → HasGrown (Each R (xs ++ x ∷ [])) old new
+pub grown_push : {X : Type 0} {R : X → List ℕ → Type 0} (xs : List X) (x : X) (old : List ℕ) {mid new : List ℕ} →
+    HasGrown (Each R xs) old mid → HasGrown (R x) mid new → HasGrown (Each R (xs ++ x ∷ [])) old new
 grown_push xs x old a b =
     record { more = a.more ++ b.more; is = b.is ∙ ap (λ t. t ++ b.more) a.is ∙ append_assoc old a.more b.more; holds = each_push a.holds b.holds }
 
 -- one more member's text
-pub grown_take : {X : Type 0} {R : X → List ℕ → Type 0} (xs : List X) (i : ℕ) (d : X) (old : List ℕ) {mid new : List ℕ} → i < length xs → HasGrown (Each R (take i xs)) old mid → HasGrown (R (get_or xs i d)) mid new → HasGrown (Each R (take (i + 1) xs)) old new
+pub grown_take : {X : Type 0} {R : X → List ℕ → Type 0} (xs : List X) (i : ℕ) (d : X) (old : List ℕ) {mid new : List ℕ}
+    → i < length xs → HasGrown (Each R (take i xs)) old mid → HasGrown (R (get_or xs i d)) mid new →
+    HasGrown (Each R (take (i + 1) xs)) old new
 grown_take {R = R} xs i d old {mid} {new} l a b =
     subst (λ ys. HasGrown (Each R ys) old new) (sym (take_more xs i d l)) (grown_push (take i xs) (get_or xs i d) old a b)

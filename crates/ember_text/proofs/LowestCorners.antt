@@ -37,7 +37,11 @@ divisor_of u v =
     let first = gcd_of (unsigned_abs u.w) (unsigned_abs u.x) in
     let second = gcd_of first.divisor (unsigned_abs u.y) in
     let third = gcd_of second.divisor (unsigned_abs u.z) in
-    record { divisor = pos third.divisor; is = greatest_divisor u v _ _ _ _ first.divisor second.divisor third.divisor refl refl refl refl first.is second.is third.is }
+    record {
+      divisor = pos third.divisor;
+      is = greatest_divisor u v _ _ _ _ first.divisor second.divisor third.divisor
+          refl refl refl refl first.is second.is third.is;
+    }
 
 -- ---- the point divided by it
 divided : ℤ → ℤ → ℤ
@@ -57,6 +61,22 @@ unfolding divided
 lowest_terms u v =
     let d = (divisor_of u v).divisor in let g = (divisor_of u v).is in
     let lowest : Spot = record { x = divided u.x d; y = divided u.y d; z = divided u.z d; w = divided u.w d } in
-    let q : IsQuotient u lowest d = record { x = stored-quotient u.x d _ v.x g.small g.positive g.x refl; y = stored-quotient u.y d _ v.y g.small g.positive g.y refl; z = stored-quotient u.z d _ v.z g.small g.positive g.z refl; w = stored-quotient u.w d _ (small_within (omega arith) v.w) g.small g.positive g.w refl } in
+    let q : IsQuotient u lowest d = record {
+      x = stored-quotient u.x d _ v.x g.small g.positive g.x refl;
+      y =
+          stored-quotient u.y d _ v.y g.small g.positive g.y refl;
+      z =
+          stored-quotient u.z d _ v.z g.small g.positive g.z refl;
+      w =
+          stored-quotient u.w d _ (small_within (omega arith) v.w) g.small g.positive g.w refl;
+    } in
     let valid : IsValidMeet lowest = quotient_valid v g.positive q in
-    record { lowest = lowest; is = record { same = record { same = quotient_same {d = d} q; from = v.weight; to = valid.weight }; corner = record { valid = valid; lowest = quotient_lowest g q } } }
+    record {
+      lowest = lowest;
+      is = record {
+        same =
+            record { same = quotient_same {d = d} q; from = v.weight; to = valid.weight };
+        corner =
+            record { valid = valid; lowest = quotient_lowest g q };
+      };
+    }

@@ -17,13 +17,15 @@ length-ring_edges (e ∷ es) (m ∷ ms) p = ap (λ n. suc n) (length-ring_edges 
 abbrev pub zero_plane : Plane
 zero_plane = record { a = pos 0; b = pos 0; c = pos 0; d = pos 0 }
 
-ring_get : (es : List Plane) (ms : List Meet) (i : ℕ) (d : RingEdge) (e : Plane) (m : Meet) → length ms ≡ length es → i < length es → get_or (ring_edges es ms) i d ≡ record { plane = get_or es i e; start = spot_of (get_or ms i m) }
+ring_get : (es : List Plane) (ms : List Meet) (i : ℕ) (d : RingEdge) (e : Plane) (m : Meet) → length ms ≡ length es →
+    i < length es → get_or (ring_edges es ms) i d ≡ record { plane = get_or es i e; start = spot_of (get_or ms i m) }
 ring_get [] ms i d e m p l = absurd (omega (arith, l))
 ring_get (f ∷ es) [] i d e m p l = absurd (omega (arith, p))
 ring_get (f ∷ es) (u ∷ ms) zero d e m p l = refl
 ring_get (f ∷ es) (u ∷ ms) (suc i) d e m p l = ring_get es ms i d e m (omega (arith, p)) (omega (arith, l))
 
 -- the edge with index i has the plane and the corner with index i
-pub ring_at : (es : List Plane) (ms : List Meet) (i : ℕ) (d : RingEdge) (m : Meet) → length ms ≡ length es → i < length es → m ≡ get_or ms i m → edge_with (get_or es i zero_plane) m ≡ get_or (ring_edges es ms) i d
+pub ring_at : (es : List Plane) (ms : List Meet) (i : ℕ) (d : RingEdge) (m : Meet) → length ms ≡ length es →
+    i < length es → m ≡ get_or ms i m → edge_with (get_or es i zero_plane) m ≡ get_or (ring_edges es ms) i d
 ring_at es ms i d m p l h =
     ap (λ (u : Meet). edge_with (get_or es i zero_plane) u) h ∙ sym (ring_get es ms i d zero_plane m p l)

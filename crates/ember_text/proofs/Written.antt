@@ -41,20 +41,47 @@ lines_of (more {x = e} {xs = rs} {ys = text} {zs = texts} t rest) =
       long = ap (λ n. suc n) r.long;
     }
 
-good : (f : Face) (n : Plane) (rs : List RingEdge) (count : ℕ) {texts : List ℕ} → n ≡ f.support → IsValidPlane n → IsOutline f rs → 3 ≤ length rs → count ≡ length rs → Each IsEdgeText rs texts → IsTextInRange f (support_line n count ++ texts)
+good : (f : Face) (n : Plane) (rs : List RingEdge) (count : ℕ) {texts : List ℕ} → n ≡ f.support → IsValidPlane n →
+    IsOutline f rs → 3 ≤ length rs → count ≡ length rs → Each IsEdgeText rs texts →
+    IsTextInRange f (support_line n count ++ texts)
 good f n rs count en vn o t ec each =
     let r = lines_of each in
     record {
-      text_is = record { outline = r.edges; is_outline = outline_moved f rs r.edges r.moved o; lowest = All-from_recursion (λ (e : RingEdge). IsLowest e.start) r.edges (each_map IsWrittenEdge (λ (e : RingEdge). IsLowest e.start) r.edges (λ e h. h.start.lowest) r.written); is = λ i. support_line (en i) ((ec ∙ sym r.long) i) ++ r.is i };
-      written = record { support = subst IsValidPlane en vn; edges = All-from_recursion IsWrittenEdge r.edges r.written; at_least_three = subst (λ k. 3 ≤ k) (sym r.long) t };
+      text_is = record {
+        outline = r.edges;
+        is_outline = outline_moved f rs r.edges r.moved o;
+        lowest =
+            All-from_recursion (λ (e : RingEdge). IsLowest e.start) r.edges
+            (each_map IsWrittenEdge (λ (e : RingEdge). IsLowest e.start) r.edges (λ e h. h.start.lowest) r.written);
+        is =
+            λ i. support_line (en i) ((ec ∙ sym r.long) i) ++ r.is i;
+      };
+      written = record {
+        support = subst IsValidPlane en vn;
+        edges =
+            All-from_recursion IsWrittenEdge r.edges r.written;
+        at_least_three = subst (λ k. 3 ≤ k) (sym r.long) t;
+      };
     }
 
 -- the line of the support plane, and those of the edges
-pub face_is_written : (f : Face) (n : Plane) (rs : List RingEdge) (count : ℕ) (old : List ℕ) {mid new : List ℕ} → n ≡ f.support → IsValidPlane n → IsOutline f rs → 3 ≤ length rs → count ≡ length rs → mid ≡ old ++ support_line n count → HasGrown (Each IsEdgeText rs) mid new → Writes f old new
+pub face_is_written : (f : Face) (n : Plane) (rs : List RingEdge) (count : ℕ) (old : List ℕ) {mid new : List ℕ} →
+    n ≡ f.support → IsValidPlane n → IsOutline f rs → 3 ≤ length rs → count ≡ length rs →
+    mid ≡ old ++ support_line n count → HasGrown (Each IsEdgeText rs) mid new → Writes f old new
 face_is_written f n rs count old en vn o t ec e g =
-    record { text = support_line n count ++ g.more; good = good f n rs count en vn o t ec g.holds; is = g.is ∙ ap (λ bytes. bytes ++ g.more) e ∙ append_assoc old (support_line n count) g.more }
+    record {
+      text = support_line n count ++ g.more;
+      good = good f n rs count en vn o t ec g.holds;
+      is =
+          g.is ∙ ap (λ bytes. bytes ++ g.more) e ∙ append_assoc old (support_line n count) g.more;
+    }
 
 -- the support line and the turned edges are the text of the flipped face
-pub flipped_written : (f : Face) (n turned_n : Plane) (rs : List RingEdge) (count : ℕ) (old : List ℕ) {mid new : List ℕ} → n ≡ f.support → turned_n ≡ opposite n → IsValidPlane turned_n → IsOutline f rs → 3 ≤ length rs → count ≡ length rs → mid ≡ old ++ support_line turned_n count → HasGrown (Each IsEdgeText (turned rs)) mid new → Writes (flipped_face f) old new
+pub flipped_written : (f : Face) (n turned_n : Plane) (rs : List RingEdge) (count : ℕ) (old : List ℕ) {mid new : List ℕ}
+    → n ≡ f.support → turned_n ≡ opposite n → IsValidPlane turned_n → IsOutline f rs → 3 ≤ length rs → count ≡ length rs →
+    mid ≡ old ++ support_line turned_n count → HasGrown (Each IsEdgeText (turned rs)) mid new →
+    Writes (flipped_face f) old new
 flipped_written f n turned_n rs count old en eo vn o t ec e g =
-    face_is_written (flipped_face f) turned_n (turned rs) count old (eo ∙ ap opposite en) vn (outline_of_turned f rs (omega (arith, t)) o) (omega (arith, t, length-turned rs)) (ec ∙ sym (length-turned rs)) e g
+    face_is_written (flipped_face f) turned_n (turned rs) count old (eo ∙ ap opposite en) vn
+    (outline_of_turned f rs (omega (arith, t)) o) (omega (arith, t, length-turned rs)) (ec ∙ sym (length-turned rs)) e
+    g

@@ -40,7 +40,8 @@ same_corners : (n : ℕ) (ts : List IndexedTriangle) → map (λ f. f.corners) (
 same_corners n [] = refl
 same_corners n (t ∷ ts) = ap (λ l. corners_of t ∷ l) (same_corners (n + 1) ts)
 
-pub content_is_read : (n places : ℕ) (ps : List DecimalPoint) (ts : List IndexedTriangle) → All (IsPointBelow places) ps → IsReadAs places ps ts (content_from n places ps ts)
+pub content_is_read : (n places : ℕ) (ps : List DecimalPoint) (ts : List IndexedTriangle) →
+    All (IsPointBelow places) ps → IsReadAs places ps ts (content_from n places ps ts)
 content_is_read n places ps ts h = record { points = same_points places ps h; triangles = same_corners n ts }
 
 -- ---- no triangle is too far out
@@ -59,7 +60,8 @@ corner_near places ps h c = ap is_far_point (slice_get-map (read_point places) p
     near (p ∷ ps) h zero = ap not (point_below places p (All-head (IsPointBelow places) p ps h))
     near (p ∷ ps) h (suc c) = near ps (All-tail (IsPointBelow places) p ps h) c
 
-corners_near : (points : List Point) → ((c : ℕ) → is_far_point (slice_get points c) ≡ false) → (cs : List ℕ) → list_any (λ corner. is_far_point (slice_get points corner)) cs ≡ false
+corners_near : (points : List Point) → ((c : ℕ) → is_far_point (slice_get points c) ≡ false) → (cs : List ℕ) →
+    list_any (λ corner. is_far_point (slice_get points corner)) cs ≡ false
 corners_near points h [] = refl
 corners_near points h (c ∷ cs) = ap₂ (λ a b. a || b) (h c) (corners_near points h cs)
 
@@ -67,6 +69,7 @@ none_far : (points : List Point) → ((c : ℕ) → is_far_point (slice_get poin
 none_far points h [] = refl
 none_far points h (f ∷ fs) = rw (corners_near points h f.corners) (none_far points h fs)
 
-pub content_near : (n places : ℕ) (ps : List DecimalPoint) (ts : List IndexedTriangle) → All (IsPointBelow places) ps → first_far (content_from n places ps ts) ≡ None
+pub content_near : (n places : ℕ) (ps : List DecimalPoint) (ts : List IndexedTriangle) → All (IsPointBelow places) ps →
+    first_far (content_from n places ps ts) ≡ None
 content_near n places ps ts h =
     ap (λ (o : Option Facet). option_map (λ f. f.place) o) (none_far (map (read_point places) ps) (corner_near places ps h) (facets_from n ts))

@@ -1,5 +1,6 @@
 -- A coordinate, written and read again
-use Rattle.std.proofs.Common.{◌≡◌, ℕ, zero, suc, ◌+◌, ◌*◌, ◌/◌, ◌%◌, ◌^◌, ◌<◌, Bool, true, false, ◌&&◌, length, Some, ℤ, pos, negsuc, neg_ℤ, ◌*ℤ◌, refl, arith, decimal, ltb}
+use Rattle.std.proofs.Common.{◌≡◌, ℕ, zero, suc, ◌+◌, ◌*◌, ◌/◌, ◌%◌, ◌^◌, ◌<◌, Bool, true, false, ◌&&◌, length, Some, ℤ}
+use Rattle.std.proofs.Common.{pos, negsuc, neg_ℤ, ◌*ℤ◌, refl, arith, decimal, ltb}
 use Rattle.std.specs.Prelude.{int_lt, nat_lt, unsigned_abs}
 use Rattle.std.proofs.lemmas.Bool.Decides.{nat_tests}
 use Rattle.std.proofs.lemmas.Fmt.{decimal_nonempty}
@@ -64,7 +65,9 @@ coordinate_is_read places units h =
     let wide : w < 2 ^ 64 = omega (arith, small) in
     let behind : ArePlaces places (size % 10 ^ places) digits = fraction_places places (size % 10 ^ places) (mod-lt size (pow_ten_pos places)) in
     record {
-      is = signed_value (is_negative units) (decimal w) digits (fraction_text places (size % 10 ^ places)) (decimal_digits w wide) (decimal_nonempty w wide) behind.digits (fraction_tail places (size % 10 ^ places) behind.digits);
+      is = signed_value (is_negative units) (decimal w) digits (fraction_text places (size % 10 ^ places))
+          (decimal_digits w wide) (decimal_nonempty w wide) behind.digits
+          (fraction_tail places (size % 10 ^ places) behind.digits);
       same = record {
         positive = pow_ten_pos (length digits + 0);
         same = same_signs units _ (10 ^ places) (10 ^ (length digits + 0)) (same_size size places digits wide behind);

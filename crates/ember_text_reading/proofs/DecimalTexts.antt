@@ -1,5 +1,6 @@
 -- The value of a decimal's text
-use Rattle.std.proofs.Common.{◌≡◌, ℕ, zero, suc, ◌+◌, ◌<◌, Bool, true, false, ◌==◌, List, [], ◌∷◌, ◌++◌, length, append-nil, Option, Some, refl, sym, ap, ap₂, ◌∙◌, arith, ltb}
+use Rattle.std.proofs.Common.{◌≡◌, ℕ, zero, suc, ◌+◌, ◌<◌, Bool, true, false, ◌==◌, List, [], ◌∷◌, ◌++◌, length}
+use Rattle.std.proofs.Common.{append-nil, Option, Some, refl, sym, ap, ap₂, ◌∙◌, arith, ltb}
 use Rattle.std.specs.Prelude.{All, if◌then◌else◌}
 use Rattle.std.specs.List.{list_all}
 use Rattle.std.specs.Char.{is_ascii_digit}
@@ -11,7 +12,8 @@ use Rattle.ember_number.specs.Texts.{value_of_text, value_of_parts, mantissa, ex
 use Rattle.ember_number.specs.Values.{decimal_value}
 use Rattle.ember_number.proofs.DigitNumbers.{both_true}
 use Rattle.ember_round.specs.Decimals.{fraction_digits, fraction_text}
-use Rattle.ember_text_reading.proofs.PlainTexts.{IsPlain, no_exponent, digits_plain, plain_mantissa, plain_exponent, digits_before, digits_behind, digit_unsigned, digit_is_no_minus}
+use Rattle.ember_text_reading.proofs.PlainTexts.{IsPlain, no_exponent, digits_plain, plain_mantissa, plain_exponent}
+use Rattle.ember_text_reading.proofs.PlainTexts.{digits_before, digits_behind, digit_unsigned, digit_is_no_minus}
 
 -- what stands behind a whole number: these digits behind a point, or nothing
 pub record IsTail (t ds : List ℕ) : Type 0 where
@@ -34,22 +36,28 @@ some_tail false ds e h = record {
   plain = All-cons IsPlain 46 ds (record { low = omega arith; high = omega arith }) (digits_plain ds h);
 }
 
-pub fraction_tail : (places part : ℕ) → list_all is_ascii_digit (fraction_digits places part) ≡ true → IsTail (fraction_text places part) (fraction_digits places part)
+pub fraction_tail : (places part : ℕ) → list_all is_ascii_digit (fraction_digits places part) ≡ true →
+    IsTail (fraction_text places part) (fraction_digits places part)
 fraction_tail places zero h = record { before = refl; behind = sym (no_digits places); plain = All-nil IsPlain }
 fraction_tail places (suc n) h = some_tail (suc n == 0) (fraction_digits places (suc n)) (not_none n) h
 
 -- ---- the parts of a text
-parts_value : (minus : Bool) (body whole fraction : List ℕ) → mantissa body ≡ body → before_point body ≡ whole → behind_point body ≡ fraction → exponent_of body ≡ Some no_exponent → is_decimal whole fraction ≡ true
-    → value_of_parts minus (before_point (mantissa body)) (behind_point (mantissa body)) (exponent_of body) ≡ Some (decimal_value minus whole fraction no_exponent)
+parts_value : (minus : Bool) (body whole fraction : List ℕ) → mantissa body ≡ body → before_point body ≡ whole →
+    behind_point body ≡ fraction → exponent_of body ≡ Some no_exponent → is_decimal whole fraction ≡ true
+    → value_of_parts minus (before_point (mantissa body)) (behind_point (mantissa body)) (exponent_of body) ≡ Some
+    (decimal_value minus whole fraction no_exponent)
 parts_value minus body whole fraction m w f e d = rw (m, w, f, e, d) refl
 
-are_decimal : (whole fraction : List ℕ) → list_all is_ascii_digit whole ≡ true → 0 < length whole → list_all is_ascii_digit fraction ≡ true → is_decimal whole fraction ≡ true
+are_decimal : (whole fraction : List ℕ) → list_all is_ascii_digit whole ≡ true → 0 < length whole →
+    list_all is_ascii_digit fraction ≡ true → is_decimal whole fraction ≡ true
 are_decimal whole fraction w some f =
     let more : ltb 0 (length whole + length fraction) ≡ true = grind (arith, nat_tests) in
     rw (w, f, more) refl
 
-body_value : (minus : Bool) (whole fraction t : List ℕ) → list_all is_ascii_digit whole ≡ true → 0 < length whole → list_all is_ascii_digit fraction ≡ true → IsTail t fraction
-    → value_of_parts minus (before_point (mantissa (whole ++ t))) (behind_point (mantissa (whole ++ t))) (exponent_of (whole ++ t)) ≡ Some (decimal_value minus whole fraction no_exponent)
+body_value : (minus : Bool) (whole fraction t : List ℕ) → list_all is_ascii_digit whole ≡ true → 0 < length whole →
+    list_all is_ascii_digit fraction ≡ true → IsTail t fraction
+    → value_of_parts minus (before_point (mantissa (whole ++ t))) (behind_point (mantissa (whole ++ t)))
+    (exponent_of (whole ++ t)) ≡ Some (decimal_value minus whole fraction no_exponent)
 body_value minus whole fraction t w some f h =
     let plain = All-append IsPlain whole t (digits_plain whole w) h.plain in
     parts_value minus (whole ++ t) whole fraction (plain_mantissa (whole ++ t) plain)
@@ -61,7 +69,8 @@ text_value : {r : Option Fraction} (minus : Bool) (text body : List ℕ) → is_
 text_value minus text body m u h =
     ap₂ (λ (s : Bool) (b : List ℕ). value_of_parts s (before_point (mantissa b)) (behind_point (mantissa b)) (exponent_of b)) m u ∙ h
 
-unsigned_value : (whole fraction t : List ℕ) → list_all is_ascii_digit whole ≡ true → 0 < length whole → list_all is_ascii_digit fraction ≡ true → IsTail t fraction
+unsigned_value : (whole fraction t : List ℕ) → list_all is_ascii_digit whole ≡ true → 0 < length whole →
+    list_all is_ascii_digit fraction ≡ true → IsTail t fraction
     → value_of_text (whole ++ t) ≡ Some (decimal_value false whole fraction no_exponent)
 unsigned_value [] fraction t w some f h = absurd (omega arith)
 unsigned_value (d ∷ ds) fraction t w some f h =
@@ -70,7 +79,8 @@ unsigned_value (d ∷ ds) fraction t w some f h =
     (body_value false (d ∷ ds) fraction t w some f h)
 
 -- with or without a minus
-pub signed_value : (minus : Bool) (whole fraction t : List ℕ) → list_all is_ascii_digit whole ≡ true → 0 < length whole → list_all is_ascii_digit fraction ≡ true → IsTail t fraction
+pub signed_value : (minus : Bool) (whole fraction t : List ℕ) → list_all is_ascii_digit whole ≡ true →
+    0 < length whole → list_all is_ascii_digit fraction ≡ true → IsTail t fraction
     → value_of_text ((if minus then 45 ∷ [] else []) ++ (whole ++ t)) ≡ Some (decimal_value minus whole fraction no_exponent)
 signed_value false whole fraction t w some f h = unsigned_value whole fraction t w some f h
 signed_value true whole fraction t w some f h = body_value true whole fraction t w some f h

@@ -38,10 +38,13 @@ digits_more k n ds small h =
       digits = ap₂ (λ a b. a && b) (is_digit q below) h.digits;
       zeros = h.zeros;
       count = omega (arith, h.count);
-      spells = ap (λ (i : ℕ). i * 10 ^ h.zeros) (number_from-behind ((48 + q) ∷ []) ds) ∙ digit_in_front q (10 ^ length ds) (number_from 0 ds) (10 ^ h.zeros) k (suc n) (suc n % 10 ^ k) (10 ^ k) power h.spells whole;
+      spells = ap (λ (i : ℕ). i * 10 ^ h.zeros) (number_from-behind ((48 + q) ∷ []) ds)
+          ∙ digit_in_front q (10 ^ length ds) (number_from 0 ds) (10 ^ h.zeros) k (suc n) (suc n % 10 ^ k) (10 ^ k) power
+          h.spells whole;
     }
 
 pub fraction_places : (places part : ℕ) → part < 10 ^ places → ArePlaces places part (fraction_digits places part)
 fraction_places zero part small = record { digits = refl; zeros = 0; count = refl; spells = omega (arith, small) }
 fraction_places (suc k) zero small = record { digits = refl; zeros = suc k; count = omega arith; spells = omega arith }
-fraction_places (suc k) (suc n) small = digits_more k n (fraction_digits k (suc n % 10 ^ k)) small (fraction_places k (suc n % 10 ^ k) (mod-lt (suc n) (pow_ten_pos k)))
+fraction_places (suc k) (suc n) small = digits_more k n (fraction_digits k (suc n % 10 ^ k)) small
+    (fraction_places k (suc n % 10 ^ k) (mod-lt (suc n) (pow_ten_pos k)))

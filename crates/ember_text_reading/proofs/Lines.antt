@@ -1,5 +1,6 @@
 -- Lines of words with a space between them, as a reader finds them
-use Rattle.std.proofs.Common.{◌≡◌, ℕ, ◌+◌, ◌<◌, Bool, true, false, ◌&&◌, ◌==◌, List, [], ◌∷◌, ◌++◌, length, map, drop, append_assoc, append-nil, refl, sym, ap, ◌∙◌, arith, slice_index}
+use Rattle.std.proofs.Common.{◌≡◌, ℕ, ◌+◌, ◌<◌, Bool, true, false, ◌&&◌, ◌==◌, List, [], ◌∷◌, ◌++◌, length, map, drop}
+use Rattle.std.proofs.Common.{append_assoc, append-nil, refl, sym, ap, ◌∙◌, arith, slice_index}
 use Rattle.std.specs.Prelude.{All, nat_lt, not}
 use Rattle.std.specs.List.{list_all}
 use Rattle.std.proofs.lemmas.Bool.Decides.{nat_tests}
@@ -116,7 +117,8 @@ front_some : (w rest : List ℕ) → 0 < length w → 0 < length (w ++ rest)
 front_some [] rest h = absurd (omega (arith, h))
 front_some (b ∷ bs) rest h = omega arith
 
-word_step : (p : ℕ) (w rest : List ℕ) → IsWord w → before is_separator rest ≡ [] → onward is_separator rest ≡ rest → words_from p (w ++ rest) [] ≡ piece p w ∷ words_from (p + length w) rest []
+word_step : (p : ℕ) (w rest : List ℕ) → IsWord w → before is_separator rest ≡ [] → onward is_separator rest ≡ rest →
+    words_from p (w ++ rest) [] ≡ piece p w ∷ words_from (p + length w) rest []
 word_step p w rest h none all =
     let clear = All-weaker IsInWord (λ b. is_separator b ≡ false) no_separator w h.bytes in
     word_cut p p (p + length w) (w ++ rest) w rest (front_some w rest h.some) (first_byte w rest h)

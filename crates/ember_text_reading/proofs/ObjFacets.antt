@@ -31,9 +31,12 @@ references t = decimal (t.a + 1) ∷ decimal (t.b + 1) ∷ decimal (t.c + 1) ∷
 
 references_words : (v : ℕ) (t : IndexedTriangle) → v < 2 ^ 64 → IsWithin v t → All IsWord (references t)
 references_words v t few h =
-    three_words (decimal (t.a + 1)) (decimal (t.b + 1)) (decimal (t.c + 1)) (number_word (t.a + 1) (omega (arith, few, h.a))) (number_word (t.b + 1) (omega (arith, few, h.b))) (number_word (t.c + 1) (omega (arith, few, h.c)))
+    three_words (decimal (t.a + 1)) (decimal (t.b + 1)) (decimal (t.c + 1))
+    (number_word (t.a + 1) (omega (arith, few, h.a))) (number_word (t.b + 1) (omega (arith, few, h.b)))
+    (number_word (t.c + 1) (omega (arith, few, h.c)))
 
-three_corners : (line v : ℕ) (words : List Piece) (t : IndexedTriangle) → v < 2 ^ 64 → IsWithin v t → texts words ≡ references t → corners_of line v words ≡ Ok (corners_in t)
+three_corners : (line v : ℕ) (words : List Piece) (t : IndexedTriangle) → v < 2 ^ 64 → IsWithin v t →
+    texts words ≡ references t → corners_of line v words ≡ Ok (corners_in t)
 three_corners line v [] t few h e = absurd (cc)
 three_corners line v (p ∷ []) t few h e = absurd (cc)
 three_corners line v (p ∷ q ∷ []) t few h e = absurd (cc)
@@ -44,7 +47,8 @@ three_corners line v (p ∷ q ∷ r ∷ []) t few h e =
     λ i. with_corner (first i) (with_corner (second i) (with_corner (third i) (Ok [])))
 three_corners line v (p ∷ q ∷ r ∷ x ∷ more) t few h e = absurd (cc)
 
-face_words : (line : ℕ) (content : Content) (words : List Piece) (t : IndexedTriangle) → length content.points < 2 ^ 64 → IsWithin (length content.points) t → texts words ≡ f_word ∷ references t
+face_words : (line : ℕ) (content : Content) (words : List Piece) (t : IndexedTriangle) →
+    length content.points < 2 ^ 64 → IsWithin (length content.points) t → texts words ≡ f_word ∷ references t
     → after_words line content words ≡ Ok (record { points = content.points; facets = content.facets ++ record { corners = corners_in t; place = line } ∷ [] })
 face_words line content [] t few h e = absurd (cc)
 face_words line content (w ∷ more) t few h e =

@@ -10,7 +10,8 @@ use Rattle.ember_scan.specs.Parts.{Piece, lines_from}
 use Rattle.ember_surface.specs.Surfaces.{Point, Content}
 use Rattle.ember_vertices.specs.declared.point.DecimalPoint.{DecimalPoint}
 use Rattle.ember_wavefront.specs.Faults.{Fault}
-use Rattle.ember_wavefront.specs.ReadWavefront.{coordinate_or_fault, coordinate_in, point_of_three, point_in, keyword_of, with_point, after_keyword, after_words, after_rows}
+use Rattle.ember_wavefront.specs.ReadWavefront.{coordinate_or_fault, coordinate_in, point_of_three, point_in}
+use Rattle.ember_wavefront.specs.ReadWavefront.{keyword_of, with_point, after_keyword, after_words, after_rows}
 use Rattle.ember_wavefront.specs.Rows.{Row, rows_from}
 use Rattle.ember_text_reading.specs.Readings.{IsPointBelow}
 use Rattle.ember_text_reading.proofs.Coordinates.{read_value, coordinate_is_read}
@@ -23,7 +24,8 @@ use Rattle.ember_text_reading.proofs.ObjRows.{row_at, row_of_words}
 coordinate_ok : (line : ℕ) (word : Piece) (text : List ℕ) (x : Fraction) → word.text ≡ text → value_of_text text ≡ Some x → coordinate_in line word ≡ Ok x
 coordinate_ok line word text x e h = ap (λ (o : Option Fraction). coordinate_or_fault line word o) (ap value_of_text e ∙ h)
 
-three_ok : (line : ℕ) (words : List Piece) (a b c : List ℕ) (x y z : Fraction) → texts words ≡ a ∷ b ∷ c ∷ [] → value_of_text a ≡ Some x → value_of_text b ≡ Some y → value_of_text c ≡ Some z
+three_ok : (line : ℕ) (words : List Piece) (a b c : List ℕ) (x y z : Fraction) → texts words ≡ a ∷ b ∷ c ∷ [] →
+    value_of_text a ≡ Some x → value_of_text b ≡ Some y → value_of_text c ≡ Some z
     → point_in line words ≡ Ok (record { x = x; y = y; z = z })
 three_ok line [] a b c x y z e f g h = absurd (cc)
 three_ok line (p ∷ []) a b c x y z e f g h = absurd (cc)
@@ -46,16 +48,19 @@ coordinates places p = coordinate_text places p.x ∷ coordinate_text places p.y
 
 coordinates_words : (places : ℕ) (p : DecimalPoint) → IsPointBelow places p → All IsWord (coordinates places p)
 coordinates_words places p h =
-    three_words (coordinate_text places p.x) (coordinate_text places p.y) (coordinate_text places p.z) (coordinate_word places p.x h.x) (coordinate_word places p.y h.y) (coordinate_word places p.z h.z)
+    three_words (coordinate_text places p.x) (coordinate_text places p.y) (coordinate_text places p.z)
+    (coordinate_word places p.x h.x) (coordinate_word places p.y h.y) (coordinate_word places p.z h.z)
 
-vertex_words : (places line : ℕ) (content : Content) (words : List Piece) (p : DecimalPoint) → IsPointBelow places p → texts words ≡ v_word ∷ coordinates places p
+vertex_words : (places line : ℕ) (content : Content) (words : List Piece) (p : DecimalPoint) → IsPointBelow places p →
+    texts words ≡ v_word ∷ coordinates places p
     → after_words line content words ≡ Ok (record { points = content.points ++ read_point places p ∷ []; facets = content.facets })
 vertex_words places line content [] p h e = absurd (cc)
 vertex_words places line content (w ∷ more) p h e =
     let keyword : w.text ≡ v_word = cc in
     let rest : texts more ≡ coordinates places p = cc in
     ap (λ (l : List ℕ). after_keyword line content (keyword_of l) more) keyword
-    ∙ ap (with_point content) (three_ok line more (coordinate_text places p.x) (coordinate_text places p.y) (coordinate_text places p.z) (read_value places p.x) (read_value places p.y) (read_value places p.z) rest
+    ∙ ap (with_point content) (three_ok line more (coordinate_text places p.x) (coordinate_text places p.y)
+    (coordinate_text places p.z) (read_value places p.x) (read_value places p.y) (read_value places p.z) rest
     (coordinate_is_read places p.x h.x).is (coordinate_is_read places p.y h.y).is (coordinate_is_read places p.z h.z).is)
 
 abbrev vertex_row : ℕ → ℕ → ℕ → DecimalPoint → Row
@@ -66,17 +71,20 @@ vertex_row places n s p = row_at n s v_word (coordinates places p)
 pub record AreVertices (places n s : ℕ) (ps : List DecimalPoint) (rest : List ℕ) (content : Content) : Type 0 where
   pub next : ℕ
   pub is : after_rows (Ok content) (rows_from n (lines_from s (flat_map (obj_vertex places) ps ++ rest)))
-      ≡ after_rows (Ok (record { points = content.points ++ map (read_point places) ps; facets = content.facets })) (rows_from (n + length ps) (lines_from next rest))
+      ≡ after_rows (Ok (record { points = content.points ++ map (read_point places) ps; facets = content.facets }))
+      (rows_from (n + length ps) (lines_from next rest))
 
 abbrev with_points : Content → List Point → Content
 with_points content points = record { points = points; facets = content.facets }
 
 first_vertex : (places n s : ℕ) (p : DecimalPoint) (rest : List ℕ) → IsPointBelow places p
-    → rows_from n (lines_from s (obj_vertex places p ++ rest)) ≡ vertex_row places n s p ∷ rows_from (n + 1) (lines_from (s + length (joined v_word (coordinates places p)) + 1) rest)
+    → rows_from n (lines_from s (obj_vertex places p ++ rest)) ≡ vertex_row places n s p
+    ∷ rows_from (n + 1) (lines_from (s + length (joined v_word (coordinates places p)) + 1) rest)
 unfolding obj_vertex point_line
 first_vertex places n s p rest h = row_of_words n s v_word (coordinates places p) rest v_is_word (coordinates_words places p h)
 
-pub vertices : (places n s : ℕ) (ps : List DecimalPoint) (rest : List ℕ) (content : Content) → All (IsPointBelow places) ps → AreVertices places n s ps rest content
+pub vertices : (places n s : ℕ) (ps : List DecimalPoint) (rest : List ℕ) (content : Content) →
+    All (IsPointBelow places) ps → AreVertices places n s ps rest content
 vertices places n s [] rest content h =
     let none : n ≡ n + 0 = omega arith in
     record {
@@ -94,11 +102,15 @@ vertices places n s (p ∷ ps) rest content h =
     let row = vertex_row places n s p in
     record {
       next = more.next;
-      is = ap (λ (l : List ℕ). after_rows (Ok content) (rows_from n (lines_from s l))) (append_assoc (obj_vertex places p) (flat_map (obj_vertex places) ps) rest)
+      is = ap (λ (l : List ℕ). after_rows (Ok content) (rows_from n (lines_from s l)))
+          (append_assoc (obj_vertex places p) (flat_map (obj_vertex places) ps) rest)
           ∙ ap (λ (l : List Row). after_rows (Ok content) l) (first_vertex places n s p after below)
           ∙ ap (λ (r : Result Content Fault). after_rows r (rows_from (n + 1) (lines_from start after)))
           (vertex_words places n content row.words p below (joined_words s v_word (coordinates places p) v_is_word (coordinates_words places p below)))
           ∙ more.is
-          ∙ ap (λ (l : List Point). after_rows (Ok (with_points content l)) (rows_from (n + 1 + length ps) (lines_from more.next rest))) (append_assoc content.points (q ∷ []) (map (read_point places) ps))
-          ∙ ap (λ (k : ℕ). after_rows (Ok (with_points content (content.points ++ map (read_point places) (p ∷ ps)))) (rows_from k (lines_from more.next rest))) line;
+          ∙ ap (λ (l : List Point). after_rows (Ok (with_points content l))
+          (rows_from (n + 1 + length ps) (lines_from more.next rest)))
+          (append_assoc content.points (q ∷ []) (map (read_point places) ps))
+          ∙ ap (λ (k : ℕ). after_rows (Ok (with_points content (content.points ++ map (read_point places) (p ∷ ps))))
+          (rows_from k (lines_from more.next rest))) line;
     }

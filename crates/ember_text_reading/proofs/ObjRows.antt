@@ -36,7 +36,8 @@ line_ends s line h =
 abbrev pub row_at : ℕ → ℕ → List ℕ → List (List ℕ) → Row
 row_at n s w ws = record { line = n; words = words_from s (joined w ws) [] }
 
-whole_line : (n s : ℕ) (line : List ℕ) (lines : List Piece) → All IsInLine line → rows_from n (piece s line ∷ lines) ≡ record { line = n; words = words_from s line [] } ∷ rows_from (n + 1) lines
+whole_line : (n s : ℕ) (line : List ℕ) (lines : List Piece) → All IsInLine line →
+    rows_from n (piece s line ∷ lines) ≡ record { line = n; words = words_from s line [] } ∷ rows_from (n + 1) lines
 whole_line n s line lines h =
     let none = line_ends s line h in
     let later = rows_from (n + 1) lines in

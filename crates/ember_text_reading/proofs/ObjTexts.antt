@@ -15,7 +15,8 @@ use Rattle.ember_text_reading.proofs.ObjRows.{comment_row}
 use Rattle.ember_text_reading.proofs.ObjPoints.{vertices}
 use Rattle.ember_text_reading.proofs.ObjFacets.{faces}
 
-mesh_ok : (n places : ℕ) (ps : List DecimalPoint) (ts : List IndexedTriangle) → 0 < length ts → All (IsPointBelow places) ps → as_mesh (Ok (content_from n places ps ts)) ≡ Ok (content_from n places ps ts)
+mesh_ok : (n places : ℕ) (ps : List DecimalPoint) (ts : List IndexedTriangle) → 0 < length ts →
+    All (IsPointBelow places) ps → as_mesh (Ok (content_from n places ps ts)) ≡ Ok (content_from n places ps ts)
 mesh_ok n places ps [] some h = absurd (omega (arith, some))
 mesh_ok n places ps (t ∷ ts) some h = ap (near_or_fault (content_from n places ps (t ∷ ts))) (content_near n places ps (t ∷ ts) h)
 
@@ -24,17 +25,24 @@ nothing = record { points = []; facets = [] }
 
 -- the triangles behind all points
 triangles_read : (n s places : ℕ) (ps : List DecimalPoint) (ts : List IndexedTriangle) → AreReadable places ps ts
-    → after_rows (Ok (record { points = map (read_point places) ps; facets = [] })) (rows_from n (lines_from s (flat_map obj_face ts))) ≡ Ok (content_from n places ps ts)
+    → after_rows (Ok (record { points = map (read_point places) ps; facets = [] }))
+    (rows_from n (lines_from s (flat_map obj_face ts))) ≡ Ok (content_from n places ps ts)
 triangles_read n s places ps ts h =
     let count : length ps ≡ length (map (read_point places) ps) = sym (length-map ps (read_point places)) in
-    faces n s ts (record { points = map (read_point places) ps; facets = [] }) (omega (arith, count, h.few_points)) (subst (λ (v : ℕ). All (IsWithin v) ts) count h.within)
+    faces n s ts (record { points = map (read_point places) ps; facets = [] }) (omega (arith, count, h.few_points))
+    (subst (λ (v : ℕ). All (IsWithin v) ts) count h.within)
 
-obj_content : (places : ℕ) (ps : List DecimalPoint) (ts : List IndexedTriangle) → AreReadable places ps ts → content_in (rows_of (obj_text places ps ts)) ≡ Ok (content_from (2 + length ps) places ps ts)
+obj_content : (places : ℕ) (ps : List DecimalPoint) (ts : List IndexedTriangle) → AreReadable places ps ts →
+    content_in (rows_of (obj_text places ps ts)) ≡ Ok (content_from (2 + length ps) places ps ts)
 obj_content places ps ts h =
     let front = vertices places 2 43 ps (flat_map obj_face ts) nothing h.below in
     ap content_in (comment_row (obj_lines places ps ts)) ∙ front.is ∙ triangles_read (2 + length ps) front.next places ps ts h
 
 pub obj_is_read : (places : ℕ) (ps : List DecimalPoint) (ts : List IndexedTriangle) → AreReadable places ps ts
     → (content : Content) × (read_wavefront_of (obj_text places ps ts) ≡ Ok content) × IsReadAs places ps ts content
-obj_is_read places ps ts h =
-    (content_from (2 + length ps) places ps ts, ap as_mesh (obj_content places ps ts h) ∙ mesh_ok (2 + length ps) places ps ts h.triangles h.below, content_is_read (2 + length ps) places ps ts h.below)
+obj_is_read places ps ts h = (
+  content_from (2 + length ps) places ps ts,
+  ap as_mesh (obj_content places ps ts h)
+      ∙ mesh_ok (2 + length ps) places ps ts h.triangles h.below,
+  content_is_read (2 + length ps) places ps ts h.below,
+)

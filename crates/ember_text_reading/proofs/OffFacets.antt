@@ -26,7 +26,8 @@ three_indices v (p ∷ q ∷ r ∷ more) t few h e =
     let third = index_ok v t.c r.text few h.c (cc) in
     λ i. with_corner (first i) (with_corner (second i) (with_corner (third i) (Some [])))
 
-size_and_indices : (v : ℕ) (words : List Piece) (t : IndexedTriangle) → v ≤ 2 ^ 64 → IsWithin v t → texts words ≡ (51 ∷ []) ∷ decimal t.a ∷ decimal t.b ∷ decimal t.c ∷ []
+size_and_indices : (v : ℕ) (words : List Piece) (t : IndexedTriangle) → v ≤ 2 ^ 64 → IsWithin v t →
+    texts words ≡ (51 ∷ []) ∷ decimal t.a ∷ decimal t.b ∷ decimal t.c ∷ []
     → corners_of v words ≡ Some (corners_in t)
 size_and_indices v [] t few h e = absurd (cc)
 size_and_indices v (size ∷ words) t few h e =
@@ -49,7 +50,8 @@ pub record AreFaces (v n s : ℕ) (ts : List IndexedTriangle) : Type 0 where
   pub facets : facets_of v rows ≡ Ok (facets_from n ts)
 
 first_face : (v n s : ℕ) (t : IndexedTriangle) (rest : List ℕ) → v ≤ 2 ^ 64 → IsWithin v t
-    → rows_from n (lines_from s (listed_face t ++ rest)) ≡ face_row n s t ∷ rows_from (n + 1) (lines_from (s + length (joined (51 ∷ []) (index_texts t)) + 1) rest)
+    → rows_from n (lines_from s (listed_face t ++ rest)) ≡ face_row n s t
+    ∷ rows_from (n + 1) (lines_from (s + length (joined (51 ∷ []) (index_texts t)) + 1) rest)
 unfolding listed_face indices_line
 first_face v n s t rest few h = row_of_words n s (51 ∷ []) (index_texts t) rest three_word (index_words v t few h)
 

@@ -20,7 +20,8 @@ use Rattle.ember_text_reading.proofs.OffRows.{row_at, row_of_words}
 coordinate_ok : (line : ℕ) (word : Piece) (text : List ℕ) (x : Fraction) → word.text ≡ text → value_of_text text ≡ Some x → coordinate_in line word ≡ Ok x
 coordinate_ok line word text x e h = ap (λ (o : Option Fraction). coordinate_or_fault line word o) (ap value_of_text e ∙ h)
 
-three_ok : (line : ℕ) (words : List Piece) (a b c : List ℕ) (x y z : Fraction) → texts words ≡ a ∷ b ∷ c ∷ [] → value_of_text a ≡ Some x → value_of_text b ≡ Some y → value_of_text c ≡ Some z
+three_ok : (line : ℕ) (words : List Piece) (a b c : List ℕ) (x y z : Fraction) → texts words ≡ a ∷ b ∷ c ∷ [] →
+    value_of_text a ≡ Some x → value_of_text b ≡ Some y → value_of_text c ≡ Some z
     → point_of_words line (first_three words) ≡ Ok (record { x = x; y = y; z = z })
 three_ok line [] a b c x y z e f g h = absurd (cc)
 three_ok line (p ∷ []) a b c x y z e f g h = absurd (cc)
@@ -36,7 +37,8 @@ vertex_row places n s p = row_at n s (coordinate_text places p.x) (other_coordin
 
 vertex_ok : (places n s : ℕ) (p : DecimalPoint) → IsPointBelow places p → point_in (vertex_row places n s p) ≡ Ok (read_point places p)
 vertex_ok places n s p h =
-    three_ok n (vertex_row places n s p).words (coordinate_text places p.x) (coordinate_text places p.y) (coordinate_text places p.z) (read_value places p.x) (read_value places p.y) (read_value places p.z)
+    three_ok n (vertex_row places n s p).words (coordinate_text places p.x) (coordinate_text places p.y)
+    (coordinate_text places p.z) (read_value places p.x) (read_value places p.y) (read_value places p.z)
     (joined_words s (coordinate_text places p.x) (other_coordinates places p) (coordinate_word places p.x h.x) (other_coordinates_words places p h))
     (coordinate_is_read places p.x h.x).is (coordinate_is_read places p.y h.y).is (coordinate_is_read places p.z h.z).is
 
@@ -50,7 +52,9 @@ pub record AreVertices (places n s : ℕ) (ps : List DecimalPoint) (rest : List 
   pub points : points_of rows ≡ Ok (map (read_point places) ps)
 
 first_vertex : (places n s : ℕ) (p : DecimalPoint) (rest : List ℕ) → IsPointBelow places p
-    → rows_from n (lines_from s (point_line places p ++ rest)) ≡ vertex_row places n s p ∷ rows_from (n + 1) (lines_from (s + length (joined (coordinate_text places p.x) (other_coordinates places p)) + 1) rest)
+    → rows_from n (lines_from s (point_line places p ++ rest)) ≡ vertex_row places n s p
+    ∷ rows_from (n + 1) (lines_from (s + length (joined (coordinate_text places p.x) (other_coordinates places p))
+    + 1) rest)
 unfolding point_line
 first_vertex places n s p rest h =
     row_of_words n s (coordinate_text places p.x) (other_coordinates places p) rest (coordinate_word places p.x h.x) (other_coordinates_words places p h)

@@ -9,7 +9,8 @@ use Rattle.ember_text_reading.proofs.Lines.{IsWord, spaced, joined, texts, joine
 abbrev pub row_at : ℕ → ℕ → List ℕ → List (List ℕ) → Words
 row_at n s w ws = record { line = n; words = words_from s (joined w ws) [] }
 
-some_words : (n : ℕ) (words : List Piece) (w : List ℕ) (ws : List (List ℕ)) (rows : List Words) → texts words ≡ w ∷ ws → with_row n words rows ≡ record { line = n; words = words } ∷ rows
+some_words : (n : ℕ) (words : List Piece) (w : List ℕ) (ws : List (List ℕ)) (rows : List Words) → texts words ≡ w ∷ ws →
+    with_row n words rows ≡ record { line = n; words = words } ∷ rows
 some_words n [] w ws rows e = absurd (cc)
 some_words n (x ∷ xs) w ws rows e = refl
 

@@ -1,5 +1,6 @@
 -- An OFF text, read again
-use Rattle.std.proofs.Common.{◌≡◌, ℕ, zero, suc, ◌+◌, ◌<◌, ◌^◌, true, leb, List, [], ◌∷◌, ◌++◌, length, take, drop, length-append, Option, Some, Ok, Err, refl, ap, ap₂, ◌∙◌, arith, decimal}
+use Rattle.std.proofs.Common.{◌≡◌, ℕ, zero, suc, ◌+◌, ◌<◌, ◌^◌, true, leb, List, [], ◌∷◌, ◌++◌, length, take, drop}
+use Rattle.std.proofs.Common.{length-append, Option, Some, Ok, Err, refl, ap, ap₂, ◌∙◌, arith, decimal}
 use Rattle.std.specs.Prelude.{All, flat_map, if◌then◌else◌}
 use Rattle.std.proofs.lemmas.Bool.Decides.{nat_tests}
 use Rattle.std.proofs.lemmas.List.{take_all}
@@ -8,7 +9,8 @@ use Rattle.ember_mesh_text.specs.Lines.{point_line, listed_face}
 use Rattle.ember_mesh_text.specs.Texts.{off_header, off_text}
 use Rattle.ember_number.specs.Naturals.{number_of}
 use Rattle.ember_off.specs.declared.fault.OffFault.TheVariants.{NoOff, FewLines}
-use Rattle.ember_off.specs.ReadOff.{Counts, points_of, facets_of, two_counts, counts_of, whole, counted, behind_keyword, is_keyword, with_keyword, content_in, near_or_fault, as_mesh, read_off_of}
+use Rattle.ember_off.specs.ReadOff.{Counts, points_of, facets_of, two_counts, counts_of, whole, counted, behind_keyword}
+use Rattle.ember_off.specs.ReadOff.{is_keyword, with_keyword, content_in, near_or_fault, as_mesh, read_off_of}
 use Rattle.ember_off.specs.Rows.{Words, rows_from, rows_of}
 use Rattle.ember_scan.specs.Parts.{Piece, lines_from}
 use Rattle.ember_surface.specs.declared.surface.Facet.{Facet}
@@ -47,14 +49,16 @@ keyword_row = row_at 1 0 off_word []
 abbrev counts_row : ℕ → ℕ → Words
 counts_row v f = row_at 2 4 (decimal v) (others f)
 
-keyword_found : (words : List Piece) (row : Words) (rows : List Words) → texts words ≡ off_word ∷ [] → with_keyword words (row ∷ rows) ≡ counted (counts_of row.words) rows
+keyword_found : (words : List Piece) (row : Words) (rows : List Words) → texts words ≡ off_word ∷ [] →
+    with_keyword words (row ∷ rows) ≡ counted (counts_of row.words) rows
 keyword_found [] row rows e = absurd (cc)
 keyword_found (w ∷ []) row rows e =
     let is : w.text ≡ off_word = cc in
     ap (λ (l : List ℕ). if is_keyword l then behind_keyword [] (row ∷ rows) else Err NoOff) is
 keyword_found (w ∷ x ∷ more) row rows e = absurd (cc)
 
-counts_found : (words : List Piece) (v f : ℕ) → v < 2 ^ 64 → f < 2 ^ 64 → texts words ≡ decimal v ∷ others f → counts_of words ≡ Some (record { vertices = v; faces = f })
+counts_found : (words : List Piece) (v f : ℕ) → v < 2 ^ 64 → f < 2 ^ 64 → texts words ≡ decimal v ∷ others f →
+    counts_of words ≡ Some (record { vertices = v; faces = f })
 counts_found [] v f few small e = absurd (cc)
 counts_found (w ∷ []) v f few small e = absurd (cc)
 counts_found (w ∷ x ∷ more) v f few small e =
@@ -87,7 +91,8 @@ drop_front (suc n) (x ∷ xs) ys e = drop_front n xs ys (omega (arith, e))
 enough : (v f : ℕ) (vs fs : List Words) → length vs ≡ v → length fs ≡ f → leb (v + f) (length (vs ++ fs)) ≡ true
 enough v f vs fs a b = let both = length-append vs fs in grind (arith, nat_tests)
 
-counted_rows : (v f : ℕ) (vs fs : List Words) (points : List Point) (facets : List Facet) → length vs ≡ v → length fs ≡ f → points_of vs ≡ Ok points → facets_of v fs ≡ Ok facets
+counted_rows : (v f : ℕ) (vs fs : List Words) (points : List Point) (facets : List Facet) → length vs ≡ v →
+    length fs ≡ f → points_of vs ≡ Ok points → facets_of v fs ≡ Ok facets
     → counted (Some (record { vertices = v; faces = f })) (vs ++ fs) ≡ Ok (record { points = points; facets = facets })
 counted_rows v f vs fs points facets a b p q =
     let front = take_front v vs fs a in
@@ -96,11 +101,13 @@ counted_rows v f vs fs points facets a b p q =
     ∙ ap₂ whole (ap points_of front ∙ p) (ap (facets_of v) back ∙ q)
 
 -- ---- the mesh
-mesh_ok : (n places : ℕ) (ps : List DecimalPoint) (ts : List IndexedTriangle) → 0 < length ts → All (IsPointBelow places) ps → as_mesh (Ok (content_from n places ps ts)) ≡ Ok (content_from n places ps ts)
+mesh_ok : (n places : ℕ) (ps : List DecimalPoint) (ts : List IndexedTriangle) → 0 < length ts →
+    All (IsPointBelow places) ps → as_mesh (Ok (content_from n places ps ts)) ≡ Ok (content_from n places ps ts)
 mesh_ok n places ps [] some h = absurd (omega (arith, some))
 mesh_ok n places ps (t ∷ ts) some h = ap (near_or_fault (content_from n places ps (t ∷ ts))) (content_near n places ps (t ∷ ts) h)
 
-off_content : (places : ℕ) (ps : List DecimalPoint) (ts : List IndexedTriangle) → AreReadable places ps ts → content_in (rows_of (off_text places ps ts)) ≡ Ok (content_from (3 + length ps) places ps ts)
+off_content : (places : ℕ) (ps : List DecimalPoint) (ts : List IndexedTriangle) → AreReadable places ps ts →
+    content_in (rows_of (off_text places ps ts)) ≡ Ok (content_from (3 + length ps) places ps ts)
 off_content places ps ts h =
     let v = length ps in
     let f = length ts in
@@ -111,10 +118,16 @@ off_content places ps ts h =
     let rows = front.is ∙ ap (λ (l : List Words). front.rows ++ l) back.is in
     ap content_in (header.1 ∙ ap (λ (l : List Words). keyword_row ∷ counts_row v f ∷ l) rows)
     ∙ keyword_found keyword_row.words (counts_row v f) (front.rows ++ back.rows) (joined_words 0 off_word [] off_is_word (All-nil IsWord))
-    ∙ ap (λ (c : Option Counts). counted c (front.rows ++ back.rows)) (counts_found (counts_row v f).words v f h.few_points h.few_triangles (joined_words 4 (decimal v) (others f) (number_word v h.few_points) (others_words f h.few_triangles)))
+    ∙ ap (λ (c : Option Counts). counted c (front.rows ++ back.rows))
+    (counts_found (counts_row v f).words v f h.few_points h.few_triangles
+    (joined_words 4 (decimal v) (others f) (number_word v h.few_points) (others_words f h.few_triangles)))
     ∙ counted_rows v f front.rows back.rows _ _ front.count back.count front.points back.facets
 
 pub off_is_read : (places : ℕ) (ps : List DecimalPoint) (ts : List IndexedTriangle) → AreReadable places ps ts
     → (content : Content) × (read_off_of (off_text places ps ts) ≡ Ok content) × IsReadAs places ps ts content
-off_is_read places ps ts h =
-    (content_from (3 + length ps) places ps ts, ap as_mesh (off_content places ps ts h) ∙ mesh_ok (3 + length ps) places ps ts h.triangles h.below, content_is_read (3 + length ps) places ps ts h.below)
+off_is_read places ps ts h = (
+  content_from (3 + length ps) places ps ts,
+  ap as_mesh (off_content places ps ts h)
+      ∙ mesh_ok (3 + length ps) places ps ts h.triangles h.below,
+  content_is_read (3 + length ps) places ps ts h.below,
+)

@@ -37,11 +37,19 @@ abbrev pub format_declared : Header
 format_declared = record { encoding = encoding_named (codes "ascii"); kind = None; declarations = [] }
 
 -- ---- lines without numbers
-pub format_lines : (rest : List ℕ) → header_from 1 nothing_declared (lines_from 0 (codes "ply\nformat ascii 1.0\ncomment ember-mesh: rounded from an exact result\n" ++ rest)) ≡ header_from 4 format_declared (lines_from 70 rest)
+pub format_lines : (rest : List ℕ) → header_from 1 nothing_declared
+    (lines_from 0 (codes "ply\nformat ascii 1.0\ncomment ember-mesh: rounded from an exact result\n" ++ rest))
+    ≡ header_from 4 format_declared (lines_from 70 rest)
 format_lines rest = refl
 
-pub axis_lines : (h : Header) (s : ℕ) (rest : List ℕ) → (next : ℕ) × (header_from 5 (behind_element (codes "vertex") h) (lines_from s (codes "property double x\nproperty double y\nproperty double z\n" ++ rest)) ≡ header_from 8 (with_axes (behind_element (codes "vertex") h)) (lines_from next rest))
+pub axis_lines : (h : Header) (s : ℕ) (rest : List ℕ) →
+    (next : ℕ) × (header_from 5 (behind_element (codes "vertex") h)
+    (lines_from s (codes "property double x\nproperty double y\nproperty double z\n" ++ rest)) ≡ header_from 8
+    (with_axes (behind_element (codes "vertex") h)) (lines_from next rest))
 axis_lines h s rest = (_, refl)
 
-pub last_lines : (h : Header) (s : ℕ) (rest : List ℕ) → header_from 9 (behind_element (codes "face") h) (lines_from s (codes "property list uchar int vertex_indices\nend_header\n" ++ rest)) ≡ Ok (with_corners (behind_element (codes "face") h), 10)
+pub last_lines : (h : Header) (s : ℕ) (rest : List ℕ) →
+    header_from 9 (behind_element (codes "face") h)
+    (lines_from s (codes "property list uchar int vertex_indices\nend_header\n" ++ rest)) ≡ Ok
+    (with_corners (behind_element (codes "face") h), 10)
 last_lines h s rest = refl

@@ -1,5 +1,6 @@
 -- A PLY text, read again
-use Rattle.std.proofs.Common.{◌≡◌, ℕ, ◌+◌, ◌<◌, ◌≤◌, ◌^◌, List, [], ◌∷◌, ◌++◌, length, map, min, append_assoc, Some, Result, Ok, refl, sym, ap, subst, ◌∙◌, arith, decimal, codes}
+use Rattle.std.proofs.Common.{◌≡◌, ℕ, ◌+◌, ◌<◌, ◌≤◌, ◌^◌, List, [], ◌∷◌, ◌++◌, length, map, min, append_assoc, Some}
+use Rattle.std.proofs.Common.{Result, Ok, refl, sym, ap, subst, ◌∙◌, arith, decimal, codes}
 use Rattle.std.specs.Prelude.{All, flat_map}
 use Rattle.std.proofs.lemmas.List.{length-map}
 use Rattle.ember_mesh_text.specs.Lines.{point_line, listed_face}
@@ -62,7 +63,8 @@ element_line k h s name n rest word small =
     let others = name ∷ decimal n ∷ [] in
     let are_words = two_words name (decimal n) word (number_word n small) in
     let next = s + length (joined (codes "element") others) + 1 in
-    let entry = element_words h (words_from s (joined (codes "element") others) []) name n small (joined_words s (codes "element") others element_word are_words) in
+    let entry = element_words h (words_from s (joined (codes "element") others) []) name n small
+    (joined_words s (codes "element") others element_word are_words) in
     record {
       place = entry.0;
       next = next;
@@ -90,19 +92,25 @@ line_end n x body = append_assoc n (10 ∷ x) body ∙ sym (append_assoc n (10 �
 header_lines : (v f : ℕ) (body : List ℕ) → ply_header v f ++ body ≡ header_text v f body
 unfolding ply_header
 header_lines v f body =
-    ap (λ (l : List ℕ). format_text ++ (codes "element vertex " ++ l)) (line_end (decimal v) (axes_text ++ (codes "element face " ++ (decimal f ++ (10 ∷ list_text)))) body)
+    ap (λ (l : List ℕ). format_text ++ (codes "element vertex " ++ l))
+    (line_end (decimal v) (axes_text ++ (codes "element face " ++ (decimal f ++ (10 ∷ list_text)))) body)
     ∙ ap (λ (l : List ℕ). format_text ++ (element_text (codes "vertex") v ++ (axes_text ++ (codes "element face " ++ l)))) (line_end (decimal f) list_text body)
 
 body_follows : (v f : ℕ) (body : List ℕ) → v < 2 ^ 64 → f < 2 ^ 64 → after_lines 10 (header_text v f body) ≡ body
 body_follows v f body few small =
     ap (λ (l : List ℕ). after_lines 6 l)
-    (line_passed (codes "element") (codes "vertex" ∷ decimal v ∷ []) (axes_text ++ (element_text (codes "face") f ++ (list_text ++ body))) element_word (two_words (codes "vertex") (decimal v) vertex_word (number_word v few)))
+    (line_passed (codes "element") (codes "vertex" ∷ decimal v ∷ [])
+    (axes_text ++ (element_text (codes "face") f ++ (list_text ++ body))) element_word
+    (two_words (codes "vertex") (decimal v) vertex_word (number_word v few)))
     ∙ ap (λ (l : List ℕ). after_lines 2 l)
-    (line_passed (codes "element") (codes "face" ∷ decimal f ∷ []) (list_text ++ body) element_word (two_words (codes "face") (decimal f) face_word (number_word f small)))
+    (line_passed (codes "element") (codes "face" ∷ decimal f ∷ []) (list_text ++ body) element_word
+    (two_words (codes "face") (decimal f) face_word (number_word f small)))
 
 abbrev whole_header : ℕ → ℕ → ℕ → ℕ → Header
 whole_header a v b f =
-    with_corners (behind_element (codes "face") (with_element (with_axes (behind_element (codes "vertex") (with_element format_declared (piece a (codes "vertex")) v))) (piece b (codes "face")) f))
+    with_corners (behind_element (codes "face") (with_element
+    (with_axes (behind_element (codes "vertex") (with_element format_declared (piece a (codes "vertex")) v)))
+    (piece b (codes "face")) f))
 
 -- the header is read, and the names of its elements have these places
 record IsHeader (v f : ℕ) (body : List ℕ) : Type 0 where
@@ -145,13 +153,18 @@ not_cut : (n : ℕ) → n ≤ 10 ^ 15 → most n ≡ n
 not_cut n few = omega (arith, few)
 
 triangles_read : (a b s places : ℕ) (ps : List DecimalPoint) (ts : List IndexedTriangle) → AreReadable places ps ts → length ts ≤ 10 ^ 15
-    → all_rows a (length ps) b (length ts) (Ok (record { points = map (read_point places) ps; facets = [] }, Words [] (rows_of (lines_from s (flat_map listed_face ts))))) ≡ Ok (content_from 1 places ps ts)
+    → all_rows a (length ps) b (length ts) (Ok (
+      record { points = map (read_point places) ps; facets = [] },
+      Words [] (rows_of (lines_from s (flat_map listed_face ts))),
+    )) ≡ Ok (content_from 1 places ps ts)
 unfolding all_rows
 triangles_read a b s places ps ts h few =
     let f = length ts in
     let count : length ps ≡ length (map (read_point places) ps) = sym (length-map ps (read_point places)) in
     ap (λ (r : Result (Content × Cursor) PlyFault). and_then r (λ r. Ok r.0))
-    (faces (span_of (piece b (codes "face"))) (most f) 1 (most f) s ts (record { points = map (read_point places) ps; facets = [] }) (not_cut f few) (omega (arith, count, h.few_points)) (subst (λ (v : ℕ). All (IsWithin v) ts) count h.within))
+    (faces (span_of (piece b (codes "face"))) (most f) 1 (most f) s ts
+    (record { points = map (read_point places) ps; facets = [] }) (not_cut f few) (omega (arith, count, h.few_points))
+    (subst (λ (v : ℕ). All (IsWithin v) ts) count h.within))
 
 ply_content : (places : ℕ) (ps : List DecimalPoint) (ts : List IndexedTriangle) → AreReadable places ps ts → length ps ≤ 10 ^ 15 → length ts ≤ 10 ^ 15
     → content_of_file (ply_text places ps ts) ≡ Ok (content_from 1 places ps ts)
@@ -167,11 +180,16 @@ ply_content places ps ts h few small =
     ∙ ap (all_rows header.a v header.b f) front.is
     ∙ triangles_read header.a header.b front.next places ps ts h small
 
-mesh_ok : (n places : ℕ) (ps : List DecimalPoint) (ts : List IndexedTriangle) → 0 < length ts → All (IsPointBelow places) ps → as_mesh (Ok (content_from n places ps ts)) ≡ Ok (content_from n places ps ts)
+mesh_ok : (n places : ℕ) (ps : List DecimalPoint) (ts : List IndexedTriangle) → 0 < length ts →
+    All (IsPointBelow places) ps → as_mesh (Ok (content_from n places ps ts)) ≡ Ok (content_from n places ps ts)
 mesh_ok n places ps [] some h = absurd (omega (arith, some))
 mesh_ok n places ps (t ∷ ts) some h = ap (near_or_fault (content_from n places ps (t ∷ ts))) (content_near n places ps (t ∷ ts) h)
 
 pub ply_is_read : (places : ℕ) (ps : List DecimalPoint) (ts : List IndexedTriangle) → AreReadable places ps ts → length ps ≤ 10 ^ 15 → length ts ≤ 10 ^ 15
     → (content : Content) × (read_ply_of (ply_text places ps ts) ≡ Ok content) × IsReadAs places ps ts content
-ply_is_read places ps ts h few small =
-    (content_from 1 places ps ts, ap as_mesh (ply_content places ps ts h few small) ∙ mesh_ok 1 places ps ts h.triangles h.below, content_is_read 1 places ps ts h.below)
+ply_is_read places ps ts h few small = (
+  content_from 1 places ps ts,
+  ap as_mesh (ply_content places ps ts h few small)
+      ∙ mesh_ok 1 places ps ts h.triangles h.below,
+  content_is_read 1 places ps ts h.below,
+)

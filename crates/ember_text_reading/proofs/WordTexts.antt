@@ -47,7 +47,8 @@ coordinate_word places units h =
     let wide : w < 2 ^ 64 = omega (arith, whole_small size places h) in
     let tail = fraction_tail places part (fraction_places places part (mod-lt size (pow_ten_pos places))).digits in
     plain_word (coordinate_text places units)
-    (behind_some (sign_text (int_lt units (pos 0)) size) (decimal w ++ fraction_text places part) (front_some (decimal w) (fraction_text places part) (decimal_nonempty w wide)))
+    (behind_some (sign_text (int_lt units (pos 0)) size) (decimal w ++ fraction_text places part)
+    (front_some (decimal w) (fraction_text places part) (decimal_nonempty w wide)))
     (All-append IsPlain (sign_text (int_lt units (pos 0)) size) (decimal w ++ fraction_text places part) (minus_plain _)
     (All-append IsPlain (decimal w) (fraction_text places part) (digits_plain (decimal w) (decimal_digits w wide)) tail.plain))
 
@@ -70,4 +71,5 @@ index_texts t = decimal t.a ∷ decimal t.b ∷ decimal t.c ∷ []
 
 pub index_words : (v : ℕ) (t : IndexedTriangle) → v ≤ 2 ^ 64 → IsWithin v t → All IsWord (index_texts t)
 index_words v t few h =
-    three_words (decimal t.a) (decimal t.b) (decimal t.c) (number_word t.a (omega (arith, few, h.a))) (number_word t.b (omega (arith, few, h.b))) (number_word t.c (omega (arith, few, h.c)))
+    three_words (decimal t.a) (decimal t.b) (decimal t.c) (number_word t.a (omega (arith, few, h.a)))
+    (number_word t.b (omega (arith, few, h.b))) (number_word t.c (omega (arith, few, h.c)))

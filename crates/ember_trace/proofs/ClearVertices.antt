@@ -36,7 +36,8 @@ use Rattle.ember_box.specs.Reference.{reference_at}
 use Rattle.ember_ref.proofs.ReferenceSigns.{sign_at_reference, level_from}
 use Rattle.ember_ref.proofs.NearPoints.{HasPoint, IsAcross}
 use Rattle.ember_trace.proofs.PathVertices.{with_along}
-use Rattle.ember_trace.proofs.VertexSides.{IsClose, AreStops, both_zero, stop_at_start, stop_after_first, stop_after_second, start_sign, first_sign, second_sign}
+use Rattle.ember_trace.proofs.VertexSides.{IsClose, AreStops, both_zero, stop_at_start, stop_after_first}
+use Rattle.ember_trace.proofs.VertexSides.{stop_after_second, start_sign, first_sign, second_sign}
 use Rattle.ember_trace.proofs.SegmentCrossings.{IsEnd, edge_support, start_above, start_weight}
 
 -- a point that is on no plane of a triangle's size but those without a normal
@@ -46,14 +47,28 @@ IsGeneric p = (h : Plane) → IsSupportSized h → value_at h p ≡ pos 0 → No
 line_sized : (u v : Corner) (k : Axis) → IsValidCorner u → IsValidCorner v → IsSupportSized (edge_through u v (unit k))
 line_sized u v k iu iv =
     let h = edge_through u v (unit k) in let s = edge_support (edge_sized u v k (pos 1) iu iv (record { small = le_refl 1 })) in
-    record { a = subst (Small 33554431) (one-*ℤ h.a) s.a; b = subst (Small 33554431) (one-*ℤ h.b) s.b; c = subst (Small 33554431) (one-*ℤ h.c) s.c; d = subst (Small 206158430207) (one-*ℤ h.d) s.d }
+    record {
+      a = subst (Small 33554431) (one-*ℤ h.a) s.a;
+      b = subst (Small 33554431) (one-*ℤ h.b) s.b;
+      c =
+          subst (Small 33554431) (one-*ℤ h.c) s.c;
+      d = subst (Small 206158430207) (one-*ℤ h.d) s.d;
+    }
 
 generic_of : (p : Spot) (t : Tri) → pos 0 <ℤ p.w → IsGeneric p → IsValidTri t → IsClearOf t p
 generic_of p t w g i = off_clear p t (off X) (off Y) (off Z)
   where
     off : (k : Axis) → IsOff (unit k) p t
     off k =
-        record { weight = w; plane = g (support_of t) (support_sized t i); first = g _ (line_sized t.a t.b k i.a i.b); second = g _ (line_sized t.b t.c k i.b i.c); third = g _ (line_sized t.c t.a k i.c i.a) }
+        record {
+          weight = w;
+          plane = g (support_of t) (support_sized t i);
+          first =
+              g _ (line_sized t.a t.b k i.a i.b);
+          second = g _ (line_sized t.b t.c k i.b i.c);
+          third =
+              g _ (line_sized t.c t.a k i.c i.a);
+        }
 
 -- a generic point is clear of all valid triangles
 pub generic_clear : (p : Spot) (ts : List Tri) → pos 0 <ℤ p.w → IsGeneric p → All IsValidTri ts → AreClear (faces_of ts) p
@@ -94,15 +109,39 @@ has_with c a u v f g = by a
     b c k = interval_between (low c k) (high c k)
 
     by : (a : Axis) → HasPoint c (with_along a u v)
-    by X = record { weight = w; on_x = replaced_across (b c X) u.x v.x u.w v.w zu g.on_x; on_y = scaled_across (b c Y) v.w u.y u.w zv f.on_y; on_z = scaled_across (b c Z) v.w u.z u.w zv f.on_z }
-    by Y = record { weight = w; on_x = scaled_across (b c X) v.w u.x u.w zv f.on_x; on_y = replaced_across (b c Y) u.y v.y u.w v.w zu g.on_y; on_z = scaled_across (b c Z) v.w u.z u.w zv f.on_z }
-    by Z = record { weight = w; on_x = scaled_across (b c X) v.w u.x u.w zv f.on_x; on_y = scaled_across (b c Y) v.w u.y u.w zv f.on_y; on_z = replaced_across (b c Z) u.z v.z u.w v.w zu g.on_z }
+    by X = record {
+      weight = w;
+      on_x = replaced_across (b c X) u.x v.x u.w v.w zu g.on_x;
+      on_y =
+          scaled_across (b c Y) v.w u.y u.w zv f.on_y;
+      on_z = scaled_across (b c Z) v.w u.z u.w zv f.on_z;
+    }
+    by Y = record {
+      weight = w;
+      on_x = scaled_across (b c X) v.w u.x u.w zv f.on_x;
+      on_y =
+          replaced_across (b c Y) u.y v.y u.w v.w zu g.on_y;
+      on_z = scaled_across (b c Z) v.w u.z u.w zv f.on_z;
+    }
+    by Z = record {
+      weight = w;
+      on_x = scaled_across (b c X) v.w u.x u.w zv f.on_x;
+      on_y =
+          scaled_across (b c Y) v.w u.y u.w zv f.on_y;
+      on_z = replaced_across (b c Z) u.z v.z u.w v.w zu g.on_z;
+    }
 
 -- a box contains the start of its paths
 pub has_start : (c : Cell) (n : ℕ) → 2 ^ 27 ≤ n → HasPoint c (stop_at_start c.lo n)
 has_start c n l =
     let w = start_weight c.lo n l in let x = start_above c.lo n X l in let y = start_above c.lo n Y l in let z = start_above c.lo n Z l in
-    record { weight = w; on_x = across (c.lo.x) (c.log X) _ _ w x.from x.to; on_y = across c.lo.y (c.log Y) _ _ w y.from y.to; on_z = across c.lo.z (c.log Z) _ _ w z.from z.to }
+    record {
+      weight = w;
+      on_x = across (c.lo.x) (c.log X) _ _ w x.from x.to;
+      on_y =
+          across c.lo.y (c.log Y) _ _ w y.from y.to;
+      on_z = across c.lo.z (c.log Z) _ _ w z.from z.to;
+    }
   where
     across : (l : ℤ) (n : ℕ) (y w : ℤ) → pos 0 <ℤ w → (l *ℤ w) <ℤ y → y <ℤ ((l +ℤ pos 1) *ℤ w) → IsAcross (interval_between l (l +ℤ pos (2 ^ n))) y w
     across l n y w p f t =

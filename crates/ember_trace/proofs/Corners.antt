@@ -1,5 +1,7 @@
 -- The first three corners of an outline don't lie on one line, and inside points lie between them.
-use Rattle.std.proofs.Common.{◌≡◌, ◌≢◌, ⊎_elim, refl, sym, ap, ◌∙◌, arith, ℕ, zero, suc, Bool, true, false, not, ◌&&◌, List, [], ◌∷◌, length, None, Some, slice_get, subst, ℤ, pos, ◌+ℤ◌, ◌-ℤ◌, ◌*ℤ◌, neg_ℤ, ◌<ℤ◌, ◌≤ℤ◌}
+use Rattle.std.proofs.Common.{◌≡◌, ◌≢◌, ⊎_elim, refl, sym, ap, ◌∙◌, arith, ℕ, zero, suc, Bool, true, false, not, ◌&&◌}
+use Rattle.std.proofs.Common.{List, [], ◌∷◌, length, None, Some, slice_get, subst, ℤ, pos, ◌+ℤ◌, ◌-ℤ◌, ◌*ℤ◌, neg_ℤ}
+use Rattle.std.proofs.Common.{◌<ℤ◌, ◌≤ℤ◌}
 use Rattle.ember_algebra.specs.Vector.{cross}
 use Rattle.ember_algebra.specs.Sign.{is_zero, is_positive}
 use Rattle.ember_algebra.proofs.Laws.{linear}
@@ -46,7 +48,11 @@ reach_value n g v =
 
 way_turn : (n g : Plane) (u v : Spot) → orientation (way u v) n g ≡ u.w *ℤ position_along n g v -ℤ v.w *ℤ position_along n g u
 way_turn n g u v =
-    identity (tuple ∷ tuple ∷ tuple ∷ tuple ∷ []) (λ n g u v. dotE (record { x = u.w ⊗ v.x ⊖ v.w ⊗ u.x; y = u.w ⊗ v.y ⊖ v.w ⊗ u.y; z = u.w ⊗ v.z ⊖ v.w ⊗ u.z }) (crossE (normalE n) (normalE g)) ≈ u.w ⊗ dotE (crossE (normalE n) (normalE g)) (record { x = v.x; y = v.y; z = v.z }) ⊖ v.w ⊗ dotE (crossE (normalE n) (normalE g)) (record { x = u.x; y = u.y; z = u.z })) cancels (plane_tuple n) (plane_tuple g) (spot_tuple u) (spot_tuple v)
+    identity (tuple ∷ tuple ∷ tuple ∷ tuple ∷ [])
+    (λ n g u v. dotE (record { x = u.w ⊗ v.x ⊖ v.w ⊗ u.x; y = u.w ⊗ v.y ⊖ v.w ⊗ u.y; z = u.w ⊗ v.z ⊖ v.w ⊗ u.z })
+    (crossE (normalE n) (normalE g)) ≈ u.w ⊗ dotE (crossE (normalE n) (normalE g))
+    (record { x = v.x; y = v.y; z = v.z }) ⊖ v.w ⊗ dotE (crossE (normalE n) (normalE g))
+    (record { x = u.x; y = u.y; z = u.z })) cancels (plane_tuple n) (plane_tuple g) (spot_tuple u) (spot_tuple v)
 
 -- one place is as far along as itself
 not_before : (n g : Plane) (u v : Spot) → v.w *ℤ position_along n g u ≡ u.w *ℤ position_along n g v → IsBefore n g u v → ⊥
@@ -68,7 +74,8 @@ none_at [] x h i p e = by e
     by : None ≡ Some p → value_at p x ≤ℤ pos 0
     by e = cc
 none_at (g ∷ es) x h zero p e =
-    subst (λ (p : Plane). value_at p x ≤ℤ pos 0) (by e) (not_positive_out (value_at g x) (and_parts (not (is_positive (value_at g x))) (none_positive es x) h).0)
+    subst (λ (p : Plane). value_at p x ≤ℤ pos 0) (by e)
+    (not_positive_out (value_at g x) (and_parts (not (is_positive (value_at g x))) (none_positive es x) h).0)
   where
     by : Some g ≡ Some p → g ≡ p
     by e = cc
@@ -84,15 +91,20 @@ sum_below : (k a b c : ℤ) → pos 0 <ℤ k → a ≤ℤ pos 0 → b ≤ℤ pos
 sum_below k a b c l la lb lc n =
     by_sign a (λ p. absurd (omega (arith, linear, p, la)))
     (λ za. by_sign b (λ p. absurd (omega (arith, linear, p, lb)))
-    (λ zb. by_sign c (λ p. absurd (omega (arith, linear, p, lc))) (λ zc. absurd (n za zb zc)) (λ p. let e = zero_times a k za in let f : a *ℤ k +ℤ b ≡ pos 0 = omega (arith, linear, e, zb) in let g = zero_times (a *ℤ k +ℤ b) k f in omega (arith, linear, g, p)))
+    (λ zb. by_sign c (λ p. absurd (omega (arith, linear, p, lc))) (λ zc. absurd (n za zb zc)) (λ p. let e =
+    zero_times a k za in let f : a *ℤ k +ℤ b ≡ pos 0 = omega (arith, linear, e, zb) in let g =
+    zero_times (a *ℤ k +ℤ b) k f in omega (arith, linear, g, p)))
     (λ p. let e = zero_times a k za in let f : (a *ℤ k +ℤ b) <ℤ pos 0 = omega (arith, linear, e, p) in let g = mul_neg_pos f l in omega (arith, linear, g, lc)))
     (λ p. let e = mul_neg_pos p l in let f : (a *ℤ k +ℤ b) <ℤ pos 0 = omega (arith, linear, e, lb) in let g = mul_neg_pos f l in omega (arith, linear, g, lc))
 
 -- ---- numbers
 -- of a sum whose other terms are zero the last term is zero
-last_zero : (t y a b c w x nx nv gx gv hx hv : ℤ) → pos 0 <ℤ c → pos 0 <ℤ w → t ≡ pos 0 → nx ≡ pos 0 → nv ≡ pos 0 → gx ≡ pos 0 → gv ≡ pos 0 → hv ≡ pos 0 → t *ℤ y ≡ a *ℤ (w *ℤ nx -ℤ x *ℤ nv) +ℤ b *ℤ (w *ℤ gx -ℤ x *ℤ gv) +ℤ c *ℤ (w *ℤ hx -ℤ x *ℤ hv) → hx ≡ pos 0
+last_zero : (t y a b c w x nx nv gx gv hx hv : ℤ) → pos 0 <ℤ c → pos 0 <ℤ w → t ≡ pos 0 → nx ≡ pos 0 → nv ≡ pos 0 →
+    gx ≡ pos 0 → gv ≡ pos 0 → hv ≡ pos 0 → t *ℤ y ≡ a *ℤ (w *ℤ nx -ℤ x *ℤ nv) +ℤ b *ℤ (w *ℤ gx -ℤ x *ℤ gv) +ℤ c *ℤ
+    (w *ℤ hx -ℤ x *ℤ hv) → hx ≡ pos 0
 last_zero t y a b c w x nx nv gx gv hx hv pc pw tz nxz nvz gxz gvz hvz e =
-    let zt = zero_times t y tz in let za = zero_scaled a (w *ℤ nx -ℤ x *ℤ nv) (both_zero w x nxz nvz) in let zb = zero_scaled b (w *ℤ gx -ℤ x *ℤ gv) (both_zero w x gxz gvz) in
+    let zt = zero_times t y tz in let za = zero_scaled a (w *ℤ nx -ℤ x *ℤ nv) (both_zero w x nxz nvz) in let zb =
+    zero_scaled b (w *ℤ gx -ℤ x *ℤ gv) (both_zero w x gxz gvz) in
     let all : c *ℤ (w *ℤ hx -ℤ x *ℤ hv) ≡ pos 0 = omega (arith, linear, zt, za, zb, e) in
     let rest = cancel_zero c (w *ℤ hx -ℤ x *ℤ hv) pc all in let zx = zero_scaled x hv hvz in
     cancel_zero w hx pw (omega (arith, linear, rest, zx))
@@ -101,9 +113,12 @@ other_zero : (a b : ℤ) → a ≢ pos 0 → a *ℤ b ≡ pos 0 → b ≡ pos 0
 other_zero a b n e = ⊎_elim (λ z. absurd (n z)) (λ z. z) (zero_product e)
 
 -- of a sum of zeros the factor of a number that isn't zero is zero
-first_zero : (d w x px pv a b c nx nv gx gv hx hv : ℤ) → d ≢ pos 0 → pos 0 <ℤ w → b ≡ pos 0 → c ≡ pos 0 → nx ≡ pos 0 → nv ≡ pos 0 → pv ≡ pos 0 → d *ℤ (w *ℤ px -ℤ x *ℤ pv) ≡ a *ℤ (w *ℤ nx -ℤ x *ℤ nv) +ℤ b *ℤ (w *ℤ gx -ℤ x *ℤ gv) +ℤ c *ℤ (w *ℤ hx -ℤ x *ℤ hv) → px ≡ pos 0
+first_zero : (d w x px pv a b c nx nv gx gv hx hv : ℤ) → d ≢ pos 0 → pos 0 <ℤ w → b ≡ pos 0 → c ≡ pos 0 → nx ≡ pos 0 →
+    nv ≡ pos 0 → pv ≡ pos 0 → d *ℤ (w *ℤ px -ℤ x *ℤ pv) ≡ a *ℤ (w *ℤ nx -ℤ x *ℤ nv) +ℤ b *ℤ (w *ℤ gx -ℤ x *ℤ gv) +ℤ c *ℤ
+    (w *ℤ hx -ℤ x *ℤ hv) → px ≡ pos 0
 first_zero d w x px pv a b c nx nv gx gv hx hv nd pw bz cz nxz nvz pvz e =
-    let za = zero_scaled a (w *ℤ nx -ℤ x *ℤ nv) (both_zero w x nxz nvz) in let zb = zero_times b (w *ℤ gx -ℤ x *ℤ gv) bz in let zc = zero_times c (w *ℤ hx -ℤ x *ℤ hv) cz in
+    let za = zero_scaled a (w *ℤ nx -ℤ x *ℤ nv) (both_zero w x nxz nvz) in let zb =
+    zero_times b (w *ℤ gx -ℤ x *ℤ gv) bz in let zc = zero_times c (w *ℤ hx -ℤ x *ℤ hv) cz in
     let all : d *ℤ (w *ℤ px -ℤ x *ℤ pv) ≡ pos 0 = omega (arith, linear, za, zb, zc, e) in
     let rest = other_zero d (w *ℤ px -ℤ x *ℤ pv) nd all in let zx = zero_scaled x pv pvz in
     cancel_zero w px pw (omega (arith, linear, rest, zx))
@@ -135,9 +150,11 @@ edge_at : (f : Face) (g : Plane) (v : Spot) → is_in_closed f v ≡ true → va
 edge_at f g v c z = let e = ap is_zero z in λ i. c i && e i
 
 -- a plane that is 0 at both ends of an edge doesn't turn from it
-no_turn : (f : Face) (g p : Plane) (u v : Spot) → IsBefore f.support g u v → OnEdge f g u → OnEdge f g v → value_at p u ≡ pos 0 → value_at p v ≡ pos 0 → orientation f.support g p ≡ pos 0
+no_turn : (f : Face) (g p : Plane) (u v : Spot) → IsBefore f.support g u v → OnEdge f g u → OnEdge f g v →
+    value_at p u ≡ pos 0 → value_at p v ≡ pos 0 → orientation f.support g p ≡ pos 0
 no_turn f g p u v b a d pu pv =
-    by_sign (orientation f.support g p) (λ l. absurd (turns (λ z. omega (arith, linear, l, z)))) (λ z. z) (λ l. absurd (turns (λ z. omega (arith, linear, l, z))))
+    by_sign (orientation f.support g p) (λ l. absurd (turns (λ z. omega (arith, linear, l, z)))) (λ z. z)
+    (λ l. absurd (turns (λ z. omega (arith, linear, l, z))))
   where
     turns : orientation f.support g p ≢ pos 0 → ⊥
     turns t =
@@ -152,12 +169,21 @@ pub record Parallel (n p : Plane) : Type 0 where
 
 -- a plane that is parallel to one with an entry along k, and has none, has no normal
 pub no_entry : (n p : Plane) (k : Axis) → Parallel n p → along n k ≢ pos 0 → along p k ≡ pos 0 → NoNormal p
-no_entry n p X l s e =
-    (e, other_zero n.a p.b s (let q = zero_scaled n.b p.a e in let r = l.z in omega (arith, linear, q, r)), other_zero n.a p.c s (let q = zero_scaled n.c p.a e in let r = l.y in omega (arith, linear, q, r)))
-no_entry n p Y l s e =
-    (other_zero n.b p.a s (let q = zero_scaled n.a p.b e in let r = l.z in omega (arith, linear, q, r)), e, other_zero n.b p.c s (let q = zero_scaled n.c p.b e in let r = l.x in omega (arith, linear, q, r)))
-no_entry n p Z l s e =
-    (other_zero n.c p.a s (let q = zero_scaled n.a p.c e in let r = l.y in omega (arith, linear, q, r)), other_zero n.c p.b s (let q = zero_scaled n.b p.c e in let r = l.x in omega (arith, linear, q, r)), e)
+no_entry n p X l s e = (
+  e,
+  other_zero n.a p.b s (let q = zero_scaled n.b p.a e in let r = l.z in omega (arith, linear, q, r)),
+  other_zero n.a p.c s (let q = zero_scaled n.c p.a e in let r = l.y in omega (arith, linear, q, r)),
+)
+no_entry n p Y l s e = (
+  other_zero n.b p.a s (let q = zero_scaled n.a p.b e in let r = l.z in omega (arith, linear, q, r)),
+  e,
+  other_zero n.b p.c s (let q = zero_scaled n.c p.b e in let r = l.x in omega (arith, linear, q, r)),
+)
+no_entry n p Z l s e = (
+  other_zero n.c p.a s (let q = zero_scaled n.a p.c e in let r = l.y in omega (arith, linear, q, r)),
+  other_zero n.c p.b s (let q = zero_scaled n.b p.c e in let r = l.x in omega (arith, linear, q, r)),
+  e,
+)
 
 reach_zero : (n p : Plane) (v : Spot) → Parallel n p → position_along n p v ≡ pos 0
 reach_zero n p v h =
@@ -196,12 +222,17 @@ module _ (f : Face) (g h : Plane) (u v w : Spot) (j : Joins f g h u v w) where
       to : (x : Spot) → value_at n x ≡ pos 0 → value_at g x ≡ pos 0 → value_at h x ≡ pos 0
       to x nx gx =
           let e = way u v in
-          last_zero (orientation n g h) (v.w *ℤ value_at e x -ℤ x.w *ℤ value_at e v) (orientation e g h) (orientation e h n) (orientation e n g) v.w x.w (value_at n x) (value_at n v) (value_at g x) (value_at g v) (value_at h x) (value_at h v) leads at_v.weight t nx at_v.flat gx at_v.zero then_v.zero (places n g h e v x)
+          last_zero (orientation n g h) (v.w *ℤ value_at e x -ℤ x.w *ℤ value_at e v) (orientation e g h)
+          (orientation e h n) (orientation e n g) v.w x.w (value_at n x) (value_at n v) (value_at g x) (value_at g v)
+          (value_at h x) (value_at h v) leads at_v.weight t nx at_v.flat gx at_v.zero then_v.zero (places n g h e v x)
 
       from : (x : Spot) → value_at n x ≡ pos 0 → value_at h x ≡ pos 0 → value_at g x ≡ pos 0
       from x nx hx =
           let e = way v w in
-          last_zero (orientation n h g) (v.w *ℤ value_at e x -ℤ x.w *ℤ value_at e v) (orientation e h g) (orientation e g n) (orientation e n h) v.w x.w (value_at n x) (value_at n v) (value_at h x) (value_at h v) (value_at g x) (value_at g v) leads_on at_v.weight back nx at_v.flat hx then_v.zero at_v.zero (places n h g e v x)
+          last_zero (orientation n h g) (v.w *ℤ value_at e x -ℤ x.w *ℤ value_at e v) (orientation e h g)
+          (orientation e g n) (orientation e n h) v.w x.w (value_at n x) (value_at n v) (value_at h x) (value_at h v)
+          (value_at g x) (value_at g v) leads_on at_v.weight back nx at_v.flat hx then_v.zero at_v.zero
+          (places n h g e v x)
 
       by : (x : Spot) (b : Bool) → is_in_closed f x ≡ b → is_on_edge f g x ≡ is_on_edge f h x
       by x true c =
@@ -219,9 +250,21 @@ module _ (f : Face) (g h : Plane) (u v w : Spot) (j : Joins f g h u v w) where
   parallel p z =
       let s = tuple ∷ tuple ∷ tuple ∷ tuple ∷ [] in let a = first_turn p z in let b = second_turn p z in
       record {
-        x = other_zero (orientation n g h) _ turns (identity s (λ n g h p. turnE n g h ⊗ (crossE (normalE n) (normalE p)).x ≈ neg (turnE n g p ⊗ (crossE (normalE h) (normalE n)).x ⊕ turnE n h p ⊗ (crossE (normalE n) (normalE g)).x)) cancels (plane_tuple n) (plane_tuple g) (plane_tuple h) (plane_tuple p) ∙ nothing (orientation n g p) _ (orientation n h p) _ a b);
-        y = other_zero (orientation n g h) _ turns (identity s (λ n g h p. turnE n g h ⊗ (crossE (normalE n) (normalE p)).y ≈ neg (turnE n g p ⊗ (crossE (normalE h) (normalE n)).y ⊕ turnE n h p ⊗ (crossE (normalE n) (normalE g)).y)) cancels (plane_tuple n) (plane_tuple g) (plane_tuple h) (plane_tuple p) ∙ nothing (orientation n g p) _ (orientation n h p) _ a b);
-        z = other_zero (orientation n g h) _ turns (identity s (λ n g h p. turnE n g h ⊗ (crossE (normalE n) (normalE p)).z ≈ neg (turnE n g p ⊗ (crossE (normalE h) (normalE n)).z ⊕ turnE n h p ⊗ (crossE (normalE n) (normalE g)).z)) cancels (plane_tuple n) (plane_tuple g) (plane_tuple h) (plane_tuple p) ∙ nothing (orientation n g p) _ (orientation n h p) _ a b);
+        x = other_zero (orientation n g h) _ turns
+            (identity s (λ n g h p. turnE n g h ⊗ (crossE (normalE n) (normalE p)).x ≈ neg
+            (turnE n g p ⊗ (crossE (normalE h) (normalE n)).x ⊕ turnE n h p ⊗ (crossE (normalE n) (normalE g)).x)) cancels
+            (plane_tuple n) (plane_tuple g) (plane_tuple h) (plane_tuple p)
+            ∙ nothing (orientation n g p) _ (orientation n h p) _ a b);
+        y = other_zero (orientation n g h) _ turns
+            (identity s (λ n g h p. turnE n g h ⊗ (crossE (normalE n) (normalE p)).y ≈ neg
+            (turnE n g p ⊗ (crossE (normalE h) (normalE n)).y ⊕ turnE n h p ⊗ (crossE (normalE n) (normalE g)).y)) cancels
+            (plane_tuple n) (plane_tuple g) (plane_tuple h) (plane_tuple p)
+            ∙ nothing (orientation n g p) _ (orientation n h p) _ a b);
+        z = other_zero (orientation n g h) _ turns
+            (identity s (λ n g h p. turnE n g h ⊗ (crossE (normalE n) (normalE p)).z ≈ neg
+            (turnE n g p ⊗ (crossE (normalE h) (normalE n)).z ⊕ turnE n h p ⊗ (crossE (normalE n) (normalE g)).z)) cancels
+            (plane_tuple n) (plane_tuple g) (plane_tuple h) (plane_tuple p)
+            ∙ nothing (orientation n g p) _ (orientation n h p) _ a b);
       }
     where
       nothing : (s x t y : ℤ) → s ≡ pos 0 → t ≡ pos 0 → neg_ℤ (s *ℤ x +ℤ t *ℤ y) ≡ pos 0
@@ -231,7 +274,9 @@ module _ (f : Face) (g h : Plane) (u v w : Spot) (j : Joins f g h u v w) where
   slope : along n (main_axis n) ≢ pos 0
   slope z =
       let e = way u v in
-      let t = identity (tuple ∷ tuple ∷ tuple ∷ []) (λ n g e. turnE e n g ≈ dotE (crossE (normalE g) (normalE e)) (normalE n)) cancels (plane_tuple n) (plane_tuple g) (plane_tuple e) in
+      let t = identity (tuple ∷ tuple ∷ tuple ∷ [])
+      (λ n g e. turnE e n g ≈ dotE (crossE (normalE g) (normalE e)) (normalE n)) cancels (plane_tuple n)
+      (plane_tuple g) (plane_tuple e) in
       let d = dot_zero (cross (normal g) (normal e)) (normal n) (main_zero n X z) (main_zero n Y z) (main_zero n Z z) in
       let l = leads in absurd (omega (arith, linear, l, t, d))
 
@@ -241,13 +286,22 @@ module _ (f : Face) (g h : Plane) (u v w : Spot) (j : Joins f g h u v w) where
   -- it is 0 at the whole face
   flat_out : (p : Plane) → IsZeroAt p u v w → (x : Spot) → is_in_closed f x ≡ true → value_at p x ≡ pos 0
   flat_out p z x c =
-      let a : orientation p h n ≡ pos 0 = identity (tuple ∷ tuple ∷ tuple ∷ []) (λ n h p. turnE p h n ≈ neg (turnE n h p)) cancels (plane_tuple n) (plane_tuple h) (plane_tuple p) ∙ ap neg_ℤ (second_turn p z) in
-      let b : orientation p n g ≡ pos 0 = identity (tuple ∷ tuple ∷ tuple ∷ []) (λ n g p. turnE p n g ≈ turnE n g p) cancels (plane_tuple n) (plane_tuple g) (plane_tuple p) ∙ first_turn p z in
-      first_zero (orientation n g h) v.w x.w (value_at p x) (value_at p v) (orientation p g h) (orientation p h n) (orientation p n g) (value_at n x) (value_at n v) (value_at g x) (value_at g v) (value_at h x) (value_at h v) turns at_v.weight a b (closed_parts f x c).1 at_v.flat z.second (places n g h p v x)
+      let a : orientation p h n ≡ pos 0 = identity (tuple ∷ tuple ∷ tuple ∷ [])
+      (λ n h p. turnE p h n ≈ neg (turnE n h p)) cancels (plane_tuple n) (plane_tuple h) (plane_tuple p)
+      ∙ ap neg_ℤ (second_turn p z) in
+      let b : orientation p n g ≡ pos 0 = identity (tuple ∷ tuple ∷ tuple ∷ []) (λ n g p. turnE p n g ≈ turnE n g p)
+      cancels (plane_tuple n) (plane_tuple g) (plane_tuple p) ∙ first_turn p z in
+      first_zero (orientation n g h) v.w x.w (value_at p x) (value_at p v) (orientation p g h) (orientation p h n)
+      (orientation p n g) (value_at n x) (value_at n v) (value_at g x) (value_at g v) (value_at h x) (value_at h v)
+      turns at_v.weight a b (closed_parts f x c).1 at_v.flat z.second (places n g h p v x)
 
   different : SamePoint u v → ⊥
   different s =
-      not_before n g u v (let z = cross (normal n) (normal g) in solve 7 (λ a b c k x y z. k ⊗ (a ⊗ x ⊕ b ⊗ y ⊕ c ⊗ z) ≈ a ⊗ (k ⊗ x) ⊕ b ⊗ (k ⊗ y) ⊕ c ⊗ (k ⊗ z)) cancels z.x z.y z.z v.w u.x u.y u.z ∙ (λ i. z.x *ℤ s.x i +ℤ z.y *ℤ s.y i +ℤ z.z *ℤ s.z i) ∙ solve 7 (λ a b c k x y z. a ⊗ (k ⊗ x) ⊕ b ⊗ (k ⊗ y) ⊕ c ⊗ (k ⊗ z) ≈ k ⊗ (a ⊗ x ⊕ b ⊗ y ⊕ c ⊗ z)) cancels z.x z.y z.z u.w v.x v.y v.z) j.first.leads
+      not_before n g u v (let z = cross (normal n) (normal g) in
+      solve 7 (λ a b c k x y z. k ⊗ (a ⊗ x ⊕ b ⊗ y ⊕ c ⊗ z) ≈ a ⊗ (k ⊗ x) ⊕ b ⊗ (k ⊗ y) ⊕ c ⊗ (k ⊗ z)) cancels z.x z.y
+      z.z v.w u.x u.y u.z ∙ (λ i. z.x *ℤ s.x i +ℤ z.y *ℤ s.y i +ℤ z.z *ℤ s.z i)
+      ∙ solve 7 (λ a b c k x y z. a ⊗ (k ⊗ x) ⊕ b ⊗ (k ⊗ y) ⊕ c ⊗ (k ⊗ z) ≈ k ⊗ (a ⊗ x ⊕ b ⊗ y ⊕ c ⊗ z)) cancels z.x
+      z.y z.z u.w v.x v.y v.z) j.first.leads
 
   -- no edge of the outline is the whole face
   not_edge : (p : Plane) (e : RingEdge) (end : Spot) → IsZeroAt p u v w → IsEdge f e end → SameEdge f p e.plane → ⊥
@@ -265,7 +319,15 @@ module _ (f : Face) (g h : Plane) (u v w : Spot) (j : Joins f g h u v w) where
   -- no edge plane of the face is 0 at all three
   one_below : (es : List RingEdge) → IsOutline f es → (i : ℕ) (p : Plane) → slice_get f.edges i ≡ Some p → IsZeroAt p u v w → ⊥
   one_below es o i p at z =
-      not_among p o.first.start es z o.round (o.all i p at (record { one = u; other = v; holds_one = edge_at f p u at_u.closed z.first; holds_other = edge_at f p v at_v.closed z.second; different = different }))
+      not_among p o.first.start es z o.round (o.all i p at
+      (record {
+        one = u;
+        other = v;
+        holds_one = edge_at f p u at_u.closed z.first;
+        holds_other =
+            edge_at f p v at_v.closed z.second;
+        different = different;
+      }))
 
   close_inside : (es : List RingEdge) → IsOutline f es → (k : ℤ) → pos 0 <ℤ k → is_inside f (close_to k u v w) ≡ true
   close_inside es o k l =
@@ -278,12 +340,17 @@ module _ (f : Face) (g h : Plane) (u v w : Spot) (j : Joins f g h u v w) where
 
       flat : value_at n (close_to k u v w) ≡ pos 0
       flat =
-          value_close n k u v w ∙ (λ i. horner k (at_u.flat i) (at_v.flat i ∷ then_w.flat i ∷ [])) ∙ solve 1 (λ k. (num (pos 0) ⊗ k ⊕ num (pos 0)) ⊗ k ⊕ num (pos 0) ≈ num (pos 0)) cancels k
+          value_close n k u v w ∙ (λ i. horner k (at_u.flat i) (at_v.flat i ∷ then_w.flat i ∷ []))
+          ∙ solve 1 (λ k. (num (pos 0) ⊗ k ⊕ num (pos 0)) ⊗ k ⊕ num (pos 0) ≈ num (pos 0)) cancels k
 
       below : (i : ℕ) (p : Plane) → slice_get f.edges i ≡ Some p → value_at p (close_to k u v w) <ℤ pos 0
       below i p at =
-          let a = none_at f.edges u (closed_parts f u at_u.closed).2 i p at in let b = none_at f.edges v (closed_parts f v at_v.closed).2 i p at in let c = none_at f.edges w (closed_parts f w then_w.closed).2 i p at in
-          let e = value_close p k u v w in let r = sum_below k (value_at p u) (value_at p v) (value_at p w) l a b c (λ x y z. one_below es o i p at (record { first = x; second = y; third = z })) in
+          let a = none_at f.edges u (closed_parts f u at_u.closed).2 i p at in let b =
+          none_at f.edges v (closed_parts f v at_v.closed).2 i p at in let c =
+          none_at f.edges w (closed_parts f w then_w.closed).2 i p at in
+          let e = value_close p k u v w in let r =
+          sum_below k (value_at p u) (value_at p v) (value_at p w) l a b c
+          (λ x y z. one_below es o i p at (record { first = x; second = y; third = z })) in
           omega (arith, linear, e, r)
 
 -- ---- the first three corners
@@ -292,7 +359,8 @@ pub record AreFirst (f : Face) (u v w : Spot) : Type 0 where
   pub inside : (k : ℤ) → pos 0 <ℤ k → is_inside f (close_to k u v w) ≡ true
   pub apart : (p : Plane) → value_at p u ≡ pos 0 → value_at p v ≡ pos 0 → value_at p w ≡ pos 0 → along p (main_axis f.support) ≡ pos 0 → NoNormal p
 
-joined : (f : Face) (g h i : Plane) (ps : List Plane) (a b c : Meet) (ms : List Meet) → IsOutline f (ring_edges (g ∷ h ∷ i ∷ ps) (a ∷ b ∷ c ∷ ms)) → AreFirst f (spot_of a) (spot_of b) (spot_of c)
+joined : (f : Face) (g h i : Plane) (ps : List Plane) (a b c : Meet) (ms : List Meet) →
+    IsOutline f (ring_edges (g ∷ h ∷ i ∷ ps) (a ∷ b ∷ c ∷ ms)) → AreFirst f (spot_of a) (spot_of b) (spot_of c)
 joined f g h i ps a b c ms o =
     let j : Joins f g h (spot_of a) (spot_of b) (spot_of c) = record { first = o.round.0; second = o.round.1.0; apart = o.once.0.0 } in
     record {
@@ -301,7 +369,8 @@ joined f g h i ps a b c ms o =
     }
 
 -- the first three corners of a face
-pub first_corners : (f : Face) (ms : List Meet) (a b c : Meet) → AreCorners f ms → slice_get ms 0 ≡ Some a → slice_get ms 1 ≡ Some b → slice_get ms 2 ≡ Some c → AreFirst f (spot_of a) (spot_of b) (spot_of c)
+pub first_corners : (f : Face) (ms : List Meet) (a b c : Meet) → AreCorners f ms → slice_get ms 0 ≡ Some a →
+    slice_get ms 1 ≡ Some b → slice_get ms 2 ≡ Some c → AreFirst f (spot_of a) (spot_of b) (spot_of c)
 first_corners f ms a b c k ea eb ec = by k.planes ms ea eb ec k.paired k.outline
   where
     same : {x y : Meet} → Some x ≡ Some y → x ≡ y
@@ -310,7 +379,9 @@ first_corners f ms a b c k ea eb ec = by k.planes ms ea eb ec k.paired k.outline
     no : {x : Meet} → None ≡ Some x → ⊥
     no e = cc
 
-    by : (ps : List Plane) (ms : List Meet) → slice_get ms 0 ≡ Some a → slice_get ms 1 ≡ Some b → slice_get ms 2 ≡ Some c → length ms ≡ length ps → IsOutline f (ring_edges ps ms) → AreFirst f (spot_of a) (spot_of b) (spot_of c)
+    by : (ps : List Plane) (ms : List Meet) → slice_get ms 0 ≡ Some a → slice_get ms 1 ≡ Some b →
+        slice_get ms 2 ≡ Some c → length ms ≡ length ps → IsOutline f (ring_edges ps ms) →
+        AreFirst f (spot_of a) (spot_of b) (spot_of c)
     by ps [] ea eb ec l o = absurd (no ea)
     by ps (x ∷ []) ea eb ec l o = absurd (no eb)
     by ps (x ∷ y ∷ []) ea eb ec l o = absurd (no ec)
@@ -319,4 +390,6 @@ first_corners f ms a b c k ea eb ec = by k.planes ms ea eb ec k.paired k.outline
     by (g ∷ h ∷ []) (x ∷ y ∷ z ∷ ms) ea eb ec l o = absurd (omega (arith, l))
     by (g ∷ h ∷ i ∷ ps) (x ∷ y ∷ z ∷ ms) ea eb ec l o =
         let p = same ea in let q = same eb in let r = same ec in
-        subst (λ (a : Meet). AreFirst f (spot_of a) (spot_of b) (spot_of c)) p (subst (λ (b : Meet). AreFirst f (spot_of x) (spot_of b) (spot_of c)) q (subst (λ (c : Meet). AreFirst f (spot_of x) (spot_of y) (spot_of c)) r (joined f g h i ps x y z ms o)))
+        subst (λ (a : Meet). AreFirst f (spot_of a) (spot_of b) (spot_of c)) p
+        (subst (λ (b : Meet). AreFirst f (spot_of x) (spot_of b) (spot_of c)) q
+        (subst (λ (c : Meet). AreFirst f (spot_of x) (spot_of y) (spot_of c)) r (joined f g h i ps x y z ms o)))

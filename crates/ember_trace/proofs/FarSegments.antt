@@ -50,90 +50,107 @@ leg_far c t p q nf far i j = by (is_negative (value_at (face_of t).support p *�
         inside false h = leg_on (face_of t) p q false _ i.weight j.weight e h refl
         inside true h =
             let n = (face_of t).support in let x = between n p q in
-            absurd (clash (inside_closed (face_of t) x (between_inside (face_of t) p q i.weight j.weight e ∙ h)) (misses_far c t p q nf far i j (size (value_at n q)) (size (value_at n p)) (size_at_least (value_at n q)) (size_at_least (value_at n p))))
+            absurd (clash (inside_closed (face_of t) x (between_inside (face_of t) p q i.weight j.weight e ∙ h))
+            (misses_far c t p q nf far i j (size (value_at n q)) (size (value_at n p)) (size_at_least (value_at n q))
+            (size_at_least (value_at n p))))
 
 -- a point on the support plane with the edge planes along k behind it is inside the face
-inside_along : (t : Tri) (k : Axis) (q : Spot) → pos 0 <ℤ q.w → along (support_of t) k ≢ pos 0 → value_at (support_of t) q ≡ pos 0 → all_negative (edge_planes t k) q ≡ true → is_inside (face_of t) q ≡ true
+inside_along : (t : Tri) (k : Axis) (q : Spot) → pos 0 <ℤ q.w → along (support_of t) k ≢ pos 0 →
+    value_at (support_of t) q ≡ pos 0 → all_negative (edge_planes t k) q ≡ true → is_inside (face_of t) q ≡ true
 unfolding face_of
 inside_along t k q w nz z h =
-    inside_on (face_of t) q (positive_in w) z ∙ sym (same_all_negative (size (along n k)) q (hit n k q) (edges_of t) (size_positive (along n k) nz) index) ∙ hit_edges t k q w nz ∙ h
+    inside_on (face_of t) q (positive_in w) z ∙ sym
+    (same_all_negative (size (along n k)) q (hit n k q) (edges_of t) (size_positive (along n k) nz) index)
+    ∙ hit_edges t k q w nz ∙ h
   where
     n : Plane
     n = support_of t
 
     index : Scales (size (along n k)) q (hit n k q)
     index g =
-        let e = value_hit g n k q in let f = zero_times (sign (along n k) *ℤ value_at n q) (along g k) (zero_scaled (sign (along n k)) (value_at n q) z) in omega (arith, linear, e, f)
+        let e = value_hit g n k q in let f = zero_times (sign (along n k) *ℤ value_at n q) (along g k)
+        (zero_scaled (sign (along n k)) (value_at n q) z) in omega (arith, linear, e, f)
 
-module _ (c : Cell) (k : Axis) (a b d : Meet) (q : Spot) (n : ℕ) (s : AreStops k c.lo a b d q n) (in_box : HasPoint c q) (turn : Sign → Sign) (e : Spot) (end : IsEnd k a b d turn e) (line : DifferAlong k (stop_after_second k c.lo q n) e) where
-  abbrev p : Spot
-  p = stop_after_second k c.lo q n
+module _ (c : Cell) (k : Axis) (a b d : Meet) (q : Spot) (n : ℕ) (s : AreStops k c.lo a b d q n) (in_box : HasPoint c q)
+    (turn : Sign → Sign) (e : Spot) (end : IsEnd k a b d turn e) (line : DifferAlong k (stop_after_second k c.lo q n) e)
+  where
+    abbrev p : Spot
+    p = stop_after_second k c.lo q n
 
-  has_p : HasPoint c p
-  has_p =
-      has_with c (second_of k) (stop_after_first k c.lo q n) q (has_with c (first_of k) (stop_at_start c.lo n) q (has_start c n s.large) in_box) in_box
+    has_p : HasPoint c p
+    has_p =
+        has_with c (second_of k) (stop_after_first k c.lo q n) q (has_with c (first_of k) (stop_at_start c.lo n) q (has_start c n s.large) in_box) in_box
 
-  line_to_q : DifferAlong k q p
-  line_to_q = differ_back k p q (subst (λ (r : Spot). DifferAlong k p r) same (differ_last k (stop_at_start c.lo n) q (pos 1) (pos 0)))
-    where
-      same : moved (scaled (pos 1) q) k (pos 0) ≡ q
-      same =
-          moved_zero (scaled (pos 1) q) k ∙ (let x = one-*ℤ q.x in let y = one-*ℤ q.y in let z = one-*ℤ q.z in let w = one-*ℤ q.w in λ i. record { x = x i; y = y i; z = z i; w = w i })
-
-  module _ (t : Tri) (v : IsValidTri t) (nf : is_flat t ≡ false) (far : is_near c t ≡ false) where
-    abbrev n' : Plane
-    n' = support_of t
-
-    sized : IsSupportSized n'
-    sized = support_sized t v
-
-    at_q : sgn (value_at n' q) ≡ inside_side n' a b d
-    at_q = s.close.at_end n' (support_valid sized)
-
-    behind : all_negative (edge_planes t k) e ≡ all_negative (edge_planes t k) q
-    behind =
-        edges_behind (λ h. inside_side h a b d) t k e v (λ h i z. end.side h i ∙ or_zero (inside_side h a b d) (turn (sgn (along h k))) (ap turn (ap sgn z) ∙ end.level)) ∙ sym (edges_behind (λ h. inside_side h a b d) t k q v (λ h i z. s.close.at_end h (support_valid i)))
-
-    -- the plane isn't 0 at q: the end lies on the same side
-    aside : sgn (value_at n' e) ≡ sgn (value_at n' q) → leg (face_of t) e p ≡ pos 0
-    aside m =
-        let x = ap is_neg (sgn-mul (value_at n' e) (value_at n' p)) ∙ (λ i. is_neg (times (m i) (sgn (value_at n' p)))) ∙ sym (ap is_neg (sgn-mul (value_at n' q) (value_at n' p))) in
-        leg_is k e p t end.weight has_p.weight (differ_back k p e line) ∙ (λ i. cond (x i && behind i) (sign (value_at n' p)) (pos 0)) ∙ sym (leg_is k q p t in_box.weight has_p.weight line_to_q) ∙ leg_far c t q p nf far in_box has_p
-
-    same_side : (r : Sign) → (r ≡ Zero → ⊥) → sgn (value_at n' q) ≡ r → sgn (value_at n' e) ≡ sgn (value_at n' q)
-    same_side r nz z =
-        end.side n' sized ∙ kept (inside_side n' a b d) (turn (sgn (along n' k))) (λ o. nz (sym z ∙ at_q ∙ o)) ∙ sym at_q
+    line_to_q : DifferAlong k q p
+    line_to_q = differ_back k p q (subst (λ (r : Spot). DifferAlong k p r) same (differ_last k (stop_at_start c.lo n) q (pos 1) (pos 0)))
       where
-        kept : (s t : Sign) → (s ≡ Zero → ⊥) → or_sign s t ≡ s
-        kept Neg t n = refl
-        kept Zero t n = absurd (n refl)
-        kept Pos t n = refl
+        same : moved (scaled (pos 1) q) k (pos 0) ≡ q
+        same =
+            moved_zero (scaled (pos 1) q) k ∙ (let x = one-*ℤ q.x in let y = one-*ℤ q.y in let z = one-*ℤ q.z in let w =
+            one-*ℤ q.w in λ i. record { x = x i; y = y i; z = z i; w = w i })
 
-    -- it is 0 at q: q would be inside the face
-    on_plane : value_at n' q ≡ pos 0 → leg (face_of t) e p ≡ pos 0
-    on_plane z = by (all_negative (edge_planes t k) q) refl
+    module _ (t : Tri) (v : IsValidTri t) (nf : is_flat t ≡ false) (far : is_near c t ≡ false) where
+      abbrev n' : Plane
+      n' = support_of t
+
+      sized : IsSupportSized n'
+      sized = support_sized t v
+
+      at_q : sgn (value_at n' q) ≡ inside_side n' a b d
+      at_q = s.close.at_end n' (support_valid sized)
+
+      behind : all_negative (edge_planes t k) e ≡ all_negative (edge_planes t k) q
+      behind =
+          edges_behind (λ h. inside_side h a b d) t k e v
+          (λ h i z. end.side h i ∙ or_zero (inside_side h a b d) (turn (sgn (along h k)))
+          (ap turn (ap sgn z) ∙ end.level)) ∙ sym
+          (edges_behind (λ h. inside_side h a b d) t k q v (λ h i z. s.close.at_end h (support_valid i)))
+
+      -- the plane isn't 0 at q: the end lies on the same side
+      aside : sgn (value_at n' e) ≡ sgn (value_at n' q) → leg (face_of t) e p ≡ pos 0
+      aside m =
+          let x = ap is_neg (sgn-mul (value_at n' e) (value_at n' p)) ∙ (λ i. is_neg (times (m i) (sgn (value_at n' p))))
+          ∙ sym (ap is_neg (sgn-mul (value_at n' q) (value_at n' p))) in
+          leg_is k e p t end.weight has_p.weight (differ_back k p e line)
+          ∙ (λ i. cond (x i && behind i) (sign (value_at n' p)) (pos 0))
+          ∙ sym (leg_is k q p t in_box.weight has_p.weight line_to_q) ∙ leg_far c t q p nf far in_box has_p
+
+      same_side : (r : Sign) → (r ≡ Zero → ⊥) → sgn (value_at n' q) ≡ r → sgn (value_at n' e) ≡ sgn (value_at n' q)
+      same_side r nz z =
+          end.side n' sized ∙ kept (inside_side n' a b d) (turn (sgn (along n' k))) (λ o. nz (sym z ∙ at_q ∙ o)) ∙ sym at_q
+        where
+          kept : (s t : Sign) → (s ≡ Zero → ⊥) → or_sign s t ≡ s
+          kept Neg t n = refl
+          kept Zero t n = absurd (n refl)
+          kept Pos t n = refl
+
+      -- it is 0 at q: q would be inside the face
+      on_plane : value_at n' q ≡ pos 0 → leg (face_of t) e p ≡ pos 0
+      on_plane z = by (all_negative (edge_planes t k) q) refl
+        where
+          slope : along n' k ≢ pos 0
+          slope f =
+              let l = s.close.apart n' (sym at_q ∙ ap sgn z) f in clash (flat_in t (record { a = l.0; b = l.1; c = l.2 })) nf
+
+          by : (b : Bool) → all_negative (edge_planes t k) q ≡ b → leg (face_of t) e p ≡ pos 0
+          by true h = absurd (clash (near_point c t q nf in_box (inside_closed (face_of t) q (inside_along t k q in_box.weight slope z h))) far)
+          by false h =
+              leg_is k e p t end.weight has_p.weight (differ_back k p e line)
+              ∙ ap (λ (b : Bool). cond (is_negative (value_at n' e *ℤ value_at n' p) && b) (sign (value_at n' p))
+              (pos 0)) (behind ∙ h) ∙ none (is_negative (value_at n' e *ℤ value_at n' p))
+            where
+              none : (b : Bool) → cond (b && false) (sign (value_at n' p)) (pos 0) ≡ pos 0
+              none true = refl
+              none false = refl
+
+      missed : leg (face_of t) e p ≡ pos 0
+      missed =
+          by_sign (value_at n' q) (λ l. aside (same_side Pos (λ x. cc) (sgn_pos l))) on_plane (λ l. aside (same_side Neg (λ x. cc) (sgn_neg l)))
+
+    -- the last segment doesn't cross a valid triangle that isn't near the box
+    pub last_far : (t : Tri) → IsValidTri t → is_near c t ≡ false → leg (face_of t) e p ≡ pos 0
+    last_far t v far = by (flat_case t)
       where
-        slope : along n' k ≢ pos 0
-        slope f =
-            let l = s.close.apart n' (sym at_q ∙ ap sgn z) f in clash (flat_in t (record { a = l.0; b = l.1; c = l.2 })) nf
-
-        by : (b : Bool) → all_negative (edge_planes t k) q ≡ b → leg (face_of t) e p ≡ pos 0
-        by true h = absurd (clash (near_point c t q nf in_box (inside_closed (face_of t) q (inside_along t k q in_box.weight slope z h))) far)
-        by false h =
-            leg_is k e p t end.weight has_p.weight (differ_back k p e line) ∙ ap (λ (b : Bool). cond (is_negative (value_at n' e *ℤ value_at n' p) && b) (sign (value_at n' p)) (pos 0)) (behind ∙ h) ∙ none (is_negative (value_at n' e *ℤ value_at n' p))
-          where
-            none : (b : Bool) → cond (b && false) (sign (value_at n' p)) (pos 0) ≡ pos 0
-            none true = refl
-            none false = refl
-
-    missed : leg (face_of t) e p ≡ pos 0
-    missed =
-        by_sign (value_at n' q) (λ l. aside (same_side Pos (λ x. cc) (sgn_pos l))) on_plane (λ l. aside (same_side Neg (λ x. cc) (sgn_neg l)))
-
-  -- the last segment doesn't cross a valid triangle that isn't near the box
-  pub last_far : (t : Tri) → IsValidTri t → is_near c t ≡ false → leg (face_of t) e p ≡ pos 0
-  last_far t v far = by (flat_case t)
-    where
-      by : (is_flat t ≡ true) ⊎ (is_flat t ≡ false) → leg (face_of t) e p ≡ pos 0
-      by (inl f) = flat_leg e p t (flat_out t f)
-      by (inr f) = missed t v f far
+        by : (is_flat t ≡ true) ⊎ (is_flat t ≡ false) → leg (face_of t) e p ≡ pos 0
+        by (inl f) = flat_leg e p t (flat_out t f)
+        by (inr f) = missed t v f far

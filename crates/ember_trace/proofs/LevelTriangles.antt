@@ -63,18 +63,22 @@ empty_after_first w p e =
     let y = empty_at_start w p e in λ i. or_sign (x i) (y i)
 
 -- the first edge plane is empty
-level : (side : Plane → Sign) (f : NearTriangle) (k : Axis) → ((p : Plane) → IsEmpty p → side p ≡ Zero) → is_nil (sgn (along f.support k)) ≡ true → all_behind side (edge_planes f.tri k) ≡ false
+level : (side : Plane → Sign) (f : NearTriangle) (k : Axis) → ((p : Plane) → IsEmpty p → side p ≡ Zero) →
+    is_nil (sgn (along f.support k)) ≡ true → all_behind side (edge_planes f.tri k) ≡ false
 level side f k z h =
     let t = f.tri in let s = sign (along (support_of t) k) in
     let n : s ≡ pos 0 = ap sign (sym (ap (λ (p : Plane). along p k) f.plane) ∙ zero_out (along f.support k) h) in
     let e = z (times_plane s (edge_through t.a t.b (unit k))) (empty_times s (edge_through t.a t.b (unit k)) n) in
-    λ i. is_neg (e i) && (is_neg (side (times_plane s (edge_through t.b t.c (unit k)))) && (is_neg (side (times_plane s (edge_through t.c t.a (unit k)))) && true))
+    λ i. is_neg (e i) && (is_neg (side (times_plane s (edge_through t.b t.c (unit k))))
+    && (is_neg (side (times_plane s (edge_through t.c t.a (unit k)))) && true))
 
 -- so no segment along the axis runs through the triangle
 -- if the normal has no entry along the second axis, the second segment doesn't run through the triangle
-pub level_second : (w : Path) (f : NearTriangle) → is_nil (sgn (along f.support w.second_axis)) ≡ true → all_behind (λ p. side_after_first w p) (edge_planes f.tri w.second_axis) ≡ false
+pub level_second : (w : Path) (f : NearTriangle) → is_nil (sgn (along f.support w.second_axis)) ≡ true →
+    all_behind (λ p. side_after_first w p) (edge_planes f.tri w.second_axis) ≡ false
 level_second w f h = level (λ p. side_after_first w p) f w.second_axis (empty_after_first w) h
 
 -- if the normal has no entry along the main axis, the last segment doesn't run through the triangle
-pub level_last : (w : Path) (f : NearTriangle) → is_nil (sgn (along f.support w.main)) ≡ true → all_behind (λ p. side_at_end w p) (edge_planes f.tri w.main) ≡ false
+pub level_last : (w : Path) (f : NearTriangle) → is_nil (sgn (along f.support w.main)) ≡ true →
+    all_behind (λ p. side_at_end w p) (edge_planes f.tri w.main) ≡ false
 level_last w f h = level (λ p. side_at_end w p) f w.main (empty_at_end w) h

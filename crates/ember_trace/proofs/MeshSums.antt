@@ -1,5 +1,6 @@
 -- Sums over the faces of each mesh, compared triangle by triangle.
-use Rattle.std.proofs.Common.{◌≡◌, refl, sym, ap, ◌∙◌, arith, ℕ, zero, suc, ◌+◌, Bool, true, false, cond, nat_eq, filter, List, [], ◌∷◌, All, map, get_or, replicate, ℤ, pos, ◌+ℤ◌, neg_ℤ}
+use Rattle.std.proofs.Common.{◌≡◌, refl, sym, ap, ◌∙◌, arith, ℕ, zero, suc, ◌+◌, Bool, true, false, cond, nat_eq}
+use Rattle.std.proofs.Common.{filter, List, [], ◌∷◌, All, map, get_or, replicate, ℤ, pos, ◌+ℤ◌, neg_ℤ}
 use Rattle.std.specs.List.{range_with_len}
 use Rattle.std.proofs.lemmas.List.Elements.{All-head, All-tail}
 use Rattle.ember_algebra.specs.Sums.{total}
@@ -32,7 +33,8 @@ tally_same f g zf zg ts h = map_same (λ m. total f (faces_of (of_mesh m ts))) (
     each m = mesh_total_is_entry f zf m ts ∙ total_same_all (of_one f zf m) (of_one g zg m) ts (one m) ∙ sym (mesh_total_is_entry g zg m ts)
 
 -- triangles whose face adds nothing may be left out
-pub tally_kept : (f : Face → ℤ) → LeavesFlat f → (p : Tri → Bool) (ts : List Tri) → All (λ t. p t ≡ false → f (face_of t) ≡ pos 0) ts → tally f (filter p ts) ≡ tally f ts
+pub tally_kept : (f : Face → ℤ) → LeavesFlat f → (p : Tri → Bool) (ts : List Tri) →
+    All (λ t. p t ≡ false → f (face_of t) ≡ pos 0) ts → tally f (filter p ts) ≡ tally f ts
 unfolding of_one
 tally_kept f zf p ts h = map_same (λ m. total f (faces_of (of_mesh m (filter p ts)))) (λ m. total f (faces_of (of_mesh m ts))) each meshes
   where
@@ -49,7 +51,9 @@ tally_kept f zf p ts h = map_same (λ m. total f (faces_of (of_mesh m (filter p 
 
     each : (m : ℕ) → total f (faces_of (of_mesh m (filter p ts))) ≡ total f (faces_of (of_mesh m ts))
     each m =
-        mesh_total_is_entry f zf m (filter p ts) ∙ total-filter (of_one f zf m) p ts ∙ total_same_all (λ t. cond (p t) (of_one f zf m t) (pos 0)) (of_one f zf m) ts (λ i d l. kept m (get_or ts i d) (h i d l)) ∙ sym (mesh_total_is_entry f zf m ts)
+        mesh_total_is_entry f zf m (filter p ts) ∙ total-filter (of_one f zf m) p ts
+        ∙ total_same_all (λ t. cond (p t) (of_one f zf m t) (pos 0)) (of_one f zf m) ts
+        (λ i d l. kept m (get_or ts i d) (h i d l)) ∙ sym (mesh_total_is_entry f zf m ts)
 
 -- ---- one sum after another
 added_twice : (xs : List ℤ) (f g : ℕ → ℤ) (ms : List ℕ) → added (added xs (map f ms)) (map g ms) ≡ added xs (map (λ m. f m +ℤ g m) ms)
@@ -61,7 +65,11 @@ added_twice (x ∷ xs) f g (m ∷ ms) =
 -- to add two tallies, one after the other, is to add the tally of the sum
 pub tally_both : (f g : Face → ℤ) (ts : List Tri) (old : List ℤ) → added (added old (tally f ts)) (tally g ts) ≡ added old (tally (λ h. f h +ℤ g h) ts)
 tally_both f g ts old =
-    added_twice old (λ m. total f (faces_of (of_mesh m ts))) (λ m. total g (faces_of (of_mesh m ts))) meshes ∙ ap (λ (vs : List ℤ). added old vs) (map_same (λ m. total f (faces_of (of_mesh m ts)) +ℤ total g (faces_of (of_mesh m ts))) (λ m. total (λ h. f h +ℤ g h) (faces_of (of_mesh m ts))) (λ m. sym (total-add f g (faces_of (of_mesh m ts)))) meshes)
+    added_twice old (λ m. total f (faces_of (of_mesh m ts))) (λ m. total g (faces_of (of_mesh m ts))) meshes
+    ∙ ap (λ (vs : List ℤ). added old vs) (map_same
+    (λ m. total f (faces_of (of_mesh m ts)) +ℤ total g (faces_of (of_mesh m ts)))
+    (λ m. total (λ h. f h +ℤ g h) (faces_of (of_mesh m ts))) (λ m. sym (total-add f g (faces_of (of_mesh m ts))))
+    meshes)
 
 -- ---- triangle by triangle
 module _ (g : Face → ℤ) (flat : LeavesFlat g) where
@@ -69,27 +77,42 @@ module _ (g : Face → ℤ) (flat : LeavesFlat g) where
   one_more old t m =
       ap (λ (vs : List ℤ). with_more vs t.mesh (g (face_of t))) (sym (tally_none g old)) ∙ sym (tally_more g flat (t ∷ []) 0 t (omega arith) m old)
 
-  at_front : (m : ℕ) (t : Tri) (ts : List Tri) → total g (faces_of (of_mesh m (t ∷ []))) +ℤ total g (faces_of (of_mesh m ts)) ≡ total g (faces_of (of_mesh m (t ∷ ts)))
+  at_front : (m : ℕ) (t : Tri) (ts : List Tri) →
+      total g (faces_of (of_mesh m (t ∷ []))) +ℤ total g (faces_of (of_mesh m ts)) ≡ total g
+      (faces_of (of_mesh m (t ∷ ts)))
   at_front m t ts =
-      let a = mesh_total_is_entry g flat m (t ∷ []) in let b = mesh_total_is_entry g flat m ts in let c = mesh_total_is_entry g flat m (t ∷ ts) in omega (arith, linear, a, b, c)
+      let a = mesh_total_is_entry g flat m (t ∷ []) in let b = mesh_total_is_entry g flat m ts in let c =
+      mesh_total_is_entry g flat m (t ∷ ts) in omega (arith, linear, a, b, c)
 
   pushed : (old : List ℤ) (t : Tri) (ts : List Tri) → HasMesh 64 t → added (with_more old t.mesh (g (face_of t))) (tally g ts) ≡ added old (tally g (t ∷ ts))
   pushed old t ts m =
-      ap (λ (vs : List ℤ). added vs (tally g ts)) (one_more old t m) ∙ added_twice old (λ m. total g (faces_of (of_mesh m (t ∷ [])))) (λ m. total g (faces_of (of_mesh m ts))) meshes ∙ ap (λ (vs : List ℤ). added old vs) (map_same (λ m. total g (faces_of (of_mesh m (t ∷ []))) +ℤ total g (faces_of (of_mesh m ts))) (λ m. total g (faces_of (of_mesh m (t ∷ ts)))) (λ m. at_front m t ts) meshes)
+      ap (λ (vs : List ℤ). added vs (tally g ts)) (one_more old t m)
+      ∙ added_twice old (λ m. total g (faces_of (of_mesh m (t ∷ [])))) (λ m. total g (faces_of (of_mesh m ts))) meshes
+      ∙ ap (λ (vs : List ℤ). added old vs) (map_same
+      (λ m. total g (faces_of (of_mesh m (t ∷ []))) +ℤ total g (faces_of (of_mesh m ts)))
+      (λ m. total g (faces_of (of_mesh m (t ∷ ts)))) (λ m. at_front m t ts) meshes)
 
   -- the counts that the code takes, if each triangle takes what g counts back
-  pub taken_legs : (less : NearTriangle → ℤ) (fs : List NearTriangle) → All (λ f. g (face_of f.tri) ≡ neg_ℤ (less f)) fs → (old : List ℤ) → taken less fs old ≡ added old (tally g (map tri_of fs))
+  pub taken_legs : (less : NearTriangle → ℤ) (fs : List NearTriangle) →
+      All (λ f. g (face_of f.tri) ≡ neg_ℤ (less f)) fs → (old : List ℤ) →
+      taken less fs old ≡ added old (tally g (map tri_of fs))
   taken_legs less [] h old = sym (tally_none g old)
   taken_legs less (f ∷ fs) h old =
       let e = All-head (λ f. g (face_of f.tri) ≡ neg_ℤ (less f)) f fs h in
-      taken_legs less fs (All-tail (λ f. g (face_of f.tri) ≡ neg_ℤ (less f)) f fs h) (with_more old f.tri.mesh (neg_ℤ (less f))) ∙ ap (λ (z : ℤ). added (with_more old f.tri.mesh z) (tally g (map tri_of fs))) (sym e) ∙ pushed old f.tri (map tri_of fs) f.mesh
+      taken_legs less fs (All-tail (λ f. g (face_of f.tri) ≡ neg_ℤ (less f)) f fs h)
+      (with_more old f.tri.mesh (neg_ℤ (less f)))
+      ∙ ap (λ (z : ℤ). added (with_more old f.tri.mesh z) (tally g (map tri_of fs))) (sym e)
+      ∙ pushed old f.tri (map tri_of fs) f.mesh
 
   -- to add each triangle's number to its mesh's count is to add the tally
-  pub ray_counts_rays : (more : Tri → ℤ) (ts : List Tri) → All (λ t. g (face_of t) ≡ more t) ts → All (HasMesh 64) ts → (old : List ℤ) → ray_counts more ts old ≡ added old (tally g ts)
+  pub ray_counts_rays : (more : Tri → ℤ) (ts : List Tri) → All (λ t. g (face_of t) ≡ more t) ts → All (HasMesh 64) ts →
+      (old : List ℤ) → ray_counts more ts old ≡ added old (tally g ts)
   ray_counts_rays more [] h m old = sym (tally_none g old)
   ray_counts_rays more (t ∷ ts) h m old =
       let e = All-head (λ t. g (face_of t) ≡ more t) t ts h in
-      ray_counts_rays more ts (All-tail (λ t. g (face_of t) ≡ more t) t ts h) (All-tail (HasMesh 64) t ts m) (with_more old t.mesh (more t)) ∙ ap (λ (z : ℤ). added (with_more old t.mesh z) (tally g ts)) (sym e) ∙ pushed old t ts (All-head (HasMesh 64) t ts m)
+      ray_counts_rays more ts (All-tail (λ t. g (face_of t) ≡ more t) t ts h) (All-tail (HasMesh 64) t ts m)
+      (with_more old t.mesh (more t)) ∙ ap (λ (z : ℤ). added (with_more old t.mesh z) (tally g ts)) (sym e)
+      ∙ pushed old t ts (All-head (HasMesh 64) t ts m)
 
 -- counts that begin with nothing
 pub added_none : (f : ℕ → ℤ) → added (replicate 64 (pos 0)) (map f meshes) ≡ map f meshes

@@ -1,6 +1,7 @@
 -- The region's own triangle: a path ends on its plane, and behind its edges. It is known by its planes, which are the
 -- region's.
-use Rattle.std.proofs.Common.{◌≡◌, ◌≢◌, ◌&&◌, refl, sym, ap, subst, ◌∙◌, arith, ℕ, zero, suc, ◌<◌, true, false, List, [], ◌∷◌, length, get_or, None, Some, slice_get, ℤ, pos, ◌*ℤ◌, ◌<ℤ◌}
+use Rattle.std.proofs.Common.{◌≡◌, ◌≢◌, ◌&&◌, refl, sym, ap, subst, ◌∙◌, arith, ℕ, zero, suc, ◌<◌, true, false, List}
+use Rattle.std.proofs.Common.{[], ◌∷◌, length, get_or, None, Some, slice_get, ℤ, pos, ◌*ℤ◌, ◌<ℤ◌}
 use Rattle.std.specs.Bool.{Decides}
 use Rattle.std.specs.Ordering.{int_eq}
 use Rattle.std.proofs.Math.Logic.{∥∥₁_elim}
@@ -69,7 +70,11 @@ same_some : {p q : Plane} → Some p ≡ Some q → p ≡ q
 same_some e = cc
 
 -- and behind the edges of a triangle, if it lies behind each of the three planes
-pub behind_edges : (f : Face) (t : Tri) (es : List Plane) → es ≡ edges_of t → Everywhere f (λ v. is_negative (value_at (get_or es 0 no_plane) v) ≡ true) → Everywhere f (λ v. is_negative (value_at (get_or es 1 no_plane) v) ≡ true) → Everywhere f (λ v. is_negative (value_at (get_or es 2 no_plane) v) ≡ true) → Everywhere f (λ v. all_negative (edges_of t) v ≡ true)
+pub behind_edges : (f : Face) (t : Tri) (es : List Plane) → es ≡ edges_of t →
+    Everywhere f (λ v. is_negative (value_at (get_or es 0 no_plane) v) ≡ true) →
+    Everywhere f (λ v. is_negative (value_at (get_or es 1 no_plane) v) ≡ true) →
+    Everywhere f (λ v. is_negative (value_at (get_or es 2 no_plane) v) ≡ true) →
+    Everywhere f (λ v. all_negative (edges_of t) v ≡ true)
 behind_edges f t es e a b d =
     record {
       holds = λ v h.
@@ -102,7 +107,8 @@ module _ (w : Path) (u : Found w.region.now w.first_corner w.second_corner w.thi
   on_plane p i e =
       ap is_nil (sym (u.close.at_end p i) ∙ ap sgn (ap (λ (n : Plane). value_at n u.q) e ∙ (inside_parts f u.q u.inside).1))
 
-  module _ (t : NearTriangle) (same : t.support ≡ f.support) (slope : is_nil (sgn (along t.support w.main)) ≡ false) (behind : Everywhere f (λ v. all_negative (edges_of t.tri) v ≡ true)) where
+  module _ (t : NearTriangle) (same : t.support ≡ f.support) (slope : is_nil (sgn (along t.support w.main)) ≡ false)
+      (behind : Everywhere f (λ v. all_negative (edges_of t.tri) v ≡ true)) where
     abbrev n : Plane
     n = support_of t.tri
 
@@ -124,17 +130,24 @@ module _ (w : Path) (u : Found w.region.now w.first_corner w.second_corner w.thi
     -- the line along the axis through a point of the plane meets it there
     stays : Scales (size (along n k)) q (hit n k q)
     stays g =
-        let e = value_hit g n k q in let z = zero_times (sign (along n k) *ℤ value_at n q) (along g k) (zero_scaled (sign (along n k)) (value_at n q) flat) in omega (arith, linear, e, z)
+        let e = value_hit g n k q in let z = zero_times (sign (along n k) *ℤ value_at n q) (along g k)
+        (zero_scaled (sign (along n k)) (value_at n q) flat) in omega (arith, linear, e, z)
 
     -- it is behind all edge planes along the main axis, as it is behind those of the face
     all_are_behind : all_behind (λ p. side_at_end w p) (edge_planes t.tri k) ≡ true
     all_are_behind =
-        sym (edges_behind (λ p. side_at_end w p) t.tri k q t.valid (λ h i z. u.close.at_end h (support_valid i))) ∙ sym (hit_edges t.tri k q weight entry) ∙ same_all_negative (size (along n k)) q (hit n k q) (edges_of t.tri) (size_positive (along n k) entry) stays ∙ behind.holds q u.inside
+        sym (edges_behind (λ p. side_at_end w p) t.tri k q t.valid (λ h i z. u.close.at_end h (support_valid i)))
+        ∙ sym (hit_edges t.tri k q weight entry)
+        ∙ same_all_negative (size (along n k)) q (hit n k q) (edges_of t.tri) (size_positive (along n k) entry) stays
+        ∙ behind.holds q u.inside
 
 -- ---- the end of a path
-found : (w : Path) → HasFirstCorners w.region.now w.first_corner w.second_corner w.third_corner → Found w.region.now w.first_corner w.second_corner w.third_corner
+found : (w : Path) → HasFirstCorners w.region.now w.first_corner w.second_corner w.third_corner →
+    Found w.region.now w.first_corner w.second_corner w.third_corner
 found w r =
-    first_corners_found w.region.now w.first_corner w.second_corner w.third_corner (first_corners w.region.now r.corners w.first_corner w.second_corner w.third_corner r.are_corners r.is_first r.is_second r.is_third)
+    first_corners_found w.region.now w.first_corner w.second_corner w.third_corner
+    (first_corners w.region.now r.corners w.first_corner w.second_corner w.third_corner r.are_corners r.is_first
+    r.is_second r.is_third)
 
 -- a path ends on the region's plane
 pub end_on_plane : (w : Path) (p : Plane) → IsValidPlane p → p ≡ w.region.now.support → side_at_end w p ≡ Zero
@@ -142,6 +155,9 @@ end_on_plane w p i e = nil_out (side_at_end w p) (∥∥₁_elim w.region_corner
 
 -- and behind all edge planes of a triangle along its main axis, if the region lies in the triangle's plane, and behind its
 -- edges
-pub own_behind : (w : Path) (t : NearTriangle) → t.support ≡ w.region.now.support → is_nil (sgn (along t.support w.main)) ≡ false → Everywhere w.region.now (λ v. all_negative (edges_of t.tri) v ≡ true) → all_behind (λ p. side_at_end w p) (edge_planes t.tri w.main) ≡ true
+pub own_behind : (w : Path) (t : NearTriangle) → t.support ≡ w.region.now.support →
+    is_nil (sgn (along t.support w.main)) ≡ false →
+    Everywhere w.region.now (λ v. all_negative (edges_of t.tri) v ≡ true) →
+    all_behind (λ p. side_at_end w p) (edge_planes t.tri w.main) ≡ true
 own_behind w t same slope behind =
     ∥∥₁_elim w.region_corners (Bool-set _ _) (λ r. all_are_behind w (found w r) t same slope behind)

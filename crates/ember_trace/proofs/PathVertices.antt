@@ -29,10 +29,14 @@ with_along a u v = moved (scaled v.w u) a (u.w *ℤ along_point a v -ℤ v.w *�
 -- a plane's value at a point close to u, as a polynomial
 pub value_close : (h : Plane) (n : ℤ) (u v w : Spot) → value_at h (close_to n u v w) ≡ horner n (value_at h u) (value_at h v ∷ value_at h w ∷ [])
 value_close h n u v w =
-    solve 17 (λ a b c d n x y z w p q r s i j k l. a ⊗ (n ⊗ n ⊗ x ⊕ n ⊗ p ⊕ i) ⊕ b ⊗ (n ⊗ n ⊗ y ⊕ n ⊗ q ⊕ j) ⊕ c ⊗ (n ⊗ n ⊗ z ⊕ n ⊗ r ⊕ k) ⊖ d ⊗ (n ⊗ n ⊗ w ⊕ n ⊗ s ⊕ l) ≈ ((a ⊗ x ⊕ b ⊗ y ⊕ c ⊗ z ⊖ d ⊗ w) ⊗ n ⊕ (a ⊗ p ⊕ b ⊗ q ⊕ c ⊗ r ⊖ d ⊗ s)) ⊗ n ⊕ (a ⊗ i ⊕ b ⊗ j ⊕ c ⊗ k ⊖ d ⊗ l)) cancels h.a h.b h.c h.d n u.x u.y u.z u.w v.x v.y v.z v.w w.x w.y w.z w.w
+    solve 17 (λ a b c d n x y z w p q r s i j k l. a ⊗ (n ⊗ n ⊗ x ⊕ n ⊗ p ⊕ i) ⊕ b ⊗ (n ⊗ n ⊗ y ⊕ n ⊗ q ⊕ j) ⊕ c ⊗
+    (n ⊗ n ⊗ z ⊕ n ⊗ r ⊕ k) ⊖ d ⊗ (n ⊗ n ⊗ w ⊕ n ⊗ s ⊕ l) ≈
+    ((a ⊗ x ⊕ b ⊗ y ⊕ c ⊗ z ⊖ d ⊗ w) ⊗ n ⊕ (a ⊗ p ⊕ b ⊗ q ⊕ c ⊗ r ⊖ d ⊗ s)) ⊗ n ⊕ (a ⊗ i ⊕ b ⊗ j ⊕ c ⊗ k ⊖ d ⊗ l))
+    cancels h.a h.b h.c h.d n u.x u.y u.z u.w v.x v.y v.z v.w w.x w.y w.z w.w
 
 -- the value of a plane at u with its coordinate along an axis replaced by that of v
-pub value_with : (h : Plane) (a : Axis) (u v : Spot) → value_at h (with_along a u v) ≡ v.w *ℤ value_at h u +ℤ (u.w *ℤ along_point a v -ℤ v.w *ℤ along_point a u) *ℤ along h a
+pub value_with : (h : Plane) (a : Axis) (u v : Spot) →
+    value_at h (with_along a u v) ≡ v.w *ℤ value_at h u +ℤ (u.w *ℤ along_point a v -ℤ v.w *ℤ along_point a u) *ℤ along h a
 value_with h a u v =
     let by = u.w *ℤ along_point a v -ℤ v.w *ℤ along_point a u in
     value_moved h (scaled v.w u) a by ∙ ap (λ (z : ℤ). z +ℤ by *ℤ along h a) (value_scaled v.w h u)
@@ -70,11 +74,14 @@ pinned h Z q = record { a = q.w *ℤ h.a; b = q.w *ℤ h.b; c = pos 0; d = q.w *
 -- a plane's value at a point with a coordinate of another, as that of a pinned plane
 pub value_pinned : (h : Plane) (a : Axis) (r q : Spot) → value_at h (with_along a r q) ≡ value_at (pinned h a q) r
 value_pinned h X r q =
-    solve 10 (λ a b c d x y z w u v. a ⊗ (v ⊗ x ⊕ (w ⊗ u ⊖ v ⊗ x)) ⊕ b ⊗ (v ⊗ y) ⊕ c ⊗ (v ⊗ z) ⊖ d ⊗ (v ⊗ w) ≈ num (pos 0) ⊗ x ⊕ v ⊗ b ⊗ y ⊕ v ⊗ c ⊗ z ⊖ (v ⊗ d ⊖ a ⊗ u) ⊗ w) cancels h.a h.b h.c h.d r.x r.y r.z r.w q.x q.w
+    solve 10 (λ a b c d x y z w u v. a ⊗ (v ⊗ x ⊕ (w ⊗ u ⊖ v ⊗ x)) ⊕ b ⊗ (v ⊗ y) ⊕ c ⊗ (v ⊗ z) ⊖ d ⊗ (v ⊗ w) ≈ num
+    (pos 0) ⊗ x ⊕ v ⊗ b ⊗ y ⊕ v ⊗ c ⊗ z ⊖ (v ⊗ d ⊖ a ⊗ u) ⊗ w) cancels h.a h.b h.c h.d r.x r.y r.z r.w q.x q.w
 value_pinned h Y r q =
-    solve 10 (λ a b c d x y z w u v. a ⊗ (v ⊗ x) ⊕ b ⊗ (v ⊗ y ⊕ (w ⊗ u ⊖ v ⊗ y)) ⊕ c ⊗ (v ⊗ z) ⊖ d ⊗ (v ⊗ w) ≈ v ⊗ a ⊗ x ⊕ num (pos 0) ⊗ y ⊕ v ⊗ c ⊗ z ⊖ (v ⊗ d ⊖ b ⊗ u) ⊗ w) cancels h.a h.b h.c h.d r.x r.y r.z r.w q.y q.w
+    solve 10 (λ a b c d x y z w u v. a ⊗ (v ⊗ x) ⊕ b ⊗ (v ⊗ y ⊕ (w ⊗ u ⊖ v ⊗ y)) ⊕ c ⊗ (v ⊗ z) ⊖ d ⊗ (v ⊗ w) ≈ v ⊗ a ⊗ x
+    ⊕ num (pos 0) ⊗ y ⊕ v ⊗ c ⊗ z ⊖ (v ⊗ d ⊖ b ⊗ u) ⊗ w) cancels h.a h.b h.c h.d r.x r.y r.z r.w q.y q.w
 value_pinned h Z r q =
-    solve 10 (λ a b c d x y z w u v. a ⊗ (v ⊗ x) ⊕ b ⊗ (v ⊗ y) ⊕ c ⊗ (v ⊗ z ⊕ (w ⊗ u ⊖ v ⊗ z)) ⊖ d ⊗ (v ⊗ w) ≈ v ⊗ a ⊗ x ⊕ v ⊗ b ⊗ y ⊕ num (pos 0) ⊗ z ⊖ (v ⊗ d ⊖ c ⊗ u) ⊗ w) cancels h.a h.b h.c h.d r.x r.y r.z r.w q.z q.w
+    solve 10 (λ a b c d x y z w u v. a ⊗ (v ⊗ x) ⊕ b ⊗ (v ⊗ y) ⊕ c ⊗ (v ⊗ z ⊕ (w ⊗ u ⊖ v ⊗ z)) ⊖ d ⊗ (v ⊗ w) ≈ v ⊗ a ⊗ x
+    ⊕ v ⊗ b ⊗ y ⊕ num (pos 0) ⊗ z ⊖ (v ⊗ d ⊖ c ⊗ u) ⊗ w) cancels h.a h.b h.c h.d r.x r.y r.z r.w q.z q.w
 
 -- ---- planes with coordinates of the start
 abbrev pub entries : Vector → List ℤ
@@ -89,19 +96,33 @@ slid_twice_to k lo h = slid_once_to k lo (slid_once_to (second_of k) lo h)
 -- what a plane is at the corner of the box with one coordinate of q, and with two
 pub pinned_once : (h : Plane) (k : Axis) (lo : Vector) (q : Spot) → value_at (pinned h (first_of k) q) (spot_of_vector lo) ≡ value_at (slid_twice_to k lo h) q
 pinned_once h X lo q =
-    solve 11 (λ a b c d i j k x y z w. w ⊗ a ⊗ i ⊕ num (pos 0) ⊗ j ⊕ w ⊗ c ⊗ k ⊖ (w ⊗ d ⊖ b ⊗ y) ⊗ num (pos 1) ≈ num (pos 0) ⊗ x ⊕ b ⊗ y ⊕ num (pos 0) ⊗ z ⊖ (d ⊖ c ⊗ k ⊖ a ⊗ i) ⊗ w) cancels h.a h.b h.c h.d lo.x lo.y lo.z q.x q.y q.z q.w
+    solve 11 (λ a b c d i j k x y z w. w ⊗ a ⊗ i ⊕ num (pos 0) ⊗ j ⊕ w ⊗ c ⊗ k ⊖ (w ⊗ d ⊖ b ⊗ y) ⊗ num (pos 1) ≈ num
+    (pos 0) ⊗ x ⊕ b ⊗ y ⊕ num (pos 0) ⊗ z ⊖ (d ⊖ c ⊗ k ⊖ a ⊗ i) ⊗ w) cancels h.a h.b h.c h.d lo.x lo.y lo.z q.x q.y
+    q.z q.w
 pinned_once h Y lo q =
-    solve 11 (λ a b c d i j k x y z w. num (pos 0) ⊗ i ⊕ w ⊗ b ⊗ j ⊕ w ⊗ c ⊗ k ⊖ (w ⊗ d ⊖ a ⊗ x) ⊗ num (pos 1) ≈ a ⊗ x ⊕ num (pos 0) ⊗ y ⊕ num (pos 0) ⊗ z ⊖ (d ⊖ c ⊗ k ⊖ b ⊗ j) ⊗ w) cancels h.a h.b h.c h.d lo.x lo.y lo.z q.x q.y q.z q.w
+    solve 11 (λ a b c d i j k x y z w. num (pos 0) ⊗ i ⊕ w ⊗ b ⊗ j ⊕ w ⊗ c ⊗ k ⊖ (w ⊗ d ⊖ a ⊗ x) ⊗ num (pos 1) ≈ a ⊗ x ⊕
+    num (pos 0) ⊗ y ⊕ num (pos 0) ⊗ z ⊖ (d ⊖ c ⊗ k ⊖ b ⊗ j) ⊗ w) cancels h.a h.b h.c h.d lo.x lo.y lo.z q.x q.y q.z
+    q.w
 pinned_once h Z lo q =
-    solve 11 (λ a b c d i j k x y z w. num (pos 0) ⊗ i ⊕ w ⊗ b ⊗ j ⊕ w ⊗ c ⊗ k ⊖ (w ⊗ d ⊖ a ⊗ x) ⊗ num (pos 1) ≈ a ⊗ x ⊕ num (pos 0) ⊗ y ⊕ num (pos 0) ⊗ z ⊖ (d ⊖ b ⊗ j ⊖ c ⊗ k) ⊗ w) cancels h.a h.b h.c h.d lo.x lo.y lo.z q.x q.y q.z q.w
+    solve 11 (λ a b c d i j k x y z w. num (pos 0) ⊗ i ⊕ w ⊗ b ⊗ j ⊕ w ⊗ c ⊗ k ⊖ (w ⊗ d ⊖ a ⊗ x) ⊗ num (pos 1) ≈ a ⊗ x ⊕
+    num (pos 0) ⊗ y ⊕ num (pos 0) ⊗ z ⊖ (d ⊖ b ⊗ j ⊖ c ⊗ k) ⊗ w) cancels h.a h.b h.c h.d lo.x lo.y lo.z q.x q.y q.z
+    q.w
 
-pub pinned_twice : (h : Plane) (k : Axis) (lo : Vector) (q : Spot) → value_at (pinned (pinned h (second_of k) q) (first_of k) q) (spot_of_vector lo) ≡ q.w *ℤ value_at (slid_once_to k lo h) q
+pub pinned_twice : (h : Plane) (k : Axis) (lo : Vector) (q : Spot) →
+    value_at (pinned (pinned h (second_of k) q) (first_of k) q) (spot_of_vector lo) ≡ q.w *ℤ value_at
+    (slid_once_to k lo h) q
 pinned_twice h X lo q =
-    solve 11 (λ a b c d i j k x y z w. w ⊗ (w ⊗ a) ⊗ i ⊕ num (pos 0) ⊗ j ⊕ w ⊗ num (pos 0) ⊗ k ⊖ (w ⊗ (w ⊗ d ⊖ c ⊗ z) ⊖ w ⊗ b ⊗ y) ⊗ num (pos 1) ≈ w ⊗ (num (pos 0) ⊗ x ⊕ b ⊗ y ⊕ c ⊗ z ⊖ (d ⊖ a ⊗ i) ⊗ w)) cancels h.a h.b h.c h.d lo.x lo.y lo.z q.x q.y q.z q.w
+    solve 11 (λ a b c d i j k x y z w. w ⊗ (w ⊗ a) ⊗ i ⊕ num (pos 0) ⊗ j ⊕ w ⊗ num (pos 0) ⊗ k ⊖
+    (w ⊗ (w ⊗ d ⊖ c ⊗ z) ⊖ w ⊗ b ⊗ y) ⊗ num (pos 1) ≈ w ⊗ (num (pos 0) ⊗ x ⊕ b ⊗ y ⊕ c ⊗ z ⊖ (d ⊖ a ⊗ i) ⊗ w)) cancels
+    h.a h.b h.c h.d lo.x lo.y lo.z q.x q.y q.z q.w
 pinned_twice h Y lo q =
-    solve 11 (λ a b c d i j k x y z w. num (pos 0) ⊗ i ⊕ w ⊗ (w ⊗ b) ⊗ j ⊕ w ⊗ num (pos 0) ⊗ k ⊖ (w ⊗ (w ⊗ d ⊖ c ⊗ z) ⊖ w ⊗ a ⊗ x) ⊗ num (pos 1) ≈ w ⊗ (a ⊗ x ⊕ num (pos 0) ⊗ y ⊕ c ⊗ z ⊖ (d ⊖ b ⊗ j) ⊗ w)) cancels h.a h.b h.c h.d lo.x lo.y lo.z q.x q.y q.z q.w
+    solve 11 (λ a b c d i j k x y z w. num (pos 0) ⊗ i ⊕ w ⊗ (w ⊗ b) ⊗ j ⊕ w ⊗ num (pos 0) ⊗ k ⊖
+    (w ⊗ (w ⊗ d ⊖ c ⊗ z) ⊖ w ⊗ a ⊗ x) ⊗ num (pos 1) ≈ w ⊗ (a ⊗ x ⊕ num (pos 0) ⊗ y ⊕ c ⊗ z ⊖ (d ⊖ b ⊗ j) ⊗ w)) cancels
+    h.a h.b h.c h.d lo.x lo.y lo.z q.x q.y q.z q.w
 pinned_twice h Z lo q =
-    solve 11 (λ a b c d i j k x y z w. num (pos 0) ⊗ i ⊕ w ⊗ num (pos 0) ⊗ j ⊕ w ⊗ (w ⊗ c) ⊗ k ⊖ (w ⊗ (w ⊗ d ⊖ b ⊗ y) ⊖ w ⊗ a ⊗ x) ⊗ num (pos 1) ≈ w ⊗ (a ⊗ x ⊕ b ⊗ y ⊕ num (pos 0) ⊗ z ⊖ (d ⊖ c ⊗ k) ⊗ w)) cancels h.a h.b h.c h.d lo.x lo.y lo.z q.x q.y q.z q.w
+    solve 11 (λ a b c d i j k x y z w. num (pos 0) ⊗ i ⊕ w ⊗ num (pos 0) ⊗ j ⊕ w ⊗ (w ⊗ c) ⊗ k ⊖
+    (w ⊗ (w ⊗ d ⊖ b ⊗ y) ⊖ w ⊗ a ⊗ x) ⊗ num (pos 1) ≈ w ⊗ (a ⊗ x ⊕ b ⊗ y ⊕ num (pos 0) ⊗ z ⊖ (d ⊖ c ⊗ k) ⊗ w)) cancels
+    h.a h.b h.c h.d lo.x lo.y lo.z q.x q.y q.z q.w
 
 -- the last segment runs along k
 pub differ_last : (k : Axis) (r q : Spot) (m s : ℤ) → DifferAlong k (with_along (second_of k) (with_along (first_of k) r q) q) (moved (scaled m q) k s)

@@ -32,34 +32,45 @@ module _ (k : Axis) (a b d : Meet) (q : Spot) (close : IsClose k a b d q) (turn 
   -- the crossing of the ray from the end, as the code counts it
   abbrev pub ray : Tri → ℤ
   ray t =
-      cond (is_pierced t k a b d) (signed_crossing (or_sign (inside_side (support_of t) a b d) (turn (sgn (along (support_of t) k)))) (sgn (along (support_of t) k))) (pos 0)
+      cond (is_pierced t k a b d) (signed_crossing
+      (or_sign (inside_side (support_of t) a b d) (turn (sgn (along (support_of t) k))))
+      (sgn (along (support_of t) k))) (pos 0)
 
   ray_crossing : (t : Tri) → IsValidTri t → crossing (face_of t) k e ≡ ray t
   ray_crossing t v =
       let n = support_of t in let s = sgn (along n k) in
       let side = end.side n (support_sized t v) in
       let m = ap is_neg (sgn-mul (value_at n e) (along n k)) ∙ (λ i. is_neg (times (side i) s)) in
-      let g = edges_behind (λ h. inside_side h a b d) t k e v (λ h i z. end.side h i ∙ or_zero (inside_side h a b d) (turn (sgn (along h k))) (ap turn (ap sgn z) ∙ end.level)) in
-      crossing_is k e t end.weight ∙ (λ i. cond (m i && g i) (sign-number (along n k) i) (pos 0)) ∙ nested_cond_is_and (is_neg (times (or_sign (inside_side n a b d) (turn s)) s)) (is_pierced t k a b d) (number s)
+      let g = edges_behind (λ h. inside_side h a b d) t k e v
+      (λ h i z. end.side h i ∙ or_zero (inside_side h a b d) (turn (sgn (along h k)))
+      (ap turn (ap sgn z) ∙ end.level)) in
+      crossing_is k e t end.weight ∙ (λ i. cond (m i && g i) (sign-number (along n k) i) (pos 0))
+      ∙ nested_cond_is_and (is_neg (times (or_sign (inside_side n a b d) (turn s)) s)) (is_pierced t k a b d)
+      (number s)
 
   end_sees : (ts : List Tri) → All IsValidTri ts → All (HasMesh 64) ts → HasWindings ts k e (ray_counts ray ts (replicate 64 (pos 0)))
   end_sees ts valid numbered =
       record {
         clear = generic_clear e ts end.weight (end_generic k a b d q close turn e end) valid;
-        counts_are = sym (ray_counts_rays (λ f. crossing f k e) (flat_crossing k e) ray ts (λ i t l. ray_crossing (get_or ts i t) (valid i t l)) numbered (replicate 64 (pos 0)) ∙ added_none _);
+        counts_are = sym (ray_counts_rays (λ f. crossing f k e) (flat_crossing k e) ray ts
+            (λ i t l. ray_crossing (get_or ts i t) (valid i t l)) numbered (replicate 64 (pos 0)) ∙ added_none _);
       }
 
 -- the counts of the rays directly before and after a region are its sides
-pub ray_sides : (ts : List Tri) (f : Face) (s : Sides) → All IsValidTri ts → All (HasMesh 64) ts → AreRayCounts ts f s → IsSides ts f s.before.counts s.after.counts
+pub ray_sides : (ts : List Tri) (f : Face) (s : Sides) → All IsValidTri ts → All (HasMesh 64) ts → AreRayCounts ts f s →
+    IsSides ts f s.before.counts s.after.counts
 ray_sides ts f s valid numbered r =
     let k = main_axis f.support in
-    let u = first_corners_found f r.first r.second r.third (first_corners f r.corners r.first r.second r.third r.are_corners r.is_first r.is_second r.is_third) in
+    let u = first_corners_found f r.first r.second r.third
+    (first_corners f r.corners r.first r.second r.third r.are_corners r.is_first r.is_second r.is_third) in
     record {
       at = u.q;
       inside = u.inside;
       bound = 33554431;
-      sees_before = λ s' m ls lm. same (end_sees k r.first r.second r.third u.q u.close flip _ (before_end k r.first r.second r.third u.q u.close s' m ls lm) ts valid numbered) (sym r.before);
-      sees_after = λ s' m ls lm. same (end_sees k r.first r.second r.third u.q u.close (λ t. t) _ (after_end k r.first r.second r.third u.q u.close s' m ls lm) ts valid numbered) (sym r.after);
+      sees_before = λ s' m ls lm. same (end_sees k r.first r.second r.third u.q u.close flip _
+          (before_end k r.first r.second r.third u.q u.close s' m ls lm) ts valid numbered) (sym r.before);
+      sees_after = λ s' m ls lm. same (end_sees k r.first r.second r.third u.q u.close (λ t. t) _
+          (after_end k r.first r.second r.third u.q u.close s' m ls lm) ts valid numbered) (sym r.after);
     }
   where
     same : {k : Axis} {v : Spot} {x y : List ℤ} → HasWindings ts k v x → x ≡ y → HasWindings ts k v y

@@ -41,7 +41,16 @@ pub record Found (f : Face) (a b d : Meet) : Type 0 where
 -- the first three corners are found as the code takes them
 pub first_corners_found : (f : Face) (a b d : Meet) → AreFirst f (spot_of a) (spot_of b) (spot_of d) → Found f a b d
 first_corners_found f a b d first =
-    record { q = q; inside = inside; close = record { weight = (inside_parts f q inside).0; at_end = λ h i. close_sign m h (spot_of a) (spot_of b) (spot_of d) i (omega arith) (omega arith); apart = apart } }
+    record {
+      q = q;
+      inside = inside;
+      close = record {
+        weight = (inside_parts f q inside).0;
+        at_end =
+            λ h i. close_sign m h (spot_of a) (spot_of b) (spot_of d) i (omega arith) (omega arith);
+        apart = apart;
+      };
+    }
   where
     m : ℕ
     m = value_bound (spot_of b) + value_bound (spot_of d) + 1
@@ -62,9 +71,19 @@ first_corners_found f a b d first =
 abbrev pub far_out : Spot → ℕ
 far_out q = 2 ^ 27 + unsigned_abs q.w * 33554431 + unsigned_abs q.w * (unsigned_abs q.w * 33554431) + 1
 
-pub stops_from : (k : Axis) (lo : Vector) (a b d : Meet) (q : Spot) → IsClose k a b d q → ((k : Axis) → Small 2048 (coordinate (entries lo) k)) → AreStops k lo a b d q (far_out q)
+pub stops_from : (k : Axis) (lo : Vector) (a b d : Meet) (q : Spot) → IsClose k a b d q →
+    ((k : Axis) → Small 2048 (coordinate (entries lo) k)) → AreStops k lo a b d q (far_out q)
 stops_from k lo a b d q close small =
-    record { close = close; large = omega arith; once = omega arith; twice = omega arith; valid_once = λ h i. slid_once h k _ i (small k); valid_twice = λ h i. slid_twice h (second_of k) k _ _ i (small (second_of k)) (small k) }
+    record {
+      close = close;
+      large = omega arith;
+      once = omega arith;
+      twice = omega arith;
+      valid_once =
+          λ h i. slid_once h k _ i (small k);
+      valid_twice =
+          λ h i. slid_twice h (second_of k) k _ _ i (small (second_of k)) (small k);
+    }
 
 -- ---- directly beside it
 pub flip_zero : (t : Sign) → flip t ≡ Zero → t ≡ Zero
@@ -81,14 +100,30 @@ along_small h Z i = i.c
 module _ (k : Axis) (a b d : Meet) (q : Spot) (close : IsClose k a b d q) (s m : ℕ) (ls : 1 ≤ s) (lm : 33554431 * s < m) where
   weight : (by : ℤ) → pos 0 <ℤ (moved (scaled (pos m) q) k by).w
   weight by =
-      let e = moved_weight (scaled (pos m) q) k by in let l : pos 0 <ℤ pos m = omega (arith, ints, lm) in let p = pos_mul l close.weight in omega (arith, linear, e, p)
+      let e = moved_weight (scaled (pos m) q) k by in let l : pos 0 <ℤ pos m = omega (arith, ints, lm) in let p =
+      pos_mul l close.weight in omega (arith, linear, e, p)
 
   -- a small step ahead is an end after the region
   pub after_end : IsEnd k a b d (λ t. t) (moved (scaled (pos m) q) k (pos s))
   after_end =
-      record { weight = weight (pos s); side = λ h i. after_sign k q h (along_small h k i) m s ls lm ∙ ap (λ (t : Sign). or_sign t (sgn (along h k))) (close.at_end h (support_valid i)); level = refl; level_out = λ t e. e }
+      record {
+        weight = weight (pos s);
+        side = λ h i. after_sign k q h (along_small h k i) m s ls lm
+            ∙ ap (λ (t : Sign). or_sign t (sgn (along h k))) (close.at_end h (support_valid i));
+        level = refl;
+        level_out =
+            λ t e. e;
+      }
 
   -- a small step back is an end before the region
   pub before_end : IsEnd k a b d flip (moved (scaled (pos m) q) k (neg_ℤ (pos s)))
   before_end =
-      record { weight = weight (neg_ℤ (pos s)); side = λ h i. before_sign k q h (along_small h k i) m s ls lm ∙ ap (λ (t : Sign). or_sign t (flip (sgn (along h k)))) (close.at_end h (support_valid i)); level = refl; level_out = flip_zero }
+      record {
+        weight = weight (neg_ℤ (pos s));
+        side =
+            λ h i. before_sign k q h (along_small h k i) m s ls lm
+            ∙ ap (λ (t : Sign). or_sign t (flip (sgn (along h k)))) (close.at_end h (support_valid i));
+        level =
+            refl;
+        level_out = flip_zero;
+      }

@@ -1,5 +1,6 @@
 -- A whole number that is moved into the root lies in the same bounding boxes as before.
-use Rattle.std.proofs.Common.{◌≡◌, refl, sym, ap, ◌∙◌, arith, Bool, true, false, ◌&&◌, cond, ℤ, pos, negsuc, ◌≤ℤ◌, ◌<ℤ◌, int_le, int_lt, unsigned_abs, subst, ◌≤◌}
+use Rattle.std.proofs.Common.{◌≡◌, refl, sym, ap, ◌∙◌, arith, Bool, true, false, ◌&&◌, cond, ℤ, pos, negsuc, ◌≤ℤ◌, ◌<ℤ◌}
+use Rattle.std.proofs.Common.{int_le, int_lt, unsigned_abs, subst, ◌≤◌}
 use Rattle.std.specs.Int.{int_max}
 use Rattle.std.proofs.lemmas.Int.{clamps}
 use borrow.Author.Differences.{ints}
@@ -39,8 +40,11 @@ root_small z = by (root_case z)
     ends a e s = subst (λ (b : ℤ). Small 2048 b) e s
 
     middle : (l h : Bool) → int_lt z (negsuc 2047) ≡ l → int_lt (pos 2048) z ≡ h → in_root z ≡ z → Small 2048 (in_root z)
-    middle true h el eh e = ends (negsuc 2047) (sym (ap (λ b. cond b (negsuc 2047) (cond (int_lt (pos 2048) z) (pos 2048) z)) el)) (record { small = omega arith })
-    middle false true el eh e = ends (pos 2048) (sym (ap (λ b. cond b (negsuc 2047) (cond (int_lt (pos 2048) z) (pos 2048) z)) el ∙ ap (λ b. cond b (pos 2048) z) eh)) (record { small = omega arith })
+    middle true h el eh e = ends (negsuc 2047) (sym
+        (ap (λ b. cond b (negsuc 2047) (cond (int_lt (pos 2048) z) (pos 2048) z)) el)) (record { small = omega arith })
+    middle false true el eh e = ends (pos 2048) (sym
+        (ap (λ b. cond b (negsuc 2047) (cond (int_lt (pos 2048) z) (pos 2048) z)) el ∙ ap (λ b. cond b (pos 2048) z) eh))
+        (record { small = omega arith })
     middle false false el eh e = ends z (sym e) (record { small = at_most z el eh })
       where
         at_most : (z : ℤ) → int_lt z (negsuc 2047) ≡ false → int_lt (pos 2048) z ≡ false → unsigned_abs z ≤ 2048
@@ -68,15 +72,22 @@ same_contained s z l h = by (root_case z)
 
     by : RootCase z → may_contain s (in_root z) ≡ may_contain s z
     by (below o e) =
-        ap (λ x. may_contain s x) e ∙ left (negsuc 2047) z (no s.low (negsuc 2047) (omega (arith, ints, l.small))) (no s.low z (omega (arith, ints, l.small, o)))
+        ap (λ x. may_contain s x) e ∙ left (negsuc 2047) z (no s.low (negsuc 2047) (omega (arith, ints, l.small)))
+        (no s.low z (omega (arith, ints, l.small, o)))
     by (above o e) =
-        ap (λ x. may_contain s x) e ∙ right (pos 2048) z (yes s.low (pos 2048) (omega (arith, ints, l.small))) (yes s.low z (omega (arith, ints, l.small, o))) (no (pos 2048) s.high (omega (arith, ints, h.small))) (no z s.high (omega (arith, ints, h.small, o)))
+        ap (λ x. may_contain s x) e ∙ right (pos 2048) z (yes s.low (pos 2048) (omega (arith, ints, l.small)))
+        (yes s.low z (omega (arith, ints, l.small, o))) (no (pos 2048) s.high (omega (arith, ints, h.small)))
+        (no z s.high (omega (arith, ints, h.small, o)))
     by (within e) = ap (λ x. may_contain s x) e
 
 -- of the bounding box of a near triangle
-pub contained_in_root : (f : NearTriangle) (k : Axis) (at z : ℤ) → at ≡ in_root z → may_contain (interval_along f.aabb k) at ≡ may_contain (interval_along f.aabb k) z
+pub contained_in_root : (f : NearTriangle) (k : Axis) (at z : ℤ) → at ≡ in_root z →
+    may_contain (interval_along f.aabb k) at ≡ may_contain (interval_along f.aabb k) z
 contained_in_root f k at z e =
-    ap (λ x. may_contain (interval_along f.aabb k) x) e ∙ ap (λ (b : Aabb). may_contain (interval_along b k) (in_root z)) f.bounds ∙ same_contained _ z (low_small f.tri k f.valid) (high_small f.tri k f.valid) ∙ ap (λ (b : Aabb). may_contain (interval_along b k) z) (sym f.bounds)
+    ap (λ x. may_contain (interval_along f.aabb k) x) e
+    ∙ ap (λ (b : Aabb). may_contain (interval_along b k) (in_root z)) f.bounds
+    ∙ same_contained _ z (low_small f.tri k f.valid) (high_small f.tri k f.valid)
+    ∙ ap (λ (b : Aabb). may_contain (interval_along b k) z) (sym f.bounds)
 
 -- an interval begins as before by the greater of the moved number and another one
 same_begin : (s : Interval) (z c : ℤ) → Small 2047 s.low → begins_by s (int_max (in_root z) c) ≡ begins_by s (int_max z c)
@@ -104,20 +115,26 @@ same_begin s z c l = by (int_le s.low (int_max (in_root z) c)) (int_le s.low (in
     moved_back (above o e) h = absurd (omega (arith, ints, l.small, e, h))
     moved_back (within e) h = omega (arith, ints, e, h)
 
-    by : (x y : Bool) → int_le s.low (int_max (in_root z) c) ≡ x → int_le s.low (int_max z c) ≡ y → begins_by s (int_max (in_root z) c) ≡ begins_by s (int_max z c)
+    by : (x y : Bool) → int_le s.low (int_max (in_root z) c) ≡ x → int_le s.low (int_max z c) ≡ y →
+        begins_by s (int_max (in_root z) c) ≡ begins_by s (int_max z c)
     by true true p q = p ∙ sym q
     by false false p q = p ∙ sym q
     by true false p q =
         let h = less z c s.low (not_at_most s.low (int_max z c) q) in
-        absurd (let u = at_most s.low (int_max (in_root z) c) p in let v = neither (in_root z) c s.low (moved_down (root_case z) h.0) h.1 in omega (arith, ints, u, v))
+        absurd (let u = at_most s.low (int_max (in_root z) c) p in let v =
+        neither (in_root z) c s.low (moved_down (root_case z) h.0) h.1 in omega (arith, ints, u, v))
     by false true p q =
         let h = less (in_root z) c s.low (not_at_most s.low (int_max (in_root z) c) p) in
         absurd (let u = at_most s.low (int_max z c) q in let v = neither z c s.low (moved_back (root_case z) h.0) h.1 in omega (arith, ints, u, v))
 
 -- of the bounding box of a near triangle
-pub begun_in_root : (f : NearTriangle) (k : Axis) (at z c : ℤ) → at ≡ int_max (in_root z) c → begins_by (interval_along f.aabb k) at ≡ begins_by (interval_along f.aabb k) (int_max z c)
+pub begun_in_root : (f : NearTriangle) (k : Axis) (at z c : ℤ) → at ≡ int_max (in_root z) c →
+    begins_by (interval_along f.aabb k) at ≡ begins_by (interval_along f.aabb k) (int_max z c)
 begun_in_root f k at z c e =
-    ap (λ x. begins_by (interval_along f.aabb k) x) e ∙ ap (λ (b : Aabb). begins_by (interval_along b k) (int_max (in_root z) c)) f.bounds ∙ same_begin (interval_along (aabb_of_tri f.tri) k) z c (low_small f.tri k f.valid) ∙ ap (λ (b : Aabb). begins_by (interval_along b k) (int_max z c)) (sym f.bounds)
+    ap (λ x. begins_by (interval_along f.aabb k) x) e
+    ∙ ap (λ (b : Aabb). begins_by (interval_along b k) (int_max (in_root z) c)) f.bounds
+    ∙ same_begin (interval_along (aabb_of_tri f.tri) k) z c (low_small f.tri k f.valid)
+    ∙ ap (λ (b : Aabb). begins_by (interval_along b k) (int_max z c)) (sym f.bounds)
 
 -- the greater of a moved number and a small one is small
 pub farthest_small : (z c : ℤ) → Small 2048 c → Small 2048 (int_max (in_root z) c)

@@ -1,6 +1,7 @@
 -- The crossings of the segments of a path with a triangle, as the code counts them: by the sides of its
 -- planes on which the vertices lie, and only if the bounding box lets a segment cross it.
-use Rattle.std.proofs.Common.{◌≡◌, ◌⊎◌, inl, inr, refl, sym, ap, ◌∙◌, arith, ℕ, ◌^◌, ◌≤◌, Bool, true, false, ◌&&◌, cond, List, ℤ, pos, ◌+ℤ◌, ◌-ℤ◌, ◌*ℤ◌, neg_ℤ, ◌<ℤ◌, ◌≤ℤ◌, int_le, slice_index_or}
+use Rattle.std.proofs.Common.{◌≡◌, ◌⊎◌, inl, inr, refl, sym, ap, ◌∙◌, arith, ℕ, ◌^◌, ◌≤◌, Bool, true, false, ◌&&◌, cond}
+use Rattle.std.proofs.Common.{List, ℤ, pos, ◌+ℤ◌, ◌-ℤ◌, ◌*ℤ◌, neg_ℤ, ◌<ℤ◌, ◌≤ℤ◌, int_le, slice_index_or}
 use Rattle.std.specs.Int.{int_div_euclid, int_max}
 use Rattle.std.proofs.lemmas.Int.{clamps}
 use borrow.Author.Differences.{ints}
@@ -43,10 +44,12 @@ use Rattle.ember_trace.specs.declared.path.Path.{Path}
 use Rattle.ember_trace.specs.NearTriangles.{HasReference}
 use Rattle.ember_trace.specs.Paths.{coordinate, inside_side, first_of, second_of, side_at_start, side_at_end, side_after_first, side_after_second, floor_at_end}
 use Rattle.ember_trace.specs.Lines.{all_behind, contains_above, line_runs_through, first_lines_of}
-use Rattle.ember_trace.specs.Crossings.{signed_crossing, may_contain, begins_by, farthest, may_end, first_runs_through, first_segment, second_segment, segments_above_wall, last_segment}
+use Rattle.ember_trace.specs.Crossings.{signed_crossing, may_contain, begins_by, farthest, may_end, first_runs_through}
+use Rattle.ember_trace.specs.Crossings.{first_segment, second_segment, segments_above_wall, last_segment}
 use Rattle.ember_trace.proofs.PathVertices.{with_along, entries, weight_with, level_with, differ_with}
 use Rattle.ember_trace.proofs.VertexSides.{AreStops, stop_at_start, stop_after_first, stop_after_second, start_sign, first_sign, second_sign}
-use Rattle.ember_trace.proofs.SegmentsPast.{leg_behind, across, value_across, across_with, across_sized, IsPast, past_above, past_floor, above_low, below_floor, low_small}
+use Rattle.ember_trace.proofs.SegmentsPast.{leg_behind, across, value_across, across_with, across_sized, IsPast}
+use Rattle.ember_trace.proofs.SegmentsPast.{past_above, past_floor, above_low, below_floor, low_small}
 
 -- ---- where the path starts
 record ArePowers (m : ℤ) : Type 0 where
@@ -62,7 +65,13 @@ powers m l =
     let a = mul_le z l in let b = mul_le zs l in
     let two : m *ℤ pos 2 ≡ m +ℤ m = solve 1 (λ m. m ⊗ num (pos 2) ≈ m ⊕ m) cancels m in
     let four : m *ℤ m *ℤ pos 2 ≡ m *ℤ m +ℤ m *ℤ m = solve 1 (λ m. m ⊗ m ⊗ num (pos 2) ≈ m ⊗ m ⊕ m ⊗ m) cancels m in
-    record { square = sq; square_below = omega (arith, linear, b, four, sq); below = omega (arith, linear, a, b, two, four, l); one_below = omega (arith, linear, a, b, two, four, l) }
+    record {
+      square = sq;
+      square_below = omega (arith, linear, b, four, sq);
+      below =
+          omega (arith, linear, a, b, two, four, l);
+      one_below = omega (arith, linear, a, b, two, four, l);
+    }
 
 -- y / w lies between a whole number and the next
 pub record IsAbove (at y w : ℤ) : Type 0 where
@@ -71,10 +80,12 @@ pub record IsAbove (at y w : ℤ) : Type 0 where
 
 above : (at m e : ℤ) → pos 0 <ℤ e → e <ℤ m → IsAbove at (m *ℤ at +ℤ e) (m *ℤ pos 1)
 above at m e l h =
-    let x = solve 2 (λ a m. a ⊗ (m ⊗ num (pos 1)) ≈ m ⊗ a) cancels at m in let y = solve 2 (λ a m. (a ⊕ num (pos 1)) ⊗ (m ⊗ num (pos 1)) ≈ m ⊗ a ⊕ m) cancels at m in
+    let x = solve 2 (λ a m. a ⊗ (m ⊗ num (pos 1)) ≈ m ⊗ a) cancels at m in let y =
+    solve 2 (λ a m. (a ⊕ num (pos 1)) ⊗ (m ⊗ num (pos 1)) ≈ m ⊗ a ⊕ m) cancels at m in
     record { from = omega (arith, linear, x, l); to = omega (arith, linear, y, h) }
 
-pub start_above : (lo : Vector) (n : ℕ) (k : Axis) → 2 ^ 27 ≤ n → IsAbove (coordinate (entries lo) k) (along_point k (stop_at_start lo n)) (stop_at_start lo n).w
+pub start_above : (lo : Vector) (n : ℕ) (k : Axis) → 2 ^ 27 ≤ n →
+    IsAbove (coordinate (entries lo) k) (along_point k (stop_at_start lo n)) (stop_at_start lo n).w
 start_above lo n k l = by k
   where
     p : ArePowers (pos n)
@@ -118,14 +129,18 @@ edge_support s =
     record { a = small_within (omega arith) s.a; b = small_within (omega arith) s.b; c = small_within (omega arith) s.c; d = small_within (omega arith) s.d }
 
 -- all edge planes are negative at p if the sides say so
-pub edges_behind : (side : Plane → Sign) (t : Tri) (k : Axis) (p : Spot) → IsValidTri t → ((h : Plane) → IsSupportSized h → along h k ≡ pos 0 → sgn (value_at h p) ≡ side h) → all_negative (edge_planes t k) p ≡ all_behind side (edge_planes t k)
+pub edges_behind : (side : Plane → Sign) (t : Tri) (k : Axis) (p : Spot) → IsValidTri t →
+    ((h : Plane) → IsSupportSized h → along h k ≡ pos 0 → sgn (value_at h p) ≡ side h) →
+    all_negative (edge_planes t k) p ≡ all_behind side (edge_planes t k)
 edges_behind side t k p v f =
-    let x = each t.a t.b v.a v.b in let y = each t.b t.c v.b v.c in let z = each t.c t.a v.c v.a in λ i. is_neg (x i) && (is_neg (y i) && (is_neg (z i) && true))
+    let x = each t.a t.b v.a v.b in let y = each t.b t.c v.b v.c in let z = each t.c t.a v.c v.a in
+    λ i. is_neg (x i) && (is_neg (y i) && (is_neg (z i) && true))
   where
     s : ℤ
     s = sign (along (support_of t) k)
 
-    each : (u w : Corner) → IsValidCorner u → IsValidCorner w → sgn (value_at (times_plane s (edge_through u w (unit k))) p) ≡ side (times_plane s (edge_through u w (unit k)))
+    each : (u w : Corner) → IsValidCorner u → IsValidCorner w →
+        sgn (value_at (times_plane s (edge_through u w (unit k))) p) ≡ side (times_plane s (edge_through u w (unit k)))
     each u w iu iw =
         f (times_plane s (edge_through u w (unit k))) (edge_support (edge_sized u w k s iu iw (sign_small (along (support_of t) k)))) (edge_level s u w k)
 
@@ -136,7 +151,9 @@ nested_cond_is_and true false v = refl
 nested_cond_is_and false true v = refl
 nested_cond_is_and false false v = refl
 
-told : (k : Axis) (p q : Spot) (t : Tri) (b : Bool) (s e : Sign) → pos 0 <ℤ p.w → pos 0 <ℤ q.w → DifferAlong k p q → sgn (value_at (support_of t) p) ≡ s → sgn (value_at (support_of t) q) ≡ e → all_negative (edge_planes t k) p ≡ b → leg (face_of t) p q ≡ cond b (signed_crossing s e) (pos 0)
+told : (k : Axis) (p q : Spot) (t : Tri) (b : Bool) (s e : Sign) → pos 0 <ℤ p.w → pos 0 <ℤ q.w → DifferAlong k p q →
+    sgn (value_at (support_of t) p) ≡ s → sgn (value_at (support_of t) q) ≡ e → all_negative (edge_planes t k) p ≡ b →
+    leg (face_of t) p q ≡ cond b (signed_crossing s e) (pos 0)
 told k p q t b s e wp wq d es ee eb =
     let x = value_at (support_of t) p in let y = value_at (support_of t) q in
     let m = ap is_neg (sgn-mul x y) ∙ (λ i. is_neg (times (es i) (ee i))) in let f = sign-number y ∙ ap number ee in
@@ -206,7 +223,10 @@ floor_is w Y = refl
 floor_is w Z = refl
 
 -- what it means that a line runs through a triangle
-lines_are : (lo : List ℤ) (t : Tri) (a : Axis) → line_runs_through lo t a ≡ contains_above (interval_along (aabb_of_tri t) (first_of a)) (coordinate lo (first_of a)) && (contains_above (interval_along (aabb_of_tri t) (second_of a)) (coordinate lo (second_of a)) && all_behind (λ p. sgn (value_at p (reference_at_list lo))) (edge_planes t a))
+lines_are : (lo : List ℤ) (t : Tri) (a : Axis) →
+    line_runs_through lo t a ≡ contains_above (interval_along (aabb_of_tri t) (first_of a)) (coordinate lo (first_of a))
+    && (contains_above (interval_along (aabb_of_tri t) (second_of a)) (coordinate lo (second_of a))
+    && all_behind (λ p. sgn (value_at p (reference_at_list lo))) (edge_planes t a))
 lines_are lo t a = refl
 
 not_at_most : (a b : ℤ) → int_le a b ≡ false → b <ℤ a
@@ -215,225 +235,288 @@ not_at_most a b e = grind (arith, ints)
 greatest_below : (a b d : ℤ) → int_max a b <ℤ d → (a <ℤ d) × (b <ℤ d)
 greatest_below a b d l = (omega (arith, ints, clamps), omega (arith, ints, clamps))
 
-module _ (c : Cell) (k : Axis) (v : Path) (e : v.lo ≡ entries c.lo) (q : Spot) (n : ℕ) (s : AreStops k c.lo v.first_corner v.second_corner v.third_corner q n) (f : NearTriangle) (from : HasReference c f) where
-  -- the path, with its axes told by the last
-  abbrev w : Path
-  w = record v { first_axis = first_of k; second_axis = second_of k; main = k }
+module _ (c : Cell) (k : Axis) (v : Path) (e : v.lo ≡ entries c.lo) (q : Spot) (n : ℕ)
+    (s : AreStops k c.lo v.first_corner v.second_corner v.third_corner q n) (f : NearTriangle) (from : HasReference c f)
+  where
+    -- the path, with its axes told by the last
+    abbrev w : Path
+    w = record v { first_axis = first_of k; second_axis = second_of k; main = k }
 
-  abbrev t : Tri
-  t = f.tri
+    abbrev t : Tri
+    t = f.tri
 
-  abbrev p0 : Spot
-  p0 = stop_at_start c.lo n
+    abbrev p0 : Spot
+    p0 = stop_at_start c.lo n
 
-  abbrev p1 : Spot
-  p1 = stop_after_first k c.lo q n
+    abbrev p1 : Spot
+    p1 = stop_after_first k c.lo q n
 
-  abbrev p2 : Spot
-  p2 = stop_after_second k c.lo q n
+    abbrev p2 : Spot
+    p2 = stop_after_second k c.lo q n
 
-  w0 : pos 0 <ℤ p0.w
-  w0 = start_weight c.lo n s.large
+    w0 : pos 0 <ℤ p0.w
+    w0 = start_weight c.lo n s.large
 
-  w1 : pos 0 <ℤ p1.w
-  w1 = weight_with (first_of k) p0 q w0 s.close.weight
+    w1 : pos 0 <ℤ p1.w
+    w1 = weight_with (first_of k) p0 q w0 s.close.weight
 
-  w2 : pos 0 <ℤ p2.w
-  w2 = weight_with (second_of k) p1 q w1 s.close.weight
+    w2 : pos 0 <ℤ p2.w
+    w2 = weight_with (second_of k) p1 q w1 s.close.weight
 
-  -- ---- sides, as the code has them
-  side_start : (h : Plane) → side_at_start w h ≡ sgn (value_at h (reference_at c.lo))
-  side_start h = ap (λ (p : Spot). sgn (value_at h p)) (reference_is v.lo c (ap vector_of_list e))
+    -- ---- sides, as the code has them
+    side_start : (h : Plane) → side_at_start w h ≡ sgn (value_at h (reference_at c.lo))
+    side_start h = ap (λ (p : Spot). sgn (value_at h p)) (reference_is v.lo c (ap vector_of_list e))
 
-  side_first : (h : Plane) → IsSupportSized h → sgn (value_at h p1) ≡ side_after_first w h
-  side_first h i =
-      first_sign k c.lo v.first_corner v.second_corner v.third_corner q n s h i ∙ sym (λ j. or_sign (inside_side (slid (slid h (second_of k) (coordinate (e j) (second_of k))) k (coordinate (e j) k)) v.first_corner v.second_corner v.third_corner) (side_start h j))
+    side_first : (h : Plane) → IsSupportSized h → sgn (value_at h p1) ≡ side_after_first w h
+    side_first h i =
+        first_sign k c.lo v.first_corner v.second_corner v.third_corner q n s h i
+        ∙ sym (λ j. or_sign (inside_side (slid (slid h (second_of k) (coordinate (e j) (second_of k))) k
+        (coordinate (e j) k)) v.first_corner v.second_corner v.third_corner) (side_start h j))
 
-  side_second : (h : Plane) → IsSupportSized h → sgn (value_at h p2) ≡ side_after_second w h
-  side_second h i =
-      second_sign k c.lo v.first_corner v.second_corner v.third_corner q n s h i ∙ sym (λ j. or_sign (inside_side (slid h k (coordinate (e j) k)) v.first_corner v.second_corner v.third_corner) (side_start h j))
+    side_second : (h : Plane) → IsSupportSized h → sgn (value_at h p2) ≡ side_after_second w h
+    side_second h i =
+        second_sign k c.lo v.first_corner v.second_corner v.third_corner q n s h i
+        ∙ sym (λ j. or_sign (inside_side (slid h k (coordinate (e j) k)) v.first_corner v.second_corner v.third_corner)
+        (side_start h j))
 
-  sized : IsSupportSized (support_of t)
-  sized = support_sized t f.valid
+    sized : IsSupportSized (support_of t)
+    sized = support_sized t f.valid
 
-  at_start : sgn (value_at (support_of t) p0) ≡ f.reference_side
-  at_start =
-      start_sign k c.lo v.first_corner v.second_corner v.third_corner q n s (support_of t) sized ∙ sym (from.side ∙ ap (λ (p : Plane). sgn (value_at p (reference_at_list (entries c.lo)))) f.plane ∙ ap (λ (r : Spot). sgn (value_at (support_of t) r)) (reference_is (entries c.lo) c refl))
+    at_start : sgn (value_at (support_of t) p0) ≡ f.reference_side
+    at_start =
+        start_sign k c.lo v.first_corner v.second_corner v.third_corner q n s (support_of t) sized
+        ∙ sym (from.side ∙ ap (λ (p : Plane). sgn (value_at p (reference_at_list (entries c.lo)))) f.plane
+        ∙ ap (λ (r : Spot). sgn (value_at (support_of t) r)) (reference_is (entries c.lo) c refl))
 
-  after_first : sgn (value_at (support_of t) p1) ≡ side_after_first w f.support
-  after_first = side_first (support_of t) sized ∙ ap (λ (p : Plane). side_after_first w p) (sym f.plane)
+    after_first : sgn (value_at (support_of t) p1) ≡ side_after_first w f.support
+    after_first = side_first (support_of t) sized ∙ ap (λ (p : Plane). side_after_first w p) (sym f.plane)
 
-  after_second : sgn (value_at (support_of t) p2) ≡ side_after_second w f.support
-  after_second = side_second (support_of t) sized ∙ ap (λ (p : Plane). side_after_second w p) (sym f.plane)
+    after_second : sgn (value_at (support_of t) p2) ≡ side_after_second w f.support
+    after_second = side_second (support_of t) sized ∙ ap (λ (p : Plane). side_after_second w p) (sym f.plane)
 
-  -- ---- past the bounding box
-  -- the triangle begins above the whole number at or below the coordinates of both ends
-  abbrev begins_above : (a : Axis) → floor_at_end w a <ℤ (interval_along (aabb_of_tri t) a).low → IsPast t a (along_point a (spot_of v.first_corner)) v.first_corner.w
-  begins_above a l =
-      let d = (interval_along (aabb_of_tri t) a).low in let u = v.first_corner in
-      record { s = pos 1; d = d; small_s = record { small = omega arith }; small_d = low_small t a f.valid; before = above_low t a f.valid; past = (let y = along_point a (spot_of u) in let b = below_floor y u.w d u.valid.weight (let e = floor_is w a in omega (arith, linear, l, e)) in omega (arith, linear, b)) }
+    -- ---- past the bounding box
+    -- the triangle begins above the whole number at or below the coordinates of both ends
+    abbrev begins_above : (a : Axis) → floor_at_end w a <ℤ (interval_along (aabb_of_tri t) a).low →
+        IsPast t a (along_point a (spot_of v.first_corner)) v.first_corner.w
+    begins_above a l =
+        let d = (interval_along (aabb_of_tri t) a).low in let u = v.first_corner in
+        record {
+          s = pos 1;
+          d = d;
+          small_s = record { small = omega arith };
+          small_d = low_small t a f.valid;
+          before =
+              above_low t a f.valid;
+          past = (let y = along_point a (spot_of u) in let b =
+              below_floor y u.w d u.valid.weight (let e = floor_is w a in omega (arith, linear, l, e)) in
+              omega (arith, linear, b));
+        }
 
-  -- so does one that begins above the greater of both
-  both_below : (a : Axis) → begins_by (interval_along f.aabb a) (farthest w a) ≡ false → (floor_at_end w a <ℤ (interval_along (aabb_of_tri t) a).low) × (coordinate v.lo a <ℤ (interval_along (aabb_of_tri t) a).low)
-  both_below a h = greatest_below (floor_at_end w a) (coordinate v.lo a) _ (not_at_most _ _ (sym (λ j. begins_by (interval_along (f.bounds j) a) (farthest w a)) ∙ h))
+    -- so does one that begins above the greater of both
+    both_below : (a : Axis) → begins_by (interval_along f.aabb a) (farthest w a) ≡ false →
+        (floor_at_end w a <ℤ (interval_along (aabb_of_tri t) a).low) ×
+        (coordinate v.lo a <ℤ (interval_along (aabb_of_tri t) a).low)
+    both_below a h = greatest_below (floor_at_end w a) (coordinate v.lo a) _
+        (not_at_most _ _ (sym (λ j. begins_by (interval_along (f.bounds j) a) (farthest w a)) ∙ h))
 
-  beyond_start : (a : Axis) → coordinate v.lo a <ℤ (interval_along (aabb_of_tri t) a).low → value_at (across a (pos 1) (interval_along (aabb_of_tri t) a).low) p0 <ℤ pos 0
-  beyond_start a l =
-      let d = (interval_along (aabb_of_tri t) a).low in let at = coordinate (entries c.lo) a in let i = start_above c.lo n a s.large in
-      let x = value_across a (pos 1) d p0 in let h = i.to in
-      let g : coordinate v.lo a ≡ at = (λ j. coordinate (e j) a) in
-      let z : pos 0 ≤ℤ p0.w = omega (arith, linear, w0) in
-      let next : (at +ℤ pos 1) ≤ℤ d = omega (arith, linear, l, g) in
-      let m = mul_le z next in
-      let a1 = solve 2 (λ w b. (b ⊕ num (pos 1)) ⊗ w ≈ w ⊗ (b ⊕ num (pos 1))) cancels p0.w at in
-      let a2 = solve 2 (λ w d. d ⊗ w ≈ w ⊗ d) cancels p0.w d in
-      omega (arith, linear, x, h, m, a1, a2)
+    beyond_start : (a : Axis) → coordinate v.lo a <ℤ (interval_along (aabb_of_tri t) a).low →
+        value_at (across a (pos 1) (interval_along (aabb_of_tri t) a).low) p0 <ℤ pos 0
+    beyond_start a l =
+        let d = (interval_along (aabb_of_tri t) a).low in let at = coordinate (entries c.lo) a in let i = start_above c.lo n a s.large in
+        let x = value_across a (pos 1) d p0 in let h = i.to in
+        let g : coordinate v.lo a ≡ at = (λ j. coordinate (e j) a) in
+        let z : pos 0 ≤ℤ p0.w = omega (arith, linear, w0) in
+        let next : (at +ℤ pos 1) ≤ℤ d = omega (arith, linear, l, g) in
+        let m = mul_le z next in
+        let a1 = solve 2 (λ w b. (b ⊕ num (pos 1)) ⊗ w ≈ w ⊗ (b ⊕ num (pos 1))) cancels p0.w at in
+        let a2 = solve 2 (λ w d. d ⊗ w ≈ w ⊗ d) cancels p0.w d in
+        omega (arith, linear, x, h, m, a1, a2)
 
-  -- the coordinate of the start isn't within
-  past_start : (a : Axis) → contains_above (interval_along f.aabb a) (coordinate v.lo a) ≡ false → IsPast t a (along_point a p0) p0.w
-  past_start a h =
-      let i = start_above c.lo n a s.large in
-      past_above t a f.valid (along_point a p0) p0.w (coordinate (entries c.lo) a) w0 i.from i.to (sym (λ j. contains_above (interval_along (f.bounds j) a) (coordinate (e j) a)) ∙ h)
+    -- the coordinate of the start isn't within
+    past_start : (a : Axis) → contains_above (interval_along f.aabb a) (coordinate v.lo a) ≡ false → IsPast t a (along_point a p0) p0.w
+    past_start a h =
+        let i = start_above c.lo n a s.large in
+        past_above t a f.valid (along_point a p0) p0.w (coordinate (entries c.lo) a) w0 i.from i.to
+        (sym (λ j. contains_above (interval_along (f.bounds j) a) (coordinate (e j) a)) ∙ h)
 
-  behind_start : (a : Axis) (i : IsPast t a (along_point a p0) p0.w) → value_at (across a i.s i.d) p0 <ℤ pos 0
-  behind_start a i = let x = value_across a i.s i.d p0 in let l = i.past in omega (arith, linear, x, l)
+    behind_start : (a : Axis) (i : IsPast t a (along_point a p0) p0.w) → value_at (across a i.s i.d) p0 <ℤ pos 0
+    behind_start a i = let x = value_across a i.s i.d p0 in let l = i.past in omega (arith, linear, x, l)
 
-  -- nor is the end's
-  past_end : (a : Axis) → may_contain (interval_along f.aabb a) (floor_at_end w a) ≡ false → IsPast t a (along_point a (spot_of v.first_corner)) v.first_corner.w
-  past_end a h =
-      past_floor t a f.valid (along_point a (spot_of v.first_corner)) v.first_corner.w v.first_corner.valid.weight (sym (λ j. may_contain (interval_along (f.bounds j) a) (floor_is w a j)) ∙ h)
+    -- nor is the end's
+    past_end : (a : Axis) → may_contain (interval_along f.aabb a) (floor_at_end w a) ≡ false →
+        IsPast t a (along_point a (spot_of v.first_corner)) v.first_corner.w
+    past_end a h =
+        past_floor t a f.valid (along_point a (spot_of v.first_corner)) v.first_corner.w v.first_corner.valid.weight
+        (sym (λ j. may_contain (interval_along (f.bounds j) a) (floor_is w a j)) ∙ h)
 
-  behind_end : (a : Axis) (i : IsPast t a (along_point a (spot_of v.first_corner)) v.first_corner.w) → inside_side (across a i.s i.d) v.first_corner v.second_corner v.third_corner ≡ Neg
-  behind_end a i =
-      let g = across a i.s i.d in let x = value_across a i.s i.d (spot_of v.first_corner) in let l = i.past in
-      ap (λ (s : Sign). or_sign s (or_sign (sgn (value_at g (spot_of v.second_corner))) (sgn (value_at g (spot_of v.third_corner))))) (sgn_neg {a = value_at g (spot_of v.first_corner)} (omega (arith, linear, x, l)))
+    behind_end : (a : Axis) (i : IsPast t a (along_point a (spot_of v.first_corner)) v.first_corner.w) →
+        inside_side (across a i.s i.d) v.first_corner v.second_corner v.third_corner ≡ Neg
+    behind_end a i =
+        let g = across a i.s i.d in let x = value_across a i.s i.d (spot_of v.first_corner) in let l = i.past in
+        ap (λ (s : Sign). or_sign s (or_sign (sgn (value_at g (spot_of v.second_corner)))
+        (sgn (value_at g (spot_of v.third_corner)))))
+        (sgn_neg {a = value_at g (spot_of v.first_corner)} (omega (arith, linear, x, l)))
 
-  behind_q : (a : Axis) (i : IsPast t a (along_point a (spot_of v.first_corner)) v.first_corner.w) → value_at (across a i.s i.d) q <ℤ pos 0
-  behind_q a i =
-      negative_sign (value_at (across a i.s i.d) q) (s.close.at_end (across a i.s i.d) (support_valid (across_sized a i.s i.d i.small_s i.small_d)) ∙ behind_end a i)
+    behind_q : (a : Axis) (i : IsPast t a (along_point a (spot_of v.first_corner)) v.first_corner.w) → value_at (across a i.s i.d) q <ℤ pos 0
+    behind_q a i =
+        negative_sign (value_at (across a i.s i.d) q)
+        (s.close.at_end (across a i.s i.d) (support_valid (across_sized a i.s i.d i.small_s i.small_d))
+        ∙ behind_end a i)
 
-  -- a plane stays behind along an axis at which it has no entry
-  stays : (g : Plane) (a : Axis) (u : Spot) → along g a ≡ pos 0 → value_at g u <ℤ pos 0 → value_at g (with_along a u q) <ℤ pos 0
-  stays g a u z l = let x = level_with g a u q z in let m = mul_pos_neg s.close.weight l in omega (arith, linear, x, m)
+    -- a plane stays behind along an axis at which it has no entry
+    stays : (g : Plane) (a : Axis) (u : Spot) → along g a ≡ pos 0 → value_at g u <ℤ pos 0 → value_at g (with_along a u q) <ℤ pos 0
+    stays g a u z l = let x = level_with g a u q z in let m = mul_pos_neg s.close.weight l in omega (arith, linear, x, m)
 
-  comes : (a : Axis) (b d : ℤ) (u : Spot) → pos 0 <ℤ u.w → value_at (across a b d) q <ℤ pos 0 → value_at (across a b d) (with_along a u q) <ℤ pos 0
-  comes a b d u pw l = let x = across_with a b d u q in let m = mul_pos_neg pw l in omega (arith, linear, x, m)
+    comes : (a : Axis) (b d : ℤ) (u : Spot) → pos 0 <ℤ u.w → value_at (across a b d) q <ℤ pos 0 → value_at (across a b d) (with_along a u q) <ℤ pos 0
+    comes a b d u pw l = let x = across_with a b d u q in let m = mul_pos_neg pw l in omega (arith, linear, x, m)
 
-  -- ---- the segments
-  pub first_legs : leg (face_of t) p1 p0 +ℤ leg (face_of t) p2 p1 ≡ neg_ℤ (segments_above_wall w f)
-  first_legs =
-      both (contains_above (interval_along f.aabb k) (coordinate v.lo k)) (first_segment w f) (second_segment w f) (leg (face_of t) p1 p0) (leg (face_of t) p2 p1) first second (λ h. first_out k (across_first k) h) second_out
-    where
-      first_out : (a : Axis) → ((b d : ℤ) → along (across a b d) (first_of k) ≡ pos 0) → contains_above (interval_along f.aabb a) (coordinate v.lo a) ≡ false → leg (face_of t) p1 p0 ≡ pos 0
-      first_out a z h =
-          let i = past_start a h in let g = across a i.s i.d in let l = behind_start a i in
-          leg_behind t g p1 p0 i.before w1 w0 (stays g (first_of k) p0 (z i.s i.d) l) l
-
-      second_out : contains_above (interval_along f.aabb k) (coordinate v.lo k) ≡ false → leg (face_of t) p2 p1 ≡ pos 0
-      second_out h =
-          let i = past_start k h in let g = across k i.s i.d in let l = stays g (first_of k) p0 (across_first k i.s i.d) (behind_start k i) in
-          leg_behind t g p2 p1 i.before w2 w1 (stays g (second_of k) p1 (across_second k i.s i.d) l) l
-
-      end_out : may_contain (interval_along f.aabb (first_of k)) (floor_at_end w (first_of k)) ≡ false → leg (face_of t) p2 p1 ≡ pos 0
-      end_out h =
-          let i = past_end (first_of k) h in let g = across (first_of k) i.s i.d in let l = comes (first_of k) i.s i.d p0 w0 (behind_q (first_of k) i) in
-          leg_behind t g p2 p1 i.before w2 w1 (stays g (second_of k) p1 (first_second k i.s i.d) l) l
-
-      -- the line of the first segment runs through the reference point, so the near triangle has it
-      first : leg (face_of t) p1 p0 ≡ neg_ℤ (first_segment w f)
-      first = crossed ∙ sym (ap (λ (b : Bool). neg_ℤ (cond b (signed_crossing f.reference_side (side_after_first w f.support)) (pos 0))) (runs ∙ lines_are lo t (first_of k)))
-        where
-          lo : List ℤ
-          lo = entries c.lo
-
-          runs : first_runs_through w f ≡ line_runs_through lo t (first_of k)
-          runs = ap (λ (bs : List Bool). slice_index_or bs (axis_index k) false) from.lines ∙ by_axis k
-            where
-              by_axis : (a : Axis) → slice_index_or (first_lines_of lo t) (axis_index a) false ≡ line_runs_through lo t (first_of a)
-              by_axis X = refl
-              by_axis Y = refl
-              by_axis Z = refl
-
-          -- the two other axes are the second one of the path and its main axis, in either order
-          past : (a : Axis) → (a ≡ second_of k) ⊎ (a ≡ k) → contains_above (interval_along (aabb_of_tri t) a) (coordinate lo a) ≡ false → leg (face_of t) p1 p0 ≡ pos 0
-          past a o h = first_out a (level_first o) (h')
-            where
-              level_first : (a ≡ second_of k) ⊎ (a ≡ k) → (b d : ℤ) → along (across a b d) (first_of k) ≡ pos 0
-              level_first (inl x) b d = ap (λ (m : Axis). along (across m b d) (first_of k)) x ∙ second_first k b d
-              level_first (inr x) b d = ap (λ (m : Axis). along (across m b d) (first_of k)) x ∙ across_first k b d
-
-              h' : contains_above (interval_along f.aabb a) (coordinate v.lo a) ≡ false
-              h' = (λ j. contains_above (interval_along (f.bounds j) a) (coordinate (e j) a)) ∙ h
-
-          one : (m : Axis) → (first_of (first_of m) ≡ second_of m) ⊎ (first_of (first_of m) ≡ m)
-          one X = inr refl
-          one Y = inr refl
-          one Z = inl refl
-
-          other : (m : Axis) → (second_of (first_of m) ≡ second_of m) ⊎ (second_of (first_of m) ≡ m)
-          other X = inl refl
-          other Y = inl refl
-          other Z = inr refl
-
-          crossed : leg (face_of t) p1 p0 ≡ neg_ℤ (cond (contains_above (interval_along (aabb_of_tri t) (first_of (first_of k))) (coordinate lo (first_of (first_of k))) && (contains_above (interval_along (aabb_of_tri t) (second_of (first_of k))) (coordinate lo (second_of (first_of k))) && all_behind (λ p. sgn (value_at p (reference_at_list lo))) (edge_planes t (first_of k)))) (signed_crossing f.reference_side (side_after_first w f.support)) (pos 0))
-          crossed =
-              let side = λ (p : Plane). sgn (value_at p (reference_at_list lo)) in
-              let b = all_behind side (edge_planes t (first_of k)) in let u = first_of (first_of k) in let z = second_of (first_of k) in
-              let crossing = signed_crossing f.reference_side (side_after_first w f.support) in
-              tested (contains_above (interval_along (aabb_of_tri t) u) (coordinate lo u)) (contains_above (interval_along (aabb_of_tri t) z) (coordinate lo z) && b) crossing (leg (face_of t) p1 p0)
-              (tested (contains_above (interval_along (aabb_of_tri t) z) (coordinate lo z)) b crossing (leg (face_of t) p1 p0)
-              (leg_back (face_of t) p0 p1 w0 w1 ∙ ap neg_ℤ (told (first_of k) p0 p1 t b f.reference_side (side_after_first w f.support) w0 w1 (differ_with (first_of k) p0 q) at_start after_first (edges_behind side t (first_of k) p0 f.valid (λ h i z. start_sign k c.lo v.first_corner v.second_corner v.third_corner q n s h i ∙ sym (ap (λ (p : Spot). sgn (value_at h p)) (reference_is lo c refl))))))
-              (past z (other k)))
-              (past u (one k))
-
-      -- both ends lie below the whole triangle along the second axis
-      below_out : begins_by (interval_along f.aabb (second_of k)) (farthest w (second_of k)) ≡ false → leg (face_of t) p2 p1 ≡ pos 0
-      below_out h =
-          let a = second_of k in let l = both_below a h in let i = begins_above a l.0 in let g = across a i.s i.d in
-          leg_behind t g p2 p1 i.before w2 w1 (comes a i.s i.d p1 w1 (behind_q a i)) (stays g (first_of k) p0 (second_first k i.s i.d) (beyond_start a l.1))
-
-      second : leg (face_of t) p2 p1 ≡ neg_ℤ (second_segment w f)
-      second =
-          let b = all_behind (λ p. side_after_first w p) (edge_planes t (second_of k)) in
-          let d = begins_by (interval_along f.aabb (second_of k)) (farthest w (second_of k)) in
-          let crossing = signed_crossing (side_after_first w f.support) (side_after_second w f.support) in
-          tested (may_contain (interval_along f.aabb (first_of k)) (floor_at_end w (first_of k))) (d && b) crossing (leg (face_of t) p2 p1)
-          (tested d b crossing (leg (face_of t) p2 p1)
-          (leg_back (face_of t) p1 p2 w1 w2 ∙ ap neg_ℤ (told (second_of k) p1 p2 t b (side_after_first w f.support) (side_after_second w f.support) w1 w2 (differ_with (second_of k) p1 q) after_first after_second (edges_behind (λ p. side_after_first w p) t (second_of k) p1 f.valid (λ h i z. side_first h i))))
-          below_out)
-          end_out
-
-  module _ (turn : Sign → Sign) (p3 : Spot) (end : IsEnd k v.first_corner v.second_corner v.third_corner turn p3) (line : DifferAlong k p2 p3) where
-    abbrev side_end : Sign
-    side_end = or_sign (side_at_end w f.support) (turn (sgn (along f.support k)))
-
-    pub final_leg : leg (face_of t) p3 p2 ≡ neg_ℤ (last_segment w f side_end)
-    final_leg =
-        let b = all_behind (λ p. side_at_end w p) (edge_planes t k) in
-        let crossing = signed_crossing (side_after_second w f.support) side_end in
-        tested (begins_by (interval_along f.aabb k) (farthest w k)) (may_end w f && b) crossing (leg (face_of t) p3 p2)
-        (tested (may_end w f) b crossing (leg (face_of t) p3 p2)
-        (told_back b (side_after_second w f.support) side_end (leg (face_of t) p3 p2) (told k p3 p2 t b side_end (side_after_second w f.support) end.weight w2 (differ_back k p2 p3 line) (end.side (support_of t) sized ∙ ap (λ (p : Plane). or_sign (side_at_end w p) (turn (sgn (along p k)))) (sym f.plane)) after_second (edges_behind (λ p. side_at_end w p) t k p3 f.valid (λ h i z. end.side h i ∙ or_zero (inside_side h v.first_corner v.second_corner v.third_corner) (turn (sgn (along h k))) (ap turn (ap sgn z) ∙ end.level)))))
-        (λ h. either_test (may_contain (interval_along f.aabb (first_of k)) (floor_at_end w (first_of k))) (may_contain (interval_along f.aabb (second_of k)) (floor_at_end w (second_of k))) first_out second_out h))
-        below_out
+    -- ---- the segments
+    pub first_legs : leg (face_of t) p1 p0 +ℤ leg (face_of t) p2 p1 ≡ neg_ℤ (segments_above_wall w f)
+    first_legs =
+        both (contains_above (interval_along f.aabb k) (coordinate v.lo k)) (first_segment w f) (second_segment w f)
+        (leg (face_of t) p1 p0) (leg (face_of t) p2 p1) first second (λ h. first_out k (across_first k) h) second_out
       where
-        at_p3 : (a : Axis) (i : IsPast t a (along_point a (spot_of v.first_corner)) v.first_corner.w) → value_at (across a i.s i.d) p3 <ℤ pos 0
-        at_p3 a i =
-            let g = across a i.s i.d in
-            negative_sign (value_at g p3) (end.side g (across_sized a i.s i.d i.small_s i.small_d) ∙ ap (λ (s : Sign). or_sign s (turn (sgn (along g k)))) (behind_end a i))
+        first_out : (a : Axis) → ((b d : ℤ) → along (across a b d) (first_of k) ≡ pos 0) →
+            contains_above (interval_along f.aabb a) (coordinate v.lo a) ≡ false → leg (face_of t) p1 p0 ≡ pos 0
+        first_out a z h =
+            let i = past_start a h in let g = across a i.s i.d in let l = behind_start a i in
+            leg_behind t g p1 p0 i.before w1 w0 (stays g (first_of k) p0 (z i.s i.d) l) l
 
-        first_out : may_contain (interval_along f.aabb (first_of k)) (floor_at_end w (first_of k)) ≡ false → leg (face_of t) p3 p2 ≡ pos 0
-        first_out h =
-            let i = past_end (first_of k) h in let g = across (first_of k) i.s i.d in
-            leg_behind t g p3 p2 i.before end.weight w2 (at_p3 (first_of k) i) (stays g (second_of k) p1 (first_second k i.s i.d) (comes (first_of k) i.s i.d p0 w0 (behind_q (first_of k) i)))
-
-        second_out : may_contain (interval_along f.aabb (second_of k)) (floor_at_end w (second_of k)) ≡ false → leg (face_of t) p3 p2 ≡ pos 0
+        second_out : contains_above (interval_along f.aabb k) (coordinate v.lo k) ≡ false → leg (face_of t) p2 p1 ≡ pos 0
         second_out h =
-            let i = past_end (second_of k) h in let g = across (second_of k) i.s i.d in
-            leg_behind t g p3 p2 i.before end.weight w2 (at_p3 (second_of k) i) (comes (second_of k) i.s i.d p1 w1 (behind_q (second_of k) i))
+            let i = past_start k h in let g = across k i.s i.d in let l = stays g (first_of k) p0 (across_first k i.s i.d) (behind_start k i) in
+            leg_behind t g p2 p1 i.before w2 w1 (stays g (second_of k) p1 (across_second k i.s i.d) l) l
 
-        -- both ends lie below the whole triangle along the main axis
-        below_out : begins_by (interval_along f.aabb k) (farthest w k) ≡ false → leg (face_of t) p3 p2 ≡ pos 0
+        end_out : may_contain (interval_along f.aabb (first_of k)) (floor_at_end w (first_of k)) ≡ false → leg (face_of t) p2 p1 ≡ pos 0
+        end_out h =
+            let i = past_end (first_of k) h in let g = across (first_of k) i.s i.d in let l = comes (first_of k) i.s i.d p0 w0 (behind_q (first_of k) i) in
+            leg_behind t g p2 p1 i.before w2 w1 (stays g (second_of k) p1 (first_second k i.s i.d) l) l
+
+        -- the line of the first segment runs through the reference point, so the near triangle has it
+        first : leg (face_of t) p1 p0 ≡ neg_ℤ (first_segment w f)
+        first = crossed ∙ sym (ap (λ (b : Bool). neg_ℤ
+            (cond b (signed_crossing f.reference_side (side_after_first w f.support)) (pos 0)))
+            (runs ∙ lines_are lo t (first_of k)))
+          where
+            lo : List ℤ
+            lo = entries c.lo
+
+            runs : first_runs_through w f ≡ line_runs_through lo t (first_of k)
+            runs = ap (λ (bs : List Bool). slice_index_or bs (axis_index k) false) from.lines ∙ by_axis k
+              where
+                by_axis : (a : Axis) → slice_index_or (first_lines_of lo t) (axis_index a) false ≡ line_runs_through lo t (first_of a)
+                by_axis X = refl
+                by_axis Y = refl
+                by_axis Z = refl
+
+            -- the two other axes are the second one of the path and its main axis, in either order
+            past : (a : Axis) → (a ≡ second_of k) ⊎ (a ≡ k) →
+                contains_above (interval_along (aabb_of_tri t) a) (coordinate lo a) ≡ false → leg (face_of t) p1 p0 ≡ pos 0
+            past a o h = first_out a (level_first o) (h')
+              where
+                level_first : (a ≡ second_of k) ⊎ (a ≡ k) → (b d : ℤ) → along (across a b d) (first_of k) ≡ pos 0
+                level_first (inl x) b d = ap (λ (m : Axis). along (across m b d) (first_of k)) x ∙ second_first k b d
+                level_first (inr x) b d = ap (λ (m : Axis). along (across m b d) (first_of k)) x ∙ across_first k b d
+
+                h' : contains_above (interval_along f.aabb a) (coordinate v.lo a) ≡ false
+                h' = (λ j. contains_above (interval_along (f.bounds j) a) (coordinate (e j) a)) ∙ h
+
+            one : (m : Axis) → (first_of (first_of m) ≡ second_of m) ⊎ (first_of (first_of m) ≡ m)
+            one X = inr refl
+            one Y = inr refl
+            one Z = inl refl
+
+            other : (m : Axis) → (second_of (first_of m) ≡ second_of m) ⊎ (second_of (first_of m) ≡ m)
+            other X = inl refl
+            other Y = inl refl
+            other Z = inr refl
+
+            crossed : leg (face_of t) p1 p0 ≡ neg_ℤ
+                (cond (contains_above (interval_along (aabb_of_tri t) (first_of (first_of k)))
+                (coordinate lo (first_of (first_of k)))
+                && (contains_above (interval_along (aabb_of_tri t) (second_of (first_of k)))
+                (coordinate lo (second_of (first_of k)))
+                && all_behind (λ p. sgn (value_at p (reference_at_list lo))) (edge_planes t (first_of k))))
+                (signed_crossing f.reference_side (side_after_first w f.support)) (pos 0))
+            crossed =
+                let side = λ (p : Plane). sgn (value_at p (reference_at_list lo)) in
+                let b = all_behind side (edge_planes t (first_of k)) in let u = first_of (first_of k) in let z = second_of (first_of k) in
+                let crossing = signed_crossing f.reference_side (side_after_first w f.support) in
+                tested (contains_above (interval_along (aabb_of_tri t) u) (coordinate lo u))
+                (contains_above (interval_along (aabb_of_tri t) z) (coordinate lo z) && b) crossing
+                (leg (face_of t) p1 p0)
+                (tested (contains_above (interval_along (aabb_of_tri t) z) (coordinate lo z)) b crossing (leg (face_of t) p1 p0)
+                (leg_back (face_of t) p0 p1 w0 w1 ∙ ap neg_ℤ
+                (told (first_of k) p0 p1 t b f.reference_side (side_after_first w f.support) w0 w1
+                (differ_with (first_of k) p0 q) at_start after_first
+                (edges_behind side t (first_of k) p0 f.valid
+                (λ h i z. start_sign k c.lo v.first_corner v.second_corner v.third_corner q n s h i
+                ∙ sym (ap (λ (p : Spot). sgn (value_at h p)) (reference_is lo c refl))))))
+                (past z (other k)))
+                (past u (one k))
+
+        -- both ends lie below the whole triangle along the second axis
+        below_out : begins_by (interval_along f.aabb (second_of k)) (farthest w (second_of k)) ≡ false → leg (face_of t) p2 p1 ≡ pos 0
         below_out h =
-            let l = both_below k h in let i = begins_above k l.0 in let g = across k i.s i.d in
-            leg_behind t g p3 p2 i.before end.weight w2 (at_p3 k i) (stays g (second_of k) p1 (across_second k i.s i.d) (stays g (first_of k) p0 (across_first k i.s i.d) (beyond_start k l.1)))
+            let a = second_of k in let l = both_below a h in let i = begins_above a l.0 in let g = across a i.s i.d in
+            leg_behind t g p2 p1 i.before w2 w1 (comes a i.s i.d p1 w1 (behind_q a i)) (stays g (first_of k) p0 (second_first k i.s i.d) (beyond_start a l.1))
+
+        second : leg (face_of t) p2 p1 ≡ neg_ℤ (second_segment w f)
+        second =
+            let b = all_behind (λ p. side_after_first w p) (edge_planes t (second_of k)) in
+            let d = begins_by (interval_along f.aabb (second_of k)) (farthest w (second_of k)) in
+            let crossing = signed_crossing (side_after_first w f.support) (side_after_second w f.support) in
+            tested (may_contain (interval_along f.aabb (first_of k)) (floor_at_end w (first_of k))) (d && b) crossing (leg (face_of t) p2 p1)
+            (tested d b crossing (leg (face_of t) p2 p1)
+            (leg_back (face_of t) p1 p2 w1 w2 ∙ ap neg_ℤ
+            (told (second_of k) p1 p2 t b (side_after_first w f.support) (side_after_second w f.support) w1 w2
+            (differ_with (second_of k) p1 q) after_first after_second
+            (edges_behind (λ p. side_after_first w p) t (second_of k) p1 f.valid (λ h i z. side_first h i))))
+            below_out)
+            end_out
+
+    module _ (turn : Sign → Sign) (p3 : Spot) (end : IsEnd k v.first_corner v.second_corner v.third_corner turn p3) (line : DifferAlong k p2 p3) where
+      abbrev side_end : Sign
+      side_end = or_sign (side_at_end w f.support) (turn (sgn (along f.support k)))
+
+      pub final_leg : leg (face_of t) p3 p2 ≡ neg_ℤ (last_segment w f side_end)
+      final_leg =
+          let b = all_behind (λ p. side_at_end w p) (edge_planes t k) in
+          let crossing = signed_crossing (side_after_second w f.support) side_end in
+          tested (begins_by (interval_along f.aabb k) (farthest w k)) (may_end w f && b) crossing (leg (face_of t) p3 p2)
+          (tested (may_end w f) b crossing (leg (face_of t) p3 p2)
+          (told_back b (side_after_second w f.support) side_end (leg (face_of t) p3 p2)
+          (told k p3 p2 t b side_end (side_after_second w f.support) end.weight w2 (differ_back k p2 p3 line)
+          (end.side (support_of t) sized ∙ ap (λ (p : Plane). or_sign (side_at_end w p) (turn (sgn (along p k))))
+          (sym f.plane)) after_second (edges_behind (λ p. side_at_end w p) t k p3 f.valid
+          (λ h i z. end.side h i ∙ or_zero (inside_side h v.first_corner v.second_corner v.third_corner)
+          (turn (sgn (along h k))) (ap turn (ap sgn z) ∙ end.level)))))
+          (λ h. either_test (may_contain (interval_along f.aabb (first_of k)) (floor_at_end w (first_of k)))
+          (may_contain (interval_along f.aabb (second_of k)) (floor_at_end w (second_of k))) first_out second_out h))
+          below_out
+        where
+          at_p3 : (a : Axis) (i : IsPast t a (along_point a (spot_of v.first_corner)) v.first_corner.w) → value_at (across a i.s i.d) p3 <ℤ pos 0
+          at_p3 a i =
+              let g = across a i.s i.d in
+              negative_sign (value_at g p3) (end.side g (across_sized a i.s i.d i.small_s i.small_d)
+              ∙ ap (λ (s : Sign). or_sign s (turn (sgn (along g k)))) (behind_end a i))
+
+          first_out : may_contain (interval_along f.aabb (first_of k)) (floor_at_end w (first_of k)) ≡ false → leg (face_of t) p3 p2 ≡ pos 0
+          first_out h =
+              let i = past_end (first_of k) h in let g = across (first_of k) i.s i.d in
+              leg_behind t g p3 p2 i.before end.weight w2 (at_p3 (first_of k) i)
+              (stays g (second_of k) p1 (first_second k i.s i.d)
+              (comes (first_of k) i.s i.d p0 w0 (behind_q (first_of k) i)))
+
+          second_out : may_contain (interval_along f.aabb (second_of k)) (floor_at_end w (second_of k)) ≡ false → leg (face_of t) p3 p2 ≡ pos 0
+          second_out h =
+              let i = past_end (second_of k) h in let g = across (second_of k) i.s i.d in
+              leg_behind t g p3 p2 i.before end.weight w2 (at_p3 (second_of k) i) (comes (second_of k) i.s i.d p1 w1 (behind_q (second_of k) i))
+
+          -- both ends lie below the whole triangle along the main axis
+          below_out : begins_by (interval_along f.aabb k) (farthest w k) ≡ false → leg (face_of t) p3 p2 ≡ pos 0
+          below_out h =
+              let l = both_below k h in let i = begins_above k l.0 in let g = across k i.s i.d in
+              leg_behind t g p3 p2 i.before end.weight w2 (at_p3 k i)
+              (stays g (second_of k) p1 (across_second k i.s i.d)
+              (stays g (first_of k) p0 (across_first k i.s i.d) (beyond_start k l.1)))

@@ -1,5 +1,6 @@
 -- A segment that lies past the bounding box of a triangle along an axis doesn't cross its face.
-use Rattle.std.proofs.Common.{◌≡◌, add-mul, refl, sym, ap, ◌∙◌, arith, ◌⊎◌, inl, inr, ◌<◌, ◌*◌, ◌/◌, ℕ, ◌+◌, Bool, true, false, ◌&&◌, cond, ℤ, pos, negsuc, ◌+ℤ◌, ◌-ℤ◌, ◌*ℤ◌, ◌<ℤ◌, ◌≤ℤ◌, int_le, int_lt}
+use Rattle.std.proofs.Common.{◌≡◌, add-mul, refl, sym, ap, ◌∙◌, arith, ◌⊎◌, inl, inr, ◌<◌, ◌*◌, ◌/◌, ℕ, ◌+◌, Bool, true}
+use Rattle.std.proofs.Common.{false, ◌&&◌, cond, ℤ, pos, negsuc, ◌+ℤ◌, ◌-ℤ◌, ◌*ℤ◌, ◌<ℤ◌, ◌≤ℤ◌, int_le, int_lt}
 use Rattle.std.specs.Int.{int_min, int_max, int_div_euclid}
 use Rattle.std.proofs.lemmas.Int.{clamps}
 use Rattle.std.proofs.Math.Nat.{div-mul-le_self, mod-lt}
@@ -44,7 +45,8 @@ pub record LiesBefore (g : Plane) (t : Tri) : Type 0 where
   pub c : pos 0 ≤ℤ value_at g (spot_of_corner t.c)
 
 -- a segment behind it doesn't cross the triangle
-pub leg_behind : (t : Tri) (g : Plane) (p q : Spot) → LiesBefore g t → pos 0 <ℤ p.w → pos 0 <ℤ q.w → value_at g p <ℤ pos 0 → value_at g q <ℤ pos 0 → leg (face_of t) p q ≡ pos 0
+pub leg_behind : (t : Tri) (g : Plane) (p q : Spot) → LiesBefore g t → pos 0 <ℤ p.w → pos 0 <ℤ q.w →
+    value_at g p <ℤ pos 0 → value_at g q <ℤ pos 0 → leg (face_of t) p q ≡ pos 0
 leg_behind t g p q l wp wq gp gq = by (flat_case t)
   where
     crossed : is_flat t ≡ false → (b : Bool) → is_negative (value_at (face_of t).support p *ℤ value_at (face_of t).support q) ≡ b → leg (face_of t) p q ≡ pos 0
@@ -87,7 +89,9 @@ across_along Z s d = refl
 pub across_with : (k : Axis) (s d : ℤ) (u v : Spot) → value_at (across k s d) (with_along k u v) ≡ u.w *ℤ value_at (across k s d) v
 across_with k s d u v =
     let by = u.w *ℤ along_point k v -ℤ v.w *ℤ along_point k u in
-    value_with (across k s d) k u v ∙ (λ i. v.w *ℤ value_across k s d u i +ℤ by *ℤ across_along k s d i) ∙ solve 6 (λ s d x y v w. w ⊗ (s ⊗ (x ⊖ d ⊗ v)) ⊕ (v ⊗ y ⊖ w ⊗ x) ⊗ s ≈ v ⊗ (s ⊗ (y ⊖ d ⊗ w))) cancels s d (along_point k u) (along_point k v) u.w v.w ∙ ap (λ (z : ℤ). u.w *ℤ z) (sym (value_across k s d v))
+    value_with (across k s d) k u v ∙ (λ i. v.w *ℤ value_across k s d u i +ℤ by *ℤ across_along k s d i)
+    ∙ solve 6 (λ s d x y v w. w ⊗ (s ⊗ (x ⊖ d ⊗ v)) ⊕ (v ⊗ y ⊖ w ⊗ x) ⊗ s ≈ v ⊗ (s ⊗ (y ⊖ d ⊗ w))) cancels s d
+    (along_point k u) (along_point k v) u.w v.w ∙ ap (λ (z : ℤ). u.w *ℤ z) (sym (value_across k s d v))
 
 -- a plane across an axis has the sizes of a support plane
 pub across_sized : (k : Axis) (s d : ℤ) → Small 1 s → Small 2047 d → IsSupportSized (across k s d)
@@ -144,9 +148,22 @@ record IsOver (s : Interval) (a b c : ℤ) : Type 0 where
 
 over : (a b c : ℤ) → Small 2047 a → Small 2047 b → Small 2047 c → IsOver (interval_over a b c) a b c
 over a b c i j k =
-    record { low_a = omega (arith, ints, clamps); low_b = omega (arith, ints, clamps); low_c = omega (arith, ints, clamps); high_a = omega (arith, ints, clamps); high_b = omega (arith, ints, clamps); high_c = omega (arith, ints, clamps); small_low = least_small (int_min a b) c (least_small a b i j) k; small_high = greatest_small (int_max a b) c (greatest_small a b i j) k }
+    record {
+      low_a = omega (arith, ints, clamps);
+      low_b = omega (arith, ints, clamps);
+      low_c =
+          omega (arith, ints, clamps);
+      high_a = omega (arith, ints, clamps);
+      high_b = omega (arith, ints, clamps);
+      high_c =
+          omega (arith, ints, clamps);
+      small_low = least_small (int_min a b) c (least_small a b i j) k;
+      small_high =
+          greatest_small (int_max a b) c (greatest_small a b i j) k;
+    }
 
-aabb : (t : Tri) (k : Axis) → IsValidTri t → IsOver (interval_along (aabb_of_tri t) k) (along_vector k (vector_of t.a)) (along_vector k (vector_of t.b)) (along_vector k (vector_of t.c))
+aabb : (t : Tri) (k : Axis) → IsValidTri t → IsOver (interval_along (aabb_of_tri t) k) (along_vector k (vector_of t.a))
+    (along_vector k (vector_of t.b)) (along_vector k (vector_of t.c))
 aabb t X v = over t.a.x t.b.x t.c.x v.a.x v.b.x v.c.x
 aabb t Y v = over t.a.y t.b.y t.c.y v.a.y v.b.y v.c.y
 aabb t Z v = over t.a.z t.b.z t.c.z v.a.z v.b.z v.c.z
@@ -214,12 +231,38 @@ module _ (t : Tri) (k : Axis) (v : IsValidTri t) (y w : ℤ) where
   past_low : (y -ℤ span.low *ℤ w) <ℤ pos 0 → IsPast t k y w
   past_low l =
       let o = aabb t k v in
-      record { s = pos 1; d = span.low; small_s = record { small = omega arith }; small_d = o.small_low; before = record { a = from_low k span.low t.a o.low_a; b = from_low k span.low t.b o.low_b; c = from_low k span.low t.c o.low_c }; past = omega (arith, linear, l) }
+      record {
+        s = pos 1;
+        d = span.low;
+        small_s = record { small = omega arith };
+        small_d = o.small_low;
+        before =
+            record {
+              a = from_low k span.low t.a o.low_a;
+              b = from_low k span.low t.b o.low_b;
+              c =
+                  from_low k span.low t.c o.low_c;
+            };
+        past = omega (arith, linear, l);
+      }
 
   past_high : pos 0 <ℤ (y -ℤ span.high *ℤ w) → IsPast t k y w
   past_high l =
       let o = aabb t k v in
-      record { s = negsuc 0; d = span.high; small_s = record { small = omega arith }; small_d = o.small_high; before = record { a = from_high k span.high t.a o.high_a; b = from_high k span.high t.b o.high_b; c = from_high k span.high t.c o.high_c }; past = omega (arith, linear, l) }
+      record {
+        s = negsuc 0;
+        d = span.high;
+        small_s = record { small = omega arith };
+        small_d = o.small_high;
+        before =
+            record {
+              a = from_high k span.high t.a o.high_a;
+              b = from_high k span.high t.b o.high_b;
+              c =
+                  from_high k span.high t.c o.high_c;
+            };
+        past = omega (arith, linear, l);
+      }
 
   by_tests : {P : Type 0} (l h : Bool) → (l ≡ false → P) → (h ≡ false → P) → l && h ≡ false → P
   by_tests true true f g e = absurd (clash e)
@@ -233,8 +276,12 @@ module _ (t : Tri) (k : Axis) (v : IsValidTri t) (y w : ℤ) where
   pub past_above : (at : ℤ) → pos 0 <ℤ w → (at *ℤ w) <ℤ y → y <ℤ ((at +ℤ pos 1) *ℤ w) → contains_above span at ≡ false → IsPast t k y w
   past_above at pw lo hi e =
       by_tests (int_le span.low at) (int_lt at span.high)
-      (λ f. past_low (let p = above_out span.low at f in let q = mul_le (weak pw) p in let a = solve 2 (λ w a. (a ⊕ num (pos 1)) ⊗ w ≈ w ⊗ (a ⊕ num (pos 1))) cancels w at in let b = solve 2 (λ w a. a ⊗ w ≈ w ⊗ a) cancels w span.low in omega (arith, linear, q, a, b, hi)))
-      (λ f. past_high (let p = not_below at span.high f in let q = mul_le (weak pw) p in let a = solve 2 (λ w a. a ⊗ w ≈ w ⊗ a) cancels w at in let b = solve 2 (λ w a. a ⊗ w ≈ w ⊗ a) cancels w span.high in omega (arith, linear, q, a, b, lo))) e
+      (λ f. past_low (let p = above_out span.low at f in let q = mul_le (weak pw) p in let a =
+      solve 2 (λ w a. (a ⊕ num (pos 1)) ⊗ w ≈ w ⊗ (a ⊕ num (pos 1))) cancels w at in let b =
+      solve 2 (λ w a. a ⊗ w ≈ w ⊗ a) cancels w span.low in omega (arith, linear, q, a, b, hi)))
+      (λ f. past_high (let p = not_below at span.high f in let q = mul_le (weak pw) p in let a =
+      solve 2 (λ w a. a ⊗ w ≈ w ⊗ a) cancels w at in let b = solve 2 (λ w a. a ⊗ w ≈ w ⊗ a) cancels w span.high in
+      omega (arith, linear, q, a, b, lo))) e
     where
       weak : {x : ℤ} → pos 0 <ℤ x → pos 0 ≤ℤ x
       weak l = omega (arith, linear, l)

@@ -1,6 +1,7 @@
 -- A face with an inside point has sides: close to that point there is one from which each small step
 -- along the main axis leaves all planes of a triangle's size.
-use Rattle.std.proofs.Common.{◌≡◌, ◌≢◌, ⊎_elim, le_refl, refl, sym, ap, ◌∙◌, subst, arith, ℕ, ◌+◌, ◌*◌, ◌<◌, ◌≤◌, true, cond, ◌&&◌, List, [], ◌∷◌, All, get_or, ℤ, pos, ◌-ℤ◌, ◌*ℤ◌, neg_ℤ, ◌<ℤ◌, unsigned_abs}
+use Rattle.std.proofs.Common.{◌≡◌, ◌≢◌, ⊎_elim, le_refl, refl, sym, ap, ◌∙◌, subst, arith, ℕ, ◌+◌, ◌*◌, ◌<◌, ◌≤◌, true}
+use Rattle.std.proofs.Common.{cond, ◌&&◌, List, [], ◌∷◌, All, get_or, ℤ, pos, ◌-ℤ◌, ◌*ℤ◌, neg_ℤ, ◌<ℤ◌, unsigned_abs}
 use borrow.Author.Differences.{ints}
 use Rattle.ember_algebra.specs.Large.{Eventually, horner}
 use Rattle.ember_algebra.specs.declared.Sign.{Sign}
@@ -44,17 +45,21 @@ abbrev pub OnOneSide : Spot → Spot → Type 0
 OnOneSide p r = (h : Plane) → IsSupportSized h → sgn (value_at h p) ≡ sgn (value_at h r)
 
 -- their rays cross a triangle alike
-crossing_on_one_side : (k : Axis) (p r : Spot) → pos 0 <ℤ p.w → pos 0 <ℤ r.w → OnOneSide p r → (t : Tri) → IsValidTri t → crossing (face_of t) k p ≡ crossing (face_of t) k r
+crossing_on_one_side : (k : Axis) (p r : Spot) → pos 0 <ℤ p.w → pos 0 <ℤ r.w → OnOneSide p r → (t : Tri) →
+    IsValidTri t → crossing (face_of t) k p ≡ crossing (face_of t) k r
 crossing_on_one_side k p r wp wr same t v =
     let h = support_of t in let e = same h (support_sized t v) in
-    let m = ap is_neg (sgn-mul (value_at h p) (along h k)) ∙ (λ i. is_neg (times (e i) (sgn (along h k)))) ∙ sym (ap is_neg (sgn-mul (value_at h r) (along h k))) in
+    let m = ap is_neg (sgn-mul (value_at h p) (along h k)) ∙ (λ i. is_neg (times (e i) (sgn (along h k))))
+    ∙ sym (ap is_neg (sgn-mul (value_at h r) (along h k))) in
     let g = edges_behind (λ g. sgn (value_at g r)) t k p v (λ g i z. same g i) in
     crossing_is k p t wp ∙ (λ i. cond (m i && g i) (sign (along h k)) (pos 0)) ∙ sym (crossing_is k r t wr)
 
 -- and they have one vector
-pub vector_on_one_side : (k : Axis) (p r : Spot) → pos 0 <ℤ p.w → pos 0 <ℤ r.w → OnOneSide p r → (ts : List Tri) → All IsValidTri ts → vector k ts p ≡ vector k ts r
+pub vector_on_one_side : (k : Axis) (p r : Spot) → pos 0 <ℤ p.w → pos 0 <ℤ r.w → OnOneSide p r → (ts : List Tri) →
+    All IsValidTri ts → vector k ts p ≡ vector k ts r
 vector_on_one_side k p r wp wr same ts v =
-    tally_same (λ f. crossing f k p) (λ f. crossing f k r) (flat_crossing k p) (flat_crossing k r) ts (λ i d l. crossing_on_one_side k p r wp wr same (get_or ts i d) (v i d l))
+    tally_same (λ f. crossing f k p) (λ f. crossing f k r) (flat_crossing k p) (flat_crossing k r) ts
+    (λ i d l. crossing_on_one_side k p r wp wr same (get_or ts i d) (v i d l))
 
 -- ---- directly beside a point
 -- on no plane of a triangle's size that runs along k, but those without a normal
@@ -62,13 +67,17 @@ record IsLeftAlong (k : Axis) (q : Spot) : Type 0 where
   weight : pos 0 <ℤ q.w
   apart : (h : Plane) → IsSupportSized h → value_at h q ≡ pos 0 → along h k ≡ pos 0 → NoNormal h
 
-module _ (ts : List Tri) (valid : All IsValidTri ts) (k : Axis) (q : Spot) (free : IsLeftAlong k q) (by : ℕ → ℤ) (turn : Sign → Sign) (out : (t : Sign) → turn t ≡ Zero → t ≡ Zero) (side : (h : Plane) → IsSupportSized h → (m s : ℕ) → 1 ≤ s → 33554431 * s < m → sgn (value_at h (moved (scaled (pos m) q) k (by s))) ≡ or_sign (sgn (value_at h q)) (turn (sgn (along h k)))) where
+module _ (ts : List Tri) (valid : All IsValidTri ts) (k : Axis) (q : Spot) (free : IsLeftAlong k q) (by : ℕ →
+    ℤ) (turn : Sign → Sign) (out : (t : Sign) → turn t ≡ Zero → t ≡ Zero) (side : (h : Plane) → IsSupportSized h →
+    (m s : ℕ) → 1 ≤ s → 33554431 * s < m → sgn (value_at h (moved (scaled (pos m) q) k (by s))) ≡ or_sign
+    (sgn (value_at h q)) (turn (sgn (along h k)))) where
   abbrev beside : ℕ → ℕ → Spot
   beside m s = moved (scaled (pos m) q) k (by s)
 
   weight : (m s : ℕ) → 33554431 * s < m → pos 0 <ℤ (beside m s).w
   weight m s lm =
-      let e = moved_weight (scaled (pos m) q) k (by s) in let l : pos 0 <ℤ pos m = omega (arith, ints, lm) in let p = pos_mul l free.weight in omega (arith, linear, e, p)
+      let e = moved_weight (scaled (pos m) q) k (by s) in let l : pos 0 <ℤ pos m = omega (arith, ints, lm) in let p =
+      pos_mul l free.weight in omega (arith, linear, e, p)
 
   abbrev seen : List ℤ
   seen = vector k ts (beside 33554432 1)
@@ -77,7 +86,9 @@ module _ (ts : List Tri) (valid : All IsValidTri ts) (k : Axis) (q : Spot) (free
   sees s m ls lm =
       record {
         clear = generic_clear (beside m s) ts (weight m s lm) generic valid;
-        counts_are = vector_on_one_side k (beside m s) (beside 33554432 1) (weight m s lm) (weight 33554432 1 (omega arith)) (λ h i. side h i m s ls lm ∙ sym (side h i 33554432 1 (le_refl 1) (omega arith))) ts valid;
+        counts_are = vector_on_one_side k (beside m s) (beside 33554432 1) (weight m s lm)
+            (weight 33554432 1 (omega arith)) (λ h i. side h i m s ls lm
+            ∙ sym (side h i 33554432 1 (le_refl 1) (omega arith))) ts valid;
       }
     where
       generic : (h : Plane) → IsSupportSized h → value_at h (beside m s) ≡ pos 0 → NoNormal h
@@ -102,12 +113,18 @@ ways_weightless Y n = (refl, refl)
 ways_weightless Z n = (refl, refl)
 
 ways_level : (k : Axis) (n : Plane) → (value_at n (first_way k n) ≡ pos 0) × (value_at n (second_way k n) ≡ pos 0)
-ways_level X n =
-    (solve 4 (λ a b c d. a ⊗ neg b ⊕ b ⊗ a ⊕ c ⊗ num (pos 0) ⊖ d ⊗ num (pos 0) ≈ num (pos 0)) cancels n.a n.b n.c n.d, solve 4 (λ a b c d. a ⊗ neg c ⊕ b ⊗ num (pos 0) ⊕ c ⊗ a ⊖ d ⊗ num (pos 0) ≈ num (pos 0)) cancels n.a n.b n.c n.d)
-ways_level Y n =
-    (solve 4 (λ a b c d. a ⊗ b ⊕ b ⊗ neg a ⊕ c ⊗ num (pos 0) ⊖ d ⊗ num (pos 0) ≈ num (pos 0)) cancels n.a n.b n.c n.d, solve 4 (λ a b c d. a ⊗ num (pos 0) ⊕ b ⊗ neg c ⊕ c ⊗ b ⊖ d ⊗ num (pos 0) ≈ num (pos 0)) cancels n.a n.b n.c n.d)
-ways_level Z n =
-    (solve 4 (λ a b c d. a ⊗ c ⊕ b ⊗ num (pos 0) ⊕ c ⊗ neg a ⊖ d ⊗ num (pos 0) ≈ num (pos 0)) cancels n.a n.b n.c n.d, solve 4 (λ a b c d. a ⊗ num (pos 0) ⊕ b ⊗ c ⊕ c ⊗ neg b ⊖ d ⊗ num (pos 0) ≈ num (pos 0)) cancels n.a n.b n.c n.d)
+ways_level X n = (
+  solve 4 (λ a b c d. a ⊗ neg b ⊕ b ⊗ a ⊕ c ⊗ num (pos 0) ⊖ d ⊗ num (pos 0) ≈ num (pos 0)) cancels n.a n.b n.c n.d,
+  solve 4 (λ a b c d. a ⊗ neg c ⊕ b ⊗ num (pos 0) ⊕ c ⊗ a ⊖ d ⊗ num (pos 0) ≈ num (pos 0)) cancels n.a n.b n.c n.d,
+)
+ways_level Y n = (
+  solve 4 (λ a b c d. a ⊗ b ⊕ b ⊗ neg a ⊕ c ⊗ num (pos 0) ⊖ d ⊗ num (pos 0) ≈ num (pos 0)) cancels n.a n.b n.c n.d,
+  solve 4 (λ a b c d. a ⊗ num (pos 0) ⊕ b ⊗ neg c ⊕ c ⊗ b ⊖ d ⊗ num (pos 0) ≈ num (pos 0)) cancels n.a n.b n.c n.d,
+)
+ways_level Z n = (
+  solve 4 (λ a b c d. a ⊗ c ⊕ b ⊗ num (pos 0) ⊕ c ⊗ neg a ⊖ d ⊗ num (pos 0) ≈ num (pos 0)) cancels n.a n.b n.c n.d,
+  solve 4 (λ a b c d. a ⊗ num (pos 0) ⊕ b ⊗ c ⊕ c ⊗ neg b ⊖ d ⊗ num (pos 0) ≈ num (pos 0)) cancels n.a n.b n.c n.d,
+)
 
 -- a product that another one, which is 0, makes 0
 no_entry : (n v x u z : ℤ) → n ≢ pos 0 → u ≡ pos 0 → z ≡ pos 0 → z ≡ n *ℤ v -ℤ x *ℤ u → v ≡ pos 0
@@ -115,19 +132,48 @@ no_entry n v x u z nz eu ez e =
     let y = zero_scaled x u eu in ⊎_elim (λ a. absurd (nz a)) (λ b. b) (zero_product {a = n} {b = v} (omega (arith, linear, y, ez, e)))
 
 -- a plane along k and both directions has no normal
-ways_span : (k : Axis) (n h : Plane) → along n k ≢ pos 0 → along h k ≡ pos 0 → value_at h (first_way k n) ≡ pos 0 → value_at h (second_way k n) ≡ pos 0 → NoNormal h
-ways_span X n h nz l e f =
-    (l, no_entry n.a h.b n.b h.a _ nz l e (solve 6 (λ a b c d x y. a ⊗ neg y ⊕ b ⊗ x ⊕ c ⊗ num (pos 0) ⊖ d ⊗ num (pos 0) ≈ x ⊗ b ⊖ y ⊗ a) cancels h.a h.b h.c h.d n.a n.b), no_entry n.a h.c n.c h.a _ nz l f (solve 6 (λ a b c d x y. a ⊗ neg y ⊕ b ⊗ num (pos 0) ⊕ c ⊗ x ⊖ d ⊗ num (pos 0) ≈ x ⊗ c ⊖ y ⊗ a) cancels h.a h.b h.c h.d n.a n.c))
-ways_span Y n h nz l e f =
-    (no_entry n.b h.a n.a h.b _ nz l e (solve 6 (λ a b c d x y. a ⊗ x ⊕ b ⊗ neg y ⊕ c ⊗ num (pos 0) ⊖ d ⊗ num (pos 0) ≈ x ⊗ a ⊖ y ⊗ b) cancels h.a h.b h.c h.d n.b n.a), l, no_entry n.b h.c n.c h.b _ nz l f (solve 6 (λ a b c d x y. a ⊗ num (pos 0) ⊕ b ⊗ neg y ⊕ c ⊗ x ⊖ d ⊗ num (pos 0) ≈ x ⊗ c ⊖ y ⊗ b) cancels h.a h.b h.c h.d n.b n.c))
-ways_span Z n h nz l e f =
-    (no_entry n.c h.a n.a h.c _ nz l e (solve 6 (λ a b c d x y. a ⊗ x ⊕ b ⊗ num (pos 0) ⊕ c ⊗ neg y ⊖ d ⊗ num (pos 0) ≈ x ⊗ a ⊖ y ⊗ c) cancels h.a h.b h.c h.d n.c n.a), no_entry n.c h.b n.b h.c _ nz l f (solve 6 (λ a b c d x y. a ⊗ num (pos 0) ⊕ b ⊗ x ⊕ c ⊗ neg y ⊖ d ⊗ num (pos 0) ≈ x ⊗ b ⊖ y ⊗ c) cancels h.a h.b h.c h.d n.c n.b), l)
+ways_span : (k : Axis) (n h : Plane) → along n k ≢ pos 0 → along h k ≡ pos 0 → value_at h (first_way k n) ≡ pos 0 →
+    value_at h (second_way k n) ≡ pos 0 → NoNormal h
+ways_span X n h nz l e f = (
+  l,
+  no_entry n.a h.b n.b h.a _ nz l e (solve 6
+      (λ a b c d x y. a ⊗ neg y ⊕ b ⊗ x ⊕ c ⊗ num (pos 0) ⊖ d ⊗ num (pos 0) ≈ x ⊗ b ⊖ y ⊗ a) cancels h.a h.b h.c h.d n.a
+      n.b),
+  no_entry n.a h.c n.c h.a _ nz l f (solve 6
+      (λ a b c d x y. a ⊗ neg y ⊕ b ⊗ num (pos 0) ⊕ c ⊗ x ⊖ d ⊗ num (pos 0) ≈ x ⊗ c ⊖ y ⊗ a) cancels h.a h.b h.c h.d n.a
+      n.c),
+)
+ways_span Y n h nz l e f = (
+  no_entry n.b h.a n.a h.b _ nz l e (solve 6 (λ a b c d x y. a ⊗ x ⊕ b ⊗ neg y ⊕ c ⊗ num (pos 0) ⊖ d ⊗ num (pos 0) ≈
+      x ⊗ a ⊖ y ⊗ b) cancels h.a h.b h.c h.d n.b n.a),
+  l,
+  no_entry n.b h.c n.c h.b _ nz l f (solve 6
+      (λ a b c d x y. a ⊗ num (pos 0) ⊕ b ⊗ neg y ⊕ c ⊗ x ⊖ d ⊗ num (pos 0) ≈ x ⊗ c ⊖ y ⊗ b) cancels h.a h.b h.c h.d n.b
+      n.c),
+)
+ways_span Z n h nz l e f = (
+  no_entry n.c h.a n.a h.c _ nz l e (solve 6 (λ a b c d x y. a ⊗ x ⊕ b ⊗ num (pos 0) ⊕ c ⊗ neg y ⊖ d ⊗ num (pos 0) ≈
+      x ⊗ a ⊖ y ⊗ c) cancels h.a h.b h.c h.d n.c n.a),
+  no_entry n.c h.b n.b h.c _ nz l f (solve 6
+      (λ a b c d x y. a ⊗ num (pos 0) ⊕ b ⊗ x ⊕ c ⊗ neg y ⊖ d ⊗ num (pos 0) ≈ x ⊗ b ⊖ y ⊗ c) cancels h.a h.b h.c h.d n.c
+      n.b),
+  l,
+)
 
 -- ---- close to an inside point
 stays_negative : (e : Plane) (u v w : Spot) → is_negative (value_at e u) ≡ true → Eventually (λ m. is_negative (value_at e (close_to (pos m) u v w)) ≡ true)
 stays_negative e u v w h =
     let x = value_at e v in let y = value_at e w in
-    record { from = unsigned_abs x + unsigned_abs y + 1; holds = λ m l. negative_in (subst (λ (z : ℤ). z <ℤ pos 0) (sym (value_close e (pos m) u v w)) (horner_neg {m = unsigned_abs x + unsigned_abs y} {n = m} (x ∷ y ∷ []) (value_at e u) (omega (arith, l)) (record { small = omega arith }, (record { small = omega arith }, tt)) (negative_out (value_at e u) h))) }
+    record {
+      from = unsigned_abs x + unsigned_abs y + 1;
+      holds =
+          λ m l. negative_in (subst (λ (z : ℤ). z <ℤ pos 0) (sym (value_close e (pos m) u v w))
+          (horner_neg {m = unsigned_abs x + unsigned_abs y} {n =
+          m} (x ∷ y ∷ []) (value_at e u) (omega (arith, l)) (
+            record { small = omega arith },
+            (record { small = omega arith }, tt),
+          ) (negative_out (value_at e u) h)));
+    }
 
 all_stay : (es : List Plane) (u v w : Spot) → all_negative es u ≡ true → Eventually (λ m. all_negative es (close_to (pos m) u v w) ≡ true)
 all_stay [] u v w h = record { from = 0; holds = λ m l. refl }
@@ -164,7 +210,8 @@ module _ (k : Axis) (f : Face) (p : Spot) (h : is_inside f p ≡ true) (nz : alo
   q_level : value_at f.support q ≡ pos 0
   q_level =
       let a = (inside_parts f p h).1 in let l = ways_level k f.support in
-      value_close f.support (pos n) p u v ∙ (λ i. horner (pos n) (a i) (l.0 i ∷ l.1 i ∷ [])) ∙ solve 1 (λ m. (num (pos 0) ⊗ m ⊕ num (pos 0)) ⊗ m ⊕ num (pos 0) ≈ num (pos 0)) cancels (pos n)
+      value_close f.support (pos n) p u v ∙ (λ i. horner (pos n) (a i) (l.0 i ∷ l.1 i ∷ []))
+      ∙ solve 1 (λ m. (num (pos 0) ⊗ m ⊕ num (pos 0)) ⊗ m ⊕ num (pos 0) ≈ num (pos 0)) cancels (pos n)
 
   left_point : HasLeftPoint k f
   left_point =
@@ -184,7 +231,8 @@ pub record HasSides (ts : List Tri) (f : Face) : Type 0 where
   pub are_sides : IsSides ts f before after
 
 -- a face that isn't along its main axis has sides
-pub face_has_sides : (ts : List Tri) → All IsValidTri ts → (f : Face) (p : Spot) → is_inside f p ≡ true → along f.support (main_axis f.support) ≢ pos 0 → HasSides ts f
+pub face_has_sides : (ts : List Tri) → All IsValidTri ts → (f : Face) (p : Spot) → is_inside f p ≡ true →
+    along f.support (main_axis f.support) ≢ pos 0 → HasSides ts f
 face_has_sides ts valid f p h nz =
     let k = main_axis f.support in let q = left_point k f p h nz in
     record {

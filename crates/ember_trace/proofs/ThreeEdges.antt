@@ -13,7 +13,10 @@ same_some : {p q : Plane} → Some p ≡ Some q → p ≡ q
 same_some e = cc
 
 -- as the code asks: the last two only if the ones before are behind
-pub all_three : (side : Plane → Sign) (t : Tri) (k : Axis) (p q r : Plane) (x y z : Bool) → slice_get (edge_planes t k) 0 ≡ Some p → slice_get (edge_planes t k) 1 ≡ Some q → slice_get (edge_planes t k) 2 ≡ Some r → x ≡ is_neg (side p) → y ≡ is_neg (side q) → z ≡ is_neg (side r) → x && (y && z) ≡ all_behind side (edge_planes t k)
+pub all_three : (side : Plane → Sign) (t : Tri) (k : Axis) (p q r : Plane) (x y z : Bool) →
+    slice_get (edge_planes t k) 0 ≡ Some p → slice_get (edge_planes t k) 1 ≡ Some q →
+    slice_get (edge_planes t k) 2 ≡ Some r → x ≡ is_neg (side p) → y ≡ is_neg (side q) → z ≡ is_neg (side r) →
+    x && (y && z) ≡ all_behind side (edge_planes t k)
 all_three side t k p q r x y z ep eq er ex ey ez =
     let a = ex ∙ ap (λ (h : Plane). is_neg (side h)) (sym (same_some ep)) in
     let b = ey ∙ ap (λ (h : Plane). is_neg (side h)) (sym (same_some eq)) in

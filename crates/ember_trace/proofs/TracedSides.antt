@@ -62,12 +62,19 @@ level_value Z h v = solve 5 (λ h x y z w. num (pos 0) ⊗ x ⊕ num (pos 0) ⊗
 -- an inside point of a face that lies in a box is in the box
 pub in_box : (c : Cell) (f : Face) (q : Spot) → LiesIn c f → is_inside f q ≡ true → HasPoint c q
 in_box c f q l i =
-    record { weight = (inside_parts f q i).0; on_x = across X (wall 0 _ refl) (wall 1 _ refl); on_y = across Y (wall 2 _ refl) (wall 3 _ refl); on_z = across Z (wall 4 _ refl) (wall 5 _ refl) }
+    record {
+      weight = (inside_parts f q i).0;
+      on_x = across X (wall 0 _ refl) (wall 1 _ refl);
+      on_y =
+          across Y (wall 2 _ refl) (wall 3 _ refl);
+      on_z = across Z (wall 4 _ refl) (wall 5 _ refl);
+    }
   where
     wall : (j : ℕ) (p : Plane) → slice_get (map (λ w. w.plane) (walls c)) j ≡ Some p → value_at p q ≤ℤ pos 0
     wall j p e = none_at (map (λ w. w.plane) (walls c)) q (l.holds q i) j p e
 
-    across : (k : Axis) → value_at (opposite (level k (low c k))) q ≤ℤ pos 0 → value_at (level k (high c k)) q ≤ℤ pos 0 → IsAcross (interval_between (low c k) (high c k)) (along_point k q) q.w
+    across : (k : Axis) → value_at (opposite (level k (low c k))) q ≤ℤ pos 0 →
+        value_at (level k (high c k)) q ≤ℤ pos 0 → IsAcross (interval_between (low c k) (high c k)) (along_point k q) q.w
     across k a b =
         let x = opposite_value (level k (low c k)) q in let y = level_value k (low c k) q in let z = level_value k (high c k) q in
         record { from = omega (arith, linear, a, x, y); to = omega (arith, linear, b, z) }
@@ -78,10 +85,17 @@ module _ (k : Axis) (lo : Vector) (a b d : Meet) (q : Spot) (n : ℕ) (s : AreSt
   start_vector : (ts : List Tri) → IsScene ts 64 → vector k ts (stop_at_start lo n) ≡ vector X ts (reference_at lo)
   start_vector ts i =
       let p = stop_at_start lo n in let r = reference_at lo in
-      axes_law ts 64 i p k X (start_weight lo n s.large) (generic_clear p ts (start_weight lo n s.large) (start_generic k lo a b d q n s) i.valid) ∙ vector_on_one_side X p r (start_weight lo n s.large) (weight_at lo) (λ h j. start_sign k lo a b d q n s h j) ts i.valid
+      axes_law ts 64 i p k X (start_weight lo n s.large)
+      (generic_clear p ts (start_weight lo n s.large) (start_generic k lo a b d q n s) i.valid)
+      ∙ vector_on_one_side X p r (start_weight lo n s.large) (weight_at lo) (λ h j. start_sign k lo a b d q n s h j)
+      ts i.valid
 
 -- ---- the vector at the end
-module _ (ts ns : List Tri) (c : Cell) (counts : List ℤ) (fits : Fits ts ns c counts) (k : Axis) (v : Path) (e : v.lo ≡ entries c.lo) (q : Spot) (n : ℕ) (s : AreStops k c.lo v.first_corner v.second_corner v.third_corner q n) (has : HasPoint c q) (fs : List NearTriangle) (near_triangles : AreNearTriangles ns c fs) (turn : Sign → Sign) (p3 : Spot) (end : IsEnd k v.first_corner v.second_corner v.third_corner turn p3) (line : DifferAlong k (stop_after_second k c.lo q n) p3) where
+module _ (ts ns : List Tri) (c : Cell) (counts : List ℤ) (fits : Fits ts ns c counts) (k : Axis) (v : Path)
+    (e : v.lo ≡ entries c.lo) (q : Spot) (n : ℕ) (s : AreStops k c.lo v.first_corner v.second_corner v.third_corner q n)
+    (has : HasPoint c q) (fs : List NearTriangle) (near_triangles : AreNearTriangles ns c fs) (turn : Sign →
+    Sign) (p3 : Spot) (end : IsEnd k v.first_corner v.second_corner v.third_corner turn p3)
+    (line : DifferAlong k (stop_after_second k c.lo q n) p3) where
   abbrev w : Path
   w = record v { first_axis = first_of k; second_axis = second_of k; main = k }
 
@@ -123,7 +137,9 @@ module _ (ts ns : List Tri) (c : Cell) (counts : List ℤ) (fits : Fits ts ns c 
 
   legs_three : leg_vector ts p3 p2 ≡ leg_vector ns p3 p2
   legs_three =
-      sym (tally_kept (λ h. leg h p3 p2) (flat_leg p3 p2) (λ t. is_near c t) ts (λ i d l far. last_far c k v.first_corner v.second_corner v.third_corner q n s has turn p3 end line (get_or ts i d) (fits.scene.valid i d l) far)) ∙ ap (λ (us : List Tri). leg_vector us p3 p2) fits.near
+      sym (tally_kept (λ h. leg h p3 p2) (flat_leg p3 p2) (λ t. is_near c t) ts
+      (λ i d l far. last_far c k v.first_corner v.second_corner v.third_corner q n s has turn p3 end line
+      (get_or ts i d) (fits.scene.valid i d l) far)) ∙ ap (λ (us : List Tri). leg_vector us p3 p2) fits.near
 
   -- what a triangle adds on the three segments together
   abbrev legs : Face → ℤ
@@ -142,9 +158,14 @@ module _ (ts ns : List Tri) (c : Cell) (counts : List ℤ) (fits : Fits ts ns c 
       let d = legs_law ts 64 fits.scene (first_of k) k p1 p0 h1.weight h0.weight (differ_back (first_of k) p0 p1 (differ_with (first_of k) p0 q)) c1 c0 in
       let start = start_vector k c.lo v.first_corner v.second_corner v.third_corner q n s ts fits.scene ∙ fits.at in
       let one : vector k ts p1 ≡ added counts (leg_vector ns p1 p0) = d ∙ (λ i. added (start i) (legs_one i)) in
-      let two : vector k ts p2 ≡ added counts (tally (λ h. leg h p1 p0 +ℤ leg h p2 p1) ns) = b ∙ (λ i. added (one i) (legs_two i)) ∙ tally_both (λ h. leg h p1 p0) (λ h. leg h p2 p1) ns counts in
-      let three : vector k ts p3 ≡ added counts (tally legs ns) = a ∙ (λ i. added (two i) (legs_three i)) ∙ tally_both (λ h. leg h p1 p0 +ℤ leg h p2 p1) (λ h. leg h p3 p2) ns counts in
-      three ∙ ap (λ (us : List Tri). added counts (tally legs us)) (sym near_triangles.tris) ∙ sym (taken_legs legs legs_flat less fs (λ i d l. each (get_or fs i d) (near_triangles.reference_sides i d l)) counts)
+      let two : vector k ts p2 ≡ added counts (tally (λ h. leg h p1 p0 +ℤ leg h p2 p1) ns) =
+      b ∙ (λ i. added (one i) (legs_two i)) ∙ tally_both (λ h. leg h p1 p0) (λ h. leg h p2 p1) ns counts in
+      let three : vector k ts p3 ≡ added counts (tally legs ns) =
+      a ∙ (λ i. added (two i) (legs_three i)) ∙ tally_both (λ h. leg h p1 p0 +ℤ leg h p2 p1) (λ h. leg h p3 p2) ns
+      counts in
+      three ∙ ap (λ (us : List Tri). added counts (tally legs us)) (sym near_triangles.tris)
+      ∙ sym (taken_legs legs legs_flat less fs (λ i d l. each (get_or fs i d) (near_triangles.reference_sides i d l))
+      counts)
     where
       each : (f : NearTriangle) → HasReference c f → legs (face_of f.tri) ≡ neg_ℤ (less f)
       each f from =
@@ -166,7 +187,9 @@ module _ (ns : List Tri) (c : Cell) (counts : List ℤ) (f : Face) (v : Path) (i
   told = λ i. record v { first_axis = is.first i; second_axis = is.second i; main = is.main i }
 
   -- the traced counts are the sides in each scene that fits
-  traced_sides : (fs : List NearTriangle) → AreNearTriangles ns c fs → (before after : List ℤ) → before ≡ taken (crossing_before v) fs counts → after ≡ taken (crossing_after v) fs counts → LiesIn c f → (ts : List Tri) → Fits ts ns c counts → IsSides ts f before after
+  traced_sides : (fs : List NearTriangle) → AreNearTriangles ns c fs → (before after : List ℤ) →
+      before ≡ taken (crossing_before v) fs counts → after ≡ taken (crossing_after v) fs counts → LiesIn c f →
+      (ts : List Tri) → Fits ts ns c counts → IsSides ts f before after
   unfolding crossing_before crossing_after
   traced_sides fs near_triangles before after eb ea l ts fits =
       let u = first_corners_found f v.first_corner v.second_corner v.third_corner first in let has = in_box c f u.q l u.inside in
@@ -178,12 +201,25 @@ module _ (ns : List Tri) (c : Cell) (counts : List ℤ) (f : Face) (v : Path) (i
         bound = 33554431;
         sees_before = λ s m ls lm.
             let e = before_end k v.first_corner v.second_corner v.third_corner u.q u.close s m ls lm in
-            record { clear = clear_end ts ns c counts fits k v is.lo u.q n stops has fs near_triangles flip _ e (line (pos m) (neg_ℤ (pos s))); counts_are = end_vector ts ns c counts fits k v is.lo u.q n stops has fs near_triangles flip _ e (line (pos m) (neg_ℤ (pos s))) ∙ sym (eb ∙ ap (λ (w : Path). taken (crossing_before w) fs counts) told) };
+            record {
+              clear = clear_end ts ns c counts fits k v is.lo u.q n stops has fs near_triangles flip _ e
+                  (line (pos m) (neg_ℤ (pos s)));
+              counts_are =
+                  end_vector ts ns c counts fits k v is.lo u.q n stops has fs near_triangles flip _ e
+                  (line (pos m) (neg_ℤ (pos s))) ∙ sym (eb ∙ ap (λ (w : Path). taken (crossing_before w) fs counts) told);
+            };
         sees_after = λ s m ls lm.
             let e = after_end k v.first_corner v.second_corner v.third_corner u.q u.close s m ls lm in
-            record { clear = clear_end ts ns c counts fits k v is.lo u.q n stops has fs near_triangles (λ t. t) _ e (line (pos m) (pos s)); counts_are = end_vector ts ns c counts fits k v is.lo u.q n stops has fs near_triangles (λ t. t) _ e (line (pos m) (pos s)) ∙ sym (ea ∙ ap (λ (w : Path). taken (crossing_after w) fs counts) told) };
+            record {
+              clear = clear_end ts ns c counts fits k v is.lo u.q n stops has fs near_triangles (λ t. t) _ e
+                  (line (pos m) (pos s));
+              counts_are =
+                  end_vector ts ns c counts fits k v is.lo u.q n stops has fs near_triangles (λ t. t) _ e
+                  (line (pos m) (pos s)) ∙ sym (ea ∙ ap (λ (w : Path). taken (crossing_after w) fs counts) told);
+            };
       }
 
 -- the traced counts are the region's sides, in each scene that fits
-pub are_sides : (ns : List Tri) (c : Cell) (counts : List ℤ) (f : Face) (s : Sides) (fs : List NearTriangle) → AreNearTriangles ns c fs → AreTraced c fs counts f s → AreSides ns c counts f s
+pub are_sides : (ns : List Tri) (c : Cell) (counts : List ℤ) (f : Face) (s : Sides) (fs : List NearTriangle) →
+    AreNearTriangles ns c fs → AreTraced c fs counts f s → AreSides ns c counts f s
 are_sides ns c counts f s fs near_triangles t = traced_sides ns c counts f t.way t.is_way fs near_triangles s.before.counts s.after.counts t.before t.after

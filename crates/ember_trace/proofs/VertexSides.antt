@@ -33,14 +33,16 @@ use Rattle.ember_box.specs.Reference.{reference_at}
 use Rattle.ember_ref.specs.References.{or_sign}
 use Rattle.ember_ref.proofs.ReferenceSigns.{sign_near}
 use Rattle.ember_trace.specs.Paths.{inside_side, first_of, second_of}
-use Rattle.ember_trace.proofs.PathVertices.{close_to, with_along, pinned, slid_once_to, slid_twice_to, value_close, value_pinned, pinned_once, pinned_twice, level_with}
+use Rattle.ember_trace.proofs.PathVertices.{close_to, with_along, pinned, slid_once_to, slid_twice_to, value_close}
+use Rattle.ember_trace.proofs.PathVertices.{value_pinned, pinned_once, pinned_twice, level_with}
 
 -- ---- the first that isn't zero
 next_sign : {m : ℕ} (n : ℕ) (v a : ℤ) → Small m a → m < n → sgn (v *ℤ pos n +ℤ a) ≡ or_sign (sgn v) (sgn a)
 next_sign n v a s l =
     by_sign v
     (λ p. sgn_pos (large_pos s l p) ∙ sym (ap (λ (s : Sign). or_sign s (sgn a)) (sgn_pos p)))
-    (λ z. let e = zero_times v (pos n) z in let f : v *ℤ pos n +ℤ a ≡ a = omega (arith, linear, e) in ap sgn f ∙ sym (ap (λ (v : ℤ). or_sign (sgn v) (sgn a)) z))
+    (λ z. let e = zero_times v (pos n) z in let f : v *ℤ pos n +ℤ a ≡ a = omega (arith, linear, e) in
+    ap sgn f ∙ sym (ap (λ (v : ℤ). or_sign (sgn v) (sgn a)) z))
     (λ p. sgn_neg (large_neg s l p) ∙ sym (ap (λ (s : Sign). or_sign s (sgn a)) (sgn_neg p)))
 
 or_sign_assoc : (s t r : Sign) → or_sign (or_sign s t) r ≡ or_sign s (or_sign t r)
@@ -72,16 +74,23 @@ value_small h v s =
     small_sub (small_add (small_add (small_mul s.a (own v.x)) (small_mul s.b (own v.y))) (small_mul s.c (own v.z))) (small_mul s.d (own v.w))
 
 -- the sign of a plane at a point that is close to u, closest to the line from there to v
-pub close_sign : (n : ℕ) (h : Plane) (u v w : Spot) → IsValidPlane h → value_bound v < n → value_bound w < n → sgn (value_at h (close_to (pos n) u v w)) ≡ or_sign (sgn (value_at h u)) (or_sign (sgn (value_at h v)) (sgn (value_at h w)))
+pub close_sign : (n : ℕ) (h : Plane) (u v w : Spot) → IsValidPlane h → value_bound v < n → value_bound w < n →
+    sgn (value_at h (close_to (pos n) u v w)) ≡ or_sign (sgn (value_at h u))
+    (or_sign (sgn (value_at h v)) (sgn (value_at h w)))
 close_sign n h u v w i lv lw =
     let a = value_at h u in let b = value_at h v in let c = value_at h w in
-    ap sgn (value_close h (pos n) u v w) ∙ next_sign n (a *ℤ pos n +ℤ b) c (value_small h w i) lw ∙ ap (λ (s : Sign). or_sign s (sgn c)) (next_sign n a b (value_small h v i) lv) ∙ or_sign_assoc (sgn a) (sgn b) (sgn c)
+    ap sgn (value_close h (pos n) u v w) ∙ next_sign n (a *ℤ pos n +ℤ b) c (value_small h w i) lw
+    ∙ ap (λ (s : Sign). or_sign s (sgn c)) (next_sign n a b (value_small h v i) lv)
+    ∙ or_sign_assoc (sgn a) (sgn b) (sgn c)
 
 -- a plane that isn't 0 at a point has the same sign near it
-follows : {m : ℕ} (n : ℕ) (g : Plane) (v : Spot) → m < n → Small m g.a → Small m g.b → Small m g.c → value_at g v ≢ pos 0 → sgn (value_at g (offset_by v (pos n))) ≡ sgn (value_at g v)
+follows : {m : ℕ} (n : ℕ) (g : Plane) (v : Spot) → m < n → Small m g.a → Small m g.b → Small m g.c →
+    value_at g v ≢ pos 0 → sgn (value_at g (offset_by v (pos n))) ≡ sgn (value_at g v)
 follows n g v l a b c nz =
     let s : EachSmall _ (g.a ∷ g.b ∷ g.c ∷ []) = (a, (b, (c, tt))) in
-    ap sgn (value_shifted g v (pos n)) ∙ by_sign (value_at g v) (λ p. sgn_pos (horner_pos (g.a ∷ g.b ∷ g.c ∷ []) (value_at g v) l s p) ∙ sym (sgn_pos p)) (λ z. absurd (nz z)) (λ p. sgn_neg (horner_neg (g.a ∷ g.b ∷ g.c ∷ []) (value_at g v) l s p) ∙ sym (sgn_neg p))
+    ap sgn (value_shifted g v (pos n)) ∙ by_sign (value_at g v)
+    (λ p. sgn_pos (horner_pos (g.a ∷ g.b ∷ g.c ∷ []) (value_at g v) l s p) ∙ sym (sgn_pos p)) (λ z. absurd (nz z))
+    (λ p. sgn_neg (horner_neg (g.a ∷ g.b ∷ g.c ∷ []) (value_at g v) l s p) ∙ sym (sgn_neg p))
 
 record NormalWithin (m : ℕ) (g : Plane) : Type 0 where
   a : Small m g.a
@@ -175,7 +184,9 @@ module _ (k : Axis) (lo : Vector) (a b c : Meet) (q : Spot) (n : ℕ) (s : AreSt
       sign_near n h lo large_above i.a i.b i.c ∙ sym (sign_near (2 ^ 27) h lo (omega arith) i.a i.b i.c)
 
   -- the sign of a plane behind a path's first segment
-  pub first_sign : (h : Plane) → IsSupportSized h → sgn (value_at h (stop_after_first k lo q n)) ≡ or_sign (inside_side (slid_twice_to k lo h) a b c) (sgn (value_at h (reference_at lo)))
+  pub first_sign : (h : Plane) → IsSupportSized h →
+      sgn (value_at h (stop_after_first k lo q n)) ≡ or_sign (inside_side (slid_twice_to k lo h) a b c)
+      (sgn (value_at h (reference_at lo)))
   first_sign h i = either _ _ _ strict level
     where
       g : Plane
@@ -185,7 +196,8 @@ module _ (k : Axis) (lo : Vector) (a b c : Meet) (q : Spot) (n : ℕ) (s : AreSt
       strict nz =
           let p = pinned h (first_of k) q in let w = pinned_within h (first_of k) q (sized_normal h i) in
           let e = pinned_once h k lo q in let at = s.close.at_end g (s.valid_twice h i) in
-          ap sgn (value_pinned h (first_of k) start q) ∙ follows n p (spot_of_vector lo) s.once w.a w.b w.c (λ z. nz (sym at ∙ ap sgn (sym e ∙ z))) ∙ ap sgn e ∙ at
+          ap sgn (value_pinned h (first_of k) start q)
+          ∙ follows n p (spot_of_vector lo) s.once w.a w.b w.c (λ z. nz (sym at ∙ ap sgn (sym e ∙ z))) ∙ ap sgn e ∙ at
 
       level : inside_side g a b c ≡ Zero → sgn (value_at h (stop_after_first k lo q n)) ≡ sgn (value_at h (reference_at lo))
       level z =
@@ -193,7 +205,9 @@ module _ (k : Axis) (lo : Vector) (a b c : Meet) (q : Spot) (n : ℕ) (s : AreSt
           ap sgn (level_with h (first_of k) start q l) ∙ sgn_scaled (value_at h start) s.close.weight ∙ start_sign h i
 
   -- the sign of a plane behind a path's second segment
-  pub second_sign : (h : Plane) → IsSupportSized h → sgn (value_at h (stop_after_second k lo q n)) ≡ or_sign (inside_side (slid_once_to k lo h) a b c) (sgn (value_at h (reference_at lo)))
+  pub second_sign : (h : Plane) → IsSupportSized h →
+      sgn (value_at h (stop_after_second k lo q n)) ≡ or_sign (inside_side (slid_once_to k lo h) a b c)
+      (sgn (value_at h (reference_at lo)))
   second_sign h i = either _ _ _ strict level
     where
       g : Plane
@@ -204,12 +218,16 @@ module _ (k : Axis) (lo : Vector) (a b c : Meet) (q : Spot) (n : ℕ) (s : AreSt
           let o = pinned h (second_of k) q in let p = pinned o (first_of k) q in
           let w = pinned_within o (first_of k) q (pinned_within h (second_of k) q (sized_normal h i)) in
           let e = ap sgn (pinned_twice h k lo q) ∙ sgn_scaled (value_at g q) s.close.weight ∙ s.close.at_end g (s.valid_once h i) in
-          ap sgn (value_pinned h (second_of k) (stop_after_first k lo q n) q ∙ value_pinned o (first_of k) start q) ∙ follows n p (spot_of_vector lo) s.twice w.a w.b w.c (λ z. nz (sym e ∙ ap sgn z)) ∙ e
+          ap sgn (value_pinned h (second_of k) (stop_after_first k lo q n) q ∙ value_pinned o (first_of k) start q)
+          ∙ follows n p (spot_of_vector lo) s.twice w.a w.b w.c (λ z. nz (sym e ∙ ap sgn z)) ∙ e
 
       level : inside_side g a b c ≡ Zero → sgn (value_at h (stop_after_second k lo q n)) ≡ sgn (value_at h (reference_at lo))
       level z =
           let l = once_level k lo h (s.close.apart g z (slid_last h k _)) in
-          ap sgn (level_with h (second_of k) (stop_after_first k lo q n) q l.1) ∙ sgn_scaled (value_at h (stop_after_first k lo q n)) s.close.weight ∙ ap sgn (level_with h (first_of k) start q l.0) ∙ sgn_scaled (value_at h start) s.close.weight ∙ start_sign h i
+          ap sgn (level_with h (second_of k) (stop_after_first k lo q n) q l.1)
+          ∙ sgn_scaled (value_at h (stop_after_first k lo q n)) s.close.weight
+          ∙ ap sgn (level_with h (first_of k) start q l.0) ∙ sgn_scaled (value_at h start) s.close.weight
+          ∙ start_sign h i
 
 -- ---- directly beside the end
 -- m v + s n, if m is large
@@ -223,10 +241,16 @@ module _ (k : Axis) (q : Spot) (h : Plane) (i : Small 33554431 (along h k)) wher
   -- the sign of a plane a small step ahead
   pub after_sign : (m s : ℕ) → 1 ≤ s → 33554431 * s < m → sgn (value_at h (moved (scaled (pos m) q) k (pos s))) ≡ or_sign (sgn (value_at h q)) (sgn (along h k))
   after_sign m s ls l =
-      ap sgn (value_moved h (scaled (pos m) q) k (pos s) ∙ ap (λ (z : ℤ). z +ℤ pos s *ℤ along h k) (value_scaled (pos m) h q)) ∙ beside m s (value_at h q) (along h k) i ls l
+      ap sgn (value_moved h (scaled (pos m) q) k (pos s)
+      ∙ ap (λ (z : ℤ). z +ℤ pos s *ℤ along h k) (value_scaled (pos m) h q))
+      ∙ beside m s (value_at h q) (along h k) i ls l
 
   -- the sign of a plane a small step back
-  pub before_sign : (m s : ℕ) → 1 ≤ s → 33554431 * s < m → sgn (value_at h (moved (scaled (pos m) q) k (neg_ℤ (pos s)))) ≡ or_sign (sgn (value_at h q)) (flip (sgn (along h k)))
+  pub before_sign : (m s : ℕ) → 1 ≤ s → 33554431 * s < m →
+      sgn (value_at h (moved (scaled (pos m) q) k (neg_ℤ (pos s)))) ≡ or_sign (sgn (value_at h q))
+      (flip (sgn (along h k)))
   before_sign m s ls l =
-      let e = value_moved h (scaled (pos m) q) k (neg_ℤ (pos s)) ∙ ap (λ (z : ℤ). z +ℤ neg_ℤ (pos s) *ℤ along h k) (value_scaled (pos m) h q) ∙ solve 3 (λ v s n. v ⊕ neg s ⊗ n ≈ v ⊕ s ⊗ neg n) cancels (pos m *ℤ value_at h q) (pos s) (along h k) in
+      let e = value_moved h (scaled (pos m) q) k (neg_ℤ (pos s))
+      ∙ ap (λ (z : ℤ). z +ℤ neg_ℤ (pos s) *ℤ along h k) (value_scaled (pos m) h q)
+      ∙ solve 3 (λ v s n. v ⊕ neg s ⊗ n ≈ v ⊕ s ⊗ neg n) cancels (pos m *ℤ value_at h q) (pos s) (along h k) in
       ap sgn e ∙ beside m s (value_at h q) (neg_ℤ (along h k)) (small_neg i) ls l ∙ ap (λ (t : Sign). or_sign (sgn (value_at h q)) t) (sgn-neg (along h k))

@@ -1,6 +1,7 @@
 -- How often a path to a region of a box crosses the triangles near the box, by the sides of planes on
 -- which its vertices lie
-use Rattle.std.specs.Prelude.{◌≡◌, ℤ, pos, negsuc, ◌+ℤ◌, neg_ℤ, int_le, int_lt, Bool, false, ◌&&◌, if◌then◌else◌, List, fold, replicate, Some, slice_get, slice_index_or}
+use Rattle.std.specs.Prelude.{◌≡◌, ℤ, pos, negsuc, ◌+ℤ◌, neg_ℤ, int_le, int_lt, Bool, false, ◌&&◌}
+use Rattle.std.specs.Prelude.{if◌then◌else◌, List, fold, replicate, Some, slice_get, slice_index_or}
 use Rattle.std.specs.Int.{int_max}
 use Rattle.ember_algebra.specs.declared.Sign.{Sign}
 use Rattle.ember_algebra.specs.Sign.{sgn, flip, times, number, is_neg}
@@ -22,7 +23,8 @@ use Rattle.ember_trace.specs.declared.limits.Limits.{Limits}
 use Rattle.ember_trace.specs.declared.region_sides.Sides.{Sides}
 use Rattle.ember_trace.specs.Lines.{all_behind, contains_above}
 use Rattle.ember_trace.specs.NearTriangles.{AreNearTriangles}
-use Rattle.ember_trace.specs.Paths.{coordinate, inside_side, side_at_end, side_after_first, side_after_second, floor_at_end, HasAxes, IsPathTo}
+use Rattle.ember_trace.specs.Paths.{coordinate, inside_side, side_at_end, side_after_first}
+use Rattle.ember_trace.specs.Paths.{side_after_second, floor_at_end, HasAxes, IsPathTo}
 
 -- the signed crossing of a segment from one side of a plane to another: 1 from behind to the front, -1 back,
 -- otherwise 0
@@ -57,7 +59,8 @@ pub record AreLimits (w : Path) (at : Limits) : Type 0 where
   pub start : at.start ≡ coordinate w.lo w.main
   pub first : at.first ≡ in_root (floor_at_end w w.first_axis)
   pub second : at.second ≡ in_root (floor_at_end w w.second_axis)
-  pub farthest_second : at.farthest_second ≡ int_max (in_root (floor_at_end w w.second_axis)) (coordinate w.lo w.second_axis)
+  pub farthest_second : at.farthest_second ≡ int_max (in_root (floor_at_end w w.second_axis))
+      (coordinate w.lo w.second_axis)
   pub farthest_main : at.farthest_main ≡ int_max (in_root (floor_at_end w w.main)) (coordinate w.lo w.main)
 
 -- ---- the segments

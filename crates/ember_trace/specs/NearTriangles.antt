@@ -13,7 +13,8 @@ use Rattle.ember_trace.specs.Lines.{first_lines_of}
 abbrev pub tri_of : NearTriangle → Tri
 tri_of f = f.tri
 
--- the near triangle is kept with what it has of the box's reference point: the side of its plane on which the point lies,
+-- the near triangle is kept with what it has of the box's reference point: the side of its plane on
+-- which the point lies,
 -- and the lines through the point that run through it
 pub record HasReference (c : Cell) (f : NearTriangle) : Type 0 where
   pub side : f.reference_side ≡ sgn (value_at f.support (reference_at_list (c.lo.x ∷ c.lo.y ∷ c.lo.z ∷ [])))

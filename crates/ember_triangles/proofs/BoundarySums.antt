@@ -68,7 +68,8 @@ module _ (plane line corner : ℕ) where
       none [] h = refl
       none (s ∷ ss) h =
           let on = All-head (λ (s : Segment). s.line ≡ l) s ss h in
-          sum (ended plane line corner s) (total (ended plane line corner) ss) (ended_off s (ap (eqb line) on ∙ e)) (none ss (All-tail (λ (s : Segment). s.line ≡ l) s ss h))
+          sum (ended plane line corner s) (total (ended plane line corner) ss) (ended_off s (ap (eqb line) on ∙ e))
+          (none ss (All-tail (λ (s : Segment). s.line ≡ l) s ss h))
 
 -- ---- segments that are added
 -- segments that are added after the others

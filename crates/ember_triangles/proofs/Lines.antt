@@ -29,9 +29,15 @@ module _ (line : ℕ) where
 
 -- ---- from line to line
 -- the segments of one more line
-pub next_line : (all done more rest here behind : List Segment) → rest ≡ here ++ behind → AddsBoundary done here more → AddsBoundary done rest all → AddsBoundary more behind all
+pub next_line : (all done more rest here behind : List Segment) → rest ≡ here ++ behind → AddsBoundary done here more →
+    AddsBoundary done rest all → AddsBoundary more behind all
 next_line all done more rest here behind e k h =
-    record { each = λ plane line corner. passed (boundary plane line corner all) (boundary plane line corner done) (boundary plane line corner rest) (boundary plane line corner here) (boundary plane line corner behind) (boundary plane line corner more) (h.each plane line corner) (ap (boundary plane line corner) e ∙ boundary-append plane line corner here behind) (k.each plane line corner) }
+    record {
+      each = λ plane line corner. passed (boundary plane line corner all) (boundary plane line corner done)
+          (boundary plane line corner rest) (boundary plane line corner here) (boundary plane line corner behind)
+          (boundary plane line corner more) (h.each plane line corner)
+          (ap (boundary plane line corner) e ∙ boundary-append plane line corner here behind) (k.each plane line corner);
+    }
   where
     passed : (a d r h b m : ℤ) → a ≡ d +ℤ r → r ≡ h +ℤ b → m ≡ d +ℤ h → a ≡ m +ℤ b
     passed a d r h b m e f g = omega (arith, linear, e, f, g)
@@ -39,7 +45,12 @@ next_line all done more rest here behind e k h =
 -- no line is left
 pub last_line : (all done rest : List Segment) → length rest ≡ 0 → AddsBoundary done rest all → HaveSameChains all done
 last_line all done rest z h =
-    chains_from_boundary all done (record { each = λ plane line corner. passed (boundary plane line corner all) (boundary plane line corner done) (boundary plane line corner rest) (h.each plane line corner) (ap (boundary plane line corner) (nil_from_length rest z)) })
+    chains_from_boundary all done (record {
+      each =
+          λ plane line corner. passed (boundary plane line corner all) (boundary plane line corner done)
+          (boundary plane line corner rest) (h.each plane line corner)
+          (ap (boundary plane line corner) (nil_from_length rest z));
+    })
   where
     passed : (a d r : ℤ) → a ≡ d +ℤ r → r ≡ pos 0 → a ≡ d
     passed a d r e f = omega (arith, linear, e, f)
@@ -50,7 +61,8 @@ chains_in_order ss sorted p =
     chains_from_boundary ss sorted (record { each = λ plane line corner. sym (boundary-permutation plane line corner ss sorted p) })
 
 -- the chains of segments whose order is changed twice, before and after their boundaries are found
-pub chains_of_all : (ss sorted found bs ts : List Segment) → IsPermutation ss sorted → HaveSameChains sorted found → HaveSameChains found bs → HaveSameChains bs ts → HaveSameChains ss ts
+pub chains_of_all : (ss sorted found bs ts : List Segment) → IsPermutation ss sorted → HaveSameChains sorted found →
+    HaveSameChains found bs → HaveSameChains bs ts → HaveSameChains ss ts
 chains_of_all ss sorted found bs ts p f h k =
     let order = chains_in_order ss sorted p in
     record { each = λ plane line rank x. order.each plane line rank x ∙ f.each plane line rank x ∙ h.each plane line rank x ∙ k.each plane line rank x }

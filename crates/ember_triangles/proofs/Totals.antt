@@ -31,7 +31,9 @@ module _ {U : Type 0} (f : U → ℤ) where
   total-apart : (xs : List U) → total f xs ≡ pos (sum_by (λ x. above (f x)) xs) -ℤ pos (sum_by (λ x. below (f x)) xs)
   total-apart [] = omega (arith, ints)
   total-apart (x ∷ xs) =
-      added (f x) (total f xs) (above (f x)) (below (f x)) (sum_by (λ x. above (f x)) xs) (sum_by (λ x. below (f x)) xs) (sum_by (λ x. above (f x)) (x ∷ xs)) (sum_by (λ x. below (f x)) (x ∷ xs)) (apart (f x)) (total-apart xs) (sum_by-cons (λ x. above (f x)) x xs) (sum_by-cons (λ x. below (f x)) x xs)
+      added (f x) (total f xs) (above (f x)) (below (f x)) (sum_by (λ x. above (f x)) xs) (sum_by (λ x. below (f x)) xs)
+      (sum_by (λ x. above (f x)) (x ∷ xs)) (sum_by (λ x. below (f x)) (x ∷ xs)) (apart (f x)) (total-apart xs)
+      (sum_by-cons (λ x. above (f x)) x xs) (sum_by-cons (λ x. below (f x)) x xs)
 
   -- the order of the list doesn't matter
   pub total-permutation : (xs ys : List U) → IsPermutation xs ys → total f ys ≡ total f xs
@@ -62,7 +64,9 @@ module _ {U : Type 0} (f : U → ℤ) where
   total-remove xs i x e =
       let a = total-append f (take i xs) (drop (i + 1) xs) in
       let b = sym (ap (total f) (take-append-drop (i + 1) xs)) ∙ total-append f (take (i + 1) xs) (drop (i + 1) xs) in
-      let c = ap (total f) (take_more xs i x (slice_get_within xs i x e) ∙ ap (λ (y : U). take i xs ++ y ∷ []) (get_or_from_slice_get xs i x x e)) ∙ total-append f (take i xs) (x ∷ []) in
+      let c = ap (total f) (take_more xs i x (slice_get_within xs i x e)
+      ∙ ap (λ (y : U). take i xs ++ y ∷ []) (get_or_from_slice_get xs i x x e))
+      ∙ total-append f (take i xs) (x ∷ []) in
       without (total f (take i xs)) (total f (drop (i + 1) xs)) (f x) (total f (take i xs ++ drop (i + 1) xs)) (total f (take (i + 1) xs)) (total f xs) a c b
     where
       without : (s t u v w z : ℤ) → v ≡ s +ℤ t → w ≡ s +ℤ (u +ℤ pos 0) → z ≡ w +ℤ t → v +ℤ u ≡ z

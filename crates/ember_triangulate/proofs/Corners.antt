@@ -29,6 +29,7 @@ three_are_corners ss a b c p q r =
     All-cons (IsCornerOf ss) a (b ∷ c ∷ []) p (All-cons (IsCornerOf ss) b (c ∷ []) q (All-cons (IsCornerOf ss) c [] r (All-nil (IsCornerOf ss))))
 
 -- two triangles one by one
-pub each_half_has_corners : (ss : List Segment) (a b c d e f : ℕ) → HasCornersOf ss (a ∷ b ∷ c ∷ []) → HasCornersOf ss (d ∷ e ∷ f ∷ []) → All (HasCornersOf ss) ((a ∷ b ∷ c ∷ []) ∷ (d ∷ e ∷ f ∷ []) ∷ [])
+pub each_half_has_corners : (ss : List Segment) (a b c d e f : ℕ) → HasCornersOf ss (a ∷ b ∷ c ∷ []) →
+    HasCornersOf ss (d ∷ e ∷ f ∷ []) → All (HasCornersOf ss) ((a ∷ b ∷ c ∷ []) ∷ (d ∷ e ∷ f ∷ []) ∷ [])
 each_half_has_corners ss a b c d e f p q =
     All-cons (HasCornersOf ss) (a ∷ b ∷ c ∷ []) ((d ∷ e ∷ f ∷ []) ∷ []) p (All-cons (HasCornersOf ss) (d ∷ e ∷ f ∷ []) [] q (All-nil (HasCornersOf ss)))

@@ -1,5 +1,6 @@
 -- Triangles whose edges have lines
-use Rattle.std.proofs.Common.{◌≡◌, ◌⊎◌, inl, inr, ℕ, ◌+◌, ◌<◌, ◌≤◌, min, max, Option, Some, None, List, [], ◌∷◌, ◌++◌, length, get_or, take, refl, sym, ap, subst, ◌∙◌, arith, true}
+use Rattle.std.proofs.Common.{◌≡◌, ◌⊎◌, inl, inr, ℕ, ◌+◌, ◌<◌, ◌≤◌, min, max, Option, Some, None, List, [], ◌∷◌, ◌++◌}
+use Rattle.std.proofs.Common.{length, get_or, take, refl, sym, ap, subst, ◌∙◌, arith, true}
 use Rattle.std.specs.List.{All, Contains}
 use Rattle.std.specs.Option.{IfSome, is_some}
 use Rattle.std.proofs.lemmas.Bool.{cases_lt, eq-eqb}
@@ -10,7 +11,9 @@ use Rattle.ember_certificate.specs.declared.triangle.Triangle.{Triangle}
 use Rattle.ember_certificate.specs.Certificate.{is_round, edges_in}
 use Rattle.ember_triangulate.specs.declared.lines.Lines.{Lines}
 use Rattle.ember_triangulate.specs.Diagonals.{edge_key, pair_key, line_at}
-use Rattle.ember_triangulate.specs.Lines.{corners_of, HasEndsOf, IsOnBoundary, HasLine, HaveSamePair, HaveOwnLines, AreWithLines, boundary_line, IsLineIn, HasLineIn, AreRight, AreExtended, IsNamed, AreNamed}
+use Rattle.ember_triangulate.specs.Lines.{corners_of, HasEndsOf, IsOnBoundary, HasLine, HaveSamePair, HaveOwnLines}
+use Rattle.ember_triangulate.specs.Lines.{AreWithLines, boundary_line, IsLineIn, HasLineIn, AreRight, AreExtended}
+use Rattle.ember_triangulate.specs.Lines.{IsNamed, AreNamed}
 
 -- ---- keys
 -- a key has one start and one end
@@ -25,7 +28,9 @@ same_pair_from_key e f k = by (cases_lt e.start e.end) (cases_lt f.start f.end)
 
     ends : (min e.start e.end ≡ min f.start f.end) × (max e.start e.end ≡ max f.start f.end)
     ends =
-        edge_key_is_own (min e.start e.end) (max e.start e.end) (min f.start f.end) (max f.start f.end) (bounds e.start e.end e.sized.start_small e.sized.end_small) (bounds f.start f.end f.sized.start_small f.sized.end_small) k
+        edge_key_is_own (min e.start e.end) (max e.start e.end) (min f.start f.end) (max f.start f.end)
+        (bounds e.start e.end e.sized.start_small e.sized.end_small)
+        (bounds f.start f.end f.sized.start_small f.sized.end_small) k
 
     by : (e.start < e.end) ⊎ (e.end ≤ e.start) → (f.start < f.end) ⊎ (f.end ≤ f.start) → HaveSamePair e f
     by (inl p) (inl q) = let d = ends in inl (omega arith, omega arith)
@@ -81,13 +86,19 @@ module _ (p a b c k l m : ℕ) (t : Triangle) (first : RunsOn p k a b t.first) (
       rw (x, y, z, v, w) refl
 
   -- three edges with lines are a named triangle, in tables that were extended after the first and the second
-  pub three_edges_are_named : (cs : List ℕ) → a ∷ b ∷ c ∷ [] ≡ cs → (x y z : Lines) → AreExtended x y → AreExtended y z → IsLineIn x a b k → IsLineIn y b c l → IsLineIn z c a m → IsNamed p cs z t
+  pub three_edges_are_named : (cs : List ℕ) → a ∷ b ∷ c ∷ [] ≡ cs → (x y z : Lines) → AreExtended x y →
+      AreExtended y z → IsLineIn x a b k → IsLineIn y b c l → IsLineIn z c a m → IsNamed p cs z t
   three_edges_are_named cs told x y z xy yz f g h =
       record {
         corners = (λ i. first.start i ∷ second.start i ∷ third.start i ∷ []) ∙ told;
         round = leads;
         plane = first.plane;
-        lines = All-cons (HasLineIn z) t.first (t.second ∷ t.third ∷ []) (edge_has_line z t.first a b k first.line first.start first.end (yz.kept a b k (xy.kept a b k f))) (All-cons (HasLineIn z) t.second (t.third ∷ []) (edge_has_line z t.second b c l second.line second.start second.end (yz.kept b c l g)) (All-cons (HasLineIn z) t.third [] (edge_has_line z t.third c a m third.line third.start third.end h) (All-nil (HasLineIn z))));
+        lines = All-cons (HasLineIn z) t.first (t.second ∷ t.third ∷ [])
+            (edge_has_line z t.first a b k first.line first.start first.end (yz.kept a b k (xy.kept a b k f)))
+            (All-cons (HasLineIn z) t.second (t.third ∷ [])
+            (edge_has_line z t.second b c l second.line second.start second.end (yz.kept b c l g))
+            (All-cons (HasLineIn z) t.third [] (edge_has_line z t.third c a m third.line third.start third.end h)
+            (All-nil (HasLineIn z))));
       }
 
 -- ---- lists of triangles
@@ -104,14 +115,20 @@ module _ (plane : ℕ) (cs : List (List ℕ)) (a b : Lines) (x : AreExtended a b
         corners = map-append corners_of ts (t ∷ []) ∙ (λ i. h.corners i ++ n.corners i ∷ []);
         round = All-push (λ (u : Triangle). is_round u ≡ true) ts t h.round n.round;
         plane = All-push (λ (u : Triangle). u.first.plane ≡ plane) ts t h.plane n.plane;
-        lines = All-same (HasLineIn b) (edges_in (ts ++ t ∷ [])) (edges_in ts ++ edges_in (t ∷ [])) (edges_in-append ts (t ∷ [])) (All-append (HasLineIn b) (edges_in ts) (edges_in (t ∷ [])) (All-weaker (HasLineIn a) (HasLineIn b) (line_is_kept x) (edges_in ts) h.lines) n.lines);
+        lines = All-same (HasLineIn b) (edges_in (ts ++ t ∷ [])) (edges_in ts ++ edges_in (t ∷ []))
+            (edges_in-append ts (t ∷ [])) (All-append (HasLineIn b) (edges_in ts) (edges_in (t ∷ []))
+            (All-weaker (HasLineIn a) (HasLineIn b) (line_is_kept x) (edges_in ts) h.lines) n.lines);
       }
 
 -- the same of the first corners of a list
-pub next_is_named : (plane : ℕ) (cs : List (List ℕ)) (i : ℕ) (a b : Lines) → AreExtended a b → (ts us : List Triangle) (c d : List ℕ) (t : Triangle) → i < length cs → c ≡ get_or cs i d → us ≡ ts ++ t ∷ [] → AreNamed plane (take i cs) a ts → IsNamed plane c b t → AreNamed plane (take (i + 1) cs) b us
+pub next_is_named : (plane : ℕ) (cs : List (List ℕ)) (i : ℕ) (a b : Lines) → AreExtended a b →
+    (ts us : List Triangle) (c d : List ℕ) (t : Triangle) → i < length cs → c ≡ get_or cs i d → us ≡ ts ++ t ∷ [] →
+    AreNamed plane (take i cs) a ts → IsNamed plane c b t → AreNamed plane (take (i + 1) cs) b us
 next_is_named plane cs i a b x ts us c d t l e p h n =
     let more : take (i + 1) cs ≡ take i cs ++ c ∷ [] = take_more cs i d l ∙ ap (λ (f : List ℕ). take i cs ++ f ∷ []) (sym e) in
-    subst (λ (vs : List Triangle). AreNamed plane (take (i + 1) cs) b vs) (sym p) (subst (λ (ds : List (List ℕ)). AreNamed plane ds b (ts ++ t ∷ [])) (sym more) (one_more_is_named plane (take i cs) a b x ts c t h n))
+    subst (λ (vs : List Triangle). AreNamed plane (take (i + 1) cs) b vs) (sym p)
+    (subst (λ (ds : List (List ℕ)). AreNamed plane ds b (ts ++ t ∷ [])) (sym more)
+    (one_more_is_named plane (take i cs) a b x ts c t h n))
 
 -- a fact about what an option holds
 pub of_the_value : {X : Type 0} (P : X → Type 0) (o : Option X) (x : X) → o ≡ Some x → IfSome o P → P x
@@ -150,8 +167,11 @@ module _ (ss : List Segment) (first : ℕ) (ls : Lines) (right : AreRight ss fir
   own_lines : (es : List Segment) → All (HasLineIn ls) es → HaveOwnLines ss es
   own_lines es h e f ce cf ne nf =
       let p = diagonal_line e (All-contains (HasLineIn ls) es e h ce) ne in
-      let q = diagonal_line f (All-contains (HasLineIn ls) es f h cf) nf in
-      (λ s. same_pair_from_key e f (right.diagonals.own (pair_key e.start e.end) (pair_key f.start f.end) e.line p (q ∙ ap Some (sym s))), λ s. let k = ap (line_at ls.diagonals) (key_from_same_pair e f s) in cc)
+      let q = diagonal_line f (All-contains (HasLineIn ls) es f h cf) nf in (
+        λ s. same_pair_from_key e f (right.diagonals.own (pair_key e.start e.end) (pair_key f.start f.end) e.line p
+            (q ∙ ap Some (sym s))),
+        λ s. let k = ap (line_at ls.diagonals) (key_from_same_pair e f s) in cc,
+      )
 
   pub named_have_lines : (plane : ℕ) (cs : List (List ℕ)) (ts : List Triangle) → AreNamed plane cs ls ts → AreWithLines plane ss cs first ts
   named_have_lines plane cs ts h =

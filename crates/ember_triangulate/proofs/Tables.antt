@@ -34,6 +34,11 @@ module _ (ss : List Segment) (s : Segment) (before after : ℕ → Option ℕ) (
       has t (inr e) (inr ne) = absurd (ne (ap key_of e))
 
 -- the same of the first segments of a list, by the segment's key
-pub next_has_line : (ss : List Segment) (i : ℕ) (s : Segment) (key : ℕ) (before after : ℕ → Option ℕ) → i < length ss → s ≡ get_or ss i s → key ≡ key_of s → ((q : ℕ) → after q ≡ cond (eqb key q) (Some s.line) (before q)) → AreLinesOf (take i ss) before → AreLinesOf (take (i + 1) ss) after
+pub next_has_line : (ss : List Segment) (i : ℕ) (s : Segment) (key : ℕ) (before after : ℕ → Option ℕ) → i < length ss →
+    s ≡ get_or ss i s → key ≡ key_of s → ((q : ℕ) → after q ≡ cond (eqb key q) (Some s.line) (before q)) →
+    AreLinesOf (take i ss) before → AreLinesOf (take (i + 1) ss) after
 next_has_line ss i s key before after l e k put h =
-    subst (λ (ts : List Segment). AreLinesOf ts after) (sym (take_more ss i s l ∙ ap (λ (t : Segment). take i ss ++ t ∷ []) (sym e))) (one_more_has_line (take i ss) s before after (λ q. put q ∙ ap (λ (n : ℕ). cond (eqb n q) (Some s.line) (before q)) k) h)
+    subst (λ (ts : List Segment). AreLinesOf ts after)
+    (sym (take_more ss i s l ∙ ap (λ (t : Segment). take i ss ++ t ∷ []) (sym e)))
+    (one_more_has_line (take i ss) s before after
+    (λ q. put q ∙ ap (λ (n : ℕ). cond (eqb n q) (Some s.line) (before q)) k) h)

@@ -13,13 +13,19 @@ module _ (ss : List Segment) where
   side e u v l p q r h = subst (λ (A : Type 0). A) (λ i. IsLineOf ss (sym q i) (sym r i) (sym p i)) h
 
   -- three sides round three corners are a whole triangle
-  pub three_sides_are_whole : (p a b c k l m : ℕ) (t : Triangle) → RunsOn p k a b t.first → RunsOn p l b c t.second → RunsOn p m c a t.third → (cs : List ℕ) → a ∷ b ∷ c ∷ [] ≡ cs → IsLineOf ss a b k → IsLineOf ss b c l → IsLineOf ss c a m → IsWhole p ss cs t
+  pub three_sides_are_whole : (p a b c k l m : ℕ) (t : Triangle) → RunsOn p k a b t.first → RunsOn p l b c t.second →
+      RunsOn p m c a t.third → (cs : List ℕ) → a ∷ b ∷ c ∷ [] ≡ cs → IsLineOf ss a b k → IsLineOf ss b c l →
+      IsLineOf ss c a m → IsWhole p ss cs t
   three_sides_are_whole p a b c k l m t first second third cs told f g h =
       record {
         corners = (λ i. first.start i ∷ second.start i ∷ third.start i ∷ []) ∙ told;
         round = leads p a b c k l m t first second third;
         plane = first.plane;
-        sides = All-cons (IsSide ss) t.first (t.second ∷ t.third ∷ []) (side t.first a b k first.line first.start first.end f) (All-cons (IsSide ss) t.second (t.third ∷ []) (side t.second b c l second.line second.start second.end g) (All-cons (IsSide ss) t.third [] (side t.third c a m third.line third.start third.end h) (All-nil (IsSide ss))));
+        sides = All-cons (IsSide ss) t.first (t.second ∷ t.third ∷ [])
+            (side t.first a b k first.line first.start first.end f)
+            (All-cons (IsSide ss) t.second (t.third ∷ []) (side t.second b c l second.line second.start second.end g)
+            (All-cons (IsSide ss) t.third [] (side t.third c a m third.line third.start third.end h)
+            (All-nil (IsSide ss))));
       }
 
   on_boundary : (e : Segment) → IsSide ss e → IsOnBoundary ss e
@@ -32,12 +38,18 @@ module _ (ss : List Segment) where
         corners = λ i. h.corners i ∷ [];
         round = All-cons (λ (u : Triangle). is_round u ≡ true) t [] h.round (All-nil (λ (u : Triangle). is_round u ≡ true));
         plane = All-cons (λ (u : Triangle). u.first.plane ≡ p) t [] h.plane (All-nil (λ (u : Triangle). u.first.plane ≡ p));
-        lines = All-weaker (IsSide ss) (HasLine ss first) (λ e s. record { boundary = λ _. (s.0, s.1, (s.2, s.3), s.4); diagonal = λ off. absurd (off (on_boundary e s)) }) (edges_in (t ∷ [])) h.sides;
+        lines = All-weaker (IsSide ss) (HasLine ss first)
+            (λ e s. record {
+              boundary = λ _. (s.0, s.1, (s.2, s.3), s.4);
+              diagonal =
+                  λ off. absurd (off (on_boundary e s));
+            }) (edges_in (t ∷ [])) h.sides;
         own = λ e f ce cf ne nf. absurd (ne (on_boundary e (All-contains (IsSide ss) (edges_in (t ∷ [])) e h.sides ce)));
       }
 
   -- the same of the only corners of a list
-  pub only_one_has_lines : (p first : ℕ) (css : List (List ℕ)) (ts : List Triangle) (t : Triangle) → 1 ≤ length css → length css < 2 → ts ≡ t ∷ [] → IsWhole p ss (get_or css 0 []) t → AreWithLines p ss css first ts
+  pub only_one_has_lines : (p first : ℕ) (css : List (List ℕ)) (ts : List Triangle) (t : Triangle) → 1 ≤ length css →
+      length css < 2 → ts ≡ t ∷ [] → IsWhole p ss (get_or css 0 []) t → AreWithLines p ss css first ts
   only_one_has_lines p first [] ts t l m e h = absurd (omega (arith, l))
   only_one_has_lines p first (cs ∷ []) ts t l m e h =
       subst (λ (us : List Triangle). AreWithLines p ss (cs ∷ []) first us) (sym e) (whole_has_lines p first cs t h)

@@ -1,5 +1,6 @@
 -- The lines of the edges of triangles
-use Rattle.std.specs.Prelude.{◌≡◌, ◌≤◌, ◌⊎◌, ◌↔◌, ℕ, true, Option, Some, None, IsSome, List, [], ◌∷◌, All, Contains, map, nat_eq}
+use Rattle.std.specs.Prelude.{◌≡◌, ◌≤◌, ◌⊎◌, ◌↔◌, ℕ, true, Option, Some, None, IsSome, List, [], ◌∷◌}
+use Rattle.std.specs.Prelude.{All, Contains, map, nat_eq}
 use Rattle.std.specs.HashMap.{get}
 use Rattle.ember_certificate.specs.declared.segment.Segment.{Segment}
 use Rattle.ember_certificate.specs.declared.triangle.Triangle.{Triangle}

@@ -1,5 +1,6 @@
 -- The triangles of the output that an accepted input asks for are a scene, so the input has one text.
-use Rattle.std.proofs.Common.{◌≡◌, ◌≢◌, ℕ, ◌+◌, ◌≤◌, Bool, true, false, cond, List, [], ◌∷◌, ◌++◌, length, map, Option, Some, None, Result, Ok, Err, All, codes, refl, sym, subst, ◌∙◌, arith, eqb, nat_le}
+use Rattle.std.proofs.Common.{◌≡◌, ◌≢◌, ℕ, ◌+◌, ◌≤◌, Bool, true, false, cond, List, [], ◌∷◌, ◌++◌, length, map, Option}
+use Rattle.std.proofs.Common.{Some, None, Result, Ok, Err, All, codes, refl, sym, subst, ◌∙◌, arith, eqb, nat_le}
 use Rattle.std.specs.Prelude.{⊤, pos, replicate}
 use Rattle.std.specs.List.{list_all}
 use Rattle.std.proofs.lemmas.Bool.{leb-true}
@@ -35,7 +36,10 @@ use Rattle.ember_verdict.specs.Statuses.{IsTextIfTold}
 use Rattle.ember_verdict.specs.declared.status.Status.{Status}
 use Rattle.ember_verdict.specs.declared.status.Status.TheVariants.{Done, Unbounded, NotClear, Limit}
 use Rattle.ember_verdict.specs.declared.status.LimitKind.TheVariants.{Bytes, Triangles}
-use Rattle.ember_verdict.specs.Verdict.{Contents, Verdict, Unknown, Refused, Writes, Slices, after_bytes, after_triangles, after_file, after_balance, after_files, after_scene, after_parse, after_given, after_bounded, after_bounded_expr, after_clear, told_verdict}
+use Rattle.ember_verdict.specs.Verdict.{Contents, Verdict, Unknown, Refused, Writes, Slices, after_bytes}
+use Rattle.ember_verdict.specs.Verdict.{after_triangles, after_file, after_balance, after_files, after_scene}
+use Rattle.ember_verdict.specs.Verdict.{after_parse, after_given, after_bounded, after_bounded_expr, after_clear}
+use Rattle.ember_verdict.specs.Verdict.{told_verdict}
 use Rattle.ember_verdict.proofs.NoneLoose.{balanced_if_none}
 use Rattle.ember_verdict.proofs.OneTexts.{output_one, report_one, slice_one}
 
@@ -51,11 +55,16 @@ pub no_meshes : AreMeshes [] 0
 no_meshes = record { valid = All-nil IsValidTri; numbered = All-nil (HasMesh 0); balanced = λ m. balanced-nil }
 
 -- one more closed mesh
-pub mesh_more : (ts mesh : List Tri) (count : ℕ) → AreMeshes ts count → All IsValidTri mesh → All (λ t. t.mesh ≡ count + 1) mesh → IsBalanced mesh → AreMeshes (ts ++ mesh) (count + 1)
+pub mesh_more : (ts mesh : List Tri) (count : ℕ) → AreMeshes ts count → All IsValidTri mesh →
+    All (λ t. t.mesh ≡ count + 1) mesh → IsBalanced mesh → AreMeshes (ts ++ mesh) (count + 1)
 mesh_more ts mesh count are valid of balanced = record {
   valid = All-append IsValidTri ts mesh are.valid valid;
-  numbered = All-append (HasMesh (count + 1)) ts mesh (λ i d l. let h = are.numbered i d l in let first = h.first in let last = h.last in record { first = first; last = omega (arith, last) }) (λ i d l. let e = of i d l in record { first = omega (arith, e); last = omega (arith, e) });
-  balanced = λ m. subst IsBalanced (sym (filter-append (λ t. eqb t.mesh m) ts mesh)) (balanced-append (of_mesh m ts) (of_mesh m mesh) (are.balanced m) (balanced_of_mesh m (count + 1) mesh of balanced));
+  numbered = All-append (HasMesh (count + 1)) ts mesh (λ i d l. let h = are.numbered i d l in let first = h.first in
+      let last = h.last in record { first = first; last = omega (arith, last) }) (λ i d l. let e = of i d l in
+      record { first = omega (arith, e); last = omega (arith, e) });
+  balanced = λ m. subst IsBalanced (sym (filter-append (λ t. eqb t.mesh m) ts mesh))
+      (balanced-append (of_mesh m ts) (of_mesh m mesh) (are.balanced m)
+      (balanced_of_mesh m (count + 1) mesh of balanced));
 }
 
 -- ---- verdicts
@@ -75,26 +84,42 @@ bytes_scene i None next h = tt
 bytes_scene i (Some bytes) next h =
     chosen (nat_le (length bytes) 268435456) (next bytes) (Refused (Limit (Bytes i) 268435457)) (λ e. h bytes) tt
 
-file_scene : (places i : ℕ) (told : Option (List ℕ)) (next : List Tri → Verdict) → ((tris : List Tri) → All IsValidTri tris → All (λ t. t.mesh ≡ i) tris → HasScene (next tris)) → HasScene (after_file places i told next)
+file_scene : (places i : ℕ) (told : Option (List ℕ)) (next : List Tri → Verdict) →
+    ((tris : List Tri) → All IsValidTri tris → All (λ t. t.mesh ≡ i) tris → HasScene (next tris)) →
+    HasScene (after_file places i told next)
 file_scene places i told next h =
     bytes_scene i told (λ bytes. after_triangles i (obj.read_obj_of places i bytes) next) (λ bytes. read bytes (obj.table_of places i bytes) refl)
   where
-    read : (bytes : List ℕ) (table : Result Table ObjFault) → obj.table_of places i bytes ≡ table → HasScene (after_triangles i (obj.file_triangles_of table) next)
+    read : (bytes : List ℕ) (table : Result Table ObjFault) → obj.table_of places i bytes ≡ table →
+        HasScene (after_triangles i (obj.file_triangles_of table) next)
     read bytes (Err fault) e = tt
     read bytes (Ok table) e =
         let sound = sound_table places i 1 bytes table [] e refl in h table.tris sound.tris sound.of_mesh
 
 module _ (places : ℕ) (next : List Tri → Verdict) (h : (tris : List Tri) (meshes : ℕ) → IsScene tris meshes → HasScene (next tris)) where
-  files_scene : (count : ℕ) (tris : List Tri) (contents : Contents) → AreMeshes tris count → count + length contents ≤ 64 → HasScene (after_files places (count + 1) tris contents next)
+  files_scene : (count : ℕ) (tris : List Tri) (contents : Contents) → AreMeshes tris count →
+      count + length contents ≤ 64 → HasScene (after_files places (count + 1) tris contents next)
   files_scene count tris [] are l =
-      chosen (nat_le (length tris) 262144) (next tris) (Refused (Limit Triangles (length tris))) (λ e. h tris count (record { valid = are.valid; few = leb-true (length tris) 262144 e; few_meshes = omega (arith, l); numbered = are.numbered; balanced = are.balanced })) tt
+      chosen (nat_le (length tris) 262144) (next tris) (Refused (Limit Triangles (length tris)))
+      (λ e. h tris count (record {
+        valid = are.valid;
+        few = leb-true (length tris) 262144 e;
+        few_meshes =
+            omega (arith, l);
+        numbered = are.numbered;
+        balanced = are.balanced;
+      })) tt
   files_scene count tris (told ∷ more) are l =
-      file_scene places (count + 1) told (λ mesh. after_balance (count + 1) (loose_of mesh) (rest mesh)) (λ mesh valid of. by mesh valid of (loose_of mesh) refl (λ are. files_scene (count + 1) (tris ++ mesh) more are (omega (arith, l))))
+      file_scene places (count + 1) told (λ mesh. after_balance (count + 1) (loose_of mesh) (rest mesh))
+      (λ mesh valid of. by mesh valid of (loose_of mesh) refl
+      (λ are. files_scene (count + 1) (tris ++ mesh) more are (omega (arith, l))))
     where
       rest : List Tri → Verdict
       rest mesh = after_files places (count + 1 + 1) (tris ++ mesh) more next
 
-      by : (mesh : List Tri) → All IsValidTri mesh → All (λ t. t.mesh ≡ count + 1) mesh → (loose : Option Loose) → loose_of mesh ≡ loose → (AreMeshes (tris ++ mesh) (count + 1) → HasScene (rest mesh)) → HasScene (after_balance (count + 1) loose (rest mesh))
+      by : (mesh : List Tri) → All IsValidTri mesh → All (λ t. t.mesh ≡ count + 1) mesh → (loose : Option Loose) →
+          loose_of mesh ≡ loose → (AreMeshes (tris ++ mesh) (count + 1) → HasScene (rest mesh)) →
+          HasScene (after_balance (count + 1) loose (rest mesh))
       by mesh valid of (Some loose) e go_on = tt
       by mesh valid of None e go_on =
           go_on (mesh_more tris mesh count are valid of (balanced_if_none mesh e))
@@ -102,20 +127,26 @@ module _ (places : ℕ) (next : List Tri → Verdict) (h : (tris : List Tri) (me
   scene_given : (contents : Contents) → length contents ≤ 64 → HasScene (after_scene places contents next)
   scene_given contents l = files_scene 0 [] contents no_meshes (omega (arith, l))
 
-parse_scene : (parsed : Result Formula ExprFault) (next : Formula → Verdict) → ((formula : Formula) → HasScene (next formula)) → HasScene (after_parse parsed next)
+parse_scene : (parsed : Result Formula ExprFault) (next : Formula → Verdict) →
+    ((formula : Formula) → HasScene (next formula)) → HasScene (after_parse parsed next)
 parse_scene (Err fault) next h = tt
 parse_scene (Ok formula) next h = h formula
 
-given_scene : (expr : Option (List ℕ)) (meshes : ℕ) (next : Option Formula → Verdict) → ((formula : Option Formula) → HasScene (next formula)) → HasScene (after_given expr meshes next)
+given_scene : (expr : Option (List ℕ)) (meshes : ℕ) (next : Option Formula → Verdict) →
+    ((formula : Option Formula) → HasScene (next formula)) → HasScene (after_given expr meshes next)
 given_scene None meshes next h = h None
 given_scene (Some text) meshes next h =
     parse_scene (expr_of text meshes) (λ formula. next (Some formula)) (λ formula. h (Some formula))
 
-solid_scene : (expr : List ℕ) (meshes : ℕ) (next : Formula → Verdict) → ((formula : Formula) → HasScene (next formula)) → HasScene (after_bounded_expr expr meshes next)
+solid_scene : (expr : List ℕ) (meshes : ℕ) (next : Formula → Verdict) →
+    ((formula : Formula) → HasScene (next formula)) → HasScene (after_bounded_expr expr meshes next)
 solid_scene expr meshes next h =
-    parse_scene (expr_of expr meshes) (λ formula. after_bounded formula (next formula)) (λ formula. chosen (truth (replicate 64 (pos 0)) formula) (Refused Unbounded) (next formula) (λ e. tt) (h formula))
+    parse_scene (expr_of expr meshes) (λ formula. after_bounded formula (next formula))
+    (λ formula. chosen (truth (replicate 64 (pos 0)) formula) (Refused Unbounded) (next formula) (λ e. tt)
+    (h formula))
 
-counts_scene : (point : Spot) (meshes : ℕ) (expr : Option Formula) (tris : List Tri) → HasScene (after_clear point tris (Writes (Counts point meshes tris expr)))
+counts_scene : (point : Spot) (meshes : ℕ) (expr : Option Formula) (tris : List Tri) →
+    HasScene (after_clear point tris (Writes (Counts point meshes tris expr)))
 counts_scene point meshes expr tris =
     chosen (list_all (λ t. is_clear_of t point) tris) (Writes (Counts point meshes tris expr)) (Refused NotClear) (λ e. tt) tt
 
@@ -126,10 +157,16 @@ few_told told names l = let e = length-map names told in omega (arith, l, e)
 command_scene : (given : Command) (told : List ℕ → Option (List ℕ)) → IsWithinLimits given → HasScene (told_verdict (Some given) told)
 command_scene (command.Faces places file) told l = file_scene places 1 (told file) _ (λ tris valid of. tt)
 command_scene (command.At point expr places files) told l =
-    given_scene expr (length (map told files)) _ (λ formula. scene_given places _ (λ tris meshes is. counts_scene point (length (map told files)) formula tris) (map told files) (few_told told files l.3.0))
+    given_scene expr (length (map told files)) _
+    (λ formula. scene_given places _ (λ tris meshes is. counts_scene point (length (map told files)) formula tris)
+    (map told files) (few_told told files l.3.0))
 command_scene (command.Boole expr workers places report files) told l =
-    solid_scene expr (length (map told files)) _ (λ formula. scene_given places (λ tris. Writes (SolidFaces tris formula)) (λ tris meshes is. (meshes, is)) (map told files) (few_told told files l.3.0))
-command_scene (command.Demo boxes workers) told l = parse_scene (expr_of (codes "m1|m2") 2) (λ formula. Writes (SolidReport (scene_of boxes) formula)) (λ formula. (2, is_scene boxes l.0.1))
+    solid_scene expr (length (map told files)) _
+    (λ formula. scene_given places (λ tris. Writes (SolidFaces tris formula)) (λ tris meshes is. (meshes, is))
+    (map told files) (few_told told files l.3.0))
+command_scene (command.Demo boxes workers) told l =
+    parse_scene (expr_of (codes "m1|m2") 2) (λ formula. Writes (SolidReport (scene_of boxes) formula))
+    (λ formula. (2, is_scene boxes l.0.1))
 command_scene (command.Voxels expr size workers places files) told l =
     parse_scene (expr_of expr (length (map told files))) _ (λ formula. scene_given places _ (λ tris meshes is. tt) (map told files) (few_told told files l.4.0))
 command_scene (command.Pairs workers places files) told l =
@@ -151,7 +188,9 @@ text_one (Writes output) one other s n a b = output_one output one other s a b
 text_one (Slices at bytes) one other s n a b = slice_one at bytes one other a b
 
 -- an input has one output
-pub input_one : (words : List (List ℕ)) (told : List ℕ → Option (List ℕ)) (one other : List ℕ) → told_verdict (command_of words) told ≢ Unknown → IsTextIfTold (told_verdict (command_of words) told) one → IsTextIfTold (told_verdict (command_of words) told) other → one ≡ other
+pub input_one : (words : List (List ℕ)) (told : List ℕ → Option (List ℕ)) (one other : List ℕ) →
+    told_verdict (command_of words) told ≢ Unknown → IsTextIfTold (told_verdict (command_of words) told) one →
+    IsTextIfTold (told_verdict (command_of words) told) other → one ≡ other
 input_one words told one other n a b =
     text_one (told_verdict (command_of words) told) one other (words_scene words told) n a b
 
@@ -165,19 +204,24 @@ line_one (SolidFaces tris formula) one other s a b =
 line_one (SolidReport tris formula) one other s a b = absurd a
 line_one (Lattice tris formula size) one other s a b = absurd a
 
-report_if_one : (asked : Bool) (verdict : Verdict) (one other : List ℕ) → HasScene verdict → verdict ≢ Unknown → IsReportOfVerdictIfAsked asked verdict one → IsReportOfVerdictIfAsked asked verdict other → one ≡ other
+report_if_one : (asked : Bool) (verdict : Verdict) (one other : List ℕ) → HasScene verdict → verdict ≢ Unknown →
+    IsReportOfVerdictIfAsked asked verdict one → IsReportOfVerdictIfAsked asked verdict other → one ≡ other
 report_if_one false verdict one other s n a b = a ∙ sym b
 report_if_one true Unknown one other s n a b = absurd (n refl)
 report_if_one true (Refused status) one other s n a b = absurd a
 report_if_one true (Writes output) one other s n a b = line_one output one other s a b
 report_if_one true (Slices at bytes) one other s n a b = absurd a
 
-err_text_one : (given : Option Command) (told : List ℕ → Option (List ℕ)) (status : Status) (one other : List ℕ) → HasScene (told_verdict given told) → told_verdict given told ≢ Unknown → IsErrText given told status one → IsErrText given told status other → one ≡ other
+err_text_one : (given : Option Command) (told : List ℕ → Option (List ℕ)) (status : Status) (one other : List ℕ) →
+    HasScene (told_verdict given told) → told_verdict given told ≢ Unknown → IsErrText given told status one →
+    IsErrText given told status other → one ≡ other
 err_text_one given told Done one other s n a b =
     report_if_one (asks_report given) (told_verdict given told) one other s n a b
 err_text_one given told status one other s n a b = a ∙ sym b
 
 -- an input and a status have one text on err
-pub err_one : (words : List (List ℕ)) (told : List ℕ → Option (List ℕ)) (status : Status) (one other : List ℕ) → told_verdict (command_of words) told ≢ Unknown → IsErrText (command_of words) told status one → IsErrText (command_of words) told status other → one ≡ other
+pub err_one : (words : List (List ℕ)) (told : List ℕ → Option (List ℕ)) (status : Status) (one other : List ℕ) →
+    told_verdict (command_of words) told ≢ Unknown → IsErrText (command_of words) told status one →
+    IsErrText (command_of words) told status other → one ≡ other
 err_one words told status one other n a b =
     err_text_one (command_of words) told status one other (words_scene words told) n a b

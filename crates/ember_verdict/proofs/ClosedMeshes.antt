@@ -17,4 +17,6 @@ pub balanced_file_is_closed : (tris : List Tri) (bytes : List ℕ) → IsBalance
 balanced_file_is_closed tris bytes balanced o faces file =
     let r = o.reads_back in
     let agree = subst (λ (fs : List Face). AxesAgreeOffScene tris fs) r.faces (λ a b p w clear _. axes_agree a b p tris balanced w clear) in
-    subst (λ (written : List WrittenFace). IsClosedSurface written) (face_file_is_read_once bytes (faces_of tris) faces r file) (closed_faces tris r.written (each_of IsOutlined r.written o.outlined) agree)
+    subst (λ (written : List WrittenFace). IsClosedSurface written)
+    (face_file_is_read_once bytes (faces_of tris) faces r file)
+    (closed_faces tris r.written (each_of IsOutlined r.written o.outlined) agree)

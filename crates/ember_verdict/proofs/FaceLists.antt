@@ -1,5 +1,7 @@
 -- Faces of a list of triangles, one triangle more.
-use Rattle.std.proofs.Common.{◌≡◌, ℕ, ◌+◌, ◌<◌, ◌≤◌, Bool, true, false, not, List, [], ◌∷◌, ◌++◌, length, take, get_or, map, filter, refl, sym, ap, ◌∙◌, append_assoc, length-append, subst, None, Some, if◌then◌else◌}
+use Rattle.std.proofs.Common.{◌≡◌, ℕ, ◌+◌, ◌<◌, ◌≤◌, Bool, true, false, not, List, [], ◌∷◌, ◌++◌, length, take, get_or}
+use Rattle.std.proofs.Common.{map, filter, refl, sym, ap, ◌∙◌, append_assoc, length-append, subst, None, Some}
+use Rattle.std.proofs.Common.{if◌then◌else◌}
 use Rattle.std.proofs.lemmas.List.{take_all, take_more, append-nil, length-map}
 use Rattle.ember_algebra.specs.Relations.{Each, none, more}
 use Rattle.ember_algebra.proofs.Relations.{each_append}
@@ -16,7 +18,10 @@ faces_of-append : (ts us : List Tri) → faces_of (ts ++ us) ≡ faces_of ts ++ 
 faces_of-append [] us = refl
 faces_of-append (t ∷ ts) us = by (is_flat t) (faces_of-append ts us)
   where
-    by : (b : Bool) → faces_of (ts ++ us) ≡ faces_of ts ++ faces_of us → map face_of (if not b then t ∷ filter (λ t. not (is_flat t)) (ts ++ us) else filter (λ t. not (is_flat t)) (ts ++ us)) ≡ map face_of (if not b then t ∷ filter (λ t. not (is_flat t)) ts else filter (λ t. not (is_flat t)) ts) ++ faces_of us
+    by : (b : Bool) → faces_of (ts ++ us) ≡ faces_of ts ++ faces_of us →
+        map face_of (if not b then t ∷ filter (λ t. not (is_flat t)) (ts ++ us) else filter (λ t. not (is_flat t))
+        (ts ++ us)) ≡ map face_of (if not b then t
+        ∷ filter (λ t. not (is_flat t)) ts else filter (λ t. not (is_flat t)) ts) ++ faces_of us
     by true e = e
     by false e = ap (λ (fs : List Face). face_of t ∷ fs) e
 
@@ -25,7 +30,9 @@ pub no_texts : HasTexts [] header 0
 no_texts = record { texts = []; are_texts = none; read_back = nothing_back; is = refl; count_is = refl }
 
 -- one more triangle's face
-pub more_texts : (ts : List Tri) (i : ℕ) (d : Tri) (added : ℕ) (old new : List ℕ) (count : ℕ) → i < length ts → HasTexts (take i ts) old count → AddsFace (get_or ts i d) added old new → HasTexts (take (i + 1) ts) new (count + added)
+pub more_texts : (ts : List Tri) (i : ℕ) (d : Tri) (added : ℕ) (old new : List ℕ) (count : ℕ) → i < length ts →
+    HasTexts (take i ts) old count → AddsFace (get_or ts i d) added old new →
+    HasTexts (take (i + 1) ts) new (count + added)
 more_texts ts i d added old new count l h a =
     let t = get_or ts i d in
     let e : faces_of (take (i + 1) ts) ≡ faces_of (take i ts) ++ faces_of (t ∷ []) = ap faces_of (take_more ts i d l) ∙ faces_of-append (take i ts) (t ∷ []) in
@@ -42,7 +49,8 @@ all_texts ts bytes count h =
     record {
       texts = h.texts;
       are_texts = h.are_texts;
-      is = ap (λ (front : List ℕ). front ++ ending count) h.is ∙ append_assoc header h.texts (ending count) ∙ ap (λ (n : ℕ). header ++ (h.texts ++ ending n)) (sym h.count_is);
+      is = ap (λ (front : List ℕ). front ++ ending count) h.is ∙ append_assoc header h.texts (ending count)
+          ∙ ap (λ (n : ℕ). header ++ (h.texts ++ ending n)) (sym h.count_is);
     }
 
 ended : (ts : List Tri) (bytes : List ℕ) (count : ℕ) → HasTexts ts bytes count → IsFaceFileOf ts (bytes ++ ending count)
@@ -51,12 +59,20 @@ ended ts bytes count h =
     let number : count ≡ length r.written = sym h.count_is ∙ ap (λ (fs : List Face). length fs) r.faces ∙ length-map r.written written_face in
     record {
       text = all_texts ts bytes count h;
-      reads_back = record { written = r.written; well_formed = r.well_formed; is = (λ i. h.is i ++ ending (number i)) ∙ ap (λ (x : List ℕ). header ++ x ++ ending (length r.written)) r.is; faces = r.faces };
+      reads_back = record {
+        written = r.written;
+        well_formed = r.well_formed;
+        is =
+            (λ i. h.is i ++ ending (number i)) ∙ ap (λ (x : List ℕ). header ++ x ++ ending (length r.written)) r.is;
+        faces =
+            r.faces;
+      };
       outlined = r.outlined;
     }
 
 -- after the last triangle, the last line makes the text a face file
-pub face_file : (ts : List Tri) (i : ℕ) (bytes file : List ℕ) (count : ℕ) → length ts ≤ i → HasTexts (take i ts) bytes count → file ≡ bytes ++ ending count → IsFaceFileOf ts file
+pub face_file : (ts : List Tri) (i : ℕ) (bytes file : List ℕ) (count : ℕ) → length ts ≤ i →
+    HasTexts (take i ts) bytes count → file ≡ bytes ++ ending count → IsFaceFileOf ts file
 face_file ts i bytes file count l h e =
     subst (λ (file : List ℕ). IsFaceFileOf ts file) (sym e) (ended ts bytes count (subst (λ (ts : List Tri). HasTexts ts bytes count) (take_all i ts l) h))
 

@@ -29,7 +29,9 @@ contents_count told (name ∷ names) [] h = absurd h
 contents_count told (name ∷ names) (bytes ∷ contents) h = ap suc (contents_count told names contents h.1)
 
 -- contents of these files and of those are contents of all
-pub contents_joined : (told : List ℕ → Option (List ℕ)) (names more contents others : List (List ℕ)) → AreContentsOf told names contents → AreContentsOf told more others → AreContentsOf told (names ++ more) (contents ++ others)
+pub contents_joined : (told : List ℕ → Option (List ℕ)) (names more contents others : List (List ℕ)) →
+    AreContentsOf told names contents → AreContentsOf told more others →
+    AreContentsOf told (names ++ more) (contents ++ others)
 contents_joined told [] more [] others h k = k
 contents_joined told [] more (bytes ∷ contents) others h k = absurd h
 contents_joined told (name ∷ names) more [] others h k = absurd h
@@ -37,22 +39,27 @@ contents_joined told (name ∷ names) more (bytes ∷ contents) others h k =
     (h.0, contents_joined told names more contents others h.1 k)
 
 -- what holds of any contents holds of some that the files may have
-pub held_always : (told : List ℕ → Option (List ℕ)) (names : List (List ℕ)) (P : Contents → Type 0) → ((contents : Contents) → length contents ≡ length names → P contents) → MayHold told names P
+pub held_always : (told : List ℕ → Option (List ℕ)) (names : List (List ℕ)) (P : Contents → Type 0) →
+    ((contents : Contents) → length contents ≡ length names → P contents) → MayHold told names P
 held_always told names P holds =
     let contents = map (λ name. told_or_empty (told name)) names in let are = some_contents told names in
     (contents, are, holds (map Some contents) (length-map contents Some ∙ contents_count told names contents are))
 
 -- what follows from contents that the files may have
-pub held_then : (told : List ℕ → Option (List ℕ)) (names : List (List ℕ)) (P Q : Contents → Type 0) → ((contents : Contents) → length contents ≡ length names → P contents → Q contents) → MayHold told names P → MayHold told names Q
+pub held_then : (told : List ℕ → Option (List ℕ)) (names : List (List ℕ)) (P Q : Contents → Type 0) →
+    ((contents : Contents) → length contents ≡ length names → P contents → Q contents) → MayHold told names P →
+    MayHold told names Q
 held_then told names P Q follows h =
     (h.0, h.1, follows (map Some h.0) (length-map h.0 Some ∙ contents_count told names h.0 h.1) h.2)
 
 -- the same for one file
-pub held_one_then : (told : Option (List ℕ)) (P Q : Option (List ℕ) → Type 0) → ((content : Option (List ℕ)) → P content → Q content) → MayHoldOne told P → MayHoldOne told Q
+pub held_one_then : (told : Option (List ℕ)) (P Q : Option (List ℕ) → Type 0) →
+    ((content : Option (List ℕ)) → P content → Q content) → MayHoldOne told P → MayHoldOne told Q
 held_one_then told P Q follows h = (h.0, h.1, follows (Some h.0) h.2)
 
 -- one file is all files of a command that has one
-pub held_only : (told : List ℕ → Option (List ℕ)) (name : List ℕ) (P : Option (List ℕ) → Type 0) → MayHoldOne (told name) P → MayHold told (name ∷ []) (λ contents. P (file_at contents 1))
+pub held_only : (told : List ℕ → Option (List ℕ)) (name : List ℕ) (P : Option (List ℕ) → Type 0) →
+    MayHoldOne (told name) P → MayHold told (name ∷ []) (λ contents. P (file_at contents 1))
 held_only told name P h = (h.0 ∷ [], (h.1, tt), h.2)
 
 -- some bytes are more than n

@@ -1,5 +1,6 @@
 -- Why a command has no answer, step by step.
-use Rattle.std.proofs.Common.{◌≡◌, ◌≢◌, ℕ, ◌-◌, zero, suc, Bool, true, false, List, [], ◌∷◌, length, map, Some, None, Result, Ok, Err, IfErr, refl, sym, ap, subst, arith, ◌∙◌}
+use Rattle.std.proofs.Common.{◌≡◌, ◌≢◌, ℕ, ◌-◌, zero, suc, Bool, true, false, List, [], ◌∷◌, length, map, Some, None}
+use Rattle.std.proofs.Common.{Result, Ok, Err, IfErr, refl, sym, ap, subst, arith, ◌∙◌}
 use Rattle.std.proofs.lemmas.List.{length-map}
 use Rattle.std.specs.declared.option.Option.{Option}
 use Rattle.ember_expr.specs.declared.fault.ExprFault.{ExprFault}
@@ -15,7 +16,9 @@ use Rattle.ember_verdict.specs.Verdict.{Contents, Verdict, Unknown, Refused, aft
 use Rattle.ember_verdict.proofs.HeldContents.{held_always, held_then}
 use Rattle.ember_verdict.specs.declared.status.LimitKind.TheVariants.{Triangles}
 use Rattle.ember_verdict.specs.declared.status.Status.{Status}
-use Rattle.ember_verdict.specs.declared.status.Status.TheVariants.{Done, Words, ReadFault, WriteFault, ObjRefused, MeshRefused, ExprRefused, Unbounded, Limit, NotClear, FaceRefused, OutOfMemory}
+use Rattle.ember_verdict.specs.declared.status.Status.TheVariants.{Done, Words, ReadFault, WriteFault, ObjRefused}
+use Rattle.ember_verdict.specs.declared.status.Status.TheVariants.{MeshRefused, ExprRefused, Unbounded, Limit, NotClear}
+use Rattle.ember_verdict.specs.declared.status.Status.TheVariants.{FaceRefused, OutOfMemory}
 
 -- ---- kinds of statuses
 pub before_is_refusal : (status : Status) → is_before_files status ≡ true → is_refusal status ≡ true
@@ -150,17 +153,24 @@ memory_is_no_reply_to_any verdict names shelf = record {
   never = (λ e. absurd (cc), λ e. absurd (cc), λ e. absurd (cc));
 }
 
-memory_is_no_reply : (verdict : Contents → Verdict) (names : List (List ℕ)) (shelf : ShelfCall) (status : Status) → status ≡ OutOfMemory → IsNoReply verdict names shelf status
-memory_is_no_reply verdict names shelf status e = subst (λ (status : Status). IsNoReply verdict names shelf status) (sym e) (memory_is_no_reply_to_any verdict names shelf)
+memory_is_no_reply : (verdict : Contents → Verdict) (names : List (List ℕ)) (shelf : ShelfCall) (status : Status) →
+    status ≡ OutOfMemory → IsNoReply verdict names shelf status
+memory_is_no_reply verdict names shelf status e =
+    subst (λ (status : Status). IsNoReply verdict names shelf status) (sym e)
+    (memory_is_no_reply_to_any verdict names shelf)
 
 -- out-of-memory may stop a scene
-pub memory_is_no_scene : {A : Type 0} (places : ℕ) (names : List (List ℕ)) (shelf : ShelfCall) (result : Result A Status) → IfErr result (λ status. status ≡ OutOfMemory) → IfErr result (IsNoScene places names shelf)
+pub memory_is_no_scene : {A : Type 0} (places : ℕ) (names : List (List ℕ)) (shelf : ShelfCall)
+    (result : Result A Status) → IfErr result (λ status. status ≡ OutOfMemory) →
+    IfErr result (IsNoScene places names shelf)
 memory_is_no_scene places names shelf (Ok value) e = tt
 memory_is_no_scene places names shelf (Err status) e = λ next. memory_is_no_reply (λ contents. after_scene places contents next) names shelf status e
 
 -- out-of-memory may stop an expression
 pub memory_is_no_reply_to_expression : (verdict : Verdict) (status : Status) → status ≡ OutOfMemory → IsNoReplyToExpression verdict status
-memory_is_no_reply_to_expression verdict status e = subst (λ (status : Status). IsNoReplyToExpression verdict status) (sym e) (record { refused = λ r. absurd (cc); of_expression = tt })
+memory_is_no_reply_to_expression verdict status e =
+    subst (λ (status : Status). IsNoReplyToExpression verdict status) (sym e)
+    (record { refused = λ r. absurd (cc); of_expression = tt })
 
 -- ---- lengths
 pub length_told : (n : ℕ) (contents : Contents) → length (first_told n contents) ≡ length contents
@@ -182,13 +192,19 @@ length_others (suc n) (c ∷ contents) (o ∷ others) e = ap suc (length_others 
 abbrev pub asks : {T : Type 0} → (ℕ → (T → Verdict) → Verdict) → (ℕ → T → List Tri → Verdict) → ℕ → Contents → Verdict
 asks after next places contents = after (length contents) (λ t. after_scene places contents (next (length contents) t))
 
-expression_refuses : {T : Type 0} (after : ℕ → (T → Verdict) → Verdict) (next : ℕ → T → List Tri → Verdict) (places m : ℕ) (status : Status) → ((then : T → Verdict) → IsNoReplyToExpression (after m then) status) → is_refusal status ≡ true → (contents : Contents) → length contents ≡ m → asks after next places contents ≡ Refused status
+expression_refuses : {T : Type 0} (after : ℕ → (T → Verdict) → Verdict) (next : ℕ → T → List Tri →
+    Verdict) (places m : ℕ) (status : Status) → ((then : T → Verdict) → IsNoReplyToExpression (after m then) status) →
+    is_refusal status ≡ true → (contents : Contents) → length contents ≡ m →
+    asks after next places contents ≡ Refused status
 expression_refuses after next places m status no_reply r contents e =
     subst (λ (n : ℕ). after n (λ t. after_scene places contents (next (length contents) t)) ≡ Refused status) (sym e)
     ((no_reply (λ t. after_scene places contents (next (length contents) t))).refused r)
 
 -- a missing reply that rests on the expression is one of the command
-pub expression_is_no_reply : {T : Type 0} (after : ℕ → (T → Verdict) → Verdict) (next : ℕ → T → List Tri → Verdict) (places m : ℕ) (names : List (List ℕ)) (shelf : ShelfCall) (status : Status) → length names ≡ m → ((then : T → Verdict) → IsNoReplyToExpression (after m then) status) → IsNoReply (asks after next places) names shelf status
+pub expression_is_no_reply : {T : Type 0} (after : ℕ → (T → Verdict) → Verdict) (next : ℕ → T → List Tri →
+    Verdict) (places m : ℕ) (names : List (List ℕ)) (shelf : ShelfCall) (status : Status) → length names ≡ m →
+    ((then : T → Verdict) → IsNoReplyToExpression (after m then) status) →
+    IsNoReply (asks after next places) names shelf status
 expression_is_no_reply after next places m names shelf status count no_reply =
     let contents = map shelf.told names in
     let all = length-map names shelf.told ∙ count in
@@ -197,20 +213,28 @@ expression_is_no_reply after next places m names shelf status count no_reply =
       refused = λ r. subst (λ (v : Verdict). IsRefusalIfTold status v) (sym (expression_refuses after next places m status no_reply r contents all)) refl;
       refused_read = λ r.
           held_always shelf.told names (λ contents. IsRefusalIfTold status (asks after next places contents))
-          (λ contents l. subst (λ (v : Verdict). IsRefusalIfTold status v) (sym (expression_refuses after next places m status no_reply r contents (l ∙ count))) refl);
-      before_files = λ b. expression_refuses after next places m status no_reply (before_is_refusal status b) (first_told 0 contents) (length_told 0 contents ∙ all);
+          (λ contents l. subst (λ (v : Verdict). IsRefusalIfTold status v)
+          (sym (expression_refuses after next places m status no_reply r contents (l ∙ count))) refl);
+      before_files = λ b. expression_refuses after next places m status no_reply (before_is_refusal status b)
+          (first_told 0 contents) (length_told 0 contents ∙ all);
       in_file = λ i e. absurd (expression_no_file status i kind e);
       one_of = λ i e. absurd (expression_no_file status i kind e);
       read_fault = λ i e. absurd (subst (λ (status : Status). IsOfExpression status) e kind);
       memory = expression_memory status kind;
-      never = (λ e. subst (λ (status : Status). IsOfExpression status) e kind, λ e. subst (λ (status : Status). IsOfExpression status) e kind, λ e. subst (λ (status : Status). IsOfExpression status) e kind);
+      never = (
+        λ e. subst (λ (status : Status). IsOfExpression status) e kind,
+        λ e. subst (λ (status : Status). IsOfExpression status) e kind,
+        λ e. subst (λ (status : Status). IsOfExpression status) e kind,
+      );
     }
 
 -- so is one of a command without files
-pub expression_alone_is_no_reply : (verdict : Verdict) (names : List (List ℕ)) (shelf : ShelfCall) (status : Status) → IsNoReplyToExpression verdict status → IsNoReply (λ contents. verdict) names shelf status
+pub expression_alone_is_no_reply : (verdict : Verdict) (names : List (List ℕ)) (shelf : ShelfCall) (status : Status) →
+    IsNoReplyToExpression verdict status → IsNoReply (λ contents. verdict) names shelf status
 expression_alone_is_no_reply verdict names shelf status no_reply =
     let kind = no_reply.of_expression in
-    let is : is_refusal status ≡ true → IsRefusalIfTold status verdict = λ r. subst (λ (v : Verdict). IsRefusalIfTold status v) (sym (no_reply.refused r)) refl in
+    let is : is_refusal status ≡ true → IsRefusalIfTold status verdict =
+    λ r. subst (λ (v : Verdict). IsRefusalIfTold status v) (sym (no_reply.refused r)) refl in
     record {
       refused = is;
       refused_read = λ r. held_always shelf.told names (λ contents. IsRefusalIfTold status verdict) (λ contents l. is r);
@@ -219,15 +243,25 @@ expression_alone_is_no_reply verdict names shelf status no_reply =
       one_of = λ i e. absurd (expression_no_file status i kind e);
       read_fault = λ i e. absurd (subst (λ (status : Status). IsOfExpression status) e kind);
       memory = expression_memory status kind;
-      never = (λ e. subst (λ (status : Status). IsOfExpression status) e kind, λ e. subst (λ (status : Status). IsOfExpression status) e kind, λ e. subst (λ (status : Status). IsOfExpression status) e kind);
+      never = (
+        λ e. subst (λ (status : Status). IsOfExpression status) e kind,
+        λ e. subst (λ (status : Status). IsOfExpression status) e kind,
+        λ e. subst (λ (status : Status). IsOfExpression status) e kind,
+      );
     }
 
-scene_asked : {T : Type 0} (after : ℕ → (T → Verdict) → Verdict) (next : ℕ → T → List Tri → Verdict) (places m : ℕ) (t : T) → ((then : T → Verdict) → after m then ≡ then t) → (contents : Contents) → length contents ≡ m → asks after next places contents ≡ after_scene places contents (next m t)
+scene_asked : {T : Type 0} (after : ℕ → (T → Verdict) → Verdict) (next : ℕ → T → List Tri →
+    Verdict) (places m : ℕ) (t : T) → ((then : T → Verdict) → after m then ≡ then t) → (contents : Contents) →
+    length contents ≡ m → asks after next places contents ≡ after_scene places contents (next m t)
 scene_asked after next places m t given contents e =
-    subst (λ (n : ℕ). after n (λ t. after_scene places contents (next n t)) ≡ after_scene places contents (next m t)) (sym e) (given (λ t. after_scene places contents (next m t)))
+    subst (λ (n : ℕ). after n (λ t. after_scene places contents (next n t)) ≡ after_scene places contents (next m t))
+    (sym e) (given (λ t. after_scene places contents (next m t)))
 
 -- a missing reply that rests on the files of the scene is one of the command
-pub scene_is_no_reply : {T : Type 0} (after : ℕ → (T → Verdict) → Verdict) (next : ℕ → T → List Tri → Verdict) (places m : ℕ) (names : List (List ℕ)) (shelf : ShelfCall) (status : Status) (t : T) → length names ≡ m → ((then : T → Verdict) → after m then ≡ then t) → IsNoScene places names shelf status → IsNoReply (asks after next places) names shelf status
+pub scene_is_no_reply : {T : Type 0} (after : ℕ → (T → Verdict) → Verdict) (next : ℕ → T → List Tri →
+    Verdict) (places m : ℕ) (names : List (List ℕ)) (shelf : ShelfCall) (status : Status) (t : T) → length names ≡ m →
+    ((then : T → Verdict) → after m then ≡ then t) → IsNoScene places names shelf status →
+    IsNoReply (asks after next places) names shelf status
 scene_is_no_reply after next places m names shelf status t count given no_reply =
     let contents = map shelf.told names in
     let all = length-map names shelf.told in
@@ -235,18 +269,32 @@ scene_is_no_reply after next places m names shelf status t count given no_reply 
     record {
       refused = λ r. subst (λ (v : Verdict). IsRefusalIfTold status v) (sym (scene_asked after next places m t given contents (all ∙ count))) (s.refused r);
       refused_read = λ r.
-          held_then shelf.told names (λ contents. IsRefusalIfTold status (after_scene places contents (next m t))) (λ contents. IsRefusalIfTold status (asks after next places contents))
-          (λ contents l h. subst (λ (v : Verdict). IsRefusalIfTold status v) (sym (scene_asked after next places m t given contents (l ∙ count))) h) (s.refused_read r);
+          held_then shelf.told names (λ contents. IsRefusalIfTold status (after_scene places contents (next m t)))
+          (λ contents. IsRefusalIfTold status (asks after next places contents))
+          (λ contents l h. subst (λ (v : Verdict). IsRefusalIfTold status v)
+          (sym (scene_asked after next places m t given contents (l ∙ count))) h) (s.refused_read r);
       before_files = λ b. scene_asked after next places m t given (first_told 0 contents) (length_told 0 contents ∙ all ∙ count) ∙ s.before_files b;
-      in_file = λ i e others l. subst (λ (v : Verdict). IsRefusalIfTold status v) (sym (scene_asked after next places m t given (with_others i contents others) (length_others i contents others (l ∙ sym all) ∙ all ∙ count))) (s.in_file i e others l);
+      in_file = λ i e others l. subst (λ (v : Verdict). IsRefusalIfTold status v)
+          (sym (scene_asked after next places m t given (with_others i contents others)
+          (length_others i contents others (l ∙ sym all) ∙ all ∙ count))) (s.in_file i e others l);
       one_of = s.one_of;
-      read_fault = λ i e. let f = s.read_fault i e in (f.0, f.1, scene_asked after next places m t given (first_told (i - 1) contents) (length_told (i - 1) contents ∙ all ∙ count) ∙ f.2, f.3);
+      read_fault = λ i e. let f = s.read_fault i e in (
+        f.0,
+        f.1,
+        scene_asked after next places m t given (first_told (i - 1) contents)
+            (length_told (i - 1) contents ∙ all ∙ count) ∙ f.2,
+        f.3,
+      );
       memory = s.memory;
       never = s.never;
     }
 
 -- ---- statuses after all files
-pub after_no_reply : (verdict : Contents → Verdict) (names : List (List ℕ)) (shelf : ShelfCall) (status : Status) → IsAfterFiles status → (is_refusal status ≡ true → IsRefusalIfTold status (verdict (map shelf.told names))) → (is_refusal status ≡ true → MayHold shelf.told names (λ contents. IsRefusalIfTold status (verdict contents))) → ((i : ℕ) → status ≢ ReadFault i) → (status ≢ Done) × (status ≢ Words) × (status ≢ WriteFault) → IsNoReply verdict names shelf status
+pub after_no_reply : (verdict : Contents → Verdict) (names : List (List ℕ)) (shelf : ShelfCall) (status : Status) →
+    IsAfterFiles status → (is_refusal status ≡ true → IsRefusalIfTold status (verdict (map shelf.told names))) →
+    (is_refusal status ≡ true → MayHold shelf.told names (λ contents. IsRefusalIfTold status (verdict contents))) →
+    ((i : ℕ) → status ≢ ReadFault i) → (status ≢ Done) × (status ≢ Words) × (status ≢ WriteFault) →
+    IsNoReply verdict names shelf status
 after_no_reply verdict names shelf status kind refused refused_read no_read_fault never = record {
   refused = refused;
   refused_read = refused_read;

@@ -29,7 +29,9 @@ module _ (ts : List Tri) (none : least_of (edges_in ts) (filter (is_loose (edges
       by : (b : Bool) → is_loose (edges_in ts) e ≡ b → edge_count e (edges_in ts) ≤ edge_count (reversed e) (edges_in ts)
       by true q =
           let less = ltb-true (edge_count (reversed e) (edges_in ts)) (edge_count e (edges_in ts)) q in
-          absurd (some_pass (is_loose (edges_in ts)) e (edges_in ts) q (member_from_times e (edges_in ts) (omega (arith, less))) (none_least (edges_in ts) (filter (is_loose (edges_in ts)) (edges_in ts)) none))
+          absurd (some_pass (is_loose (edges_in ts)) e (edges_in ts) q
+          (member_from_times e (edges_in ts) (omega (arith, less)))
+          (none_least (edges_in ts) (filter (is_loose (edges_in ts)) (edges_in ts)) none))
       by false q = ltb-false (edge_count (reversed e) (edges_in ts)) (edge_count e (edges_in ts)) q
 
   none_loose : IsBalanced ts

@@ -81,7 +81,9 @@ module _ (tris : List Tri) (formula : Formula) (file : List ℕ) (is : IsSolidFi
 
   -- ---- points
   -- the value that is written for a point is how often the faces wind there
-  pub value_of_faces : (faces : List Face) → IsFaceFile file faces → (p : Spot) (meshes : ℕ) (text : List ℕ) → pos 0 <ℤ p.w → list_all (λ t. is_clear_of t p) tris ≡ true → IsOutput (Counts p meshes tris (Some formula)) text → ValueIsOfFaces text faces p
+  pub value_of_faces : (faces : List Face) → IsFaceFile file faces → (p : Spot) (meshes : ℕ) (text : List ℕ) →
+      pos 0 <ℤ p.w → list_all (λ t. is_clear_of t p) tris ≡ true → IsOutput (Counts p meshes tris (Some formula)) text →
+      ValueIsOfFaces text faces p
   value_of_faces faces read p meshes text weight taken output =
       let clear = clear_faces tris p weight taken in record {
         value = truth (vector X tris p) formula;
@@ -111,16 +113,28 @@ module _ (tris : List Tri) (formula : Formula) (file : List ℕ) (is : IsSolidFi
     pub bits_of_faces_nearby : (faces : List Face) → IsFaceFile file faces → BitsAreOfFacesNearby size lattice.rows faces
     bits_of_faces_nearby faces read i j l c =
         let lo = least_corner size i j l in
-        eventually_map (λ k h. λ axis. h axis X ∙ ap one_if (bit_is i j l c)) (solid_nearby_as_here faces read (reference_at lo) (weight_at lo) (clear_references lo tris scene.valid))
+        eventually_map (λ k h. λ axis. h axis X ∙ ap one_if (bit_is i j l c))
+        (solid_nearby_as_here faces read (reference_at lo) (weight_at lo) (clear_references lo tris scene.valid))
 
 -- ---- expressions
-module _ (tris : List Tri) (meshes : ℕ) (f g : Formula) (one other : List ℕ) (scene : IsScene tris meshes) (a : IsSolidFile tris f one) (b : IsSolidFile tris g other) where
+module _ (tris : List Tri) (meshes : ℕ) (f g : Formula) (one other : List ℕ) (scene : IsScene tris meshes)
+    (a : IsSolidFile tris f one) (b : IsSolidFile tris g other) where
   -- expressions that agree have one document
   pub agreeing_solids_are_one : AgreeOver tris f g → one ≡ other
   agreeing_solids_are_one agree =
-      solid_one tris meshes scene g one other (record { kept = a.text.kept; report = run_report (shape tris g) (root_job tris) (length a.text.kept); solid = record { written = same_written tris f g agree a.text.kept a.text.solid.written; report_is = refl }; text = a.text.text }) b.text
+      solid_one tris meshes scene g one other (record {
+        kept = a.text.kept;
+        report =
+            run_report (shape tris g) (root_job tris) (length a.text.kept);
+        solid =
+            record { written = same_written tris f g agree a.text.kept a.text.solid.written; report_is = refl };
+        text =
+            a.text.text;
+      }) b.text
 
   -- expressions with one document agree
   pub one_solid_agrees : one ≡ other → AgreeOver tris f g
   one_solid_agrees same =
-      meanings_agree tris f g a.reads.read.written a.reads.outlined (written_mean tris f one a) (subst (HaveMeaning tris g) a.reads.read.faces (b.means a.reads.faces (subst (λ (bytes : List ℕ). IsFaceFile bytes a.reads.faces) same a.reads.read)))
+      meanings_agree tris f g a.reads.read.written a.reads.outlined (written_mean tris f one a)
+      (subst (HaveMeaning tris g) a.reads.read.faces
+      (b.means a.reads.faces (subst (λ (bytes : List ℕ). IsFaceFile bytes a.reads.faces) same a.reads.read)))

@@ -33,7 +33,8 @@ use Rattle.ember_verdict.proofs.OneReading.{one_reading}
 -- ---- solids
 document_one : (faces : List Face) (one other : List ℕ) → IsDocumentText faces one → IsDocumentText faces other → one ≡ other
 document_one faces one other a b =
-    a.is ∙ ap (λ texts. header ++ (texts ++ ending (length faces))) (each_unique (λ f xs ys x y. text_one f xs ys x.text_is y.text_is) a.are_texts b.are_texts) ∙ sym b.is
+    a.is ∙ ap (λ texts. header ++ (texts ++ ending (length faces)))
+    (each_unique (λ f xs ys x y. text_one f xs ys x.text_is y.text_is) a.are_texts b.are_texts) ∙ sym b.is
 
 module _ (tris : List Tri) (meshes : ℕ) (scene : IsScene tris meshes) (formula : Formula) where
   kept_one : (us vs : List Kept) → IsWritten tris formula us → IsWritten tris formula vs → us ≡ vs
@@ -49,7 +50,9 @@ module _ (tris : List Tri) (meshes : ℕ) (scene : IsScene tris meshes) (formula
   pub report_one : (one other : List ℕ) → IsReportText tris formula one → IsReportText tris formula other → one ≡ other
   report_one one other a b =
       let same = kept_one a.kept b.kept a.solid.written b.solid.written in
-      a.text ∙ ap report_line_of (a.solid.report_is ∙ ap (λ (kept : List Kept). run_report (shape tris formula) (root_job tris) (length kept)) same ∙ sym b.solid.report_is) ∙ sym b.text
+      a.text ∙ ap report_line_of (a.solid.report_is
+      ∙ ap (λ (kept : List Kept). run_report (shape tris formula) (root_job tris) (length kept)) same
+      ∙ sym b.solid.report_is) ∙ sym b.text
 
 -- ---- pairs
 at_pair_one : (ts : List Tri) (p : Pair) (ps qs : List Pair) → AtPair ts p ps → AtPair ts p qs → ps ≡ qs

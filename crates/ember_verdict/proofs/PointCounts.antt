@@ -1,5 +1,6 @@
 -- Winding numbers at a clear point, counted from nothing.
-use Rattle.std.proofs.Common.{◌≡◌, ◌↔◌, ℕ, zero, suc, ◌+◌, ◌<◌, ◌≤◌, Bool, true, false, ◌&&◌, IsTrue, List, [], ◌∷◌, length, drop, get_or, replicate, All, ℤ, pos, ◌+ℤ◌, ◌<ℤ◌, refl, sym, ap, arith}
+use Rattle.std.proofs.Common.{◌≡◌, ◌↔◌, ℕ, zero, suc, ◌+◌, ◌<◌, ◌≤◌, Bool, true, false, ◌&&◌, IsTrue, List, [], ◌∷◌}
+use Rattle.std.proofs.Common.{length, drop, get_or, replicate, All, ℤ, pos, ◌+ℤ◌, ◌<ℤ◌, refl, sym, ap, arith}
 use Rattle.std.specs.List.{list_all}
 use Rattle.std.proofs.lemmas.List.{drop_more}
 use Rattle.std.proofs.lemmas.List.Elements.{All-cons, All-nil}
@@ -26,7 +27,8 @@ clear_same false t p w h = by (is_clear_of t p) refl
     by true e = h.1 (clear_of_from t p w e)
 
 -- a test of all items is that of the next one and of the rest
-pub all_more : {X : Type 0} (test : X → Bool) (xs : List X) (i : ℕ) (d : X) → i < length xs → list_all test (drop i xs) ≡ (test (get_or xs i d) && list_all test (drop (i + 1) xs))
+pub all_more : {X : Type 0} (test : X → Bool) (xs : List X) (i : ℕ) (d : X) → i < length xs →
+    list_all test (drop i xs) ≡ (test (get_or xs i d) && list_all test (drop (i + 1) xs))
 all_more test xs i d l = ap (list_all test) (drop_more xs i d l)
 
 -- ---- counts

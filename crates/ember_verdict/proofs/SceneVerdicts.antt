@@ -19,7 +19,9 @@ ExprRead after m formula = (next : Formula → Verdict) → after m next ≡ nex
 
 -- ---- pairs
 -- the pairs of the scene are the output of `pairs`
-pub pairs_listed : (places : ℕ) (contents : Contents) (tris : List Tri) (bytes : List ℕ) → ((next : List Tri → Verdict) → IsSameIfTold (after_scene places contents next) (next tris)) → IsPairsText tris bytes → IsTextIfTold (pairs_verdict places contents) bytes
+pub pairs_listed : (places : ℕ) (contents : Contents) (tris : List Tri) (bytes : List ℕ) →
+    ((next : List Tri → Verdict) → IsSameIfTold (after_scene places contents next) (next tris)) → IsPairsText tris bytes →
+    IsTextIfTold (pairs_verdict places contents) bytes
 pairs_listed places contents tris bytes scene is =
     text_then bytes (pairs_verdict places contents) (Writes (MeetingPairs tris)) (scene (λ tris. Writes (MeetingPairs tris))) is
 
@@ -30,13 +32,17 @@ module _ (after : ℕ → (Formula → Verdict) → Verdict) (places m : ℕ) (c
   after_read formula next given = subst (λ (n : ℕ). after n next ≡ next formula) (sym count) (given next)
 
   -- the output for a scene and an expression is that for the files and the text that were read as these
-  pub scene_text : (formula : Formula) (tris : List Tri) (bytes : List ℕ) (next : Formula → List Tri → Verdict) → ExprRead after m formula → SceneRead places contents tris → IsTextIfTold (next formula tris) bytes → IsTextIfTold (after (length contents) (λ formula. after_scene places contents (next formula))) bytes
+  pub scene_text : (formula : Formula) (tris : List Tri) (bytes : List ℕ) (next : Formula → List Tri → Verdict) →
+      ExprRead after m formula → SceneRead places contents tris → IsTextIfTold (next formula tris) bytes →
+      IsTextIfTold (after (length contents) (λ formula. after_scene places contents (next formula))) bytes
   scene_text formula tris bytes next given scene is =
       subst (λ (v : Verdict). IsTextIfTold v bytes) (sym (after_read formula (λ formula. after_scene places contents (next formula)) given))
       (text_then bytes (after_scene places contents (next formula)) (next formula tris) (scene (next formula)) is)
 
 -- ---- a lattice
 -- the text of the lattice is the output of `voxels`
-pub lattice_sampled : (expr : List ℕ) (size places m : ℕ) (contents : Contents) (formula : Formula) (tris : List Tri) (bytes : List ℕ) → length contents ≡ m → ExprRead (after_expr expr) m formula → SceneRead places contents tris → IsLatticeText tris formula size bytes → IsTextIfTold (voxels_verdict expr size places contents) bytes
+pub lattice_sampled : (expr : List ℕ) (size places m : ℕ) (contents : Contents) (formula : Formula) (tris : List Tri)
+    (bytes : List ℕ) → length contents ≡ m → ExprRead (after_expr expr) m formula → SceneRead places contents tris →
+    IsLatticeText tris formula size bytes → IsTextIfTold (voxels_verdict expr size places contents) bytes
 lattice_sampled expr size places m contents formula tris bytes count given scene is =
     scene_text (after_expr expr) places m contents count formula tris bytes (λ formula tris. Writes (Lattice tris formula size)) given scene is

@@ -1,5 +1,6 @@
 -- A file's slice and its faults exclude one another, and it has one fault.
-use Rattle.std.proofs.Common.{◌≡◌, ◌⊎◌, inl, inr, ℕ, zero, suc, ◌+◌, ◌<◌, true, List, [], ◌∷◌, Some, None, ℤ, pos, ◌+ℤ◌, ◌-ℤ◌, ◌*ℤ◌, refl, sym, ap, subst, ◌∙◌, arith}
+use Rattle.std.proofs.Common.{◌≡◌, ◌⊎◌, inl, inr, ℕ, zero, suc, ◌+◌, ◌<◌, true, List, [], ◌∷◌, Some, None, ℤ, pos, ◌+ℤ◌}
+use Rattle.std.proofs.Common.{◌-ℤ◌, ◌*ℤ◌, refl, sym, ap, subst, ◌∙◌, arith}
 use Rattle.std.specs.Prelude.{slice_get}
 use Rattle.std.specs.declared.option.Option.{Option}
 use Rattle.ember_algebra.specs.Relations.{Each, more}
@@ -10,7 +11,8 @@ use Rattle.ember_model.specs.declared.plane.Plane.{Plane}
 use Rattle.ember_model.specs.declared.point.Spot.{Spot}
 use Rattle.ember_model.proofs.SignTests.{and_parts, clash, negative_out}
 use Rattle.ember_slice.specs.Lines.{IsFlat, ahead, is_before, is_on_line}
-use Rattle.ember_slice.specs.Segments.{Directed, GivesSegments, GivesNone, IsUnboundedBack, IsUnboundedAhead, IsEndless, IsFirstEndless, IsSegment, IsSliceText, is_cut}
+use Rattle.ember_slice.specs.Segments.{Directed, GivesSegments, GivesNone, IsUnboundedBack, IsUnboundedAhead, IsEndless}
+use Rattle.ember_slice.specs.Segments.{IsFirstEndless, IsSegment, IsSliceText, is_cut}
 use Rattle.ember_slice.proofs.Along.{ahead_turned, on_line_in, square, square_above}
 use Rattle.ember_slice.proofs.Bounds.{cut_line}
 use Rattle.ember_verdict.specs.declared.status.FaceFault.{FaceFault}
@@ -27,8 +29,12 @@ point_on n at t =
       on_line_in n at v
           (record {
             weight = omega (arith, linear, square_above n t);
-            support = solve 5 (λ a b c d e. let h = num (pos 2) ⊗ e ⊕ num (pos 1) in let m = num (pos 2) ⊗ d ⊖ c ⊗ h in let q = a ⊗ a ⊕ b ⊗ b in a ⊗ (a ⊗ m) ⊕ b ⊗ (b ⊗ m) ⊕ c ⊗ (h ⊗ q) ⊖ d ⊗ (num (pos 2) ⊗ q) ≈ num (pos 0)) cancels n.a n.b n.c n.d at;
-            level = solve 5 (λ a b c d e. let h = num (pos 2) ⊗ e ⊕ num (pos 1) in let m = num (pos 2) ⊗ d ⊖ c ⊗ h in let q = a ⊗ a ⊕ b ⊗ b in num (pos 0) ⊗ (a ⊗ m) ⊕ num (pos 0) ⊗ (b ⊗ m) ⊕ num (pos 2) ⊗ (h ⊗ q) ⊖ h ⊗ (num (pos 2) ⊗ q) ≈ num (pos 0)) cancels n.a n.b n.c n.d at;
+            support = solve 5 (λ a b c d e. let h = num (pos 2) ⊗ e ⊕ num (pos 1) in let m = num (pos 2) ⊗ d ⊖ c ⊗ h in
+                let q = a ⊗ a ⊕ b ⊗ b in a ⊗ (a ⊗ m) ⊕ b ⊗ (b ⊗ m) ⊕ c ⊗ (h ⊗ q) ⊖ d ⊗ (num (pos 2) ⊗ q) ≈ num (pos 0))
+                cancels n.a n.b n.c n.d at;
+            level = solve 5 (λ a b c d e. let h = num (pos 2) ⊗ e ⊕ num (pos 1) in let m = num (pos 2) ⊗ d ⊖ c ⊗ h in
+                let q = a ⊗ a ⊕ b ⊗ b in num (pos 0) ⊗ (a ⊗ m) ⊕ num (pos 0) ⊗ (b ⊗ m) ⊕ num (pos 2) ⊗ (h ⊗ q) ⊖ h ⊗
+                (num (pos 2) ⊗ q) ≈ num (pos 0)) cancels n.a n.b n.c n.d at;
           }),
     )
 
@@ -47,10 +53,12 @@ none_ends f at h (inr empty) = let v = point_on f.support at h.tilted in let p =
 segment_ends : (f : Face) (at : ℤ) (u v : Spot) → IsUnboundedAhead f at ⊎ IsUnboundedBack f at → IsSegment f at u v → ⊥
 segment_ends f at u v (inl goes) s =
     let p = goes v s.last in
-    let b = and_parts (is_before f.support u p.0) (is_before f.support p.0 v) (sym (s.between p.0 (cut_line f at p.0 p.1)) ∙ p.1) in not_both f.support v p.0 p.2 b.1
+    let b = and_parts (is_before f.support u p.0) (is_before f.support p.0 v)
+    (sym (s.between p.0 (cut_line f at p.0 p.1)) ∙ p.1) in not_both f.support v p.0 p.2 b.1
 segment_ends f at u v (inr goes) s =
     let p = goes u s.first in
-    let b = and_parts (is_before f.support u p.0) (is_before f.support p.0 v) (sym (s.between p.0 (cut_line f at p.0 p.1)) ∙ p.1) in not_both f.support u p.0 b.0 p.2
+    let b = and_parts (is_before f.support u p.0) (is_before f.support p.0 v)
+    (sym (s.between p.0 (cut_line f at p.0 p.1)) ∙ p.1) in not_both f.support u p.0 b.0 p.2
 
 gives_ends : (f : Face) (at : ℤ) (ss : List Directed) → IsEndless f at → GivesSegments at f ss → ⊥
 gives_ends f at [] h g = none_ends f at h g
@@ -83,7 +91,8 @@ compare_nat (suc m) (suc n) = by (compare_nat m n)
 same_some : {X : Type 0} (x y : X) → Some x ≡ Some y → x ≡ y
 same_some {X = X} x y e = ap (λ (o : Option X). or_else o x) e
 
-each_at : (at : ℤ) (fs : List Face) (ss : List Directed) (i : ℕ) (f : Face) → Each (GivesSegments at) fs ss → slice_get fs i ≡ Some f → (own : List Directed) × GivesSegments at f own
+each_at : (at : ℤ) (fs : List Face) (ss : List Directed) (i : ℕ) (f : Face) → Each (GivesSegments at) fs ss →
+    slice_get fs i ≡ Some f → (own : List Directed) × GivesSegments at f own
 each_at at [] ss i f h e = absurd (no_some e)
 each_at at (g ∷ fs) _ zero f (more {ys = ys} r rs) e = (ys, subst (λ (f : Face). GivesSegments at f ys) (same_some g f e) r)
 each_at at (g ∷ fs) _ (suc i) f (more {zs = zs} r rs) e = each_at at fs zs i f rs e

@@ -23,7 +23,8 @@ use Rattle.ember_verdict.proofs.OneReading.{one_reading}
 use Rattle.ember_verdict.proofs.SceneVerdicts.{ExprRead}
 
 -- ---- an expression that is given is false outside
-given_bounded : (formula given : Formula) (b : Bool) → truth (replicate 64 (pos 0)) given ≡ b → ((next : Formula → Verdict) → (if b then Refused Unbounded else next given) ≡ next formula) → IsFalseOutside formula
+given_bounded : (formula given : Formula) (b : Bool) → truth (replicate 64 (pos 0)) given ≡ b →
+    ((next : Formula → Verdict) → (if b then Refused Unbounded else next given) ≡ next formula) → IsFalseOutside formula
 given_bounded formula given true e read = absurd (clash (read (λ f. Unknown)))
   where
     clash : Refused Unbounded ≡ Unknown → ⊥
@@ -37,7 +38,8 @@ given_bounded formula given false e read =
 false_outside : (text : List ℕ) (m : ℕ) (formula : Formula) → ExprRead (after_bounded_expr text) m formula → IsFalseOutside formula
 false_outside text m formula read = by (expr_of text m) read
   where
-    by : (parsed : Result Formula ExprFault) → ((next : Formula → Verdict) → after_parse parsed (λ f. after_bounded f (next f)) ≡ next formula) → IsFalseOutside formula
+    by : (parsed : Result Formula ExprFault) → ((next : Formula → Verdict) →
+        after_parse parsed (λ f. after_bounded f (next f)) ≡ next formula) → IsFalseOutside formula
     by (Err fault) read = absurd (clash (read (λ f. Unknown)))
       where
         clash : Refused (ExprRefused fault) ≡ Unknown → ⊥
@@ -45,7 +47,8 @@ false_outside text m formula read = by (expr_of text m) read
     by (Ok given) read = given_bounded formula given (truth (replicate 64 (pos 0)) given) refl read
 
 -- ---- the file
-pub document_is_output : (tris : List Tri) (meshes : ℕ) (formula : Formula) (bytes : List ℕ) → IsScene tris meshes → IsFalseOutside formula → IsSolidText tris formula bytes → IsSolidFile tris formula bytes
+pub document_is_output : (tris : List Tri) (meshes : ℕ) (formula : Formula) (bytes : List ℕ) → IsScene tris meshes →
+    IsFalseOutside formula → IsSolidText tris formula bytes → IsSolidFile tris formula bytes
 document_is_output tris meshes formula bytes scene outside is =
     let r = document_reads tris meshes formula is.kept bytes scene is.solid.written outside is.text in
     record {
@@ -56,6 +59,8 @@ document_is_output tris meshes formula bytes scene outside is =
     }
 
 -- the document of a solid is a file of it: it reads back with the meaning, and is a closed surface
-pub solid_file : (text : List ℕ) (m : ℕ) (formula : Formula) (scene : Scene) (bytes : List ℕ) → ExprRead (after_bounded_expr text) m formula → IsSolidText scene.tris formula bytes → IsSolidFile scene.tris formula bytes
+pub solid_file : (text : List ℕ) (m : ℕ) (formula : Formula) (scene : Scene) (bytes : List ℕ) →
+    ExprRead (after_bounded_expr text) m formula → IsSolidText scene.tris formula bytes →
+    IsSolidFile scene.tris formula bytes
 solid_file text m formula scene bytes read is =
     document_is_output scene.tris scene.meshes formula bytes scene.kept (false_outside text m formula read) is

@@ -8,7 +8,9 @@ use Rattle.ember_meaning.specs.Solids.{IsSolidReport}
 use Rattle.ember_report.specs.declared.report.Report.{Report}
 use Rattle.ember_report.specs.Reports.{report_line_of}
 use Rattle.ember_verdict.specs.declared.status.Status.{Status}
-use Rattle.ember_verdict.specs.declared.status.Status.TheVariants.{Done, Words, ReadFault, WriteFault, ObjRefused, MeshRefused, ExprRefused, Unbounded, Limit, NotClear, FaceRefused, OutOfMemory}
+use Rattle.ember_verdict.specs.declared.status.Status.TheVariants.{Done, Words, ReadFault, WriteFault, ObjRefused}
+use Rattle.ember_verdict.specs.declared.status.Status.TheVariants.{MeshRefused, ExprRefused, Unbounded, Limit, NotClear}
+use Rattle.ember_verdict.specs.declared.status.Status.TheVariants.{FaceRefused, OutOfMemory}
 use Rattle.ember_verdict.specs.Outputs.{SolidFaces, SolidReport}
 use Rattle.ember_verdict.specs.Reported.{IsErrText, IsReportOfVerdict, IsReportOfVerdictIfAsked, asks_report}
 use Rattle.ember_verdict.specs.Lines.{text_on_err}
@@ -18,7 +20,9 @@ use Rattle.ember_verdict.specs.Statuses.{IsSameIfTold, IsTextIfTold}
 use Rattle.ember_verdict.specs.NoReplies.{IsNoReplyToExpression}
 use Rattle.ember_verdict.specs.Solids.{IsReportTextIfAsked, IsReportText, IsSolidFile, line_if_asked}
 use Rattle.ember_gen.specs.Scene.{scene_of}
-use Rattle.ember_verdict.specs.Verdict.{Contents, Verdict, Unknown, Refused, Writes, Slices, after_bounded, after_expr, after_scene, after_bounded_expr, bool_verdict, demo_verdict, names_of, told_verdict}
+use Rattle.ember_verdict.specs.Verdict.{Contents, Verdict, Unknown, Refused, Writes, Slices, after_bounded, after_expr}
+use Rattle.ember_verdict.specs.Verdict.{after_scene, after_bounded_expr, bool_verdict, demo_verdict, names_of}
+use Rattle.ember_verdict.specs.Verdict.{told_verdict}
 use Rattle.ember_verdict.proofs.SceneVerdicts.{ExprRead, SceneRead, after_read, scene_text}
 
 -- ---- bounded expressions
@@ -31,37 +35,57 @@ not_false true e = refl
 not_false false e = absurd (cc)
 
 -- an expression that is false outside all meshes is accepted
-pub bounded_read : (text : List ℕ) (m : ℕ) (formula : Formula) (next : Formula → Verdict) → ((next : Formula → Verdict) → after_expr text m next ≡ next formula) → true ≡ not (truth (replicate 64 (pos 0)) formula) → after_bounded_expr text m next ≡ next formula
+pub bounded_read : (text : List ℕ) (m : ℕ) (formula : Formula) (next : Formula → Verdict) →
+    ((next : Formula → Verdict) → after_expr text m next ≡ next formula) →
+    true ≡ not (truth (replicate 64 (pos 0)) formula) → after_bounded_expr text m next ≡ next formula
 bounded_read text m formula next given e =
-    given (λ formula. after_bounded formula (next formula)) ∙ ap (λ (b : Bool). if b then Refused Unbounded else next formula) (not_true (truth (replicate 64 (pos 0)) formula) e)
+    given (λ formula. after_bounded formula (next formula))
+    ∙ ap (λ (b : Bool). if b then Refused Unbounded else next formula)
+    (not_true (truth (replicate 64 (pos 0)) formula) e)
 
 -- one that is true there is refused
-pub unbounded_is_no_reply : (text : List ℕ) (m : ℕ) (formula : Formula) (next : Formula → Verdict) → ((next : Formula → Verdict) → after_expr text m next ≡ next formula) → false ≡ not (truth (replicate 64 (pos 0)) formula) → IsNoReplyToExpression (after_bounded_expr text m next) Unbounded
+pub unbounded_is_no_reply : (text : List ℕ) (m : ℕ) (formula : Formula) (next : Formula → Verdict) →
+    ((next : Formula → Verdict) → after_expr text m next ≡ next formula) →
+    false ≡ not (truth (replicate 64 (pos 0)) formula) → IsNoReplyToExpression (after_bounded_expr text m next) Unbounded
 unbounded_is_no_reply text m formula next given e = record {
-  refused = λ r. given (λ formula. after_bounded formula (next formula)) ∙ ap (λ (b : Bool). if b then Refused Unbounded else next formula) (not_false (truth (replicate 64 (pos 0)) formula) e);
+  refused = λ r. given (λ formula. after_bounded formula (next formula))
+      ∙ ap (λ (b : Bool). if b then Refused Unbounded else next formula)
+      (not_false (truth (replicate 64 (pos 0)) formula) e);
   of_expression = tt;
 }
 
 -- ---- texts
-pub report_line_is : (tris : List Tri) (formula : Formula) (report : Report) (lines : List ℕ) (reported : Bool) → IsSolidReport tris formula report → lines ≡ line_if_asked reported report → IsReportTextIfAsked reported tris formula lines
+pub report_line_is : (tris : List Tri) (formula : Formula) (report : Report) (lines : List ℕ) (reported : Bool) →
+    IsSolidReport tris formula report → lines ≡ line_if_asked reported report →
+    IsReportTextIfAsked reported tris formula lines
 report_line_is tris formula report lines true solid e = record { kept = solid.kept; report = report; solid = solid.solid; text = e }
 report_line_is tris formula report lines false solid e = e
 
 -- the line of a solid's report
-pub is_report_text : (tris : List Tri) (formula : Formula) (report : Report) (bytes : List ℕ) → IsSolidReport tris formula report → bytes ≡ report_line_of report → IsReportText tris formula bytes
+pub is_report_text : (tris : List Tri) (formula : Formula) (report : Report) (bytes : List ℕ) →
+    IsSolidReport tris formula report → bytes ≡ report_line_of report → IsReportText tris formula bytes
 is_report_text tris formula report bytes solid text = record { kept = solid.kept; report = report; solid = solid.solid; text = text }
 
 -- ---- the generated scene
-pub report_written : (boxes : ℕ) (formula : Formula) (tris : List Tri) (bytes : List ℕ) → ((next : Formula → Verdict) → after_expr (codes "m1|m2") 2 next ≡ next formula) → tris ≡ scene_of boxes → IsReportText tris formula bytes → IsTextIfTold (demo_verdict boxes) bytes
+pub report_written : (boxes : ℕ) (formula : Formula) (tris : List Tri) (bytes : List ℕ) →
+    ((next : Formula → Verdict) → after_expr (codes "m1|m2") 2 next ≡ next formula) → tris ≡ scene_of boxes →
+    IsReportText tris formula bytes → IsTextIfTold (demo_verdict boxes) bytes
 report_written boxes formula tris bytes given e is =
-    subst (λ (v : Verdict). IsTextIfTold v bytes) (sym (given (λ formula. Writes (SolidReport (scene_of boxes) formula)))) (subst (λ (tris : List Tri). IsReportText tris formula bytes) e is)
+    subst (λ (v : Verdict). IsTextIfTold v bytes)
+    (sym (given (λ formula. Writes (SolidReport (scene_of boxes) formula))))
+    (subst (λ (tris : List Tri). IsReportText tris formula bytes) e is)
 
 -- a refusal of the union is one of `demo`
-pub report_refused : (boxes : ℕ) (status : Status) → ((next : Formula → Verdict) → IsNoReplyToExpression (after_expr (codes "m1|m2") 2 next) status) → IsNoReplyToExpression (demo_verdict boxes) status
+pub report_refused : (boxes : ℕ) (status : Status) →
+    ((next : Formula → Verdict) → IsNoReplyToExpression (after_expr (codes "m1|m2") 2 next) status) →
+    IsNoReplyToExpression (demo_verdict boxes) status
 report_refused boxes status no_reply = no_reply (λ formula. Writes (SolidReport (scene_of boxes) formula))
 
 -- ---- the document
-pub solid_written : (expr : List ℕ) (places m : ℕ) (contents : Contents) (formula : Formula) (tris : List Tri) (bytes : List ℕ) → length contents ≡ m → ExprRead (after_bounded_expr expr) m formula → SceneRead places contents tris → IsSolidFile tris formula bytes → IsTextIfTold (bool_verdict expr places contents) bytes
+pub solid_written : (expr : List ℕ) (places m : ℕ) (contents : Contents) (formula : Formula) (tris : List Tri)
+    (bytes : List ℕ) → length contents ≡ m → ExprRead (after_bounded_expr expr) m formula →
+    SceneRead places contents tris → IsSolidFile tris formula bytes →
+    IsTextIfTold (bool_verdict expr places contents) bytes
 solid_written expr places m contents formula tris bytes count given scene is =
     scene_text (after_bounded_expr expr) places m contents count formula tris bytes (λ formula tris. Writes (SolidFaces tris formula)) given scene is
 
@@ -72,16 +96,24 @@ report_then line (Writes output) v e f = subst (λ v. IsReportOfVerdict v line) 
 report_then line (Slices at bytes) v e f = subst (λ v. IsReportOfVerdict v line) (sym e) f
 
 -- the report of the scene is the one that `bool` asks for
-pub solid_reported : (reported : Bool) (expr : List ℕ) (places m : ℕ) (contents : Contents) (formula : Formula) (tris : List Tri) (line : List ℕ) → length contents ≡ m → ExprRead (after_bounded_expr expr) m formula → SceneRead places contents tris → IsReportTextIfAsked reported tris formula line → IsReportOfVerdictIfAsked reported (bool_verdict expr places contents) line
+pub solid_reported : (reported : Bool) (expr : List ℕ) (places m : ℕ) (contents : Contents) (formula : Formula)
+    (tris : List Tri) (line : List ℕ) → length contents ≡ m → ExprRead (after_bounded_expr expr) m formula →
+    SceneRead places contents tris → IsReportTextIfAsked reported tris formula line →
+    IsReportOfVerdictIfAsked reported (bool_verdict expr places contents) line
 solid_reported true expr places m contents formula tris line count given scene is =
-    subst (λ (v : Verdict). IsReportOfVerdict v line) (sym (after_read (after_bounded_expr expr) places m contents count formula (λ formula. after_scene places contents (λ tris. Writes (SolidFaces tris formula))) given))
-    (report_then line (after_scene places contents (λ tris. Writes (SolidFaces tris formula))) (Writes (SolidFaces tris formula)) (scene (λ tris. Writes (SolidFaces tris formula))) is)
+    subst (λ (v : Verdict). IsReportOfVerdict v line)
+    (sym (after_read (after_bounded_expr expr) places m contents count formula
+    (λ formula. after_scene places contents (λ tris. Writes (SolidFaces tris formula))) given))
+    (report_then line (after_scene places contents (λ tris. Writes (SolidFaces tris formula)))
+    (Writes (SolidFaces tris formula)) (scene (λ tris. Writes (SolidFaces tris formula))) is)
 solid_reported false expr places m contents formula tris line count given scene is = is
 
 -- ---- what err takes
 
 -- the text on standard error of a call with this status
-pub err_text : (command : Option Command) (told : List ℕ → Option (List ℕ)) (status : Status) (lines : List ℕ) → (status ≡ Done → IsReportOfVerdictIfAsked (asks_report command) (told_verdict command told) lines) → IsErrText command told status (text_on_err (names_of command) status lines)
+pub err_text : (command : Option Command) (told : List ℕ → Option (List ℕ)) (status : Status) (lines : List ℕ) →
+    (status ≡ Done → IsReportOfVerdictIfAsked (asks_report command) (told_verdict command told) lines) →
+    IsErrText command told status (text_on_err (names_of command) status lines)
 err_text command told Done lines h = h refl
 err_text command told Words lines h = refl
 err_text command told (ReadFault i) lines h = refl

@@ -1,5 +1,6 @@
 -- Which inputs are accepted, and which scene, expression and output each of them has
-use Rattle.std.specs.Prelude.{◌≡◌, ℕ, ℤ, pos, ◌+◌, ◌<◌, ◌≤◌, Bool, false, List, [], length, flat_map, get_or, replicate, None, Some, Ok}
+use Rattle.std.specs.Prelude.{◌≡◌, ℕ, ℤ, pos, ◌+◌, ◌<◌, ◌≤◌, Bool, false, List, [], length, flat_map}
+use Rattle.std.specs.Prelude.{get_or, replicate, None, Some, Ok}
 use Rattle.std.specs.declared.option.Option.{Option}
 use Rattle.ember_expr.specs.Derivation.{HasTree}
 use Rattle.ember_expr.specs.Formula.{Formula, Mesh, Or}

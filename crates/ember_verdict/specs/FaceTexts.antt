@@ -6,7 +6,8 @@ use Rattle.ember_model.specs.declared.face.Face.{Face}
 use Rattle.ember_model.specs.declared.tri.Tri.{Tri}
 use Rattle.ember_model.specs.Edges.{RingEdge}
 use Rattle.ember_model.specs.Meshes.{faces_of}
-use Rattle.ember_model.specs.FaceFiles.{IsFaceText, IsFileText, IsFaceFile, WrittenFace, IsWrittenFace, face_lines, header}
+use Rattle.ember_model.specs.FaceFiles.{IsFaceText, IsFileText, IsFaceFile, WrittenFace, IsWrittenFace}
+use Rattle.ember_model.specs.FaceFiles.{face_lines, header}
 
 -- the bytes are the text of the triangles' faces, and a face file that holds these faces, each with its outline
 pub record IsFaceFileOf (ts : List Tri) (bytes : List ℕ) : Type 0 where

@@ -15,7 +15,10 @@ use Rattle.ember_verdict.specs.declared.status.FaceFault.{FaceFault}
 use Rattle.ember_verdict.specs.declared.status.FaceFault.TheVariants.{Form, Endless}
 use Rattle.ember_verdict.specs.declared.status.LimitKind.TheVariants.{Bytes, Triangles}
 use Rattle.ember_verdict.specs.declared.status.Status.{Status}
-use Rattle.ember_verdict.specs.declared.status.Status.TheVariants.{Done, Words, ReadFault, WriteFault, ObjRefused, MeshRefused, ExprRefused, Unbounded, Limit, NotClear, FaceRefused, OutOfMemory}
+use Rattle.ember_verdict.specs.declared.status.Status.TheVariants.{Done, Words, ReadFault, WriteFault}
+use Rattle.ember_verdict.specs.declared.status.Status.TheVariants.{ObjRefused, MeshRefused, ExprRefused}
+use Rattle.ember_verdict.specs.declared.status.Status.TheVariants.{Unbounded, Limit, NotClear}
+use Rattle.ember_verdict.specs.declared.status.Status.TheVariants.{FaceRefused, OutOfMemory}
 
 -- the exit status
 abbrev pub number_of : Status → ℕ

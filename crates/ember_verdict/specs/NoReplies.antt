@@ -6,7 +6,8 @@ use Rattle.ember_verdict.specs.Devices.{ShelfCall, HasShelfFailed}
 use Rattle.ember_verdict.specs.Held.{MayHold}
 use Rattle.ember_verdict.specs.Verdict.{Contents, Verdict, Unknown, Refused, after_scene, first_told}
 use Rattle.ember_verdict.specs.declared.status.Status.{Status}
-use Rattle.ember_verdict.specs.declared.status.Status.TheVariants.{Done, Words, ReadFault, WriteFault, ExprRefused, Unbounded, OutOfMemory}
+use Rattle.ember_verdict.specs.declared.status.Status.TheVariants.{Done, Words, ReadFault, WriteFault}
+use Rattle.ember_verdict.specs.declared.status.Status.TheVariants.{ExprRefused, Unbounded, OutOfMemory}
 
 -- the contents of the first n files, and others after them
 abbrev pub with_others : ℕ → Contents → Contents → Contents

@@ -11,7 +11,10 @@ use Rattle.ember_verdict.specs.Slices.{IsSlice, IsSliceRefusal, IsSliceable}
 use Rattle.ember_verdict.specs.Verdict.{Verdict, Unknown, Refused, Writes, Slices}
 use Rattle.ember_verdict.specs.declared.status.LimitKind.TheVariants.{Bytes, Triangles}
 use Rattle.ember_verdict.specs.declared.status.Status.{Status}
-use Rattle.ember_verdict.specs.declared.status.Status.TheVariants.{Done, Words, ReadFault, WriteFault, ObjRefused, MeshRefused, ExprRefused, Unbounded, Limit, NotClear, FaceRefused, OutOfMemory}
+use Rattle.ember_verdict.specs.declared.status.Status.TheVariants.{Done, Words, ReadFault, WriteFault}
+use Rattle.ember_verdict.specs.declared.status.Status.TheVariants.{ObjRefused, MeshRefused, ExprRefused}
+use Rattle.ember_verdict.specs.declared.status.Status.TheVariants.{Unbounded, Limit, NotClear}
+use Rattle.ember_verdict.specs.declared.status.Status.TheVariants.{FaceRefused, OutOfMemory}
 
 -- the statuses that a verdict may give
 abbrev pub is_refusal : Status → Bool

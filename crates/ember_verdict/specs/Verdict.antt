@@ -1,5 +1,7 @@
 -- What an input asks for: its first refusal, or its output
-use Rattle.std.specs.Prelude.{◌≡◌, ℕ, ℤ, zero, suc, ◌+◌, ◌-◌, List, [], ◌∷◌, ◌++◌, length, nat_le, get_or, map, None, Some, Result, Ok, Err, if◌then◌else◌, codes, pos, replicate}
+use Rattle.std.specs.Prelude.{◌≡◌, ℕ, ℤ, zero, suc, ◌+◌, ◌-◌, List, [], ◌∷◌, ◌++◌, length, nat_le}
+use Rattle.std.specs.Prelude.{get_or, map, None, Some, Result, Ok, Err, if◌then◌else◌, codes, pos}
+use Rattle.std.specs.Prelude.{replicate}
 use Rattle.std.specs.declared.option.Option.{Option}
 use Rattle.std.specs.List.{list_all}
 use Rattle.ember_balance.specs.declared.loose.Loose.{Loose}
@@ -21,7 +23,9 @@ use Rattle.ember_words.specs.declared.command.Command.TheVariants as command
 use Rattle.ember_verdict.specs.Outputs.{Output, FaceTexts, Counts, MeetingPairs, Lattice, SolidFaces, SolidReport}
 use Rattle.ember_verdict.specs.declared.status.LimitKind.TheVariants.{Bytes, Triangles}
 use Rattle.ember_verdict.specs.declared.status.Status.{Status}
-use Rattle.ember_verdict.specs.declared.status.Status.TheVariants.{Words, ObjRefused, MeshRefused, ExprRefused, Unbounded, Limit, NotClear}
+use Rattle.ember_verdict.specs.declared.status.Status.TheVariants.{Words, ObjRefused, MeshRefused}
+use Rattle.ember_verdict.specs.declared.status.Status.TheVariants.{ExprRefused, Unbounded, Limit}
+use Rattle.ember_verdict.specs.declared.status.Status.TheVariants.{NotClear}
 
 -- the first refusal, or the output; Unknown if it depends on contents that aren't told
 pub data Verdict : Type 0 where

@@ -7,7 +7,8 @@ use Rattle.ember_vertices.specs.declared.point.DecimalPoint.{DecimalPoint}
 use Rattle.ember_vertices.specs.declared.point.DecimalTriangle.{DecimalTriangle}
 use Rattle.ember_vertices.specs.declared.point.IndexedTriangle.{IndexedTriangle}
 use Rattle.ember_vertices.specs.Vertices.{same_point, with_point, corners_of, vertices_of, index_of, indexed, over}
-use Rattle.ember_vertices.proofs.Vertices.{IsAmong, among_stays, new_is_among, index_stays, new_index, fold_more, among_stays_behind, points_distinct, index_leads_back}
+use Rattle.ember_vertices.proofs.Vertices.{IsAmong, among_stays, new_is_among, index_stays, new_index, fold_more}
+use Rattle.ember_vertices.proofs.Vertices.{among_stays_behind, points_distinct, index_leads_back}
 
 -- ---- triangles whose corners are among the points
 record AreAmong (ps : List DecimalPoint) (t : DecimalTriangle) : Type 0 where
@@ -47,7 +48,8 @@ index_stays_in : (ps : List DecimalPoint) (q : DecimalPoint) (t : DecimalTriangl
 index_stays_in ps q t h =
     λ i. record { a = index_stays ps q t.a h.a i; b = index_stays ps q t.b h.b i; c = index_stays ps q t.c h.c i }
 
-indices_stay : (ts : List DecimalTriangle) (ps : List DecimalPoint) (q : DecimalPoint) → AllAmong ps ts → map (indexed (with_point ps q)) ts ≡ map (indexed ps) ts
+indices_stay : (ts : List DecimalTriangle) (ps : List DecimalPoint) (q : DecimalPoint) → AllAmong ps ts →
+    map (indexed (with_point ps q)) ts ≡ map (indexed ps) ts
 indices_stay [] ps q h = refl
 indices_stay (t ∷ ts) ps q h = λ i. index_stays_in ps q t h.0 i ∷ indices_stay ts ps q h.1 i
 
@@ -104,7 +106,10 @@ module _ (ts : List DecimalTriangle) (t : DecimalTriangle) where
   index_c = sym (new_index pb t.c)
 
   -- the mesh after its steps
-  module _ (k0 k1 k2 k3 : List DecimalPoint) (us vs : List IndexedTriangle) (a b c : ℕ) (h0 : k0 ≡ vertices_of ts) (hu : us ≡ map (indexed (vertices_of ts)) ts) (h1 : k1 ≡ with_point k0 t.a) (ha : a ≡ index_of k0 t.a) (h2 : k2 ≡ with_point k1 t.b) (hb : b ≡ index_of k1 t.b) (h3 : k3 ≡ with_point k2 t.c) (hc : c ≡ index_of k2 t.c) (hv : vs ≡ us ++ (record { a = a; b = b; c = c }) ∷ []) where
+  module _ (k0 k1 k2 k3 : List DecimalPoint) (us vs : List IndexedTriangle) (a b c : ℕ) (h0 : k0 ≡ vertices_of ts)
+      (hu : us ≡ map (indexed (vertices_of ts)) ts) (h1 : k1 ≡ with_point k0 t.a) (ha : a ≡ index_of k0 t.a)
+      (h2 : k2 ≡ with_point k1 t.b) (hb : b ≡ index_of k1 t.b) (h3 : k3 ≡ with_point k2 t.c) (hc : c ≡ index_of k2 t.c)
+      (hv : vs ≡ us ++ (record { a = a; b = b; c = c }) ∷ []) where
     after_a : k1 ≡ pa
     after_a = h1 ∙ ap (λ (ps : List DecimalPoint). with_point ps t.a) h0
 

@@ -1,5 +1,6 @@
 -- Vertices that are found again by their points.
-use Rattle.std.proofs.Common.{◌≡◌, ℕ, suc, ◌+◌, pos, Bool, true, false, true≢false, cond, not, ◌||◌, if◌then◌else◌, List, [], ◌∷◌, ◌++◌, get_or, refl, sym, ap, subst, ◌∙◌, arith}
+use Rattle.std.proofs.Common.{◌≡◌, ℕ, suc, ◌+◌, pos, Bool, true, false, true≢false, cond, not, ◌||◌, if◌then◌else◌}
+use Rattle.std.proofs.Common.{List, [], ◌∷◌, ◌++◌, get_or, refl, sym, ap, subst, ◌∙◌, arith}
 use Rattle.std.specs.Prelude.{fold}
 use Rattle.std.specs.Bool.{Decides}
 use Rattle.std.specs.Cmp.{decided}
@@ -85,7 +86,9 @@ module _ (ps : List DecimalPoint) (q : DecimalPoint) where
       by : (b : Bool) → list_any (same_point q) ps ≡ b → IsAmong (with_point ps q) q
       by true e = subst (λ (l : List DecimalPoint). IsAmong l q) (sym (with_is true e)) e
       by false e =
-          let last : IsAmong (ps ++ q ∷ []) q = list_any-append (same_point q) ps (q ∷ []) ∙ ap (λ (c : Bool). c || list_any (same_point q) (q ∷ [])) e ∙ ap (λ (c : Bool). c || false) (same_self q) in
+          let last : IsAmong (ps ++ q ∷ []) q = list_any-append (same_point q) ps (q ∷ [])
+          ∙ ap (λ (c : Bool). c || list_any (same_point q) (q ∷ [])) e
+          ∙ ap (λ (c : Bool). c || false) (same_self q) in
           subst (λ (l : List DecimalPoint). IsAmong l q) (sym (with_is false e)) last
 
   -- a point that is among them keeps its index

@@ -13,10 +13,13 @@ pushed R (a ∷ xs) [] x y h r = absurd h
 pushed R (a ∷ xs) (b ∷ ys) x y h r = (h.0, pushed R xs ys x y h.1 r)
 
 -- one triangle more
-pub one_more : (others ts : List DecimalTriangle) (i : ℕ) (t : DecimalTriangle) (ws vs : List WrittenTriangle) (w : WrittenTriangle) → i < length ts → IsShown (get_or ts i t) w → vs ≡ ws ++ w ∷ []
+pub one_more : (others ts : List DecimalTriangle) (i : ℕ) (t : DecimalTriangle) (ws vs : List WrittenTriangle)
+    (w : WrittenTriangle) → i < length ts → IsShown (get_or ts i t) w → vs ≡ ws ++ w ∷ []
     → AreShown (others ++ take i ts) ws → AreShown (others ++ take (i + 1) ts) vs
 one_more others ts i t ws vs w l is e before =
-    let same : (others ++ take i ts) ++ get_or ts i t ∷ [] ≡ others ++ take (i + 1) ts = append_assoc others (take i ts) (get_or ts i t ∷ []) ∙ ap (λ (us : List DecimalTriangle). others ++ us) (sym (take_more ts i t l)) in
+    let same : (others ++ take i ts) ++ get_or ts i t ∷ [] ≡ others ++ take (i + 1) ts =
+    append_assoc others (take i ts) (get_or ts i t ∷ [])
+    ∙ ap (λ (us : List DecimalTriangle). others ++ us) (sym (take_more ts i t l)) in
     subst (λ (us : List WrittenTriangle). AreShown (others ++ take (i + 1) ts) us) (sym e)
     (subst (λ (us : List DecimalTriangle). AreShown us (ws ++ w ∷ [])) same
     (pushed IsShown (others ++ take i ts) ws (get_or ts i t) w before is))

@@ -24,7 +24,8 @@ use Rattle.ember_visit.specs.Jobs.{near_of, IsJob}
 
 -- what holds of all triangles holds of those that are listed
 pub all_listed : (P : Tri → Type 0) (ts : List Tri) (is : List ℕ) → All P ts → All (λ i. i < length ts) is → All P (listed ts is)
-all_listed P ts is a within = All-map P (λ i. tri_at ts i) is (All-weaker (λ i. i < length ts) (λ i. P (tri_at ts i)) (λ i l. All-get_or P ts i no_tri l a) is within)
+all_listed P ts is a within = All-map P (λ i. tri_at ts i) is
+    (All-weaker (λ i. i < length ts) (λ i. P (tri_at ts i)) (λ i l. All-get_or P ts i no_tri l a) is within)
 
 -- meshes numbered up to n are numbered up to 64
 pub numbered_less : (n : ℕ) (ts : List Tri) → n ≤ 64 → All (HasMesh n) ts → All (HasMesh 64) ts

@@ -1,5 +1,6 @@
 -- What is known of an expression in the box of a job is its truth at every clear point of the box.
-use Rattle.std.proofs.Common.{◌≡◌, ℕ, ◌-◌, ◌==◌, Bool, true, false, cond, nat_eq, List, [], ◌∷◌, All, Some, ℤ, pos, ◌+ℤ◌, ◌≤ℤ◌, ◌<ℤ◌, refl, sym, ◌∙◌, subst, arith}
+use Rattle.std.proofs.Common.{◌≡◌, ℕ, ◌-◌, ◌==◌, Bool, true, false, cond, nat_eq, List, [], ◌∷◌, All, Some, ℤ, pos}
+use Rattle.std.proofs.Common.{◌+ℤ◌, ◌≤ℤ◌, ◌<ℤ◌, refl, sym, ◌∙◌, subst, arith}
 use Rattle.std.proofs.lemmas.Bool.{or_parts, eq-eqb, eqb-true}
 use Rattle.std.proofs.lemmas.List.Elements.{All-cons}
 use Rattle.std.proofs.lemmas.List.FromFn.{get_or-map-range_with_len}
@@ -55,7 +56,10 @@ all_far : (c : Cell) (m : ℕ) (ts : List Tri) → has_mesh (near ts c) m ≡ fa
 all_far c m [] h = λ k d l. absurd (omega arith)
 all_far c m (t ∷ ts) h = by (is_near c t) (nat_eq t.mesh m) refl refl h (all_far c m ts)
   where
-    by : (b d : Bool) → is_near c t ≡ b → nat_eq t.mesh m ≡ d → has_mesh (cond b (t ∷ near ts c) (near ts c)) m ≡ false → (has_mesh (near ts c) m ≡ false → All (λ t. is_near c t ≡ false) (of_mesh m ts)) → All (λ t. is_near c t ≡ false) (cond d (t ∷ of_mesh m ts) (of_mesh m ts))
+    by : (b d : Bool) → is_near c t ≡ b → nat_eq t.mesh m ≡ d →
+        has_mesh (cond b (t ∷ near ts c) (near ts c)) m ≡ false →
+        (has_mesh (near ts c) m ≡ false → All (λ t. is_near c t ≡ false) (of_mesh m ts)) →
+        All (λ t. is_near c t ≡ false) (cond d (t ∷ of_mesh m ts) (of_mesh m ts))
     by true true e d h r =
         let p = or_parts (m == t.mesh) (has_mesh (near ts c) m) h in
         let q : (m == t.mesh) ≡ true = eq-eqb m t.mesh (sym (eqb-true t.mesh m d)) in absurd (let f : true ≡ false = sym q ∙ p.0 in cc)
@@ -71,19 +75,25 @@ count_is a ts p m h =
 
 module _ (ts : List Tri) (n : ℕ) (s : IsScene ts n) where
   -- the meshes with no triangle near a box count alike at all its clear points
-  far_agree : (c : Cell) (a b : Axis) (p q : Spot) → HasPoint c p → HasPoint c q → AreClear (faces_of ts) p → AreClear (faces_of ts) q → AgreeOutside (has_mesh (near ts c)) (vector a ts p) (vector b ts q)
+  far_agree : (c : Cell) (a b : Axis) (p q : Spot) → HasPoint c p → HasPoint c q → AreClear (faces_of ts) p →
+      AreClear (faces_of ts) q → AgreeOutside (has_mesh (near ts c)) (vector a ts p) (vector b ts q)
   far_agree c a b p q f g cp cq = record {
-    same = λ m h far. count_is a ts p m h ∙ winds_far a b c p q (of_mesh m ts) (s.balanced m) (all_far c m ts far) f g (of_mesh_all (λ f. IsClear f p) m ts cp) (of_mesh_all (λ f. IsClear f q) m ts cq) ∙ sym (count_is b ts q m h);
+    same = λ m h far. count_is a ts p m h ∙ winds_far a b c p q (of_mesh m ts) (s.balanced m) (all_far c m ts far) f g
+        (of_mesh_all (λ f. IsClear f p) m ts cp) (of_mesh_all (λ f. IsClear f q) m ts cq) ∙ sym (count_is b ts q m h);
   }
 
-  known_inside : (f : Formula) → IsFit 64 f → (j : Job) → IsJob ts j → (known : Bool) → box_value ts f j ≡ Some known → (a : Axis) (p : Spot) → HasPoint j.cell p → AreClear (faces_of ts) p → truth (vector a ts p) f ≡ known
+  known_inside : (f : Formula) → IsFit 64 f → (j : Job) → IsJob ts j → (known : Bool) → box_value ts f j ≡ Some known →
+      (a : Axis) (p : Spot) → HasPoint j.cell p → AreClear (faces_of ts) p → truth (vector a ts p) f ≡ known
   unfolding box_value
   known_inside f fit j h known e a p has clear =
       let r = far_agree j.cell X a (reference j.cell) p (has_reference j.cell) has (clear_references j.cell.lo ts s.valid) clear in
       let agree = subst (λ (us : List Tri). AgreeOutside (has_mesh us) (vector X ts (reference j.cell)) (vector a ts p)) (near_listed ts j h) r in
-      decided_tells (has_mesh (near_of ts j)) j.at.counts (vector a ts p) (subst (λ (counts : List ℤ). AgreeOutside (has_mesh (near_of ts j)) counts (vector a ts p)) (sym h.at) agree) f known fit e
+      decided_tells (has_mesh (near_of ts j)) j.at.counts (vector a ts p)
+      (subst (λ (counts : List ℤ). AgreeOutside (has_mesh (near_of ts j)) counts (vector a ts p)) (sym h.at) agree) f
+      known fit e
 
   -- at the reference points of its corners
-  pub known_at_corners : (f : Formula) → IsFit 64 f → (j : Job) → IsJob ts j → (known : Bool) → box_value ts f j ≡ Some known → (v : Vector) → HasCorner j.cell v → truth (vector X ts (reference_at v)) f ≡ known
+  pub known_at_corners : (f : Formula) → IsFit 64 f → (j : Job) → IsJob ts j → (known : Bool) →
+      box_value ts f j ≡ Some known → (v : Vector) → HasCorner j.cell v → truth (vector X ts (reference_at v)) f ≡ known
   known_at_corners f fit j h known e v at =
       known_inside f fit j h known e X (reference_at v) (has_corner_reference j.cell v at) (clear_references v ts s.valid)

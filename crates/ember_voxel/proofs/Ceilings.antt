@@ -1,5 +1,6 @@
 -- Which cells have their least corner in a box.
-use Rattle.std.proofs.Common.{◌≡◌, ℕ, ◌+◌, ◌-◌, ◌*◌, ◌/◌, ◌^◌, ◌<◌, ◌≤◌, Bool, true, false, nat_le, nat_lt, int_le, int_lt, ℤ, pos, ◌+ℤ◌, ◌-ℤ◌, pow-add, refl, sym, ap, ◌∙◌, arith}
+use Rattle.std.proofs.Common.{◌≡◌, ℕ, ◌+◌, ◌-◌, ◌*◌, ◌/◌, ◌^◌, ◌<◌, ◌≤◌, Bool, true, false, nat_le, nat_lt, int_le}
+use Rattle.std.proofs.Common.{int_lt, ℤ, pos, ◌+ℤ◌, ◌-ℤ◌, pow-add, refl, sym, ap, ◌∙◌, arith}
 use Rattle.std.proofs.lemmas.Bool.{lt-ltb, ltb-true, ltb-false, le-leb, lt-leb, leb-true}
 use Rattle.std.proofs.lemmas.Nat.{le-div}
 use Rattle.std.proofs.lemmas.Int.{ints}
@@ -45,7 +46,9 @@ few_cells size = pow-le-pow_right (omega arith) (let e : 12 - size ≤ 12 = omeg
 
 -- along an axis: x and y are where the box box_begins_at and box_ends_at, counted from the root's corner
 pub box_begins_at : (low : ℤ) (x n : ℕ) → pos x ≡ low +ℤ pos 2048 → nat_le x n ≡ int_le low (pos n -ℤ pos 2048)
-box_begins_at low x n e = same_test (nat_le x n) (int_le low (pos n -ℤ pos 2048)) (λ p. le_in low (pos n -ℤ pos 2048) (omega (arith, ints, e, leb-true x n p))) (λ p. le-leb x n (omega (arith, ints, e, le_out low (pos n -ℤ pos 2048) p)))
+box_begins_at low x n e = same_test (nat_le x n) (int_le low (pos n -ℤ pos 2048))
+    (λ p. le_in low (pos n -ℤ pos 2048) (omega (arith, ints, e, leb-true x n p)))
+    (λ p. le-leb x n (omega (arith, ints, e, le_out low (pos n -ℤ pos 2048) p)))
 
 pub box_ends_at : (low side : ℤ) (y n : ℕ) → pos y ≡ low +ℤ side +ℤ pos 2048 → nat_lt n y ≡ int_lt (pos n -ℤ pos 2048) (low +ℤ side)
 box_ends_at low side y n e = grind (arith, ints)

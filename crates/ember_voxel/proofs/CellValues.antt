@@ -1,5 +1,6 @@
 -- The boxes of one value of the leaves give each cell of the lattice its own value.
-use Rattle.std.proofs.Common.{◌≡◌, ℕ, zero, suc, ◌-◌, ◌^◌, ◌<◌, ◌≤◌, Bool, true, false, ◌&&◌, ◌||◌, if◌then◌else◌, Option, None, Some, List, ◌++◌, map, refl, sym, ap, ◌∙◌, arith}
+use Rattle.std.proofs.Common.{◌≡◌, ℕ, zero, suc, ◌-◌, ◌^◌, ◌<◌, ◌≤◌, Bool, true, false, ◌&&◌, ◌||◌, if◌then◌else◌}
+use Rattle.std.proofs.Common.{Option, None, Some, List, ◌++◌, map, refl, sym, ap, ◌∙◌, arith}
 use Rattle.std.proofs.lemmas.List.{map-append}
 use Rattle.std.proofs.lemmas.List.Folds.{list_any-append}
 use Rattle.ember_model.specs.declared.tri.Tri.{Tri}
@@ -31,9 +32,11 @@ leaf_bit false false value same = refl
 
 module _ (ts : List Tri) (n : ℕ) (s : IsScene ts n) (f : Formula) (fit : IsFit 64 f) (size i j l : ℕ) where
   -- a leaf's value is that of each of its cells
-  leaf_value : (job : Job) → IsVoxelJob ts size job → ends (box_value ts f job) (is_lattice_cell size job.cell) ≡ true → contains_cell size job.cell i j l ≡ true → truth job.at.counts f ≡ cell_value ts f size i j l
+  leaf_value : (job : Job) → IsVoxelJob ts size job → ends (box_value ts f job) (is_lattice_cell size job.cell) ≡ true →
+      contains_cell size job.cell i j l ≡ true → truth job.at.counts f ≡ cell_value ts f size i j l
   leaf_value job h e c = ap (λ counts. truth counts f) h.job.at ∙ by (box_value ts f job) refl e where
-    by : (v : Option Bool) → box_value ts f job ≡ v → ends v (is_lattice_cell size job.cell) ≡ true → truth (vector_at ts job.cell) f ≡ cell_value ts f size i j l
+    by : (v : Option Bool) → box_value ts f job ≡ v → ends v (is_lattice_cell size job.cell) ≡ true →
+        truth (vector_at ts job.cell) f ≡ cell_value ts f size i j l
     by None k last = ap (λ v. truth (vector X ts (reference_at v)) f) (least_is size job.cell i j l h.even last c)
     by (Some known) k last =
         let at = known_at_corners ts n s f fit job h.job known k in
@@ -56,7 +59,9 @@ module _ (ts : List Tri) (n : ℕ) (s : IsScene ts n) (f : Formula) (fit : IsFit
 
   lit_leaf : (depth : ℕ) (job : Job) → IsVoxelJob ts size job → ends (box_value ts f job) (is_lattice_cell size job.cell) ≡ true → Has depth job
   lit_leaf depth job h e =
-      ap lit_by (under_leaf of depth job (leaf_by ts f size job (sym e))) ∙ leaf_bit (contains_cell size job.cell i j l) (truth job.at.counts f) (cell_value ts f size i j l) (leaf_value job h e)
+      ap lit_by (under_leaf of depth job (leaf_by ts f size job (sym e)))
+      ∙ leaf_bit (contains_cell size job.cell i j l) (truth job.at.counts f) (cell_value ts f size i j l)
+      (leaf_value job h e)
 
   lit_under : (depth : ℕ) (job : Job) → halvings_left job.cell ≤ depth → IsVoxelJob ts size job → Has depth job
   lit_under zero job few h = by (ends (box_value ts f job) (is_lattice_cell size job.cell)) refl where
@@ -64,7 +69,8 @@ module _ (ts : List Tri) (n : ℕ) (s : IsScene ts n) (f : Formula) (fit : IsFit
     by true e = lit_leaf zero job h e
     by false e = absurd (omega (arith, few, left_less job.cell (longest job.cell) (may_halve ts f size job h (sym e))))
   lit_under (suc depth) job few h = by (ends (box_value ts f job) (is_lattice_cell size job.cell)) refl (lit_under depth) where
-    by : (b : Bool) → ends (box_value ts f job) (is_lattice_cell size job.cell) ≡ b → ((half : Job) → halvings_left half.cell ≤ depth → IsVoxelJob ts size half → Has depth half) → Has (suc depth) job
+    by : (b : Bool) → ends (box_value ts f job) (is_lattice_cell size job.cell) ≡ b →
+        ((half : Job) → halvings_left half.cell ≤ depth → IsVoxelJob ts size half → Has depth half) → Has (suc depth) job
     by true e half = lit_leaf (suc depth) job h e
     by false e half =
         let k = longest job.cell in let low = left_job ts job k in let high = right_job ts job k in
@@ -72,14 +78,19 @@ module _ (ts : List Tri) (n : ℕ) (s : IsScene ts n) (f : Formula) (fit : IsFit
         let is : of job ≡ halved low high = halved_by ts f size job low high (sym e) refl refl in
         let both = halves_are_jobs ts f size job low high n s h is in
         let a = half low (omega (arith, few, less)) both.0 in let b = half high (omega (arith, few, less)) both.1 in
-        ap lit_by (under_halved of depth job low high is) ∙ lit_append (under of depth low) (under of depth high) ∙ (λ t. a t || b t) ∙ in_third (contains_cell size low.cell i j l) (contains_cell size high.cell i j l) (cell_value ts f size i j l) ∙ ap (λ t. t && cell_value ts f size i j l) (halves_cover size job.cell k i j l may)
+        ap lit_by (under_halved of depth job low high is) ∙ lit_append (under of depth low) (under of depth high)
+        ∙ (λ t. a t || b t) ∙ in_third (contains_cell size low.cell i j l) (contains_cell size high.cell i j l)
+        (cell_value ts f size i j l) ∙ ap (λ t. t && cell_value ts f size i j l)
+        (halves_cover size job.cell k i j l may)
 
   lit_is : size ≤ 12 → i < 2 ^ (12 - size) → j < 2 ^ (12 - size) → l < 2 ^ (12 - size) → is_set size (leaf_fills ts f size) i j l ≡ cell_value ts f size i j l
   lit_is le p q r =
-      lit_under (halvings_left root) (root_job ts) (omega arith) (root_is_voxel_job ts n size s le) ∙ ap (λ t. t && cell_value ts f size i j l) (root_covers size i j l le p q r)
+      lit_under (halvings_left root) (root_job ts) (omega arith) (root_is_voxel_job ts n size s le)
+      ∙ ap (λ t. t && cell_value ts f size i j l) (root_covers size i j l le p q r)
 
 -- the text by the leaves' values is that of the cells' values
-pub voxels_are : (ts : List Tri) (n : ℕ) → IsScene ts n → (f : Formula) → IsFit 64 f → (size : ℕ) (text : List ℕ) → size ≤ 12 → IsGridText size (leaf_fills ts f size) text → IsVoxelText ts f size text
+pub voxels_are : (ts : List Tri) (n : ℕ) → IsScene ts n → (f : Formula) → IsFit 64 f → (size : ℕ) (text : List ℕ) →
+    size ≤ 12 → IsGridText size (leaf_fills ts f size) text → IsVoxelText ts f size text
 voxels_are ts n s f fit size text le g = record {
   rows = g.rows;
   grid = record {

@@ -1,5 +1,6 @@
 -- The text whose rows were set in place.
-use Rattle.std.proofs.Common.{◌≡◌, ℕ, ◌+◌, ◌-◌, ◌*◌, ◌^◌, ◌<◌, ◌≤◌, List, [], ◌∷◌, ◌++◌, length, take, drop, if◌then◌else◌, count_by, codes, decimal, refl, sym, ap, ◌∙◌, subst, arith}
+use Rattle.std.proofs.Common.{◌≡◌, ℕ, ◌+◌, ◌-◌, ◌*◌, ◌^◌, ◌<◌, ◌≤◌, List, [], ◌∷◌, ◌++◌, length, take, drop}
+use Rattle.std.proofs.Common.{if◌then◌else◌, count_by, codes, decimal, refl, sym, ap, ◌∙◌, subst, arith}
 use Rattle.std.proofs.lemmas.List.{drop_all, drop_at, take_all, append-nil, length-append, length-take, length-drop}
 use Rattle.std.proofs.Math.Nat.{mul-le-mul_right}
 use Rattle.ember_voxel.specs.declared.fill.Fill.{Fill}
@@ -13,7 +14,8 @@ after_write l b t d r =
 
 written : (t r : List ℕ) (b : ℕ) → b ≤ length t → length r ≡ length t - b → after_write (length t) b t t r ≡ take b t ++ r
 written t r b le e =
-    (λ i. take (length t) (a i ++ drop (length (a i)) t)) ∙ (λ i. take (length t) (take b t ++ r ++ z i)) ∙ ap (take (length t)) (append-nil (take b t ++ r)) ∙ take_all (length t) (take b t ++ r) (omega (arith, n))
+    (λ i. take (length t) (a i ++ drop (length (a i)) t)) ∙ (λ i. take (length t) (take b t ++ r ++ z i))
+    ∙ ap (take (length t)) (append-nil (take b t ++ r)) ∙ take_all (length t) (take b t ++ r) (omega (arith, n))
   where
     p : drop (length t - b) (drop b t) ≡ []
     p = drop_all (length t - b) (drop b t) (omega (arith, length-drop b t))
@@ -39,7 +41,14 @@ row_within : (n j l : ℕ) → j < n → l < n → l * n + j < n * n
 row_within n j l p q = let h : (l + 1) * n ≤ n * n = mul-le-mul_right n (let g : l + 1 ≤ n = omega (arith, q) in g) in omega (arith, h, p, times_more l n)
 
 -- the whole text, from what each step of `grid_text` parts_make_text
-pub parts_make_text : (size n b l ones : ℕ) (fills : List Fill) (h t d r c text : List ℕ) → n ≡ 2 ^ (12 - size) → h ≡ header_of size n → AddsRows n (n * n) h t → d ≡ t → b ≡ length h → l ≡ length t → length r ≡ length (take (length d - b) (drop b d)) → ((i j m : ℕ) → i < n → j < n → m < n → char_at n r (m * n + j) i ≡ (if is_set size fills i j m then 49 else char_at n (take (length d - b) (drop b d)) (m * n + j) i)) → KeepsFeeds n (take (length d - b) (drop b d)) r → c ≡ after_write l b t d r → ones ≡ count_by is_one (take (length c - b) (drop b c)) → text ≡ after_write l b t d r ++ (codes "end " ++ decimal ones ++ codes "\n") → IsGridText size fills text
+pub parts_make_text : (size n b l ones : ℕ) (fills : List Fill) (h t d r c text : List ℕ) → n ≡ 2 ^ (12 - size) →
+    h ≡ header_of size n → AddsRows n (n * n) h t → d ≡ t → b ≡ length h → l ≡ length t →
+    length r ≡ length (take (length d - b) (drop b d)) →
+    ((i j m : ℕ) → i < n → j < n → m < n → char_at n r (m * n + j) i
+    ≡ (if is_set size fills i j m then 49 else char_at n (take (length d - b) (drop b d)) (m * n + j) i)) →
+    KeepsFeeds n (take (length d - b) (drop b d)) r → c ≡ after_write l b t d r →
+    ones ≡ count_by is_one (take (length c - b) (drop b c)) →
+    text ≡ after_write l b t d r ++ (codes "end " ++ decimal ones ++ codes "\n") → IsGridText size fills text
 parts_make_text size n b l ones fills h t d r c text is_n is_h s is_d is_b is_l len cells feeds is_c is_ones is_text = record {
   rows = r;
   grid = subst (λ m. IsGrid m (is_set size fills) r) is_n grid;
@@ -53,7 +62,10 @@ parts_make_text size n b l ones fills h t d r c text is_n is_h s is_d is_b is_l 
 
   whole : after_write l b t d r ≡ h ++ r
   whole =
-      ap (λ k. after_write k b t d r) is_l ∙ ap (λ xs. after_write (length t) b t xs r) is_d ∙ written t r b (omega (arith, is_b, ap length s.is, length-append h s.rows)) (omega (arith, size_is, is_b, ap length s.is, length-append h s.rows)) ∙ ap (λ xs. xs ++ r) (ap (take b) s.is ∙ front h s.rows b is_b)
+      ap (λ k. after_write k b t d r) is_l ∙ ap (λ xs. after_write (length t) b t xs r) is_d
+      ∙ written t r b (omega (arith, is_b, ap length s.is, length-append h s.rows))
+      (omega (arith, size_is, is_b, ap length s.is, length-append h s.rows))
+      ∙ ap (λ xs. xs ++ r) (ap (take b) s.is ∙ front h s.rows b is_b)
 
   count : ones ≡ count_by is_one r
   count = is_ones ∙ ap (count_by is_one) (ap (λ xs. take (length xs - b) (drop b xs)) (is_c ∙ whole) ∙ part h r b is_b)
@@ -64,6 +76,7 @@ parts_make_text size n b l ones fills h t d r c text is_n is_h s is_d is_b is_l 
   grid : IsGrid n (is_set size fills) r
   grid = record {
     size = size_is ∙ s.blank.size;
-    cell = λ i j m p q o. cells i j m p q o ∙ ap (λ z. if is_set size fills i j m then 49 else z) (ap (λ xs. char_at n xs (m * n + j) i) same ∙ s.blank.cell (m * n + j) i (row_within n j m q o) p);
+    cell = λ i j m p q o. cells i j m p q o ∙ ap (λ z. if is_set size fills i j m then 49 else z)
+        (ap (λ xs. char_at n xs (m * n + j) i) same ∙ s.blank.cell (m * n + j) i (row_within n j m q o) p);
     feed = λ k p. feeds.kept k ∙ ap (λ xs. char_at n xs k n) same ∙ s.blank.feed k p;
   }

@@ -1,5 +1,6 @@
 -- The bits of its cells give a lattice one text.
-use Rattle.std.proofs.Common.{◌≡◌, ℕ, zero, ◌+◌, ◌-◌, ◌*◌, ◌/◌, ◌%◌, ◌^◌, ◌<◌, Bool, inl, inr, List, ◌++◌, get_or, count_by, codes, decimal, sym, ap, ◌∙◌, subst, arith}
+use Rattle.std.proofs.Common.{◌≡◌, ℕ, zero, ◌+◌, ◌-◌, ◌*◌, ◌/◌, ◌%◌, ◌^◌, ◌<◌, Bool, inl, inr, List, ◌++◌, get_or}
+use Rattle.std.proofs.Common.{count_by, codes, decimal, sym, ap, ◌∙◌, subst, arith}
 use Rattle.std.proofs.lemmas.Bool.Decides.{eqb_tells}
 use Rattle.std.proofs.lemmas.List.{ext_get_or}
 use Rattle.std.proofs.lemmas.Nat.{div-add-mod'}
@@ -19,9 +20,13 @@ module _ (n : ℕ) (bit : ℕ → ℕ → ℕ → Bool) (a b : List ℕ) (f : Is
   same_rows : a ≡ b
   same_rows = ext_get_or 0 a b (f.size ∙ sym g.size) (λ k within.
       let some : zero < n + 1 = omega arith in
-      subst (λ m. get_or a m 0 ≡ get_or b m 0) (div-add-mod' k (n + 1)) (same_char (k / (n + 1)) (k % (n + 1)) ((div-lt_iff_lt-mul some).1 (omega (arith, within, f.size))) (mod-lt k some)))
+      subst (λ m. get_or a m 0 ≡ get_or b m 0) (div-add-mod' k (n + 1))
+      (same_char (k / (n + 1)) (k % (n + 1)) ((div-lt_iff_lt-mul some).1 (omega (arith, within, f.size)))
+      (mod-lt k some)))
 
 -- bits have one text
 pub one_text : (size : ℕ) (bit : ℕ → ℕ → ℕ → Bool) (text other : List ℕ) → IsTextOfBits size bit text → IsTextOfBits size bit other → text ≡ other
 one_text size bit text other f g =
-    f.is ∙ ap (λ rows. header_of size (2 ^ (12 - size)) ++ rows ++ (codes "end " ++ decimal (count_by is_one rows) ++ codes "\n")) (same_rows (2 ^ (12 - size)) bit f.rows g.rows f.grid g.grid) ∙ sym g.is
+    f.is ∙ ap (λ rows. header_of size (2 ^ (12 - size)) ++ rows
+    ++ (codes "end " ++ decimal (count_by is_one rows) ++ codes "\n"))
+    (same_rows (2 ^ (12 - size)) bit f.rows g.rows f.grid g.grid) ∙ sym g.is

@@ -1,9 +1,12 @@
 -- Rows of cells in which some are set: one more cell, row, layer, box.
-use Rattle.std.proofs.Common.{◌≡◌, ℕ, ◌+◌, ◌*◌, ◌/◌, ◌%◌, ◌<◌, ◌≤◌, ◌==◌, ◌&&◌, ◌||◌, Bool, true, false, nat_le, nat_lt, if◌then◌else◌, ◌⊎◌, inl, inr, List, [], ◌∷◌, ◌++◌, length, get_or, set, take, replicate, append_assoc, refl, sym, ap, ◌∙◌, subst, arith}
+use Rattle.std.proofs.Common.{◌≡◌, ℕ, ◌+◌, ◌*◌, ◌/◌, ◌%◌, ◌<◌, ◌≤◌, ◌==◌, ◌&&◌, ◌||◌, Bool, true, false, nat_le, nat_lt}
+use Rattle.std.proofs.Common.{if◌then◌else◌, ◌⊎◌, inl, inr, List, [], ◌∷◌, ◌++◌, length, get_or, set, take, replicate}
+use Rattle.std.proofs.Common.{append_assoc, refl, sym, ap, ◌∙◌, subst, arith}
 use Rattle.std.proofs.lemmas.Bool.Decides.{eqb_tells}
 use Rattle.std.proofs.lemmas.Bool.{and_parts, eq-eqb, eqb-true, ne_eqb, lt-ltb, le-ltb, ltb-true, ltb-false, le-leb, leb-true}
 use Rattle.std.proofs.lemmas.Nat.{div-mul-add, mod-mul-add}
-use Rattle.std.proofs.lemmas.List.{append-nil, get_or-set_same, get_or-set_other, length-append, length-replicate, get_or-replicate, get_or-append-add, get_or_append_left}
+use Rattle.std.proofs.lemmas.List.{append-nil, get_or-set_same, get_or-set_other, length-append, length-replicate}
+use Rattle.std.proofs.lemmas.List.{get_or-replicate, get_or-append-add, get_or_append_left}
 use Rattle.std.proofs.lemmas.List.Folds.{list_any_more}
 use Rattle.std.proofs.Math.Nat.{mul-le-mul_right}
 use Rattle.ember_box.proofs.Orders.{same_test}
@@ -60,11 +63,15 @@ same_place w q r i k l m = same_test (q * w + k == r * w + i) (q == r && k == i)
       let b : k ≡ i = eqb-true k i (and_parts (q == r) (k == i) e).1 in
       eq-eqb (q * w + k) (r * w + i) (λ x. a x * w + b x)
 
-write_at : (n r i q k v : ℕ) (xs : List ℕ) → i < n + 1 → k < n + 1 → r * (n + 1) + i < length xs → char_at n (set xs (r * (n + 1) + i) v) q k ≡ (if q == r && k == i then v else char_at n xs q k)
+write_at : (n r i q k v : ℕ) (xs : List ℕ) → i < n + 1 → k < n + 1 → r * (n + 1) + i < length xs →
+    char_at n (set xs (r * (n + 1) + i) v) q k ≡ (if q == r && k == i then v else char_at n xs q k)
 write_at n r i q k v xs l m within = by (eqb_tells (q * (n + 1) + k) (r * (n + 1) + i)) where
-  by : (((q * (n + 1) + k == r * (n + 1) + i) ≡ true) × (q * (n + 1) + k ≡ r * (n + 1) + i)) ⊎ (((q * (n + 1) + k == r * (n + 1) + i) ≡ false) × (q * (n + 1) + k ≡ r * (n + 1) + i → ⊥)) → char_at n (set xs (r * (n + 1) + i) v) q k ≡ (if q == r && k == i then v else char_at n xs q k)
+  by : (((q * (n + 1) + k == r * (n + 1) + i) ≡ true) × (q * (n + 1) + k ≡ r * (n + 1) + i)) ⊎
+      (((q * (n + 1) + k == r * (n + 1) + i) ≡ false) × (q * (n + 1) + k ≡ r * (n + 1) + i → ⊥)) →
+      char_at n (set xs (r * (n + 1) + i) v) q k ≡ (if q == r && k == i then v else char_at n xs q k)
   by (inl s) =
-      ap (λ p. get_or (set xs (r * (n + 1) + i) v) p 0) s.1 ∙ get_or-set_same xs (r * (n + 1) + i) v 0 within ∙ ap (λ b. if b then v else char_at n xs q k) (sym s.0 ∙ same_place (n + 1) q r i k l m)
+      ap (λ p. get_or (set xs (r * (n + 1) + i) v) p 0) s.1 ∙ get_or-set_same xs (r * (n + 1) + i) v 0 within
+      ∙ ap (λ b. if b then v else char_at n xs q k) (sym s.0 ∙ same_place (n + 1) q r i k l m)
   by (inr d) =
       get_or-set_other xs (r * (n + 1) + i) (q * (n + 1) + k) v 0 d.1 ∙ ap (λ b. if b then v else char_at n xs q k) (sym d.0 ∙ same_place (n + 1) q r i k l m)
 
@@ -110,13 +117,15 @@ row_none n r from old = record {
 }
 
 -- one more cell of a row is set
-pub row_more : (n r from i start : ℕ) (old now : List ℕ) → start ≡ r * (n + 1) → from ≤ i → i < n → start + i < length now → RowSet n r from i old now → RowSet n r from (i + 1) old (set now (start + i) 49)
+pub row_more : (n r from i start : ℕ) (old now : List ℕ) → start ≡ r * (n + 1) → from ≤ i → i < n →
+    start + i < length now → RowSet n r from i old now → RowSet n r from (i + 1) old (set now (start + i) 49)
 row_more n r from i start old now e le l within s =
     subst (λ p. RowSet n r from (i + 1) old (set now (p + i) 49)) (sym e) (record { cells = cells'; feeds = record { kept = feeds' } }) where
       within' : r * (n + 1) + i < length now
       within' = omega (arith, within, e)
 
-      cells' : (q k : ℕ) → k < n → char_at n (set now (r * (n + 1) + i) 49) q k ≡ (if q == r && (nat_le from k && nat_lt k (i + 1)) then 49 else char_at n old q k)
+      cells' : (q k : ℕ) → k < n → char_at n (set now (r * (n + 1) + i) 49) q k
+          ≡ (if q == r && (nat_le from k && nat_lt k (i + 1)) then 49 else char_at n old q k)
       cells' q k m =
           write_at n r i q k 49 now (omega arith) (omega arith) within'
           ∙ ap (λ o. if q == r && k == i then 49 else o) (s.cells q k m)
@@ -132,18 +141,24 @@ row_more n r from i start old now e le l within s =
 
 -- ---- a layer
 pub record LayerSet (n l from j : ℕ) (x : Extent) (old now : List ℕ) : Type 0 where
-  pub cells : (i k m : ℕ) → i < n → k < n → m < n → char_at n now (m * n + k) i ≡ (if m == l && ((nat_le from k && nat_lt k j) && between x i) then 49 else char_at n old (m * n + k) i)
+  pub cells : (i k m : ℕ) → i < n → k < n → m < n →
+      char_at n now (m * n + k) i ≡ (if m == l && ((nat_le from k && nat_lt k j) && between x i) then 49 else char_at n
+      old (m * n + k) i)
   pub feeds : KeepsFeeds n old now
 
 -- before the first row, nothing is set
 pub layer_none : (n l from : ℕ) (x : Extent) (old : List ℕ) → LayerSet n l from from x old old
 layer_none n l from x old = record {
-  cells = λ i k m a b c. sym (ap (λ t. if m == l && (t && between x i) then 49 else char_at n old (m * n + k) i) (none_yet from k) ∙ nothing (m == l) 49 (char_at n old (m * n + k) i));
+  cells = λ i k m a b c. sym (ap (λ t. if m == l && (t && between x i) then 49 else char_at n old (m * n + k) i)
+      (none_yet from k) ∙ nothing (m == l) 49 (char_at n old (m * n + k) i));
   feeds = record { kept = λ q. refl };
 }
 
 -- one more row of a layer is set
-pub layer_more : (n l from j r : ℕ) (x : Extent) (old now new : List ℕ) → r ≡ l * n + j → from ≤ j → j < n → LayerSet n l from j x old now → ((q i : ℕ) → i < n → char_at n new q i ≡ (if q == r && between x i then 49 else char_at n now q i)) → KeepsFeeds n now new → LayerSet n l from (j + 1) x old new
+pub layer_more : (n l from j r : ℕ) (x : Extent) (old now new : List ℕ) → r ≡ l * n + j → from ≤ j → j < n →
+    LayerSet n l from j x old now → ((q i : ℕ) → i < n →
+    char_at n new q i ≡ (if q == r && between x i then 49 else char_at n now q i)) → KeepsFeeds n now new →
+    LayerSet n l from (j + 1) x old new
 layer_more n l from j r x old now new e le lj s row feeds = record {
   cells = λ i k m a b c.
       row (m * n + k) i a
@@ -156,7 +171,9 @@ layer_more n l from j r x old now new e le lj s row feeds = record {
 
 -- ---- a block
 pub record BlockSet (n from l : ℕ) (x y : Extent) (old now : List ℕ) : Type 0 where
-  pub cells : (i k m : ℕ) → i < n → k < n → m < n → char_at n now (m * n + k) i ≡ (if (nat_le from m && nat_lt m l) && (between y k && between x i) then 49 else char_at n old (m * n + k) i)
+  pub cells : (i k m : ℕ) → i < n → k < n → m < n →
+      char_at n now (m * n + k) i ≡ (if (nat_le from m && nat_lt m l)
+      && (between y k && between x i) then 49 else char_at n old (m * n + k) i)
   pub feeds : KeepsFeeds n old now
 
 -- before the first layer, nothing is set
@@ -167,7 +184,10 @@ block_none n from x y old = record {
 }
 
 -- one more layer of a block is set
-pub block_more : (n from l : ℕ) (x y : Extent) (old now new : List ℕ) → from ≤ l → BlockSet n from l x y old now → ((i k m : ℕ) → i < n → k < n → m < n → char_at n new (m * n + k) i ≡ (if m == l && (between y k && between x i) then 49 else char_at n now (m * n + k) i)) → KeepsFeeds n now new → BlockSet n from (l + 1) x y old new
+pub block_more : (n from l : ℕ) (x y : Extent) (old now new : List ℕ) → from ≤ l → BlockSet n from l x y old now →
+    ((i k m : ℕ) → i < n → k < n → m < n → char_at n new (m * n + k) i
+    ≡ (if m == l && (between y k && between x i) then 49 else char_at n now (m * n + k) i)) → KeepsFeeds n now new →
+    BlockSet n from (l + 1) x y old new
 block_more n from l x y old now new le s layer feeds = record {
   cells = λ i k m a b c.
       layer i k m a b c
@@ -183,19 +203,30 @@ pub record FillsSet (size n : ℕ) (fills : List Fill) (old now : List ℕ) : Ty
   pub feeds : KeepsFeeds n old now
 
 -- the cells of one more box are set
-pub fills_more : (size n k : ℕ) (fills : List Fill) (f : Fill) (old now new : List ℕ) → k < length fills → f ≡ get_or fills k f → FillsSet size n (take k fills) old now → ((i j m : ℕ) → i < n → j < n → m < n → char_at n new (m * n + j) i ≡ (if sets_cell size i j m f then 49 else char_at n now (m * n + j) i)) → KeepsFeeds n now new → FillsSet size n (take (k + 1) fills) old new
+pub fills_more : (size n k : ℕ) (fills : List Fill) (f : Fill) (old now new : List ℕ) → k < length fills →
+    f ≡ get_or fills k f → FillsSet size n (take k fills) old now →
+    ((i j m : ℕ) → i < n → j < n → m < n → char_at n new (m * n + j) i
+    ≡ (if sets_cell size i j m f then 49 else char_at n now (m * n + j) i)) → KeepsFeeds n now new →
+    FillsSet size n (take (k + 1) fills) old new
 fills_more size n k fills f old now new within is s one feeds = record {
   cells = λ i j m a b c.
       one i j m a b c
       ∙ ap (λ o. if sets_cell size i j m f then 49 else o) (s.cells i j m a b c)
       ∙ merge_fill (sets_cell size i j m f) (is_set size (take k fills) i j m) (char_at n old (m * n + j) i)
-      ∙ ap (λ t. if t then 49 else char_at n old (m * n + j) i) (ap (λ g. is_set size (take k fills) i j m || sets_cell size i j m g) is ∙ sym (list_any_more (sets_cell size i j m) fills k f within));
+      ∙ ap (λ t. if t then 49 else char_at n old (m * n + j) i)
+      (ap (λ g. is_set size (take k fills) i j m || sets_cell size i j m g) is
+      ∙ sym (list_any_more (sets_cell size i j m) fills k f within));
   feeds = record { kept = λ q. feeds.kept q ∙ s.feeds.kept q };
 }
 
 -- ---- rows with no cell set
 pub adds_none : (n : ℕ) (old : List ℕ) → AddsRows n 0 old old
-adds_none n old = record { rows = []; is = sym (append-nil old); blank = record { size = omega arith; cell = λ r i l m. absurd (omega arith); feed = λ r l. absurd (omega arith) } }
+adds_none n old = record {
+  rows = [];
+  is = sym (append-nil old);
+  blank =
+      record { size = omega arith; cell = λ r i l m. absurd (omega arith); feed = λ r l. absurd (omega arith) };
+}
 
 abbrev line_end : List ℕ
 line_end = 10 ∷ []
@@ -204,7 +235,8 @@ abbrev pub blank_row : ℕ → List ℕ
 blank_row n = replicate n 48 ++ line_end
 
 row_end : (n : ℕ) → get_or (blank_row n) n 0 ≡ 10
-row_end n = let e : length (replicate n 48) + 0 ≡ n = omega (arith, length-replicate {A = ℕ} n 48) in ap (λ k. get_or (blank_row n) k 0) (sym e) ∙ get_or-append-add (replicate n 48) line_end 0 0
+row_end n = let e : length (replicate n 48) + 0 ≡ n = omega (arith, length-replicate {A = ℕ} n 48) in
+    ap (λ k. get_or (blank_row n) k 0) (sym e) ∙ get_or-append-add (replicate n 48) line_end 0 0
 
 row_cell : (n i : ℕ) → i < n → get_or (blank_row n) i 0 ≡ 48
 row_cell n i l = get_or_append_left (replicate n 48) line_end 0 i (omega (arith, l, length-replicate {A = ℕ} n 48)) ∙ get_or-replicate n i 48 0 l
@@ -221,10 +253,14 @@ adds_more n count old now new row s is e = record {
   };
 } where
   before : (r i : ℕ) → r < count → i < n + 1 → r * (n + 1) + i < length s.rows
-  before r i l m = let h : (r + 1) * (n + 1) ≤ count * (n + 1) = mul-le-mul_right (n + 1) (let g : r + 1 ≤ count = omega (arith, l) in g) in omega (arith, h, m, s.blank.size, times_more r (n + 1))
+  before r i l m = let h : (r + 1) * (n + 1) ≤ count * (n + 1) =
+      mul-le-mul_right (n + 1) (let g : r + 1 ≤ count = omega (arith, l) in g) in
+      omega (arith, h, m, s.blank.size, times_more r (n + 1))
 
-  by_row : (r i : ℕ) {c : ℕ} → r < count + 1 → i < n + 1 → (r < count → char_at n s.rows r i ≡ c) → (r ≡ count → get_or row i 0 ≡ c) → char_at n (s.rows ++ row) r i ≡ c
+  by_row : (r i : ℕ) {c : ℕ} → r < count + 1 → i < n + 1 → (r < count → char_at n s.rows r i ≡ c) →
+      (r ≡ count → get_or row i 0 ≡ c) → char_at n (s.rows ++ row) r i ≡ c
   by_row r i {c} l m old' new' = elim (eqb_tells r count) [
-    | inl h ↦ ap (λ k. get_or (s.rows ++ row) k 0) (let p : r * (n + 1) + i ≡ length s.rows + i = omega (arith, s.blank.size, ap (λ a. a * (n + 1)) h.1) in p) ∙ get_or-append-add s.rows row i 0 ∙ new' h.1
+    | inl h ↦ ap (λ k. get_or (s.rows ++ row) k 0) (let p : r * (n + 1) + i ≡ length s.rows + i =
+        omega (arith, s.blank.size, ap (λ a. a * (n + 1)) h.1) in p) ∙ get_or-append-add s.rows row i 0 ∙ new' h.1
     | inr h ↦ let k : r < count = omega (arith, l, h.1) in get_or_append_left s.rows row 0 (r * (n + 1) + i) (before r i k m) ∙ old' k
   ]

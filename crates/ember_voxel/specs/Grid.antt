@@ -1,5 +1,7 @@
 -- The text of a lattice: a character for each cell, a line for each row
-use Rattle.std.specs.Prelude.{◌≡◌, ℕ, ◌+◌, ◌-◌, ◌*◌, ◌^◌, ◌<◌, ◌≤◌, ◌==◌, Bool, ◌&&◌, nat_le, nat_lt, int_le, int_lt, ℤ, pos, ◌-ℤ◌, if◌then◌else◌, List, ◌++◌, length, count_by, slice_index_or, codes, decimal}
+use Rattle.std.specs.Prelude.{◌≡◌, ℕ, ◌+◌, ◌-◌, ◌*◌, ◌^◌, ◌<◌, ◌≤◌, ◌==◌, Bool, ◌&&◌, nat_le, nat_lt}
+use Rattle.std.specs.Prelude.{int_le, int_lt, ℤ, pos, ◌-ℤ◌, if◌then◌else◌, List, ◌++◌, length, count_by}
+use Rattle.std.specs.Prelude.{slice_index_or, codes, decimal}
 use Rattle.std.specs.List.{list_any}
 use Rattle.ember_model.specs.declared.point.Axis.{Axis}
 use Rattle.ember_model.specs.declared.point.Axis.TheVariants.{X, Y, Z}

@@ -1,5 +1,6 @@
 -- The corners of a face, one after another
-use Rattle.std.proofs.Common.{◌≡◌, ℕ, zero, suc, ◌+◌, ◌≤◌, List, [], ◌∷◌, ◌++◌, length, drop, map, refl, sym, ap, ◌∙◌, append_assoc, arith, Some, Result, Ok, Err}
+use Rattle.std.proofs.Common.{◌≡◌, ℕ, zero, suc, ◌+◌, ◌≤◌, List, [], ◌∷◌, ◌++◌, length, drop, map, refl, sym, ap, ◌∙◌}
+use Rattle.std.proofs.Common.{append_assoc, arith, Some, Result, Ok, Err}
 use Rattle.std.specs.Prelude.{slice_get}
 use Rattle.std.proofs.lemmas.List.{append-nil}
 use Rattle.ember_scan.specs.declared.part.Part.{Part}
@@ -20,7 +21,11 @@ drop_got (w ∷ ws) (suc i) word got =
     drop_got ws i word got ∙ ap (λ n. word ∷ drop n (w ∷ ws)) (sym next)
 
 -- a reference more is read
-pub corners_more : (all : Result (List ℕ) Fault) (line v : ℕ) (items new : List ℕ) (corner i : ℕ) (references : List Part) (reference : Part) → slice_get references i ≡ Some reference → all ≡ in_front items (corners_of line v (map piece_of (drop i references))) → corner_in line v (piece_of reference) ≡ Ok corner → new ≡ items ++ corner ∷ [] → all ≡ in_front new (corners_of line v (map piece_of (drop (i + 1) references)))
+pub corners_more : (all : Result (List ℕ) Fault) (line v : ℕ) (items new : List ℕ) (corner i : ℕ)
+    (references : List Part) (reference : Part) → slice_get references i ≡ Some reference →
+    all ≡ in_front items (corners_of line v (map piece_of (drop i references))) →
+    corner_in line v (piece_of reference) ≡ Ok corner → new ≡ items ++ corner ∷ [] →
+    all ≡ in_front new (corners_of line v (map piece_of (drop (i + 1) references)))
 corners_more all line v items new corner i references reference got so_far read n =
     let more : Result (List ℕ) Fault = corners_of line v (map piece_of (drop (i + 1) references)) in
     so_far
@@ -30,7 +35,10 @@ corners_more all line v items new corner i references reference got so_far read 
     ∙ ap (λ xs. in_front xs more) (sym n)
 
 -- a reference names no vertex
-pub corners_fault : (all : Result (List ℕ) Fault) (line v : ℕ) (items : List ℕ) (fault : Fault) (i : ℕ) (references : List Part) (reference : Part) → slice_get references i ≡ Some reference → all ≡ in_front items (corners_of line v (map piece_of (drop i references))) → corner_in line v (piece_of reference) ≡ Err fault → all ≡ Err fault
+pub corners_fault : (all : Result (List ℕ) Fault) (line v : ℕ) (items : List ℕ) (fault : Fault) (i : ℕ)
+    (references : List Part) (reference : Part) → slice_get references i ≡ Some reference →
+    all ≡ in_front items (corners_of line v (map piece_of (drop i references))) →
+    corner_in line v (piece_of reference) ≡ Err fault → all ≡ Err fault
 corners_fault all line v items fault i references reference got so_far read =
     so_far
     ∙ ap (λ ws. in_front items (corners_of line v (map piece_of ws))) (drop_got references i reference got)
@@ -43,7 +51,8 @@ drop_all (w ∷ ws) zero past = absurd (omega arith)
 drop_all (w ∷ ws) (suc i) past = drop_all ws i (omega arith)
 
 -- no reference is left
-pub corners_end : (all : Result (List ℕ) Fault) (line v : ℕ) (items : List ℕ) (i : ℕ) (references : List Part) → length references ≤ i → all ≡ in_front items (corners_of line v (map piece_of (drop i references))) → all ≡ Ok items
+pub corners_end : (all : Result (List ℕ) Fault) (line v : ℕ) (items : List ℕ) (i : ℕ) (references : List Part) →
+    length references ≤ i → all ≡ in_front items (corners_of line v (map piece_of (drop i references))) → all ≡ Ok items
 corners_end all line v items i references past so_far =
     so_far
     ∙ ap (λ ws. in_front items (corners_of line v (map piece_of ws))) (drop_all references i past)

@@ -17,9 +17,11 @@ counted_past vertices back number past =
     ]
 
 -- a number may be cut down to a limit above the count of vertices
-pub counted_capped : (limit vertices : ℕ) (back : Bool) (number : ℕ) → vertices < limit → counted vertices back (min limit number) ≡ counted vertices back number
+pub counted_capped : (limit vertices : ℕ) (back : Bool) (number : ℕ) → vertices < limit →
+    counted vertices back (min limit number) ≡ counted vertices back number
 counted_capped limit vertices back number few =
     elim (cases_Bool (nat_le number limit)) [
       | inl h ↦ let same : min limit number ≡ number = omega (arith, leb-true number limit h) in ap (counted vertices back) same
-      | inr h ↦ counted_past vertices back (min limit number) (omega (arith, leb-false number limit h)) ∙ sym (counted_past vertices back number (omega (arith, leb-false number limit h)))
+      | inr h ↦ counted_past vertices back (min limit number) (omega (arith, leb-false number limit h))
+          ∙ sym (counted_past vertices back number (omega (arith, leb-false number limit h)))
     ]

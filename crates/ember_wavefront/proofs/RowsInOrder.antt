@@ -13,11 +13,17 @@ after_fault fault [] = refl
 after_fault fault (row ∷ rows) = refl
 
 -- the first row is read
-pub row_read : (all : Result Content Fault) (content new : Content) (line : ℕ) (words : List Piece) (rows more : List Row) → all ≡ after_rows (Ok content) rows → rows ≡ record { line = line; words = words } ∷ more → after_words line content words ≡ Ok new → all ≡ after_rows (Ok new) more
+pub row_read : (all : Result Content Fault) (content new : Content) (line : ℕ) (words : List Piece)
+    (rows more : List Row) → all ≡ after_rows (Ok content) rows → rows ≡ record { line = line; words = words } ∷ more →
+    after_words line content words ≡ Ok new → all ≡ after_rows (Ok new) more
 row_read all content new line words rows more so_far is read = so_far ∙ ap (after_rows (Ok content)) is ∙ ap (λ r. after_rows r more) read
 
 -- the first row has a fault, or out-of-memory
-pub row_fault : (all : Result Content Fault) (content : Content) (error : WavefrontFault) (line : ℕ) (words read : List Piece) (rows more : List Row) → all ≡ after_rows (Ok content) rows → rows ≡ record { line = line; words = words } ∷ more → read ≡ words → (error ≡ OutOfMemory) ⊎ (after_words line content read ≡ Err (fault_of error)) → (error ≡ OutOfMemory) ⊎ (all ≡ Err (fault_of error))
+pub row_fault : (all : Result Content Fault) (content : Content) (error : WavefrontFault) (line : ℕ)
+    (words read : List Piece) (rows more : List Row) → all ≡ after_rows (Ok content) rows →
+    rows ≡ record { line = line; words = words } ∷ more → read ≡ words →
+    (error ≡ OutOfMemory) ⊎ (after_words line content read ≡ Err (fault_of error)) →
+    (error ≡ OutOfMemory) ⊎ (all ≡ Err (fault_of error))
 row_fault all content error line words read rows more so_far is same (inl memory) = inl memory
 row_fault all content error line words read rows more so_far is same (inr fault) =
     inr (so_far
@@ -27,6 +33,7 @@ row_fault all content error line words read rows more so_far is same (inr fault)
     ∙ after_fault (fault_of error) more)
 
 -- no row is left
-pub no_rows : (all : Result Content Fault) (content : Content) (number s : ℕ) (text : List ℕ) → all ≡ after_rows (Ok content) (rows_from number (lines_from s text)) → length text ≡ 0 → all ≡ Ok content
+pub no_rows : (all : Result Content Fault) (content : Content) (number s : ℕ) (text : List ℕ) →
+    all ≡ after_rows (Ok content) (rows_from number (lines_from s text)) → length text ≡ 0 → all ≡ Ok content
 no_rows all content number s [] so_far none = so_far
 no_rows all content number s (b ∷ bs) so_far none = absurd (omega arith)

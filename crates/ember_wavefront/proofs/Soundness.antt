@@ -1,5 +1,6 @@
 -- Each corner that is read is a vertex
-use Rattle.std.proofs.Common.{◌≡◌, ℕ, Bool, true, false, ◌<◌, ◌≤◌, ◌-◌, List, [], ◌∷◌, ◌++◌, length, length-append, refl, sym, subst, arith, inl, inr, Option, None, Some, Result, Ok, Err, All}
+use Rattle.std.proofs.Common.{◌≡◌, ℕ, Bool, true, false, ◌<◌, ◌≤◌, ◌-◌, List, [], ◌∷◌, ◌++◌, length, length-append}
+use Rattle.std.proofs.Common.{refl, sym, subst, arith, inl, inr, Option, None, Some, Result, Ok, Err, All}
 use Rattle.std.specs.Prelude.{if◌then◌else◌, nat_lt, nat_le, IfOk, IfSome}
 use Rattle.std.proofs.lemmas.Bool.{cases_Bool, ltb-true, leb-true}
 use Rattle.std.proofs.lemmas.List.{length-map}
@@ -15,7 +16,10 @@ use Rattle.ember_wavefront.specs.declared.reading.Keyword.{Keyword}
 use Rattle.ember_wavefront.specs.declared.reading.Keyword.TheVariants.{Vertex, Face, Other}
 use Rattle.ember_wavefront.specs.Faults.{Fault, FewCorners}
 use Rattle.ember_wavefront.specs.Rows.{Row, rows_of}
-use Rattle.ember_wavefront.specs.ReadWavefront.{point_in, counted, vertex_named, corner_or_fault, with_corner, corners_of, fan_or_fault, facets_in, keyword_of, with_point, with_facets, after_keyword, after_words, after_rows, content_in, near_or_fault, with_triangles, as_mesh, read_wavefront_of}
+use Rattle.ember_wavefront.specs.ReadWavefront.{point_in, counted, vertex_named, corner_or_fault, with_corner}
+use Rattle.ember_wavefront.specs.ReadWavefront.{corners_of, fan_or_fault, facets_in, keyword_of, with_point}
+use Rattle.ember_wavefront.specs.ReadWavefront.{with_facets, after_keyword, after_words, after_rows, content_in}
+use Rattle.ember_wavefront.specs.ReadWavefront.{near_or_fault, with_triangles, as_mesh, read_wavefront_of}
 
 -- all corners of the triangle are indices below n
 abbrev pub IsBelow : ℕ → Facet → Type 0
@@ -34,7 +38,9 @@ counted_below v back n =
     elim (cases_Bool (nat_lt 0 n)) [
       | inl p ↦
           elim (cases_Bool (nat_le n v)) [
-            | inl q ↦ let e : counted v back n ≡ Some (if back then v - n else n - 1) = rw (p, q) refl in subst (λ (r : Option ℕ). IfSome r (λ c. c < v)) (sym e) (index_below v back n (ltb-true 0 n p) (leb-true n v q))
+            | inl q ↦ let e : counted v back n ≡ Some (if back then v - n else n - 1) = rw (p, q) refl in
+                subst (λ (r : Option ℕ). IfSome r (λ c. c < v)) (sym e)
+                (index_below v back n (ltb-true 0 n p) (leb-true n v q))
             | inr q ↦ let e : counted v back n ≡ None = rw (p, q) refl in subst (λ (r : Option ℕ). IfSome r (λ c. c < v)) (sym e) tt
           ]
       | inr p ↦ let e : counted v back n ≡ None = rw p refl in subst (λ (r : Option ℕ). IfSome r (λ c. c < v)) (sym e) tt
@@ -53,7 +59,8 @@ corner_below : (v line : ℕ) (reference : Piece) (corner : Option ℕ) → IfSo
 corner_below v line reference None h = tt
 corner_below v line reference (Some corner) h = h
 
-with_below : (v : ℕ) (corner : Result ℕ Fault) (more : Result (List ℕ) Fault) → IfOk corner (λ c. c < v) → IfOk more (All (λ c. c < v)) → IfOk (with_corner corner more) (All (λ c. c < v))
+with_below : (v : ℕ) (corner : Result ℕ Fault) (more : Result (List ℕ) Fault) → IfOk corner (λ c. c < v) →
+    IfOk more (All (λ c. c < v)) → IfOk (with_corner corner more) (All (λ c. c < v))
 with_below v (Err fault) more h hs = tt
 with_below v (Ok corner) (Err fault) h hs = tt
 with_below v (Ok corner) (Ok corners) h hs = All-cons (λ c. c < v) corner corners h hs
@@ -61,7 +68,9 @@ with_below v (Ok corner) (Ok corners) h hs = All-cons (λ c. c < v) corner corne
 corners_below : (line v : ℕ) (references : List Piece) → IfOk (corners_of line v references) (All (λ c. c < v))
 corners_below line v [] = All-nil (λ c. c < v)
 corners_below line v (reference ∷ references) =
-    with_below v (corner_or_fault line reference (vertex_named v reference)) (corners_of line v references) (corner_below v line reference (vertex_named v reference) (named_below v reference)) (corners_below line v references)
+    with_below v (corner_or_fault line reference (vertex_named v reference)) (corners_of line v references)
+    (corner_below v line reference (vertex_named v reference) (named_below v reference))
+    (corners_below line v references)
 
 fan_round_below : (v place first : ℕ) (others : List ℕ) → first < v → All (λ c. c < v) others → All (IsBelow v) (fan_round place first others)
 fan_round_below v place first [] h hs = All-nil (IsBelow v)
@@ -70,7 +79,8 @@ fan_round_below v place first (p ∷ q ∷ more) h hs =
     let rest : All (λ c. c < v) (q ∷ more) = All-tail (λ c. c < v) p (q ∷ more) hs in
     let third : All (λ c. c < v) (q ∷ []) = All-cons (λ c. c < v) q [] (All-head (λ c. c < v) q more rest) (All-nil (λ c. c < v)) in
     let second : All (λ c. c < v) (p ∷ q ∷ []) = All-cons (λ c. c < v) p (q ∷ []) (All-head (λ c. c < v) p (q ∷ more) hs) third in
-    All-cons (IsBelow v) (record { corners = first ∷ p ∷ q ∷ []; place = place }) (fan_round place first (q ∷ more)) (All-cons (λ c. c < v) first (p ∷ q ∷ []) h second) (fan_round_below v place first (q ∷ more) h rest)
+    All-cons (IsBelow v) (record { corners = first ∷ p ∷ q ∷ []; place = place }) (fan_round place first (q ∷ more))
+    (All-cons (λ c. c < v) first (p ∷ q ∷ []) h second) (fan_round_below v place first (q ∷ more) h rest)
 
 fan_below : (v place : ℕ) (corners : List ℕ) → All (λ c. c < v) corners → All (IsBelow v) (fan place corners)
 fan_below v place [] hs = All-nil (IsBelow v)
@@ -91,16 +101,21 @@ below_more v w facets more h = λ k d l. λ i e m. omega (arith, h k d l i e m, 
 
 point_sound : (content : Content) (p : Result Point Fault) → IsSound content → IfOk (with_point content p) IsSound
 point_sound content (Err fault) h = tt
-point_sound content (Ok p) h = below_more (length content.points) (length (content.points ++ p ∷ [])) content.facets (omega (arith, length-append content.points (p ∷ []))) h
+point_sound content (Ok p) h = below_more (length content.points) (length (content.points ++ p ∷ [])) content.facets
+    (omega (arith, length-append content.points (p ∷ []))) h
 
-facets_sound : (content : Content) (facets : Result (List Facet) Fault) → IsSound content → IfOk facets (All (IsBelow (length content.points))) → IfOk (with_facets content facets) IsSound
+facets_sound : (content : Content) (facets : Result (List Facet) Fault) → IsSound content →
+    IfOk facets (All (IsBelow (length content.points))) → IfOk (with_facets content facets) IsSound
 facets_sound content (Err fault) h hs = tt
 facets_sound content (Ok facets) h hs = All-append (IsBelow (length content.points)) content.facets facets h hs
 
-keyword_sound : (line : ℕ) (content : Content) (keyword : Keyword) (words : List Piece) → IsSound content → IfOk (after_keyword line content keyword words) IsSound
+keyword_sound : (line : ℕ) (content : Content) (keyword : Keyword) (words : List Piece) → IsSound content →
+    IfOk (after_keyword line content keyword words) IsSound
 keyword_sound line content Vertex words h = point_sound content (point_in line words) h
 keyword_sound line content Face words h =
-    facets_sound content (facets_in line (length content.points) words) h (face_below (length content.points) line (corners_of line (length content.points) words) (corners_below line (length content.points) words))
+    facets_sound content (facets_in line (length content.points) words) h
+    (face_below (length content.points) line (corners_of line (length content.points) words)
+    (corners_below line (length content.points) words))
 keyword_sound line content Other words h = h
 
 words_sound : (line : ℕ) (content : Content) (words : List Piece) → IsSound content → IfOk (after_words line content words) IsSound

@@ -1,5 +1,6 @@
 -- What the bytes of an OBJ file mean: points and triangles, or the first fault
-use Rattle.std.specs.Prelude.{ℕ, ◌-◌, Bool, ◌&&◌, List, [], ◌∷◌, ◌++◌, if◌then◌else◌, ◌==◌, nat_lt, nat_le, length, Option, None, Some, Result, Ok, Err}
+use Rattle.std.specs.Prelude.{ℕ, ◌-◌, Bool, ◌&&◌, List, [], ◌∷◌, ◌++◌, if◌then◌else◌, ◌==◌, nat_lt}
+use Rattle.std.specs.Prelude.{nat_le, length, Option, None, Some, Result, Ok, Err}
 use Rattle.ember_dec.specs.Decimal.{number_from, is_minus}
 use Rattle.ember_number.specs.Fractions.{Fraction}
 use Rattle.ember_number.specs.Texts.{value_of_text}
@@ -9,7 +10,8 @@ use Rattle.ember_surface.specs.declared.surface.Facet.{Facet}
 use Rattle.ember_surface.specs.Surfaces.{Point, Content, fan, first_far}
 use Rattle.ember_wavefront.specs.declared.reading.Keyword.{Keyword}
 use Rattle.ember_wavefront.specs.declared.reading.Keyword.TheVariants.{Vertex, Face, Other}
-use Rattle.ember_wavefront.specs.Faults.{Fault, FewCoordinates, NotANumber, UnknownVertex, FewCorners, NoTriangles, TooLarge}
+use Rattle.ember_wavefront.specs.Faults.{Fault, FewCoordinates, NotANumber, UnknownVertex, FewCorners}
+use Rattle.ember_wavefront.specs.Faults.{NoTriangles, TooLarge}
 use Rattle.ember_wavefront.specs.Rows.{Row, rows_of}
 
 -- ---- vertices

@@ -31,7 +31,8 @@ module _ (f : Face) (e : Vector) (x : Spot) (wx : pos 0 <ℤ x.w) (flat : value_
       let a = *ℤ_comm k.start.w (high end) in let b = *ℤ_comm end.w (high k.start) in
       omega (arith, linear, m, a, b)
 
-  chain_falls : (end : Spot) → pos 0 <ℤ end.w → (k : RingEdge) (es : List RingEdge) → IsEdgeChain f end (k ∷ es) → AllByRecursion Falls (k ∷ es) → (high end *ℤ k.start.w) <ℤ (high k.start *ℤ end.w)
+  chain_falls : (end : Spot) → pos 0 <ℤ end.w → (k : RingEdge) (es : List RingEdge) → IsEdgeChain f end (k ∷ es) →
+      AllByRecursion Falls (k ∷ es) → (high end *ℤ k.start.w) <ℤ (high k.start *ℤ end.w)
   chain_falls end we k [] c b = edge_falls k end c b.0
   chain_falls end we k (d ∷ es) c b =
       let wd = (end_on f k d.start c.0).closed.weight in let wk = (start_on f k d.start c.0).closed.weight in

@@ -1,5 +1,7 @@
 -- Certified triangles: their edges add what the segments of the faces add.
-use Rattle.std.proofs.Common.{◌≡◌, ◌≢◌, ⊎_elim, refl, sym, ap, ◌∙◌, arith, nat_eq, ◌&&◌, Bool, true, false, cond, Option, Some, None, List, [], ◌∷◌, slice_get, length, ℕ, zero, suc, ◌<◌, ℤ, pos, neg_ℤ, ◌+ℤ◌, ◌-ℤ◌, ◌*ℤ◌, ◌<ℤ◌}
+use Rattle.std.proofs.Common.{◌≡◌, ◌≢◌, ⊎_elim, refl, sym, ap, ◌∙◌, arith, nat_eq, ◌&&◌, Bool, true, false, cond}
+use Rattle.std.proofs.Common.{Option, Some, None, List, [], ◌∷◌, slice_get, length, ℕ, zero, suc, ◌<◌, ℤ, pos, neg_ℤ}
+use Rattle.std.proofs.Common.{◌+ℤ◌, ◌-ℤ◌, ◌*ℤ◌, ◌<ℤ◌}
 use Rattle.std.specs.List.{All, AllByRecursion, AllZip}
 use borrow.Author.Differences.{ints}
 use Rattle.std.proofs.lemmas.Bool.{eqb-true, leb-true, leb-false}
@@ -72,13 +74,15 @@ passing_odd n e x u v =
 
 found_odd : (a : Axis) (p : Spot) (q : Vector) (n : Option Plane) (u v : Option SpacePoint) → passing_found a p q n v u ≡ neg_ℤ (passing_found a p q n u v)
 found_odd a p q (Some n) (Some u) (Some v) =
-    ap (λ (z : ℤ). front_sign n a p *ℤ z) (passing_odd n (level_with n q) (hit n a p) (spot_of u) (spot_of v)) ∙ *ℤ-neg (front_sign n a p) (ray_passing n a p q (spot_of u) (spot_of v))
+    ap (λ (z : ℤ). front_sign n a p *ℤ z) (passing_odd n (level_with n q) (hit n a p) (spot_of u) (spot_of v))
+    ∙ *ℤ-neg (front_sign n a p) (ray_passing n a p q (spot_of u) (spot_of v))
 found_odd a p q None u v = refl
 found_odd a p q (Some n) None None = refl
 found_odd a p q (Some n) None (Some v) = refl
 found_odd a p q (Some n) (Some u) None = refl
 
-module _ (ps : List Plane) (ls : List LineKey) (cs : List SpacePoint) (a : Axis) (q : Vector) (p : Spot) (wp : pos 0 <ℤ p.w) (across : AllByRecursion (λ n. IsAcross q n) ps) (off : IsOffTables ps cs a q p) where
+module _ (ps : List Plane) (ls : List LineKey) (cs : List SpacePoint) (a : Axis) (q : Vector) (p : Spot)
+    (wp : pos 0 <ℤ p.w) (across : AllByRecursion (λ n. IsAcross q n) ps) (off : IsOffTables ps cs a q p) where
   abbrev of_segment : Segment → ℤ
   of_segment s = passing_of ps cs a p q s
 
@@ -94,10 +98,17 @@ module _ (ps : List Plane) (ls : List LineKey) (cs : List SpacePoint) (a : Axis)
     high : along n a ≢ pos 0 → (c : SpacePoint) (j : ℕ) → slice_get cs j ≡ Some c → height n (level_with n q) (hit n a p) (spot_of c) ≢ pos 0
     high nz c j e =
         let some = along_normal n a nz in
-        height_nonzero n a p nz some (level_with n q) (spot_of c) c.valid.positive (level_is n q) (each_get (λ n. IsAcross q n) ps i n across en some) (each_get (λ c. IsOffPlane (at_hit_of (level_plane n (level_with n q) (spot_of c)) n a) p) cs j c (each_get (λ n. AllByRecursion (λ c. IsOffPlane (at_hit_of (level_plane n (level_with n q) (spot_of c)) n a) p) cs) ps i n off.heights en) e)
+        height_nonzero n a p nz some (level_with n q) (spot_of c) c.valid.positive (level_is n q)
+        (each_get (λ n. IsAcross q n) ps i n across en some)
+        (each_get (λ c. IsOffPlane (at_hit_of (level_plane n (level_with n q) (spot_of c)) n a) p) cs j c
+        (each_get (λ n. AllByRecursion (λ c. IsOffPlane (at_hit_of (level_plane n (level_with n q) (spot_of c)) n a)
+        p) cs) ps i n off.heights en) e)
 
     -- two corners on a line
-    entries_by_line : (k : LineKey) (u v : SpacePoint) (iu iv : ℕ) → slice_get cs iu ≡ Some u → slice_get cs iv ≡ Some v → IsCornerOnLine k u → IsCornerOnLine k v → passing_found a p q (Some n) (Some u) (Some v) ≡ below_found a p q (Some n) (Some k) (Some u) -ℤ below_found a p q (Some n) (Some k) (Some v)
+    entries_by_line : (k : LineKey) (u v : SpacePoint) (iu iv : ℕ) → slice_get cs iu ≡ Some u →
+        slice_get cs iv ≡ Some v → IsCornerOnLine k u → IsCornerOnLine k v →
+        passing_found a p q (Some n) (Some u) (Some v) ≡ below_found a p q (Some n) (Some k) (Some u) -ℤ below_found a p q
+        (Some n) (Some k) (Some v)
     entries_by_line k u v iu iv eu ev on_u on_v = ⊎_elim none some (front_or_along n a p)
       where
         e : Vector
@@ -106,15 +117,20 @@ module _ (ps : List Plane) (ls : List LineKey) (cs : List SpacePoint) (a : Axis)
         x : Spot
         x = hit n a p
 
-        none : front_sign n a p ≡ pos 0 → passing_found a p q (Some n) (Some u) (Some v) ≡ below_found a p q (Some n) (Some k) (Some u) -ℤ below_found a p q (Some n) (Some k) (Some v)
+        none : front_sign n a p ≡ pos 0 → passing_found a p q (Some n) (Some u) (Some v) ≡ below_found a p q (Some n)
+            (Some k) (Some u) -ℤ below_found a p q (Some n) (Some k) (Some v)
         none z =
             let f = λ (y : ℤ). ap (λ (s : ℤ). s *ℤ y) z ∙ zero-*ℤ y in
             let b = f (ray_passing n a p q (spot_of u) (spot_of v)) in let c = f (below_on n e x k (spot_of u)) in let d = f (below_on n e x k (spot_of v)) in
             omega (arith, linear, b, c, d)
 
-        some : along n a ≢ pos 0 → passing_found a p q (Some n) (Some u) (Some v) ≡ below_found a p q (Some n) (Some k) (Some u) -ℤ below_found a p q (Some n) (Some k) (Some v)
+        some : along n a ≢ pos 0 → passing_found a p q (Some n) (Some u) (Some v) ≡ below_found a p q (Some n) (Some k)
+            (Some u) -ℤ below_found a p q (Some n) (Some k) (Some v)
         some nz =
-            ap (λ (z : ℤ). front_sign n a p *ℤ z) (passing_by_line n e x (spot_of u) (spot_of v) k (hit_weight n a p nz wp) u.valid.positive v.valid.positive on_u.directed on_u.on on_v.on (high nz u iu eu) (high nz v iv ev)) ∙ product_difference (front_sign n a p) (below_on n e x k (spot_of u)) (below_on n e x k (spot_of v))
+            ap (λ (z : ℤ). front_sign n a p *ℤ z)
+            (passing_by_line n e x (spot_of u) (spot_of v) k (hit_weight n a p nz wp) u.valid.positive
+            v.valid.positive on_u.directed on_u.on on_v.on (high nz u iu eu) (high nz v iv ev))
+            ∙ product_difference (front_sign n a p) (below_on n e x k (spot_of u)) (below_on n e x k (spot_of v))
           where
             product_difference : (s y z : ℤ) → s *ℤ (y -ℤ z) ≡ s *ℤ y -ℤ s *ℤ z
             product_difference s y z = let c = *ℤ-+ℤ s y (neg_ℤ z) in let d = *ℤ-neg s z in omega (arith, linear, c, d)
@@ -123,12 +139,16 @@ module _ (ps : List Plane) (ls : List LineKey) (cs : List SpacePoint) (a : Axis)
   segment_by_line : (edge : FaceEdge) (s : Segment) → IsSegmentOf ps ls cs edge s → of_segment s ≡ of_ends s
   segment_by_line edge s h =
       let n = h.plane.entry in let k = h.line.entry in let u = h.start.entry in let v = h.end.entry in
-      let ou = corner_on_three edge.support edge.before edge.plane (spot_of u) h.start.holds (meet_weight edge.support edge.before edge.plane h.start.holds.one) in
+      let ou = corner_on_three edge.support edge.before edge.plane (spot_of u) h.start.holds
+      (meet_weight edge.support edge.before edge.plane h.start.holds.one) in
       let ov = corner_on_three edge.support edge.plane edge.after (spot_of v) h.end.holds (meet_weight edge.support edge.plane edge.after h.end.holds.one) in
       let directed = key_directed h.line.holds in
       let on_u : IsCornerOnLine k u = record { directed = directed; on = (points_of_key h.line.holds (spot_of u)).1 (ou.first, ou.third) } in
       let on_v : IsCornerOnLine k v = record { directed = directed; on = (points_of_key h.line.holds (spot_of v)).1 (ov.first, ov.second) } in
-      (λ i. passing_found a p q (h.plane.here i) (h.start.here i) (h.end.here i)) ∙ entries_by_line n s.plane h.plane.here k u v s.start s.end h.start.here h.end.here on_u on_v ∙ sym (λ i. below_found a p q (h.plane.here i) (h.line.here i) (h.start.here i) -ℤ below_found a p q (h.plane.here i) (h.line.here i) (h.end.here i))
+      (λ i. passing_found a p q (h.plane.here i) (h.start.here i) (h.end.here i))
+      ∙ entries_by_line n s.plane h.plane.here k u v s.start s.end h.start.here h.end.here on_u on_v
+      ∙ sym (λ i. below_found a p q (h.plane.here i) (h.line.here i) (h.start.here i) -ℤ below_found a p q
+      (h.plane.here i) (h.line.here i) (h.end.here i))
 
   segments_by_lines : (edges : List FaceEdge) (ss : List Segment) → AllZip (IsSegmentOf ps ls cs) edges ss → total of_segment ss ≡ total of_ends ss
   segments_by_lines [] [] h = refl
@@ -157,12 +177,16 @@ module _ (ps : List Plane) (ls : List LineKey) (cs : List SpacePoint) (a : Axis)
       by : (b : Bool) → is_free ls s ≡ b → of_segment s ≡ of_ends s +ℤ of_free s
       by true e =
           let z = slice_get_past ls s.line (leb-true (length ls) s.line e) in
-          let c : of_ends s ≡ pos 0 = (λ i. below_found a p q (h.plane_here i) (z i) (slice_get cs s.start) -ℤ below_found a p q (h.plane_here i) (z i) (slice_get cs s.end)) in
+          let c : of_ends s ≡ pos 0 = (λ i. below_found a p q (h.plane_here i) (z i) (slice_get cs s.start) -ℤ
+          below_found a p q (h.plane_here i) (z i) (slice_get cs s.end)) in
           let d : of_free s ≡ of_segment s = (λ i. cond (e i) (of_segment s) (pos 0)) in omega (arith, linear, c, d)
       by false e =
           let k = some_entry ls s.line (leb-false (length ls) s.line e) in
           let on_u = on.start k.0 h.start k.1 h.start_here in let on_v = on.end k.0 h.end k.1 h.end_here in
-          let c : of_segment s ≡ of_ends s = (λ i. passing_found a p q (h.plane_here i) (h.start_here i) (h.end_here i)) ∙ entries_by_line h.plane s.plane h.plane_here k.0 h.start h.end s.start s.end h.start_here h.end_here on_u on_v ∙ sym (λ i. below_found a p q (h.plane_here i) (k.1 i) (h.start_here i) -ℤ below_found a p q (h.plane_here i) (k.1 i) (h.end_here i)) in
+          let c : of_segment s ≡ of_ends s = (λ i. passing_found a p q (h.plane_here i) (h.start_here i) (h.end_here i))
+          ∙ entries_by_line h.plane s.plane h.plane_here k.0 h.start h.end s.start s.end h.start_here h.end_here on_u
+          on_v ∙ sym (λ i. below_found a p q (h.plane_here i) (k.1 i) (h.start_here i) -ℤ below_found a p q
+          (h.plane_here i) (k.1 i) (h.end_here i)) in
           let d : of_free s ≡ pos 0 = (λ i. cond (e i) (of_segment s) (pos 0)) in omega (arith, linear, c, d)
 
   -- the edges of a proper triangle have entries
@@ -171,7 +195,9 @@ module _ (ps : List Plane) (ls : List LineKey) (cs : List SpacePoint) (a : Axis)
     second : HasEntries t.second
     third : HasEntries t.third
 
-  front_entries : (n : Option Plane) (u v w : Option SpacePoint) → FacesFrontOf n u v w → (n' : Plane) × (u' : SpacePoint) × (v' : SpacePoint) × (w' : SpacePoint) × (n ≡ Some n') × (u ≡ Some u') × (v ≡ Some v') × (w ≡ Some w')
+  front_entries : (n : Option Plane) (u v w : Option SpacePoint) → FacesFrontOf n u v w →
+      (n' : Plane) × (u' : SpacePoint) × (v' : SpacePoint) × (w' : SpacePoint) × (n ≡ Some n') × (u ≡ Some u') ×
+      (v ≡ Some v') × (w ≡ Some w')
   front_entries (Some n) (Some u) (Some v) (Some w) f = (n, u, v, w, refl, refl, refl, refl)
   front_entries None u v w f = absurd f
   front_entries (Some n) None v w f = absurd f
@@ -189,11 +215,28 @@ module _ (ps : List Plane) (ls : List LineKey) (cs : List SpacePoint) (a : Axis)
       let h = front_entries (slice_get ps t.first.plane) (slice_get cs t.first.start) (slice_get cs t.second.start) (slice_get cs t.third.start) proper.front in
       record {
         first = record { plane = h.0; start = h.1; end = h.2; plane_here = h.4; start_here = h.5; end_here = ap (slice_get cs) e1 ∙ h.6 };
-        second = record { plane = h.0; start = h.2; end = h.3; plane_here = ap (slice_get ps) (sym p2) ∙ h.4; start_here = h.6; end_here = ap (slice_get cs) e2 ∙ h.7 };
-        third = record { plane = h.0; start = h.3; end = h.1; plane_here = ap (slice_get ps) (sym p3) ∙ h.4; start_here = h.7; end_here = ap (slice_get cs) e3 ∙ h.5 };
+        second = record {
+          plane = h.0;
+          start = h.2;
+          end = h.3;
+          plane_here =
+              ap (slice_get ps) (sym p2) ∙ h.4;
+          start_here = h.6;
+          end_here = ap (slice_get cs) e2 ∙ h.7;
+        };
+        third = record {
+          plane = h.0;
+          start = h.3;
+          end = h.1;
+          plane_here =
+              ap (slice_get ps) (sym p3) ∙ h.4;
+          start_here = h.7;
+          end_here = ap (slice_get cs) e3 ∙ h.5;
+        };
       }
 
-  edges_parts : (ts : List Triangle) → All (IsProper ps cs) ts → All (IsOnItsLine ls cs) (edges_in ts) → total of_segment (edges_in ts) ≡ total of_ends (edges_in ts) +ℤ total of_free (edges_in ts)
+  edges_parts : (ts : List Triangle) → All (IsProper ps cs) ts → All (IsOnItsLine ls cs) (edges_in ts) →
+      total of_segment (edges_in ts) ≡ total of_ends (edges_in ts) +ℤ total of_free (edges_in ts)
   edges_parts [] h on = refl
   edges_parts (t ∷ ts) h on =
       let es = edges_in ts in let i = proper_entries t (All-head (IsProper ps cs) t ts h) in
@@ -206,10 +249,15 @@ module _ (ps : List Plane) (ls : List LineKey) (cs : List SpacePoint) (a : Axis)
       omega (arith, linear, x, y, z, r)
 
   -- the edges of certified triangles add what the segments of the faces add
-  pub certified_sum : (edges : List FaceEdge) (ss : List Segment) (ts : List Triangle) → AllZip (IsSegmentOf ps ls cs) edges ss → All (IsProper ps cs) ts → HaveSameChains ss (edges_in ts) → All (IsOnItsLine ls cs) (edges_in ts) → AreFreePaired ls (edges_in ts) → total of_segment ss ≡ total of_segment (edges_in ts)
+  pub certified_sum : (edges : List FaceEdge) (ss : List Segment) (ts : List Triangle) →
+      AllZip (IsSegmentOf ps ls cs) edges ss → All (IsProper ps cs) ts → HaveSameChains ss (edges_in ts) →
+      All (IsOnItsLine ls cs) (edges_in ts) → AreFreePaired ls (edges_in ts) →
+      total of_segment ss ≡ total of_segment (edges_in ts)
   certified_sum edges ss ts segments proper chains on_lines free_paired =
       let b = segments_by_lines edges ss segments in
       let c = places_agree place ss (edges_in ts) (boundary_from_chains ss (edges_in ts) chains) in
       let d = edges_parts ts proper on_lines in
-      let e = free_cancel (passing_in ps cs a p q) (λ plane u v. found_odd a p q (slice_get ps plane) (slice_get cs u) (slice_get cs v)) ls (edges_in ts) free_paired in
+      let e = free_cancel (passing_in ps cs a p q)
+      (λ plane u v. found_odd a p q (slice_get ps plane) (slice_get cs u) (slice_get cs v)) ls (edges_in ts)
+      free_paired in
       omega (arith, linear, b, c, d, e)

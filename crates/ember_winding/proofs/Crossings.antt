@@ -30,14 +30,20 @@ one_picked true z = let e = solve_one z in sym e
 one_picked false z = sym (*ℤ-zero z)
 
 -- a ray crosses a face as it comes through its plane, if it meets the plane inside the face
-pub crossing_is : (f : Face) (a : Axis) (p : Spot) → pos 0 <ℤ p.w → crossing f a p ≡ front_sign f.support a p *ℤ one_if (all_negative f.edges (hit f.support a p))
+pub crossing_is : (f : Face) (a : Axis) (p : Spot) → pos 0 <ℤ p.w →
+    crossing f a p ≡ front_sign f.support a p *ℤ one_if (all_negative f.edges (hit f.support a p))
 crossing_is f a p w = by (is_negative (value_at f.support p *ℤ along f.support a)) refl
   where
-    by : (b : Bool) → is_negative (value_at f.support p *ℤ along f.support a) ≡ b → crossing f a p ≡ front_sign f.support a p *ℤ one_if (all_negative f.edges (hit f.support a p))
+    by : (b : Bool) → is_negative (value_at f.support p *ℤ along f.support a) ≡ b →
+        crossing f a p ≡ front_sign f.support a p *ℤ one_if (all_negative f.edges (hit f.support a p))
     by true e =
-        crossing_on f a p (all_negative f.edges (hit f.support a p)) w e refl ∙ one_picked (all_negative f.edges (hit f.support a p)) (sign (along f.support a)) ∙ sym (λ i. cond (e i) (sign (along f.support a)) (pos 0) *ℤ one_if (all_negative f.edges (hit f.support a p)))
+        crossing_on f a p (all_negative f.edges (hit f.support a p)) w e refl
+        ∙ one_picked (all_negative f.edges (hit f.support a p)) (sign (along f.support a))
+        ∙ sym (λ i. cond (e i) (sign (along f.support a)) (pos 0) *ℤ one_if
+        (all_negative f.edges (hit f.support a p)))
     by false e =
-        crossing_off f a p e ∙ sym ((λ i. cond (e i) (sign (along f.support a)) (pos 0) *ℤ one_if (all_negative f.edges (hit f.support a p))) ∙ zero-*ℤ (one_if (all_negative f.edges (hit f.support a p))))
+        crossing_off f a p e ∙ sym ((λ i. cond (e i) (sign (along f.support a)) (pos 0) *ℤ one_if
+        (all_negative f.edges (hit f.support a p))) ∙ zero-*ℤ (one_if (all_negative f.edges (hit f.support a p))))
 
 -- a plane along the axis is never come through
 pub front_or_along : (n : Plane) (a : Axis) (p : Spot) → (front_sign n a p ≡ pos 0) ⊎ (along n a ≢ pos 0)

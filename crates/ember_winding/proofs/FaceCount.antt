@@ -53,7 +53,8 @@ abbrev pub at_ends : Vector → Spot → RingEdge → AtEnds
 at_ends e x k = record { first = value_at k.plane x; last = value_at k.plane (far e) }
 
 -- ---- lists of planes, and lists of their values
-same_tests : (e : Vector) (x : Spot) (k : RingEdge) (es : List RingEdge) → none_positive (planes_of es) (between k.plane x (far e)) ≡ none_above (map (at_ends e x) es) (at_ends e x k)
+same_tests : (e : Vector) (x : Spot) (k : RingEdge) (es : List RingEdge) →
+    none_positive (planes_of es) (between k.plane x (far e)) ≡ none_above (map (at_ends e x) es) (at_ends e x k)
 same_tests e x k [] = refl
 same_tests e x k (d ∷ es) =
     let a = ap (λ (z : ℤ). not (is_positive z)) (value_between d.plane k.plane x (far e)) in let b = same_tests e x k es in λ i. a i && b i
@@ -82,38 +83,51 @@ module _ (w : WrittenFace) (e : Vector) (x : Spot) (line : IsOutlined w) (genera
     row : AllByRecursion (λ h. IsSkew w.support e x k.plane h) (planes_of w.edges)
     high : height w.support e x k.start ≢ pos 0
 
-  known : (es : List RingEdge) → AllByRecursion (λ k. (value_at k.plane x ≢ pos 0) × (value_at k.plane (far e) ≢ pos 0)) es → AllByRecursion (λ k. AllByRecursion (λ h. IsSkew w.support e x k.plane h) (planes_of w.edges)) es → AllByRecursion (λ k. height w.support e x k.start ≢ pos 0) es → AllByRecursion IsKnown es
+  known : (es : List RingEdge) → AllByRecursion (λ k. (value_at k.plane x ≢ pos 0) × (value_at k.plane (far e) ≢ pos 0))
+      es → AllByRecursion (λ k. AllByRecursion (λ h. IsSkew w.support e x k.plane h) (planes_of w.edges)) es →
+      AllByRecursion (λ k. height w.support e x k.start ≢ pos 0) es → AllByRecursion IsKnown es
   known [] v r h = tt
   known (k ∷ es) v r h = (record { values = v.0; row = r.0; high = h.0 }, known es v.1 r.1 h.1)
 
   -- the planes of the face are general where the ray meets an edge's line
-  general_face : (k : RingEdge) → IsKnown k → is_negative (value_at k.plane x *ℤ value_at k.plane (far e)) ≡ true → IsGeneralFace (scale_v (value_at k.plane (far e)) (cross (normal w.support) (normal k.plane))) (between k.plane x (far e)) f
+  general_face : (k : RingEdge) → IsKnown k → is_negative (value_at k.plane x *ℤ value_at k.plane (far e)) ≡ true →
+      IsGeneralFace (scale_v (value_at k.plane (far e)) (cross (normal w.support) (normal k.plane)))
+      (between k.plane x (far e)) f
   general_face k i c =
       let d = scale_v (value_at k.plane (far e)) (cross (normal w.support) (normal k.plane)) in
       record {
         support = record { contains = λ z. in_plane };
-        edges = each_map (λ h. IsSkew w.support e x k.plane h) (λ h. IsGeneral d (between k.plane x (far e)) h) (planes_of w.edges) (λ h s. skew_is_general w.support e x k.plane h c s) i.row;
+        edges = each_map (λ h. IsSkew w.support e x k.plane h) (λ h. IsGeneral d (between k.plane x (far e)) h)
+            (planes_of w.edges) (λ h s. skew_is_general w.support e x k.plane h c s) i.row;
       }
     where
       in_plane : dot (normal w.support) (scale_v (value_at k.plane (far e)) (cross (normal w.support) (normal k.plane))) ≡ pos 0
       in_plane =
-          identity (vector ∷ scalar ∷ vector ∷ []) (λ n b g. dotE n (scaleE b (crossE n g)) ≈ num (pos 0)) cancels (normal w.support) (value_at k.plane (far e)) (normal k.plane)
+          identity (vector ∷ scalar ∷ vector ∷ []) (λ n b g. dotE n (scaleE b (crossE n g)) ≈ num (pos 0)) cancels
+          (normal w.support) (value_at k.plane (far e)) (normal k.plane)
 
-  edge_leaves : (k : RingEdge) (end : Spot) → IsEdge f k end → IsKnown k → height w.support e x end ≢ pos 0 → passing_at w.support e x k.start end ≡ leaving ends (at_ends e x k)
+  edge_leaves : (k : RingEdge) (end : Spot) → IsEdge f k end → IsKnown k → height w.support e x end ≢ pos 0 →
+      passing_at w.support e x k.start end ≡ leaving ends (at_ends e x k)
   edge_leaves k end edge i he =
-      edge_count f k end edge e x general.weight general.flat general.level i.high he (general_face k i) ∙ (let t = same_tests e x k w.edges in λ j. cond (is_negative (value_at k.plane x *ℤ value_at k.plane (far e)) && t j) (sign (value_at k.plane (far e))) (pos 0))
+      edge_count f k end edge e x general.weight general.flat general.level i.high he (general_face k i)
+      ∙ (let t = same_tests e x k w.edges in λ j. cond
+      (is_negative (value_at k.plane x *ℤ value_at k.plane (far e)) && t j) (sign (value_at k.plane (far e))) (pos 0))
 
   abbrev passed : DirectedEdge → ℤ
   passed d = passing_at w.support e x d.from d.to
 
-  path_leaves : (end : Spot) (es : List RingEdge) → height w.support e x end ≢ pos 0 → IsEdgeChain f end es → AllByRecursion IsKnown es → total passed (edges_to end es) ≡ total (leaving ends) (map (at_ends e x) es)
+  path_leaves : (end : Spot) (es : List RingEdge) → height w.support e x end ≢ pos 0 → IsEdgeChain f end es →
+      AllByRecursion IsKnown es → total passed (edges_to end es) ≡ total (leaving ends) (map (at_ends e x) es)
   path_leaves end [] he c i = refl
   path_leaves end (k ∷ []) he c i = ap (λ (z : ℤ). z +ℤ pos 0) (edge_leaves k end c i.0 he)
   path_leaves end (k ∷ d ∷ es) he c i =
       let a = edge_leaves k d.start c.0 i.0 i.1.0.high in let b = path_leaves end (d ∷ es) he c.1 i.1 in λ j. a j +ℤ b j
 
   -- different edges are apart
-  apart_others : (k : RingEdge) → IsKnown k → (es : List RingEdge) → AllByRecursion IsKnown es → AllByRecursion (λ d. SameEdge f k.plane d.plane → ⊥) es → AllByRecursion (λ d. IsSkew w.support e x k.plane d.plane) es → AllByRecursion (λ q. value_at k.plane x *ℤ q.last ≢ q.first *ℤ value_at k.plane (far e)) (map (at_ends e x) es)
+  apart_others : (k : RingEdge) → IsKnown k → (es : List RingEdge) → AllByRecursion IsKnown es →
+      AllByRecursion (λ d. SameEdge f k.plane d.plane → ⊥) es →
+      AllByRecursion (λ d. IsSkew w.support e x k.plane d.plane) es →
+      AllByRecursion (λ q. value_at k.plane x *ℤ q.last ≢ q.first *ℤ value_at k.plane (far e)) (map (at_ends e x) es)
   apart_others k i [] is ds ss = tt
   apart_others k i (d ∷ es) is ds ss =
       (skew_apart f e x general.weight general.flat general.some k.plane d.plane i.values.1 is.0.values.1 ss.0 ds.0, apart_others k i es is.1 ds.1 ss.1)

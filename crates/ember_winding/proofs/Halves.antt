@@ -1,5 +1,6 @@
 -- Numbers alone: where a segment leaves and enters what several half planes share tells which of its ends are in it.
-use Rattle.std.proofs.Common.{◌≡◌, ◌≢◌, ⊎_elim, refl, sym, ap, ◌∙◌, arith, ℕ, zero, suc, Bool, true, false, not, ◌&&◌, cond, List, [], ◌∷◌, map, length, ℤ, pos, negsuc, ◌+ℤ◌, ◌-ℤ◌, ◌*ℤ◌, neg_ℤ, ◌<ℤ◌, ◌≤ℤ◌}
+use Rattle.std.proofs.Common.{◌≡◌, ◌≢◌, ⊎_elim, refl, sym, ap, ◌∙◌, arith, ℕ, zero, suc, Bool, true, false, not, ◌&&◌}
+use Rattle.std.proofs.Common.{cond, List, [], ◌∷◌, map, length, ℤ, pos, negsuc, ◌+ℤ◌, ◌-ℤ◌, ◌*ℤ◌, neg_ℤ, ◌<ℤ◌, ◌≤ℤ◌}
 use Rattle.std.specs.Bool.{⊤}
 use Rattle.std.specs.List.{list_all, AllByRecursion}
 use Rattle.std.proofs.lemmas.List.{length-map}
@@ -101,14 +102,20 @@ module _ (p : AtEnds) (l : p.first <ℤ pos 0) (m : pos 0 <ℤ p.last) where
   rising : (q r : AtEnds) → q.first <ℤ pos 0 → pos 0 <ℤ q.last → pos 0 <ℤ (up_to q).last → value_where (up_to q) (up_to r) ≡ neg_ℤ p.first *ℤ value_where q r
   rising q r a b c =
       let x = size_is_pos (up_to q).last c in let y = size_is_neg q.first a in let z = size_is_pos q.last b in
-      (λ i. x i *ℤ r.first +ℤ y i *ℤ (up_to r).last) ∙ solve 6 (λ a b f l x y. (b ⊗ f ⊖ a ⊗ l) ⊗ x ⊕ neg f ⊗ (b ⊗ x ⊖ a ⊗ y) ≈ neg a ⊗ (l ⊗ x ⊕ neg f ⊗ y)) cancels p.first p.last q.first q.last r.first r.last ∙ sym (λ i. neg_ℤ p.first *ℤ (z i *ℤ r.first +ℤ y i *ℤ r.last))
+      (λ i. x i *ℤ r.first +ℤ y i *ℤ (up_to r).last)
+      ∙ solve 6 (λ a b f l x y. (b ⊗ f ⊖ a ⊗ l) ⊗ x ⊕ neg f ⊗ (b ⊗ x ⊖ a ⊗ y) ≈ neg a ⊗ (l ⊗ x ⊕ neg f ⊗ y)) cancels
+      p.first p.last q.first q.last r.first r.last ∙ sym (λ i. neg_ℤ p.first *ℤ (z i *ℤ r.first +ℤ y i *ℤ r.last))
 
   falling : (q r : AtEnds) → pos 0 <ℤ q.first → q.last <ℤ pos 0 → (up_to q).last <ℤ pos 0 → value_where (up_to q) (up_to r) ≡ neg_ℤ p.first *ℤ value_where q r
   falling q r a b c =
       let x = size_is_neg (up_to q).last c in let y = size_is_pos q.first a in let z = size_is_neg q.last b in
-      (λ i. x i *ℤ r.first +ℤ y i *ℤ (up_to r).last) ∙ solve 6 (λ a b f l x y. neg (b ⊗ f ⊖ a ⊗ l) ⊗ x ⊕ f ⊗ (b ⊗ x ⊖ a ⊗ y) ≈ neg a ⊗ (neg l ⊗ x ⊕ f ⊗ y)) cancels p.first p.last q.first q.last r.first r.last ∙ sym (λ i. neg_ℤ p.first *ℤ (z i *ℤ r.first +ℤ y i *ℤ r.last))
+      (λ i. x i *ℤ r.first +ℤ y i *ℤ (up_to r).last)
+      ∙ solve 6 (λ a b f l x y. neg (b ⊗ f ⊖ a ⊗ l) ⊗ x ⊕ f ⊗ (b ⊗ x ⊖ a ⊗ y) ≈ neg a ⊗ (neg l ⊗ x ⊕ f ⊗ y)) cancels
+      p.first p.last q.first q.last r.first r.last ∙ sym (λ i. neg_ℤ p.first *ℤ (z i *ℤ r.first +ℤ y i *ℤ r.last))
 
-  same_above : (q : AtEnds) (rs : List AtEnds) → ((r : AtEnds) → value_where (up_to q) (up_to r) ≡ neg_ℤ p.first *ℤ value_where q r) → none_above (map up_to rs) (up_to q) ≡ none_above rs q
+  same_above : (q : AtEnds) (rs : List AtEnds) →
+      ((r : AtEnds) → value_where (up_to q) (up_to r) ≡ neg_ℤ p.first *ℤ value_where q r) →
+      none_above (map up_to rs) (up_to q) ≡ none_above rs q
   same_above q [] h = refl
   same_above q (r ∷ rs) h =
       let x = ap (λ (s : Sign). not (is_pos s)) (ap sgn (h r) ∙ sgn_scaled (value_where q r) behind) in
@@ -134,26 +141,33 @@ module _ (p : AtEnds) (l : p.first <ℤ pos 0) (m : pos 0 <ℤ p.last) where
     off_head : is_negative (q.first *ℤ q.last) ≡ true → not (is_positive (value_where q p)) ≡ false → leaving (p ∷ ps) q ≡ pos 0
     off_head e h = λ i. cond (e i && (h i && none_above ps q)) (sign q.last) (pos 0)
 
-    on_head : (z : ℤ) → is_negative (q.first *ℤ q.last) ≡ true → not (is_positive (value_where q p)) ≡ true → sign q.last ≡ z → leaving (p ∷ ps) q ≡ cond (none_above ps q) z (pos 0)
+    on_head : (z : ℤ) → is_negative (q.first *ℤ q.last) ≡ true → not (is_positive (value_where q p)) ≡ true →
+        sign q.last ≡ z → leaving (p ∷ ps) q ≡ cond (none_above ps q) z (pos 0)
     on_head z e h s = λ i. cond (e i && (h i && none_above ps q)) (s i) (pos 0)
 
     off_up : is_negative (q.first *ℤ (up_to q).last) ≡ false → leaving (map up_to ps) (up_to q) ≡ pos 0
     off_up e = λ i. cond (e i && none_above (map up_to ps) (up_to q)) (sign (up_to q).last) (pos 0)
 
-    on_up : (z : ℤ) → is_negative (q.first *ℤ (up_to q).last) ≡ true → none_above (map up_to ps) (up_to q) ≡ none_above ps q → sign (up_to q).last ≡ z → leaving (map up_to ps) (up_to q) ≡ cond (none_above ps q) z (pos 0)
+    on_up : (z : ℤ) → is_negative (q.first *ℤ (up_to q).last) ≡ true →
+        none_above (map up_to ps) (up_to q) ≡ none_above ps q → sign (up_to q).last ≡ z →
+        leaving (map up_to ps) (up_to q) ≡ cond (none_above ps q) z (pos 0)
     on_up z e h s = λ i. cond (e i && h i) (s i) (pos 0)
 
     -- q falls at first
     from_above : pos 0 <ℤ q.first → q.last ≢ pos 0 → (up_to q).last ≢ pos 0 → leaving (p ∷ ps) q ≡ leaving (map up_to ps) (up_to q)
     from_above a nl nu =
         by_sign q.last
-        (λ b. let c : pos 0 <ℤ (up_to q).last = omega (arith, linear, pos_mul m a, mul_neg_pos l b) in off_first (not_negative (pos_mul a b)) ∙ sym (off_up (not_negative (pos_mul a c))))
+        (λ b. let c : pos 0 <ℤ (up_to q).last = omega (arith, linear, pos_mul m a, mul_neg_pos l b) in
+        off_first (not_negative (pos_mul a b)) ∙ sym (off_up (not_negative (pos_mul a c))))
         (λ z. absurd (nl z))
         (λ b. let t = negative_in (mul_pos_neg a b) in let v = head_falling q a b in
         by_sign (up_to q).last
         (λ c. off_head t (ap (λ (z : ℤ). not (is_positive z)) v ∙ ap not (positive_in c)) ∙ sym (off_up (not_negative (pos_mul a c))))
         (λ z. absurd (nu z))
-        (λ c. on_head (negsuc 0) t (ap (λ (z : ℤ). not (is_positive z)) v ∙ not_positive_in (up_to q).last (omega (arith, linear, c))) (sign_neg b) ∙ sym (on_up (negsuc 0) (negative_in (mul_pos_neg a c)) (same_above q ps (λ r. falling q r a b c)) (sign_neg c))))
+        (λ c. on_head (negsuc 0) t (ap (λ (z : ℤ). not (is_positive z)) v
+        ∙ not_positive_in (up_to q).last (omega (arith, linear, c))) (sign_neg b)
+        ∙ sym (on_up (negsuc 0) (negative_in (mul_pos_neg a c)) (same_above q ps (λ r. falling q r a b c))
+        (sign_neg c))))
 
     -- q rises at first
     from_below : q.first <ℤ pos 0 → q.last ≢ pos 0 → (up_to q).last ≢ pos 0 → leaving (p ∷ ps) q ≡ leaving (map up_to ps) (up_to q)
@@ -161,11 +175,16 @@ module _ (p : AtEnds) (l : p.first <ℤ pos 0) (m : pos 0 <ℤ p.last) where
         by_sign q.last
         (λ b. let t = negative_in (mul_neg_pos a b) in let v = head_rising q a b in
         by_sign (up_to q).last
-        (λ c. on_head (pos 1) t (ap (λ (z : ℤ). not (is_positive z)) v ∙ not_positive_in (neg_ℤ (up_to q).last) (omega (arith, linear, c))) (sign_pos b) ∙ sym (on_up (pos 1) (negative_in (mul_neg_pos a c)) (same_above q ps (λ r. rising q r a b c)) (sign_pos c)))
+        (λ c. on_head (pos 1) t (ap (λ (z : ℤ). not (is_positive z)) v
+        ∙ not_positive_in (neg_ℤ (up_to q).last) (omega (arith, linear, c))) (sign_pos b)
+        ∙ sym (on_up (pos 1) (negative_in (mul_neg_pos a c)) (same_above q ps (λ r. rising q r a b c)) (sign_pos c)))
         (λ z. absurd (nu z))
-        (λ c. let w : pos 0 <ℤ neg_ℤ (up_to q).last = omega (arith, linear, c) in off_head t (ap (λ (z : ℤ). not (is_positive z)) v ∙ ap not (positive_in w)) ∙ sym (off_up (not_negative (mul_neg_neg a c)))))
+        (λ c. let w : pos 0 <ℤ neg_ℤ (up_to q).last = omega (arith, linear, c) in
+        off_head t (ap (λ (z : ℤ). not (is_positive z)) v ∙ ap not (positive_in w))
+        ∙ sym (off_up (not_negative (mul_neg_neg a c)))))
         (λ z. absurd (nl z))
-        (λ b. let c : (up_to q).last <ℤ pos 0 = omega (arith, linear, mul_pos_neg m a, mul_neg_neg l b) in off_first (not_negative (mul_neg_neg a b)) ∙ sym (off_up (not_negative (mul_neg_neg a c))))
+        (λ b. let c : (up_to q).last <ℤ pos 0 = omega (arith, linear, mul_pos_neg m a, mul_neg_neg l b) in
+        off_first (not_negative (mul_neg_neg a b)) ∙ sym (off_up (not_negative (mul_neg_neg a c))))
 
     from_first : q.first ≢ pos 0 → q.last ≢ pos 0 → (up_to q).last ≢ pos 0 → leaving (p ∷ ps) q ≡ leaving (map up_to ps) (up_to q)
     from_first nf nl nu =
@@ -175,7 +194,8 @@ module _ (p : AtEnds) (l : p.first <ℤ pos 0) (m : pos 0 <ℤ p.last) where
   up_nonzero : (q : AtEnds) → p.first *ℤ q.last ≢ q.first *ℤ p.last → (up_to q).last ≢ pos 0
   up_nonzero q n z = n (let e = *ℤ_comm p.last q.first in omega (arith, linear, z, e))
 
-  totals : (ps qs : List AtEnds) → AllByRecursion (λ q. p.first *ℤ q.last ≢ q.first *ℤ p.last) qs → AreApart qs → total (leaving (p ∷ ps)) qs ≡ total (leaving (map up_to ps)) (map up_to qs)
+  totals : (ps qs : List AtEnds) → AllByRecursion (λ q. p.first *ℤ q.last ≢ q.first *ℤ p.last) qs → AreApart qs →
+      total (leaving (p ∷ ps)) qs ≡ total (leaving (map up_to ps)) (map up_to qs)
   totals ps [] ns apart = refl
   totals ps (q ∷ qs) ns apart =
       let x = from_first ps q apart.0 apart.1 (up_nonzero q ns.0) in let y = totals ps qs ns.1 apart.3 in λ i. x i +ℤ y i
@@ -185,14 +205,17 @@ module _ (p : AtEnds) (l : p.first <ℤ pos 0) (m : pos 0 <ℤ p.last) where
   head_last [] ns = refl
   head_last (q ∷ qs) ns =
       let x = size_is_pos p.last m in let y = size_is_neg p.first l in
-      let v : value_where p q ≡ (up_to q).last = (λ i. x i *ℤ q.first +ℤ y i *ℤ q.last) ∙ solve 4 (λ a b f l. b ⊗ f ⊕ neg a ⊗ l ≈ b ⊗ f ⊖ a ⊗ l) cancels p.first p.last q.first q.last in
+      let v : value_where p q ≡ (up_to q).last =
+      (λ i. x i *ℤ q.first +ℤ y i *ℤ q.last) ∙ solve 4 (λ a b f l. b ⊗ f ⊕ neg a ⊗ l ≈ b ⊗ f ⊖ a ⊗ l) cancels p.first
+      p.last q.first q.last in
       let w = ap (λ (z : ℤ). not (is_positive z)) v ∙ strictly (up_to q).last (up_nonzero q ns.0) in
       let r = head_last qs ns.1 in λ i. w i && r i
 
   head : (ps : List AtEnds) → AllByRecursion (λ q. p.first *ℤ q.last ≢ q.first *ℤ p.last) ps → leaving (p ∷ ps) p ≡ one_if (all_at_last (map up_to ps))
   head ps ns =
       let x = size_is_pos p.last m in let y = size_is_neg p.first l in
-      let v : value_where p p ≡ pos 0 = (λ i. x i *ℤ p.first +ℤ y i *ℤ p.last) ∙ (let e = *ℤ_comm p.last p.first in let f = neg-*ℤ p.first p.last in omega (arith, linear, e, f)) in
+      let v : value_where p p ≡ pos 0 = (λ i. x i *ℤ p.first +ℤ y i *ℤ p.last)
+      ∙ (let e = *ℤ_comm p.last p.first in let f = neg-*ℤ p.first p.last in omega (arith, linear, e, f)) in
       let t = negative_in (mul_neg_pos l m) in let s = sign_pos m in let r = head_last ps ns in
       (λ i. cond (t i && (not (is_positive (v i)) && r i)) (s i) (pos 0))
 
@@ -201,14 +224,16 @@ module _ (p : AtEnds) (l : p.first <ℤ pos 0) (m : pos 0 <ℤ p.last) where
   same_first (q ∷ qs) = ap (λ (b : Bool). is_negative q.first && b) (same_first qs)
 
   -- the planes stay apart
-  up_others : (q : AtEnds) (qs : List AtEnds) → AllByRecursion (λ r. q.first *ℤ r.last ≢ r.first *ℤ q.last) qs → AllByRecursion (λ r. q.first *ℤ r.last ≢ r.first *ℤ (up_to q).last) (map up_to qs)
+  up_others : (q : AtEnds) (qs : List AtEnds) → AllByRecursion (λ r. q.first *ℤ r.last ≢ r.first *ℤ q.last) qs →
+      AllByRecursion (λ r. q.first *ℤ r.last ≢ r.first *ℤ (up_to q).last) (map up_to qs)
   up_others q [] h = tt
   up_others q (r ∷ qs) h = ((λ e. h.0 (same e)), up_others q qs h.1)
     where
       -- the difference is multiplied by -p.first
       same : q.first *ℤ (up_to r).last ≡ r.first *ℤ (up_to q).last → q.first *ℤ r.last ≡ r.first *ℤ q.last
       same e =
-          let d = solve 6 (λ a b f l x y. f ⊗ (b ⊗ x ⊖ a ⊗ y) ⊖ x ⊗ (b ⊗ f ⊖ a ⊗ l) ≈ neg a ⊗ (f ⊗ y ⊖ x ⊗ l)) cancels p.first p.last q.first q.last r.first r.last in
+          let d = solve 6 (λ a b f l x y. f ⊗ (b ⊗ x ⊖ a ⊗ y) ⊖ x ⊗ (b ⊗ f ⊖ a ⊗ l) ≈ neg a ⊗ (f ⊗ y ⊖ x ⊗ l)) cancels
+          p.first p.last q.first q.last r.first r.last in
           let z : neg_ℤ p.first *ℤ (q.first *ℤ r.last -ℤ r.first *ℤ q.last) ≡ pos 0 = sym d ∙ (omega (arith, linear, e)) in
           ⊎_elim (λ n. absurd (positive_nonzero behind n)) (λ n. omega (arith, linear, n)) (zero_product z)
 
@@ -218,7 +243,10 @@ module _ (p : AtEnds) (l : p.first <ℤ pos 0) (m : pos 0 <ℤ p.last) where
       (apart.0, up_nonzero q ns.0, up_others q qs apart.2, up_apart qs ns.1 apart.3)
 
   -- ---- the sum
-  rises : (ps : List AtEnds) → AllByRecursion (λ q. p.first *ℤ q.last ≢ q.first *ℤ p.last) ps → AreApart ps → total (leaving (map up_to ps)) (map up_to ps) ≡ one_if (all_at_first (map up_to ps)) -ℤ one_if (all_at_last (map up_to ps)) → total (leaving (p ∷ ps)) (p ∷ ps) ≡ one_if (all_at_first (p ∷ ps)) -ℤ one_if (all_at_last (p ∷ ps))
+  rises : (ps : List AtEnds) → AllByRecursion (λ q. p.first *ℤ q.last ≢ q.first *ℤ p.last) ps → AreApart ps →
+      total (leaving (map up_to ps)) (map up_to ps) ≡ one_if (all_at_first (map up_to ps)) -ℤ one_if
+      (all_at_last (map up_to ps)) → total (leaving (p ∷ ps)) (p ∷ ps) ≡ one_if (all_at_first (p ∷ ps)) -ℤ one_if
+      (all_at_last (p ∷ ps))
   rises ps ns apart ih =
       let a = head ps ns in let b = totals ps ps ns apart in let c = ap one_if (same_first ps) in
       let d : one_if (all_at_first (p ∷ ps)) ≡ one_if (all_at_first ps) = (let n = negative_in l in λ i. one_if (n i && all_at_first ps)) in
@@ -240,9 +268,11 @@ none_back q (r ∷ rs) =
 opposite_signs : (a b : ℤ) → is_negative (a *ℤ b) ≡ true → sign a ≡ neg_ℤ (sign b)
 opposite_signs a b e =
     by_sign a
-    (λ l. by_sign b (λ m. absurd (clash e (not_negative (pos_mul l m)))) (λ z. absurd ((ends_nonzero a b e).1 z)) (λ m. sign_pos l ∙ sym (ap neg_ℤ (sign_neg m))))
+    (λ l. by_sign b (λ m. absurd (clash e (not_negative (pos_mul l m)))) (λ z. absurd ((ends_nonzero a b e).1 z))
+    (λ m. sign_pos l ∙ sym (ap neg_ℤ (sign_neg m))))
     (λ z. absurd ((ends_nonzero a b e).0 z))
-    (λ l. by_sign b (λ m. sign_neg l ∙ sym (ap neg_ℤ (sign_pos m))) (λ z. absurd ((ends_nonzero a b e).1 z)) (λ m. absurd (clash e (not_negative (mul_neg_neg l m)))))
+    (λ l. by_sign b (λ m. sign_neg l ∙ sym (ap neg_ℤ (sign_pos m))) (λ z. absurd ((ends_nonzero a b e).1 z))
+    (λ m. absurd (clash e (not_negative (mul_neg_neg l m)))))
 
 leaving_back : (ps : List AtEnds) (q : AtEnds) → leaving (map back ps) (back q) ≡ neg_ℤ (leaving ps q)
 leaving_back ps q = by (is_negative (q.first *ℤ q.last)) refl
@@ -256,9 +286,12 @@ leaving_back ps q = by (is_negative (q.first *ℤ q.last)) refl
 
     by : (b : Bool) → is_negative (q.first *ℤ q.last) ≡ b → leaving (map back ps) (back q) ≡ neg_ℤ (leaving ps q)
     by false e =
-        (let t = turn ∙ e in λ i. cond (t i && none_above (map back ps) (back q)) (sign q.first) (pos 0)) ∙ sym (λ i. neg_ℤ (cond (e i && none_above ps q) (sign q.last) (pos 0)))
+        (let t = turn ∙ e in λ i. cond (t i && none_above (map back ps) (back q)) (sign q.first) (pos 0))
+        ∙ sym (λ i. neg_ℤ (cond (e i && none_above ps q) (sign q.last) (pos 0)))
     by true e =
-        (let t = turn ∙ e in let n = none_back q ps in let s = opposite_signs q.first q.last e in λ i. cond (t i && n i) (s i) (pos 0)) ∙ picked (none_above ps q) (sign q.last) ∙ sym (λ i. neg_ℤ (cond (e i && none_above ps q) (sign q.last) (pos 0)))
+        (let t = turn ∙ e in let n = none_back q ps in let s = opposite_signs q.first q.last e in
+        λ i. cond (t i && n i) (s i) (pos 0)) ∙ picked (none_above ps q) (sign q.last)
+        ∙ sym (λ i. neg_ℤ (cond (e i && none_above ps q) (sign q.last) (pos 0)))
 
 total_back : (ps qs : List AtEnds) → total (leaving (map back ps)) (map back qs) ≡ neg_ℤ (total (leaving ps) qs)
 total_back ps [] = refl
@@ -273,7 +306,8 @@ last_back : (qs : List AtEnds) → all_at_last (map back qs) ≡ all_at_first qs
 last_back [] = refl
 last_back (q ∷ qs) = ap (λ (b : Bool). is_negative q.first && b) (last_back qs)
 
-apart_others_back : (q : AtEnds) (qs : List AtEnds) → AllByRecursion (λ r. q.first *ℤ r.last ≢ r.first *ℤ q.last) qs → AllByRecursion (λ r. q.last *ℤ r.last ≢ r.first *ℤ q.first) (map back qs)
+apart_others_back : (q : AtEnds) (qs : List AtEnds) → AllByRecursion (λ r. q.first *ℤ r.last ≢ r.first *ℤ q.last) qs →
+    AllByRecursion (λ r. q.last *ℤ r.last ≢ r.first *ℤ q.first) (map back qs)
 apart_others_back q [] h = tt
 apart_others_back q (r ∷ qs) h =
     ((λ e. h.0 (let x = *ℤ_comm q.first r.last in let y = *ℤ_comm r.first q.last in omega (arith, linear, e, x, y))), apart_others_back q qs h.1)

@@ -41,7 +41,8 @@ picked_difference true y z = refl
 picked_difference false y z = refl
 
 -- ---- two of its points
-module _ (n : Plane) (e : Vector) (x u v : Spot) (k : LineKey) (wx : pos 0 <ℤ x.w) (wu : pos 0 <ℤ u.w) (wv : pos 0 <ℤ v.w) (directed : direction k ≢ zero_v) (on_u : IsOnLine k u) (on_v : IsOnLine k v) where
+module _ (n : Plane) (e : Vector) (x u v : Spot) (k : LineKey) (wx : pos 0 <ℤ x.w) (wu : pos 0 <ℤ u.w)
+    (wv : pos 0 <ℤ v.w) (directed : direction k ≢ zero_v) (on_u : IsOnLine k u) (on_v : IsOnLine k v) where
   abbrev way : Vector
   way = displacement u v
 
@@ -51,24 +52,38 @@ module _ (n : Plane) (e : Vector) (x u v : Spot) (k : LineKey) (wx : pos 0 <ℤ 
   -- the way between them is parallel to the direction
   parallel : Parallel way (direction k)
   parallel =
-      vector_identity (tuple ∷ tuple ∷ vector ∷ []) (λ u v d. crossE (displacementE u v) d ≈v minusE (scaleE u.w (crossE (vector_partE v) d)) (scaleE v.w (crossE (vector_partE u) d))) cancels_v (spot_tuple u) (spot_tuple v) (direction k) ∙ (λ i. minus_v (scale_v u.w (on_v i)) (scale_v v.w (on_u i))) ∙ vector_identity (scalar ∷ scalar ∷ vector ∷ []) (λ a b m. minusE (scaleE a (scaleE b m)) (scaleE b (scaleE a m)) ≈v zeroE) cancels_v u.w v.w (moment k)
+      vector_identity (tuple ∷ tuple ∷ vector ∷ [])
+      (λ u v d. crossE (displacementE u v) d ≈v minusE (scaleE u.w (crossE (vector_partE v) d))
+      (scaleE v.w (crossE (vector_partE u) d))) cancels_v (spot_tuple u) (spot_tuple v) (direction k)
+      ∙ (λ i. minus_v (scale_v u.w (on_v i)) (scale_v v.w (on_u i)))
+      ∙ vector_identity (scalar ∷ scalar ∷ vector ∷ [])
+      (λ a b m. minusE (scaleE a (scaleE b m)) (scaleE b (scaleE a m)) ≈v zeroE) cancels_v u.w v.w (moment k)
 
   -- the turn of the direction at u
   turn_at_point : area n (displacement x u) (direction k) ≡ u.w *ℤ turn_of_line n x k
   unfolding area
   turn_at_point =
-      identity (vector ∷ tuple ∷ tuple ∷ vector ∷ []) (λ n x u d. areaE n (displacementE x u) d ≈ x.w ⊗ dotE n (crossE (vector_partE u) d) ⊖ u.w ⊗ dotE n (crossE (vector_partE x) d)) cancels (normal n) (spot_tuple x) (spot_tuple u) (direction k) ∙ (λ i. x.w *ℤ dot (normal n) (on_u i) -ℤ u.w *ℤ dot (normal n) (cross (numerators x) (direction k))) ∙ identity (vector ∷ vector ∷ scalar ∷ scalar ∷ scalar ∷ []) (λ n m a b c. a ⊗ dotE n (scaleE b m) ⊖ b ⊗ c ≈ b ⊗ (a ⊗ dotE n m ⊖ c)) cancels (normal n) (moment k) x.w u.w (dot (normal n) (cross (numerators x) (direction k)))
+      identity (vector ∷ tuple ∷ tuple ∷ vector ∷ [])
+      (λ n x u d. areaE n (displacementE x u) d ≈ x.w ⊗ dotE n (crossE (vector_partE u) d) ⊖ u.w ⊗ dotE n
+      (crossE (vector_partE x) d)) cancels (normal n) (spot_tuple x) (spot_tuple u) (direction k)
+      ∙ (λ i. x.w *ℤ dot (normal n) (on_u i) -ℤ u.w *ℤ dot (normal n) (cross (numerators x) (direction k)))
+      ∙ identity (vector ∷ vector ∷ scalar ∷ scalar ∷ scalar ∷ [])
+      (λ n m a b c. a ⊗ dotE n (scaleE b m) ⊖ b ⊗ c ≈ b ⊗ (a ⊗ dotE n m ⊖ c)) cancels (normal n) (moment k) x.w u.w
+      (dot (normal n) (cross (numerators x) (direction k)))
 
   -- an area with the way is one with the direction, times how far the way runs along it
   area_along : (a : Vector) → sgn (area n a way) ≡ times (sgn along) (sgn (area n a (direction k)))
   area_along a =
       let d = direction k in let b = cross (normal n) a in
       let e = parallel_products d b d way (parallel_swap way d parallel) in
-      sym (sgn_scaled (area n a way) (square_positive d directed)) ∙ ap sgn (ap (λ (z : ℤ). dot d d *ℤ z) (area_dot n a way) ∙ e ∙ ap (λ (z : ℤ). dot d way *ℤ z) (sym (area_dot n a d))) ∙ sgn-mul (dot d way) (area n a d)
+      sym (sgn_scaled (area n a way) (square_positive d directed))
+      ∙ ap sgn (ap (λ (z : ℤ). dot d d *ℤ z) (area_dot n a way) ∙ e
+      ∙ ap (λ (z : ℤ). dot d way *ℤ z) (sym (area_dot n a d))) ∙ sgn-mul (dot d way) (area n a d)
 
   turn_signs : sgn (turn_at n x u v) ≡ times (sgn along) (sgn (turn_of_line n x k))
   turn_signs =
-      turn_sign n x u v wx wu ∙ area_along (displacement x u) ∙ ap (λ (s : Sign). times (sgn along) s) (ap sgn turn_at_point ∙ sgn_scaled (turn_of_line n x k) wu)
+      turn_sign n x u v wx wu ∙ area_along (displacement x u)
+      ∙ ap (λ (s : Sign). times (sgn along) s) (ap sgn turn_at_point ∙ sgn_scaled (turn_of_line n x k) wu)
 
   step_signs : T (may_sum (sgn (height n e x v)) (flip (sgn (height n e x u))) (times (sgn along) (sgn (climb_of_line n e k))))
   step_signs =
@@ -81,4 +96,7 @@ module _ (n : Plane) (e : Vector) (x u v : Spot) (k : LineKey) (wx : pos 0 <ℤ 
   pub passing_by_line : height n e x u ≢ pos 0 → height n e x v ≢ pos 0 → passing_at n e x u v ≡ below_on n e x k u -ℤ below_on n e x k v
   passing_by_line nu nv =
       let hu = height n e x u in let hv = height n e x v in
-      ap (λ (s : Sign). passing (sgn hu) (sgn hv) s) turn_signs ∙ passing_on_line (sgn hu) (sgn hv) (sgn along) (sgn (turn_of_line n x k)) (sgn (climb_of_line n e k)) (both _ _ (not_null hu nu) (both _ _ (not_null hv nv) step_signs)) ∙ picked_difference (meets_line n e x k) (below (sgn hu)) (below (sgn hv))
+      ap (λ (s : Sign). passing (sgn hu) (sgn hv) s) turn_signs
+      ∙ passing_on_line (sgn hu) (sgn hv) (sgn along) (sgn (turn_of_line n x k)) (sgn (climb_of_line n e k))
+      (both _ _ (not_null hu nu) (both _ _ (not_null hv nv) step_signs))
+      ∙ picked_difference (meets_line n e x k) (below (sgn hu)) (below (sgn hv))

@@ -31,15 +31,23 @@ orthogonal_to_three p q r v n a b c =
   where
     whole : scale_v (det p q r) v ≡ zero_v
     whole =
-        vector_identity (vector ∷ vector ∷ vector ∷ vector ∷ []) (λ p q r v. scaleE (detE p q r) v ≈v plusE (plusE (scaleE (dotE p v) (crossE q r)) (scaleE (dotE q v) (crossE r p))) (scaleE (dotE r v) (crossE p q))) cancels_v p q r v ∙ (λ i. plus_v (plus_v (scale_v (a i) (cross q r)) (scale_v (b i) (cross r p))) (scale_v (c i) (cross p q))) ∙ vector_identity (vector ∷ vector ∷ vector ∷ []) (λ u v w. plusE (plusE (scaleE (num (pos 0)) u) (scaleE (num (pos 0)) v)) (scaleE (num (pos 0)) w) ≈v zeroE) cancels_v (cross q r) (cross r p) (cross p q)
+        vector_identity (vector ∷ vector ∷ vector ∷ vector ∷ [])
+        (λ p q r v. scaleE (detE p q r) v ≈v plusE
+        (plusE (scaleE (dotE p v) (crossE q r)) (scaleE (dotE q v) (crossE r p))) (scaleE (dotE r v) (crossE p q)))
+        cancels_v p q r v ∙ (λ i. plus_v (plus_v (scale_v (a i) (cross q r)) (scale_v (b i) (cross r p)))
+        (scale_v (c i) (cross p q))) ∙ vector_identity (vector ∷ vector ∷ vector ∷ [])
+        (λ u v w. plusE (plusE (scaleE (num (pos 0)) u) (scaleE (num (pos 0)) v)) (scaleE (num (pos 0)) w) ≈v zeroE)
+        cancels_v (cross q r) (cross r p) (cross p q)
 
     entry : {z : ℤ} → det p q r *ℤ z ≡ pos 0 → z ≡ pos 0
     entry e = ⊎_elim (λ z. absurd (n z)) (λ z. z) (zero_product e)
 
 -- a point on the three planes of a corner is the corner
-pub is_the_corner : (p q r : Plane) (c u : Spot) → IsCorner p q r c → value_at p c ≡ pos 0 → value_at q c ≡ pos 0 → value_at r c ≡ pos 0 → value_at p u ≡ pos 0 → value_at q u ≡ pos 0 → value_at r u ≡ pos 0 → displacement u c ≡ zero_v
+pub is_the_corner : (p q r : Plane) (c u : Spot) → IsCorner p q r c → value_at p c ≡ pos 0 → value_at q c ≡ pos 0 →
+    value_at r c ≡ pos 0 → value_at p u ≡ pos 0 → value_at q u ≡ pos 0 → value_at r u ≡ pos 0 → displacement u c ≡ zero_v
 is_the_corner p q r c u k pc qc rc pu qu ru =
-    orthogonal_to_three (normal p) (normal q) (normal r) (displacement u c) k.one (flat_displacement p u c pu pc) (flat_displacement q u c qu qc) (flat_displacement r u c ru rc)
+    orthogonal_to_three (normal p) (normal q) (normal r) (displacement u c) k.one (flat_displacement p u c pu pc)
+    (flat_displacement q u c qu qc) (flat_displacement r u c ru rc)
 
 -- the weight of a meet of three planes that have one is positive
 pub meet_weight : (p q r : Plane) → weight p q r ≢ pos 0 → pos 0 <ℤ (meet_of p q r).w
@@ -57,7 +65,10 @@ value_same h m c s n z =
     -- m.w * h(c) is c.w * h(m)
     same_value : m.w *ℤ value_at h c ≡ c.w *ℤ value_at h m
     same_value =
-        from_three h.a h.b h.c (sym s.x) (sym s.y) (sym s.z) (identity (tuple ∷ tuple ∷ tuple ∷ []) (λ h m c. m.w ⊗ valueE h c ⊖ c.w ⊗ valueE h m ≈ h.x ⊗ (m.w ⊗ c.x ⊖ c.w ⊗ m.x) ⊕ h.y ⊗ (m.w ⊗ c.y ⊖ c.w ⊗ m.y) ⊕ h.z ⊗ (m.w ⊗ c.z ⊖ c.w ⊗ m.z)) cancels (plane_tuple h) (spot_tuple m) (spot_tuple c))
+        from_three h.a h.b h.c (sym s.x) (sym s.y) (sym s.z)
+        (identity (tuple ∷ tuple ∷ tuple ∷ [])
+        (λ h m c. m.w ⊗ valueE h c ⊖ c.w ⊗ valueE h m ≈ h.x ⊗ (m.w ⊗ c.x ⊖ c.w ⊗ m.x) ⊕ h.y ⊗ (m.w ⊗ c.y ⊖ c.w ⊗ m.y)
+        ⊕ h.z ⊗ (m.w ⊗ c.z ⊖ c.w ⊗ m.z)) cancels (plane_tuple h) (spot_tuple m) (spot_tuple c))
 
 -- a corner is on its three planes
 pub record IsOnThree (p q r : Plane) (c : Spot) : Type 0 where
@@ -68,7 +79,12 @@ pub record IsOnThree (p q r : Plane) (c : Spot) : Type 0 where
 pub corner_on_three : (p q r : Plane) (c : Spot) → IsCorner p q r c → pos 0 <ℤ (meet_of p q r).w → IsOnThree p q r c
 corner_on_three p q r c k w =
     let m = meet_of p q r in let n = positive_nonzero w in
-    record { first = value_same p m c k.same n (on_first p q r); second = value_same q m c k.same n (on_second p q r); third = value_same r m c k.same n (on_third p q r) }
+    record {
+      first = value_same p m c k.same n (on_first p q r);
+      second =
+          value_same q m c k.same n (on_second p q r);
+      third = value_same r m c k.same n (on_third p q r);
+    }
 
 -- ---- the same signs
 module _ (n : Plane) (e : Vector) (x : Spot) (wx : pos 0 <ℤ x.w) (u c : Spot) (wu : pos 0 <ℤ u.w) (wc : pos 0 <ℤ c.w) (same : displacement u c ≡ zero_v) where
@@ -88,14 +104,18 @@ module _ (n : Plane) (e : Vector) (x : Spot) (wx : pos 0 <ℤ x.w) (u c : Spot) 
 
   -- and turn alike, as first corners and as second ones
   pub same_turn_second : (v : Spot) → sgn (turn_at n x v u) ≡ sgn (turn_at n x v c)
-  same_turn_second v = one_sign (turn_at n x v u) (turn_at n x v c) (height_step n (displacement x v) x u c ∙ zero_scaled x.w (area n (displacement x v) (displacement u c)) (none_over (displacement x v)))
+  same_turn_second v = one_sign (turn_at n x v u) (turn_at n x v c)
+      (height_step n (displacement x v) x u c ∙ zero_scaled x.w (area n (displacement x v) (displacement u c))
+      (none_over (displacement x v)))
 
   pub same_turn_first : (v : Spot) → sgn (turn_at n x u v) ≡ sgn (turn_at n x c v)
   same_turn_first v =
       ap sgn (turn_back n x v u) ∙ sgn-neg (turn_at n x v u) ∙ ap flip (same_turn_second v) ∙ sym (sgn-neg (turn_at n x v c)) ∙ sym (ap sgn (turn_back n x v c))
 
 -- the ray passes the ways between the one corners as between the others
-pub same_passing : (n : Plane) (e : Vector) (x u v c d : Spot) → pos 0 <ℤ x.w → pos 0 <ℤ u.w → pos 0 <ℤ v.w → pos 0 <ℤ c.w → pos 0 <ℤ d.w → displacement u c ≡ zero_v → displacement v d ≡ zero_v → passing_at n e x u v ≡ passing_at n e x c d
+pub same_passing : (n : Plane) (e : Vector) (x u v c d : Spot) → pos 0 <ℤ x.w → pos 0 <ℤ u.w → pos 0 <ℤ v.w →
+    pos 0 <ℤ c.w → pos 0 <ℤ d.w → displacement u c ≡ zero_v → displacement v d ≡ zero_v →
+    passing_at n e x u v ≡ passing_at n e x c d
 same_passing n e x u v c d wx wu wv wc wd su sv =
     let a = same_height n e x wx u c wu wc su in let b = same_height n e x wx v d wv wd sv in
     let t = same_turn_first n e x wx u c wu wc su v ∙ same_turn_second n e x wx v d wv wd sv c in

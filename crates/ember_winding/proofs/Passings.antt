@@ -26,26 +26,36 @@ passing_back h k l =
 -- and end above, or the other way round
 abbrev on_line_test : Sign → Sign → Sign → Sign → Sign → Bool
 on_line_test h k s m t =
-    given (not (is_nil h) and (not (is_nil k) and may_sum k (flip h) (times s t))) (λ e. same_z (passing h k (times s m)) (pick (is_pos (times m t)) (below h -ℤ below k)))
+    given (not (is_nil h) and (not (is_nil k) and may_sum k (flip h) (times s t)))
+    (λ e. same_z (passing h k (times s m)) (pick (is_pos (times m t)) (below h -ℤ below k)))
 
-pub passing_on_line : (h k s m t : Sign) → T (not (is_nil h) and (not (is_nil k) and may_sum k (flip h) (times s t))) → passing h k (times s m) ≡ pick (is_pos (times m t)) (below h -ℤ below k)
+pub passing_on_line : (h k s m t : Sign) → T (not (is_nil h) and (not (is_nil k) and may_sum k (flip h) (times s t))) →
+    passing h k (times s m) ≡ pick (is_pos (times m t)) (below h -ℤ below k)
 passing_on_line h k s m t c =
-    same_z_out (passing h k (times s m)) (pick (is_pos (times m t)) (below h -ℤ below k)) (use_given (not (is_nil h) and (not (is_nil k) and may_sum k (flip h) (times s t))) (λ e. same_z (passing h k (times s m)) (pick (is_pos (times m t)) (below h -ℤ below k))) (signs 5 on_line_test tt h k s m t) c)
+    same_z_out (passing h k (times s m)) (pick (is_pos (times m t)) (below h -ℤ below k))
+    (use_given (not (is_nil h) and (not (is_nil k) and may_sum k (flip h) (times s t)))
+    (λ e. same_z (passing h k (times s m)) (pick (is_pos (times m t)) (below h -ℤ below k)))
+    (signs 5 on_line_test tt h k s m t) c)
 
 -- ---- round a triangle
 -- a, b, c are the signs of the heights of its corners, l, m, n those of the turns of its sides
 abbrev pub may_triangle : Sign → Sign → Sign → Sign → Sign → Sign → Bool
 may_triangle a b c l m n =
-    not (is_nil a) and (not (is_nil b) and (not (is_nil c) and (not (is_nil l) and (not (is_nil m) and (not (is_nil n) and (zero_sum (times m a) (times n b) (times l c) and not (is_neg l and (is_neg m and is_neg n))))))))
+    not (is_nil a) and (not (is_nil b) and (not (is_nil c) and
+    (not (is_nil l) and (not (is_nil m) and (not (is_nil n) and
+    (zero_sum (times m a) (times n b) (times l c) and not (is_neg l and (is_neg m and is_neg n))))))))
 
 abbrev triangle_test : Sign → Sign → Sign → Sign → Sign → Sign → Bool
 triangle_test a b c l m n =
     given (may_triangle a b c l m n) (λ e. same_z (passing a b l +ℤ passing b c m +ℤ passing c a n) (pick (is_pos l and (is_pos m and is_pos n)) (pos 1)))
 
 -- a ray passes the sides of a triangle once in sum if its start is to the left of all three, and otherwise not at all
-pub passing_triangle : (a b c l m n : Sign) → T (may_triangle a b c l m n) → passing a b l +ℤ passing b c m +ℤ passing c a n ≡ pick (is_pos l and (is_pos m and is_pos n)) (pos 1)
+pub passing_triangle : (a b c l m n : Sign) → T (may_triangle a b c l m n) →
+    passing a b l +ℤ passing b c m +ℤ passing c a n ≡ pick (is_pos l and (is_pos m and is_pos n)) (pos 1)
 passing_triangle a b c l m n t =
-    same_z_out (passing a b l +ℤ passing b c m +ℤ passing c a n) (pick (is_pos l and (is_pos m and is_pos n)) (pos 1)) (use_given (may_triangle a b c l m n) (λ e. same_z (passing a b l +ℤ passing b c m +ℤ passing c a n) (pick (is_pos l and (is_pos m and is_pos n)) (pos 1))) (signs 6 triangle_test tt a b c l m n) t)
+    same_z_out (passing a b l +ℤ passing b c m +ℤ passing c a n) (pick (is_pos l and (is_pos m and is_pos n)) (pos 1))
+    (use_given (may_triangle a b c l m n) (λ e. same_z (passing a b l +ℤ passing b c m +ℤ passing c a n)
+    (pick (is_pos l and (is_pos m and is_pos n)) (pos 1))) (signs 6 triangle_test tt a b c l m n) t)
 
 -- ---- small facts
 pub flip_flip : (s : Sign) → flip (flip s) ≡ s

@@ -49,18 +49,24 @@ module _ (k : ℤ) (kp : pos 0 <ℤ k) (n : Plane) (a : Axis) (p : Spot) where
 
   size_times : size (along m a) ≡ k *ℤ size (along n a)
   size_times =
-      size-is (along m a) ∙ (let s = sign_times in let e = along_times a in λ i. s i *ℤ e i) ∙ solve 3 (λ s k z. s ⊗ (k ⊗ z) ≈ k ⊗ (s ⊗ z)) cancels (sign (along n a)) k (along n a) ∙ sym (ap (λ (z : ℤ). k *ℤ z) (size-is (along n a)))
+      size-is (along m a) ∙ (let s = sign_times in let e = along_times a in λ i. s i *ℤ e i)
+      ∙ solve 3 (λ s k z. s ⊗ (k ⊗ z) ≈ k ⊗ (s ⊗ z)) cancels (sign (along n a)) k (along n a)
+      ∙ sym (ap (λ (z : ℤ). k *ℤ z) (size-is (along n a)))
 
   back_times : neg_ℤ (sign (along m a) *ℤ value_at m p) ≡ k *ℤ neg_ℤ (sign (along n a) *ℤ value_at n p)
   back_times =
-      (let s = sign_times in let v = value_times k n p in λ i. neg_ℤ (s i *ℤ v i)) ∙ solve 3 (λ s k v. neg (s ⊗ (k ⊗ v)) ≈ k ⊗ neg (s ⊗ v)) cancels (sign (along n a)) k (value_at n p)
+      (let s = sign_times in let v = value_times k n p in λ i. neg_ℤ (s i *ℤ v i))
+      ∙ solve 3 (λ s k v. neg (s ⊗ (k ⊗ v)) ≈ k ⊗ neg (s ⊗ v)) cancels (sign (along n a)) k (value_at n p)
 
   plain : (z : ℤ) → size (along m a) *ℤ z ≡ k *ℤ (size (along n a) *ℤ z)
   plain z = ap (λ (s : ℤ). s *ℤ z) size_times ∙ solve 3 (λ k s z. (k ⊗ s) ⊗ z ≈ k ⊗ (s ⊗ z)) cancels k (size (along n a)) z
 
-  moved_times : (z : ℤ) → size (along m a) *ℤ z +ℤ neg_ℤ (sign (along m a) *ℤ value_at m p) ≡ k *ℤ (size (along n a) *ℤ z +ℤ neg_ℤ (sign (along n a) *ℤ value_at n p))
+  moved_times : (z : ℤ) → size (along m a) *ℤ z +ℤ neg_ℤ (sign (along m a) *ℤ value_at m p) ≡ k *ℤ
+      (size (along n a) *ℤ z +ℤ neg_ℤ (sign (along n a) *ℤ value_at n p))
   moved_times z =
-      (let x = plain z in let y = back_times in λ i. x i +ℤ y i) ∙ solve 3 (λ k x y. k ⊗ x ⊕ k ⊗ y ≈ k ⊗ (x ⊕ y)) cancels k (size (along n a) *ℤ z) (neg_ℤ (sign (along n a) *ℤ value_at n p))
+      (let x = plain z in let y = back_times in λ i. x i +ℤ y i)
+      ∙ solve 3 (λ k x y. k ⊗ x ⊕ k ⊗ y ≈ k ⊗ (x ⊕ y)) cancels k (size (along n a) *ℤ z)
+      (neg_ℤ (sign (along n a) *ℤ value_at n p))
 
 -- the hit is the same point
 pub hit_times : (k : ℤ) → pos 0 <ℤ k → (n : Plane) (a : Axis) (p : Spot) → hit (times_plane k n) a p ≡ scaled k (hit n a p)
@@ -71,17 +77,24 @@ hit_times k kp n Z p = same_spot (plain k kp n Z p p.x) (plain k kp n Z p p.y) (
 abbrev scaledE : Expr → TupleE → TupleE
 scaledE k s = record { x = k ⊗ s.x; y = k ⊗ s.y; z = k ⊗ s.z; w = k ⊗ s.w }
 
-height_times : (k : ℤ) (n : Plane) (q : Vector) (x u : Spot) → height (times_plane k n) (level_with (times_plane k n) q) (scaled k x) u ≡ (k *ℤ (k *ℤ k)) *ℤ height n (level_with n q) x u
+height_times : (k : ℤ) (n : Plane) (q : Vector) (x u : Spot) →
+    height (times_plane k n) (level_with (times_plane k n) q) (scaled k x) u ≡ (k *ℤ (k *ℤ k)) *ℤ height n
+    (level_with n q) x u
 unfolding area
 height_times k n q x u =
-    identity (scalar ∷ vector ∷ vector ∷ tuple ∷ tuple ∷ []) (λ k n q x u. areaE (scaleE k n) (crossE (scaleE k n) q) (displacementE (scaledE k x) u) ≈ (k ⊗ (k ⊗ k)) ⊗ areaE n (crossE n q) (displacementE x u)) cancels k (normal n) q (spot_tuple x) (spot_tuple u)
+    identity (scalar ∷ vector ∷ vector ∷ tuple ∷ tuple ∷ [])
+    (λ k n q x u. areaE (scaleE k n) (crossE (scaleE k n) q) (displacementE (scaledE k x) u) ≈ (k ⊗ (k ⊗ k)) ⊗ areaE n
+    (crossE n q) (displacementE x u)) cancels k (normal n) q (spot_tuple x) (spot_tuple u)
 
 turn_times : (k : ℤ) (n : Plane) (x u v : Spot) → turn_at (times_plane k n) (scaled k x) u v ≡ (k *ℤ (k *ℤ k)) *ℤ turn_at n x u v
 unfolding area
 turn_times k n x u v =
-    identity (scalar ∷ vector ∷ tuple ∷ tuple ∷ tuple ∷ []) (λ k n x u v. areaE (scaleE k n) (displacementE (scaledE k x) u) (displacementE (scaledE k x) v) ≈ (k ⊗ (k ⊗ k)) ⊗ areaE n (displacementE x u) (displacementE x v)) cancels k (normal n) (spot_tuple x) (spot_tuple u) (spot_tuple v)
+    identity (scalar ∷ vector ∷ tuple ∷ tuple ∷ tuple ∷ [])
+    (λ k n x u v. areaE (scaleE k n) (displacementE (scaledE k x) u) (displacementE (scaledE k x) v) ≈ (k ⊗ (k ⊗ k)) ⊗
+    areaE n (displacementE x u) (displacementE x v)) cancels k (normal n) (spot_tuple x) (spot_tuple u) (spot_tuple v)
 
-ray_passing_times : (k : ℤ) → pos 0 <ℤ k → (n : Plane) (a : Axis) (p : Spot) (q : Vector) (u v : Spot) → ray_passing (times_plane k n) a p q u v ≡ ray_passing n a p q u v
+ray_passing_times : (k : ℤ) → pos 0 <ℤ k → (n : Plane) (a : Axis) (p : Spot) (q : Vector) (u v : Spot) →
+    ray_passing (times_plane k n) a p q u v ≡ ray_passing n a p q u v
 ray_passing_times k kp n a p q u v =
     let m = times_plane k n in let x = hit n a p in let cube = pos_mul kp (pos_mul kp kp) in
     let h = λ (w : Spot). ap sgn (height_times k n q x w) ∙ sgn_scaled (height n (level_with n q) x w) cube in
@@ -91,13 +104,16 @@ ray_passing_times k kp n a p q u v =
 front_sign_times : (k : ℤ) → pos 0 <ℤ k → (n : Plane) (a : Axis) (p : Spot) → front_sign (times_plane k n) a p ≡ front_sign n a p
 front_sign_times k kp n a p =
     let v = value_times k n p in let e = along_times k kp n a p a in
-    let c : sgn (value_at (times_plane k n) p *ℤ along (times_plane k n) a) ≡ sgn (value_at n p *ℤ along n a) = (λ i. sgn (v i *ℤ e i)) ∙ ap sgn (solve 3 (λ k v a. (k ⊗ v) ⊗ (k ⊗ a) ≈ (k ⊗ k) ⊗ (v ⊗ a)) cancels k (value_at n p) (along n a)) ∙ sgn_scaled (value_at n p *ℤ along n a) (pos_mul kp kp) in
+    let c : sgn (value_at (times_plane k n) p *ℤ along (times_plane k n) a) ≡ sgn (value_at n p *ℤ along n a) =
+    (λ i. sgn (v i *ℤ e i)) ∙ ap sgn (solve 3 (λ k v a. (k ⊗ v) ⊗ (k ⊗ a) ≈ (k ⊗ k) ⊗ (v ⊗ a)) cancels k
+    (value_at n p) (along n a)) ∙ sgn_scaled (value_at n p *ℤ along n a) (pos_mul kp kp) in
     let s = sign_times k kp n a p in λ i. cond (is_neg (c i)) (s i) (pos 0)
 
 -- ---- one oriented plane
 pub same_ray_passing : (m n : Plane) → IsSameOriented m n → (a : Axis) (p : Spot) (q : Vector) (u v : Spot) → ray_passing m a p q u v ≡ ray_passing n a p q u v
 same_ray_passing m n o a p q u v =
-    sym (ray_passing_times o.of_p o.positive_p m a p q u v) ∙ ap (λ (r : Plane). ray_passing r a p q u v) o.same ∙ ray_passing_times o.of_q o.positive_q n a p q u v
+    sym (ray_passing_times o.of_p o.positive_p m a p q u v) ∙ ap (λ (r : Plane). ray_passing r a p q u v) o.same
+    ∙ ray_passing_times o.of_q o.positive_q n a p q u v
 
 pub same_front_sign : (m n : Plane) → IsSameOriented m n → (a : Axis) (p : Spot) → front_sign m a p ≡ front_sign n a p
 same_front_sign m n o a p =

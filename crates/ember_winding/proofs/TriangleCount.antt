@@ -32,7 +32,8 @@ pub record IsGeneralTriangle (n : Plane) (e : Vector) (x u v w : Spot) : Type 0 
   pub turn_vw : turn_at n x v w ≢ pos 0
   pub turn_wu : turn_at n x w u ≢ pos 0
 
-module _ (n : Plane) (e : Vector) (x u v w : Spot) (wx : pos 0 <ℤ x.w) (wu : pos 0 <ℤ u.w) (wv : pos 0 <ℤ v.w) (ww : pos 0 <ℤ w.w) (front : FacesFront n u v w) (general : IsGeneralTriangle n e x u v w) where
+module _ (n : Plane) (e : Vector) (x u v w : Spot) (wx : pos 0 <ℤ x.w) (wu : pos 0 <ℤ u.w) (wv : pos 0 <ℤ v.w)
+    (ww : pos 0 <ℤ w.w) (front : FacesFront n u v w) (general : IsGeneralTriangle n e x u v w) where
   abbrev uv : ℤ
   uv = turn_at n x u v
 
@@ -60,10 +61,16 @@ module _ (n : Plane) (e : Vector) (x u v w : Spot) (wx : pos 0 <ℤ x.w) (wu : p
   may : T (may_triangle (sgn (height n e x u)) (sgn (height n e x v)) (sgn (height n e x w)) (sgn uv) (sgn vw) (sgn wu'))
   may =
       let hu = height n e x u in let hv = height n e x v in let hw = height n e x w in
-      both _ _ (not_null hu general.height_u) (both _ _ (not_null hv general.height_v) (both _ _ (not_null hw general.height_w) (both _ _ (not_null uv general.turn_uv) (both _ _ (not_null vw general.turn_vw) (both _ _ (not_null wu' general.turn_wu) (both _ _ (zero_sum_from vw hu wu' hv uv hw (heights_balance n e x u v w)) not_right))))))
+      both _ _ (not_null hu general.height_u) (both _ _ (not_null hv general.height_v)
+      (both _ _ (not_null hw general.height_w)
+      (both _ _ (not_null uv general.turn_uv) (both _ _ (not_null vw general.turn_vw)
+      (both _ _ (not_null wu' general.turn_wu)
+      (both _ _ (zero_sum_from vw hu wu' hv uv hw (heights_balance n e x u v w)) not_right))))))
 
   -- a ray from a point of the plane passes the sides once in sum if the point is inside, and otherwise not at all
   pub triangle_count : passing_at n e x u v +ℤ passing_at n e x v w +ℤ passing_at n e x w u ≡ one_if (all_negative (face_of_points n u v w).edges x)
   triangle_count =
       let a = side_negative n x u v wx wu in let b = side_negative n x v w wx wv in let c = side_negative n x w u wx ww in
-      passing_triangle (sgn (height n e x u)) (sgn (height n e x v)) (sgn (height n e x w)) (sgn uv) (sgn vw) (sgn wu') may ∙ pick_of_three (is_pos (sgn uv)) (is_pos (sgn vw)) (is_pos (sgn wu')) ∙ (λ i. one_if (a i && (b i && (c i && true))))
+      passing_triangle (sgn (height n e x u)) (sgn (height n e x v)) (sgn (height n e x w)) (sgn uv) (sgn vw) (sgn wu')
+      may ∙ pick_of_three (is_pos (sgn uv)) (is_pos (sgn vw)) (is_pos (sgn wu'))
+      ∙ (λ i. one_if (a i && (b i && (c i && true))))

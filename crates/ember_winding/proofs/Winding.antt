@@ -21,11 +21,19 @@ use Rattle.ember_winding.proofs.FaceSums.{faces_sum}
 use Rattle.ember_winding.proofs.TriangleSums.{triangles_sum}
 use Rattle.ember_winding.proofs.CertifiedSums.{certified_sum}
 
-module _ (ws : List WrittenFace) (t : Tables) (ts : List Triangle) (lines : AllByRecursion IsOutlined ws) (are : AreTables (face_edges_of 0 (map face_from ws)) t) (certified : IsCertified t.planes.items t.lines.items t.corners.items t.segments.items ts) where
+module _ (ws : List WrittenFace) (t : Tables) (ts : List Triangle) (lines : AllByRecursion IsOutlined ws)
+    (are : AreTables (face_edges_of 0 (map face_from ws)) t)
+    (certified : IsCertified t.planes.items t.lines.items t.corners.items t.segments.items ts) where
   -- at a general point
-  alike_at : (a : Axis) (q : Vector) (p : Spot) → IsGeneralDirection t.planes.items ws q → IsGeneralPoint t.planes.items t.corners.items ws a q p → wind a (map face_from ws) p ≡ wind a (triangle_faces t.planes.items t.corners.items ts) p
+  alike_at : (a : Axis) (q : Vector) (p : Spot) → IsGeneralDirection t.planes.items ws q →
+      IsGeneralPoint t.planes.items t.corners.items ws a q p →
+      wind a (map face_from ws) p ≡ wind a (triangle_faces t.planes.items t.corners.items ts) p
   alike_at a q p d g =
-      sym (faces_sum t.planes.items t.lines.items t.corners.items a q p g.weight 0 ws t.segments.items lines d.supports d.edges g.faces are.segments) ∙ certified_sum t.planes.items t.lines.items t.corners.items a q p g.weight d.planes g.tables (face_edges_of 0 (map face_from ws)) t.segments.items ts are.segments certified.proper certified.chains certified.on_lines certified.free_paired ∙ sym (triangles_sum t.planes.items t.corners.items a q p g.weight d.planes g.tables ts certified.proper)
+      sym (faces_sum t.planes.items t.lines.items t.corners.items a q p g.weight 0 ws t.segments.items lines d.supports
+      d.edges g.faces are.segments) ∙ certified_sum t.planes.items t.lines.items t.corners.items a q p g.weight
+      d.planes g.tables (face_edges_of 0 (map face_from ws)) t.segments.items ts are.segments certified.proper
+      certified.chains certified.on_lines certified.free_paired
+      ∙ sym (triangles_sum t.planes.items t.corners.items a q p g.weight d.planes g.tables ts certified.proper)
 
   -- near every point
   pub wind_alike_nearby : WindAlikeNearby (map face_from ws) (triangle_faces t.planes.items t.corners.items ts)
@@ -37,5 +45,6 @@ module _ (ws : List WrittenFace) (t : Tables) (ts : List Triangle) (lines : AllB
   pub wind_alike : WindAlike (map face_from ws) (triangle_faces t.planes.items t.corners.items ts)
   wind_alike a p w clear_faces clear_triangles =
       let gs = triangle_faces t.planes.items t.corners.items ts in
-      let s = eventually_both (wind_shifted a p (map face_from ws) w clear_faces) (eventually_both (wind_shifted a p gs w clear_triangles) (wind_alike_nearby a p w)) in
+      let s = eventually_both (wind_shifted a p (map face_from ws) w clear_faces)
+      (eventually_both (wind_shifted a p gs w clear_triangles) (wind_alike_nearby a p w)) in
       let h = s.holds s.from (le_refl s.from) in h.0 ∙ h.1.1 ∙ sym h.1.0

@@ -1,5 +1,6 @@
 -- Canonical words are read as the command of their values
-use Rattle.std.proofs.Common.{◌≡◌, ◌∙◌, ◌<◌, ◌-◌, ◌^◌, Bool, true, false, codes, List, [], ◌∷◌, ◌++◌, refl, Option, Some, None, Result, ap, subst, length, arith}
+use Rattle.std.proofs.Common.{◌≡◌, ◌∙◌, ◌<◌, ◌-◌, ◌^◌, Bool, true, false, codes, List, [], ◌∷◌, ◌++◌, refl, Option}
+use Rattle.std.proofs.Common.{Some, None, Result, ap, subst, length, arith}
 use Rattle.std.proofs.lemmas.Bool.Decides.{nat_tests}
 use Rattle.clap.specs.Lexer.{usize_max}
 use Rattle.clap.specs.Walk.{Row, Text, walk_from, nothing_held}
@@ -14,7 +15,8 @@ use Rattle.ember_words.specs.declared.verb.Verb.TheVariants.{Faces, At, Boole, D
 use Rattle.ember_words.specs.WordsCommand.{Reads, app_for, command_of, taken_by}
 use Rattle.ember_words.specs.Canonical.{Given, IsCanonical, CommandLine, arguments_of, command_of_line, words_of}
 use Rattle.ember_words.specs.Canonical.{faces_line, at_line, bool_line, demo_line, voxels_line, pairs_line, slice_line}
-use Rattle.ember_words.proofs.OptionWalk.{IsFlag, IsOption, Reaches, at_word, at_words, walk_begins, flag_gives, flag_rows, given_rows, option_gives, still_new, word_ends, words_end}
+use Rattle.ember_words.proofs.OptionWalk.{IsFlag, IsOption, Reaches, at_word, at_words, walk_begins, flag_gives}
+use Rattle.ember_words.proofs.OptionWalk.{flag_rows, given_rows, option_gives, still_new, word_ends, words_end}
 
 abbrev top_of : Verb → Shape
 top_of v = (built (app_for v)).top
@@ -24,15 +26,19 @@ top_of v = (built (app_for v)).top
 faces_places : IsOption (top_of Faces) (codes "file") (codes "places") false (codes "0" ∷ [])
 faces_places = record { dashes = λ rest. refl; dash = refl; attached = λ value. refl; apart = refl; by_long = refl; by_id = refl; itself = refl; other = refl }
 
-faces_read : (words : List Text) (places : Option Given) (file : Text) → Reaches (top_of Faces) (walk_from nothing_held) words (at_word (codes "file") (given_rows (codes "places") places) file)
+faces_read : (words : List Text) (places : Option Given) (file : Text) →
+    Reaches (top_of Faces) (walk_from nothing_held) words
+    (at_word (codes "file") (given_rows (codes "places") places) file)
     → taken_by Faces (codes "faces" ∷ words) ≡ command_of_line (faces_line places file)
 unfolding defaults_fault
 faces_read words None file r = simp (r.walks, r.free)
 faces_read words (Some places) file r = simp (r.walks, r.free)
 
-faces_taken : (places : Option Given) (file : Text) → IsCanonical (faces_line places file) → command_of (words_of (faces_line places file)) ≡ command_of_line (faces_line places file)
+faces_taken : (places : Option Given) (file : Text) → IsCanonical (faces_line places file) →
+    command_of (words_of (faces_line places file)) ≡ command_of_line (faces_line places file)
 faces_taken places file h =
-    let options = option_gives (top_of Faces) (codes "file") (codes "places") false (codes "0" ∷ []) faces_places (walk_from nothing_held) [] [] places (walk_begins (top_of Faces) (codes "file")) refl h.0 in
+    let options = option_gives (top_of Faces) (codes "file") (codes "places") false (codes "0" ∷ []) faces_places
+    (walk_from nothing_held) [] [] places (walk_begins (top_of Faces) (codes "file")) refl h.0 in
     faces_read (arguments_of (faces_line places file)) places file
     (word_ends (top_of Faces) (codes "file") (record { by_index = refl; itself = refl }) (walk_from nothing_held) _ _ file options h.1)
 
@@ -41,15 +47,19 @@ faces_taken places file h =
 demo_workers : IsOption (top_of Demo) (codes "boxes") (codes "workers") false (codes "1" ∷ [])
 demo_workers = record { dashes = λ rest. refl; dash = refl; attached = λ value. refl; apart = refl; by_long = refl; by_id = refl; itself = refl; other = refl }
 
-demo_read : (words : List Text) (workers : Option Given) (boxes : Text) → Reaches (top_of Demo) (walk_from nothing_held) words (at_word (codes "boxes") (given_rows (codes "workers") workers) boxes)
+demo_read : (words : List Text) (workers : Option Given) (boxes : Text) →
+    Reaches (top_of Demo) (walk_from nothing_held) words
+    (at_word (codes "boxes") (given_rows (codes "workers") workers) boxes)
     → taken_by Demo (codes "demo" ∷ words) ≡ command_of_line (demo_line workers boxes)
 unfolding defaults_fault
 demo_read words None boxes r = simp (r.walks, r.free)
 demo_read words (Some workers) boxes r = simp (r.walks, r.free)
 
-demo_taken : (workers : Option Given) (boxes : Text) → IsCanonical (demo_line workers boxes) → command_of (words_of (demo_line workers boxes)) ≡ command_of_line (demo_line workers boxes)
+demo_taken : (workers : Option Given) (boxes : Text) → IsCanonical (demo_line workers boxes) →
+    command_of (words_of (demo_line workers boxes)) ≡ command_of_line (demo_line workers boxes)
 demo_taken workers boxes h =
-    let options = option_gives (top_of Demo) (codes "boxes") (codes "workers") false (codes "1" ∷ []) demo_workers (walk_from nothing_held) [] [] workers (walk_begins (top_of Demo) (codes "boxes")) refl h.0 in
+    let options = option_gives (top_of Demo) (codes "boxes") (codes "workers") false (codes "1" ∷ []) demo_workers
+    (walk_from nothing_held) [] [] workers (walk_begins (top_of Demo) (codes "boxes")) refl h.0 in
     demo_read (arguments_of (demo_line workers boxes)) workers boxes
     (word_ends (top_of Demo) (codes "boxes") (record { by_index = refl; itself = refl }) (walk_from nothing_held) _ _ boxes options h.1)
 
@@ -58,14 +68,18 @@ demo_taken workers boxes h =
 slice_at : IsOption (top_of Slice) (codes "file") (codes "at") true []
 slice_at = record { dashes = λ rest. refl; dash = refl; attached = λ value. refl; apart = refl; by_long = refl; by_id = refl; itself = refl; other = refl }
 
-slice_read : (words : List Text) (height : Given) (file : Text) → Reaches (top_of Slice) (walk_from nothing_held) words (at_word (codes "file") (given_rows (codes "at") (Some height)) file)
+slice_read : (words : List Text) (height : Given) (file : Text) →
+    Reaches (top_of Slice) (walk_from nothing_held) words
+    (at_word (codes "file") (given_rows (codes "at") (Some height)) file)
     → taken_by Slice (codes "slice" ∷ words) ≡ command_of_line (slice_line height file)
 unfolding defaults_fault
 slice_read words height file r = simp (r.walks, r.free)
 
-slice_taken : (height : Given) (file : Text) → IsCanonical (slice_line height file) → command_of (words_of (slice_line height file)) ≡ command_of_line (slice_line height file)
+slice_taken : (height : Given) (file : Text) → IsCanonical (slice_line height file) →
+    command_of (words_of (slice_line height file)) ≡ command_of_line (slice_line height file)
 slice_taken height file h =
-    let options = option_gives (top_of Slice) (codes "file") (codes "at") true [] slice_at (walk_from nothing_held) [] [] (Some height) (walk_begins (top_of Slice) (codes "file")) refl h.0 in
+    let options = option_gives (top_of Slice) (codes "file") (codes "at") true [] slice_at (walk_from nothing_held) []
+    [] (Some height) (walk_begins (top_of Slice) (codes "file")) refl h.0 in
     slice_read (arguments_of (slice_line height file)) height file
     (word_ends (top_of Slice) (codes "file") (record { by_index = refl; itself = refl }) (walk_from nothing_held) _ _ file options h.1)
 
@@ -87,7 +101,9 @@ pairs_places : IsOption (top_of Pairs) (codes "files") (codes "places") false (c
 pairs_places = record { dashes = λ rest. refl; dash = refl; attached = λ value. refl; apart = refl; by_long = refl; by_id = refl; itself = refl; other = refl }
 
 pairs_read : (words : List Text) (workers places : Option Given) (file : Text) (more : List Text) → length more < 2 ^ 64 - 1
-    → Reaches (top_of Pairs) (walk_from nothing_held) words (at_words (codes "files") (given_rows (codes "workers") workers ++ given_rows (codes "places") places) (file ∷ more))
+    → Reaches (top_of Pairs) (walk_from nothing_held) words
+    (at_words (codes "files") (given_rows (codes "workers") workers ++ given_rows (codes "places") places)
+    (file ∷ more))
     → taken_by Pairs (codes "pairs" ∷ words) ≡ command_of_line (pairs_line workers places file more)
 unfolding defaults_fault
 pairs_read words None None file more few r = simp (r.walks, r.free, none_past file more few, all_read (file ∷ more))
@@ -100,7 +116,8 @@ pairs_taken : (workers places : Option Given) (file : Text) (more : List Text) �
 pairs_taken workers places file more h =
     let s = top_of Pairs in
     let last = codes "files" in
-    let counted = option_gives s last (codes "workers") false (codes "1" ∷ []) pairs_workers (walk_from nothing_held) [] [] workers (walk_begins s last) refl h.0 in
+    let counted = option_gives s last (codes "workers") false (codes "1" ∷ []) pairs_workers (walk_from nothing_held) []
+    [] workers (walk_begins s last) refl h.0 in
     let placed =
     option_gives s last (codes "places") false (codes "0" ∷ []) pairs_places (walk_from nothing_held) _ _ places counted
     (still_new (codes "places") (codes "workers") [] workers refl refl) h.1 in
@@ -158,7 +175,8 @@ bool_report = record { dash = refl; apart = refl; by_long = refl }
 bool_read : (words : List Text) (expr : Given) (workers places : Option Given) (report : Bool) (file : Text) (more : List Text) → length more < 2 ^ 64 - 1
     → Reaches (top_of Boole) (walk_from nothing_held) words
     (at_words (codes "files")
-    (((given_rows (codes "expr") (Some expr) ++ given_rows (codes "workers") workers) ++ given_rows (codes "places") places) ++ flag_rows (codes "report") report) (file ∷ more))
+    (((given_rows (codes "expr") (Some expr) ++ given_rows (codes "workers") workers)
+    ++ given_rows (codes "places") places) ++ flag_rows (codes "report") report) (file ∷ more))
     → taken_by Boole (codes "bool" ∷ words) ≡ command_of_line (bool_line expr workers places report file more)
 unfolding defaults_fault
 bool_read words expr None None false file more few r = simp (r.walks, r.free, none_past file more few, all_read (file ∷ more))
@@ -170,7 +188,8 @@ bool_read words expr (Some workers) None true file more few r = simp (r.walks, r
 bool_read words expr (Some workers) (Some places) false file more few r = simp (r.walks, r.free, none_past file more few, all_read (file ∷ more))
 bool_read words expr (Some workers) (Some places) true file more few r = simp (r.walks, r.free, none_past file more few, all_read (file ∷ more))
 
-bool_taken : (expr : Given) (workers places : Option Given) (report : Bool) (file : Text) (more : List Text) → IsCanonical (bool_line expr workers places report file more)
+bool_taken : (expr : Given) (workers places : Option Given) (report : Bool) (file : Text) (more : List Text) →
+    IsCanonical (bool_line expr workers places report file more)
     → command_of (words_of (bool_line expr workers places report file more)) ≡ command_of_line (bool_line expr workers places report file more)
 bool_taken expr workers places report file more h =
     let s = top_of Boole in
@@ -197,7 +216,17 @@ voxels_size : IsOption (top_of Voxels) (codes "files") (codes "size") true []
 voxels_size = record { dashes = λ rest. refl; dash = refl; attached = λ value. refl; apart = refl; by_long = refl; by_id = refl; itself = refl; other = refl }
 
 voxels_workers : IsOption (top_of Voxels) (codes "files") (codes "workers") false (codes "1" ∷ [])
-voxels_workers = record { dashes = λ rest. refl; dash = refl; attached = λ value. refl; apart = refl; by_long = refl; by_id = refl; itself = refl; other = refl }
+voxels_workers = record {
+  dashes = λ rest. refl;
+  dash = refl;
+  attached = λ value. refl;
+  apart = refl;
+  by_long =
+      refl;
+  by_id = refl;
+  itself = refl;
+  other = refl;
+}
 
 voxels_places : IsOption (top_of Voxels) (codes "files") (codes "places") false (codes "0" ∷ [])
 voxels_places = record { dashes = λ rest. refl; dash = refl; attached = λ value. refl; apart = refl; by_long = refl; by_id = refl; itself = refl; other = refl }
@@ -205,7 +234,8 @@ voxels_places = record { dashes = λ rest. refl; dash = refl; attached = λ valu
 voxels_read : (words : List Text) (expr size : Given) (workers places : Option Given) (file : Text) (more : List Text) → length more < 2 ^ 64 - 1
     → Reaches (top_of Voxels) (walk_from nothing_held) words
     (at_words (codes "files")
-    (((given_rows (codes "expr") (Some expr) ++ given_rows (codes "size") (Some size)) ++ given_rows (codes "workers") workers) ++ given_rows (codes "places") places) (file ∷ more))
+    (((given_rows (codes "expr") (Some expr) ++ given_rows (codes "size") (Some size))
+    ++ given_rows (codes "workers") workers) ++ given_rows (codes "places") places) (file ∷ more))
     → taken_by Voxels (codes "voxels" ∷ words) ≡ command_of_line (voxels_line expr size workers places file more)
 unfolding defaults_fault
 voxels_read words expr size None None file more few r = simp (r.walks, r.free, none_past file more few, all_read (file ∷ more))
@@ -213,7 +243,8 @@ voxels_read words expr size None (Some places) file more few r = simp (r.walks, 
 voxels_read words expr size (Some workers) None file more few r = simp (r.walks, r.free, none_past file more few, all_read (file ∷ more))
 voxels_read words expr size (Some workers) (Some places) file more few r = simp (r.walks, r.free, none_past file more few, all_read (file ∷ more))
 
-voxels_taken : (expr size : Given) (workers places : Option Given) (file : Text) (more : List Text) → IsCanonical (voxels_line expr size workers places file more)
+voxels_taken : (expr size : Given) (workers places : Option Given) (file : Text) (more : List Text) →
+    IsCanonical (voxels_line expr size workers places file more)
     → command_of (words_of (voxels_line expr size workers places file more)) ≡ command_of_line (voxels_line expr size workers places file more)
 voxels_taken expr size workers places file more h =
     let s = top_of Voxels in

@@ -1,5 +1,7 @@
 -- A command that was read is within the limits
-use Rattle.std.proofs.Common.{◌≡◌, ◌<◌, ◌≤◌, ℕ, ℤ, pos, negsuc, neg_ℤ, unsigned_abs, Bool, true, false, not, ◌&&◌, List, [], ◌∷◌, refl, Option, Some, None, Result, Ok, Err, cond, length, arith, codes, subst, slice_index_or}
+use Rattle.std.proofs.Common.{◌≡◌, ◌<◌, ◌≤◌, ℕ, ℤ, pos, negsuc, neg_ℤ, unsigned_abs, Bool, true, false, not, ◌&&◌, List}
+use Rattle.std.proofs.Common.{[], ◌∷◌, refl, Option, Some, None, Result, Ok, Err, cond, length, arith, codes, subst}
+use Rattle.std.proofs.Common.{slice_index_or}
 use Rattle.std.proofs.lemmas.Int.{ints}
 use Rattle.std.proofs.lemmas.List.Sums.{AllPass-from_list_all}
 use Rattle.clap.proofs.WalkLemmas.{both}
@@ -17,8 +19,12 @@ use Rattle.ember_words.specs.declared.command.Command.{Command}
 use Rattle.ember_words.specs.declared.command.WordsFault.{WordsFault}
 use Rattle.ember_words.specs.declared.verb.Verb.{Verb}
 use Rattle.ember_words.specs.declared.verb.Verb.TheVariants.{Faces, At, Boole, Demo, Voxels, Pairs, Slice}
-use Rattle.ember_words.specs.Limits.{are_names, as_height, as_spot, decimal_of, four_of, height_of, is_height, is_set, is_valid_spot, names_in_limits, nonempty_of, number_within, optional_of, parts_of, point_of, spot_of_four, spot_of_numbers, whole_of, within}
-use Rattle.ember_words.specs.WordsCommand.{Reads, at_with, bool_with, command_of, demo_with, faces_with, files_in, number_in, pairs_with, slice_with, taken_by, places_in, text_in, unless_refused, command_of_rows, verb_of, voxels_with, workers_in}
+use Rattle.ember_words.specs.Limits.{are_names, as_height, as_spot, decimal_of, four_of, height_of, is_height, is_set}
+use Rattle.ember_words.specs.Limits.{is_valid_spot, names_in_limits, nonempty_of, number_within, optional_of, parts_of}
+use Rattle.ember_words.specs.Limits.{point_of, spot_of_four, spot_of_numbers, whole_of, within}
+use Rattle.ember_words.specs.WordsCommand.{Reads, at_with, bool_with, command_of, demo_with, faces_with, files_in}
+use Rattle.ember_words.specs.WordsCommand.{number_in, pairs_with, slice_with, taken_by, places_in, text_in}
+use Rattle.ember_words.specs.WordsCommand.{unless_refused, command_of_rows, verb_of, voxels_with, workers_in}
 use Rattle.ember_words.specs.Within.{AreNames, IsNonempty, IsWithinLimits}
 
 and_then : {A B : Type 0} (P : B → Type 0) (f : A → Option B) → ((a : A) → IfSome (f a) P) → (o : Option A) → IfSome (option_and_then f o) P
@@ -111,7 +117,16 @@ tested_small z h = grind (arith, nat_tests)
 
 -- the test of a point is that of the model
 pub spot_decides : (p : Spot) → Decides (is_valid_spot p) (IsValidSpot p)
-spot_decides p = (λ e. rw e at (spot_valid p), λ v. rw (tested_small p.x v.x.small, tested_small p.y v.y.small, tested_small p.z v.z.small, tested_small p.w v.w.small, tested_above p.w v.weight) refl)
+spot_decides p = (
+  λ e. rw e at (spot_valid p),
+  λ v. rw (
+    tested_small p.x v.x.small,
+    tested_small p.y v.y.small,
+    tested_small p.z v.z.small,
+    tested_small p.w v.w.small,
+    tested_above p.w v.weight,
+  ) refl,
+)
 
 numbers_valid : (x y z w : Option ℤ) → IfSome (spot_of_numbers x y z w) IsValidSpot
 numbers_valid None y z w = tt
@@ -121,7 +136,8 @@ numbers_valid (Some x) (Some y) (Some z) None = tt
 numbers_valid (Some x) (Some y) (Some z) (Some w) = spot_valid (record { x = x; y = y; z = z; w = w })
 
 point_valid : (text : Text) → IfSome (point_of text) IsValidSpot
-point_valid text = and_then IsValidSpot spot_of_four (λ t. numbers_valid (whole_of 13 t.0) (whole_of 13 t.1) (whole_of 13 t.2) (whole_of 13 t.3)) (four_of (parts_of text))
+point_valid text = and_then IsValidSpot spot_of_four
+    (λ t. numbers_valid (whole_of 13 t.0) (whole_of 13 t.1) (whole_of 13 t.2) (whole_of 13 t.3)) (four_of (parts_of text))
 
 height_limits : (text : Text) → IfSome (height_of text) (λ h. (neg_ℤ (pos 2048) ≤ℤ h) × (h ≤ℤ pos 2047))
 height_limits text = and_then (λ h. (neg_ℤ (pos 2048) ≤ℤ h) × (h ≤ℤ pos 2047)) as_height height_range (whole_of 9 text)
@@ -140,7 +156,8 @@ faces_limits None f hp hf = tt
 faces_limits (Some p) None hp hf = tt
 faces_limits (Some p) (Some f) hp hf = (hp, hf)
 
-at_limits : (s : Option Spot) (e : Option (Option Text)) (p : Option ℕ) (f : Option (List Text)) → IfSome s IsValidSpot → IfSome e (λ text. IfSome text IsNonempty) → IfSome p (λ n. n ≤ 3)
+at_limits : (s : Option Spot) (e : Option (Option Text)) (p : Option ℕ) (f : Option (List Text)) →
+    IfSome s IsValidSpot → IfSome e (λ text. IfSome text IsNonempty) → IfSome p (λ n. n ≤ 3)
     → IfSome f AreNames → IfSome (at_with s e p f) IsWithinLimits
 at_limits None e p f hs he hp hf = tt
 at_limits (Some s) None p f hs he hp hf = tt
@@ -148,7 +165,8 @@ at_limits (Some s) (Some e) None f hs he hp hf = tt
 at_limits (Some s) (Some e) (Some p) None hs he hp hf = tt
 at_limits (Some s) (Some e) (Some p) (Some f) hs he hp hf = (hs, he, hp, hf)
 
-bool_limits : (e : Option Text) (w p : Option ℕ) (r : Bool) (f : Option (List Text)) → IfSome e IsNonempty → IfSome w (IsInRange 1 64) → IfSome p (λ n. n ≤ 3) → IfSome f AreNames
+bool_limits : (e : Option Text) (w p : Option ℕ) (r : Bool) (f : Option (List Text)) → IfSome e IsNonempty →
+    IfSome w (IsInRange 1 64) → IfSome p (λ n. n ≤ 3) → IfSome f AreNames
     → IfSome (bool_with e w p r f) IsWithinLimits
 bool_limits None w p r f he hw hp hf = tt
 bool_limits (Some e) None p r f he hw hp hf = tt
@@ -161,7 +179,8 @@ demo_limits None w hb hw = tt
 demo_limits (Some b) None hb hw = tt
 demo_limits (Some b) (Some w) hb hw = (hb, hw)
 
-voxels_limits : (e : Option Text) (s w p : Option ℕ) (f : Option (List Text)) → IfSome e IsNonempty → IfSome s (IsInRange 4 12) → IfSome w (IsInRange 1 64) → IfSome p (λ n. n ≤ 3)
+voxels_limits : (e : Option Text) (s w p : Option ℕ) (f : Option (List Text)) → IfSome e IsNonempty →
+    IfSome s (IsInRange 4 12) → IfSome w (IsInRange 1 64) → IfSome p (λ n. n ≤ 3)
     → IfSome f AreNames → IfSome (voxels_with e s w p f) IsWithinLimits
 voxels_limits None s w p f he hs hw hp hf = tt
 voxels_limits (Some e) None w p f he hs hw hp hf = tt
@@ -170,13 +189,15 @@ voxels_limits (Some e) (Some s) (Some w) None f he hs hw hp hf = tt
 voxels_limits (Some e) (Some s) (Some w) (Some p) None he hs hw hp hf = tt
 voxels_limits (Some e) (Some s) (Some w) (Some p) (Some f) he hs hw hp hf = (he, hs, hw, hp, hf)
 
-pairs_limits : (w p : Option ℕ) (f : Option (List Text)) → IfSome w (IsInRange 1 64) → IfSome p (λ n. n ≤ 3) → IfSome f AreNames → IfSome (pairs_with w p f) IsWithinLimits
+pairs_limits : (w p : Option ℕ) (f : Option (List Text)) → IfSome w (IsInRange 1 64) → IfSome p (λ n. n ≤ 3) →
+    IfSome f AreNames → IfSome (pairs_with w p f) IsWithinLimits
 pairs_limits None p f hw hp hf = tt
 pairs_limits (Some w) None f hw hp hf = tt
 pairs_limits (Some w) (Some p) None hw hp hf = tt
 pairs_limits (Some w) (Some p) (Some f) hw hp hf = (hw, hp, hf)
 
-slice_limits : (h : Option ℤ) (f : Option Text) → IfSome h (λ h. (neg_ℤ (pos 2048) ≤ℤ h) × (h ≤ℤ pos 2047)) → IfSome f IsNonempty → IfSome (slice_with h f) IsWithinLimits
+slice_limits : (h : Option ℤ) (f : Option Text) → IfSome h (λ h. (neg_ℤ (pos 2048) ≤ℤ h) × (h ≤ℤ pos 2047)) →
+    IfSome f IsNonempty → IfSome (slice_with h f) IsWithinLimits
 slice_limits None f hh hf = tt
 slice_limits (Some h) None hh hf = tt
 slice_limits (Some h) (Some f) hh hf = (hh.0, hh.1, hf)
@@ -191,13 +212,17 @@ values_limits : (v : Verb) (rows : List Row) → IfSome (command_of_rows v rows)
 values_limits Faces rows = faces_limits (places_in rows) (text_in (codes "file") rows) (places_limits rows) (text_limits (codes "file") rows)
 values_limits At rows =
     at_limits (option_and_then point_of (first_of (codes "point") rows)) (optional_of (first_of (codes "expr") rows)) (places_in rows) (files_in rows)
-    (and_then IsValidSpot point_of point_valid (first_of (codes "point") rows)) (optional_limits (first_of (codes "expr") rows)) (places_limits rows) (files_limits rows)
+    (and_then IsValidSpot point_of point_valid (first_of (codes "point") rows))
+    (optional_limits (first_of (codes "expr") rows)) (places_limits rows) (files_limits rows)
 values_limits Boole rows =
-    bool_limits (text_in (codes "expr") rows) (workers_in rows) (places_in rows) (is_set (first_of (codes "report") rows)) (files_in rows) (text_limits (codes "expr") rows) (workers_limits rows)
+    bool_limits (text_in (codes "expr") rows) (workers_in rows) (places_in rows)
+    (is_set (first_of (codes "report") rows)) (files_in rows) (text_limits (codes "expr") rows) (workers_limits rows)
     (places_limits rows) (files_limits rows)
-values_limits Demo rows = demo_limits (number_in 1 20000 (codes "boxes") rows) (workers_in rows) (number_limits 1 20000 (codes "boxes") rows) (workers_limits rows)
+values_limits Demo rows = demo_limits (number_in 1 20000 (codes "boxes") rows) (workers_in rows)
+    (number_limits 1 20000 (codes "boxes") rows) (workers_limits rows)
 values_limits Voxels rows =
-    voxels_limits (text_in (codes "expr") rows) (number_in 4 12 (codes "size") rows) (workers_in rows) (places_in rows) (files_in rows) (text_limits (codes "expr") rows)
+    voxels_limits (text_in (codes "expr") rows) (number_in 4 12 (codes "size") rows) (workers_in rows) (places_in rows)
+    (files_in rows) (text_limits (codes "expr") rows)
     (number_limits 4 12 (codes "size") rows) (workers_limits rows) (places_limits rows) (files_limits rows)
 values_limits Pairs rows = pairs_limits (workers_in rows) (places_in rows) (files_in rows) (workers_limits rows) (places_limits rows) (files_limits rows)
 values_limits Slice rows =

@@ -1,5 +1,7 @@
 -- A command that may name several files names one at least.
-use Rattle.std.proofs.Common.{◌≡◌, ◌∙◌, ◌<◌, ◌≤◌, ℕ, zero, suc, Bool, true, false, not, ◌&&◌, cond, codes, ℤ, List, [], ◌∷◌, ◌++◌, length, length-append, refl, sym, subst, Option, Some, None, Result, Ok, Err, arith, fold}
+use Rattle.std.proofs.Common.{◌≡◌, ◌∙◌, ◌<◌, ◌≤◌, ℕ, zero, suc, Bool, true, false, not, ◌&&◌, cond, codes, ℤ, List, []}
+use Rattle.std.proofs.Common.{◌∷◌, ◌++◌, length, length-append, refl, sym, subst, Option, Some, None, Result, Ok, Err}
+use Rattle.std.proofs.Common.{arith, fold}
 use Rattle.std.specs.Prelude.{⊤, ◌+◌, ◌||◌, min, IfOk, IfSome, is_some, find, encode_utf8, slice_get, option_and_then, option_map, drop}
 use Rattle.std.specs.List.{AllByRecursion, list_all}
 use Rattle.std.specs.Str.{bytes_eq, chars}
@@ -7,7 +9,14 @@ use Rattle.std.proofs.lemmas.Slice.Eq.{bytes_eq-Decides}
 use Rattle.clap.specs.Lexer.{long_of, short_of}
 use Rattle.clap.specs.Matches.{count_text}
 use Rattle.clap.specs.Walk.{Held, Names, Outcome, Row, Rule, Step, Text, Waiting, Walk}
-use Rattle.clap.specs.Walk.{action_of, after_flag, after_step, all_of, arg_by_id, arg_by_index, arg_by_long, arg_by_short, at_row, attached_value, bundle_met, bundle_step, counted, default_rows, flag_met, has_long, has_row, has_short, long_met, long_or_other, more_values, new_count, nothing_held, option_met, option_word, plain_word, pushed, reacted, reading_by, rows_after, settled, settled_rows, short_met, short_or_plain, started, subcommand_met, subcommand_or_other, takes_several, takes_values, to_positional, trailing, used, used_as, used_by_id, values_or_missing, walk, walk_from, walked, walked_from, with_count, with_default, with_values, without, word_met}
+use Rattle.clap.specs.Walk.{action_of, after_flag, after_step, all_of, arg_by_id, arg_by_index, arg_by_long}
+use Rattle.clap.specs.Walk.{arg_by_short, at_row, attached_value, bundle_met, bundle_step, counted, default_rows}
+use Rattle.clap.specs.Walk.{flag_met, has_long, has_row, has_short, long_met, long_or_other, more_values, new_count}
+use Rattle.clap.specs.Walk.{nothing_held, option_met, option_word, plain_word, pushed, reacted, reading_by, rows_after}
+use Rattle.clap.specs.Walk.{settled, settled_rows, short_met, short_or_plain, started, subcommand_met}
+use Rattle.clap.specs.Walk.{subcommand_or_other, takes_several, takes_values, to_positional, trailing, used, used_as}
+use Rattle.clap.specs.Walk.{used_by_id, values_or_missing, walk, walk_from, walked, walked_from, with_count}
+use Rattle.clap.specs.Walk.{with_default, with_values, without, word_met}
 use Rattle.clap.specs.Walk as walk
 use Rattle.clap.specs.declared.builder.action.ArgAction.{ArgAction}
 use Rattle.clap.specs.declared.builder.action.ArgAction.TheVariants as action
@@ -21,7 +30,9 @@ use Rattle.clap.proofs.OnLiterals.{clap_on_literals}
 use Rattle.ember_model.specs.declared.point.Spot.{Spot}
 use Rattle.ember_words.specs.Commands.{at_app, bool_app, pairs_app, voxels_app}
 use Rattle.ember_words.specs.Limits.{are_names, names_in_limits}
-use Rattle.ember_words.specs.WordsCommand.{Reads, app_for, at_with, bool_with, command_of, demo_with, faces_with, files_in, pairs_with, slice_with, taken_by, unless_refused, command_of_rows, verb_of, voxels_with}
+use Rattle.ember_words.specs.WordsCommand.{Reads, app_for, at_with, bool_with, command_of, demo_with, faces_with}
+use Rattle.ember_words.specs.WordsCommand.{files_in, pairs_with, slice_with, taken_by, unless_refused, command_of_rows}
+use Rattle.ember_words.specs.WordsCommand.{verb_of, voxels_with}
 use Rattle.ember_words.specs.Within.{NamesFiles}
 use Rattle.ember_words.specs.declared.command.Command.{Command}
 use Rattle.ember_words.specs.declared.command.WordsFault.{WordsFault}
@@ -72,7 +83,9 @@ module _ (id : Text) where
   append_values [] ys h k = k
   append_values (x ∷ xs) ys h k = (h.0, append_values xs ys h.1 k)
 
-  at_row_holds : (key : Text) (change : Row → List Row) (missing rs : List Row) → ((r : Row) → RowHasValue r → HaveValues (change r)) → HaveValues missing → HaveValues rs → HaveValues (at_row key change missing rs)
+  at_row_holds : (key : Text) (change : Row → List Row) (missing rs : List Row) →
+      ((r : Row) → RowHasValue r → HaveValues (change r)) → HaveValues missing → HaveValues rs →
+      HaveValues (at_row key change missing rs)
   at_row_holds key change missing [] c m h = m
   at_row_holds key change missing (r ∷ rs) c m h = by (bytes_eq r.id key) (at_row_holds key change missing rs c m h.1)
     where
@@ -86,7 +99,8 @@ module _ (id : Text) where
   longer : (xs ys : List Text) → 0 < length xs → 0 < length (xs ++ ys)
   longer xs ys l = let e = length-append xs ys in omega (arith, e, l)
 
-  with_values_holds : (key : Text) (how : Reading) (s : ValueSource) (values : List Text) (rows : List Row) → HasValue key values → HaveValues rows → HaveValues (with_values key how s values rows)
+  with_values_holds : (key : Text) (how : Reading) (s : ValueSource) (values : List Text) (rows : List Row) →
+      HasValue key values → HaveValues rows → HaveValues (with_values key how s values rows)
   with_values_holds key how s values rows v h =
       at_row_holds key (more_values s values) _ rows (λ r k. (λ e. longer r.values values (k e), tt)) (v, tt) h
 
@@ -98,11 +112,13 @@ module _ (id : Text) where
   given_or_missing a key [] v e = absurd (omega (arith, v e))
   given_or_missing a key (x ∷ xs) v e = omega arith
 
-  counted_holds : (key : Text) (how : Reading) (values : List Text) (rows : List Row) → HasValue key values → HaveValues rows → HaveValues (counted key how values rows)
+  counted_holds : (key : Text) (how : Reading) (values : List Text) (rows : List Row) → HasValue key values →
+      HaveValues rows → HaveValues (counted key how values rows)
   counted_holds key how [] rows v h = with_count_holds key how CommandLine (min (walk.count_of key rows + 1) 255) (without key rows) (without_holds key rows h)
   counted_holds key how (x ∷ xs) rows v h = with_values_holds key how CommandLine (x ∷ xs) (without key rows) v (without_holds key rows h)
 
-  used_as_holds : (x : ArgAction) (key : Text) (how : Reading) (values : List Text) (rows : List Row) → HasValue key values → HaveValues rows → HaveValues (used_as x key how values rows)
+  used_as_holds : (x : ArgAction) (key : Text) (how : Reading) (values : List Text) (rows : List Row) →
+      HasValue key values → HaveValues rows → HaveValues (used_as x key how values rows)
   used_as_holds action.Set key how values rows v h = with_values_holds key how CommandLine values (without key rows) v (without_holds key rows h)
   used_as_holds action.SetTrue key how values rows v h = with_values_holds key how CommandLine values (without key rows) v (without_holds key rows h)
   used_as_holds action.SetFalse key how values rows v h = with_values_holds key how CommandLine values (without key rows) v (without_holds key rows h)
@@ -127,7 +143,8 @@ module _ (id : Text) where
   any (x ∷ xs) = (tt, any xs)
 
   module _ (c : List Rule) (others : AllByRecursion IsOther c) where
-    settled_rows_hold : (pending : Option (Text × List Text)) (rows : List Row) → IsPendingGood pending → HaveValues rows → HaveValues (settled_rows c pending rows)
+    settled_rows_hold : (pending : Option (Text × List Text)) (rows : List Row) → IsPendingGood pending →
+        HaveValues rows → HaveValues (settled_rows c pending rows)
     settled_rows_hold None rows p h = h
     settled_rows_hold (Some q) rows p h = by (arg_by_id c q.0) (found (λ a. ⊤) (λ a. bytes_eq a.id q.0) c (any c))
       where
@@ -166,7 +183,9 @@ module _ (id : Text) where
         by true = option_holds a v h o k
         by false = flag_holds a v h o k
 
-    short_holds : (a : Option Rule) (rest : Text) (h : Held) (after : Held → Held × Outcome) → IfSome a (λ a. bytes_eq a.id id ≡ false) → ((h : Held) → Holds h → Holds (after h).0) → Holds h → Holds (short_met c a rest h after).0
+    short_holds : (a : Option Rule) (rest : Text) (h : Held) (after : Held → Held × Outcome) →
+        IfSome a (λ a. bytes_eq a.id id ≡ false) → ((h : Held) → Holds h → Holds (after h).0) → Holds h →
+        Holds (short_met c a rest h after).0
     short_holds None rest h after o f k = k
     short_holds (Some a) rest h after o f k = by (takes_values a)
       where
@@ -174,7 +193,8 @@ module _ (id : Text) where
         by true = option_holds a (attached_value rest) h o k
         by false = f (reacted c a [] h) (reacted_holds a [] h (λ e. absurd (clash e o)) k)
 
-    other_if : (test : Rule → Bool) (o : Option Rule) → IfSome o (λ a. IsOther a × (not (is_some a.index) && test a ≡ true)) → IfSome o (λ a. bytes_eq a.id id ≡ false)
+    other_if : (test : Rule → Bool) (o : Option Rule) →
+        IfSome o (λ a. IsOther a × (not (is_some a.index) && test a ≡ true)) → IfSome o (λ a. bytes_eq a.id id ≡ false)
     other_if test None f = tt
     other_if test (Some a) f = f.0 (not_true (is_some a.index) (first_of_two (not (is_some a.index)) (test a) f.1))
 
@@ -184,7 +204,9 @@ module _ (id : Text) where
     by_short : (x : ℕ) → IfSome (arg_by_short c x) (λ a. bytes_eq a.id id ≡ false)
     by_short x = other_if (λ a. has_short a x) (arg_by_short c x) (found IsOther (λ a. not (is_some a.index) && has_short a x) c others)
 
-    bundle_step_holds : (o : Option ℕ) (flags : Text) (skip : ℕ) (so_far : Outcome) (h : Held) (after : Text → ℕ → Outcome → Held → Held × Outcome) → ((flags : Text) (skip : ℕ) (so_far : Outcome) (h : Held) → Holds h → Holds (after flags skip so_far h).0) → Holds h → Holds (bundle_step c o flags skip so_far h after).0
+    bundle_step_holds : (o : Option ℕ) (flags : Text) (skip : ℕ) (so_far : Outcome) (h : Held) (after : Text → ℕ →
+        Outcome → Held → Held × Outcome) → ((flags : Text) (skip : ℕ) (so_far : Outcome) (h : Held) → Holds h →
+        Holds (after flags skip so_far h).0) → Holds h → Holds (bundle_step c o flags skip so_far h after).0
     bundle_step_holds None flags skip so_far h after f k = k
     bundle_step_holds (Some x) flags zero so_far h after f k =
         let rest = drop (length (encode_utf8 x)) flags in
@@ -216,13 +238,16 @@ module _ (id : Text) where
     short_word_holds : (waiting : Waiting) (word : Text) (flags : Option Text) (h : Held) → Holds h → Holds (short_or_plain c waiting word flags h).0
     short_word_holds waiting word None h k = plain_holds waiting word h k
     short_word_holds waiting word (Some flags) h k =
-        after_flag_holds waiting word _ _ (bundle_holds (length flags) flags h.skip walk.plain (record h { skip = 0 }) (record { rows = k.rows; pending = k.pending }))
+        after_flag_holds waiting word _ _ (bundle_holds (length flags) flags h.skip walk.plain (record h { skip = 0 })
+        (record { rows = k.rows; pending = k.pending }))
 
-    long_word_holds : (waiting : Waiting) (word : Text) (name : Option (Text × Option Text)) (h : Held) → Holds h → Holds (long_or_other c waiting word name h).0
+    long_word_holds : (waiting : Waiting) (word : Text) (name : Option (Text × Option Text)) (h : Held) → Holds h →
+        Holds (long_or_other c waiting word name h).0
     long_word_holds waiting word None h k = short_word_holds waiting word (short_of word) h k
     long_word_holds waiting word (Some p) h k = after_flag_holds waiting word _ _ (long_holds (arg_by_long c p.0) p.1 h (by_long p.0) k)
 
-    other_word_holds : (name : Option Text) (waiting : Waiting) (position : ℕ) (word : Text) (h : Held) → Holds h → Holds (subcommand_or_other c name waiting position word h).0
+    other_word_holds : (name : Option Text) (waiting : Waiting) (position : ℕ) (word : Text) (h : Held) → Holds h →
+        Holds (subcommand_or_other c name waiting position word h).0
     other_word_holds (Some name) waiting position word h k = k
     other_word_holds None waiting position word h k = by (bytes_eq word (45 ∷ 45 ∷ []))
       where
@@ -230,7 +255,8 @@ module _ (id : Text) where
         by true = k
         by false = long_word_holds waiting word (long_of word) h k
 
-    word_holds : (names : Names) (is_trailing : Bool) (waiting : Waiting) (position : ℕ) (word : Text) (h : Held) → Holds h → Holds (word_met c names is_trailing waiting position word h).0
+    word_holds : (names : Names) (is_trailing : Bool) (waiting : Waiting) (position : ℕ) (word : Text) (h : Held) →
+        Holds h → Holds (word_met c names is_trailing waiting position word h).0
     word_holds names true waiting position word h k = k
     word_holds names false waiting position word h k = other_word_holds (subcommand_met names waiting word) waiting position word h k
 
@@ -284,7 +310,8 @@ module _ (id : Text) where
     found_values : (rows : List Row) → HaveValues rows → IfSome (all_of id rows) (λ values. 0 < length values)
     found_values rows h = by (find (λ r. bytes_eq r.id id) rows) (found RowHasValue (λ r. bytes_eq r.id id) rows h)
       where
-        by : (o : Option Row) → IfSome o (λ r. RowHasValue r × (bytes_eq r.id id ≡ true)) → IfSome (option_map (λ (r : Row). r.values) o) (λ values. 0 < length values)
+        by : (o : Option Row) → IfSome o (λ r. RowHasValue r × (bytes_eq r.id id ≡ true)) →
+            IfSome (option_map (λ (r : Row). r.values) o) (λ values. 0 < length values)
         by None f = tt
         by (Some r) f = f.0 f.1
 
@@ -318,8 +345,11 @@ names_some names l = by (are_names names)
     by true = omega (arith, l)
     by false = tt
 
-files_some : (app : App) (words : List Text) → list_all is_other (built app).top.rules ≡ true → IfSome (files_in (matches_of app words)) (λ files. 1 ≤ length files)
-files_some app words e = by (all_of (codes "files") (matches_of app words)) (all_hold (codes "files") (built app).top.rules (others_from (built app).top.rules e) (simple.names_of (built app)) (argument_words app words))
+files_some : (app : App) (words : List Text) → list_all is_other (built app).top.rules ≡ true →
+    IfSome (files_in (matches_of app words)) (λ files. 1 ≤ length files)
+files_some app words e = by (all_of (codes "files") (matches_of app words))
+    (all_hold (codes "files") (built app).top.rules (others_from (built app).top.rules e) (simple.names_of (built app))
+    (argument_words app words))
   where
     by : (o : Option (List Text)) → IfSome o (λ values. 0 < length values) → IfSome (option_and_then names_in_limits o) (λ files. 1 ≤ length files)
     by None h = tt

@@ -1,5 +1,6 @@
 -- What `parse` reads from decimal digits, and texts that begin with a hyphen
-use Rattle.std.proofs.Common.{◌≡◌, ◌≢◌, ℕ, ◌<◌, ◌≤◌, ◌^◌, List, [], ◌∷◌, length, Bool, true, false, Option, Some, None, Result, Ok, Err, refl, ap, arith, rules, inl, inr, cond}
+use Rattle.std.proofs.Common.{◌≡◌, ◌≢◌, ℕ, ◌<◌, ◌≤◌, ◌^◌, List, [], ◌∷◌, length, Bool, true, false, Option, Some, None}
+use Rattle.std.proofs.Common.{Result, Ok, Err, refl, ap, arith, rules, inl, inr, cond}
 use Rattle.std.specs.Prelude.{IfSome, MatchOption}
 use Rattle.std.specs.Borrow.{Bor}
 use Rattle.std.specs.List.{list_all}
@@ -21,7 +22,8 @@ empty_parse {E} (Ok n) h =
 empty_parse (Err e) h = refl
 
 -- the library's `parse` of at most 18 digits gives the decimal
-pub digits_parse : {E : Type 0} (most : ℕ) (text : List ℕ) (r : Result ℕ E) → ParsesUnsigned 64 10 text r → list_all is_ascii_digit text ≡ true → length text ≤ most → most ≤ 18
+pub digits_parse : {E : Type 0} (most : ℕ) (text : List ℕ) (r : Result ℕ E) → ParsesUnsigned 64 10 text r →
+    list_all is_ascii_digit text ≡ true → length text ≤ most → most ≤ 18
     → result_ok r ≡ decimal_of most text
 digits_parse most [] r h digits short few = empty_parse r h
 digits_parse most (b ∷ bs) r h digits short few =

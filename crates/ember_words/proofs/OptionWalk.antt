@@ -4,7 +4,8 @@ use Rattle.std.specs.Prelude.{if◌then◌else◌}
 use Rattle.std.specs.Option.{option_map_or}
 use Rattle.std.specs.Str.{bytes_eq}
 use Rattle.clap.specs.Lexer.{long_of, short_of, usize_max}
-use Rattle.clap.specs.Walk.{Row, Rule, Text, Walk, walked, walk_from, nothing_held, idle, option, positional, settled_rows, used, has_row, with_values, without, arg_by_id, arg_by_long, arg_by_index}
+use Rattle.clap.specs.Walk.{Row, Rule, Text, Walk, walked, walk_from, nothing_held, idle, option, positional}
+use Rattle.clap.specs.Walk.{settled_rows, used, has_row, with_values, without, arg_by_id, arg_by_long, arg_by_index}
 use Rattle.clap.specs.Simple.{Shape, filled, new_rule, with_index}
 use Rattle.clap.specs.Kinds.{Kinds, or_else}
 use Rattle.clap.specs.Faults.{settle_fault, turn_fault, walk_fault}
@@ -33,7 +34,8 @@ reaches_one : (s : Shape) (w end : Walk) (word : Text) → walked s.rules [] w w
 unfolding walk_fault
 reaches_one s w end word e f = record { walks = e; free = rw f refl }
 
-reaches_more : (s : Shape) (w middle end : Walk) (word : Text) (words : List Text) → walked s.rules [] w word ≡ middle → turn_fault s [] w word ≡ [] → Reaches s middle words end
+reaches_more : (s : Shape) (w middle end : Walk) (word : Text) (words : List Text) → walked s.rules [] w word ≡ middle →
+    turn_fault s [] w word ≡ [] → Reaches s middle words end
     → Reaches s w (word ∷ words) end
 unfolding walk_fault
 reaches_more s w middle end word words e f r = record { walks = rw e r.walks; free = rw (f, e) r.free }
@@ -43,7 +45,8 @@ unfolding walk_fault
 reaches_then s w middle end [] ys a b = rw a.walks b
 reaches_then s w middle end (x ∷ xs) ys a b =
     let both = or_else_empty (turn_fault s [] w x) (walk_fault s [] (walked s.rules [] w x) xs) a.free in
-    reaches_more s w (walked s.rules [] w x) end x (xs ++ ys) refl both.0 (reaches_then s (walked s.rules [] w x) middle end xs ys (record { walks = a.walks; free = both.1 }) b)
+    reaches_more s w (walked s.rules [] w x) end x (xs ++ ys) refl both.0
+    (reaches_then s (walked s.rules [] w x) middle end xs ys (record { walks = a.walks; free = both.1 }) b)
 
 -- ---- options
 
@@ -85,8 +88,10 @@ pub record IsOption (s : Shape) (last name : Text) (required : Bool) (defaults :
   pub itself : bytes_eq name name ≡ true
   pub other : bytes_eq name last ≡ false
 
-attached_walks : (s : Shape) (last name : Text) (r : Bool) (d : List Text) → IsOption s last name r d → (rows : List Row) (p : Option (Text × Text)) (value : Text)
-    → walked s.rules [] (resting rows p) (45 ∷ 45 ∷ (name ++ 61 ∷ value)) ≡ resting (used (option_rule name r d) (value ∷ []) (settled_rows s.rules (pend p) rows)) None
+attached_walks : (s : Shape) (last name : Text) (r : Bool) (d : List Text) → IsOption s last name r d →
+    (rows : List Row) (p : Option (Text × Text)) (value : Text)
+    → walked s.rules [] (resting rows p) (45 ∷ 45 ∷ (name ++ 61 ∷ value)) ≡ resting
+    (used (option_rule name r d) (value ∷ []) (settled_rows s.rules (pend p) rows)) None
 unfolding walked
 attached_walks s last name r d o rows p value = simp (o.dashes (61 ∷ value), o.attached value, o.by_long)
 
@@ -110,7 +115,8 @@ abbrev pub row_of_values : Text → List Text → Row
 row_of_values name values = record { id = name; values = values; count = None; source = Some CommandLine; reading = AsWritten }
 
 -- a new argument's row is the last
-fresh : (name : Text) (values : List Text) (rows : List Row) → has_row name rows ≡ false → with_values name AsWritten CommandLine values (without name rows) ≡ rows ++ row_of_values name values ∷ []
+fresh : (name : Text) (values : List Text) (rows : List Row) → has_row name rows ≡ false →
+    with_values name AsWritten CommandLine values (without name rows) ≡ rows ++ row_of_values name values ∷ []
 fresh name values [] h = refl
 fresh name values (row ∷ rows) h = go (bytes_eq row.id name) refl h (fresh name values rows)
   where
@@ -120,7 +126,8 @@ fresh name values (row ∷ rows) h = go (bytes_eq row.id name) refl h (fresh nam
     go true e h rest = cc
     go false e h rest = simp e (ap (λ (more : List Row). row ∷ more) (rest h))
 
-attached_free : (s : Shape) (last name : Text) (r : Bool) (d : List Text) → IsOption s last name r d → (rows : List Row) (p : Option (Text × Text)) (value : Text)
+attached_free : (s : Shape) (last name : Text) (r : Bool) (d : List Text) → IsOption s last name r d →
+    (rows : List Row) (p : Option (Text × Text)) (value : Text)
     → settle_fault s.rules s.args_override_self (resting rows p).held ≡ [] → has_row name (settled_rows s.rules (pend p) rows) ≡ false
     → turn_fault s [] (resting rows p) (45 ∷ 45 ∷ (name ++ 61 ∷ value)) ≡ []
 unfolding walked
@@ -161,7 +168,8 @@ walk_begins s last = record {
   stands = record { held = []; pending = None; rests = refl; settles = refl; free = refl; other = refl };
 }
 
-attached_stands : (s : Shape) (last name : Text) (r : Bool) (d : List Text) → IsOption s last name r d → (rows : List Row) (value : Text) → has_row name rows ≡ false
+attached_stands : (s : Shape) (last name : Text) (r : Bool) (d : List Text) → IsOption s last name r d →
+    (rows : List Row) (value : Text) → has_row name rows ≡ false
     → Stands s last (resting (used (option_rule name r d) (value ∷ []) rows) None) (rows ++ row_of_values name (value ∷ []) ∷ [])
 attached_stands s last name r d o rows value new = record {
   held = used (option_rule name r d) (value ∷ []) rows;
@@ -172,7 +180,8 @@ attached_stands s last name r d o rows value new = record {
   other = refl;
 }
 
-apart_stands : (s : Shape) (last name : Text) (r : Bool) (d : List Text) → IsOption s last name r d → (rows : List Row) (value : Text) → has_row name rows ≡ false
+apart_stands : (s : Shape) (last name : Text) (r : Bool) (d : List Text) → IsOption s last name r d →
+    (rows : List Row) (value : Text) → has_row name rows ≡ false
     → Stands s last (resting rows (Some (name, value))) (rows ++ row_of_values name (value ∷ []) ∷ [])
 apart_stands s last name r d o rows value new = record {
   held = rows;
@@ -184,20 +193,26 @@ apart_stands s last name r d o rows value new = record {
 }
 
 -- an option with its value adds its row
-given_gives : (s : Shape) (last name : Text) (r : Bool) (d : List Text) → IsOption s last name r d → (rows held : List Row) (p : Option (Text × Text)) (value : Text) (attached : Bool)
-    → settled_rows s.rules (pend p) held ≡ rows → settle_fault s.rules s.args_override_self (resting held p).held ≡ [] → has_row name rows ≡ false → (attached ≡ false → is_minus value ≡ false)
+given_gives : (s : Shape) (last name : Text) (r : Bool) (d : List Text) → IsOption s last name r d →
+    (rows held : List Row) (p : Option (Text × Text)) (value : Text) (attached : Bool)
+    → settled_rows s.rules (pend p) held ≡ rows → settle_fault s.rules s.args_override_self (resting held p).held ≡ [] →
+    has_row name rows ≡ false → (attached ≡ false → is_minus value ≡ false)
     → Gives s last (resting held p) (given_words name (record { value = value; attached = attached })) (rows ++ row_of_values name (value ∷ []) ∷ [])
 given_gives s last name r d o rows held p value true settles free new spelled = record {
   end = resting (used (option_rule name r d) (value ∷ []) rows) None;
-  reaches = reaches_one s _ _ _ (rw settles at (attached_walks s last name r d o held p value)) (attached_free s last name r d o held p value free (rw (← settles) at new));
+  reaches = reaches_one s _ _ _ (rw settles at (attached_walks s last name r d o held p value))
+      (attached_free s last name r d o held p value free (rw (← settles) at new));
   stands = attached_stands s last name r d o rows value new;
 }
 given_gives s last name r d o rows held p value false settles free new spelled = record {
   end = resting rows (Some (name, value));
   reaches =
-      reaches_more s (resting held p) (open_at name rows) (resting rows (Some (name, value))) (45 ∷ 45 ∷ name) (value ∷ []) (rw settles at (name_walks s last name r d o held p))
+      reaches_more s (resting held p) (open_at name rows) (resting rows (Some (name, value))) (45 ∷ 45 ∷ name)
+      (value ∷ []) (rw settles at (name_walks s last name r d o held p))
       (name_free s last name r d o held p free)
-      (reaches_one s (open_at name rows) (resting rows (Some (name, value))) value (value_walks s last name r d o rows value (spelled refl)) (value_free s last name r d o rows value (spelled refl)));
+      (reaches_one s (open_at name rows) (resting rows (Some (name, value))) value
+      (value_walks s last name r d o rows value (spelled refl))
+      (value_free s last name r d o rows value (spelled refl)));
   stands = apart_stands s last name r d o rows value new;
 }
 
@@ -206,11 +221,13 @@ given_rows name None = []
 given_rows name (Some g) = row_of_values name (g.value ∷ []) ∷ []
 
 -- and where it may be left out
-pub option_gives : (s : Shape) (last name : Text) (r : Bool) (d : List Text) → IsOption s last name r d → (w : Walk) (words : List Text) (rows : List Row) (g : Option Given)
+pub option_gives : (s : Shape) (last name : Text) (r : Bool) (d : List Text) → IsOption s last name r d →
+    (w : Walk) (words : List Text) (rows : List Row) (g : Option Given)
     → Gives s last w words rows → has_row name rows ≡ false → AttachesSignIfGiven g → Gives s last w (words ++ option_words name g) (rows ++ given_rows name g)
 option_gives s last name r d o w words rows None before new spelled = rw (append-nil words, append-nil rows) before
 option_gives s last name r d o w words rows (Some g) before new spelled =
-    let next = given_gives s last name r d o rows before.stands.held before.stands.pending g.value g.attached before.stands.settles before.stands.free new spelled in
+    let next = given_gives s last name r d o rows before.stands.held before.stands.pending g.value g.attached
+    before.stands.settles before.stands.free new spelled in
     record {
       end = next.end;
       reaches = reaches_then s w before.end next.end words (given_words name g) before.reaches (rw (← before.stands.rests) at next.reaches);
@@ -232,7 +249,8 @@ flag_walks : (s : Shape) (name : Text) → IsFlag s name → (rows : List Row) (
 unfolding walked
 flag_walks s name f rows p = simp (f.dash, f.apart, f.by_long)
 
-flag_free : (s : Shape) (name : Text) → IsFlag s name → (rows : List Row) (p : Option (Text × Text)) → settle_fault s.rules s.args_override_self (resting rows p).held ≡ []
+flag_free : (s : Shape) (name : Text) → IsFlag s name → (rows : List Row) (p : Option (Text × Text)) →
+    settle_fault s.rules s.args_override_self (resting rows p).held ≡ []
     → has_row name (settled_rows s.rules (pend p) rows) ≡ false → turn_fault s [] (resting rows p) (45 ∷ 45 ∷ name) ≡ []
 unfolding walked
 flag_free s name f rows p free new = simp (f.dash, f.apart, f.by_long, free, new)
@@ -246,7 +264,8 @@ flag_given : (s : Shape) (last name : Text) → IsFlag s name → (rows held : L
 flag_given s last name f rows held p settles free new = record {
   end = resting (used (flag_rule name) [] rows) None;
   reaches =
-      reaches_one s (resting held p) (resting (used (flag_rule name) [] rows) None) (45 ∷ 45 ∷ name) (rw settles at (flag_walks s name f held p)) (flag_free s name f held p free (rw (← settles) at new));
+      reaches_one s (resting held p) (resting (used (flag_rule name) [] rows) None) (45 ∷ 45 ∷ name)
+      (rw settles at (flag_walks s name f held p)) (flag_free s name f held p free (rw (← settles) at new));
   stands = record {
     held = used (flag_rule name) [] rows;
     pending = None;
@@ -300,21 +319,24 @@ at_words last rows words = record {
 }
 
 word_walks : (s : Shape) (last : Text) → IsLast s last (word_rule last) → (rows : List Row) (p : Option (Text × Text)) (word : Text) → is_minus word ≡ false
-    → option_map_or (λ q. bytes_eq q.0 last) (pend p) false ≡ false → walked s.rules [] (resting rows p) word ≡ at_word last (settled_rows s.rules (pend p) rows) word
+    → option_map_or (λ q. bytes_eq q.0 last) (pend p) false ≡ false →
+    walked s.rules [] (resting rows p) word ≡ at_word last (settled_rows s.rules (pend p) rows) word
 unfolding walked
 word_walks s last l rows p word h other =
     let plain = plain_word word h in
     simp (plain.0, plain.1, plain.2, l.by_index, other)
 
 word_free : (s : Shape) (last : Text) → IsLast s last (word_rule last) → (rows : List Row) (p : Option (Text × Text)) (word : Text) → is_minus word ≡ false
-    → option_map_or (λ q. bytes_eq q.0 last) (pend p) false ≡ false → settle_fault s.rules s.args_override_self (resting rows p).held ≡ [] → turn_fault s [] (resting rows p) word ≡ []
+    → option_map_or (λ q. bytes_eq q.0 last) (pend p) false ≡ false →
+    settle_fault s.rules s.args_override_self (resting rows p).held ≡ [] → turn_fault s [] (resting rows p) word ≡ []
 unfolding walked
 word_free s last l rows p word h other free =
     let plain = plain_word word h in
     simp (plain.0, plain.1, plain.2, l.by_index, other, free)
 
 -- one plain word ends a walk, given to the last option
-pub word_ends : (s : Shape) (last : Text) → IsLast s last (word_rule last) → (w : Walk) (words : List Text) (rows : List Row) (word : Text) → Gives s last w words rows → is_minus word ≡ false
+pub word_ends : (s : Shape) (last : Text) → IsLast s last (word_rule last) →
+    (w : Walk) (words : List Text) (rows : List Row) (word : Text) → Gives s last w words rows → is_minus word ≡ false
     → Reaches s w (words ++ word ∷ []) (at_word last rows word)
 word_ends s last l w words rows word before h =
     let stands = before.stands in
@@ -324,14 +346,16 @@ word_ends s last l w words rows word before h =
     reaches_then s w before.end (at_word last rows word) words (word ∷ []) before.reaches (rw (← stands.rests) at next)
 
 first_walks : (s : Shape) (last : Text) → IsLast s last (words_rule last) → (rows : List Row) (p : Option (Text × Text)) (word : Text) → is_minus word ≡ false
-    → option_map_or (λ q. bytes_eq q.0 last) (pend p) false ≡ false → walked s.rules [] (resting rows p) word ≡ at_words last (settled_rows s.rules (pend p) rows) (word ∷ [])
+    → option_map_or (λ q. bytes_eq q.0 last) (pend p) false ≡ false →
+    walked s.rules [] (resting rows p) word ≡ at_words last (settled_rows s.rules (pend p) rows) (word ∷ [])
 unfolding walked
 first_walks s last l rows p word h other =
     let plain = plain_word word h in
     simp (plain.0, plain.1, plain.2, l.by_index, other)
 
 first_free : (s : Shape) (last : Text) → IsLast s last (words_rule last) → (rows : List Row) (p : Option (Text × Text)) (word : Text) → is_minus word ≡ false
-    → option_map_or (λ q. bytes_eq q.0 last) (pend p) false ≡ false → settle_fault s.rules s.args_override_self (resting rows p).held ≡ [] → turn_fault s [] (resting rows p) word ≡ []
+    → option_map_or (λ q. bytes_eq q.0 last) (pend p) false ≡ false →
+    settle_fault s.rules s.args_override_self (resting rows p).held ≡ [] → turn_fault s [] (resting rows p) word ≡ []
 unfolding walked
 first_free s last l rows p word h other free =
     let plain = plain_word word h in
@@ -356,18 +380,21 @@ more_words : (s : Shape) (last : Text) → IsLast s last (words_rule last) → (
 more_words s last l rows words [] plain = rw (append-nil words) (reaches_none s (at_words last rows words))
 more_words s last l rows words (word ∷ more) plain =
     let rest = more_words s last l rows (words ++ word ∷ []) more plain.1 in
-    reaches_more s (at_words last rows words) (at_words last rows (words ++ word ∷ [])) (at_words last rows (words ++ word ∷ more)) word more (next_walks s last l rows words word plain.0)
+    reaches_more s (at_words last rows words) (at_words last rows (words ++ word ∷ []))
+    (at_words last rows (words ++ word ∷ more)) word more (next_walks s last l rows words word plain.0)
     (next_free s last l rows words word plain.0) (rw (append_assoc words (word ∷ []) more) at rest)
 
 -- plain words end a walk, each of them given to the last option
-pub words_end : (s : Shape) (last : Text) → IsLast s last (words_rule last) → (w : Walk) (words : List Text) (rows : List Row) (word : Text) (more : List Text) → Gives s last w words rows
+pub words_end : (s : Shape) (last : Text) → IsLast s last (words_rule last) →
+    (w : Walk) (words : List Text) (rows : List Row) (word : Text) (more : List Text) → Gives s last w words rows
     → is_minus word ≡ false → ArePlain more → Reaches s w (words ++ word ∷ more) (at_words last rows (word ∷ more))
 words_end s last l w words rows word more before h plain =
     let stands = before.stands in
     let walks = rw stands.settles at (first_walks s last l stands.held stands.pending word h stands.other) in
     let free = first_free s last l stands.held stands.pending word h stands.other stands.free in
     let next =
-    reaches_more s (resting stands.held stands.pending) (at_words last rows (word ∷ [])) (at_words last rows (word ∷ more)) word more walks free (more_words s last l rows (word ∷ []) more plain) in
+    reaches_more s (resting stands.held stands.pending) (at_words last rows (word ∷ []))
+    (at_words last rows (word ∷ more)) word more walks free (more_words s last l rows (word ∷ []) more plain) in
     reaches_then s w before.end (at_words last rows (word ∷ more)) words (word ∷ more) before.reaches (rw (← stands.rests) at next)
 
 -- ---- rows of other names
@@ -381,6 +408,7 @@ has_row-append name (x ∷ xs) ys = rw (has_row-append name xs ys) (or_assoc (by
     or_assoc false b c = refl
 
 -- a name that wasn't given isn't given after another one
-pub still_new : (name other : Text) (rows : List Row) (g : Option Given) → bytes_eq other name ≡ false → has_row name rows ≡ false → has_row name (rows ++ given_rows other g) ≡ false
+pub still_new : (name other : Text) (rows : List Row) (g : Option Given) → bytes_eq other name ≡ false →
+    has_row name rows ≡ false → has_row name (rows ++ given_rows other g) ≡ false
 still_new name other rows None apart new = rw (append-nil rows) new
 still_new name other rows (Some g) apart new = rw (has_row-append name rows (given_rows other (Some g)), new) (rw apart refl)

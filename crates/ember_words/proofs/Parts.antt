@@ -1,5 +1,6 @@
 -- A text cut at its first comma
-use Rattle.std.proofs.Common.{◌≡◌, ◌≢◌, ℕ, suc, ◌<◌, List, [], ◌∷◌, ◌++◌, length, get_or, Bool, true, false, ◌==◌, Option, Some, None, refl, ap, ◌∙◌, arith, inl, inr, cond}
+use Rattle.std.proofs.Common.{◌≡◌, ◌≢◌, ℕ, suc, ◌<◌, List, [], ◌∷◌, ◌++◌, length, get_or, Bool, true, false, ◌==◌}
+use Rattle.std.proofs.Common.{Option, Some, None, refl, ap, ◌∙◌, arith, inl, inr, cond}
 use Rattle.std.specs.Prelude.{MatchOption}
 use Rattle.std.specs.Borrow.{Bor}
 use Rattle.std.proofs.lemmas.Bool.Decides.{eqb_tells}
@@ -19,7 +20,9 @@ parts_cut (b ∷ bs) rest free = rw (not_comma b (free 0 (omega arith)), parts_c
 
 -- a text cut at its first comma
 pub parts_once : (text : List ℕ) (r : Option (Bor (List ℕ) × Bor (List ℕ)))
-    → MatchOption r ((i : ℕ) → i < length text → get_or text i 0 ≢ 44) (λ x. (text ≡ x.0.now ++ (44 ∷ x.1.now)) × ((i : ℕ) → i < length x.0.now → get_or x.0.now i 0 ≢ 44))
+    → MatchOption r ((i : ℕ) → i < length text →
+    get_or text i 0 ≢ 44) (λ x. (text ≡ x.0.now ++ (44 ∷ x.1.now)) × ((i : ℕ) → i < length x.0.now →
+    get_or x.0.now i 0 ≢ 44))
     → MatchOption r (parts_of text ≡ text ∷ []) (λ x. parts_of text ≡ x.0.now ∷ parts_of x.1.now)
 parts_once text None h = parts_whole text h
 parts_once text (Some x) h = ap parts_of h.0 ∙ parts_cut x.0.now x.1.now h.1

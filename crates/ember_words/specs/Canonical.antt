@@ -1,10 +1,13 @@
 -- The canonical spelling of a command line: the command's name, its options in the order of the
 -- list of commands in docs/use/FORMATS.md ("The command line"), then the file names or BOXES
-use Rattle.std.specs.Prelude.{◌≡◌, ◌<◌, ◌-◌, ◌^◌, length, ⊤, ℕ, Bool, false, codes, List, [], ◌∷◌, ◌++◌, Option, Some, None, if◌then◌else◌}
+use Rattle.std.specs.Prelude.{◌≡◌, ◌<◌, ◌-◌, ◌^◌, length, ⊤, ℕ, Bool, false, codes, List, [], ◌∷◌, ◌++◌}
+use Rattle.std.specs.Prelude.{Option, Some, None, if◌then◌else◌}
 use Rattle.clap.specs.Walk.{Text}
 use Rattle.ember_words.specs.declared.command.Command.{Command}
-use Rattle.ember_words.specs.Limits.{height_of, is_minus, names_in_limits, nonempty_of, number_within, optional_of, point_of}
-use Rattle.ember_words.specs.WordsCommand.{at_with, bool_with, demo_with, faces_with, pairs_with, slice_with, voxels_with}
+use Rattle.ember_words.specs.Limits.{height_of, is_minus, names_in_limits, nonempty_of, number_within}
+use Rattle.ember_words.specs.Limits.{optional_of, point_of}
+use Rattle.ember_words.specs.WordsCommand.{at_with, bool_with, demo_with, faces_with, pairs_with}
+use Rattle.ember_words.specs.WordsCommand.{slice_with, voxels_with}
 
 -- the value of an option, as `--name=value` or in a word of its own
 pub record Given : Type 0 where

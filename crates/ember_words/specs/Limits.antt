@@ -1,5 +1,6 @@
 -- What the values of options, file names and BOXES may be
-use Rattle.std.specs.Prelude.{ℕ, ℤ, pos, neg_ℤ, ◌==◌, ◌&&◌, Bool, false, not, nat_lt, nat_le, int_lt, unsigned_abs, length, codes}
+use Rattle.std.specs.Prelude.{ℕ, ℤ, pos, neg_ℤ, ◌==◌, ◌&&◌, Bool, false, not, nat_lt, nat_le, int_lt}
+use Rattle.std.specs.Prelude.{unsigned_abs, length, codes}
 use Rattle.std.specs.Prelude.{List, [], ◌∷◌, Option, Some, None, option_map, option_and_then, if◌then◌else◌}
 use Rattle.std.specs.List.{list_all}
 use Rattle.std.specs.Char.{is_ascii_digit}
@@ -10,7 +11,8 @@ use Rattle.ember_model.specs.declared.point.Spot.{Spot}
 
 -- one to `most_digits` decimal digits
 abbrev pub is_decimal : ℕ → Text → Bool
-is_decimal most_digits text = nat_lt 0 (length text) && (nat_le (length text) most_digits && list_all is_ascii_digit text)
+is_decimal most_digits text = nat_lt 0 (length text)
+    && (nat_le (length text) most_digits && list_all is_ascii_digit text)
 
 -- the number that one to `most_digits` decimal digits write
 abbrev pub decimal_of : ℕ → Text → Option ℕ

@@ -13,7 +13,8 @@
 --   is_simple_and_free app   the condition under which fault_of and matches_of say what clap does: the parser has
 --                         no setting that changes how words are read, only the last of its arguments that aren't
 --                         options takes several values, and no argument has a rule on another, such as a conflict
-use Rattle.std.specs.Prelude.{◌≡◌, ◌≢◌, ⊤, ℕ, ℤ, Bool, codes, List, [], ◌∷◌, Option, Some, None, Result, Ok, Err, option_and_then, if◌then◌else◌}
+use Rattle.std.specs.Prelude.{◌≡◌, ◌≢◌, ⊤, ℕ, ℤ, Bool, codes, List, [], ◌∷◌, Option, Some, None, Result}
+use Rattle.std.specs.Prelude.{Ok, Err, option_and_then, if◌then◌else◌}
 use Rattle.std.specs.Str.{bytes_eq}
 use Rattle.clap.specs.Walk.{Row, Text, all_of, first_of, rows_of}
 use Rattle.clap.specs.Matches.{found_of}
@@ -28,7 +29,8 @@ use Rattle.ember_words.specs.declared.command.WordsFault.{WordsFault}
 use Rattle.ember_words.specs.declared.command.WordsFault.TheVariants.{Words, OutOfMemory}
 use Rattle.ember_words.specs.declared.verb.Verb.{Verb}
 use Rattle.ember_words.specs.declared.verb.Verb.TheVariants as verb
-use Rattle.ember_words.specs.Limits.{height_of, is_set, names_in_limits, nonempty_of, number_within, optional_of, point_of}
+use Rattle.ember_words.specs.Limits.{height_of, is_set, names_in_limits, nonempty_of, number_within}
+use Rattle.ember_words.specs.Limits.{optional_of, point_of}
 use Rattle.ember_words.specs.Commands.{faces_app, at_app, bool_app, demo_app, voxels_app, pairs_app, slice_app}
 
 -- the result is the value; or the words are refused, if there is none; or out-of-memory

@@ -1,6 +1,7 @@
 -- Closed triangles stay closed under a map of their corners to positions, without triangles of which two positions are
 -- equal
-use Rattle.std.proofs.Common.{◌≡◌, ◌⊎◌, inl, inr, ℕ, ◌+◌, Bool, true, false, cond, not, ◌&&◌, ◌||◌, List, [], ◌∷◌, map, filter, ℤ, pos, ◌+ℤ◌, ◌-ℤ◌, neg_ℤ, refl, sym, ap, subst, ◌∙◌, arith}
+use Rattle.std.proofs.Common.{◌≡◌, ◌⊎◌, inl, inr, ℕ, ◌+◌, Bool, true, false, cond, not, ◌&&◌, ◌||◌, List, [], ◌∷◌, map}
+use Rattle.std.proofs.Common.{filter, ℤ, pos, ◌+ℤ◌, ◌-ℤ◌, neg_ℤ, refl, sym, ap, subst, ◌∙◌, arith}
 use borrow.Author.Differences.{ints}
 use Rattle.std.specs.List.{All}
 use Rattle.std.proofs.lemmas.Bool.{and_parts, or_cases, eqb-true}
@@ -76,11 +77,18 @@ module _ {P : Type 0} (same : P → P → Bool) (sound : (x y : P) → same x y 
     abbrev others : List T → List T
     others ts = filter (λ t. not (gone t)) ts
 
-    pub same_surplus : (p q : P) (ts : List T) → edges_between same p q (map f ts) + edges_between same q p (map f (others ts)) ≡ edges_between same q p (map f ts) + edges_between same p q (map f (others ts))
+    pub same_surplus : (p q : P) (ts : List T) →
+        edges_between same p q (map f ts) + edges_between same q p (map f (others ts)) ≡ edges_between same q p (map f ts)
+        + edges_between same p q (map f (others ts))
     same_surplus p q [] = refl
     same_surplus p q (t ∷ ts) = by (gone t) refl (same_surplus p q ts)
       where
-        by : (b : Bool) → gone t ≡ b → edges_between same p q (map f ts) + edges_between same q p (map f (others ts)) ≡ edges_between same q p (map f ts) + edges_between same p q (map f (others ts)) → edges_between same p q (f t ∷ map f ts) + edges_between same q p (map f (cond (not b) (t ∷ others ts) (others ts))) ≡ edges_between same q p (f t ∷ map f ts) + edges_between same p q (map f (cond (not b) (t ∷ others ts) (others ts)))
+        by : (b : Bool) → gone t ≡ b → edges_between same p q (map f ts)
+            + edges_between same q p (map f (others ts)) ≡ edges_between same q p (map f ts)
+            + edges_between same p q (map f (others ts)) →
+            edges_between same p q (f t ∷ map f ts)
+            + edges_between same q p (map f (cond (not b) (t ∷ others ts) (others ts))) ≡ edges_between same q p
+            (f t ∷ map f ts) + edges_between same p q (map f (cond (not b) (t ∷ others ts) (others ts)))
         by true h r =
             let u = f t in let e = even u.a u.b u.c (vanish t h) p q in omega (arith, r, e)
         by false h r = omega (arith, r)
@@ -111,7 +119,8 @@ opposite : (x y : ℤ) → x -ℤ y ≡ neg_ℤ (y -ℤ x)
 opposite x y = omega (arith, linear)
 
 -- a difference of sums is the sum of the differences
-differences : (i j k l m n x y : ℕ) → pos (i + (j + (k + x))) -ℤ pos (l + (m + (n + y))) ≡ (pos i -ℤ pos l) +ℤ ((pos j -ℤ pos m) +ℤ ((pos k -ℤ pos n) +ℤ (pos x -ℤ pos y)))
+differences : (i j k l m n x y : ℕ) → pos (i + (j + (k + x))) -ℤ pos (l + (m + (n + y))) ≡ (pos i -ℤ pos l) +ℤ
+    ((pos j -ℤ pos m) +ℤ ((pos k -ℤ pos n) +ℤ (pos x -ℤ pos y)))
 differences i j k l m n x y = omega (arith, ints, linear)
 
 equal_from : (x y : ℕ) → pos x -ℤ pos y ≡ pos 0 → x ≡ y
@@ -133,7 +142,9 @@ module _ {P : Type 0} (same : P → P → Bool) (position : ℕ → P) where
       turned ∙ opposite (pos back) (pos there)
 
   -- the surplus of the images is that of the edges, all together
-  surplus_of_images : (p q : P) (ts : List Triangle) → All (λ t. leads_round t ≡ true) ts → pos (edges_between same p q (map (at_positions position) ts)) -ℤ pos (edges_between same q p (map (at_positions position) ts)) ≡ total (λ s. surplus p q s.start s.end) (edges_in ts)
+  surplus_of_images : (p q : P) (ts : List Triangle) → All (λ t. leads_round t ≡ true) ts →
+      pos (edges_between same p q (map (at_positions position) ts)) -ℤ pos
+      (edges_between same q p (map (at_positions position) ts)) ≡ total (λ s. surplus p q s.start s.end) (edges_in ts)
   surplus_of_images p q [] h = refl
   surplus_of_images p q (t ∷ ts) h =
       let meet = ends_meet t (All-head (λ t. leads_round t ≡ true) t ts h) in
@@ -145,10 +156,13 @@ module _ {P : Type 0} (same : P → P → Bool) (position : ℕ → P) where
       let x = ap (λ (end : ℕ). surplus p q t.first.start end) (sym meet.first) in
       let y = ap (λ (end : ℕ). surplus p q t.second.start end) (sym meet.second) in
       let z = ap (λ (end : ℕ). surplus p q t.third.start end) (sym meet.third) in
-      differences (one_if_edge same p q u v) (one_if_edge same p q v w) (one_if_edge same p q w u) (one_if_edge same q p u v) (one_if_edge same q p v w) (one_if_edge same q p w u) (edges_between same p q images) (edges_between same q p images)
+      differences (one_if_edge same p q u v) (one_if_edge same p q v w) (one_if_edge same p q w u)
+      (one_if_edge same q p u v) (one_if_edge same q p v w) (one_if_edge same q p w u) (edges_between same p q images)
+      (edges_between same q p images)
       ∙ (λ i. x i +ℤ (y i +ℤ (z i +ℤ rest i)))
 
-  images_are_even : (p q : P) (ts : List Triangle) → AreRoundAndClosed ts → edges_between same p q (map (at_positions position) ts) ≡ edges_between same q p (map (at_positions position) ts)
+  images_are_even : (p q : P) (ts : List Triangle) → AreRoundAndClosed ts →
+      edges_between same p q (map (at_positions position) ts) ≡ edges_between same q p (map (at_positions position) ts)
   images_are_even p q ts h =
       let images = map (at_positions position) ts in
       let sum = surplus_of_images p q ts h.round in
@@ -156,7 +170,9 @@ module _ {P : Type 0} (same : P → P → Bool) (position : ℕ → P) where
       equal_from (edges_between same p q images) (edges_between same q p images) (sum ∙ none)
 
   -- the law, of the triangles that aren't gone; each triangle that is gone has two equal positions
-  pub map_keeps_closed : ((x y : P) → same x y ≡ true → x ≡ y) → (gone : Triangle → Bool) → ((t : Triangle) → gone t ≡ true → vanishing same (at_positions position t) ≡ true) → (ts : List Triangle) → AreRoundAndClosed ts → AreTrianglesClosed same (map (at_positions position) (filter (λ t. not (gone t)) ts))
+  pub map_keeps_closed : ((x y : P) → same x y ≡ true → x ≡ y) → (gone : Triangle → Bool) →
+      ((t : Triangle) → gone t ≡ true → vanishing same (at_positions position t) ≡ true) → (ts : List Triangle) →
+      AreRoundAndClosed ts → AreTrianglesClosed same (map (at_positions position) (filter (λ t. not (gone t)) ts))
   map_keeps_closed sound gone vanish ts h = record {
     each = λ p q.
         let all = images_are_even p q ts h in

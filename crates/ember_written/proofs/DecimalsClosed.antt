@@ -54,17 +54,24 @@ module _ (ps : List DecimalPoint) where
   -- what is kept of closed triangles is closed
   points_are_closed : (ts : List Triangle) → AreRoundAndClosed ts → AreDecimalsClosed (map (triangle_at ps) (kept ps ts))
   points_are_closed ts h =
-      subst (λ (us : List (Positions DecimalPoint)). AreTrianglesClosed same_point us) (sym (by_points (kept ps ts))) (map_keeps_closed same_point (point_at ps) one_point gone (λ t v. v) ts h)
+      subst (λ (us : List (Positions DecimalPoint)). AreTrianglesClosed same_point us) (sym (by_points (kept ps ts)))
+      (map_keeps_closed same_point (point_at ps) one_point gone (λ t v. v) ts h)
 
   -- also by the indices of any vertices
-  indices_of_kept_closed : (vs : List DecimalPoint) (ts : List Triangle) → AreRoundAndClosed ts → AreIndicesClosed (map (indexed vs) (map (triangle_at ps) (kept ps ts)))
+  indices_of_kept_closed : (vs : List DecimalPoint) (ts : List Triangle) → AreRoundAndClosed ts →
+      AreIndicesClosed (map (indexed vs) (map (triangle_at ps) (kept ps ts)))
   indices_of_kept_closed vs ts h =
-      subst (λ (us : List (Positions ℕ)). AreTrianglesClosed nat_eq us) (sym (by_indices vs (kept ps ts))) (map_keeps_closed nat_eq (index_at vs) (λ x y e. eqb-true x y e) gone (λ t v. vanishes_by_index vs (triangle_at ps t) v) ts h)
+      subst (λ (us : List (Positions ℕ)). AreTrianglesClosed nat_eq us) (sym (by_indices vs (kept ps ts)))
+      (map_keeps_closed nat_eq (index_at vs) (λ x y e. eqb-true x y e) gone
+      (λ t v. vanishes_by_index vs (triangle_at ps t) v) ts h)
 
 -- ---- triangles of a table of corners
-pub decimals_are_closed : (places : ℕ) (s : Step) (o : Offset) (cs : List SpacePoint) (ts : List Triangle) → AreRoundAndClosed ts → AreDecimalsClosed (decimal_triangles places s o cs ts)
+pub decimals_are_closed : (places : ℕ) (s : Step) (o : Offset) (cs : List SpacePoint) (ts : List Triangle) →
+    AreRoundAndClosed ts → AreDecimalsClosed (decimal_triangles places s o cs ts)
 decimals_are_closed places s o cs ts h = points_are_closed (map (decimal_point places s o) cs) ts h
 
-pub indices_are_closed : (places : ℕ) (s : Step) (o : Offset) (cs : List SpacePoint) (ts : List Triangle) → AreRoundAndClosed ts → AreIndicesClosed (map (indexed (vertices_of (decimal_triangles places s o cs ts))) (decimal_triangles places s o cs ts))
+pub indices_are_closed : (places : ℕ) (s : Step) (o : Offset) (cs : List SpacePoint) (ts : List Triangle) →
+    AreRoundAndClosed ts → AreIndicesClosed (map (indexed (vertices_of (decimal_triangles places s o cs ts)))
+    (decimal_triangles places s o cs ts))
 indices_are_closed places s o cs ts h =
     indices_of_kept_closed (map (decimal_point places s o) cs) (vertices_of (decimal_triangles places s o cs ts)) ts h

@@ -10,7 +10,8 @@ use Rattle.ember_written.specs.declared.decimal_triangles.DecimalMesh.{DecimalMe
 use Rattle.ember_written.specs.DecimalTriangles.{triangle_at, vanishes, kept, plane_of, IsMeshOver}
 
 -- one element more of a list that is made from another
-pub points_more : {X Y : Type 0} (f : X → Y) (xs : List X) (i : ℕ) (x : X) (ys more : List Y) (y : Y) → i < length xs → x ≡ get_or xs i x → y ≡ f x → ys ≡ map f (take i xs) → more ≡ ys ++ y ∷ [] → more ≡ map f (take (i + 1) xs)
+pub points_more : {X Y : Type 0} (f : X → Y) (xs : List X) (i : ℕ) (x : X) (ys more : List Y) (y : Y) → i < length xs →
+    x ≡ get_or xs i x → y ≡ f x → ys ≡ map f (take i xs) → more ≡ ys ++ y ∷ [] → more ≡ map f (take (i + 1) xs)
 points_more f xs i x ys more y l at is before e =
     e
     ∙ (λ k. before k ++ (is ∙ ap f at) k ∷ [])
@@ -35,17 +36,24 @@ module _ (ps : List DecimalPoint) (before : List Triangle) (t : Triangle) where
       }
 
   -- another one is, with its plane
-  pub one_more : (written after : DecimalMesh) (d : DecimalTriangle) → vanishes (f t) ≡ false → d ≡ f t → IsMeshOver ps before written → IsMeshOf (map f (kept ps before) ++ d ∷ []) after.mesh → after.planes.items ≡ written.planes.items ++ t.first.plane ∷ [] → IsMeshOver ps (before ++ t ∷ []) after
+  pub one_more : (written after : DecimalMesh) (d : DecimalTriangle) → vanishes (f t) ≡ false → d ≡ f t →
+      IsMeshOver ps before written → IsMeshOf (map f (kept ps before) ++ d ∷ []) after.mesh →
+      after.planes.items ≡ written.planes.items ++ t.first.plane ∷ [] → IsMeshOver ps (before ++ t ∷ []) after
   one_more written after d e is h mesh planes =
       let same : kept ps before ++ t ∷ [] ≡ kept ps (before ++ t ∷ []) = sym (kept_more false e) in
-      let triangles : map f (kept ps before) ++ d ∷ [] ≡ map f (kept ps (before ++ t ∷ [])) = ap (λ (u : DecimalTriangle). map f (kept ps before) ++ u ∷ []) is ∙ sym (map-append f (kept ps before) (t ∷ [])) ∙ ap (map f) same in
+      let triangles : map f (kept ps before) ++ d ∷ [] ≡ map f (kept ps (before ++ t ∷ [])) =
+      ap (λ (u : DecimalTriangle). map f (kept ps before) ++ u ∷ []) is ∙ sym (map-append f (kept ps before) (t ∷ []))
+      ∙ ap (map f) same in
       record {
         mesh = subst (λ (us : List DecimalTriangle). IsMeshOf us after.mesh) triangles mesh;
-        planes = planes ∙ ap (λ (ns : List ℕ). ns ++ t.first.plane ∷ []) h.planes ∙ sym (map-append plane_of (kept ps before) (t ∷ [])) ∙ ap (map plane_of) same;
+        planes = planes ∙ ap (λ (ns : List ℕ). ns ++ t.first.plane ∷ []) h.planes
+            ∙ sym (map-append plane_of (kept ps before) (t ∷ [])) ∙ ap (map plane_of) same;
       }
 
 -- the mesh of one triangle more
-pub mesh_more : (ps : List DecimalPoint) (ts : List Triangle) (i : ℕ) (t : Triangle) (written : DecimalMesh) → i < length ts → t ≡ get_or ts i t → IsMeshOver ps (take i ts ++ t ∷ []) written → IsMeshOver ps (take (i + 1) ts) written
+pub mesh_more : (ps : List DecimalPoint) (ts : List Triangle) (i : ℕ) (t : Triangle) (written : DecimalMesh) →
+    i < length ts → t ≡ get_or ts i t → IsMeshOver ps (take i ts ++ t ∷ []) written →
+    IsMeshOver ps (take (i + 1) ts) written
 mesh_more ps ts i t written l at h =
     let all : take i ts ++ t ∷ [] ≡ take (i + 1) ts = ap (λ (u : Triangle). take i ts ++ u ∷ []) at ∙ sym (take_more ts i t l) in
     subst (λ (us : List Triangle). IsMeshOver ps us written) all h

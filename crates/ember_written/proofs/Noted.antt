@@ -1,5 +1,6 @@
 -- Edges that were noted, and one more
-use Rattle.std.proofs.Common.{◌≡◌, ◌⊎◌, inl, inr, ℕ, ◌+◌, ◌<◌, ◌≤◌, Bool, true, false, true≢false, cond, not, ◌||◌, nat_lt, List, [], ◌∷◌, ◌++◌, Result, Ok, Err, OnOk, refl, sym, ap, subst, ◌∙◌, arith}
+use Rattle.std.proofs.Common.{◌≡◌, ◌⊎◌, inl, inr, ℕ, ◌+◌, ◌<◌, ◌≤◌, Bool, true, false, true≢false, cond, not, ◌||◌}
+use Rattle.std.proofs.Common.{nat_lt, List, [], ◌∷◌, ◌++◌, Result, Ok, Err, OnOk, refl, sym, ap, subst, ◌∙◌, arith}
 use Rattle.std.proofs.lemmas.Bool.{and_parts, and_from, cases_lt, lt-ltb, le-ltb, eqb-true, eq-eqb}
 use Rattle.ember_algebra.specs.Sums.{occurrences}
 use Rattle.ember_algebra.proofs.Sums.{IsEquality, occurrences-append}
@@ -36,7 +37,10 @@ one_key k l h =
 pub keys_are_equal : IsEquality EdgeKey same_ends
 keys_are_equal = record {
   sound = one_key;
-  reflexive = λ k. and_from _ _ (eq-eqb k.from_x k.from_x refl) (and_from _ _ (eq-eqb k.from_y k.from_y refl) (and_from _ _ (eq-eqb k.from_z k.from_z refl) (and_from _ _ (eq-eqb k.to_x k.to_x refl) (and_from _ _ (eq-eqb k.to_y k.to_y refl) (eq-eqb k.to_z k.to_z refl)))));
+  reflexive = λ k. and_from _ _ (eq-eqb k.from_x k.from_x refl)
+      (and_from _ _ (eq-eqb k.from_y k.from_y refl)
+      (and_from _ _ (eq-eqb k.from_z k.from_z refl)
+      (and_from _ _ (eq-eqb k.to_x k.to_x refl) (and_from _ _ (eq-eqb k.to_y k.to_y refl) (eq-eqb k.to_z k.to_z refl)))));
 }
 
 one_edge : (e f : IndexEdge) → same_edge e f ≡ true → e ≡ f
@@ -114,7 +118,8 @@ module _ {K : Type 0} (same_key : K → K → Bool) (equality : IsEquality K sam
   -- one more key
   module _ (keys once again : List K) (k : K) (h : AreNoted same_key keys once again) where
     -- what stays the same for another key
-    same_else : (m : ℕ) (list : List K) (e : K) → occ e list ≡ one_above m (occ e keys) → same_key e k ≡ false → occ e list ≡ one_above m (occ e (keys ++ k ∷ []))
+    same_else : (m : ℕ) (list : List K) (e : K) → occ e list ≡ one_above m (occ e keys) → same_key e k ≡ false →
+        occ e list ≡ one_above m (occ e (keys ++ k ∷ []))
     same_else m list e old f =
         let more = grown e k keys in
         let none : once_if (same_key e k) ≡ 0 = ap once_if f in
@@ -195,7 +200,9 @@ module _ {K : Type 0} (same_key : K → K → Bool) (equality : IsEquality K sam
 
   -- the steps of the code
   -- a key that is new
-  pub add_new : (keys once after again : List K) (k : K) (new : Bool) → after ≡ with_key same_key once k → new ≡ not (has_key same_key once k) → new ≡ true → AreNoted same_key keys once again → AreNoted same_key (keys ++ k ∷ []) after again
+  pub add_new : (keys once after again : List K) (k : K) (new : Bool) → after ≡ with_key same_key once k →
+      new ≡ not (has_key same_key once k) → new ≡ true → AreNoted same_key keys once again →
+      AreNoted same_key (keys ++ k ∷ []) after again
   add_new keys once after again k new put is told h = by (has_key same_key once k) refl put is
     where
       by : (b : Bool) → has_key same_key once k ≡ b → after ≡ cond b once (once ++ k ∷ []) → new ≡ not b → AreNoted same_key (keys ++ k ∷ []) after again
@@ -204,11 +211,15 @@ module _ {K : Type 0} (same_key : K → K → Bool) (equality : IsEquality K sam
           subst (λ (list : List K). AreNoted same_key (keys ++ k ∷ []) list again) (sym p) (noted_new keys once again k h e)
 
   -- a key that was there
-  pub add_old : (keys once after last again more : List K) (k : K) (new : Bool) → after ≡ with_key same_key once k → new ≡ not (has_key same_key once k) → new ≡ false → last ≡ after → more ≡ with_key same_key again k → AreNoted same_key keys once again → AreNoted same_key (keys ++ k ∷ []) last more
+  pub add_old : (keys once after last again more : List K) (k : K) (new : Bool) → after ≡ with_key same_key once k →
+      new ≡ not (has_key same_key once k) → new ≡ false → last ≡ after → more ≡ with_key same_key again k →
+      AreNoted same_key keys once again → AreNoted same_key (keys ++ k ∷ []) last more
   add_old keys once after last again more k new put is told same again_is h =
       by (has_key same_key once k) (has_key same_key again k) refl refl put is again_is
     where
-      by : (b c : Bool) → has_key same_key once k ≡ b → has_key same_key again k ≡ c → after ≡ cond b once (once ++ k ∷ []) → new ≡ not b → more ≡ cond c again (again ++ k ∷ []) → AreNoted same_key (keys ++ k ∷ []) last more
+      by : (b c : Bool) → has_key same_key once k ≡ b → has_key same_key again k ≡ c →
+          after ≡ cond b once (once ++ k ∷ []) → new ≡ not b → more ≡ cond c again (again ++ k ∷ []) →
+          AreNoted same_key (keys ++ k ∷ []) last more
       by false c e f p n m = absurd (true≢false (sym n ∙ told))
       by true true e f p n m =
           subst (λ (list : List K). AreNoted same_key (keys ++ k ∷ []) list more) (sym (same ∙ p))

@@ -4,7 +4,8 @@ use Rattle.std.proofs.lemmas.List.{get_or_read, get_or_push, get_or_append_left}
 use Rattle.ember_number.proofs.Rounding.{by_lt}
 
 -- the relation holds of each of the first elements of two lists, and of one element more
-module _ {X Y : Type 0} (R : X → Y → Type 0) (xs : List X) (ys : List Y) (i : ℕ) (x : X) (y : Y) (n : length ys ≡ i) (l : i < length xs) (at : x ≡ get_or xs i x) (here : R x y) where
+module _ {X Y : Type 0} (R : X → Y → Type 0) (xs : List X) (ys : List Y) (i : ℕ) (x : X) (y : Y) (n : length ys ≡ i)
+    (l : i < length xs) (at : x ≡ get_or xs i x) (here : R x y) where
   old : (k : ℕ) (d : X) (e : Y) → k < i → R (get_or xs k d) (get_or ys k e) → R (get_or xs k d) (get_or (ys ++ y ∷ []) k e)
   old k d e b h =
       let same : get_or (ys ++ y ∷ []) k e ≡ get_or ys k e = get_or_append_left ys (y ∷ []) e k (omega (arith, n, b)) in
@@ -15,7 +16,8 @@ module _ {X Y : Type 0} (R : X → Y → Type 0) (xs : List X) (ys : List Y) (i 
       subst (λ (z : Y). R (get_or xs i d) z) (sym (get_or_push ys y e i n))
       (subst (λ (w : X). R w y) (get_or_read xs i x l at d) here)
 
-  pub each_more : ((k : ℕ) (d : X) (e : Y) → k < i → R (get_or xs k d) (get_or ys k e)) → (k : ℕ) (d : X) (e : Y) → k < i + 1 → R (get_or xs k d) (get_or (ys ++ y ∷ []) k e)
+  pub each_more : ((k : ℕ) (d : X) (e : Y) → k < i → R (get_or xs k d) (get_or ys k e)) → (k : ℕ) (d : X) (e : Y) →
+      k < i + 1 → R (get_or xs k d) (get_or (ys ++ y ∷ []) k e)
   each_more before k d e b =
       by_lt k i (λ h. old k d e h (before k d e h))
       (λ h. let last : i ≡ k = omega (arith, b, h) in subst (λ (j : ℕ). R (get_or xs j d) (get_or (ys ++ y ∷ []) j e)) last (new d e))

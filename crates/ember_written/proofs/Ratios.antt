@@ -10,11 +10,13 @@ use Rattle.ember_written.specs.Places.{fraction_of}
 use Rattle.ember_written.specs.Floats.{IsFloatOf, IsInfinite}
 
 -- a ratio that is this fraction is as large
-pub infinite_of : (r : Ratio) (v : Fraction) (o : Option ℕ) → fraction_of r ≡ v → (o ≡ None ↔ (2 ^ 128 - 2 ^ 103) * r.denominator ≤ size_of r.numerator.size) → (o ≡ None ↔ IsInfinite v)
+pub infinite_of : (r : Ratio) (v : Fraction) (o : Option ℕ) → fraction_of r ≡ v →
+    (o ≡ None ↔ (2 ^ 128 - 2 ^ 103) * r.denominator ≤ size_of r.numerator.size) → (o ≡ None ↔ IsInfinite v)
 infinite_of r v o e h =
     subst (λ (w : Fraction). o ≡ None ↔ IsInfinite w) e
     (subst (λ (k : ℕ). o ≡ None ↔ (2 ^ 128 - 2 ^ 103) * r.denominator ≤ k) (sym (size_of_value r.numerator)) h)
 
 -- and has the same nearest float
-pub nearest_of : (r : Ratio) (v : Fraction) (o : Option ℕ) → fraction_of r ≡ v → IfSome o (λ bits. IsNearestBinary32 (value_of r.numerator) r.denominator bits) → IfSome o (IsFloatOf v)
+pub nearest_of : (r : Ratio) (v : Fraction) (o : Option ℕ) → fraction_of r ≡ v →
+    IfSome o (λ bits. IsNearestBinary32 (value_of r.numerator) r.denominator bits) → IfSome o (IsFloatOf v)
 nearest_of r v o e h = subst (λ (w : Fraction). IfSome o (IsFloatOf w)) e h

@@ -1,5 +1,6 @@
 -- The edges that are noted, triangle by triangle, and how often each occurs among them
-use Rattle.std.proofs.Common.{◌≡◌, ◌⊎◌, inl, inr, ℕ, ◌+◌, ◌<◌, ◌≤◌, Bool, true, false, cond, ◌&&◌, nat_eq, nat_lt, List, [], ◌∷◌, ◌++◌, map, length, take, get_or, refl, sym, ap, subst, ◌∙◌, arith, append_assoc}
+use Rattle.std.proofs.Common.{◌≡◌, ◌⊎◌, inl, inr, ℕ, ◌+◌, ◌<◌, ◌≤◌, Bool, true, false, cond, ◌&&◌, nat_eq, nat_lt, List}
+use Rattle.std.proofs.Common.{[], ◌∷◌, ◌++◌, map, length, take, get_or, refl, sym, ap, subst, ◌∙◌, arith, append_assoc}
 use Rattle.std.proofs.lemmas.Bool.{and_parts, eqb-true, cases_lt, lt-ltb, le-ltb}
 use Rattle.std.proofs.lemmas.List.{append-nil, map-append, take_more, take_all}
 use Rattle.ember_algebra.specs.Sums.{occurrences}
@@ -24,7 +25,8 @@ module _ {P K : Type 0} (lower : P → P → Bool) (key : P → P → K) (same_k
 
   module _ (p q : P) (keys once again : List K) where
     -- an edge whose start comes before its end
-    pub noted_rising : (k : K) → lower p q ≡ true → k ≡ key p q → AreNoted same_key (keys ++ k ∷ []) once again → AreNoted same_key (keys ++ rises p q) once again
+    pub noted_rising : (k : K) → lower p q ≡ true → k ≡ key p q → AreNoted same_key (keys ++ k ∷ []) once again →
+        AreNoted same_key (keys ++ rises p q) once again
     noted_rising k is_lower e h =
         let one : rises p q ≡ key p q ∷ [] = ap (λ (b : Bool). cond b (key p q ∷ []) []) is_lower in
         let same : k ∷ [] ≡ rises p q = ap (λ (l : K). l ∷ []) e ∙ sym one in
@@ -38,7 +40,9 @@ module _ {P K : Type 0} (lower : P → P → Bool) (key : P → P → K) (same_k
         subst (λ (all : List K). AreNoted same_key all once again) same h
 
   -- the three edges of a triangle
-  pub noted_triangle : (t : Positions P) (keys : List K) {once again : List K} → AreNoted same_key (((keys ++ rises t.a t.b) ++ rises t.b t.c) ++ rises t.c t.a) once again → AreNoted same_key (keys ++ edges (t ∷ [])) once again
+  pub noted_triangle : (t : Positions P) (keys : List K) {once again : List K} →
+      AreNoted same_key (((keys ++ rises t.a t.b) ++ rises t.b t.c) ++ rises t.c t.a) once again →
+      AreNoted same_key (keys ++ edges (t ∷ [])) once again
   noted_triangle t keys {once} {again} h =
       let x = rises t.a t.b in
       let y = rises t.b t.c in
@@ -60,7 +64,9 @@ module _ {P K : Type 0} (lower : P → P → Bool) (key : P → P → K) (same_k
       rest ∙ ap (λ (more : List K). x ++ (y ++ more)) first ∙ ap (λ (more : List K). x ++ more) second ∙ third
 
   -- those of one triangle more, where `f` gives the positions of a triangle
-  pub noted_next : {T : Type 0} (f : T → Positions P) (ts : List T) (i : ℕ) (d : T) {once again : List K} → i < length ts → AreNoted same_key (edges (map f (take i ts)) ++ edges (f (get_or ts i d) ∷ [])) once again → AreNoted same_key (edges (map f (take (i + 1) ts))) once again
+  pub noted_next : {T : Type 0} (f : T → Positions P) (ts : List T) (i : ℕ) (d : T) {once again : List K} →
+      i < length ts → AreNoted same_key (edges (map f (take i ts)) ++ edges (f (get_or ts i d) ∷ [])) once again →
+      AreNoted same_key (edges (map f (take (i + 1) ts))) once again
   noted_next {T} f ts i d {once} {again} l h =
       let mapped = ap (map f) (take_more ts i d l) ∙ map-append f (take i ts) (get_or ts i d ∷ []) in
       let same = ap (λ (us : List (Positions P)). edges us) mapped ∙ edges-append (map f (take i ts)) (f (get_or ts i d) ∷ []) in
@@ -158,11 +164,15 @@ module _ {P K : Type 0} (same lower : P → P → Bool) (key : P → P → K) (s
       let j = count_rising p q t.b t.c in
       let l = count_rising p q t.c t.a in
       let n = count_all_rising p q ts in
-      let parts : occurrences same_key k (x ++ (y ++ (z ++ all_rising ts))) ≡ occurrences same_key k x + (occurrences same_key k y + (occurrences same_key k z + occurrences same_key k (all_rising ts))) = omega (arith, first, second, third) in
-      parts ∙ (λ h. i h + (j h + (l h + n h))) ∙ summed (lower p q) (one_if_edge same p q t.a t.b) (one_if_edge same p q t.b t.c) (one_if_edge same p q t.c t.a) (edges_between same p q ts)
+      let parts : occurrences same_key k (x ++ (y ++ (z ++ all_rising ts))) ≡ occurrences same_key k x
+      + (occurrences same_key k y + (occurrences same_key k z + occurrences same_key k (all_rising ts))) =
+      omega (arith, first, second, third) in
+      parts ∙ (λ h. i h + (j h + (l h + n h))) ∙ summed (lower p q) (one_if_edge same p q t.a t.b)
+      (one_if_edge same p q t.b t.c) (one_if_edge same p q t.c t.a) (edges_between same p q ts)
 
   -- an edge occurs again exactly if it rises and belongs to more than two triangles
-  each_edge : (ts : List (Positions P)) {once again : List K} → AreNoted same_key (all_rising ts) once again → AreTrianglesClosed same ts → (p q : P) → found p q again ≡ cond (lower p q && is_shared same ts p q) 1 0
+  each_edge : (ts : List (Positions P)) {once again : List K} → AreNoted same_key (all_rising ts) once again →
+      AreTrianglesClosed same ts → (p q : P) → found p q again ≡ cond (lower p q && is_shared same ts p q) 1 0
   each_edge ts noted closed p q =
       noted.repeated (key p q) ∙ ap (λ (n : ℕ). one_above 1 n) (count_all_rising p q ts) ∙ by (lower p q)
     where
@@ -174,7 +184,10 @@ module _ {P K : Type 0} (same lower : P → P → Bool) (key : P → P → K) (s
       by false = refl
 
   -- the number of those that occur again is that of the edges of more than two triangles
-  pub shared_counted : {T : Type 0} (f : T → Positions P) (ts : List T) (i : ℕ) {once again : List K} (count : ℕ) → length ts ≤ i → AreNoted same_key (all_rising (map f (take i ts))) once again → count ≡ length again → AreTrianglesClosed same (map f ts) → IsCountOfShared same lower key same_key (map f ts) count
+  pub shared_counted : {T : Type 0} (f : T → Positions P) (ts : List T) (i : ℕ) {once again : List K} (count : ℕ) →
+      length ts ≤ i → AreNoted same_key (all_rising (map f (take i ts))) once again → count ≡ length again →
+      AreTrianglesClosed same (map f ts) → IsCountOfShared same lower key same_key (map f ts) count
   shared_counted {T} f ts i {once} {again} count l noted is closed =
-      let all : AreNoted same_key (all_rising (map f ts)) once again = subst (λ (us : List T). AreNoted same_key (all_rising (map f us)) once again) (take_all i ts l) noted in
+      let all : AreNoted same_key (all_rising (map f ts)) once again =
+      subst (λ (us : List T). AreNoted same_key (all_rising (map f us)) once again) (take_all i ts l) noted in
       record { listed = again; each = each_edge (map f ts) all closed; count_is = is }

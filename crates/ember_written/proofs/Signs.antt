@@ -1,5 +1,6 @@
 -- Decimals of wide numbers: the sign of 0 doesn't count.
-use Rattle.std.proofs.Common.{◌≡◌, ◌⊎◌, inl, inr, ℕ, zero, suc, ◌+◌, ◌-◌, ◌*◌, ◌^◌, ◌<◌, ◌≤◌, Bool, true, false, if◌then◌else◌, pos, neg_ℤ, mul-le-mul, subst, refl, sym, ap, ◌∙◌, arith}
+use Rattle.std.proofs.Common.{◌≡◌, ◌⊎◌, inl, inr, ℕ, zero, suc, ◌+◌, ◌-◌, ◌*◌, ◌^◌, ◌<◌, ◌≤◌, Bool, true, false}
+use Rattle.std.proofs.Common.{if◌then◌else◌, pos, neg_ℤ, mul-le-mul, subst, refl, sym, ap, ◌∙◌, arith}
 use Rattle.std.specs.Prelude.{int_lt, unsigned_abs}
 use Rattle.std.proofs.lemmas.Nat.{pow-add}
 use Rattle.std.proofs.lemmas.Bool.{cases_lt}
@@ -50,7 +51,9 @@ zero_of d places n l e =
     ap (λ (k : ℕ). nearest_whole k d) none ∙ nearest_zero d l
 
 -- the sign of a wide number is that of its value, if it isn't 0
-sign_of_value : (s : Bool) (k d places : ℕ) → 0 < d → decimal_text s (nearest_whole (k * 10 ^ places) d) places ≡ decimal_text (int_lt (if s then neg_ℤ (pos k) else pos k) (pos 0)) (nearest_whole (k * 10 ^ places) d) places
+sign_of_value : (s : Bool) (k d places : ℕ) → 0 < d →
+    decimal_text s (nearest_whole (k * 10 ^ places) d) places ≡ decimal_text
+    (int_lt (if s then neg_ℤ (pos k) else pos k) (pos 0)) (nearest_whole (k * 10 ^ places) d) places
 sign_of_value false k d places l =
     ap (λ (b : Bool). decimal_text b (nearest_whole (k * 10 ^ places) d) places) (sym (not_below k))
 sign_of_value true zero d places l =
@@ -60,10 +63,12 @@ sign_of_value true (suc k) d places l =
 
 module _ (r : Ratio) (v : Fraction) (e : fraction_of r ≡ v) where
   -- the decimal of a ratio is that of the fraction which it is
-  pub decimal_of_ratio : (places : ℕ) → decimal_text r.numerator.negative (nearest_whole (size_of r.numerator.size * 10 ^ places) r.denominator) places ≡ decimal_of v places
+  pub decimal_of_ratio : (places : ℕ) → decimal_text r.numerator.negative
+      (nearest_whole (size_of r.numerator.size * 10 ^ places) r.denominator) places ≡ decimal_of v places
   decimal_of_ratio places =
       sign_of_value r.numerator.negative (size_of r.numerator.size) r.denominator places r.positive
-      ∙ ap (λ (m : ℕ). decimal_text (int_lt (value_of r.numerator) (pos 0)) (nearest_whole (m * 10 ^ places) r.denominator) places) (sym (size_of_value r.numerator))
+      ∙ ap (λ (m : ℕ). decimal_text (int_lt (value_of r.numerator) (pos 0))
+      (nearest_whole (m * 10 ^ places) r.denominator) places) (sym (size_of_value r.numerator))
       ∙ ap (λ (w : Fraction). decimal_of w places) e
 
   -- a ratio below the limit isn't too long
@@ -95,7 +100,9 @@ same_zero true false = refl
 same_zero false true = refl
 same_zero false false = refl
 
-signed_by_value : (s : Bool) (k d places : ℕ) → 0 < d → signed_whole s (nearest_whole (k * 10 ^ places) d) ≡ signed_whole (int_lt (if s then neg_ℤ (pos k) else pos k) (pos 0)) (nearest_whole (k * 10 ^ places) d)
+signed_by_value : (s : Bool) (k d places : ℕ) → 0 < d →
+    signed_whole s (nearest_whole (k * 10 ^ places) d) ≡ signed_whole
+    (int_lt (if s then neg_ℤ (pos k) else pos k) (pos 0)) (nearest_whole (k * 10 ^ places) d)
 signed_by_value false k d places l =
     ap (λ (b : Bool). signed_whole b (nearest_whole (k * 10 ^ places) d)) (sym (not_below k))
 signed_by_value true zero d places l =
@@ -104,7 +111,8 @@ signed_by_value true (suc k) d places l =
     ap (λ (b : Bool). signed_whole b (nearest_whole (suc k * 10 ^ places) d)) (sym (below k))
 
 -- the units of a ratio are those of the fraction which it is
-pub units_of_ratio : (r : Ratio) (places : ℕ) → signed_whole r.numerator.negative (nearest_whole (size_of r.numerator.size * 10 ^ places) r.denominator) ≡ units_of places (fraction_of r)
+pub units_of_ratio : (r : Ratio) (places : ℕ) → signed_whole r.numerator.negative
+    (nearest_whole (size_of r.numerator.size * 10 ^ places) r.denominator) ≡ units_of places (fraction_of r)
 units_of_ratio r places =
     signed_by_value r.numerator.negative (size_of r.numerator.size) r.denominator places r.positive
     ∙ ap (λ (m : ℕ). signed_whole (int_lt (value_of r.numerator) (pos 0)) (nearest_whole (m * 10 ^ places) r.denominator)) (sym (size_of_value r.numerator))
@@ -125,11 +133,13 @@ units_are_small m d n places p l k near = by (cases_lt (10 ^ 38) m)
         absurd (omega (arith, p, most, more, near))
 
 -- the decimal of signed units
-text_of_units : (b : Bool) (size places : ℕ) → decimal_text (int_lt (signed_whole b size) (pos 0)) (unsigned_abs (signed_whole b size)) places ≡ decimal_text b size places
+text_of_units : (b : Bool) (size places : ℕ) → decimal_text (int_lt (signed_whole b size) (pos 0))
+    (unsigned_abs (signed_whole b size)) places ≡ decimal_text b size places
 text_of_units false size places = ap (λ (b : Bool). decimal_text b size places) (not_below size)
 text_of_units true zero places = unsigned_zero (int_lt (pos 0) (pos 0)) true places
 text_of_units true (suc k) places = ap (λ (b : Bool). decimal_text b (suc k) places) (below k)
 
-pub units_have_the_decimal : (places : ℕ) (v : Fraction) → decimal_text (int_lt (units_of places v) (pos 0)) (unsigned_abs (units_of places v)) places ≡ decimal_of v places
+pub units_have_the_decimal : (places : ℕ) (v : Fraction) →
+    decimal_text (int_lt (units_of places v) (pos 0)) (unsigned_abs (units_of places v)) places ≡ decimal_of v places
 units_have_the_decimal places v =
     text_of_units (int_lt v.numerator (pos 0)) (nearest_whole (unsigned_abs v.numerator * 10 ^ places) v.denominator) places

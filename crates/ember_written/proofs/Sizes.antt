@@ -20,7 +20,8 @@ pub read_step : (z : ℤ) (n : ℕ) → z ≡ pos n → n < 2 ^ 40 → to_z w128
 read_step z n e l = rw e (to_z-of_z (fits_126 (pos n) (omega (arith, l))))
 
 -- the steps of the code give the code_gives_numerator
-pub code_gives_numerator : (p q f n : Wide) (x w o s z : ℤ) → value_of p ≡ x *ℤ pos 1 → value_of q ≡ o *ℤ w → value_of f ≡ value_of p +ℤ value_of q → z ≡ s → value_of n ≡ value_of f *ℤ z → value_of n ≡ (x +ℤ o *ℤ w) *ℤ s
+pub code_gives_numerator : (p q f n : Wide) (x w o s z : ℤ) → value_of p ≡ x *ℤ pos 1 → value_of q ≡ o *ℤ w →
+    value_of f ≡ value_of p +ℤ value_of q → z ≡ s → value_of n ≡ value_of f *ℤ z → value_of n ≡ (x +ℤ o *ℤ w) *ℤ s
 unfolding lib.IntN.one
 code_gives_numerator p q f n x w o s z e g h k i =
     let once : value_of p ≡ x = e ∙ *ℤ-one x in

@@ -13,11 +13,13 @@ places_found d p rest n e h =
     omega (arith, none, h)
 
 -- otherwise there is one more
-pub one_place_more : (d p rest n : ℕ) → p < 11 → (rest ≡ 0 → ⊥) → p + places_of_rest d (11 - p) rest ≡ n → (p + 1) + places_of_rest d (11 - (p + 1)) (rest * 10 % d) ≡ n
+pub one_place_more : (d p rest n : ℕ) → p < 11 → (rest ≡ 0 → ⊥) → p + places_of_rest d (11 - p) rest ≡ n →
+    (p + 1) + places_of_rest d (11 - (p + 1)) (rest * 10 % d) ≡ n
 one_place_more d p zero n l some h = absurd (some refl)
 one_place_more d p (suc k) n l some h =
     let next : 11 - p ≡ suc (11 - (p + 1)) = omega (arith, l) in
-    let more : places_of_rest d (11 - p) (suc k) ≡ 1 + places_of_rest d (11 - (p + 1)) (suc k * 10 % d) = ap (λ (most : ℕ). places_of_rest d most (suc k)) next in
+    let more : places_of_rest d (11 - p) (suc k) ≡ 1 + places_of_rest d (11 - (p + 1)) (suc k * 10 % d) =
+    ap (λ (most : ℕ). places_of_rest d most (suc k)) next in
     omega (arith, more, h)
 
 -- after the last one no more are counted

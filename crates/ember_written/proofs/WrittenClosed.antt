@@ -20,7 +20,8 @@ leads_on : (ps : List Plane) (cs : List SpacePoint) (t : Triangle) → IsProper 
 leads_on ps cs t h = (and_parts (leads_round t) (is_in_one_plane t) h.round).0
 
 -- certified triangles are closed
-pub certified_are_closed : (ps : List Plane) (ls : List LineKey) (cs : List SpacePoint) (faces : List Segment) (ts : List Triangle) → IsCertified ps ls cs faces ts → AreRoundAndClosed ts
+pub certified_are_closed : (ps : List Plane) (ls : List LineKey) (cs : List SpacePoint) (faces : List Segment)
+    (ts : List Triangle) → IsCertified ps ls cs faces ts → AreRoundAndClosed ts
 certified_are_closed ps ls cs faces ts h = record {
   round = λ k d l. leads_on ps cs (get_or ts k d) (h.proper k d l);
   closed = h.closed;
@@ -48,15 +49,23 @@ module _ (planes : List Plane) (points : List FloatPoint) where
   kept_positions [] = refl
   kept_positions (t ∷ ts) = by (gone t) (kept_positions ts)
     where
-      by : (b : Bool) → map positions_of (kept (map (triangle_at planes points) ts)) ≡ map (at_positions (point_at points)) (others ts) → map positions_of (cond (not b) (triangle_at planes points t ∷ kept (map (triangle_at planes points) ts)) (kept (map (triangle_at planes points) ts))) ≡ map (at_positions (point_at points)) (cond (not b) (t ∷ others ts) (others ts))
+      by : (b : Bool) → map positions_of (kept (map (triangle_at planes points) ts)) ≡ map
+          (at_positions (point_at points)) (others ts) →
+          map positions_of (cond (not b) (triangle_at planes points t ∷ kept (map (triangle_at planes points) ts))
+          (kept (map (triangle_at planes points) ts))) ≡ map (at_positions (point_at points))
+          (cond (not b) (t ∷ others ts) (others ts))
       by true r = r
       by false r = ap (λ (us : List (Positions FloatPoint)). at_positions (point_at points) t ∷ us) r
 
   -- what is kept of closed triangles is closed
-  pub kept_are_closed : (ts : List Triangle) (ws : List WrittenTriangle) → ws ≡ kept (map (triangle_at planes points) ts) → AreRoundAndClosed ts → AreWrittenClosed ws
+  pub kept_are_closed : (ts : List Triangle) (ws : List WrittenTriangle) →
+      ws ≡ kept (map (triangle_at planes points) ts) → AreRoundAndClosed ts → AreWrittenClosed ws
   kept_are_closed ts ws e h =
-      subst (λ (us : List (Positions FloatPoint)). AreTrianglesClosed same_point us) (sym (ap (map positions_of) e ∙ kept_positions ts)) (map_keeps_closed same_point (point_at points) one_point gone (λ t v. v) ts h)
+      subst (λ (us : List (Positions FloatPoint)). AreTrianglesClosed same_point us)
+      (sym (ap (map positions_of) e ∙ kept_positions ts))
+      (map_keeps_closed same_point (point_at points) one_point gone (λ t v. v) ts h)
 
 -- the same, by the definition of written triangles
-pub written_are_closed : (s : Step) (o : Offset) (planes : List Plane) (cs : List SpacePoint) (ts : List Triangle) (ws : List WrittenTriangle) → AreWritten s o planes cs ts ws → AreRoundAndClosed ts → AreWrittenClosed ws
+pub written_are_closed : (s : Step) (o : Offset) (planes : List Plane) (cs : List SpacePoint) (ts : List Triangle)
+    (ws : List WrittenTriangle) → AreWritten s o planes cs ts ws → AreRoundAndClosed ts → AreWrittenClosed ws
 written_are_closed s o planes cs ts ws h closed = kept_are_closed planes h.points ts ws h.written closed

@@ -1,5 +1,6 @@
 -- Edges of more than two triangles
-use Rattle.std.specs.Prelude.{◌≡◌, ℕ, ◌+◌, nat_eq, nat_lt, Bool, ◌&&◌, ◌||◌, if◌then◌else◌, List, [], ◌∷◌, ◌++◌, length, map}
+use Rattle.std.specs.Prelude.{◌≡◌, ℕ, ◌+◌, nat_eq, nat_lt, Bool, ◌&&◌, ◌||◌, if◌then◌else◌, List, []}
+use Rattle.std.specs.Prelude.{◌∷◌, ◌++◌, length, map}
 use Rattle.std.specs.List.{list_any}
 use Rattle.ember_algebra.specs.Sums.{occurrences}
 use Rattle.ember_stl_bytes.specs.declared.triangle.FloatPoint.{FloatPoint}

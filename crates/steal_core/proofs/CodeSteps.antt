@@ -1,5 +1,7 @@
 -- The code's answers as steps.
-use Rattle.std.proofs.Common.{◌≡◌, ℕ, zero, suc, ◌+◌, ◌*◌, ◌<◌, List, [], ◌∷◌, ◌++◌, length, ◌==◌, ◌&&◌, Bool, true, false, true≢false, refl, sym, ap, ap₂, ◌∙◌, subst, append_assoc, length-append, slice_set, slice_index_or, inl, inr, arith}
+use Rattle.std.proofs.Common.{◌≡◌, ℕ, zero, suc, ◌+◌, ◌*◌, ◌<◌, List, [], ◌∷◌, ◌++◌, length, ◌==◌, ◌&&◌, Bool, true}
+use Rattle.std.proofs.Common.{false, true≢false, refl, sym, ap, ap₂, ◌∙◌, subst, append_assoc, length-append, slice_set}
+use Rattle.std.proofs.Common.{slice_index_or, inl, inr, arith}
 use Rattle.std.proofs.lemmas.Bool.Decides.{eqb_tells}
 use Rattle.steal_core.specs.declared.place.Place.{Place}
 use Rattle.steal_core.specs.declared.place.Place.TheVariants.{Hand, Deque, Ended}
@@ -12,7 +14,9 @@ none_snoc P [] x h n = (n, tt)
 none_snoc P (y ∷ ys) x h n = (h.0, none_snoc P ys x h.1 n)
 
 -- one more place is search_passes_one at
-pub search_passes_one : (P : Placed → Bool) (boxes rest after : List Placed) (x : Placed) (i : ℕ) → ((front : List Placed) × (boxes ≡ front ++ rest) × HasNone P front × (i ≡ length front)) → rest ≡ x ∷ after → P x ≡ false → (front : List Placed) × (boxes ≡ front ++ after) × HasNone P front × (i + 1 ≡ length front)
+pub search_passes_one : (P : Placed → Bool) (boxes rest after : List Placed) (x : Placed) (i : ℕ) →
+    ((front : List Placed) × (boxes ≡ front ++ rest) × HasNone P front × (i ≡ length front)) → rest ≡ x ∷ after →
+    P x ≡ false → (front : List Placed) × (boxes ≡ front ++ after) × HasNone P front × (i + 1 ≡ length front)
 search_passes_one P boxes rest after x i k is other = (
   k.0 ++ x ∷ [],
   k.1 ∙ ap (λ r. k.0 ++ r) is ∙ sym (append_assoc k.0 (x ∷ []) after),
@@ -63,10 +67,14 @@ queued_is from s e = ap (λ p. placed p s.path) (deque_is from s.place e)
 
 -- if nothing is found, there is no step
 no_held : (by path : ℕ) (boxes front back : List Placed) → HasNone (is_held by path) boxes → boxes ≡ front ++ placed (Hand by) path ∷ back → ⊥
-no_held by path boxes front back none is = true≢false (sym (held_self by path) ∙ none_at (is_held by path) front back (placed (Hand by) path) (subst (HasNone (is_held by path)) is none))
+no_held by path boxes front back none is = true≢false
+    (sym (held_self by path) ∙ none_at (is_held by path) front back (placed (Hand by) path)
+    (subst (HasNone (is_held by path)) is none))
 
 no_queued : (from path : ℕ) (boxes front back : List Placed) → HasNone (is_queued from) boxes → boxes ≡ front ++ placed (Deque from) path ∷ back → ⊥
-no_queued from path boxes front back none is = true≢false (sym (queued_self from path) ∙ none_at (is_queued from) front back (placed (Deque from) path) (subst (HasNone (is_queued from)) is none))
+no_queued from path boxes front back none is = true≢false
+    (sym (queued_self from path) ∙ none_at (is_queued from) front back (placed (Deque from) path)
+    (subst (HasNone (is_queued from)) is none))
 
 -- if the worker doesn't hold the box, Push is no step
 pub no_push : (by path : ℕ) (old : Core) → HasNone (is_held by path) old.boxes → NoStep (Push by path) old
@@ -101,42 +109,58 @@ set_at (z ∷ front) back x y (suc i) e = ap (λ r. z ∷ r) (set_at front back 
 
 -- what `relocate` does
 abbrev pub Relocates : ℕ → Place → Core → Core → Type 0
-Relocates i to old new = (front back : List Placed) (s : Placed) → old.boxes ≡ front ++ s ∷ back → i ≡ length front → new ≡ core old.workers old.room (front ++ placed to s.path ∷ back)
+Relocates i to old new = (front back : List Placed) (s : Placed) → old.boxes ≡ front ++ s ∷ back → i ≡ length front →
+    new ≡ core old.workers old.room (front ++ placed to s.path ∷ back)
 
-first_moves : (from i : ℕ) (to : Place) (old new : Core) → (at : FirstAt (is_queued from) old.boxes i) → Relocates i to old new → Moves (Deque from) to at.2.path at.0 at.1 old new
+first_moves : (from i : ℕ) (to : Place) (old new : Core) → (at : FirstAt (is_queued from) old.boxes i) →
+    Relocates i to old new → Moves (Deque from) to at.2.path at.0 at.1 old new
 first_moves from i to old new at r = record {
   old_boxes = at.3 ∙ ap (λ s. at.0 ++ s ∷ at.1) (queued_is from at.2 at.4);
   is_new = r at.0 at.1 at.2 at.3 at.6;
 }
 
-last_moves : (from i : ℕ) (to : Place) (old new : Core) → (at : LastAt (is_queued from) old.boxes i) → Relocates i to old new → Moves (Deque from) to at.2.path at.0 at.1 old new
+last_moves : (from i : ℕ) (to : Place) (old new : Core) → (at : LastAt (is_queued from) old.boxes i) →
+    Relocates i to old new → Moves (Deque from) to at.2.path at.0 at.1 old new
 last_moves from i to old new at r = record {
   old_boxes = at.3 ∙ ap (λ s. at.0 ++ s ∷ at.1) (queued_is from at.2 at.4);
   is_new = r at.0 at.1 at.2 at.3 at.6;
 }
 
 -- moving the first box of a deque to a worker's hand is the step of Steal
-pub steps_steal : (by from i : ℕ) (old new : Core) → by < old.workers → from < old.workers → FirstAt (is_queued from) old.boxes i → Relocates i (Hand by) old new → Steps (Steal by from) old new
+pub steps_steal : (by from i : ℕ) (old new : Core) → by < old.workers → from < old.workers →
+    FirstAt (is_queued from) old.boxes i → Relocates i (Hand by) old new → Steps (Steal by from) old new
 steps_steal by from i old new few there at r = (few, there, at.2.path, at.0, at.1, first_moves from i (Hand by) old new at r, at.5)
 
 -- moving the last box of a deque to the caller's hand is the step of Drain
-pub steps_drain : (from i : ℕ) (old new : Core) → from < old.workers → LastAt (is_queued from) old.boxes i → Relocates i (Hand old.workers) old new → Steps (Drain from) old new
+pub steps_drain : (from i : ℕ) (old new : Core) → from < old.workers → LastAt (is_queued from) old.boxes i →
+    Relocates i (Hand old.workers) old new → Steps (Drain from) old new
 steps_drain from i old new few at r = (few, at.2.path, at.0, at.1, last_moves from i (Hand old.workers) old new at r, at.5)
 
 -- the program's changes to the list are the step of a halving
-pub steps_halve : (by path i : ℕ) (right : Place) (boxes after : List Placed) (workers room : ℕ) → FirstAt (is_held by path) boxes i → after ≡ (slice_set boxes i (placed Ended path) ++ placed (Hand by) (2 * path) ∷ []) ++ placed right (2 * path + 1) ∷ [] → Halves by path right (core workers room boxes) (core workers room after)
+pub steps_halve : (by path i : ℕ) (right : Place) (boxes after : List Placed) (workers room : ℕ) →
+    FirstAt (is_held by path) boxes i → after ≡ (slice_set boxes i (placed Ended path) ++ placed (Hand by) (2 * path)
+    ∷ []) ++ placed right (2 * path + 1) ∷ [] → Halves by path right (core workers room boxes) (core workers room after)
 steps_halve by path i right boxes after workers room at is =
     let here : boxes ≡ at.0 ++ placed (Hand by) path ∷ at.1 = at.3 ∙ ap (λ s. at.0 ++ s ∷ at.1) (held_is by path at.2 at.4) in
-    let ended : slice_set boxes i (placed Ended path) ≡ at.0 ++ placed Ended path ∷ at.1 = ap (λ xs. slice_set xs i (placed Ended path)) here ∙ set_at at.0 at.1 (placed (Hand by) path) (placed Ended path) i at.6 in record {
+    let ended : slice_set boxes i (placed Ended path) ≡ at.0 ++ placed Ended path ∷ at.1 =
+    ap (λ xs. slice_set xs i (placed Ended path)) here
+    ∙ set_at at.0 at.1 (placed (Hand by) path) (placed Ended path) i at.6 in record {
       front = at.0;
       back = at.1;
       old_boxes = here;
-      is_new = ap (λ xs. core workers room xs) (is ∙ ap (λ xs. (xs ++ placed (Hand by) (2 * path) ∷ []) ++ placed right (2 * path + 1) ∷ []) ended ∙ append_assoc (at.0 ++ placed Ended path ∷ at.1) (placed (Hand by) (2 * path) ∷ []) (placed right (2 * path + 1) ∷ []));
+      is_new = ap (λ xs. core workers room xs) (is
+          ∙ ap (λ xs. (xs ++ placed (Hand by) (2 * path) ∷ []) ++ placed right (2 * path + 1) ∷ []) ended
+          ∙ append_assoc (at.0 ++ placed Ended path ∷ at.1) (placed (Hand by) (2 * path) ∷ [])
+          (placed right (2 * path + 1) ∷ []));
     }
 
 -- setting the place of the box at i relocates it
-pub box_is_relocated : (i path : ℕ) (to : Place) (boxes after : List Placed) (workers room : ℕ) → ((front back : List Placed) (s : Placed) → boxes ≡ front ++ s ∷ back → i ≡ length front → path ≡ s.path) → after ≡ slice_set boxes i (placed to path) → Relocates i to (core workers room boxes) (core workers room after)
-box_is_relocated i path to boxes after workers room same is front back s here there = ap (λ xs. core workers room xs) (is ∙ ap (λ xs. slice_set xs i (placed to path)) here ∙ set_at front back s (placed to path) i there ∙ ap (λ p. front ++ placed to p ∷ back) (same front back s here there))
+pub box_is_relocated : (i path : ℕ) (to : Place) (boxes after : List Placed) (workers room : ℕ) →
+    ((front back : List Placed) (s : Placed) → boxes ≡ front ++ s ∷ back → i ≡ length front → path ≡ s.path) →
+    after ≡ slice_set boxes i (placed to path) → Relocates i to (core workers room boxes) (core workers room after)
+box_is_relocated i path to boxes after workers room same is front back s here there =
+    ap (λ xs. core workers room xs) (is ∙ ap (λ xs. slice_set xs i (placed to path)) here
+    ∙ set_at front back s (placed to path) i there ∙ ap (λ p. front ++ placed to p ∷ back) (same front back s here there))
 
 -- the item just behind a front of i items has the index i
 pub at_seam : (front back : List Placed) (s d : Placed) (i : ℕ) → i ≡ length front → slice_index_or (front ++ s ∷ back) i d ≡ s

@@ -1,5 +1,6 @@
 -- The last rule of journals follows from the others: a list of steps is found along the tree.
-use Rattle.std.proofs.Common.{◌≡◌, ◌≢◌, ◌⊎◌, ℕ, zero, suc, ◌+◌, ◌*◌, ◌<◌, ◌≤◌, List, [], ◌∷◌, ◌++◌, false, refl, sym, ap, ap₂, ◌∙◌, subst, append_assoc, inl, inr, arith}
+use Rattle.std.proofs.Common.{◌≡◌, ◌≢◌, ◌⊎◌, ℕ, zero, suc, ◌+◌, ◌*◌, ◌<◌, ◌≤◌, List, [], ◌∷◌, ◌++◌, false, refl, sym}
+use Rattle.std.proofs.Common.{ap, ap₂, ◌∙◌, subst, append_assoc, inl, inr, arith}
 use Rattle.std.proofs.lemmas.Bool.Decides.{eqb_tells}
 use Rattle.std.proofs.lemmas.List.{append-nil}
 use Rattle.steal_core.specs.declared.place.Place.{Place}
@@ -91,7 +92,8 @@ record Ran (n room : ℕ) (owner : ℕ → ℕ) (t : Tree) (p : ℕ) (before aft
 -- the right half of a box gets to its worker: at once, or by a deque that holds nothing else
 record Shares (n room : ℕ) (i j p : ℕ) (front back : List Placed) : Type 0 where
   pub events : List Event
-  pub run : Run (core n room (front ++ placed (Hand i) p ∷ back)) events (core n room ((front ++ placed Ended p ∷ back) ++ placed (Hand i) (2 * p) ∷ placed (Hand j) (2 * p + 1) ∷ []))
+  pub run : Run (core n room (front ++ placed (Hand i) p ∷ back)) events
+      (core n room ((front ++ placed Ended p ∷ back) ++ placed (Hand i) (2 * p) ∷ placed (Hand j) (2 * p + 1) ∷ []))
   pub halved : (k : ℕ) → halved_by k events ≡ keep k i p []
   pub finished : (k : ℕ) → finished_by k events ≡ []
 
@@ -110,13 +112,26 @@ shares n room i j p front back few at caller out out' =
     let begun : Core = core n room (front ++ placed (Hand i) p ∷ back) in
     let both : Core = core n room (middle ++ placed (Hand i) (2 * p) ∷ placed (Hand j) (2 * p + 1) ∷ []) in
     let held : List Placed = middle ++ placed (Hand i) (2 * p) ∷ [] in
-    let split : pushed ≡ held ++ placed (Deque i) (2 * p + 1) ∷ [] = sym (append_assoc middle (placed (Hand i) (2 * p) ∷ []) (placed (Deque i) (2 * p + 1) ∷ [])) in
-    let moved : both ≡ core n room (held ++ placed (Hand j) (2 * p + 1) ∷ []) = ap (λ xs. core n room xs) (sym (append_assoc middle (placed (Hand i) (2 * p) ∷ []) (placed (Hand j) (2 * p + 1) ∷ []))) in
+    let split : pushed ≡ held ++ placed (Deque i) (2 * p + 1) ∷ [] =
+    sym (append_assoc middle (placed (Hand i) (2 * p) ∷ []) (placed (Deque i) (2 * p + 1) ∷ [])) in
+    let moved : both ≡ core n room (held ++ placed (Hand j) (2 * p + 1) ∷ []) =
+    ap (λ xs. core n room xs) (sym (append_assoc middle (placed (Hand i) (2 * p) ∷ [])
+    (placed (Hand j) (2 * p + 1) ∷ []))) in
     let out_middle : AllOut middle = out_append front (placed Ended p ∷ back) out (tt, out') in
     elim (eqb_tells j i) [
       | inl same ↦ record {
         events = Hold i p ∷ [];
-        run = then (Hold i p) [] begun both both (few, record { front = front; back = back; old_boxes = refl; is_new = ap (λ k. core n room (middle ++ placed (Hand i) (2 * p) ∷ placed (Hand k) (2 * p + 1) ∷ [])) same.1 }) (none both);
+        run = then (Hold i p) [] begun both both (
+          few,
+          record {
+            front = front;
+            back = back;
+            old_boxes = refl;
+            is_new =
+                ap (λ k. core n room (middle ++ placed (Hand i) (2 * p) ∷ placed (Hand k) (2 * p + 1) ∷ [])) same.1;
+          },
+        )
+            (none both);
         halved = λ k. refl;
         finished = λ k. refl;
       }
@@ -125,15 +140,41 @@ shares n room i j p front back few at caller out out' =
           elim (eqb_tells j n) [
             | inl last ↦ record {
               events = Push i p ∷ Drain i ∷ [];
-              run = then (Push i p) (Drain i ∷ []) begun (core n room pushed) both (less, record { front = front; back = back; old_boxes = refl; is_new = refl })
-                  (then (Drain i) [] (core n room pushed) both both (less, 2 * p + 1, held, [], record { old_boxes = split; is_new = moved ∙ ap (λ k. core n room (held ++ placed (Hand k) (2 * p + 1) ∷ [])) last.1 }, tt) (none both));
+              run = then (Push i p) (Drain i ∷ []) begun (core n room pushed) both (
+                less,
+                record { front = front; back = back; old_boxes = refl; is_new = refl },
+              )
+                  (then (Drain i) [] (core n room pushed) both both (
+                    less,
+                    2 * p + 1,
+                    held,
+                    [],
+                    record {
+                      old_boxes = split;
+                      is_new =
+                          moved ∙ ap (λ k. core n room (held ++ placed (Hand k) (2 * p + 1) ∷ [])) last.1;
+                    },
+                    tt,
+                  ) (none both));
               halved = λ k. refl;
               finished = λ k. refl;
             }
             | inr worker ↦ record {
               events = Push i p ∷ Steal j i ∷ [];
-              run = then (Push i p) (Steal j i ∷ []) begun (core n room pushed) both (less, record { front = front; back = back; old_boxes = refl; is_new = refl })
-                  (then (Steal j i) [] (core n room pushed) both both (less_or j n at worker.1, less, 2 * p + 1, held, [], record { old_boxes = split; is_new = moved }, none_out i held (out_append middle (placed (Hand i) (2 * p) ∷ []) out_middle (tt, tt))) (none both));
+              run = then (Push i p) (Steal j i ∷ []) begun (core n room pushed) both (
+                less,
+                record { front = front; back = back; old_boxes = refl; is_new = refl },
+              )
+                  (then (Steal j i) [] (core n room pushed) both both (
+                    less_or j n at worker.1,
+                    less,
+                    2 * p + 1,
+                    held,
+                    [],
+                    record { old_boxes = split; is_new = moved },
+                    none_out i held (out_append middle (placed (Hand i) (2 * p) ∷ []) out_middle (tt, tt)),
+                  )
+                  (none both));
               halved = λ k. refl;
               finished = λ k. refl;
             }
@@ -147,12 +188,20 @@ owner_few n owner (halved l r) p rules = rules.0
 keep_nil : (k i p : ℕ) (xs : List ℕ) → keep k i p [] ++ xs ≡ keep k i p xs
 keep_nil k i p xs = elim (eqb_tells i k) [ inl h ↦ rw h.0 refl | inr h ↦ rw h.0 refl ]
 
-ran : (n room : ℕ) (owner : ℕ → ℕ) (t : Tree) (p : ℕ) (front back : List Placed) → Rules n owner t p → AllOut front → AllOut back → Ran n room owner t p (front ++ placed (Hand (owner p)) p ∷ back) (front ++ placed Ended p ∷ back ++ below t p)
+ran : (n room : ℕ) (owner : ℕ → ℕ) (t : Tree) (p : ℕ) (front back : List Placed) → Rules n owner t p → AllOut front →
+    AllOut back → Ran n room owner t p (front ++ placed (Hand (owner p)) p ∷ back)
+    (front ++ placed Ended p ∷ back ++ below t p)
 ran n room owner rests p front back rules out out' =
     let before : Core = core n room (front ++ placed (Hand (owner p)) p ∷ back) in
     let after : Core = core n room (front ++ placed Ended p ∷ back ++ []) in record {
       events = Finish (owner p) p ∷ [];
-      run = then (Finish (owner p) p) [] before after after (rules, front, back, record { old_boxes = refl; is_new = ap (λ xs. core n room xs) (append-nil (front ++ placed Ended p ∷ back)) }) (none after);
+      run = then (Finish (owner p) p) [] before after after (
+        rules,
+        front,
+        back,
+        record { old_boxes = refl; is_new = ap (λ xs. core n room xs) (append-nil (front ++ placed Ended p ∷ back)) },
+      )
+          (none after);
       halved = λ k. refl;
       finished = λ k. refl;
     }
@@ -175,15 +224,26 @@ ran n room owner (halved l r) p front back rules out out' =
     let mid' : Core = core n room (fore ++ placed (Hand j) (2 * p + 1) ∷ below l (2 * p)) in
     let last : Core = core n room (fore ++ placed Ended (2 * p + 1) ∷ below l (2 * p) ++ below r (2 * p + 1)) in
     let last' : Core = core n room (front ++ placed Ended p ∷ back ++ below (halved l r) p) in
-    let is_mid : mid' ≡ mid = ap (λ xs. core n room xs) (append_assoc middle (placed Ended (2 * p) ∷ []) (placed (Hand j) (2 * p + 1) ∷ below l (2 * p)) ∙ sym (append_assoc middle (placed Ended (2 * p) ∷ placed (Hand j) (2 * p + 1) ∷ []) (below l (2 * p)))) in
-    let is_last : last ≡ last' = ap (λ xs. core n room xs) (append_assoc fore (placed Ended (2 * p + 1) ∷ below l (2 * p)) (below r (2 * p + 1)) ∙ append_assoc middle (placed Ended (2 * p) ∷ []) (placed Ended (2 * p + 1) ∷ below l (2 * p) ++ below r (2 * p + 1))) in
+    let is_mid : mid' ≡ mid = ap (λ xs. core n room xs)
+    (append_assoc middle (placed Ended (2 * p) ∷ []) (placed (Hand j) (2 * p + 1) ∷ below l (2 * p))
+    ∙ sym (append_assoc middle (placed Ended (2 * p) ∷ placed (Hand j) (2 * p + 1) ∷ []) (below l (2 * p)))) in
+    let is_last : last ≡ last' = ap (λ xs. core n room xs)
+    (append_assoc fore (placed Ended (2 * p + 1) ∷ below l (2 * p)) (below r (2 * p + 1))
+    ∙ append_assoc middle (placed Ended (2 * p) ∷ [])
+    (placed Ended (2 * p + 1) ∷ below l (2 * p) ++ below r (2 * p + 1))) in
     let is_both : both' ≡ both = ap (λ k. core n room (middle ++ placed (Hand k) (2 * p) ∷ placed (Hand j) (2 * p + 1) ∷ [])) same in
     let run_left : Run both left.events mid = subst (λ c. Run c left.events mid) is_both left.run in
-    let run_right : Run mid right.events last' = subst (λ c. Run c right.events last') is_mid (subst (λ c. Run mid' right.events c) is_last right.run) in record {
+    let run_right : Run mid right.events last' =
+    subst (λ c. Run c right.events last') is_mid (subst (λ c. Run mid' right.events c) is_last right.run) in record {
       events = first.events ++ (left.events ++ right.events);
       run = joined first.events (left.events ++ right.events) begun both last' first.run (joined left.events right.events both mid last' run_left run_right);
-      halved = λ k. halved_append k first.events (left.events ++ right.events) ∙ ap₂ (λ xs ys. xs ++ ys) (first.halved k) (halved_append k left.events right.events ∙ ap₂ (λ xs ys. xs ++ ys) (left.halved k) (right.halved k)) ∙ keep_nil k i p (halved_in k owner l (2 * p) ++ halved_in k owner r (2 * p + 1));
-      finished = λ k. finished_append k first.events (left.events ++ right.events) ∙ ap₂ (λ xs ys. xs ++ ys) (first.finished k) (finished_append k left.events right.events ∙ ap₂ (λ xs ys. xs ++ ys) (left.finished k) (right.finished k));
+      halved = λ k. halved_append k first.events (left.events ++ right.events)
+          ∙ ap₂ (λ xs ys. xs ++ ys) (first.halved k)
+          (halved_append k left.events right.events ∙ ap₂ (λ xs ys. xs ++ ys) (left.halved k) (right.halved k))
+          ∙ keep_nil k i p (halved_in k owner l (2 * p) ++ halved_in k owner r (2 * p + 1));
+      finished = λ k. finished_append k first.events (left.events ++ right.events)
+          ∙ ap₂ (λ xs ys. xs ++ ys) (first.finished k)
+          (finished_append k left.events right.events ∙ ap₂ (λ xs ys. xs ++ ys) (left.finished k) (right.finished k));
     }
 
 -- every tree of boxes with numbers that keep the rules is a run of the core

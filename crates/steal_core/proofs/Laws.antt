@@ -6,7 +6,8 @@ use Rattle.steal_core.specs.declared.place.Place.TheVariants.{Hand, Deque, Ended
 use Rattle.steal_core.specs.declared.place.Placed.{Placed}
 use Rattle.steal_core.specs.declared.place.Event.{Event}
 use Rattle.steal_core.specs.declared.place.Event.TheVariants.{Push, Hold, Pop, Steal, Drain, Finish}
-use Rattle.steal_core.specs.Core.{Core, placed, begin, AllEnded, IsEnded, ended_times, Halves, Moves, Steps, Reached, at_start, stepped, refused, weigh, weigh_ended, if_ended, one, IsGood}
+use Rattle.steal_core.specs.Core.{Core, placed, begin, AllEnded, IsEnded, ended_times, Halves, Moves, Steps, Reached}
+use Rattle.steal_core.specs.Core.{at_start, stepped, refused, weigh, weigh_ended, if_ended, one, IsGood}
 
 -- a box in a hand ends, and its two halves are added
 record Grows (p : ℕ) (old new : Core) : Type 0 where
@@ -50,7 +51,9 @@ zero_or (suc n) = inr (omega arith)
 fresh : (p x : ℕ) (old new : Core) → IsGood old → Grows p old new → x / 2 ≡ p → 1 < x → weigh (one x) old.boxes ≡ 0
 fresh p x old new good move half big = elim (zero_or (weigh (one x) old.boxes)) [
   | inl none ↦ none
-  | inr some ↦ let ended : 0 < weigh_ended (one p) old.boxes = subst (λ q. 0 < weigh_ended (one q) old.boxes) half (good.parents x big some) in absurd (omega (arith, good.once p, move.apart (one p), one_same p p refl))
+  | inr some ↦ let ended : 0 < weigh_ended (one p) old.boxes =
+      subst (λ q. 0 < weigh_ended (one q) old.boxes) half (good.parents x big some) in
+      absurd (omega (arith, good.once p, move.apart (one p), one_same p p refl))
 ]
 
 positive_path : (p : ℕ) (old new : Core) → IsGood old → Grows p old new → 0 < p
@@ -69,16 +72,34 @@ grows_good : (p : ℕ) (old new : Core) → IsGood old → Grows p old new → I
 grows_good p old new good move =
     let above : 0 < p = positive_path p old new good move in record {
       once = λ x. once x above;
-      positive = omega (arith, good.positive, move.comes (one 0), one_other 0 (2 * p) (λ e. absurd (omega arith)), one_other 0 (2 * p + 1) (λ e. absurd (omega arith)));
+      positive = omega (
+        arith,
+        good.positive,
+        move.comes (one 0),
+        one_other 0 (2 * p) (λ e. absurd (omega arith)),
+        one_other 0 (2 * p + 1) (λ e. absurd (omega arith)),
+      );
       parents = λ x big some. parents x above big some;
       siblings = λ q positive. siblings q above positive;
     }
   where
     once : (x : ℕ) → 0 < p → weigh (one x) new.boxes ≤ 1
     once x above = elim (eqb_tells (2 * p) x) [
-      | inl l ↦ omega (arith, move.comes (one x), one_same x (2 * p) l.1, one_other x (2 * p + 1) (λ e. absurd (omega (arith, l.1))), fresh p x old new good move (omega (arith, l.1)) (omega (arith, l.1)))
+      | inl l ↦ omega (
+        arith,
+        move.comes (one x),
+        one_same x (2 * p) l.1,
+        one_other x (2 * p + 1) (λ e. absurd (omega (arith, l.1))),
+        fresh p x old new good move (omega (arith, l.1)) (omega (arith, l.1)),
+      )
       | inr l ↦ elim (eqb_tells (2 * p + 1) x) [
-        | inl r ↦ omega (arith, move.comes (one x), one_other x (2 * p) l.1, one_same x (2 * p + 1) r.1, fresh p x old new good move (omega (arith, r.1)) (omega (arith, r.1)))
+        | inl r ↦ omega (
+          arith,
+          move.comes (one x),
+          one_other x (2 * p) l.1,
+          one_same x (2 * p + 1) r.1,
+          fresh p x old new good move (omega (arith, r.1)) (omega (arith, r.1)),
+        )
         | inr r ↦ omega (arith, move.comes (one x), one_other x (2 * p) l.1, one_other x (2 * p + 1) r.1, good.once x)
       ]
     ]
@@ -91,23 +112,52 @@ grows_good p old new good move =
       | inl l ↦ here x (omega (arith, l.1))
       | inr l ↦ elim (eqb_tells (2 * p + 1) x) [
         | inl r ↦ here x (omega (arith, r.1))
-        | inr r ↦ omega (arith, good.parents x big (omega (arith, some, move.comes (one x), one_other x (2 * p) l.1, one_other x (2 * p + 1) r.1)), move.ended (one (x / 2)))
+        | inr r ↦ omega (
+          arith,
+          good.parents x big
+              (omega (arith, some, move.comes (one x), one_other x (2 * p) l.1, one_other x (2 * p + 1) r.1)),
+          move.ended (one (x / 2)),
+        )
       ]
     ]
 
     siblings : (q : ℕ) → 0 < p → 0 < q → weigh (one (2 * q)) new.boxes ≡ weigh (one (2 * q + 1)) new.boxes
     siblings q above positive = elim (eqb_tells p q) [
-      | inl e ↦ omega (arith, good.siblings q positive, move.comes (one (2 * q)), move.comes (one (2 * q + 1)), one_same (2 * q) (2 * p) (omega (arith, e.1)), one_other (2 * q) (2 * p + 1) (λ x. absurd (omega arith)), one_other (2 * q + 1) (2 * p) (λ x. absurd (omega arith)), one_same (2 * q + 1) (2 * p + 1) (omega (arith, e.1)))
-      | inr n ↦ omega (arith, good.siblings q positive, move.comes (one (2 * q)), move.comes (one (2 * q + 1)), one_other (2 * q) (2 * p) (λ x. n.1 (omega arith)), one_other (2 * q) (2 * p + 1) (λ x. absurd (omega arith)), one_other (2 * q + 1) (2 * p) (λ x. absurd (omega arith)), one_other (2 * q + 1) (2 * p + 1) (λ x. n.1 (omega arith)))
+      | inl e ↦ omega (
+        arith,
+        good.siblings q positive,
+        move.comes (one (2 * q)),
+        move.comes (one (2 * q + 1)),
+        one_same (2 * q) (2 * p) (omega (arith, e.1)),
+        one_other (2 * q) (2 * p + 1) (λ x. absurd (omega arith)),
+        one_other (2 * q + 1) (2 * p) (λ x. absurd (omega arith)),
+        one_same (2 * q + 1) (2 * p + 1) (omega (arith, e.1)),
+      )
+      | inr n ↦ omega (
+        arith,
+        good.siblings q positive,
+        move.comes (one (2 * q)),
+        move.comes (one (2 * q + 1)),
+        one_other (2 * q) (2 * p) (λ x. n.1 (omega arith)),
+        one_other (2 * q) (2 * p + 1) (λ x. absurd (omega arith)),
+        one_other (2 * q + 1) (2 * p) (λ x. absurd (omega arith)),
+        one_other (2 * q + 1) (2 * p + 1) (λ x. n.1 (omega arith)),
+      )
     ]
 
 -- a box not yet ended changes its place
-moves : (from to : Place) (path : ℕ) (front back : List Placed) (old new : Core) → ((n : ℕ) → if_ended from n ≡ 0) → Moves from to path front back old new → Stays old new
+moves : (from to : Place) (path : ℕ) (front back : List Placed) (old new : Core) → ((n : ℕ) → if_ended from n ≡ 0) →
+    Moves from to path front back old new → Stays old new
 moves from to path front back old new free m =
     let before = m.old_boxes in
     let after : new.boxes ≡ front ++ placed to path ∷ back = ap (λ (c : Core). c.boxes) m.is_new in record {
       same = λ h. rw (before, after) (omega (arith, weigh_append h front (placed from path ∷ back), weigh_append h front (placed to path ∷ back)));
-      ended = λ h. rw (before, after) (omega (arith, free (h path), ended_append h front (placed from path ∷ back), ended_append h front (placed to path ∷ back)));
+      ended = λ h. rw (before, after) (omega (
+        arith,
+        free (h path),
+        ended_append h front (placed from path ∷ back),
+        ended_append h front (placed to path ∷ back),
+      ));
     }
 
 halves : (by path : ℕ) (right : Place) (old new : Core) → ((n : ℕ) → if_ended right n ≡ 0) → Halves by path right old new → Grows path old new
@@ -117,9 +167,26 @@ halves by path right old new free m =
     let middle : List Placed = m.front ++ placed Ended path ∷ m.back in
     let after : new.boxes ≡ middle ++ two = ap (λ (c : Core). c.boxes) m.is_new in record {
       there = λ h. rw before (omega (arith, weigh_append h m.front (placed (Hand by) path ∷ m.back)));
-      ended = λ h. rw (before, after) (omega (arith, free (h (2 * path + 1)), ended_append h middle two, ended_append h m.front (placed (Hand by) path ∷ m.back), ended_append h m.front (placed Ended path ∷ m.back)));
-      apart = λ h. rw before (omega (arith, ended_append h m.front (placed (Hand by) path ∷ m.back), weigh_append h m.front (placed (Hand by) path ∷ m.back), ended_least h m.front, ended_least h m.back));
-      comes = λ h. rw (before, after) (omega (arith, weigh_append h middle two, weigh_append h m.front (placed (Hand by) path ∷ m.back), weigh_append h m.front (placed Ended path ∷ m.back)));
+      ended = λ h. rw (before, after) (omega (
+        arith,
+        free (h (2 * path + 1)),
+        ended_append h middle two,
+        ended_append h m.front (placed (Hand by) path ∷ m.back),
+        ended_append h m.front (placed Ended path ∷ m.back),
+      ));
+      apart = λ h. rw before (omega (
+        arith,
+        ended_append h m.front (placed (Hand by) path ∷ m.back),
+        weigh_append h m.front (placed (Hand by) path ∷ m.back),
+        ended_least h m.front,
+        ended_least h m.back,
+      ));
+      comes = λ h. rw (before, after) (omega (
+        arith,
+        weigh_append h middle two,
+        weigh_append h m.front (placed (Hand by) path ∷ m.back),
+        weigh_append h m.front (placed Ended path ∷ m.back),
+      ));
     }
 
 steps_good : (e : Event) (old new : Core) → IsGood old → Steps e old new → IsGood new
@@ -153,5 +220,7 @@ ended_is_all h (x ∷ xs) a = omega (arith, at x.place a.0, ended_is_all h xs a.
   at Ended e = refl
 
 -- once all boxes have ended, a left half has ended as often as its sibling
-pub ended_pairs : (workers room : ℕ) (es : List Event) (s : Core) → Reached workers room es s → AllEnded s.boxes → (p : ℕ) → 0 < p → ended_times (2 * p) s.boxes ≡ ended_times (2 * p + 1) s.boxes
-ended_pairs workers room es s r a p above = ended_is_all (one (2 * p)) s.boxes a ∙ (all_good workers room es s r).siblings p above ∙ sym (ended_is_all (one (2 * p + 1)) s.boxes a)
+pub ended_pairs : (workers room : ℕ) (es : List Event) (s : Core) → Reached workers room es s → AllEnded s.boxes →
+    (p : ℕ) → 0 < p → ended_times (2 * p) s.boxes ≡ ended_times (2 * p + 1) s.boxes
+ended_pairs workers room es s r a p above = ended_is_all (one (2 * p)) s.boxes a
+    ∙ (all_good workers room es s r).siblings p above ∙ sym (ended_is_all (one (2 * p + 1)) s.boxes a)

@@ -1,5 +1,6 @@
 -- The boxes of a run: in hands, in deques, and ended.
-use Rattle.std.specs.Prelude.{◌≡◌, ℕ, ◌+◌, ◌*◌, ◌/◌, ◌^◌, ◌<◌, ◌≤◌, List, [], ◌∷◌, ◌++◌, length, if◌then◌else◌, ◌==◌, ◌&&◌, Bool, true, false, ⊤}
+use Rattle.std.specs.Prelude.{◌≡◌, ℕ, ◌+◌, ◌*◌, ◌/◌, ◌^◌, ◌<◌, ◌≤◌, List, [], ◌∷◌, ◌++◌, length}
+use Rattle.std.specs.Prelude.{if◌then◌else◌, ◌==◌, ◌&&◌, Bool, true, false, ⊤}
 use Rattle.steal_core.specs.declared.place.Place.{Place}
 use Rattle.steal_core.specs.declared.place.Place.TheVariants.{Hand, Deque, Ended}
 use Rattle.steal_core.specs.declared.place.Placed.{Placed}

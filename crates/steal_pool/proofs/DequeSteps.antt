@@ -1,5 +1,6 @@
 -- Each kind of step keeps the rule.
-use Rattle.std.proofs.Common.{◌≡◌, ◌≢◌, ◌≤◌, ◌<◌, ℕ, zero, suc, ◌+◌, ◌-◌, Bool, true, false, true≢false, List, [], ◌∷◌, ◌++◌, length, set, sym, refl, ap, ◌∙◌, subst, All, inl, inr, arith}
+use Rattle.std.proofs.Common.{◌≡◌, ◌≢◌, ◌≤◌, ◌<◌, ℕ, zero, suc, ◌+◌, ◌-◌, Bool, true, false, true≢false, List, [], ◌∷◌}
+use Rattle.std.proofs.Common.{◌++◌, length, set, sym, refl, ap, ◌∙◌, subst, All, inl, inr, arith}
 use mathlib.Core.Option.{some, some-ne-none, some-injective}
 use lib.ListN.{get_elem?}
 use lib.Seq.{take-append_seam, drop-append_seam}
@@ -17,7 +18,8 @@ weigh_append h [] ys = omega arith
 weigh_append h (x ∷ xs) ys = omega (arith, weigh_append h xs ys)
 
 -- the total after a change of one pass
-total_set : (f : HandleView → ℕ) (views : List HandleView) (port : ℕ) (v w : HandleView) → get_elem? views port ≡ some v → weigh f (set views port w) + f v ≡ weigh f views + f w
+total_set : (f : HandleView → ℕ) (views : List HandleView) (port : ℕ) (v w : HandleView) →
+    get_elem? views port ≡ some v → weigh f (set views port w) + f v ≡ weigh f views + f w
 total_set f [] port v w at = absurd (some-ne-none v (sym at))
 total_set f (u ∷ us) zero v w at = let e : f u ≡ f v = ap f (some-injective u v at) in omega arith
 total_set f (u ∷ us) (suc port) v w at = omega (arith, total_set f us port v w at)
@@ -31,12 +33,20 @@ total_none : (f : HandleView → ℕ) (views : List HandleView) → ((j : ℕ) (
 total_none f [] all = refl
 total_none f (u ∷ us) all = omega (arith, all 0 u refl, total_none f us (λ j w at. all (suc j) w at))
 
-total_one : (f : HandleView → ℕ) (views : List HandleView) (port : ℕ) (v : HandleView) → get_elem? views port ≡ some v → ((j : ℕ) (u : HandleView) → get_elem? views j ≡ some u → j ≢ port → f u ≡ 0) → weigh f views ≡ f v
+total_one : (f : HandleView → ℕ) (views : List HandleView) (port : ℕ) (v : HandleView) → get_elem? views port ≡ some v →
+    ((j : ℕ) (u : HandleView) → get_elem? views j ≡ some u → j ≢ port → f u ≡ 0) → weigh f views ≡ f v
 total_one f [] port v at others = absurd (some-ne-none v (sym at))
-total_one f (u ∷ us) zero v at others = let e : f u ≡ f v = ap f (some-injective u v at) in omega (arith, total_none f us (λ j w there. others (suc j) w there (λ p. absurd (omega arith))))
-total_one f (u ∷ us) (suc port) v at others = omega (arith, others 0 u refl (λ p. absurd (omega arith)), total_one f us port v at (λ j w there other. others (suc j) w there (λ p. other (omega arith))))
+total_one f (u ∷ us) zero v at others = let e : f u ≡ f v = ap f (some-injective u v at) in
+    omega (arith, total_none f us (λ j w there. others (suc j) w there (λ p. absurd (omega arith))))
+total_one f (u ∷ us) (suc port) v at others = omega (
+  arith,
+  others 0 u refl (λ p. absurd (omega arith)),
+  total_one f us port v at (λ j w there other. others (suc j) w there (λ p. other (omega arith))),
+)
 
-fits_set : (owner : ℕ) (views : List HandleView) (port : ℕ) (w : HandleView) → ((j : ℕ) (u : HandleView) → get_elem? views j ≡ some u → Fits owner j u) → Fits owner port w → (j : ℕ) (u : HandleView) → get_elem? (set views port w) j ≡ some u → Fits owner j u
+fits_set : (owner : ℕ) (views : List HandleView) (port : ℕ) (w : HandleView) →
+    ((j : ℕ) (u : HandleView) → get_elem? views j ≡ some u → Fits owner j u) → Fits owner port w →
+    (j : ℕ) (u : HandleView) → get_elem? (set views port w) j ≡ some u → Fits owner j u
 fits_set owner views port w all mine j u at =
     elim (at_set views port j w u at) [
       | inl x ↦ subst (λ (y : ℕ × HandleView). Fits owner y.0 y.1) (λ i. (sym x.0 i, x.1 i)) mine
@@ -57,7 +67,9 @@ guest_none : (b : Bool) → b ≡ false → (n : ℕ) → owner_lent b n ≡ 0
 guest_none b e n = rw e refl
 
 -- no handle but the owner's counts passes that are out
-owns_alone : (views : List HandleView) (port owner : ℕ) → port ≡ owner → ((i : ℕ) (x : HandleView) → get_elem? views i ≡ some x → Fits owner i x) → (j : ℕ) (w : HandleView) → get_elem? views j ≡ some w → j ≢ port → owner_lent w.owns w.lent ≡ 0
+owns_alone : (views : List HandleView) (port owner : ℕ) → port ≡ owner →
+    ((i : ℕ) (x : HandleView) → get_elem? views i ≡ some x → Fits owner i x) → (j : ℕ) (w : HandleView) →
+    get_elem? views j ≡ some w → j ≢ port → owner_lent w.owns w.lent ≡ 0
 owns_alone views port owner here fits j w there far = by w.owns refl where
   by : (b : Bool) → w.owns ≡ b → owner_lent w.owns w.lent ≡ 0
   by true e = absurd (far ((fits j w there).0 e ∙ sym here))
@@ -78,7 +90,8 @@ module _ (P : Job → Type 0) where
     only (suc j) u at = absurd (some-ne-none u (sym at))
 
   -- a push by the owner keeps the protocol
-  pub protocol_pushes : (port : ℕ) (v : HandleView) (xs : List Job) → v.owns ≡ true → All P xs → Pushes (JobsConserved P) port v xs (λ w. w ≡ handle v.owns v.lent (v.pushed ++ xs) v.taken)
+  pub protocol_pushes : (port : ℕ) (v : HandleView) (xs : List Job) → v.owns ≡ true → All P xs →
+      Pushes (JobsConserved P) port v xs (λ w. w ≡ handle v.owns v.lent (v.pushed ++ xs) v.taken)
   protocol_pushes port v xs own new items views k at =
       let w : HandleView = handle v.owns v.lent (v.pushed ++ xs) v.taken in
       let here : port ≡ k.owner = (k.fits port v at).0 own in (
@@ -87,21 +100,45 @@ module _ (P : Job → Type 0) where
           owner = k.owner;
           visited_all = All-append P items xs k.visited_all new;
           fits = fits_set k.owner views port w k.fits ((λ _. here), λ other. absurd (other here));
-          same = λ h. omega (arith, k.same h, total_set (λ u. weigh h u.pushed) views port v w at, total_set (λ u. weigh h u.taken) views port v w at, weigh_append h v.pushed xs, weigh_append h items xs);
-          lent = omega (arith, k.lent, total_set (λ u. guest_lent u.owns u.lent) views port v w at, total_set (λ u. owner_lent u.owns u.lent) views port v w at);
+          same = λ h. omega (
+            arith,
+            k.same h,
+            total_set (λ u. weigh h u.pushed) views port v w at,
+            total_set (λ u. weigh h u.taken) views port v w at,
+            weigh_append h v.pushed xs,
+            weigh_append h items xs,
+          );
+          lent = omega (
+            arith,
+            k.lent,
+            total_set (λ u. guest_lent u.owns u.lent) views port v w at,
+            total_set (λ u. owner_lent u.owns u.lent) views port v w at,
+          );
         },
         refl,
       )
 
   -- a pass has taken xs
-  took : (port : ℕ) (v : HandleView) (xs items rest : List Job) (views : List HandleView) → (k : JobsConserved P items views) → get_elem? views port ≡ some v → All P rest → ((h : Job → ℕ) → weigh h items ≡ weigh h xs + weigh h rest)
+  took : (port : ℕ) (v : HandleView) (xs items rest : List Job) (views : List HandleView) →
+      (k : JobsConserved P items views) → get_elem? views port ≡ some v → All P rest →
+      ((h : Job → ℕ) → weigh h items ≡ weigh h xs + weigh h rest)
       → (v.owns ≡ false → 0 < v.lent) → JobsConserved P rest (set views port (handle v.owns v.lent v.pushed (v.taken ++ xs)))
   took port v xs items rest views k at all split out =
       let w : HandleView = handle v.owns v.lent v.pushed (v.taken ++ xs) in record {
         owner = k.owner;
         visited_all = all;
-        fits = fits_set k.owner views port w k.fits ((k.fits port v at).0, λ other. (((k.fits port v at).1 other).0, λ none. absurd (mine v.owns refl other none)));
-        same = λ h. omega (arith, k.same h, split h, total_set (λ u. weigh h u.pushed) views port v w at, total_set (λ u. weigh h u.taken) views port v w at, weigh_append h v.taken xs);
+        fits = fits_set k.owner views port w k.fits (
+          (k.fits port v at).0,
+          λ other. (((k.fits port v at).1 other).0, λ none. absurd (mine v.owns refl other none)),
+        );
+        same = λ h. omega (
+          arith,
+          k.same h,
+          split h,
+          total_set (λ u. weigh h u.pushed) views port v w at,
+          total_set (λ u. weigh h u.taken) views port v w at,
+          weigh_append h v.taken xs,
+        );
         lent = omega (arith, k.lent, total_set (λ u. guest_lent u.owns u.lent) views port v w at, total_set (λ u. owner_lent u.owns u.lent) views port v w at);
       }
     where
@@ -110,15 +147,27 @@ module _ (P : Job → Type 0) where
       mine false e other none = absurd (omega (arith, out e, none))
 
   -- a handle that may take does, and the protocol holds
-  pub protocol_takes : (port : ℕ) (v : HandleView) → (v.owns ≡ false → 0 < v.lent) → Takes (JobsConserved P) port v 1 (λ xs w. (w ≡ handle v.owns v.lent v.pushed (v.taken ++ xs)) × All P xs)
-  protocol_takes port v out xs items views some_box few k at = (handle v.owns v.lent v.pushed (v.taken ++ xs), took port v xs (xs ++ items) items views k at (right xs items k.visited_all) (λ h. weigh_append h xs items) out, (refl, left xs items k.visited_all))
+  pub protocol_takes : (port : ℕ) (v : HandleView) → (v.owns ≡ false → 0 < v.lent) →
+      Takes (JobsConserved P) port v 1 (λ xs w. (w ≡ handle v.owns v.lent v.pushed (v.taken ++ xs)) × All P xs)
+  protocol_takes port v out xs items views some_box few k at = (
+    handle v.owns v.lent v.pushed (v.taken ++ xs),
+    took port v xs (xs ++ items) items views k at (right xs items k.visited_all) (λ h. weigh_append h xs items) out,
+    (refl, left xs items k.visited_all),
+  )
 
   -- a handle that may take protocol_pops, and the protocol holds
-  pub protocol_pops : (port : ℕ) (v : HandleView) → (v.owns ≡ false → 0 < v.lent) → Pops (JobsConserved P) port v (λ xs w. (w ≡ handle v.owns v.lent v.pushed (v.taken ++ xs)) × All P xs)
-  protocol_pops port v out x items views k at = (handle v.owns v.lent v.pushed (v.taken ++ x ∷ []), took port v (x ∷ []) (items ++ x ∷ []) items views k at (left items (x ∷ []) k.visited_all) (λ h. omega (arith, weigh_append h items (x ∷ []))) out, (refl, right items (x ∷ []) k.visited_all))
+  pub protocol_pops : (port : ℕ) (v : HandleView) → (v.owns ≡ false → 0 < v.lent) →
+      Pops (JobsConserved P) port v (λ xs w. (w ≡ handle v.owns v.lent v.pushed (v.taken ++ xs)) × All P xs)
+  protocol_pops port v out x items views k at = (
+    handle v.owns v.lent v.pushed (v.taken ++ x ∷ []),
+    took port v (x ∷ []) (items ++ x ∷ []) items views k at (left items (x ∷ []) k.visited_all)
+        (λ h. omega (arith, weigh_append h items (x ∷ []))) out,
+    (refl, right items (x ∷ []) k.visited_all),
+  )
 
   -- a pass is made for a stealer
-  pub protocol_lends : (port : ℕ) (v : HandleView) → v.owns ≡ true → Forks (JobsConserved P) port v (handle v.owns (v.lent + 1) v.pushed v.taken) (handle false 1 [] [])
+  pub protocol_lends : (port : ℕ) (v : HandleView) → v.owns ≡ true →
+      Forks (JobsConserved P) port v (handle v.owns (v.lent + 1) v.pushed v.taken) (handle false 1 [] [])
   protocol_lends port v own items views k at =
       let w : HandleView = handle v.owns (v.lent + 1) v.pushed v.taken in
       let new : HandleView = handle false 1 [] [] in
@@ -129,14 +178,37 @@ module _ (P : Job → Type 0) where
         visited_all = k.visited_all;
         fits = λ j u there. elim (at_snoc vs new u j there) [
           | inl x ↦ old j u x
-          | inr x ↦ ((λ p. absurd (true≢false (sym (ap (λ (y : HandleView). y.owns) x ∙ p)))), λ other. (ap (λ (y : HandleView). y.pushed) (sym x), λ _. ap (λ (y : HandleView). y.taken) (sym x)))
+          | inr x ↦ (
+            (λ p. absurd (true≢false (sym (ap (λ (y : HandleView). y.owns) x ∙ p)))),
+            λ other. (ap (λ (y : HandleView). y.pushed) (sym x), λ _. ap (λ (y : HandleView). y.taken) (sym x)),
+          )
         ];
-        same = λ h. omega (arith, k.same h, total_set (λ u. weigh h u.pushed) views port v w at, total_set (λ u. weigh h u.taken) views port v w at, weigh_append (λ u. weigh h u.pushed) vs (new ∷ []), weigh_append (λ u. weigh h u.taken) vs (new ∷ []));
-        lent = omega (arith, k.lent, total_set (λ u. guest_lent u.owns u.lent) views port v w at, total_set (λ u. owner_lent u.owns u.lent) views port v w at, weigh_append (λ u. guest_lent u.owns u.lent) vs (new ∷ []), weigh_append (λ u. owner_lent u.owns u.lent) vs (new ∷ []), owner_all v.owns own v.lent, owner_none v.owns own v.lent, owner_all v.owns own (v.lent + 1), owner_none v.owns own (v.lent + 1));
+        same = λ h. omega (
+          arith,
+          k.same h,
+          total_set (λ u. weigh h u.pushed) views port v w at,
+          total_set (λ u. weigh h u.taken) views port v w at,
+          weigh_append (λ u. weigh h u.pushed) vs (new ∷ []),
+          weigh_append (λ u. weigh h u.taken) vs (new ∷ []),
+        );
+        lent = omega (
+          arith,
+          k.lent,
+          total_set (λ u. guest_lent u.owns u.lent) views port v w at,
+          total_set (λ u. owner_lent u.owns u.lent) views port v w at,
+          weigh_append (λ u. guest_lent u.owns u.lent) vs (new ∷ []),
+          weigh_append (λ u. owner_lent u.owns u.lent) vs (new ∷ []),
+          owner_all v.owns own v.lent,
+          owner_none v.owns own v.lent,
+          owner_all v.owns own (v.lent + 1),
+          owner_none v.owns own (v.lent + 1),
+        );
       }
 
   -- a pass comes back
-  pub protocol_takes_back : (port : ℕ) (v : HandleView) (other : ℕ) (u : HandleView) → v.owns ≡ true → Merges (JobsConserved P) port v other u (handle v.owns (v.lent - u.lent) v.pushed (v.taken ++ u.taken)) (handle false 0 [] [])
+  pub protocol_takes_back : (port : ℕ) (v : HandleView) (other : ℕ) (u : HandleView) → v.owns ≡ true →
+      Merges (JobsConserved P) port v other u (handle v.owns (v.lent - u.lent) v.pushed (v.taken ++ u.taken))
+      (handle false 0 [] [])
   protocol_takes_back port v other u own items views k at two there =
       let both : HandleView = handle v.owns (v.lent - u.lent) v.pushed (v.taken ++ u.taken) in
       let spent : HandleView = handle false 0 [] [] in
@@ -188,7 +260,9 @@ module _ (P : Job → Type 0) where
         arith,
         k.same h,
         total_one (λ u. weigh h u.pushed) views port v at (λ j u there far. ap (weigh h) ((k.fits j u there).1 (λ p. far (p ∙ sym here))).0),
-        total_one (λ u. weigh h u.taken) views port v at (λ j u there far. ap (weigh h) (((k.fits j u there).1 (λ p. far (p ∙ sym here))).1 (none j u there (λ p. far ((k.fits j u there).0 p ∙ sym here)) (away j u there k.owner here k.fits k.lent)))),
+        total_one (λ u. weigh h u.taken) views port v at
+            (λ j u there far. ap (weigh h) (((k.fits j u there).1 (λ p. far (p ∙ sym here))).1
+            (none j u there (λ p. far ((k.fits j u there).0 p ∙ sym here)) (away j u there k.owner here k.fits k.lent)))),
       )
     where
       guest : (u : HandleView) → (u.owns ≡ true → ⊥) → guest_lent u.owns u.lent ≡ u.lent
@@ -200,8 +274,17 @@ module _ (P : Job → Type 0) where
       own_zero : owner_lent v.owns v.lent ≡ 0
       own_zero = rw (own, back) refl
 
-      away : (j : ℕ) (u : HandleView) → get_elem? views j ≡ some u → (owner : ℕ) → port ≡ owner → ((i : ℕ) (x : HandleView) → get_elem? views i ≡ some x → Fits owner i x) → weigh (λ w. guest_lent w.owns w.lent) views ≡ weigh (λ w. owner_lent w.owns w.lent) views → guest_lent u.owns u.lent ≡ 0
-      away j u there owner here fits lent = omega (arith, lent, own_zero, total_at (λ w. guest_lent w.owns w.lent) views j u there, total_one (λ w. owner_lent w.owns w.lent) views port v at (owns_alone views port owner here fits))
+      away : (j : ℕ) (u : HandleView) → get_elem? views j ≡ some u → (owner : ℕ) → port ≡ owner →
+          ((i : ℕ) (x : HandleView) → get_elem? views i ≡ some x → Fits owner i x) →
+          weigh (λ w. guest_lent w.owns w.lent) views ≡ weigh (λ w. owner_lent w.owns w.lent) views →
+          guest_lent u.owns u.lent ≡ 0
+      away j u there owner here fits lent = omega (
+        arith,
+        lent,
+        own_zero,
+        total_at (λ w. guest_lent w.owns w.lent) views j u there,
+        total_one (λ w. owner_lent w.owns w.lent) views port v at (owns_alone views port owner here fits),
+      )
 
       none : (j : ℕ) (u : HandleView) → get_elem? views j ≡ some u → (u.owns ≡ true → ⊥) → guest_lent u.owns u.lent ≡ 0 → u.lent ≡ 0
       none j u there far e = omega (arith, guest u far, e)

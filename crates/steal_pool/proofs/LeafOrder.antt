@@ -90,33 +90,37 @@ one_more a x = omega arith
 
 -- how many leading zeros the path of a box with this depth has
 pub zeros_are : (j : Job) → Fits j → halvings_left j.cell + 27 ≡ leading_zeros w64 j.cell.path
-zeros_are j f = leading_unique 64 j.cell.path (halvings_left j.cell + 27) (37 - halvings_left j.cell) (omega (arith, f.few)) small (omega (arith, twice, large)) where
-  whole : 2 ^ (37 - halvings_left j.cell) * 2 ^ halvings_left j.cell ≡ 2 ^ 37
-  whole = sym (pow-add 2 (37 - halvings_left j.cell) (halvings_left j.cell)) ∙ ap (λ n. 2 ^ n) (sum (halvings_left j.cell) f.few) where
-    sum : (n : ℕ) → n ≤ 36 → 37 - n + n ≡ 37
-    sum n few = omega (arith, few)
+zeros_are j f = leading_unique 64 j.cell.path (halvings_left j.cell + 27) (37 - halvings_left j.cell)
+    (omega (arith, f.few)) small (omega (arith, twice, large)) where
+      whole : 2 ^ (37 - halvings_left j.cell) * 2 ^ halvings_left j.cell ≡ 2 ^ 37
+      whole = sym (pow-add 2 (37 - halvings_left j.cell) (halvings_left j.cell)) ∙ ap (λ n. 2 ^ n) (sum (halvings_left j.cell) f.few) where
+        sum : (n : ℕ) → n ≤ 36 → 37 - n + n ≡ 37
+        sum n few = omega (arith, few)
 
-  half : 2 ^ (36 - halvings_left j.cell) * 2 ^ halvings_left j.cell ≡ 2 ^ 36
-  half = sym (pow-add 2 (36 - halvings_left j.cell) (halvings_left j.cell)) ∙ ap (λ n. 2 ^ n) (sum (halvings_left j.cell) f.few) where
-    sum : (n : ℕ) → n ≤ 36 → 36 - n + n ≡ 36
-    sum n few = omega (arith, few)
+      half : 2 ^ (36 - halvings_left j.cell) * 2 ^ halvings_left j.cell ≡ 2 ^ 36
+      half = sym (pow-add 2 (36 - halvings_left j.cell) (halvings_left j.cell)) ∙ ap (λ n. 2 ^ n) (sum (halvings_left j.cell) f.few) where
+        sum : (n : ℕ) → n ≤ 36 → 36 - n + n ≡ 36
+        sum n few = omega (arith, few)
 
-  twice : 2 ^ (37 - halvings_left j.cell) ≡ 2 * 2 ^ (36 - halvings_left j.cell)
-  twice = ap (λ n. 2 ^ n) (next (halvings_left j.cell) f.few) ∙ pow-succ' 2 (36 - halvings_left j.cell) where
-    next : (n : ℕ) → n ≤ 36 → 37 - n ≡ suc (36 - n)
-    next n few = omega (arith, few)
+      twice : 2 ^ (37 - halvings_left j.cell) ≡ 2 * 2 ^ (36 - halvings_left j.cell)
+      twice = ap (λ n. 2 ^ n) (next (halvings_left j.cell) f.few) ∙ pow-succ' 2 (36 - halvings_left j.cell) where
+        next : (n : ℕ) → n ≤ 36 → 37 - n ≡ suc (36 - n)
+        next n few = omega (arith, few)
 
-  small : j.cell.path < 2 ^ (37 - halvings_left j.cell)
-  small = lt_of_mul-lt-mul_right (2 ^ halvings_left j.cell) (omega (arith, whole, f.below, pow_pos (halvings_left j.cell)))
+      small : j.cell.path < 2 ^ (37 - halvings_left j.cell)
+      small = lt_of_mul-lt-mul_right (2 ^ halvings_left j.cell) (omega (arith, whole, f.below, pow_pos (halvings_left j.cell)))
 
-  large : 2 ^ (36 - halvings_left j.cell) < j.cell.path + 1
-  large = lt_of_mul-lt-mul_right (2 ^ halvings_left j.cell) (omega (arith, half, f.from, one_more j.cell.path (2 ^ halvings_left j.cell), pow_pos (halvings_left j.cell)))
+      large : 2 ^ (36 - halvings_left j.cell) < j.cell.path + 1
+      large = lt_of_mul-lt-mul_right (2 ^ halvings_left j.cell)
+          (omega (arith, half, f.from, one_more j.cell.path (2 ^ halvings_left j.cell), pow_pos (halvings_left j.cell)))
 
 -- the place by the path alone
 pub place_is : (j : Job) → Fits j → tree_key j.cell.path ≡ base j * 2 ^ 27
-place_is j f = ap (λ n. j.cell.path * 2 ^ n) (sym (zeros_are j f)) ∙ ap (λ x. j.cell.path * x) (pow-add 2 (halvings_left j.cell) 27) ∙ assoc j.cell.path (2 ^ halvings_left j.cell) (2 ^ 27) where
-  assoc : (a b c : ℕ) → a * (b * c) ≡ a * b * c
-  assoc a b c = omega arith
+place_is j f = ap (λ n. j.cell.path * 2 ^ n) (sym (zeros_are j f))
+    ∙ ap (λ x. j.cell.path * x) (pow-add 2 (halvings_left j.cell) 27)
+    ∙ assoc j.cell.path (2 ^ halvings_left j.cell) (2 ^ 27) where
+      assoc : (a b c : ℕ) → a * (b * c) ≡ a * b * c
+      assoc a b c = omega arith
 
 -- these jobs have ascending places, from one bound to another
 abbrev pub Within : ℕ → ℕ → List Job → Type 0
@@ -133,15 +137,34 @@ within_append lo mid hi (x ∷ xs) ys a b = (a.0, a.1, within_append (base x + 1
 
 module _ (shape : Job → Shape) (valid : Job → Type 0) where
   -- the leaves of a job are within its place
-  pub leaves_within : (d : ℕ) (j : Job) → halvings_left j.cell ≡ d → Splits shape valid → valid j → Fits j → (s : Shape) → shape j ≡ s → Within (base j) (base j + 2 ^ halvings_left j.cell) (leaves_among shape (visited shape j))
+  pub leaves_within : (d : ℕ) (j : Job) → halvings_left j.cell ≡ d → Splits shape valid → valid j → Fits j →
+      (s : Shape) → shape j ≡ s → Within (base j) (base j + 2 ^ halvings_left j.cell)
+      (leaves_among shape (visited shape j))
   leaves_within d j at h v f leafed is =
       subst (λ js. Within (base j) (base j + 2 ^ halvings_left j.cell) (leaves_among shape js)) (sym (leaf_visits shape (halvings_left j.cell) j is))
-      (subst (λ s. Within (base j) (base j + 2 ^ halvings_left j.cell) (if_leafed j s ++ [])) (sym is) (omega arith, f, omega (arith, pow_pos (halvings_left j.cell))))
-  leaves_within d j at h v f passed is = subst (λ js. Within (base j) (base j + 2 ^ halvings_left j.cell) (leaves_among shape js)) (sym (passed_visits shape (halvings_left j.cell) j is)) (subst (λ s. Within (base j) (base j + 2 ^ halvings_left j.cell) (if_leafed j s ++ [])) (sym is) (omega arith))
+      (subst (λ s. Within (base j) (base j + 2 ^ halvings_left j.cell) (if_leafed j s ++ [])) (sym is) (
+        omega arith,
+        f,
+        omega (arith, pow_pos (halvings_left j.cell)),
+      ))
+  leaves_within d j at h v f passed is = subst (λ js. Within (base j) (base j + 2 ^ halvings_left j.cell)
+      (leaves_among shape js)) (sym (passed_visits shape (halvings_left j.cell) j is))
+      (subst (λ s. Within (base j) (base j + 2 ^ halvings_left j.cell) (if_leafed j s ++ [])) (sym is) (omega arith))
   leaves_within zero j at h v f (halved l r) is = absurd (omega (arith, at, low_less j.cell l.cell r.cell (h j l r v is).1))
   leaves_within (suc d) j at h v f (halved l r) is =
       let k = h j l r v is in
       let both = are_halves j l r k.1 in
       let wl = leaves_within d l (omega (arith, at, both.low_less)) h k.0.0 (fits_low j l r k.1 f) (shape l) refl in
       let wr = leaves_within d r (omega (arith, at, both.high_less)) h k.0.1 (fits_high j l r k.1 f) (shape r) refl in
-      subst (λ js. Within (base j) (base j + 2 ^ halvings_left j.cell) (leaves_among shape js)) (sym (halved_visits shape (halvings_left j.cell) j l r refl is both.low_less both.high_less)) (subst (λ s. Within (base j) (base j + 2 ^ halvings_left j.cell) (if_leafed j s ++ leaves_among shape (visited shape l ++ visited shape r))) (sym is) (subst (λ js. Within (base j) (base j + 2 ^ halvings_left j.cell) js) (sym (leaves_append shape (visited shape l) (visited shape r))) (within_append (base j) (base r) (base j + 2 ^ halvings_left j.cell) (leaves_among shape (visited shape l)) (leaves_among shape (visited shape r)) (subst (λ n. Within n (base r) (leaves_among shape (visited shape l))) both.low_base (subst (λ n. Within (base l) n (leaves_among shape (visited shape l))) (omega (arith, both.low_base, both.low_size, both.high_base, both.high_size)) wl)) (subst (λ n. Within (base r) n (leaves_among shape (visited shape r))) (omega (arith, both.high_base, both.high_size)) wr))))
+      subst (λ js. Within (base j) (base j + 2 ^ halvings_left j.cell) (leaves_among shape js))
+      (sym (halved_visits shape (halvings_left j.cell) j l r refl is both.low_less both.high_less))
+      (subst (λ s. Within (base j) (base j + 2 ^ halvings_left j.cell)
+      (if_leafed j s ++ leaves_among shape (visited shape l ++ visited shape r))) (sym is)
+      (subst (λ js. Within (base j) (base j + 2 ^ halvings_left j.cell) js)
+      (sym (leaves_append shape (visited shape l) (visited shape r)))
+      (within_append (base j) (base r) (base j + 2 ^ halvings_left j.cell) (leaves_among shape (visited shape l))
+      (leaves_among shape (visited shape r)) (subst (λ n. Within n (base r) (leaves_among shape (visited shape l)))
+      both.low_base (subst (λ n. Within (base l) n (leaves_among shape (visited shape l)))
+      (omega (arith, both.low_base, both.low_size, both.high_base, both.high_size)) wl))
+      (subst (λ n. Within (base r) n (leaves_among shape (visited shape r)))
+      (omega (arith, both.high_base, both.high_size)) wr))))

@@ -1,5 +1,6 @@
 -- The items of a run's parts, parts_merge_to_leaves, answer the leaves of the visited tree in order.
-use Rattle.std.proofs.Common.{◌≡◌, ◌⊎◌, ℕ, zero, suc, ◌+◌, ◌*◌, ◌^◌, ◌<◌, ◌≤◌, All, List, [], ◌∷◌, ◌++◌, length, map, slice_index_or, refl, sym, ap, ap₂, ◌∙◌, subst, inl, inr, arith}
+use Rattle.std.proofs.Common.{◌≡◌, ◌⊎◌, ℕ, zero, suc, ◌+◌, ◌*◌, ◌^◌, ◌<◌, ◌≤◌, All, List, [], ◌∷◌, ◌++◌, length, map}
+use Rattle.std.proofs.Common.{slice_index_or, refl, sym, ap, ap₂, ◌∙◌, subst, inl, inr, arith}
 use Rattle.std.proofs.lemmas.Bool.Decides.{eqb_tells}
 use Rattle.std.proofs.lemmas.Nat.{pow_pos}
 use Rattle.std.specs.List.{sum_by, fold}
@@ -53,27 +54,44 @@ module _ (shape : Job → Shape) (valid : Job → Type 0) where
     at passed = inl refl
 
   -- the halves of a visited box are visited
-  closed : (d : ℕ) (j : Job) → halvings_left j.cell ≡ d → Splits shape valid → valid j → (s : Shape) → shape j ≡ s → (x a b : Job) → In x (visited shape j) → shape x ≡ halved a b → In a (visited shape j) × In b (visited shape j)
-  closed d j at h v leafed is x a b i e = elim (subst (In x) (leaf_visits shape (halvings_left j.cell) j is) i) [ inl same ↦ absurd (no_leaf (shape x) a b (ap shape same ∙ is) e) | inr none ↦ absurd none ]
-  closed d j at h v passed is x a b i e = elim (subst (In x) (passed_visits shape (halvings_left j.cell) j is) i) [ inl same ↦ absurd (no_passed (shape x) a b (ap shape same ∙ is) e) | inr none ↦ absurd none ]
+  closed : (d : ℕ) (j : Job) → halvings_left j.cell ≡ d → Splits shape valid → valid j → (s : Shape) → shape j ≡ s →
+      (x a b : Job) → In x (visited shape j) → shape x ≡ halved a b → In a (visited shape j) × In b (visited shape j)
+  closed d j at h v leafed is x a b i e = elim (subst (In x) (leaf_visits shape (halvings_left j.cell) j is) i)
+      [ inl same ↦ absurd (no_leaf (shape x) a b (ap shape same ∙ is) e) | inr none ↦ absurd none ]
+  closed d j at h v passed is x a b i e = elim (subst (In x) (passed_visits shape (halvings_left j.cell) j is) i)
+      [ inl same ↦ absurd (no_passed (shape x) a b (ap shape same ∙ is) e) | inr none ↦ absurd none ]
   closed zero j at h v (halved l r) is x a b i e = absurd (omega (arith, at, low_less j.cell l.cell r.cell (h j l r v is).1))
   closed (suc d) j at h v (halved l r) is x a b i e =
       let k = h j l r v is in
       let low = low_less j.cell l.cell r.cell k.1 in
       let high = high_less j.cell l.cell r.cell k.1 in
       let all = halved_visits shape (halvings_left j.cell) j l r refl is low high in
-      let both = found low high (λ one'. closed d l (omega (arith, at, low)) h k.0.0 (shape l) refl x a b one' e) (λ two. closed d r (omega (arith, at, high)) h k.0.1 (shape r) refl x a b two e) (subst (In x) all i) in (subst (In a) (sym all) (inr both.0), subst (In b) (sym all) (inr both.1))
+      let both = found low high (λ one'. closed d l (omega (arith, at, low)) h k.0.0 (shape l) refl x a b one' e)
+      (λ two. closed d r (omega (arith, at, high)) h k.0.1 (shape r) refl x a b two e) (subst (In x) all i) in
+      (subst (In a) (sym all) (inr both.0), subst (In b) (sym all) (inr both.1))
     where
-      found : halvings_left l.cell + 1 ≡ halvings_left j.cell → halvings_left r.cell + 1 ≡ halvings_left j.cell → (In x (visited shape l) → In a (visited shape l) × In b (visited shape l)) → (In x (visited shape r) → In a (visited shape r) × In b (visited shape r)) → (x ≡ j) ⊎ In x (visited shape l ++ visited shape r) → In a (visited shape l ++ visited shape r) × In b (visited shape l ++ visited shape r)
+      found : halvings_left l.cell + 1 ≡ halvings_left j.cell → halvings_left r.cell + 1 ≡ halvings_left j.cell →
+          (In x (visited shape l) → In a (visited shape l) × In b (visited shape l)) →
+          (In x (visited shape r) → In a (visited shape r) × In b (visited shape r)) →
+          (x ≡ j) ⊎ In x (visited shape l ++ visited shape r) →
+          In a (visited shape l ++ visited shape r) × In b (visited shape l ++ visited shape r)
       found low high in_low in_high (inl same) =
           let same_low : a ≡ l = ap (low_in j) (sym e ∙ ap shape same ∙ is) in
           let same_high : b ≡ r = ap (high_in j) (sym e ∙ ap shape same ∙ is) in (
-            subst (λ y. In y (visited shape l ++ visited shape r)) (sym same_low) (in_append_left l (visited shape l) (visited shape r) (first_visit (halvings_left l.cell) l)),
-            subst (λ y. In y (visited shape l ++ visited shape r)) (sym same_high) (in_append_right r (visited shape l) (visited shape r) (first_visit (halvings_left r.cell) r)),
+            subst (λ y. In y (visited shape l ++ visited shape r)) (sym same_low)
+                (in_append_left l (visited shape l) (visited shape r) (first_visit (halvings_left l.cell) l)),
+            subst (λ y. In y (visited shape l ++ visited shape r)) (sym same_high)
+                (in_append_right r (visited shape l) (visited shape r) (first_visit (halvings_left r.cell) r)),
           )
       found low high in_low in_high (inr more) = elim (in_append_out x (visited shape l) (visited shape r) more) [
-        | inl one' ↦ let r' = in_low one' in (in_append_left a (visited shape l) (visited shape r) r'.0, in_append_left b (visited shape l) (visited shape r) r'.1)
-        | inr two ↦ let r' = in_high two in (in_append_right a (visited shape l) (visited shape r) r'.0, in_append_right b (visited shape l) (visited shape r) r'.1)
+        | inl one' ↦ let r' = in_low one' in (
+          in_append_left a (visited shape l) (visited shape r) r'.0,
+          in_append_left b (visited shape l) (visited shape r) r'.1,
+        )
+        | inr two ↦ let r' = in_high two in (
+          in_append_right a (visited shape l) (visited shape r) r'.0,
+          in_append_right b (visited shape l) (visited shape r) r'.1,
+        )
       ]
 
   stands : (root : Job) → Splits shape valid → valid root → (x : Job) → IsVisited shape root x → In x (visited shape root)
@@ -113,14 +131,19 @@ job_place : (lo hi q : ℕ) (js : List Job) → Within lo hi js → 0 < weigh (a
 job_place lo hi q [] w some = absurd (omega (arith, some))
 job_place lo hi q (j ∷ js) w some = elim (eqb_tells j.cell.path q) [
   | inl e ↦ subst (λ n. lo * 2 ^ 27 ≤ n) (sym (place_is j w.1) ∙ ap tree_key e.1) (times_mono lo (base j) (2 ^ 27) w.0)
-  | inr n ↦ omega (arith, times_mono lo (base j + 1) (2 ^ 27) (omega (arith, w.0)), job_place (base j + 1) hi q js w.2 (omega (arith, some, one_other q j.cell.path n.1)))
+  | inr n ↦ omega (
+    arith,
+    times_mono lo (base j + 1) (2 ^ 27) (omega (arith, w.0)),
+    job_place (base j + 1) hi q js w.2 (omega (arith, some, one_other q j.cell.path n.1)),
+  )
 ]
 
 cancel : (a b : ℕ) → a * 2 ^ 27 ≡ b * 2 ^ 27 → a ≡ b
 cancel a b e = omega (arith, e)
 
 module _ {I : Type 0} where
-  part_place : (n q : ℕ) (ps : List (Part I)) → ((i : ℕ) (d : Part I) → i < length ps → n ≤ tree_key (slice_index_or ps i d).path) → 0 < weigh (by_path (one q)) ps → n ≤ tree_key q
+  part_place : (n q : ℕ) (ps : List (Part I)) → ((i : ℕ) (d : Part I) → i < length ps →
+      n ≤ tree_key (slice_index_or ps i d).path) → 0 < weigh (by_path (one q)) ps → n ≤ tree_key q
   part_place n q [] least some = absurd (omega (arith, some))
   part_place n q (p ∷ ps) least some = elim (eqb_tells p.path q) [
     | inl e ↦ subst (λ m. n ≤ tree_key m) e.1 (least 0 p (omega arith))
@@ -133,19 +156,37 @@ module _ {I : Type 0} where
   SamePaths (p ∷ ps) [] = ⊥
   SamePaths (p ∷ ps) (j ∷ js) = (p.path ≡ j.cell.path) × SamePaths ps js
 
-  ordered : (lo hi : ℕ) (ps : List (Part I)) (js : List Job) → ((g : ℕ → ℕ) → weigh (by_path g) ps ≡ weigh (at_job g) js) → IsNonDecreasingBy (λ p. tree_key p.path) ps → Within lo hi js → SamePaths ps js
+  ordered : (lo hi : ℕ) (ps : List (Part I)) (js : List Job) →
+      ((g : ℕ → ℕ) → weigh (by_path g) ps ≡ weigh (at_job g) js) → IsNonDecreasingBy (λ p. tree_key p.path) ps →
+      Within lo hi js → SamePaths ps js
   ordered lo hi [] [] same rises w = tt
   ordered lo hi [] (j ∷ js) same rises w = absurd (omega (arith, same (λ _. 1)))
   ordered lo hi (p ∷ ps) [] same rises w = absurd (omega (arith, same (λ _. 1)))
-  ordered lo hi (p ∷ ps) (j ∷ js) same rises w = (first, ordered (base j + 1) hi ps js (λ g. omega (arith, same g, ap g first)) (λ i k d le l. rises (suc i) (suc k) d (omega (arith, le)) (omega (arith, l))) w.2) where
+  ordered lo hi (p ∷ ps) (j ∷ js) same rises w = (
+    first,
+    ordered (base j + 1) hi ps js (λ g. omega (arith, same g, ap g first))
+        (λ i k d le l. rises (suc i) (suc k) d (omega (arith, le)) (omega (arith, l))) w.2,
+  ) where
     first : p.path ≡ j.cell.path
     first = elim (eqb_tells p.path j.cell.path) [
       | inl e ↦ e.1
       | inr n ↦ absurd (
           omega (
             arith,
-            job_place (base j + 1) hi p.path js w.2 (omega (arith, same (one p.path), one_same p.path p.path refl, one_other p.path j.cell.path (λ e. n.1 (sym e)))),
-            part_place (tree_key p.path) j.cell.path ps (λ i d l. rises 0 (suc i) d (omega arith) (omega (arith, l))) (omega (arith, same (one j.cell.path), one_same j.cell.path j.cell.path refl, one_other j.cell.path p.path n.1)),
+            job_place (base j + 1) hi p.path js w.2
+                (omega (
+                  arith,
+                  same (one p.path),
+                  one_same p.path p.path refl,
+                  one_other p.path j.cell.path (λ e. n.1 (sym e)),
+                )),
+            part_place (tree_key p.path) j.cell.path ps (λ i d l. rises 0 (suc i) d (omega arith) (omega (arith, l)))
+                (omega (
+                  arith,
+                  same (one j.cell.path),
+                  one_same j.cell.path j.cell.path refl,
+                  one_other j.cell.path p.path n.1,
+                )),
             place_is j w.1,
             one_more (base j) (2 ^ 27),
             pow_pos 27,
@@ -153,7 +194,11 @@ module _ {I : Type 0} where
           )
     ]
 
-  answered : (shape : Job → Shape) (root : Job) (item : Job → I → Type 0) (lo hi : ℕ) (all : List Job) → Within lo hi all → ((x : Job) → IsVisited shape root x → shape x ≡ leafed → In x all) → (ps : List (Part I)) (js : List Job) → ((x : Job) → In x js → In x all) → All (IsPart (IsVisited shape root) (AnswersLeaf shape item)) ps → SamePaths ps js → EachAnswers item js (map (λ (p : Part I). p.item) ps)
+  answered : (shape : Job → Shape) (root : Job) (item : Job → I → Type 0) (lo hi : ℕ) (all : List Job) →
+      Within lo hi all → ((x : Job) → IsVisited shape root x → shape x ≡ leafed → In x all) →
+      (ps : List (Part I)) (js : List Job) → ((x : Job) → In x js → In x all) →
+      All (IsPart (IsVisited shape root) (AnswersLeaf shape item)) ps → SamePaths ps js →
+      EachAnswers item js (map (λ (p : Part I). p.item) ps)
   answered shape root item lo hi all w found [] [] sub are e = tt
   answered shape root item lo hi all w found [] (j ∷ js) sub are e = absurd e
   answered shape root item lo hi all w found (p ∷ ps) [] sub are e = absurd e
@@ -162,7 +207,9 @@ module _ {I : Type 0} where
       let here : In part.job all = found part.job part.is_visited part.item.0 in
       let there : In j all = sub j (inl refl) in
       let path : part.job.cell.path ≡ j.cell.path = sym part.path ∙ e.0 in
-      let place : base part.job * 2 ^ 27 ≡ base j * 2 ^ 27 = sym (place_is part.job (inside_fits lo hi part.job all w here)) ∙ ap tree_key path ∙ place_is j (inside_fits lo hi j all w there) in
+      let place : base part.job * 2 ^ 27 ≡ base j * 2 ^ 27 =
+      sym (place_is part.job (inside_fits lo hi part.job all w here)) ∙ ap tree_key path
+      ∙ place_is j (inside_fits lo hi j all w there) in
       let same : part.job ≡ j = unique lo hi part.job j all w here there (cancel (base part.job) (base j) place) in (
         subst (λ x. item x p.item) same part.item.1,
         answered shape root item lo hi all w found ps js (λ x i. sub x (inr i)) (λ k d l. are (suc k) d (omega (arith, l))) e.1,
@@ -180,7 +227,9 @@ module _ {I : Type 0} where
     start n = omega arith
 
   -- the parts_merge_to_leaves items of a run answer the leaves, in their order
-  pub parts_merge_to_leaves : (shape : Job → Shape) (item : Job → I → Type 0) (valid : Job → Type 0) → Splits shape valid → (root : Job) → valid root → Fits root → (parts : List (Part I)) (items : List I) → AreParts shape item root parts → IsMerged parts items → EachAnswers item (leaves shape root) items
+  pub parts_merge_to_leaves : (shape : Job → Shape) (item : Job → I → Type 0) (valid : Job → Type 0) →
+      Splits shape valid → (root : Job) → valid root → Fits root → (parts : List (Part I)) (items : List I) →
+      AreParts shape item root parts → IsMerged parts items → EachAnswers item (leaves shape root) items
   parts_merge_to_leaves shape item valid h root v f parts items are m =
       let w = leaves_within shape valid (halvings_left root.cell) root refl h v f (shape root) refl in
       subst (EachAnswers item (leaves shape root)) (sym m.are)
@@ -190,10 +239,13 @@ module _ {I : Type 0} where
       (leaves shape root)
       (λ x i. i)
       (All-permutation (IsPart (IsVisited shape root) (AnswersLeaf shape item)) parts m.sorted m.same are.items)
-      (ordered (base root) (base root + 2 ^ halvings_left root.cell) m.sorted (leaves shape root) (λ g. weigh_sum (by_path g) m.sorted ∙ sum_by-IsPermutation (by_path g) parts m.sorted m.same ∙ sym (weigh_sum (by_path g) parts) ∙ are.once g) m.ascends w))
+      (ordered (base root) (base root + 2 ^ halvings_left root.cell) m.sorted (leaves shape root)
+      (λ g. weigh_sum (by_path g) m.sorted ∙ sum_by-IsPermutation (by_path g) parts m.sorted m.same
+      ∙ sym (weigh_sum (by_path g) parts) ∙ are.once g) m.ascends w))
 
   -- two lists that answer the same jobs are equal
-  pub equal_answers : (item : Job → I → Type 0) → ((j : Job) (a b : I) → item j a → item j b → a ≡ b) → (js : List Job) (xs ys : List I) → EachAnswers item js xs → EachAnswers item js ys → xs ≡ ys
+  pub equal_answers : (item : Job → I → Type 0) → ((j : Job) (a b : I) → item j a → item j b → a ≡ b) →
+      (js : List Job) (xs ys : List I) → EachAnswers item js xs → EachAnswers item js ys → xs ≡ ys
   equal_answers item only [] [] [] a b = refl
   equal_answers item only [] [] (y ∷ ys) a b = absurd b
   equal_answers item only [] (x ∷ xs) ys a b = absurd a

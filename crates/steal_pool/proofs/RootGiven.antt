@@ -25,12 +25,17 @@ pub record IsGiven {K I : Type 0} (job : Job) (old new : WorkerState K I) : Type
   pub output : new.output ≡ old.output
   pub hand : new.hand.items ≡ old.hand.items ++ job ∷ []
 
-module _ {P K I : Type 0} (visited : Job → Type 0) (answers : Job → I → Type 0) (w : Weight) (ts : List (Stealer Job Global HandleView P)) (root : Job) (qs ss vs : List (WorkerState K I)) (s v : WorkerState K I) where
+module _ {P K I : Type 0} (visited : Job → Type 0) (answers : Job → I →
+    Type 0) (w : Weight) (ts : List (Stealer Job Global HandleView P)) (root : Job) (qs ss vs : List (WorkerState K I))
+    (s v : WorkerState K I) where
   -- after the root was given to the last state, all states are ready
-  pub given_ready : All (IsNew visited answers w ts) qs → qs ≡ ss ++ s ∷ [] → vs ≡ ss ++ v ∷ [] → IsGiven root s v → visited root → All (IsReady visited answers ts) vs
+  pub given_ready : All (IsNew visited answers w ts) qs → qs ≡ ss ++ s ∷ [] → vs ≡ ss ++ v ∷ [] → IsGiven root s v →
+      visited root → All (IsReady visited answers ts) vs
   given_ready new is there given mine =
       let last = All_last (IsNew visited answers w ts) qs ss s new is in
-      subst (All (IsReady visited answers ts)) (sym there) (All-push (IsReady visited answers ts) ss v (λ k d l. (All_front (IsNew visited answers w ts) qs ss (s ∷ []) new is k d l).ready) (record {
+      subst (All (IsReady visited answers ts)) (sym there)
+      (All-push (IsReady visited answers ts) ss v
+      (λ k d l. (All_front (IsNew visited answers w ts) qs ss (s ∷ []) new is k d l).ready) (record {
         each = subst (λ p. EachPass ts p.items) (sym given.passes) last.ready.each;
         sound = record {
           owns = subst (λ (o : Worker Job Global HandleView (JobProtocol K)). (worker_view o).owns ≡ true) (sym given.owner) last.ready.sound.owns;

@@ -1,5 +1,6 @@
 -- Journals that keep the rules are a run of the core.
-use Rattle.std.proofs.Common.{◌≡◌, ◌≢◌, ℕ, zero, suc, ◌+◌, ◌-◌, ◌*◌, ◌^◌, ◌<◌, ◌≤◌, List, [], ◌∷◌, ◌++◌, length, if◌then◌else◌, ◌==◌, refl, sym, ap, ap₂, ◌∙◌, subst, inl, inr, arith}
+use Rattle.std.proofs.Common.{◌≡◌, ◌≢◌, ℕ, zero, suc, ◌+◌, ◌-◌, ◌*◌, ◌^◌, ◌<◌, ◌≤◌, List, [], ◌∷◌, ◌++◌, length}
+use Rattle.std.proofs.Common.{if◌then◌else◌, ◌==◌, refl, sym, ap, ap₂, ◌∙◌, subst, inl, inr, arith}
 use Rattle.std.proofs.lemmas.Bool.Decides.{eqb_tells}
 use Rattle.std.specs.Int.{leading_zeros, w64}
 use Rattle.steal_core.specs.Runs.{keep}
@@ -39,7 +40,11 @@ up_append lo mid hi (x ∷ xs) ys a b = (a.0, up_append (turn_of x.cell.path + 1
 
 none_after : (lo hi q : ℕ) (js : List Job) → Up lo hi js → turn_of q < lo → weigh (at_job (one q)) js ≡ 0
 none_after lo hi q [] w less = refl
-none_after lo hi q (j ∷ js) w less = omega (arith, one_other q j.cell.path (λ e. absurd (omega (arith, less, w.0, ap turn_of e))), none_after (turn_of j.cell.path + 1) hi q js w.1 (omega (arith, less, w.0)))
+none_after lo hi q (j ∷ js) w less = omega (
+  arith,
+  one_other q j.cell.path (λ e. absurd (omega (arith, less, w.0, ap turn_of e))),
+  none_after (turn_of j.cell.path + 1) hi q js w.1 (omega (arith, less, w.0)),
+)
 
 -- an ascending list has each path at most path_weighs_once
 pub path_weighs_once : (lo hi q : ℕ) (js : List Job) → Up lo hi js → weigh (at_job (one q)) js ≤ 1
@@ -65,11 +70,14 @@ owner (j ∷ js) p = pick (times p j) (owner js p)
 pub owner_has : (js : List (List Entry)) (p : ℕ) → 0 < weigh (times p) js → (0 < times p (journal_of (owner js p) js)) × (owner js p < length js)
 owner_has [] p some = absurd (omega (arith, some))
 owner_has (j ∷ js) p some = at (times p j) refl (λ more. owner_has js p more) where
-  at : (n : ℕ) → times p j ≡ n → (0 < weigh (times p) js → (0 < times p (journal_of (owner js p) js)) × (owner js p < length js)) → (0 < times p (journal_of (owner (j ∷ js) p) (j ∷ js))) × (owner (j ∷ js) p < length (j ∷ js))
+  at : (n : ℕ) → times p j ≡ n → (0 < weigh (times p) js →
+      (0 < times p (journal_of (owner js p) js)) × (owner js p < length js)) →
+      (0 < times p (journal_of (owner (j ∷ js) p) (j ∷ js))) × (owner (j ∷ js) p < length (j ∷ js))
   at zero e more =
       let r = more (omega (arith, some, e)) in
       subst (λ n. (0 < times p (journal_of (pick n (owner js p)) (j ∷ js))) × (pick n (owner js p) < length (j ∷ js))) (sym e) (r.0, omega (arith, r.1))
-  at (suc n) e more = subst (λ n. (0 < times p (journal_of (pick n (owner js p)) (j ∷ js))) × (pick n (owner js p) < length (j ∷ js))) (sym e) (omega (arith, e), omega arith)
+  at (suc n) e more = subst (λ n. (0 < times p (journal_of (pick n (owner js p)) (j ∷ js))) ×
+      (pick n (owner js p) < length (j ∷ js))) (sym e) (omega (arith, e), omega arith)
 
 -- if the journals have some weight together, one of them has
 pub some_journal : (f : List Entry → ℕ) (js : List (List Entry)) → 0 < weigh f js → (k : ℕ) × (0 < f (journal_of k js))
@@ -125,7 +133,10 @@ module _ (sel : Kind → ℕ → ℕ) (nil : (κ : Kind) → sel κ 0 ≡ 0) (ow
         λ n. omega (arith, ap (sel x.kind) (only_other k (own x.path) (h x.path) (λ e. n (sym here ∙ e))), nil x.kind, more.1 n),
       )
 
-  pub weights_exchange : (i : ℕ) (js : List (List Entry)) → ((m q : ℕ) → 0 < times q (journal_of m js) → own q ≡ i + m) → ((r : ℕ) → k ≡ i + r → weigh (weigh by_owner) js ≡ weigh by_all (journal_of r js)) × (k < i → weigh (weigh by_owner) js ≡ 0)
+  pub weights_exchange : (i : ℕ) (js : List (List Entry)) →
+      ((m q : ℕ) → 0 < times q (journal_of m js) → own q ≡ i + m) →
+      ((r : ℕ) → k ≡ i + r → weigh (weigh by_owner) js ≡ weigh by_all (journal_of r js)) × (k < i →
+      weigh (weigh by_owner) js ≡ 0)
   weights_exchange i [] all = ((λ r e. refl), λ less. refl)
   weights_exchange i (j ∷ js) all =
       let here = inner i j (λ q some. all 0 q some ∙ plus_zero i) in
@@ -140,6 +151,8 @@ module _ (sel : Kind → ℕ → ℕ) (nil : (κ : Kind) → sel κ 0 ≡ 0) (ow
       plus_suc : (i m : ℕ) → i + suc m ≡ suc i + m
       plus_suc i m = omega arith
 
-      at : (r : ℕ) → k ≡ i + r → (i ≡ k → weigh by_owner j ≡ weigh by_all j) × (i ≢ k → weigh by_owner j ≡ 0) → ((r : ℕ) → k ≡ suc i + r → weigh (weigh by_owner) js ≡ weigh by_all (journal_of r js)) × (k < suc i → weigh (weigh by_owner) js ≡ 0) → weigh (weigh by_owner) (j ∷ js) ≡ weigh by_all (journal_of r (j ∷ js))
+      at : (r : ℕ) → k ≡ i + r → (i ≡ k → weigh by_owner j ≡ weigh by_all j) × (i ≢ k → weigh by_owner j ≡ 0) →
+          ((r : ℕ) → k ≡ suc i + r → weigh (weigh by_owner) js ≡ weigh by_all (journal_of r js)) × (k < suc i →
+          weigh (weigh by_owner) js ≡ 0) → weigh (weigh by_owner) (j ∷ js) ≡ weigh by_all (journal_of r (j ∷ js))
       at zero e here more = omega (arith, here.0 (omega (arith, e)), more.1 (omega (arith, e)))
       at (suc r) e here more = omega (arith, here.1 (λ u. absurd (omega (arith, e, u))), more.0 r (omega (arith, e)))

@@ -1,6 +1,7 @@
 -- What a worker has ended and holds, against what it was given and has taken. Lists are compared by weights: two lists
 -- with the same sum for every weight are permutations of each other.
-use Rattle.std.specs.Prelude.{◌≡◌, ℕ, ◌+◌, ◌*◌, ◌≤◌, List, [], ◌∷◌, Result, IfOk, Option, Some, None, MatchOption, Vec, ⊤}
+use Rattle.std.specs.Prelude.{◌≡◌, ℕ, ◌+◌, ◌*◌, ◌≤◌, List, [], ◌∷◌, Result, IfOk, Option, Some, None}
+use Rattle.std.specs.Prelude.{MatchOption, Vec, ⊤}
 use Rattle.std.specs.Borrow.{Bor}
 use Rattle.std.specs.declared.alloc.Global.{Global}
 use Rattle.std.specs.declared.alloc.AllocError.{AllocError}

@@ -1,5 +1,6 @@
 -- What one worker, and all workers together, hold and have done.
-use Rattle.std.specs.Prelude.{◌≡◌, ℕ, ◌+◌, ◌<◌, ◌≤◌, true, List, [], ◌∷◌, All, Option, Some, None, Vec, length, slice_index_or, option_to_list, ⊤}
+use Rattle.std.specs.Prelude.{◌≡◌, ℕ, ◌+◌, ◌<◌, ◌≤◌, true, List, [], ◌∷◌, All, Option, Some, None, Vec}
+use Rattle.std.specs.Prelude.{length, slice_index_or, option_to_list, ⊤}
 use Rattle.std.specs.declared.alloc.Global.{Global}
 use Rattle.crossbeam_deque.specs.Handles.{Pass, worker_deque, worker_view}
 use Rattle.crossbeam_deque.specs.declared.handles.Stealer.{Stealer}

@@ -4,6 +4,8 @@ use Rattle.ember_dec.proofs.append_digits.Goals as goal
 
 pub loop-digit-preserved : goal.loop-digit-preserved
 loop-digit-preserved c = record {
-  same = rw (add-one, c.min-value.ensures, c.from.ensures) (c.loop-digit.invariant.same ∙ digit_more 2048 c.loop-digit.value c.loop-digit.digit-index c.args.digits.now c.loop-digit-test.true);
+  same = rw (add-one, c.min-value.ensures, c.from.ensures)
+      (c.loop-digit.invariant.same ∙ digit_more 2048 c.loop-digit.value c.loop-digit.digit-index c.args.digits.now
+      c.loop-digit-test.true);
   small = omega arith;
 }

@@ -11,10 +11,13 @@ use Rattle.ember_balance.proofs.loose.are_balanced.Goals as goal
 pub are_two_way-requires : goal.are_two_way-requires
 are_two_way-requires c =
     let ts = c.args.tris.now in
-    let e = ap length c.deref.ensures.value ∙ length_permutation _ _ c.sort_unstable.ensures.permutation ∙ ap length c.in_ok-numbers.ensures ∙ length-map (edges_in ts) two_way_number ∙ length-edges_in ts in
+    let e = ap length c.deref.ensures.value ∙ length_permutation _ _ c.sort_unstable.ensures.permutation
+    ∙ ap length c.in_ok-numbers.ensures ∙ length-map (edges_in ts) two_way_number ∙ length-edges_in ts in
     omega (arith, e, c.requires.few)
 
 pub returns : goal.returns
 returns c = λ t.
     let ks = c.sort_unstable.new.self.items in
-    balanced_by_two_way c.args.tris.now c.requires.valid ks (subst (λ (ns : List ℕ). IsPermutation ns ks) c.in_ok-numbers.ensures c.sort_unstable.ensures.permutation) (subst AreTwoWay c.deref.ensures.value (c.are_two_way.ensures t))
+    balanced_by_two_way c.args.tris.now c.requires.valid ks
+    (subst (λ (ns : List ℕ). IsPermutation ns ks) c.in_ok-numbers.ensures c.sort_unstable.ensures.permutation)
+    (subst AreTwoWay c.deref.ensures.value (c.are_two_way.ensures t))

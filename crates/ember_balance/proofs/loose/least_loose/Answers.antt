@@ -9,7 +9,8 @@ returns-in-None-clause-meaning c =
 
 pub returns-in-None-clause-value : goal.returns-in-None-clause-value
 returns-in-None-clause-value c =
-    loose_is c.args.tris.now None (balanced_from c.args.tris.now c.requires.valid _ _ c.in_ok-numbers.ensures (none_at c.deref.ensures.value c.deref-2.ensures.value c.in-None.ensures))
+    loose_is c.args.tris.now None (balanced_from c.args.tris.now c.requires.valid _ _ c.in_ok-numbers.ensures
+    (none_at c.deref.ensures.value c.deref-2.ensures.value c.in-None.ensures))
 
 pub loose_with-requires-clause-number : goal.loose_with-requires-clause-number
 loose_with-requires-clause-number c =
@@ -25,8 +26,13 @@ loose_with-requires-clause-back c =
 
 pub returns-clause-meaning : goal.returns-clause-meaning
 returns-clause-meaning c =
-    least_loose_from c.args.tris.now c.requires.valid _ _ c.in_ok-numbers.ensures c.loose_with.result _ (first_at _ c.deref.ensures.value c.deref-2.ensures.value c.in-Some.ensures) c.loose_with.ensures.edge c.loose_with.ensures.there c.loose_with.ensures.back
+    least_loose_from c.args.tris.now c.requires.valid _ _ c.in_ok-numbers.ensures c.loose_with.result _
+    (first_at _ c.deref.ensures.value c.deref-2.ensures.value c.in-Some.ensures) c.loose_with.ensures.edge
+    c.loose_with.ensures.there c.loose_with.ensures.back
 
 pub returns-clause-value : goal.returns-clause-value
 returns-clause-value c =
-    loose_is c.args.tris.now (Some c.loose_with.result) (least_loose_from c.args.tris.now c.requires.valid _ _ c.in_ok-numbers.ensures c.loose_with.result _ (first_at _ c.deref.ensures.value c.deref-2.ensures.value c.in-Some.ensures) c.loose_with.ensures.edge c.loose_with.ensures.there c.loose_with.ensures.back)
+    loose_is c.args.tris.now (Some c.loose_with.result)
+    (least_loose_from c.args.tris.now c.requires.valid _ _ c.in_ok-numbers.ensures c.loose_with.result _
+    (first_at _ c.deref.ensures.value c.deref-2.ensures.value c.in-Some.ensures) c.loose_with.ensures.edge
+    c.loose_with.ensures.there c.loose_with.ensures.back)

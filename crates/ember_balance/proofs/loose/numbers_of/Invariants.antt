@@ -5,4 +5,5 @@ use Rattle.ember_balance.proofs.loose.numbers_of.Given as goal
 
 abbrev pub invariant-loop-t : goal.invariant-loop-t
 invariant-loop-t l =
-    (l.numbers.there.items ≡ map edge_number (edges_in (take l.t-index l.tris))) × (l.numbers.back.items ≡ map edge_number (map reversed (edges_in (take l.t-index l.tris))))
+    (l.numbers.there.items ≡ map edge_number (edges_in (take l.t-index l.tris))) ×
+    (l.numbers.back.items ≡ map edge_number (map reversed (edges_in (take l.t-index l.tris))))

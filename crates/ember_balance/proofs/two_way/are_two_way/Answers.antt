@@ -7,4 +7,6 @@ use Rattle.ember_balance.proofs.two_way.are_two_way.Goals as goal
 pub returns : goal.returns
 returns c = λ t.
     let ks = c.args.numbers.now in let k = c.loop-number.tally in
-    two_way_from ks k (subst (λ (us : List ℕ). IsTallied us k) (take_all c.loop-number.number-index ks c.loop-number-test.false) c.loop-number.invariant.tallied) (sym c.is_even.ensures ∙ t)
+    two_way_from ks k (subst (λ (us : List ℕ). IsTallied us k)
+    (take_all c.loop-number.number-index ks c.loop-number-test.false) c.loop-number.invariant.tallied)
+    (sym c.is_even.ensures ∙ t)

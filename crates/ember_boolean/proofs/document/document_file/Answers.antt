@@ -7,7 +7,9 @@ use Rattle.ember_boolean.proofs.document.document_file.Goals as goal
 pub returns-in_err-mesh-clause-fault : goal.returns-in_err-mesh-clause-fault
 returns-in_err-mesh-clause-fault c =
     let cause = c.in_err-mesh.field-0.0 in
-    passed_on (IsDocumentFileFault c.args.bytes.now c.args.grid c.args.format) c.from_residual.result (of_document_fault cause) c.from_residual.ensures.1 (document_fault_is c.args.bytes.now c.args.grid c.args.format cause c.in_err-mesh.ensures.fault)
+    passed_on (IsDocumentFileFault c.args.bytes.now c.args.grid c.args.format) c.from_residual.result
+    (of_document_fault cause) c.from_residual.ensures.1
+    (document_fault_is c.args.bytes.now c.args.grid c.args.format cause c.in_err-mesh.ensures.fault)
 
 pub written_of-requires-clause-proper : goal.written_of-requires-clause-proper
 written_of-requires-clause-proper c = c.in_ok-mesh.ensures.mesh.of_document.cut.certified.proper
@@ -18,7 +20,10 @@ written_of-requires-clause-valid c = planes_are_valid c.args.bytes.now c.in_ok-m
 pub returns-in_err-written-clause-fault : goal.returns-in_err-written-clause-fault
 returns-in_err-written-clause-fault c =
     let cause = c.in_err-written.field-0.0 in
-    passed_on (IsDocumentFileFault c.args.bytes.now c.args.grid c.args.format) c.from_residual-in_err-written.result (of_unwritten_fault cause) c.from_residual-in_err-written.ensures.1 (unwritten_fault_is c.args.bytes.now c.args.grid c.args.format c.in_ok-mesh.mesh c.in_ok-mesh.ensures.mesh cause c.in_err-written.ensures.fault)
+    passed_on (IsDocumentFileFault c.args.bytes.now c.args.grid c.args.format) c.from_residual-in_err-written.result
+    (of_unwritten_fault cause) c.from_residual-in_err-written.ensures.1
+    (unwritten_fault_is c.args.bytes.now c.args.grid c.args.format c.in_ok-mesh.mesh c.in_ok-mesh.ensures.mesh cause
+    c.in_err-written.ensures.fault)
 
 pub returns-clause-output : goal.returns-clause-output
 returns-clause-output c =
@@ -26,6 +31,7 @@ returns-clause-output c =
     record {
       mesh = c.in_ok-mesh.mesh;
       of_document = of_document;
-      written = written_is_closed c.args.bytes.now c.args.format c.args.grid c.in_ok-mesh.mesh c.in_ok-written.written of_document.of_document c.in_ok-written.ensures.written;
+      written = written_is_closed c.args.bytes.now c.args.format c.args.grid c.in_ok-mesh.mesh c.in_ok-written.written
+          of_document.of_document c.in_ok-written.ensures.written;
       shown = c.in_ok-written.ensures.shown;
     }

@@ -10,7 +10,9 @@ use Rattle.ember_boolean.proofs.placing.placed_files.Goals as goal
 
 pub returns-in_err-surfaces-clause-fault : goal.returns-in_err-surfaces-clause-fault
 returns-in_err-surfaces-clause-fault g c =
-    passed_on (IsPlacingFault c.args.files.now c.args.wanted) c.from_residual.result c.in_err-surfaces.field-0.0 c.from_residual.ensures.1 (read_fault_is c.args.files.now c.args.wanted c.in_err-surfaces.field-0.0 c.in_err-surfaces.ensures.fault)
+    passed_on (IsPlacingFault c.args.files.now c.args.wanted) c.from_residual.result c.in_err-surfaces.field-0.0
+    c.from_residual.ensures.1 (read_fault_is c.args.files.now c.args.wanted c.in_err-surfaces.field-0.0
+    c.in_err-surfaces.ensures.fault)
 
 pub scene_of-requires-clause-few : goal.scene_of-requires-clause-few
 scene_of-requires-clause-few g c =
@@ -26,7 +28,9 @@ pub returns-in_err-placed-clause-fault : goal.returns-in_err-placed-clause-fault
 returns-in_err-placed-clause-fault g c =
     let cause = c.in_err-placed.field-0.0 in
     let read = subst (AreReadings c.args.files.now) (sym c.deref.ensures.value) c.in_ok-surfaces.ensures.readings in
-    passed_on (IsPlacingFault c.args.files.now c.args.wanted) c.from_residual-in_err-placed.result (of_scene_fault cause) c.from_residual-in_err-placed.ensures.1 (scene_fault_is c.args.files.now c.args.wanted c.deref.result.now cause read c.in_err-placed.ensures.fault)
+    passed_on (IsPlacingFault c.args.files.now c.args.wanted) c.from_residual-in_err-placed.result
+    (of_scene_fault cause) c.from_residual-in_err-placed.ensures.1
+    (scene_fault_is c.args.files.now c.args.wanted c.deref.result.now cause read c.in_err-placed.ensures.fault)
 
 pub returns-clause-placed : goal.returns-clause-placed
 returns-clause-placed g c =

@@ -17,17 +17,23 @@ pub returns-clause-mesh : goal.returns-clause-mesh
 returns-clause-mesh c =
     let g = c.args.grid.now in
     let p = c.written_places-places.ensures.value in
-    let same : decimal_triangles c.written_places-places.result g.step g.offset c.deref.result.now c.deref-2.result.now ≡ decimals_of c.args.digits g c.args.mesh.now = λ i. decimal_triangles (p i) g.step g.offset (c.deref.ensures.value i) (c.deref-2.ensures.value i) in
+    let same : decimal_triangles c.written_places-places.result g.step g.offset c.deref.result.now c.deref-2.result.now
+    ≡ decimals_of c.args.digits g c.args.mesh.now =
+    λ i. decimal_triangles (p i) g.step g.offset (c.deref.ensures.value i) (c.deref-2.ensures.value i) in
     IfOk-weaker c.decimal_mesh.result _ _ (λ written h. subst (λ (ts : List DecimalTriangle). IsMeshOf ts written.mesh) same h) c.decimal_mesh.ensures.mesh
 
 pub returns-clause-fault : goal.returns-clause-fault
 returns-clause-fault c =
     let g = c.args.grid.now in
-    IfErr-weaker c.decimal_mesh.result _ _ (λ cause h. subst (λ (cs : List SpacePoint). IsDecimalFault g.step g.offset cs cause) c.deref.ensures.value h) c.decimal_mesh.ensures.fault
+    IfErr-weaker c.decimal_mesh.result _ _ (λ cause h. subst
+    (λ (cs : List SpacePoint). IsDecimalFault g.step g.offset cs cause) c.deref.ensures.value h)
+    c.decimal_mesh.ensures.fault
 
 pub returns-clause-planes : goal.returns-clause-planes
 returns-clause-planes c =
     let g = c.args.grid.now in
     let p = c.written_places-places.ensures.value in
-    let same : decimal_planes c.written_places-places.result g.step g.offset c.deref.result.now c.deref-2.result.now ≡ planes_of_decimals c.args.digits g c.args.mesh.now = λ i. decimal_planes (p i) g.step g.offset (c.deref.ensures.value i) (c.deref-2.ensures.value i) in
+    let same : decimal_planes c.written_places-places.result g.step g.offset c.deref.result.now c.deref-2.result.now
+    ≡ planes_of_decimals c.args.digits g c.args.mesh.now =
+    λ i. decimal_planes (p i) g.step g.offset (c.deref.ensures.value i) (c.deref-2.ensures.value i) in
     IfOk-weaker c.decimal_mesh.result _ _ (λ written e. e ∙ same) c.decimal_mesh.ensures.planes

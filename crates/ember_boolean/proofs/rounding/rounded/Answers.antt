@@ -11,9 +11,12 @@ float_triangles-requires-clause-corners c =
 
 pub returns-clause-rounded : goal.returns-clause-rounded
 returns-clause-rounded c =
-    IfOk-weaker c.float_triangles.result _ _ (λ written h. mesh_is_rounded c.args.grid.now c.args.mesh.now written.items c.deref.ensures.value c.deref-2.ensures.value c.deref-3.ensures.value h) c.float_triangles.ensures.written
+    IfOk-weaker c.float_triangles.result _ _ (λ written h. mesh_is_rounded c.args.grid.now c.args.mesh.now written.items
+    c.deref.ensures.value c.deref-2.ensures.value c.deref-3.ensures.value h) c.float_triangles.ensures.written
 
 pub returns-clause-fault : goal.returns-clause-fault
 returns-clause-fault c =
     let g = c.args.grid.now in
-    IfErr-weaker c.float_triangles.result _ _ (λ cause h. subst (λ (cs : List SpacePoint). IsFloatFault g.step g.offset cs cause) c.deref-2.ensures.value h) c.float_triangles.ensures.fault
+    IfErr-weaker c.float_triangles.result _ _ (λ cause h. subst
+    (λ (cs : List SpacePoint). IsFloatFault g.step g.offset cs cause) c.deref-2.ensures.value h)
+    c.float_triangles.ensures.fault

@@ -13,7 +13,9 @@ pub returns-in_err-placed-clause-fault : goal.returns-in_err-placed-clause-fault
 returns-in_err-placed-clause-fault g c =
     let formula = formula_of c.args.expr.now in
     let fault = c.in_err-placed.field-0.0 in
-    passed_on (IsBooleanFault c.args.files.now formula c.args.wanted) c.from_residual.result fault c.from_residual.ensures.1 (placing_fault_is c.args.files.now formula c.args.wanted fault c.in_err-placed.ensures.fault)
+    passed_on (IsBooleanFault c.args.files.now formula c.args.wanted) c.from_residual.result fault
+    c.from_residual.ensures.1 (placing_fault_is c.args.files.now formula c.args.wanted fault
+    c.in_err-placed.ensures.fault)
 
 pub returns-in_err-mesh-clause-fault : goal.returns-in_err-mesh-clause-fault
 returns-in_err-mesh-clause-fault g c =
@@ -21,7 +23,10 @@ returns-in_err-mesh-clause-fault g c =
     let cause = c.in_err-mesh.field-0.0 in
     let is = c.in_ok-placed.ensures.placed in
     let of_images = subst (λ (tris : List Tri). IsSolidFault tris formula cause) is.tris c.in_err-mesh.ensures.fault in
-    passed_on (IsBooleanFault c.args.files.now formula c.args.wanted) c.from_residual-in_err-mesh.result (of_solid_fault cause) c.from_residual-in_err-mesh.ensures.1 (solid_fault_is c.args.files.now formula c.args.wanted is.surfaces c.in_ok-placed.placed.grid is.are_placed cause of_images)
+    passed_on (IsBooleanFault c.args.files.now formula c.args.wanted) c.from_residual-in_err-mesh.result
+    (of_solid_fault cause) c.from_residual-in_err-mesh.ensures.1
+    (solid_fault_is c.args.files.now formula c.args.wanted is.surfaces c.in_ok-placed.placed.grid is.are_placed cause
+    of_images)
 
 pub written_of-requires-clause-step : goal.written_of-requires-clause-step
 written_of-requires-clause-step g c = c.in_ok-placed.ensures.placed.are_placed.on_grid.step
@@ -40,8 +45,13 @@ returns-in_err-written-clause-fault g c =
     let is = c.in_ok-placed.ensures.placed in
     let mesh = c.in_ok-mesh.field-0.mesh in
     let solid = subst (λ (tris : List Tri). IsSolidMesh tris formula mesh) is.tris c.in_ok-mesh.ensures.solid.mesh in
-    passed_on (IsBooleanFault c.args.files.now formula c.args.wanted) c.from_residual-in_err-written.result (of_writing_fault cause) c.from_residual-in_err-written.ensures.1 (writing_fault_is c.args.files.now formula c.args.wanted is.surfaces c.in_ok-placed.placed.grid is.are_placed mesh solid cause c.in_err-written.ensures.fault)
+    passed_on (IsBooleanFault c.args.files.now formula c.args.wanted) c.from_residual-in_err-written.result
+    (of_writing_fault cause) c.from_residual-in_err-written.ensures.1
+    (writing_fault_is c.args.files.now formula c.args.wanted is.surfaces c.in_ok-placed.placed.grid is.are_placed mesh
+    solid cause c.in_err-written.ensures.fault)
 
 pub returns-clause-output : goal.returns-clause-output
 returns-clause-output g c =
-    output_is c.args.files.now (formula_of c.args.expr.now) c.args.wanted c.in_ok-placed.placed c.in_ok-placed.ensures.placed c.in_ok-mesh.field-0 c.in_ok-mesh.ensures.solid c.in_ok-written.written c.in_ok-written.ensures.written c.in_ok-written.ensures.shown c.kept_with-kept.result c.kept_with-kept.ensures
+    output_is c.args.files.now (formula_of c.args.expr.now) c.args.wanted c.in_ok-placed.placed
+    c.in_ok-placed.ensures.placed c.in_ok-mesh.field-0 c.in_ok-mesh.ensures.solid c.in_ok-written.written
+    c.in_ok-written.ensures.written c.in_ok-written.ensures.shown c.kept_with-kept.result c.kept_with-kept.ensures

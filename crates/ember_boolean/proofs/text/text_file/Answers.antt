@@ -14,17 +14,23 @@ use Rattle.ember_boolean.proofs.text.text_file.Goals as goal
 pub returns-in_err-written-clause-fault : goal.returns-in_err-written-clause-fault
 returns-in_err-written-clause-fault c =
     let cause = c.in_err-written.field-0.0 in
-    passed_on (IsWritingFault (Text c.args.format c.args.digits) c.args.grid.now c.args.mesh) c.from_residual.result (of_place_fault cause) c.from_residual.ensures.1 (decimal_fault_is c.args.format c.args.digits c.args.grid.now c.args.mesh cause c.in_err-written.ensures.fault)
+    passed_on (IsWritingFault (Text c.args.format c.args.digits) c.args.grid.now c.args.mesh) c.from_residual.result
+    (of_place_fault cause) c.from_residual.ensures.1
+    (decimal_fault_is c.args.format c.args.digits c.args.grid.now c.args.mesh cause c.in_err-written.ensures.fault)
 
 pub returns-in_err-effect-clause-fault : goal.returns-in_err-effect-clause-fault
 returns-in_err-effect-clause-fault c =
     let cause = c.in_err-effect.field-0.0 in
-    passed_on (IsWritingFault (Text c.args.format c.args.digits) c.args.grid.now c.args.mesh) c.from_residual-in_err-effect.result (of_place_fault cause) c.from_residual-in_err-effect.ensures.1 (decimal_fault_is c.args.format c.args.digits c.args.grid.now c.args.mesh cause c.in_err-effect.ensures.fault)
+    passed_on (IsWritingFault (Text c.args.format c.args.digits) c.args.grid.now c.args.mesh)
+    c.from_residual-in_err-effect.result (of_place_fault cause) c.from_residual-in_err-effect.ensures.1
+    (decimal_fault_is c.args.format c.args.digits c.args.grid.now c.args.mesh cause c.in_err-effect.ensures.fault)
 
 pub returns-in_err-shown-clause-fault : goal.returns-in_err-shown-clause-fault
 returns-in_err-shown-clause-fault c =
     let cause = c.in_err-shown.field-0.0 in
-    passed_on (IsWritingFault (Text c.args.format c.args.digits) c.args.grid.now c.args.mesh) c.from_residual-in_err-shown.result (of_place_fault cause) c.from_residual-in_err-shown.ensures.1 (shown_fault_is c.args.format c.args.digits c.args.grid.now c.args.mesh cause c.in_err-shown.ensures.fault)
+    passed_on (IsWritingFault (Text c.args.format c.args.digits) c.args.grid.now c.args.mesh)
+    c.from_residual-in_err-shown.result (of_place_fault cause) c.from_residual-in_err-shown.ensures.1
+    (shown_fault_is c.args.format c.args.digits c.args.grid.now c.args.mesh cause c.in_err-shown.ensures.fault)
 
 pub overflow_sub-vanished : goal.overflow_sub-vanished
 overflow_sub-vanished c =
@@ -42,7 +48,8 @@ returns-clause-text c =
     let indexed = shown_are_written ts c.triangles-indexed.result.now of_points in
     let text = c.in_ok-text.text in
     record {
-      bytes = subst (λ (places : ℕ). IsTextOver c.args.format places ts text.bytes.items text.triangles text.is_manifold) c.written_places-places.ensures.value (c.in_ok-text.ensures ts is);
+      bytes = subst (λ (places : ℕ). IsTextOver c.args.format places ts text.bytes.items text.triangles
+          text.is_manifold) c.written_places-places.ensures.value (c.in_ok-text.ensures ts is);
       effect = c.in_ok-effect.ensures.effect;
       faces = refl;
       planes = omega arith;

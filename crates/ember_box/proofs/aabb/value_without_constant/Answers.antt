@@ -31,12 +31,17 @@ overflow_mul-result-3 c = no_overflow (c.requires.plane.c & c.requires.z & done)
 
 pub overflow_add-result-2 : goal.overflow_add-result-2
 overflow_add-result-2 c =
-    no_overflow (c.requires.plane.a & c.requires.x & c.requires.plane.b & c.requires.y & c.requires.plane.c & c.requires.z & done) w64 (stored w64 (stored w64 (times 0 1) ⊞ stored w64 (times 2 3)) ⊞ stored w64 (times 4 5)) tt
+    no_overflow (c.requires.plane.a & c.requires.x & c.requires.plane.b & c.requires.y & c.requires.plane.c &
+    c.requires.z & done) w64 (stored w64 (stored w64 (times 0 1) ⊞ stored w64 (times 2 3)) ⊞ stored w64 (times 4 5))
+    tt
 
 pub returns-clause-value : goal.returns-clause-value
 returns-clause-value c =
-    exact (c.requires.plane.a & c.requires.x & c.requires.plane.b & c.requires.y & c.requires.plane.c & c.requires.z & done) (stored w64 (stored w64 (stored w64 (times 0 1) ⊞ stored w64 (times 2 3)) ⊞ stored w64 (times 4 5))) tt
+    exact (c.requires.plane.a & c.requires.x & c.requires.plane.b & c.requires.y & c.requires.plane.c & c.requires.z &
+    done) (stored w64 (stored w64 (stored w64 (times 0 1) ⊞ stored w64 (times 2 3)) ⊞ stored w64 (times 4 5))) tt
 
 pub returns-clause-small : goal.returns-clause-small
 returns-clause-small c =
-    bounded (c.requires.plane.a & c.requires.x & c.requires.plane.b & c.requires.y & c.requires.plane.c & c.requires.z & done) (2 ^ 38) (stored w64 (stored w64 (stored w64 (times 0 1) ⊞ stored w64 (times 2 3)) ⊞ stored w64 (times 4 5))) tt
+    bounded (c.requires.plane.a & c.requires.x & c.requires.plane.b & c.requires.y & c.requires.plane.c & c.requires.z &
+    done) (2 ^ 38) (stored w64 (stored w64 (stored w64 (times 0 1) ⊞ stored w64 (times 2 3)) ⊞ stored w64
+    (times 4 5))) tt

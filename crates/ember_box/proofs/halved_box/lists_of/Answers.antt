@@ -27,8 +27,12 @@ loop-i-preserved c =
           let old = c.loop-i.invariant.lists ts cell may h in
           let pair = pair_at cell (tri_at ts (get_or list i 0)) (get_or parts i no_parts) k (h.each i here) may in
           record {
-            is_left = kept_more (λ j. is_near (left_half cell k) (tri_at ts j)) list i c.loop-i.left.items c.push_if.new.list.items c.pair_on-pair.result.left below old.is_left (ap (λ (p : NearPair). p.left) c.pair_on-pair.ensures ∙ pair.left) c.push_if.ensures.items;
-            is_right = kept_more (λ j. is_near (right_half cell k) (tri_at ts j)) list i c.loop-i.right.items c.push_if-in-loop-i.new.list.items c.pair_on-pair.result.right below old.is_right (ap (λ (p : NearPair). p.right) c.pair_on-pair.ensures ∙ pair.right) c.push_if-in-loop-i.ensures.items;
+            is_left = kept_more (λ j. is_near (left_half cell k) (tri_at ts j)) list i c.loop-i.left.items
+                c.push_if.new.list.items c.pair_on-pair.result.left below old.is_left
+                (ap (λ (p : NearPair). p.left) c.pair_on-pair.ensures ∙ pair.left) c.push_if.ensures.items;
+            is_right = kept_more (λ j. is_near (right_half cell k) (tri_at ts j)) list i c.loop-i.right.items
+                c.push_if-in-loop-i.new.list.items c.pair_on-pair.result.right below old.is_right
+                (ap (λ (p : NearPair). p.right) c.pair_on-pair.ensures ∙ pair.right) c.push_if-in-loop-i.ensures.items;
           };
       left_len = omega (arith, c.push_if.ensures.len, c.loop-i.invariant.left_len);
       right_len = omega (arith, c.push_if-in-loop-i.ensures.len, c.loop-i.invariant.right_len);

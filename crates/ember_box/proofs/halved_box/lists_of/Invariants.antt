@@ -7,4 +7,11 @@ use Rattle.ember_box.proofs.halved_box.lists_of.Given as goal
 
 abbrev pub invariant-loop-i : goal.invariant-loop-i
 invariant-loop-i l =
-    record { lists : (ts : List Tri) (c : Cell) → 0 < c.log l.axis → AreNearPartsAt ts c l.list l.parts → AreNearLists ts c l.axis (take l.i l.list) l.left.items l.right.items; left_len : vec_len l.left ≤ l.i; right_len : vec_len l.right ≤ l.i; left_room : vec_capacity l.left ≡ length l.list; right_room : vec_capacity l.right ≡ length l.list }
+    record {
+      lists : (ts : List Tri) (c : Cell) → 0 < c.log l.axis → AreNearPartsAt ts c l.list l.parts →
+          AreNearLists ts c l.axis (take l.i l.list) l.left.items l.right.items;
+      left_len : vec_len l.left ≤ l.i;
+      right_len : vec_len l.right ≤ l.i;
+      left_room : vec_capacity l.left ≡ length l.list;
+      right_room : vec_capacity l.right ≡ length l.list;
+    }

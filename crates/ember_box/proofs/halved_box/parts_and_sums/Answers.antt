@@ -47,11 +47,19 @@ loop-i-preserved c =
     let items : c.push.new.self.items ≡ parts ++ p ∷ [] = c.in_ok-push.ensures.items in
     let length_of = ap length items in
     record {
-      sums = sums_more (listed tris list) cell i c.loop-i.near c.loop-i.x_sum c.loop-i.y_sum c.loop-i.z_sum more.near more.x more.y more.z here c.loop-i.invariant.sums (one.near ∙ ap (λ u. number (is_near cell u)) (sym e)) few.near (λ p. one.x p ∙ ap (near_half_count cell X) (sym e)) few.x (λ p. one.y p ∙ ap (near_half_count cell Y) (sym e)) few.y (λ p. one.z p ∙ ap (near_half_count cell Z) (sym e)) few.z;
-      parts = subst (λ (ps : List NearParts). AreNearPartsAt tris cell list ps) (sym items) (parts_more tris cell list parts p c.loop-i.invariant.parts (subst (λ (j : ℕ). AreNearParts cell (tri_at tris (get_or list j 0)) p) (sym c.loop-i.invariant.count) near));
+      sums = sums_more (listed tris list) cell i c.loop-i.near c.loop-i.x_sum c.loop-i.y_sum c.loop-i.z_sum more.near
+          more.x more.y more.z here c.loop-i.invariant.sums (one.near ∙ ap (λ u. number (is_near cell u)) (sym e))
+          few.near (λ p. one.x p ∙ ap (near_half_count cell X) (sym e)) few.x
+          (λ p. one.y p ∙ ap (near_half_count cell Y) (sym e)) few.y (λ p. one.z p ∙ ap (near_half_count cell Z) (sym e))
+          few.z;
+      parts = subst (λ (ps : List NearParts). AreNearPartsAt tris cell list ps) (sym items)
+          (parts_more tris cell list parts p c.loop-i.invariant.parts
+          (subst (λ (j : ℕ). AreNearParts cell (tri_at tris (get_or list j 0)) p) (sym c.loop-i.invariant.count) near));
       count = omega (arith, length_of, length-append parts (p ∷ []), c.loop-i.invariant.count);
     }
 
 pub returns-clause-sums : goal.returns-clause-sums
 returns-clause-sums c =
-    sums_all (listed c.args.tris.now c.args.list.now) c.args.c.now c.loop-i.i-index (sums_of c.loop-i.near c.loop-i.x_sum c.loop-i.y_sum c.loop-i.z_sum) (omega (arith, length-map c.args.list.now (λ j. tri_at c.args.tris.now j))) c.loop-i.invariant.sums
+    sums_all (listed c.args.tris.now c.args.list.now) c.args.c.now c.loop-i.i-index
+    (sums_of c.loop-i.near c.loop-i.x_sum c.loop-i.y_sum c.loop-i.z_sum)
+    (omega (arith, length-map c.args.list.now (λ j. tri_at c.args.tris.now j))) c.loop-i.invariant.sums

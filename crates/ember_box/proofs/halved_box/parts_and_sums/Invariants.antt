@@ -7,4 +7,8 @@ use Rattle.ember_box.proofs.halved_box.parts_and_sums.Given as goal
 
 abbrev pub invariant-loop-i : goal.invariant-loop-i
 invariant-loop-i l =
-    record { sums : AreSums (take l.i-index (listed l.tris l.list)) l.c (sums_of l.near l.x_sum l.y_sum l.z_sum); parts : AreNearPartsAt l.tris l.c l.list l.parts.items; count : length l.parts.items ≡ l.i-index }
+    record {
+      sums : AreSums (take l.i-index (listed l.tris l.list)) l.c (sums_of l.near l.x_sum l.y_sum l.z_sum);
+      parts : AreNearPartsAt l.tris l.c l.list l.parts.items;
+      count : length l.parts.items ≡ l.i-index;
+    }

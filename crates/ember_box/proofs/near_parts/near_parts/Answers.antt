@@ -9,7 +9,9 @@ use Rattle.ember_box.proofs.near_parts.near_parts.Goals as goal
 pub returns-then-not-aabbs_meet : goal.returns-then-not-aabbs_meet
 returns-then-not-aabbs_meet c = λ box a.
     let t = c.args.t.now in
-    let o : aabbs_meet (aabb_of_tri t) (aabb_of_cell box) ≡ false = (λ i. aabbs_meet (sym c.aabb_of_tri-spans.ensures i) (sym a.whole i)) ∙ sym c.aabbs_meet.ensures ∙ c.if-not-aabbs_meet.true in
+    let o : aabbs_meet (aabb_of_tri t) (aabb_of_cell box) ≡ false =
+    (λ i. aabbs_meet (sym c.aabb_of_tri-spans.ensures i) (sym a.whole i)) ∙ sym c.aabbs_meet.ensures
+    ∙ c.if-not-aabbs_meet.true in
     subst (λ (p : NearParts). AreNearParts box t p) (sym c.no_parts.ensures) (none_near box t (far_whole box t o))
 
 pub returns-in-None : goal.returns-in-None

@@ -14,7 +14,13 @@ returns c = λ box t a e o plane.
     let plane' : IsPlaneOf (aabb_of_cell box) t None = subst (λ w. IsPlaneOf w t None) a.whole plane in
     record {
       whole = seen_whole box t None o' plane';
-      x = λ may. pair_by_span box t o' X b.x c.pair_by_span.result plane' may (a.x may) (c.pair_by_span.ensures.left ∙ ap (λ (s : Aabb). int_le s.x.low b.x.at) e) (c.pair_by_span.ensures.right ∙ ap (λ (s : Aabb). int_le b.x.at s.x.high) e);
-      y = λ may. pair_by_span box t o' Y b.y c.pair_by_span-2.result plane' may (a.y may) (c.pair_by_span-2.ensures.left ∙ ap (λ (s : Aabb). int_le s.y.low b.y.at) e) (c.pair_by_span-2.ensures.right ∙ ap (λ (s : Aabb). int_le b.y.at s.y.high) e);
-      z = λ may. pair_by_span box t o' Z b.z c.pair_by_span-3.result plane' may (a.z may) (c.pair_by_span-3.ensures.left ∙ ap (λ (s : Aabb). int_le s.z.low b.z.at) e) (c.pair_by_span-3.ensures.right ∙ ap (λ (s : Aabb). int_le b.z.at s.z.high) e);
+      x = λ may. pair_by_span box t o' X b.x c.pair_by_span.result plane' may (a.x may)
+          (c.pair_by_span.ensures.left ∙ ap (λ (s : Aabb). int_le s.x.low b.x.at) e)
+          (c.pair_by_span.ensures.right ∙ ap (λ (s : Aabb). int_le b.x.at s.x.high) e);
+      y = λ may. pair_by_span box t o' Y b.y c.pair_by_span-2.result plane' may (a.y may)
+          (c.pair_by_span-2.ensures.left ∙ ap (λ (s : Aabb). int_le s.y.low b.y.at) e)
+          (c.pair_by_span-2.ensures.right ∙ ap (λ (s : Aabb). int_le b.y.at s.y.high) e);
+      z = λ may. pair_by_span box t o' Z b.z c.pair_by_span-3.result plane' may (a.z may)
+          (c.pair_by_span-3.ensures.left ∙ ap (λ (s : Aabb). int_le s.z.low b.z.at) e)
+          (c.pair_by_span-3.ensures.right ∙ ap (λ (s : Aabb). int_le b.z.at s.z.high) e);
     }

@@ -10,6 +10,11 @@ pub returns-then-is_level : goal.returns-then-is_level
 returns-then-is_level c =
     let t = c.args.t.now in let b = c.args.aabb.now in
     elim c.then-is_level.branch [
-      | then-is_level-via-then-is_level w ↦ (let l : is_level (aabb_of_tri t) ≡ true = ap is_level (sym c.requires.spans) ∙ sym c.is_level.ensures ∙ w.if-is_level.true in λ box e o. sym (ap (λ b. crosses (support_of t) b) e ∙ level_crossed box t l (ap (λ b. aabbs_meet (aabb_of_tri t) b) (sym e) ∙ o)))
-      | then-is_level-via-else-is_level+then-contains_corner w ↦ (let h : contains_corner b t.a ≡ true = sym w.contains_corner.ensures ∙ w.if-contains_corner.true in λ box e o. sym (crossed_a t b (inside_out b t.a h)))
+      | then-is_level-via-then-is_level w ↦ (let l : is_level (aabb_of_tri t) ≡ true =
+          ap is_level (sym c.requires.spans) ∙ sym c.is_level.ensures ∙ w.if-is_level.true in
+          λ box e o. sym (ap (λ b. crosses (support_of t) b) e
+          ∙ level_crossed box t l (ap (λ b. aabbs_meet (aabb_of_tri t) b) (sym e) ∙ o)))
+      | then-is_level-via-else-is_level+then-contains_corner w ↦ (let h : contains_corner b t.a ≡ true =
+          sym w.contains_corner.ensures ∙ w.if-contains_corner.true in
+          λ box e o. sym (crossed_a t b (inside_out b t.a h)))
     ]

@@ -11,8 +11,12 @@ loop-i-preserved c =
     let below : i < length list = omega arith in
     let each = c.is_near_halves-is_near_left.ensures cell c.requires.side c.aabb_of_cell-whole.ensures.value c.half_boxes_of-halves.ensures.value in
     record {
-      left = kept_more (λ j. is_near (left_half cell k) (tri_at tris j)) list i c.loop-i.left.items c.push_if.new.list.items c.is_near_halves-is_near_left.result.0 below c.loop-i.invariant.left each.0 c.push_if.ensures.items;
-      right = kept_more (λ j. is_near (right_half cell k) (tri_at tris j)) list i c.loop-i.right.items c.push_if-in-loop-i.new.list.items c.is_near_halves-is_near_left.result.1 below c.loop-i.invariant.right each.1 c.push_if-in-loop-i.ensures.items;
+      left = kept_more (λ j. is_near (left_half cell k) (tri_at tris j)) list i c.loop-i.left.items
+          c.push_if.new.list.items c.is_near_halves-is_near_left.result.0 below c.loop-i.invariant.left each.0
+          c.push_if.ensures.items;
+      right = kept_more (λ j. is_near (right_half cell k) (tri_at tris j)) list i c.loop-i.right.items
+          c.push_if-in-loop-i.new.list.items c.is_near_halves-is_near_left.result.1 below c.loop-i.invariant.right each.1
+          c.push_if-in-loop-i.ensures.items;
       left_len = omega (arith, c.push_if.ensures.len, c.loop-i.invariant.left_len);
       right_len = omega (arith, c.push_if-in-loop-i.ensures.len, c.loop-i.invariant.right_len);
       left_room = c.push_if.ensures.capacity ∙ c.loop-i.invariant.left_room;

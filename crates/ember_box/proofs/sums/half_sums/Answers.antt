@@ -34,8 +34,13 @@ loop-i-preserved c =
     let here : i < length (listed tris list) = omega (arith, length-map list (λ j. tri_at tris j)) in
     let e : get_or (listed tris list) i no_tri ≡ t = get_or-map (λ j. tri_at tris j) list i 0 no_tri below in
     let one = c.sums_of-more.ensures.sums cell t (c.near_parts.ensures cell c.middles_of-middles.ensures.value) in let few = c.sums_of-more.ensures.few in
-    sums_more (listed tris list) cell i c.loop-i.near c.loop-i.x_sum c.loop-i.y_sum c.loop-i.z_sum more.near more.x more.y more.z here c.loop-i.invariant (one.near ∙ ap (λ u. number (is_near cell u)) (sym e)) few.near (λ p. one.x p ∙ ap (near_half_count cell X) (sym e)) few.x (λ p. one.y p ∙ ap (near_half_count cell Y) (sym e)) few.y (λ p. one.z p ∙ ap (near_half_count cell Z) (sym e)) few.z
+    sums_more (listed tris list) cell i c.loop-i.near c.loop-i.x_sum c.loop-i.y_sum c.loop-i.z_sum more.near more.x
+    more.y more.z here c.loop-i.invariant (one.near ∙ ap (λ u. number (is_near cell u)) (sym e)) few.near
+    (λ p. one.x p ∙ ap (near_half_count cell X) (sym e)) few.x (λ p. one.y p ∙ ap (near_half_count cell Y) (sym e))
+    few.y (λ p. one.z p ∙ ap (near_half_count cell Z) (sym e)) few.z
 
 pub returns : goal.returns
 returns c =
-    sums_all (listed c.args.tris.now c.args.list.now) c.args.c.now c.loop-i.i-index (sums_of c.loop-i.near c.loop-i.x_sum c.loop-i.y_sum c.loop-i.z_sum) (omega (arith, length-map c.args.list.now (λ j. tri_at c.args.tris.now j))) c.loop-i.invariant
+    sums_all (listed c.args.tris.now c.args.list.now) c.args.c.now c.loop-i.i-index
+    (sums_of c.loop-i.near c.loop-i.x_sum c.loop-i.y_sum c.loop-i.z_sum)
+    (omega (arith, length-map c.args.list.now (λ j. tri_at c.args.tris.now j))) c.loop-i.invariant

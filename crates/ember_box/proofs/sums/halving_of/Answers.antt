@@ -10,4 +10,5 @@ pub returns-then-is_few-clause-answer : goal.returns-then-is_few-clause-answer
 returns-then-is_few-clause-answer c =
     let ts = listed c.args.tris.now c.args.list.now in let cell = c.args.c.now in
     let few : length c.args.list.now ≤ 16 = leb-true (length c.args.list.now) 16 (sym c.is_few.ensures ∙ c.if-is_few.true) in
-    ap (λ b. if b then None else Some (halving_axis ts cell)) (sym (few_end ts cell (omega (arith, few, length-map c.args.list.now (λ j. tri_at c.args.tris.now j)))))
+    ap (λ b. if b then None else Some (halving_axis ts cell))
+    (sym (few_end ts cell (omega (arith, few, length-map c.args.list.now (λ j. tri_at c.args.tris.now j)))))

@@ -4,4 +4,5 @@ use Rattle.ember_certificate.proofs.closed.halves_of.Given as goal
 
 abbrev pub invariant-loop-s : goal.invariant-loop-s
 invariant-loop-s l =
-    (l.halves.rising.items ≡ map edge_key (filter rises (take l.s-index l.segments))) × (l.halves.falling.items ≡ map reverse_key (filter falls (take l.s-index l.segments)))
+    (l.halves.rising.items ≡ map edge_key (filter rises (take l.s-index l.segments))) ×
+    (l.halves.falling.items ≡ map reverse_key (filter falls (take l.s-index l.segments)))

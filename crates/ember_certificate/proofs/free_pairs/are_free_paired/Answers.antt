@@ -7,5 +7,7 @@ use Rattle.ember_certificate.proofs.free_pairs.are_free_paired.Goals as goal
 pub returns : goal.returns
 returns c =
     let k = same_lists_count c.in_ok-rising.ensures.rising c.in_ok-rising.ensures.falling in
-    let free = filter (is_free c.args.lines.now) c.args.segments.now in
-    (λ t. record { each = paired_from_halves free (k.0 (c.are_rearranged.ensures.0 t)) }, λ h. c.are_rearranged.ensures.1 (k.1 (halves_from_paired free h.each)))
+    let free = filter (is_free c.args.lines.now) c.args.segments.now in (
+      λ t. record { each = paired_from_halves free (k.0 (c.are_rearranged.ensures.0 t)) },
+      λ h. c.are_rearranged.ensures.1 (k.1 (halves_from_paired free h.each)),
+    )

@@ -8,8 +8,12 @@ use Rattle.ember_certificate.proofs.on_lines.are_on_lines.Goals as goal
 
 pub loop-s-preserved : goal.loop-s-preserved
 loop-s-preserved c =
-    all_more (IsOnItsLine c.args.lines.now c.args.corners.now) c.args.segments.now c.loop-s.s-index c.s-item.result c.loop-s-test.true c.s-item.is c.loop-s.invariant (c.is_on_its_line.ensures.0 c.if-not-is_on_its_line.false)
+    all_more (IsOnItsLine c.args.lines.now c.args.corners.now) c.args.segments.now c.loop-s.s-index c.s-item.result
+    c.loop-s-test.true c.s-item.is c.loop-s.invariant (c.is_on_its_line.ensures.0 c.if-not-is_on_its_line.false)
 
 pub returns : goal.returns
-returns c =
-    (λ t. subst (λ (ss : List Segment). All (IsOnItsLine c.args.lines.now c.args.corners.now) ss) (take_all c.loop-s.s-index c.args.segments.now c.loop-s-test.false) c.loop-s.invariant, λ h. refl)
+returns c = (
+  λ t. subst (λ (ss : List Segment). All (IsOnItsLine c.args.lines.now c.args.corners.now) ss)
+      (take_all c.loop-s.s-index c.args.segments.now c.loop-s-test.false) c.loop-s.invariant,
+  λ h. refl,
+)

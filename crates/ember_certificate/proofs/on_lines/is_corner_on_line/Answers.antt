@@ -10,5 +10,11 @@ returns-then-not-has_direction c =
 
 pub returns : goal.returns
 returns c =
-    let k = c.args.line.now in let e = c.meet_of.ensures in
-    (λ t. record { directed = c.has_direction.ensures.0 c.if-not-has_direction.false; on = subst (λ (s : Spot). IsOnLine k s) e (c.is_on_line.ensures.0 t) }, λ h. c.is_on_line.ensures.1 (subst (λ (s : Spot). IsOnLine k s) (sym e) h.on))
+    let k = c.args.line.now in let e = c.meet_of.ensures in (
+      λ t. record {
+        directed = c.has_direction.ensures.0 c.if-not-has_direction.false;
+        on =
+            subst (λ (s : Spot). IsOnLine k s) e (c.is_on_line.ensures.0 t);
+      },
+      λ h. c.is_on_line.ensures.1 (subst (λ (s : Spot). IsOnLine k s) (sym e) h.on),
+    )

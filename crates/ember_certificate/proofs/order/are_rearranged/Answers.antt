@@ -5,4 +5,6 @@ use Rattle.ember_certificate.proofs.order.are_rearranged.Goals as goal
 
 pub returns : goal.returns
 returns c =
-    same_counts_decided c.sort_by_stretches.ensures.permutation c.sort_by_stretches-2.ensures.permutation c.sort_by_stretches.ensures.order c.sort_by_stretches-2.ensures.order (slice_eq-Decides Decides-eqb _ _ _ c.eq.ensures)
+    same_counts_decided c.sort_by_stretches.ensures.permutation c.sort_by_stretches-2.ensures.permutation
+    c.sort_by_stretches.ensures.order c.sort_by_stretches-2.ensures.order
+    (slice_eq-Decides Decides-eqb _ _ _ c.eq.ensures)

@@ -6,4 +6,7 @@ use Rattle.ember_certificate.proofs.order.are_words_rearranged.Goals as goal
 
 pub returns : goal.returns
 returns c =
-    same_counts_decided c.sort_unstable.ensures.permutation c.sort_unstable-2.ensures.permutation (IsNonDecreasingBy-from_sort (λ n. n) _ c.sort_unstable.ensures.sorted) (IsNonDecreasingBy-from_sort (λ n. n) _ c.sort_unstable-2.ensures.sorted) (slice_eq-Decides Decides-eqb _ _ _ c.eq.ensures)
+    same_counts_decided c.sort_unstable.ensures.permutation c.sort_unstable-2.ensures.permutation
+    (IsNonDecreasingBy-from_sort (λ n. n) _ c.sort_unstable.ensures.sorted)
+    (IsNonDecreasingBy-from_sort (λ n. n) _ c.sort_unstable-2.ensures.sorted)
+    (slice_eq-Decides Decides-eqb _ _ _ c.eq.ensures)

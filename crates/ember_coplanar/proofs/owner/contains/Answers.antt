@@ -7,8 +7,11 @@ returns-then-is_below-2 c =
     let t = c.args.t.now in
     let p = edge_at t 0 c.support_of.ensures.value c.main_axis-k.ensures c.edge_plane.ensures.value in
     let q = edge_at t 1 c.support_of.ensures.value c.main_axis-k.ensures c.edge_plane-then-is_below.ensures.value in
-    let r = edge_at t 2 c.support_of.ensures.value c.main_axis-k.ensures c.edge_plane-then-is_below-2.ensures.value in
-    (λ e. below_edges_is_contained t c.requires.plane p q r (c.is_below.ensures.0 c.if-is_below.true) (c.is_below-then-is_below.ensures.0 c.if-is_below-2.true) (c.is_below-then-is_below-2.ensures.0 e), λ h. c.is_below-then-is_below-2.ensures.1 (below_edge t h 2 r))
+    let r = edge_at t 2 c.support_of.ensures.value c.main_axis-k.ensures c.edge_plane-then-is_below-2.ensures.value in (
+      λ e. below_edges_is_contained t c.requires.plane p q r (c.is_below.ensures.0 c.if-is_below.true)
+          (c.is_below-then-is_below.ensures.0 c.if-is_below-2.true) (c.is_below-then-is_below-2.ensures.0 e),
+      λ h. c.is_below-then-is_below-2.ensures.1 (below_edge t h 2 r),
+    )
 
 pub returns-else-is_below-2 : goal.returns-else-is_below-2
 returns-else-is_below-2 c =

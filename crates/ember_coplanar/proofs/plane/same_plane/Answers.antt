@@ -4,12 +4,16 @@ use Rattle.ember_coplanar.proofs.plane.same_plane.Goals as goal
 pub returns-then-lies_on : goal.returns-then-lies_on
 returns-then-lies_on c =
     let support = c.support_of-support.ensures.value in
-    by_all c.args.t.now c.args.u.now (has_normal_is c.args.t.now support c.has_normal.ensures) (lies_on_is c.args.t.now c.args.u.now support c.lies_on.ensures) (has_normal_is c.args.u.now c.support_of.ensures.value c.has_normal-then-lies_on.ensures) c.if-has_normal.true c.if-lies_on.true
+    by_all c.args.t.now c.args.u.now (has_normal_is c.args.t.now support c.has_normal.ensures)
+    (lies_on_is c.args.t.now c.args.u.now support c.lies_on.ensures)
+    (has_normal_is c.args.u.now c.support_of.ensures.value c.has_normal-then-lies_on.ensures) c.if-has_normal.true
+    c.if-lies_on.true
 
 pub returns-else-lies_on : goal.returns-else-lies_on
 returns-else-lies_on c =
     let support = c.support_of-support.ensures.value in
-    by_place c.args.t.now c.args.u.now (has_normal_is c.args.t.now support c.has_normal.ensures) (lies_on_is c.args.t.now c.args.u.now support c.lies_on.ensures) c.if-has_normal.true c.if-lies_on.false
+    by_place c.args.t.now c.args.u.now (has_normal_is c.args.t.now support c.has_normal.ensures)
+    (lies_on_is c.args.t.now c.args.u.now support c.lies_on.ensures) c.if-has_normal.true c.if-lies_on.false
 
 pub returns-else-has_normal : goal.returns-else-has_normal
 returns-else-has_normal c =

@@ -14,4 +14,5 @@ invariant_of-result c =
 pub returns-then-text-gt-MOST_BYTES-clause-fault : goal.returns-then-text-gt-MOST_BYTES-clause-fault
 returns-then-text-gt-MOST_BYTES-clause-fault c =
     let text = c.args.text.now in
-    inr (ap (λ (b : Bool). cond b (whole (record { meshes = c.args.meshes; end = length text }) 64 (tokens_of text)) (Err Long)) (lt-leb (length text) 4096 (omega arith)))
+    inr (ap (λ (b : Bool). cond b (whole (record { meshes = c.args.meshes; end = length text }) 64 (tokens_of text))
+    (Err Long)) (lt-leb (length text) 4096 (omega arith)))

@@ -23,7 +23,8 @@ decreases-not l = l.depth_left * 8 + 1
 
 abbrev pub invariant-chain-parts : goal.invariant-chain-parts
 invariant-chain-parts l = record {
-  read : IsChainSoFar l.kind (part_of l.kind (not l.scope l.depth_left)) (chain_of l.kind (part_of l.kind (not l.scope l.depth_left)) l.fn.tokens) (formula_of l.tree) l.rest;
+  read : IsChainSoFar l.kind (part_of l.kind (not l.scope l.depth_left))
+      (chain_of l.kind (part_of l.kind (not l.scope l.depth_left)) l.fn.tokens) (formula_of l.tree) l.rest;
   fit : IsFit l.scope.meshes (formula_of l.tree);
   shorter : length l.rest < length l.fn.tokens;
 }

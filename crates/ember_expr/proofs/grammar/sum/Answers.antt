@@ -10,10 +10,14 @@ pub terms-preserved : goal.terms-preserved
 terms-preserved c =
     let sign : sign_before c.terms.rest.now ≡ Some c.in-Some.minus = search rules in
     let next : term c.args.scope c.in-Some.minus (after_first c.terms.rest.now) ≡ read c.in_ok-next.next c.in_ok-next.after.now = search rules in
-    let one : length c.add-in-Some.new.terms.items ≡ length c.terms.terms.items + 1 = rw c.in_ok-add-2.ensures.terms (omega (arith, length-append {A = Term})) in
+    let one : length c.add-in-Some.new.terms.items ≡ length c.terms.terms.items + 1 =
+    rw c.in_ok-add-2.ensures.terms (omega (arith, length-append {A = Term})) in
     record {
-      read = rw c.in_ok-add-2.ensures.terms (one_term c.args.scope (sum c.args.scope c.args.tokens.now) c.terms.terms.items c.terms.rest.now c.in-Some.minus c.in_ok-next.next c.in_ok-next.after.now c.terms.invariant.read sign next (search rules));
-      fit = rw c.in_ok-add-2.ensures.terms (All-push (IsFitTerm c.args.scope.meshes) c.terms.terms.items c.in_ok-next.next c.terms.invariant.fit c.in_ok-next.ensures.fit);
+      read = rw c.in_ok-add-2.ensures.terms (one_term c.args.scope (sum c.args.scope c.args.tokens.now)
+          c.terms.terms.items c.terms.rest.now c.in-Some.minus c.in_ok-next.next c.in_ok-next.after.now
+          c.terms.invariant.read sign next (search rules));
+      fit = rw c.in_ok-add-2.ensures.terms (All-push (IsFitTerm c.args.scope.meshes) c.terms.terms.items
+          c.in_ok-next.next c.terms.invariant.fit c.in_ok-next.ensures.fit);
       short = search rules;
       shorter = search rules;
     }

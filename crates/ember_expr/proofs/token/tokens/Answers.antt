@@ -10,7 +10,9 @@ tokens-preserved c =
     let shorter : length c.in-Some.after.now + 1 ≡ length c.tokens.rest.now = search rules in
     let one : length c.add.new.tokens.items ≡ length c.tokens.tokens.items + 1 = rw c.in_ok-add.ensures (omega (arith, length-append {A = Token})) in
     record {
-      same = rw (c.in_ok-add.ensures, c.split_at.ensures.back, c.longest-lexeme.ensures.lexeme) (one_token c.tokens.place c.in-Some.first.now c.in-Some.after.now c.tokens.tokens.items (tokens_of c.args.text.now) (rw split at c.tokens.invariant.same) (search rules));
+      same = rw (c.in_ok-add.ensures, c.split_at.ensures.back, c.longest-lexeme.ensures.lexeme)
+          (one_token c.tokens.place c.in-Some.first.now c.in-Some.after.now c.tokens.tokens.items
+          (tokens_of c.args.text.now) (rw split at c.tokens.invariant.same) (search rules));
       few = omega (arith, c.split_at.ensures.back_len);
       placed = omega (arith, c.split_at.ensures.back_len);
     }

@@ -12,5 +12,6 @@ returns-in-Mesh t c =
 
 pub returns-in-Odd : goal.returns-in-Odd
 returns-in-Odd t c =
-    let odd : truth c.args.v.now.counts (formula_of c.args.tree.now) ≡ not (nat_eq (of_z w64 (rem_z (to_z w64 (of_z w64 c.sum_value.result)) (pos 2))) 0) = search rules in
+    let odd : truth c.args.v.now.counts (formula_of c.args.tree.now) ≡ not
+    (nat_eq (of_z w64 (rem_z (to_z w64 (of_z w64 c.sum_value.result)) (pos 2))) 0) = search rules in
     sym odd

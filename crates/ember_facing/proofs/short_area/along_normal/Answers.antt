@@ -21,7 +21,8 @@ pub overflow_mul-result-3 : goal.overflow_mul-result-3
 overflow_mul-result-3 c = no_overflow (c.requires.plane.c & c.requires.z & done) w128 (wide 0 ⊠ kept 1) tt
 
 pub overflow_add-result-2 : goal.overflow_add-result-2
-overflow_add-result-2 c = no_overflow (c.requires.plane.a & c.requires.x & c.requires.plane.b & c.requires.y & c.requires.plane.c & c.requires.z & done) w128 three tt
+overflow_add-result-2 c = no_overflow (c.requires.plane.a & c.requires.x & c.requires.plane.b & c.requires.y &
+    c.requires.plane.c & c.requires.z & done) w128 three tt
 
 pub returns : goal.returns
 returns c = exact (c.requires.plane.a & c.requires.x & c.requires.plane.b & c.requires.y & c.requires.plane.c & c.requires.z & done) (stored w128 three) tt

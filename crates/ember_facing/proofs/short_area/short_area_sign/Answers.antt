@@ -16,4 +16,6 @@ returns c =
     let ez = minor_read c.minor-z.result u.x u.y v.x v.y (record { sfits = c.minor-z.type_inv }) s.x s.y t.x t.y c.minor-z.ensures.value in
     let f : SFits w128 c.along_normal.result = record { sfits = c.along_normal.type_inv } in
     let e = along_same c.along_normal.result p.a p.b p.c _ _ _ _ _ _ c.along_normal.ensures ex ey ez in
-    c.sign_of.ensures ∙ ap sgn (to_z-of_z f ∙ e ∙ ap (λ (w : Vector). det (normal p) w (short_vector v)) c.difference-u.ensures ∙ ap (λ (w : Vector). det (normal p) (minus_v (short_point c.args.b.now) (short_point c.args.a.now)) w) c.difference-v.ensures)
+    c.sign_of.ensures ∙ ap sgn (to_z-of_z f ∙ e ∙ ap (λ (w : Vector). det (normal p) w (short_vector v))
+    c.difference-u.ensures ∙ ap (λ (w : Vector). det (normal p)
+    (minus_v (short_point c.args.b.now) (short_point c.args.a.now)) w) c.difference-v.ensures)

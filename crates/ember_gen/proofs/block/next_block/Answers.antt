@@ -26,8 +26,11 @@ returns-clause-block c i e =
     let u = exact (c.place.ensures.small & c.side.ensures.small & done) (stored w32 sum) tt in
     let v = exact (c.place-2.ensures.small & c.side-2.ensures.small & done) (stored w32 sum) tt in
     let w = exact (c.place-3.ensures.small & c.side-3.ensures.small & done) (stored w32 sum) tt in
-    (λ k. record { low = record { x = x k; y = y k; z = z k }; high = record { x = u k; y = v k; z = w k } }) ∙ block_from i d c.place.ensures.place c.place-2.ensures.place c.place-3.ensures.place c.side.ensures.side c.side-2.ensures.side c.side-3.ensures.side
+    (λ k. record { low = record { x = x k; y = y k; z = z k }; high = record { x = u k; y = v k; z = w k } })
+    ∙ block_from i d c.place.ensures.place c.place-2.ensures.place c.place-3.ensures.place c.side.ensures.side
+    c.side-2.ensures.side c.side-3.ensures.side
 
 pub returns-clause-next : goal.returns-clause-next
 returns-clause-next c i e =
-    next_six i (six_states i e c.place.ensures.next c.place-2.ensures.next c.place-3.ensures.next c.side.ensures.next c.side-2.ensures.next c.side-3.ensures.next)
+    next_six i (six_states i e c.place.ensures.next c.place-2.ensures.next c.place-3.ensures.next c.side.ensures.next
+    c.side-2.ensures.next c.side-3.ensures.next)

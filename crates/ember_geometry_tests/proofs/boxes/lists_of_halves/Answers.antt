@@ -3,4 +3,5 @@ use Rattle.ember_visit.proofs.IndexLists.{job_places}
 use Rattle.ember_geometry_tests.proofs.boxes.lists_of_halves.Goals as goal
 
 pub near_halves-requires-clause-places : goal.near_halves-requires-clause-places
-near_halves-requires-clause-places c = subst (All (λ i. i < length c.args.s.now.tris)) (sym c.items.ensures) (job_places c.args.s.now.tris c.args.job.now c.requires.job)
+near_halves-requires-clause-places c = subst (All (λ i. i < length c.args.s.now.tris)) (sym c.items.ensures)
+    (job_places c.args.s.now.tris c.args.job.now c.requires.job)

@@ -9,4 +9,5 @@ contains-requires-clause-plane c =
 
 pub is_owner-requires-clause-plane : goal.is_owner-requires-clause-plane
 is_owner-requires-clause-plane c =
-    lies_at c.args.near.now c.args.i _ c.args.ring.now c.requires.place (lies_on_both _ _ c.args.ring.now (sym c.same_plane.ensures ∙ c.if-same_plane.true) c.requires.ring)
+    lies_at c.args.near.now c.args.i _ c.args.ring.now c.requires.place
+    (lies_on_both _ _ c.args.ring.now (sym c.same_plane.ensures ∙ c.if-same_plane.true) c.requires.ring)

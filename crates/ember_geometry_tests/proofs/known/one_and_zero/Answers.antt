@@ -5,4 +5,5 @@ use Rattle.ember_geometry_tests.proofs.known.one_and_zero.Goals as goal
 
 pub returns : goal.returns
 returns c =
-    All-set (Small 16777216) (replicate 64 (pos 0)) 0 (pos 1) (record { small = omega arith }) (All-replicate (Small 16777216) 64 (pos 0) (record { small = omega arith }))
+    All-set (Small 16777216) (replicate 64 (pos 0)) 0 (pos 1) (record { small = omega arith })
+    (All-replicate (Small 16777216) 64 (pos 0) (record { small = omega arith }))

@@ -6,4 +6,7 @@ pub returns : goal.returns
 unfolding accessors_text
 returns c =
     on_ok_if _ _ c.extend_from_slice-7.result c.extend_from_slice-7.ensures.items
-    (after9 _ _ _ _ _ _ _ _ _ _ _ _ _ _ _ _ _ _ c.in_ok-extend_from_slice.ensures.items c.in_ok-put_accessor.ensures c.in_ok-extend_from_slice-2.ensures.items c.in_ok-extend_from_slice-3.ensures.items c.in_ok-extend_from_slice-4.ensures.items c.in_ok-extend_from_slice-5.ensures.items c.in_ok-extend_from_slice-6.ensures.items c.in_ok-put_accessor-2.ensures)
+    (after9 _ _ _ _ _ _ _ _ _ _ _ _ _ _ _ _ _ _ c.in_ok-extend_from_slice.ensures.items c.in_ok-put_accessor.ensures
+    c.in_ok-extend_from_slice-2.ensures.items c.in_ok-extend_from_slice-3.ensures.items
+    c.in_ok-extend_from_slice-4.ensures.items c.in_ok-extend_from_slice-5.ensures.items
+    c.in_ok-extend_from_slice-6.ensures.items c.in_ok-put_accessor-2.ensures)

@@ -9,7 +9,8 @@ use Rattle.ember_grid.specs.Grids.{IsWantedStep, IsExtent, IsTooSmall}
 use Rattle.ember_grid.proofs.choice.grid_for.Goals as goal
 
 -- only a given step can be too small
-given_is_too_small : (c : Coordinates) (wanted : Wanted) (step : Step) (e : Extent) → IsWantedStep wanted c step → (FitsAll step c → ⊥) → IsExtent c e → IsTooSmall c wanted e
+given_is_too_small : (c : Coordinates) (wanted : Wanted) (step : Step) (e : Extent) → IsWantedStep wanted c step →
+    (FitsAll step c → ⊥) → IsExtent c e → IsTooSmall c wanted e
 given_is_too_small c Nice step e h unfit is = absurd (unfit h.fits)
 given_is_too_small c Finest step e h unfit is = absurd (unfit h.fits)
 given_is_too_small c (Given given) step e h unfit is = record {
@@ -21,4 +22,5 @@ given_is_too_small c (Given given) step e h unfit is = record {
 
 pub returns-in-None-clause-fault : goal.returns-in-None-clause-fault
 returns-in-None-clause-fault c =
-    given_is_too_small c.args.coordinates.now c.args.wanted c.wanted_step-step.result c.extent_of.result c.wanted_step-step.ensures.value c.in-None.ensures.none c.extent_of.ensures
+    given_is_too_small c.args.coordinates.now c.args.wanted c.wanted_step-step.result c.extent_of.result
+    c.wanted_step-step.ensures.value c.in-None.ensures.none c.extent_of.ensures

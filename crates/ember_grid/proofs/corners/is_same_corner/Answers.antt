@@ -7,7 +7,10 @@ use Rattle.ember_grid.proofs.corners.is_same_corner.Goals as goal
 pub returns : goal.returns
 returns c =
     let u = c.requires.first in let v = c.requires.second in
-    let x = exact (c.difference.ensures.small & done) (stored w32 (input 0)) tt ∙ c.difference.ensures.value ∙ exact (u.x & v.x & done) (stored w32 (input 0) ⊟ stored w32 (input 1)) tt in
-    let y = exact (c.difference-2.ensures.small & done) (stored w32 (input 0)) tt ∙ c.difference-2.ensures.value ∙ exact (u.y & v.y & done) (stored w32 (input 0) ⊟ stored w32 (input 1)) tt in
-    let z = exact (c.difference-3.ensures.small & done) (stored w32 (input 0)) tt ∙ c.difference-3.ensures.value ∙ exact (u.z & v.z & done) (stored w32 (input 0) ⊟ stored w32 (input 1)) tt in
+    let x = exact (c.difference.ensures.small & done) (stored w32 (input 0)) tt ∙ c.difference.ensures.value
+    ∙ exact (u.x & v.x & done) (stored w32 (input 0) ⊟ stored w32 (input 1)) tt in
+    let y = exact (c.difference-2.ensures.small & done) (stored w32 (input 0)) tt ∙ c.difference-2.ensures.value
+    ∙ exact (u.y & v.y & done) (stored w32 (input 0) ⊟ stored w32 (input 1)) tt in
+    let z = exact (c.difference-3.ensures.small & done) (stored w32 (input 0)) tt ∙ c.difference-3.ensures.value
+    ∙ exact (u.z & v.z & done) (stored w32 (input 0) ⊟ stored w32 (input 1)) tt in
     c.are_zero.ensures ∙ (λ i. is_zero (x i) && (is_zero (y i) && is_zero (z i)))

@@ -18,4 +18,5 @@ pub returns-clause-small : goal.returns-clause-small
 returns-clause-small c =
     let first = greater_below c.length_along-x.result c.length_along-y.result (2 ^ 108) c.length_along-x.ensures.small c.length_along-y.ensures.small in
     let below = subst (λ (n : ℕ). n < 2 ^ 108) (sym c.greater.ensures) first in
-    subst (λ (n : ℕ). n < 2 ^ 108) (sym c.greater-2.ensures) (greater_below c.greater.result c.length_along-z.result (2 ^ 108) below c.length_along-z.ensures.small)
+    subst (λ (n : ℕ). n < 2 ^ 108) (sym c.greater-2.ensures)
+    (greater_below c.greater.result c.length_along-z.result (2 ^ 108) below c.length_along-z.ensures.small)

@@ -12,6 +12,9 @@ returns-clause-marks c =
     let many : c.len.result ≡ n = omega (arith, c.len.ensures, c.args.surface.now.vertices.ok.0) in
     let none : AreMarks n [] c.deref_mut.result.now = rw (c.deref_mut.ensures.value, first, many) (no_marks n) in
     let all = c.mark_all.ensures.marks.after n [] none in
-    let some : AreMarks n (indices_in c.args.surface.now.facets.items) c.mark_all.new.marks = subst (λ (fs : List Facet). AreMarks n (indices_in fs) c.mark_all.new.marks) c.deref.ensures.value all in
-    let stored : take marks.len (c.mark_all.new.marks ++ drop (length c.mark_all.new.marks) marks.items) ≡ c.mark_all.new.marks = written_back c.mark_all.new.marks marks.items marks.len (omega (arith, some.many, marks.ok.0, c.deref_mut.ensures.len, none.many)) (omega (arith, marks.ok.0)) in
+    let some : AreMarks n (indices_in c.args.surface.now.facets.items) c.mark_all.new.marks =
+    subst (λ (fs : List Facet). AreMarks n (indices_in fs) c.mark_all.new.marks) c.deref.ensures.value all in
+    let stored : take marks.len (c.mark_all.new.marks ++ drop (length c.mark_all.new.marks) marks.items)
+    ≡ c.mark_all.new.marks = written_back c.mark_all.new.marks marks.items marks.len
+    (omega (arith, some.many, marks.ok.0, c.deref_mut.ensures.len, none.many)) (omega (arith, marks.ok.0)) in
     subst (AreMarks n (indices_in c.args.surface.now.facets.items)) (sym stored) some

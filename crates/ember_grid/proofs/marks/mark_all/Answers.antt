@@ -13,6 +13,8 @@ pub loop-facet-preserved : goal.loop-facet-preserved
 loop-facet-preserved c =
     let none : Facet = record { corners = []; place = 0 } in
     record {
-      marks = marked_facet c.args.facets.now c.loop-facet.facet-index none _ _ _ c.loop-facet-test.true c.loop-facet.invariant.marks c.mark_corners.ensures.marks;
-      three = All-more HasThreeCorners c.args.facets.now c.loop-facet.facet-index none c.loop-facet-test.true c.loop-facet.invariant.three c.mark_corners.ensures.three;
+      marks = marked_facet c.args.facets.now c.loop-facet.facet-index none _ _ _ c.loop-facet-test.true
+          c.loop-facet.invariant.marks c.mark_corners.ensures.marks;
+      three = All-more HasThreeCorners c.args.facets.now c.loop-facet.facet-index none c.loop-facet-test.true
+          c.loop-facet.invariant.three c.mark_corners.ensures.three;
     }

@@ -7,7 +7,11 @@ use Rattle.ember_grid.proofs.Positions.{closed_on_grid}
 use Rattle.ember_grid.proofs.snapping.snap_surface.Goals as goal
 
 pub returns-clause-mesh : goal.returns-clause-mesh
-returns-clause-mesh c = All-same (λ t. t.mesh ≡ c.args.mesh) _ _ (c.finished.ensures.tris ∙ c.in_ok-snapping.ensures.tris) (images_of_mesh (corner_at c.args.grid.now c.args.surface.now.vertices.items) c.args.mesh c.args.surface.now.facets.items)
+returns-clause-mesh c = All-same (λ t. t.mesh ≡ c.args.mesh) _ _
+    (c.finished.ensures.tris ∙ c.in_ok-snapping.ensures.tris)
+    (images_of_mesh (corner_at c.args.grid.now c.args.surface.now.vertices.items) c.args.mesh
+    c.args.surface.now.facets.items)
 
 pub returns-clause-closed : goal.returns-clause-closed
-returns-clause-closed c = λ h. subst IsBalanced (sym (c.finished.ensures.tris ∙ c.in_ok-snapping.ensures.tris)) (closed_on_grid c.args.grid.now c.args.surface.now c.args.mesh c.requires.step h)
+returns-clause-closed c = λ h. subst IsBalanced (sym (c.finished.ensures.tris ∙ c.in_ok-snapping.ensures.tris))
+    (closed_on_grid c.args.grid.now c.args.surface.now c.args.mesh c.requires.step h)

@@ -21,15 +21,25 @@ loop-side-preserved c = record {
   many = c.match-get_index_of.auto.uses ∙ c.loop-side.invariant.many;
   counted =
       elim c.match-get_index_of.branch [
-        | in-Some w ↦ side_added c.args.edges.now.keys c.args.sides.now c.loop-side.side-index _ w.in-Some.number c.loop-side.uses c.match-get_index_of.uses c.loop-side-test.true (sym c.get_index_of.ensures.index ∙ w.in-Some.is) (subst (λ (n : ℕ). w.in-Some.number < n) (sym c.loop-side.invariant.many) w.in-Some.ensures.within) c.loop-side.invariant.counted (w.uses-is ∙ w.add_use.ensures)
-        | in-None w ↦ side_passed c.args.edges.now.keys c.args.sides.now c.loop-side.side-index _ c.loop-side.uses c.match-get_index_of.uses c.loop-side-test.true (sym c.get_index_of.ensures.index ∙ w.in-None.is) c.loop-side.invariant.counted w.uses-is
+        | in-Some w ↦ side_added c.args.edges.now.keys c.args.sides.now c.loop-side.side-index _ w.in-Some.number
+            c.loop-side.uses c.match-get_index_of.uses c.loop-side-test.true
+            (sym c.get_index_of.ensures.index ∙ w.in-Some.is)
+            (subst (λ (n : ℕ). w.in-Some.number < n) (sym c.loop-side.invariant.many) w.in-Some.ensures.within)
+            c.loop-side.invariant.counted (w.uses-is ∙ w.add_use.ensures)
+        | in-None w ↦ side_passed c.args.edges.now.keys c.args.sides.now c.loop-side.side-index _ c.loop-side.uses
+            c.match-get_index_of.uses c.loop-side-test.true (sym c.get_index_of.ensures.index ∙ w.in-None.is)
+            c.loop-side.invariant.counted w.uses-is
       ];
 }
 
 pub add_use-requires-clause-up : goal.add_use-requires-clause-up
 add_use-requires-clause-up c =
-    up_counts c.args.edges.now.keys c.args.sides.now c.loop-side.side-index (record { edge = record { low = 0; high = 0 }; rises = false }) c.loop-side.uses c.in-Some.number c.loop-side-test.true (omega arith) c.loop-side.invariant.counted c.in-Some.ensures.within
+    up_counts c.args.edges.now.keys c.args.sides.now c.loop-side.side-index
+    (record { edge = record { low = 0; high = 0 }; rises = false }) c.loop-side.uses c.in-Some.number
+    c.loop-side-test.true (omega arith) c.loop-side.invariant.counted c.in-Some.ensures.within
 
 pub add_use-requires-clause-down : goal.add_use-requires-clause-down
 add_use-requires-clause-down c =
-    down_counts c.args.edges.now.keys c.args.sides.now c.loop-side.side-index (record { edge = record { low = 0; high = 0 }; rises = false }) c.loop-side.uses c.in-Some.number c.loop-side-test.true (omega arith) c.loop-side.invariant.counted c.in-Some.ensures.within
+    down_counts c.args.edges.now.keys c.args.sides.now c.loop-side.side-index
+    (record { edge = record { low = 0; high = 0 }; rises = false }) c.loop-side.uses c.in-Some.number
+    c.loop-side-test.true (omega arith) c.loop-side.invariant.counted c.in-Some.ensures.within

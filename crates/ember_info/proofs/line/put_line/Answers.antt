@@ -6,4 +6,5 @@ use Rattle.ember_info.proofs.line.put_line.Goals as goal
 pub returns : goal.returns
 returns c =
     let info = c.args.info.now in
-    line_said c.args.name.now info c.as_str.result.now _ _ c.put_line_with.result (subst (IsFloatText info.volume) (sym c.as_str.ensures.value) c.in_ok-volume.ensures) c.put_line_with.ensures
+    line_said c.args.name.now info c.as_str.result.now _ _ c.put_line_with.result
+    (subst (IsFloatText info.volume) (sym c.as_str.ensures.value) c.in_ok-volume.ensures) c.put_line_with.ensures

@@ -26,6 +26,16 @@ pub returns : goal.returns
 returns c =
     let d = c.args.divisor in let l = c.args.line.now in let s = c.requires.sized in
     record {
-      directions = same_v (quotient_kept w64 d c.quotient.result l.dx c.ranges.divisor (record { sfits = c.quotient.type_inv }) (exact (s.dx & done) (narrow 0) tt) c.quotient.ensures) (quotient_kept w64 d c.quotient-2.result l.dy c.ranges.divisor (record { sfits = c.quotient-2.type_inv }) (exact (s.dy & done) (narrow 0) tt) c.quotient-2.ensures) (quotient_kept w64 d c.quotient-3.result l.dz c.ranges.divisor (record { sfits = c.quotient-3.type_inv }) (exact (s.dz & done) (narrow 0) tt) c.quotient-3.ensures);
-      moments = same_v (quotient_kept w128 d c.large_quotient.result l.mx c.ranges.divisor (record { sfits = c.large_quotient.type_inv }) (exact (s.mx & done) (kept 0) tt) c.large_quotient.ensures) (quotient_kept w128 d c.large_quotient-2.result l.my c.ranges.divisor (record { sfits = c.large_quotient-2.type_inv }) (exact (s.my & done) (kept 0) tt) c.large_quotient-2.ensures) (quotient_kept w128 d c.large_quotient-3.result l.mz c.ranges.divisor (record { sfits = c.large_quotient-3.type_inv }) (exact (s.mz & done) (kept 0) tt) c.large_quotient-3.ensures);
+      directions = same_v (quotient_kept w64 d c.quotient.result l.dx c.ranges.divisor
+          (record { sfits = c.quotient.type_inv }) (exact (s.dx & done) (narrow 0) tt) c.quotient.ensures)
+          (quotient_kept w64 d c.quotient-2.result l.dy c.ranges.divisor (record { sfits = c.quotient-2.type_inv })
+          (exact (s.dy & done) (narrow 0) tt) c.quotient-2.ensures)
+          (quotient_kept w64 d c.quotient-3.result l.dz c.ranges.divisor (record { sfits = c.quotient-3.type_inv })
+          (exact (s.dz & done) (narrow 0) tt) c.quotient-3.ensures);
+      moments = same_v (quotient_kept w128 d c.large_quotient.result l.mx c.ranges.divisor
+          (record { sfits = c.large_quotient.type_inv }) (exact (s.mx & done) (kept 0) tt) c.large_quotient.ensures)
+          (quotient_kept w128 d c.large_quotient-2.result l.my c.ranges.divisor
+          (record { sfits = c.large_quotient-2.type_inv }) (exact (s.my & done) (kept 0) tt) c.large_quotient-2.ensures)
+          (quotient_kept w128 d c.large_quotient-3.result l.mz c.ranges.divisor
+          (record { sfits = c.large_quotient-3.type_inv }) (exact (s.mz & done) (kept 0) tt) c.large_quotient-3.ensures);
     }

@@ -20,7 +20,8 @@ pub returns-clause-points : goal.returns-clause-points
 returns-clause-points c =
     let k : to_z w64 (of_z w64 c.signed_divisor.result) ≡ c.signed_divisor.result = to_z-of_z {w = w64} (record { sfits = c.signed_divisor.type_inv }) in
     let m = subst (λ (d : ℤ). IsMultiple d c.divided.result c.meet_of_planes-line.result) k c.divided.ensures in let d = c.signed_divisor.ensures in
-    λ v. points_of_key (multiple_key m d.nonzero c.args.plane.now c.args.edge.now c.meet_of_planes-line.ensures.direction c.meet_of_planes-line.ensures.moment d.divisor d.sign) v
+    λ v. points_of_key (multiple_key m d.nonzero c.args.plane.now c.args.edge.now
+    c.meet_of_planes-line.ensures.direction c.meet_of_planes-line.ensures.moment d.divisor d.sign) v
 
 pub returns-clause-sized : goal.returns-clause-sized
 returns-clause-sized c =

@@ -28,7 +28,12 @@ returns-then-is_backward c =
     let n = divisor_nonzero l c.requires.direction i.divides.0 i.divides.1.0 i.divides.1.1.0 in
     let e = exact (divisor_small l c.requires.direction g c.requires.sized i.divides & done) (stored w64 code) tt in
     let b = backward_is_minus_one (l.dx ∷ l.dy ∷ l.dz ∷ []) (sym c.is_backward.ensures ∙ c.if-is_backward.true) in
-    record { divisor = subst (λ (n : ℕ). IsGreatestDivisor (coordinates l) n) (sym (minus_size g _ e)) i; nonzero = λ z. n (minus_zero g _ e z); sign = sign_neg (minus_negative g _ e n) ∙ sym b }
+    record {
+      divisor = subst (λ (n : ℕ). IsGreatestDivisor (coordinates l) n) (sym (minus_size g _ e)) i;
+      nonzero =
+          λ z. n (minus_zero g _ e z);
+      sign = sign_neg (minus_negative g _ e n) ∙ sym b;
+    }
 
 pub returns-else-is_backward : goal.returns-else-is_backward
 returns-else-is_backward c =
@@ -36,4 +41,10 @@ returns-else-is_backward c =
     let n = divisor_nonzero l c.requires.direction i.divides.0 i.divides.1.0 i.divides.1.1.0 in
     let e = exact (divisor_small l c.requires.direction g c.requires.sized i.divides & done) (narrow 0) tt in
     let b = forward_or_zero (l.dx ∷ l.dy ∷ l.dz ∷ []) (sym c.is_backward.ensures ∙ c.if-is_backward.false) in
-    record { divisor = subst (λ (n : ℕ). IsGreatestDivisor (coordinates l) n) (sym (ap unsigned_abs e)) i; nonzero = λ z. n (plus_zero g _ e z); sign = sign_pos (plus_positive g _ e n) ∙ ⊎_elim (λ f. sym f) (λ z. absurd (c.requires.direction (same_v z.0 z.1.0 z.1.1.0))) b }
+    record {
+      divisor = subst (λ (n : ℕ). IsGreatestDivisor (coordinates l) n) (sym (ap unsigned_abs e)) i;
+      nonzero =
+          λ z. n (plus_zero g _ e z);
+      sign = sign_pos (plus_positive g _ e n)
+          ∙ ⊎_elim (λ f. sym f) (λ z. absurd (c.requires.direction (same_v z.0 z.1.0 z.1.1.0))) b;
+    }

@@ -17,4 +17,11 @@ returns-then-is_short-4 c =
 
 pub returns : goal.returns
 returns c =
-    rw (to_z-of_z c.ranges.a, to_z-of_z c.ranges.b, to_z-of_z c.ranges.c, to_z-of_z c.ranges.d, to_z-of_z c.ranges.w, to_z-of_z c.ranges.m) at c.is_wide_moment.ensures
+    rw (
+      to_z-of_z c.ranges.a,
+      to_z-of_z c.ranges.b,
+      to_z-of_z c.ranges.c,
+      to_z-of_z c.ranges.d,
+      to_z-of_z c.ranges.w,
+      to_z-of_z c.ranges.m,
+    ) at c.is_wide_moment.ensures

@@ -24,7 +24,8 @@ returns-then-not-is_moment-2 c =
 pub returns : goal.returns
 returns c =
     let l = c.args.line.now in let p = c.args.p.now in
-    let x : SFits w128 p.x = search rules in let y : SFits w128 p.y = search rules in let z : SFits w128 p.z = search rules in let w : SFits w128 p.w = search rules in
+    let x : SFits w128 p.x = search rules in let y : SFits w128 p.y = search rules in let z : SFits w128 p.z =
+    search rules in let w : SFits w128 p.w = search rules in
     let dx : SFits w64 l.dx = search rules in let dy : SFits w64 l.dy = search rules in let dz : SFits w64 l.dz = search rules in
     let mx : SFits w128 l.mx = search rules in let my : SFits w128 l.my = search rules in let mz : SFits w128 l.mz = search rules in
     let e = rw (to_z-of_z y, to_z-of_z z, to_z-of_z w, to_z-of_z dz, to_z-of_z dy, to_z-of_z mx) at c.is_moment.ensures in

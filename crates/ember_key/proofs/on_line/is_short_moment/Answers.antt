@@ -19,5 +19,14 @@ overflow_sub-result c =
 
 pub returns : goal.returns
 returns c =
-    let i = c.requires.a & small_of_fits w64 c.ranges.b & c.requires.c & small_of_fits w64 c.ranges.d & small_of_fits w64 c.ranges.w & small_of_fits w64 c.ranges.m & done in
-    rw (to_z-of_z c.ranges.a, to_z-of_z c.ranges.b, to_z-of_z c.ranges.c, to_z-of_z c.ranges.d, to_z-of_z c.ranges.w, to_z-of_z c.ranges.m) (equal_values w128 (no_overflow i w128 left tt) (no_overflow i w128 right tt) (exact i left tt) (exact i right tt))
+    let i = c.requires.a & small_of_fits w64 c.ranges.b & c.requires.c & small_of_fits w64 c.ranges.d & small_of_fits
+    w64 c.ranges.w & small_of_fits w64 c.ranges.m & done in
+    rw (
+      to_z-of_z c.ranges.a,
+      to_z-of_z c.ranges.b,
+      to_z-of_z c.ranges.c,
+      to_z-of_z c.ranges.d,
+      to_z-of_z c.ranges.w,
+      to_z-of_z c.ranges.m,
+    ) (equal_values w128 (no_overflow i w128 left tt) (no_overflow i w128 right tt)
+    (exact i left tt) (exact i right tt))

@@ -19,4 +19,11 @@ quotient-requires-4-clause-divides c = divides_read w64 c.ranges.divisor (exact 
 pub returns : goal.returns
 returns c =
     let d = c.args.divisor in let p = c.args.plane.now in let v = c.requires.valid in
-    same_plane (quotient_kept w64 d c.quotient.result p.a c.ranges.divisor (record { sfits = c.quotient.type_inv }) (exact (v.a & done) (narrow 0) tt) c.quotient.ensures) (quotient_kept w64 d c.quotient-2.result p.b c.ranges.divisor (record { sfits = c.quotient-2.type_inv }) (exact (v.b & done) (narrow 0) tt) c.quotient-2.ensures) (quotient_kept w64 d c.quotient-3.result p.c c.ranges.divisor (record { sfits = c.quotient-3.type_inv }) (exact (v.c & done) (narrow 0) tt) c.quotient-3.ensures) (quotient_kept w64 d c.quotient-4.result p.d c.ranges.divisor (record { sfits = c.quotient-4.type_inv }) (exact (v.d & done) (narrow 0) tt) c.quotient-4.ensures)
+    same_plane (quotient_kept w64 d c.quotient.result p.a c.ranges.divisor (record { sfits = c.quotient.type_inv })
+    (exact (v.a & done) (narrow 0) tt) c.quotient.ensures)
+    (quotient_kept w64 d c.quotient-2.result p.b c.ranges.divisor (record { sfits = c.quotient-2.type_inv })
+    (exact (v.b & done) (narrow 0) tt) c.quotient-2.ensures)
+    (quotient_kept w64 d c.quotient-3.result p.c c.ranges.divisor (record { sfits = c.quotient-3.type_inv })
+    (exact (v.c & done) (narrow 0) tt) c.quotient-3.ensures)
+    (quotient_kept w64 d c.quotient-4.result p.d c.ranges.divisor (record { sfits = c.quotient-4.type_inv })
+    (exact (v.d & done) (narrow 0) tt) c.quotient-4.ensures)

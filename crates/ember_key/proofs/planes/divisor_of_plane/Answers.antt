@@ -13,17 +13,32 @@ use Rattle.ember_key.proofs.planes.divisor_of_plane.Goals as goal
 
 small : (p : Plane) (g : ℕ) → IsValidPlane p → IsGreatestDivisor (coefficients p) g → Small 549755813887 (pos g)
 small p g v i =
-    greatest_divisor_small 549755813887 g (coefficients p) i (small_within (omega arith) v.a, (small_within (omega arith) v.b, (small_within (omega arith) v.c, (v.d, tt))))
+    greatest_divisor_small 549755813887 g (coefficients p) i (
+      small_within (omega arith) v.a,
+      (small_within (omega arith) v.b, (small_within (omega arith) v.c, (v.d, tt))),
+    )
 
 pub overflow_cast-result : goal.overflow_cast-result
 overflow_cast-result c =
     let p = c.args.plane.now in let v = c.requires in
-    let i : IsGreatestDivisor (coefficients p) c.divisor_of_four.result = rw (exact (v.a & done) (narrow 0) tt, exact (v.b & done) (narrow 0) tt, exact (v.c & done) (narrow 0) tt, exact (v.d & done) (narrow 0) tt) at c.divisor_of_four.ensures in
+    let i : IsGreatestDivisor (coefficients p) c.divisor_of_four.result =
+    rw (
+      exact (v.a & done) (narrow 0) tt,
+      exact (v.b & done) (narrow 0) tt,
+      exact (v.c & done) (narrow 0) tt,
+      exact (v.d & done) (narrow 0) tt,
+    ) at c.divisor_of_four.ensures in
     fits_small w64 (small p _ v i) tt
 
 pub returns : goal.returns
 returns c =
     let p = c.args.plane.now in let v = c.requires in
-    let i : IsGreatestDivisor (coefficients p) c.divisor_of_four.result = rw (exact (v.a & done) (narrow 0) tt, exact (v.b & done) (narrow 0) tt, exact (v.c & done) (narrow 0) tt, exact (v.d & done) (narrow 0) tt) at c.divisor_of_four.ensures in
+    let i : IsGreatestDivisor (coefficients p) c.divisor_of_four.result =
+    rw (
+      exact (v.a & done) (narrow 0) tt,
+      exact (v.b & done) (narrow 0) tt,
+      exact (v.c & done) (narrow 0) tt,
+      exact (v.d & done) (narrow 0) tt,
+    ) at c.divisor_of_four.ensures in
     let e = exact (small p _ v i & done) (narrow 0) tt in
     record { divisor = subst (λ (n : ℕ). IsGreatestDivisor (coefficients p) n) (sym (ap unsigned_abs e)) i; sign = omega (arith, ints, e) }

@@ -18,7 +18,12 @@ divided-requires c =
     let d = c.divisor_of_plane-divisor in
     let k : to_z w64 (of_z w64 d.result) ≡ d.result = to_z-of_z {w = w64} (record { sfits = d.type_inv }) in
     let l : pos 0 <ℤ d.result = omega (arith, ints, k, c.if-divisor-le1.false) in
-    record { valid = c.requires; nonzero = λ z. omega (arith, ints, k, l, z); divides = subst (λ (d : ℤ). Divides (unsigned_abs d) (coefficients c.args.plane.now)) (sym k) d.ensures.divisor.divides }
+    record {
+      valid = c.requires;
+      nonzero = λ z. omega (arith, ints, k, l, z);
+      divides =
+          subst (λ (d : ℤ). Divides (unsigned_abs d) (coefficients c.args.plane.now)) (sym k) d.ensures.divisor.divides;
+    }
 
 pub returns : goal.returns
 returns c =

@@ -27,9 +27,11 @@ loop-t-preserved c =
     let more = exact (c.crossing.ensures.small & done) (stored w32 (input 0)) tt ∙ c.crossing.ensures.value in
     let old = c.loop-t.invariant.value in
     record {
-      value = c.add_count.ensures.value ∙ (λ i. with_more (old i) (get_or ts k no_tri).mesh (more i)) ∙ sym (tally_more (λ f. crossing f a p) (flat_crossing a p) ts k no_tri l m c.args.v.now.counts);
+      value = c.add_count.ensures.value ∙ (λ i. with_more (old i) (get_or ts k no_tri).mesh (more i))
+          ∙ sym (tally_more (λ f. crossing f a p) (flat_crossing a p) ts k no_tri l m c.args.v.now.counts);
       within = λ m h. all_within c.add_count.new.v.counts (omega arith) (c.add_count.ensures.within (m + k) (c.loop-t.invariant.within m h));
     }
 
 pub returns-clause-within : goal.returns-clause-within
-returns-clause-within c = λ m h. let e = c.loop-t-test.false in let f = c.loop-t.auto.t-index-end in all_within c.loop-t.v.counts (omega arith) (c.loop-t.invariant.within m h)
+returns-clause-within c = λ m h. let e = c.loop-t-test.false in let f = c.loop-t.auto.t-index-end in
+    all_within c.loop-t.v.counts (omega arith) (c.loop-t.invariant.within m h)

@@ -6,4 +6,7 @@ use Rattle.ember_law.proofs.count.count_rays.Given as goal
 
 abbrev pub invariant-loop-t : goal.invariant-loop-t
 invariant-loop-t l =
-    record { value : l.v.counts ≡ added l.initial.v.counts (vector l.axis (take l.t-index l.tris) l.point); within : (m : ℕ) → All (Small m) l.initial.v.counts → All (Small (m + l.t-index)) l.v.counts }
+    record {
+      value : l.v.counts ≡ added l.initial.v.counts (vector l.axis (take l.t-index l.tris) l.point);
+      within : (m : ℕ) → All (Small m) l.initial.v.counts → All (Small (m + l.t-index)) l.v.counts;
+    }

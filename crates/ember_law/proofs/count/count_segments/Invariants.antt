@@ -5,4 +5,7 @@ use Rattle.ember_law.proofs.count.count_segments.Given as goal
 
 abbrev pub invariant-loop-t : goal.invariant-loop-t
 invariant-loop-t l =
-    record { value : l.v.counts ≡ added l.initial.v.counts (leg_vector (take l.t-index l.tris) l.p l.q); within : (m : ℕ) → All (Small m) l.initial.v.counts → All (Small (m + l.t-index)) l.v.counts }
+    record {
+      value : l.v.counts ≡ added l.initial.v.counts (leg_vector (take l.t-index l.tris) l.p l.q);
+      within : (m : ℕ) → All (Small m) l.initial.v.counts → All (Small (m + l.t-index)) l.v.counts;
+    }

@@ -8,8 +8,12 @@ loop-wall-init c = left_begun c.args.triangle.now.tri c.requires refl
 
 pub returns-in-Nothing : goal.returns-in-Nothing
 returns-in-Nothing c =
-    λ e. left_nothing c.args.triangle.now.tri c.args.walls.now c.loop-wall.wall-index c.wall-item.result (face_of c.args.triangle.now.tri) c.loop-wall-test.true c.wall-item.is c.loop-wall.invariant c.remainder_at.ensures c.in-Nothing.is
+    λ e. left_nothing c.args.triangle.now.tri c.args.walls.now c.loop-wall.wall-index c.wall-item.result
+    (face_of c.args.triangle.now.tri) c.loop-wall-test.true c.wall-item.is c.loop-wall.invariant
+    c.remainder_at.ensures c.in-Nothing.is
 
 pub loop-wall-preserved : goal.loop-wall-preserved
 loop-wall-preserved c =
-    left_stay c.args.triangle.now.tri c.args.walls.now c.loop-wall.wall-index c.wall-item.result (face_of c.args.triangle.now.tri) c.loop-wall-test.true c.wall-item.is c.loop-wall.invariant c.remainder_at.ensures c.in-Whole.is
+    left_stay c.args.triangle.now.tri c.args.walls.now c.loop-wall.wall-index c.wall-item.result
+    (face_of c.args.triangle.now.tri) c.loop-wall-test.true c.wall-item.is c.loop-wall.invariant
+    c.remainder_at.ensures c.in-Whole.is

@@ -17,7 +17,10 @@ returns-in-Apart-clause-cutting_planes c =
 pub returns-in_ok-add_cutter-in-OtherPlane-clause-cutting_planes : goal.returns-in_ok-add_cutter-in-OtherPlane-clause-cutting_planes
 returns-in_ok-add_cutter-in-OtherPlane-clause-cutting_planes c =
     let t = c.args.target.now.tri in let u = c.args.other.now.tri in
-    λ e b. adds_all c.args.list.now.items c.add_cutter.new.list.items (support_cutting_planes t u (sym c.is_flat.ensures ∙ c.if-is_flat.false) (subst (IsRelation t u) c.in-OtherPlane.is c.relation_of.ensures)) (added_cutting_planes c.in_ok-add_cutter-in-OtherPlane.ensures)
+    λ e b. adds_all c.args.list.now.items c.add_cutter.new.list.items
+    (support_cutting_planes t u (sym c.is_flat.ensures ∙ c.if-is_flat.false)
+    (subst (IsRelation t u) c.in-OtherPlane.is c.relation_of.ensures))
+    (added_cutting_planes c.in_ok-add_cutter-in-OtherPlane.ensures)
 
 pub returns-in_ok-add_cutter-in-OtherPlane-clause-cutters : goal.returns-in_ok-add_cutter-in-OtherPlane-clause-cutters
 returns-in_ok-add_cutter-in-OtherPlane-clause-cutters c =

@@ -1,4 +1,5 @@
-use Rattle.ember_leaf.proofs.LiteralRegions.{covered_nothing, one_value_nothing, some_of_triangle, some_of_leaf, some_of_scene, literal_written, written_literal}
+use Rattle.ember_leaf.proofs.LiteralRegions.{covered_nothing, one_value_nothing, some_of_triangle, some_of_leaf}
+use Rattle.ember_leaf.proofs.LiteralRegions.{some_of_scene, literal_written, written_literal}
 use Rattle.ember_leaf.proofs.law.special_cases_are_the_literal_definition.Goals as goal
 
 pub returns-clause-covered : goal.returns-clause-covered

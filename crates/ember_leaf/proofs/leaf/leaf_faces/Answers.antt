@@ -11,16 +11,26 @@ use Rattle.ember_leaf.proofs.leaf.leaf_faces.Goals as goal
 
 pub loop-i-init : goal.loop-i-init
 loop-i-init c =
-    let ns = tris_of c.deref.result.now in
-    (placed_none ns 0 c.new-kept.result.items c.new-kept.ensures.items, λ scene h. subst (Each (IsWrittenOf scene (formula_of c.args.e.now) c.args.c.now ns) []) (sym c.new-kept.ensures.items) none)
+    let ns = tris_of c.deref.result.now in (
+      placed_none ns 0 c.new-kept.result.items c.new-kept.ensures.items,
+      λ scene h. subst (Each (IsWrittenOf scene (formula_of c.args.e.now) c.args.c.now ns) [])
+          (sym c.new-kept.ensures.items) none,
+    )
 
 pub loop-i-preserved : goal.loop-i-preserved
 loop-i-preserved c =
-    let ns = tris_of c.deref.result.now in
-    (c.in_ok-write_triangle.ensures.placed, next_written ns c.args.c.now c.args.v.now.counts (λ scene. IsWrittenOf scene (formula_of c.args.e.now) c.args.c.now ns) c.loop-i.i c.loop-i.kept.items c.write_triangle.new.kept.items c.loop-i.invariant.1 c.in_ok-write_triangle.ensures.written)
+    let ns = tris_of c.deref.result.now in (
+      c.in_ok-write_triangle.ensures.placed,
+      next_written ns c.args.c.now c.args.v.now.counts
+          (λ scene. IsWrittenOf scene (formula_of c.args.e.now) c.args.c.now ns) c.loop-i.i c.loop-i.kept.items
+          c.write_triangle.new.kept.items c.loop-i.invariant.1 c.in_ok-write_triangle.ensures.written,
+    )
 
 pub returns-clause-written : goal.returns-clause-written
 returns-clause-written c =
-    let fs = c.deref.result.now in let a = c.len-i-end.ensures in let b = c.loop-i-test.false in let d = c.loop-i.auto.i-end in let l = c.deref.ensures.len in let q = length-map fs tri_of in
+    let fs = c.deref.result.now in let a = c.len-i-end.ensures in let b = c.loop-i-test.false in let d =
+    c.loop-i.auto.i-end in let l = c.deref.ensures.len in let q = length-map fs tri_of in
     let e : c.loop-i.i ≡ length (tris_of fs) = omega (arith, a, b, d, l, q) in
-    all_written (tris_of fs) c.args.near.now c.args.c.now c.args.v.now.counts (formula_of c.args.e.now) c.loop-i.i c.loop-i.kept.items c.of.result (ap tris_of c.deref.ensures.value ∙ c.in_ok-near_triangles.ensures.tris) e c.of.ensures c.loop-i.invariant.1
+    all_written (tris_of fs) c.args.near.now c.args.c.now c.args.v.now.counts (formula_of c.args.e.now) c.loop-i.i
+    c.loop-i.kept.items c.of.result (ap tris_of c.deref.ensures.value ∙ c.in_ok-near_triangles.ensures.tris) e
+    c.of.ensures c.loop-i.invariant.1

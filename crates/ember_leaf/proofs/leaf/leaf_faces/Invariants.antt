@@ -7,4 +7,6 @@ use Rattle.ember_leaf.proofs.leaf.leaf_faces.Given as goal
 
 abbrev pub invariant-loop-i : goal.invariant-loop-i
 invariant-loop-i l =
-    ArePlacedBelow (tris_of l.leaf.near.now) l.i l.kept.items × WhereFits (tris_of l.leaf.near.now) l.leaf.cell.now l.leaf.windings.now.counts (λ scene. Each (IsWrittenOf scene (formula_of l.leaf.expr.now) l.leaf.cell.now (tris_of l.leaf.near.now)) (range_with_len 0 l.i)) l.kept.items
+    ArePlacedBelow (tris_of l.leaf.near.now) l.i l.kept.items × WhereFits (tris_of l.leaf.near.now) l.leaf.cell.now
+    l.leaf.windings.now.counts (λ scene. Each (IsWrittenOf scene (formula_of l.leaf.expr.now) l.leaf.cell.now
+    (tris_of l.leaf.near.now)) (range_with_len 0 l.i)) l.kept.items

@@ -8,4 +8,6 @@ loop-i-init c = none
 
 pub loop-i-preserved : goal.loop-i-preserved
 loop-i-preserved c =
-    whole_more c.args.cutter.now c.args.list.now c.loop-i.i c.index-list-i.result c.loop-i-test.true c.index-list-i.is c.loop-i.invariant (unmet_left c.args.cutter.now c.index-list-i.result (not_met c.is_met.ensures c.if-is_met.false))
+    whole_more c.args.cutter.now c.args.list.now c.loop-i.i c.index-list-i.result c.loop-i-test.true c.index-list-i.is
+    c.loop-i.invariant (unmet_left c.args.cutter.now c.index-list-i.result
+    (not_met c.is_met.ensures c.if-is_met.false))

@@ -13,7 +13,8 @@ returns-in-Apart c =
 pub returns-in-Met : goal.returns-in-Met
 returns-in-Met c =
     let u = c.args.cutter.now in let o = c.outline.ensures in
-    true_iff_given (contact_met c.args.r.now _ _ o.outline o.paired u.tri u.normal c.requires.somewhere c.requires.plane (subst (IsContact _ u.tri) c.in-Met.is c.contact_of.ensures))
+    true_iff_given (contact_met c.args.r.now _ _ o.outline o.paired u.tri u.normal c.requires.somewhere c.requires.plane
+    (subst (IsContact _ u.tri) c.in-Met.is c.contact_of.ensures))
 
 pub returns-in-Unknown : goal.returns-in-Unknown
 returns-in-Unknown c =

@@ -8,8 +8,11 @@ loop-cutter-init c = cut_begun c.args.start c.new-list.ensures.items c.in_ok-pus
 
 pub split_all-requires : goal.split_all-requires
 split_all-requires c =
-    all_can_cut _ c.args.start c.loop-cutter.list.items c.loop-cutter.invariant c.cutter-item.result (can_cut_at c.args.cutters.now c.args.start c.loop-cutter.cutter-index c.cutter-item.result c.loop-cutter-test.true c.cutter-item.is c.requires)
+    all_can_cut _ c.args.start c.loop-cutter.list.items c.loop-cutter.invariant c.cutter-item.result
+    (can_cut_at c.args.cutters.now c.args.start c.loop-cutter.cutter-index c.cutter-item.result
+    c.loop-cutter-test.true c.cutter-item.is c.requires)
 
 pub loop-cutter-preserved : goal.loop-cutter-preserved
 loop-cutter-preserved c =
-    chain_next AreSplit c.args.cutters.now c.loop-cutter.cutter-index c.cutter-item.result _ _ _ c.loop-cutter-test.true c.cutter-item.is c.loop-cutter.invariant c.in_ok-list.ensures
+    chain_next AreSplit c.args.cutters.now c.loop-cutter.cutter-index c.cutter-item.result _ _ _ c.loop-cutter-test.true
+    c.cutter-item.is c.loop-cutter.invariant c.in_ok-list.ensures

@@ -7,7 +7,8 @@ use Rattle.ember_leaf.proofs.regions.split_all.Goals as goal
 
 pub add_all-requires-clause-met : goal.add_all-requires-clause-met
 add_all-requires-clause-met c =
-    subst (MeetsFirst c.args.cutter.now) (ap (drop c.count_apart-index.result) c.deref.ensures.value ∙ sym c.in_ok-others.ensures.tail) c.count_apart-index.ensures.met
+    subst (MeetsFirst c.args.cutter.now) (ap (drop c.count_apart-index.result) c.deref.ensures.value
+    ∙ sym c.in_ok-others.ensures.tail) c.count_apart-index.ensures.met
 
 pub add_all-requires-clause-may_cut : goal.add_all-requires-clause-may_cut
 add_all-requires-clause-may_cut c =
@@ -19,6 +20,7 @@ returns c =
     let fs = c.args.list.items in let b = c.args.cutter.now in let k = c.count_apart-index.result in
     let whole = subst (λ l. AreSplit b (take k l) (take k l)) c.deref.ensures.value c.count_apart-index.ensures.whole in
     elim c.if-index-len.branch [
-      | then-index-len+in_ok-others+in_ok-add_all w ↦ subst (λ o. AreSplit b fs o.items) (sym w.out-is) (split_front b k fs w.in_ok-others.ensures.items w.in_ok-others.ensures.tail whole w.in_ok-add_all.ensures)
+      | then-index-len+in_ok-others+in_ok-add_all w ↦ subst (λ o. AreSplit b fs o.items) (sym w.out-is)
+          (split_front b k fs w.in_ok-others.ensures.items w.in_ok-others.ensures.tail whole w.in_ok-add_all.ensures)
       | else-index-len w ↦ subst (λ o. AreSplit b fs o.items) (sym w.out-is) (split_none b k fs (let q = w.if-index-len.false in omega (arith, q)) whole)
     ]

@@ -3,4 +3,5 @@ use Rattle.ember_leaf.proofs.relation.is_behind_edge.Goals as goal
 
 pub returns : goal.returns
 returns c =
-    λ e. behind_by c.args.first.now.tri c.args.second.now.tri c.args.first.now.edges c.args.edge c.requires.second c.args.first.now.edge_planes c.requires.edge c.heights_of.ensures c.lie_behind.ensures e
+    λ e. behind_by c.args.first.now.tri c.args.second.now.tri c.args.first.now.edges c.args.edge c.requires.second
+    c.args.first.now.edge_planes c.requires.edge c.heights_of.ensures c.lie_behind.ensures e

@@ -12,4 +12,5 @@ pub returns-clause-at : goal.returns-clause-at
 returns-clause-at c =
     let more : List ℕ = c.args.origins.now.items ++ c.args.origin ∷ [] in
     subst (λ (xs : List ℕ). slice_get xs c.len-vertex.result ≡ Some c.args.origin) (sym c.in_ok-push.ensures.items)
-    (subst (λ (n : ℕ). slice_get more n ≡ Some c.args.origin) (sym (c.len-vertex.ensures ∙ c.args.origins.now.ok.0)) (last_found c.args.origins.now.items c.args.origin))
+    (subst (λ (n : ℕ). slice_get more n ≡ Some c.args.origin) (sym (c.len-vertex.ensures ∙ c.args.origins.now.ok.0))
+    (last_found c.args.origins.now.items c.args.origin))

@@ -16,10 +16,17 @@ read_size : (z : ℤ) → unsigned_abs (read z) ≤ 1701411834604692317316873037
 read_size z = let s : Small (2 ^ 127) (read z) = small_of_fits w128 (read_sfits w128 (of_z w128 z)) in s.small
 
 -- the size of a product of two numbers of 128 bits
-size_of_product : (n : Wide) (x y : ℤ) → value_of n ≡ read x *ℤ read y → size_of n.size ≤ 170141183460469231731687303715884105728 * 170141183460469231731687303715884105728
+size_of_product : (n : Wide) (x y : ℤ) → value_of n ≡ read x *ℤ read y →
+    size_of n.size ≤ 170141183460469231731687303715884105728 * 170141183460469231731687303715884105728
 size_of_product n x y e =
     let same : unsigned_abs (value_of n) ≡ unsigned_abs (read x *ℤ read y) = ap unsigned_abs e in
-    omega (arith, size_of_value n, same, product_size (read x) (read y) 170141183460469231731687303715884105728 170141183460469231731687303715884105728 (read_size x) (read_size y))
+    omega (
+      arith,
+      size_of_value n,
+      same,
+      product_size (read x) (read y) 170141183460469231731687303715884105728
+          170141183460469231731687303715884105728 (read_size x) (read_size y),
+    )
 
 pub plus-requires : goal.plus-requires
 plus-requires c =

@@ -18,7 +18,12 @@ returns-in-Ok-clause-grid g c =
     let told = g.S.Shelf.contents c.args.shelf.now in
     IfOk-weaker c.grid_in.result _ (IsGridGiven c.args.request.now told)
     (λ grid h. subst (λ (scene : Option (List ℕ)). MatchOption scene (grid ≡ unit_grid) (λ name. IsSceneFile told name grid)) (sym c.in-Some.is)
-    (record { bytes = c.in-Ok.bytes.items; are_bytes = c.in-Ok.ensures.bytes; is_scene = subst (λ (bytes : List ℕ). IsSceneOf bytes grid) c.deref.ensures.value h }))
+    (record {
+      bytes = c.in-Ok.bytes.items;
+      are_bytes = c.in-Ok.ensures.bytes;
+      is_scene =
+          subst (λ (bytes : List ℕ). IsSceneOf bytes grid) c.deref.ensures.value h;
+    }))
     c.grid_in.ensures.grid
 
 pub returns-in-Ok-clause-stop : goal.returns-in-Ok-clause-stop
@@ -26,7 +31,8 @@ returns-in-Ok-clause-stop g c =
     let shelf = shelf_call g.S.Shelf.contents g.S.Shelf.faults g.S.Shelf.fault_at c.args.shelf.now c.bytes_in.new.shelf in
     let request = c.args.request.now in
     IfErr-weaker c.grid_in.result _ (IsExportStop request shelf)
-    (λ status h. grid_stop request shelf c.in-Some.name c.in-Ok.bytes.items status c.in-Some.is c.in-Ok.ensures.bytes (subst (λ (bytes : List ℕ). IsNoGrid bytes status) c.deref.ensures.value h))
+    (λ status h. grid_stop request shelf c.in-Some.name c.in-Ok.bytes.items status c.in-Some.is c.in-Ok.ensures.bytes
+    (subst (λ (bytes : List ℕ). IsNoGrid bytes status) c.deref.ensures.value h))
     c.grid_in.ensures.cause
 
 pub returns-in-Err-clause-stop : goal.returns-in-Err-clause-stop

@@ -11,7 +11,9 @@ returns-clause-files c =
     let out = c.args.output in
     let kept = c.unwrap-scene.result in
     let files = names_and_bytes c.put_kept.new.files.items in
-    let all = all_are_appended (AreKeptFiles c.items.result.now (placed_of out kept) kept.document.items c.in-Some.folder) (names_and_bytes c.new-files.result.items) files (ap names_and_bytes c.new-files.ensures.items) c.in_ok-put_kept.ensures in
+    let all = all_are_appended (AreKeptFiles c.items.result.now (placed_of out kept) kept.document.items
+    c.in-Some.folder) (names_and_bytes c.new-files.result.items) files (ap names_and_bytes c.new-files.ensures.items)
+    c.in_ok-put_kept.ensures in
     subst (λ (keep : Option (List ℕ)). AreFilesIf keep (AreOutputsKept request.files out) files) (sym c.in-Some.is)
     (record {
       kept = kept;

@@ -18,7 +18,13 @@ returns c =
     (λ put back. record {
       made = made;
       are = subst (λ (page : Option (List ℕ)). AreFilesIf page (IsPageFile title c.args.shown) made) (sym c.in-Some.is)
-          (record { triangles = triangles; are_shown = c.unwrap-shown.ensures; all = refl; read_back = subst (λ (ts : List WrittenTriangle). IsReadBack ts (page_of title ts)) c.deref.ensures.value back });
+          (record {
+            triangles = triangles;
+            are_shown = c.unwrap-shown.ensures;
+            all = refl;
+            read_back =
+                subst (λ (ts : List WrittenTriangle). IsReadBack ts (page_of title ts)) c.deref.ensures.value back;
+          });
       all = put ∙ ap (λ (ts : List WrittenTriangle). before ++ (c.in-Some.page, page_of title ts) ∷ []) c.deref.ensures.value;
     })
     c.put_page.ensures.is_page c.put_page.ensures.read_back

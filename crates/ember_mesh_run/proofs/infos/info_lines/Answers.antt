@@ -11,7 +11,9 @@ pub loop-index-preserved : goal.loop-index-preserved
 loop-index-preserved c =
     let e = c.in_ok-put_info.ensures in
     subst (λ (lines : List ℕ). Each IsFileLine (take (c.loop-index.index + 1) c.args.files.now) lines) (sym e.2)
-    (line_more c.args.files.now c.args.surfaces.now c.loop-index.index _ c.index-surfaces-index.result c.loop-index.lines.items e.0 c.requires c.loop-index-test.true c.index-surfaces-index.is e.1 c.loop-index.invariant)
+    (line_more c.args.files.now c.args.surfaces.now c.loop-index.index _ c.index-surfaces-index.result
+    c.loop-index.lines.items e.0 c.requires c.loop-index-test.true c.index-surfaces-index.is e.1
+    c.loop-index.invariant)
 
 pub returns : goal.returns
 returns c =

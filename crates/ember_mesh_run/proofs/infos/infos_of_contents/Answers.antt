@@ -19,7 +19,8 @@ surfaces_in-requires-clause-few c =
 
 pub surfaces_in-requires-clause-sizes : goal.surfaces_in-requires-clause-sizes
 surfaces_in-requires-clause-sizes c =
-    subst (All IsSmall) (sym c.as_slice-files.ensures.value) (files_are_small c.in_ok-made.made.items c.args.contents.now c.in_ok-made.ensures.bytes c.requires.small)
+    subst (All IsSmall) (sym c.as_slice-files.ensures.value)
+    (files_are_small c.in_ok-made.made.items c.args.contents.now c.in_ok-made.ensures.bytes c.requires.small)
 
 pub status_of-requires-clause-few : goal.status_of-requires-clause-few
 status_of-requires-clause-few c =
@@ -29,7 +30,8 @@ status_of-requires-clause-few c =
 
 pub status_of-requires-clause-small : goal.status_of-requires-clause-small
 status_of-requires-clause-small c =
-    subst (All IsSmall) (sym c.as_slice-files.ensures.value) (files_are_small c.in_ok-made.made.items c.args.contents.now c.in_ok-made.ensures.bytes c.requires.small)
+    subst (All IsSmall) (sym c.as_slice-files.ensures.value)
+    (files_are_small c.in_ok-made.made.items c.args.contents.now c.in_ok-made.ensures.bytes c.requires.small)
 
 pub status_of-requires-clause-there : goal.status_of-requires-clause-there
 status_of-requires-clause-there c = unread_file_is_there c.as_slice-files.result.now c.in-Err.fault c.in-Err.ensures.fault
@@ -45,7 +47,8 @@ returns-in-Ok-clause-lines c = λ told h.
     record {
       files = files;
       are_files = files_are_told told _ _ files (made.names ∙ all_names _ c.args.contents.now c.requires.one_each) made.bytes h;
-      each = subst (λ (files : List MeshFile). Each IsFileLine files c.in_ok-lines-in-Ok.lines.items) c.as_slice-files.ensures.value c.in_ok-lines-in-Ok.ensures;
+      each = subst (λ (files : List MeshFile). Each IsFileLine files c.in_ok-lines-in-Ok.lines.items)
+          c.as_slice-files.ensures.value c.in_ok-lines-in-Ok.ensures;
     }
 
 pub returns-clause-cause : goal.returns-clause-cause
@@ -54,4 +57,6 @@ returns-clause-cause c = λ told h.
     let files = c.in_ok-made.made.items in
     let fault = subst (λ (files : List MeshFile). IsReadFault files c.in-Err.fault) c.as_slice-files.ensures.value c.in-Err.ensures.fault in
     let status = subst (λ (files : List MeshFile). IsStatusOf files c.in-Err.fault c.status_of.result) c.as_slice-files.ensures.value c.status_of.ensures in
-    refusal_caused told _ files (files_are_told told _ _ files (made.names ∙ all_names _ c.args.contents.now c.requires.one_each) made.bytes h) c.in-Err.fault c.status_of.result fault status
+    refusal_caused told _ files (files_are_told told _ _ files
+    (made.names ∙ all_names _ c.args.contents.now c.requires.one_each) made.bytes h) c.in-Err.fault c.status_of.result
+    fault status

@@ -25,8 +25,11 @@ returns-in-Ok-reading_line-clause-outcome g c =
     let out = sink_call g.O.Sink.taken g.O.Sink.flushed g.O.Sink.faults c.args.out.now c.args.out.now in
     let err = sink_call g.E.Sink.taken g.E.Sink.flushed g.E.Sink.faults c.args.err.now c.say.new.err in
     let text = c.in-Ok-reading_line.line.items in
-    let cause = subst (λ (names : List (List ℕ)). IsReadingCause names shelf c.in-Err.status) c.items.ensures c.in-Err.ensures.cause in
-    (text, unread_outcome c.args.names.now shelf out c.in-Err.status text cause refl c.in-Ok-reading_line.ensures, subst (λ (text : List ℕ). TakesUntilFault err text) c.deref-in-Ok-reading_line.ensures.value c.say.ensures)
+    let cause = subst (λ (names : List (List ℕ)). IsReadingCause names shelf c.in-Err.status) c.items.ensures c.in-Err.ensures.cause in (
+      text,
+      unread_outcome c.args.names.now shelf out c.in-Err.status text cause refl c.in-Ok-reading_line.ensures,
+      subst (λ (text : List ℕ). TakesUntilFault err text) c.deref-in-Ok-reading_line.ensures.value c.say.ensures,
+    )
 
 pub returns-in-Ok-reading_line-clause-memory : goal.returns-in-Ok-reading_line-clause-memory
 returns-in-Ok-reading_line-clause-memory g c =

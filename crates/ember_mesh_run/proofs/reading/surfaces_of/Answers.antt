@@ -26,17 +26,21 @@ status_of-requires-clause-few c =
 
 pub status_of-requires-clause-small : goal.status_of-requires-clause-small
 status_of-requires-clause-small c =
-    subst (All IsSmall) (sym c.deref-in-Err.ensures.value) (files_are_small c.in_ok-files.files.items c.args.contents.now c.in_ok-files.ensures.bytes c.requires.small)
+    subst (All IsSmall) (sym c.deref-in-Err.ensures.value)
+    (files_are_small c.in_ok-files.files.items c.args.contents.now c.in_ok-files.ensures.bytes c.requires.small)
 
 pub status_of-requires-clause-there : goal.status_of-requires-clause-there
 status_of-requires-clause-there c =
     let fault = subst (λ (files : List MeshFile). IsReadFault files c.in-Err.fault) c.deref.ensures.value c.in-Err.ensures.fault in
-    subst (λ (files : List MeshFile). NamesFile files c.in-Err.fault) (sym c.deref-in-Err.ensures.value) (unread_file_is_there c.in_ok-files.files.items c.in-Err.fault fault)
+    subst (λ (files : List MeshFile). NamesFile files c.in-Err.fault) (sym c.deref-in-Err.ensures.value)
+    (unread_file_is_there c.in_ok-files.files.items c.in-Err.fault fault)
 
 pub returns-in-Ok-clause-read : goal.returns-in-Ok-clause-read
 returns-in-Ok-clause-read c = λ told h.
     let made = c.in_ok-files.ensures in
-    files_are_read told _ _ c.in_ok-files.files.items c.in-Ok.surfaces.items made.names made.bytes h (subst (λ (files : List MeshFile). AreReadings files c.in-Ok.surfaces.items) c.deref.ensures.value c.in-Ok.ensures.readings)
+    files_are_read told _ _ c.in_ok-files.files.items c.in-Ok.surfaces.items made.names made.bytes h
+    (subst (λ (files : List MeshFile). AreReadings files c.in-Ok.surfaces.items) c.deref.ensures.value
+    c.in-Ok.ensures.readings)
 
 pub returns-clause-cause : goal.returns-clause-cause
 returns-clause-cause c = λ told h.

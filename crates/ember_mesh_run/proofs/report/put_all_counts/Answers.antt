@@ -14,5 +14,7 @@ loop-name-preserved c =
     let said = ap (λ (name : List ℕ). old.text.items ++ counts_line name c.in-Some.counts.now moved) (c.as_bytes.ensures.value ∙ c.as_str.ensures) in
     record {
       file = omega (arith, old.invariant.file);
-      text = one_line_more c.args.names.now c.args.counts.now c.args.moves.now old.name-index old.file c.name-item.result c.in-Some.counts.now moved _ old.text.items c.put_counts.new.text.items c.loop-name-test.true c.name-item.is there look.1 c.move_at-moved.ensures old.invariant.text (c.in_ok-put_counts.ensures ∙ said);
+      text = one_line_more c.args.names.now c.args.counts.now c.args.moves.now old.name-index old.file
+          c.name-item.result c.in-Some.counts.now moved _ old.text.items c.put_counts.new.text.items c.loop-name-test.true
+          c.name-item.is there look.1 c.move_at-moved.ensures old.invariant.text (c.in_ok-put_counts.ensures ∙ said);
     }

@@ -16,5 +16,7 @@ returns c =
     let rest = after4 name (codes " moves corners by up to ") moved advice _ _ _ _ named c.in_ok-extend_from_slice-2.ensures.items c.in_ok-put_move.ensures in
     let start = ap (λ (xs : List ℕ). xs ++ (name ++ (codes " moves corners by up to " ++ (moved ++ advice)))) c.in_ok-said.ensures.items in
     let said = ap (λ (xs : List ℕ). c.args.text.now.items ++ line xs) (c.deref.ensures.value ∙ c.in_ok-extend_from_slice-3.ensures.items ∙ rest ∙ start) in
-    let warned = ap (λ (b : Bool). c.args.text.now.items ++ (if b then line (codes "warning: rounding for " ++ (name ++ (codes " moves corners by up to " ++ (moved ++ advice)))) else [])) (sym c.if-not-mesh.false) in
+    let warned = ap (λ (b : Bool). c.args.text.now.items
+    ++ (if b then line (codes "warning: rounding for "
+    ++ (name ++ (codes " moves corners by up to " ++ (moved ++ advice)))) else [])) (sym c.if-not-mesh.false) in
     on_ok_same _ _ _ c.put_line.result c.put_line.ensures (said ∙ warned)

@@ -17,7 +17,8 @@ placed_of_contents-requires-clause-one_each g c =
 
 pub placed_of_contents-requires-clause-small : goal.placed_of_contents-requires-clause-small
 placed_of_contents-requires-clause-small g c =
-    subst (All (λ (bytes : Vec ℕ Global). length bytes.items ≤ 268435456)) (sym c.deref.ensures.value) (contents_are_small (g.S.Shelf.contents c.args.shelf.now) _ _ c.in-Ok.ensures.contents)
+    subst (All (λ (bytes : Vec ℕ Global). length bytes.items ≤ 268435456)) (sym c.deref.ensures.value)
+    (contents_are_small (g.S.Shelf.contents c.args.shelf.now) _ _ c.in-Ok.ensures.contents)
 
 pub returns-in-Ok-clause-placed : goal.returns-in-Ok-clause-placed
 returns-in-Ok-clause-placed g c =
@@ -26,7 +27,12 @@ returns-in-Ok-clause-placed g c =
     let wanted = c.in-Some.wanted in
     let contents = subst (λ (contents : List (Vec ℕ Global)). AreContents told names contents) (sym c.deref.ensures.value) c.in-Ok.ensures.contents in
     IfOk-weaker c.placed_of_contents.result _ (IsPlacedFor c.args.request.now told)
-    (λ placed h. record { wanted = wanted; asks = c.in-Some.ensures.wanted; of_files = subst (λ (names : List (List ℕ)). AreFilesPlaced told names wanted placed) c.items-names.ensures (h told contents) })
+    (λ placed h. record {
+      wanted = wanted;
+      asks = c.in-Some.ensures.wanted;
+      of_files =
+          subst (λ (names : List (List ℕ)). AreFilesPlaced told names wanted placed) c.items-names.ensures (h told contents);
+    })
     c.placed_of_contents.ensures.placed
 
 pub returns-in-Ok-clause-stop : goal.returns-in-Ok-clause-stop
@@ -37,7 +43,9 @@ returns-in-Ok-clause-stop g c =
     let wanted = c.in-Some.wanted in
     let contents = subst (λ (contents : List (Vec ℕ Global)). AreContents told names contents) (sym c.deref.ensures.value) c.in-Ok.ensures.contents in
     IfErr-weaker c.placed_of_contents.result _ (IsSnapStop c.args.request.now shelf)
-    (λ status h. placing_stop c.args.request.now shelf wanted c.in-Some.ensures.wanted status (subst (λ (names : List (List ℕ)). IsPlacingCause told names wanted status) c.items-names.ensures (h told contents)))
+    (λ status h. placing_stop c.args.request.now shelf wanted c.in-Some.ensures.wanted status
+    (subst (λ (names : List (List ℕ)). IsPlacingCause told names wanted status) c.items-names.ensures
+    (h told contents)))
     c.placed_of_contents.ensures.cause
 
 pub returns-in-Err-clause-stop : goal.returns-in-Err-clause-stop

@@ -26,13 +26,15 @@ status_of-requires-clause-few g c =
 
 pub status_of-requires-clause-small : goal.status_of-requires-clause-small
 status_of-requires-clause-small g c =
-    subst (All IsSmall) (sym c.deref-in-Err.ensures.value) (files_are_small c.in_ok-files.files.items c.args.contents.now c.in_ok-files.ensures.bytes c.requires.small)
+    subst (All IsSmall) (sym c.deref-in-Err.ensures.value)
+    (files_are_small c.in_ok-files.files.items c.args.contents.now c.in_ok-files.ensures.bytes c.requires.small)
 
 pub status_of-requires-clause-there : goal.status_of-requires-clause-there
 status_of-requires-clause-there g c =
     let wanted = c.args.wanted in
     let fault = subst (λ (files : List MeshFile). IsPlacingFault files wanted c.in-Err.fault) c.deref.ensures.value c.in-Err.ensures.fault in
-    subst (λ (files : List MeshFile). NamesFile files c.in-Err.fault) (sym c.deref-in-Err.ensures.value) (unplaced_file_is_there c.in_ok-files.files.items wanted c.in-Err.fault fault)
+    subst (λ (files : List MeshFile). NamesFile files c.in-Err.fault) (sym c.deref-in-Err.ensures.value)
+    (unplaced_file_is_there c.in_ok-files.files.items wanted c.in-Err.fault fault)
 
 pub returns-in-Ok-clause-placed : goal.returns-in-Ok-clause-placed
 returns-in-Ok-clause-placed g c = λ told h.
@@ -51,4 +53,6 @@ returns-clause-cause g c = λ told h.
     let wanted = c.args.wanted in
     let fault = subst (λ (files : List MeshFile). IsPlacingFault files wanted c.in-Err.fault) c.deref.ensures.value c.in-Err.ensures.fault in
     let status = subst (λ (files : List MeshFile). IsStatusOf files c.in-Err.fault c.status_of.result) c.deref-in-Err.ensures.value c.status_of.ensures in
-    placing_caused told c.args.names.now files (files_are_told told _ _ files (made.names ∙ all_names _ c.args.contents.now c.requires.one_each) made.bytes h) wanted c.in-Err.fault c.status_of.result fault status
+    placing_caused told c.args.names.now files (files_are_told told _ _ files
+    (made.names ∙ all_names _ c.args.contents.now c.requires.one_each) made.bytes h) wanted c.in-Err.fault
+    c.status_of.result fault status

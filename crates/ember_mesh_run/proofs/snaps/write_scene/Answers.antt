@@ -35,19 +35,23 @@ returns-in-Err-clause-stop g c =
     let target = target_call g.T.Target.held g.T.Target.begun g.T.Target.faults c.args.target.now c.args.target.now in
     let request = c.args.request.now in
     let stop = c.in-Err.ensures.stop in
-    cause_is_unmet (IsSnapStop request shelf) (AreSnapFilesFor request shelf.told) target c.in-Err.status (stop_is_no_write request shelf) (names_hold_the_same (g.T.Target.held c.args.target.now)) stop (stop_tells_memory request shelf c.in-Err.status stop)
+    cause_is_unmet (IsSnapStop request shelf) (AreSnapFilesFor request shelf.told) target c.in-Err.status
+    (stop_is_no_write request shelf) (names_hold_the_same (g.T.Target.held c.args.target.now)) stop
+    (stop_tells_memory request shelf c.in-Err.status stop)
 
 pub returns-in_err-report-clause-stop : goal.returns-in_err-report-clause-stop
 returns-in_err-report-clause-stop g c =
     let shelf = shelf_call g.S.Shelf.contents g.S.Shelf.faults g.S.Shelf.fault_at c.args.shelf.now c.placed_for.new.shelf in
     let target = target_call g.T.Target.held g.T.Target.begun g.T.Target.faults c.args.target.now c.args.target.now in
-    memory_given (IsSnapUnmet c.args.request.now shelf target) c.from_residual.result c.from_residual.ensures.1 (inl (names_hold_the_same (g.T.Target.held c.args.target.now)))
+    memory_given (IsSnapUnmet c.args.request.now shelf target) c.from_residual.result c.from_residual.ensures.1
+    (inl (names_hold_the_same (g.T.Target.held c.args.target.now)))
 
 pub returns-in_err-files-clause-stop : goal.returns-in_err-files-clause-stop
 returns-in_err-files-clause-stop g c =
     let shelf = shelf_call g.S.Shelf.contents g.S.Shelf.faults g.S.Shelf.fault_at c.args.shelf.now c.placed_for.new.shelf in
     let target = target_call g.T.Target.held g.T.Target.begun g.T.Target.faults c.args.target.now c.args.target.now in
-    memory_given (IsSnapUnmet c.args.request.now shelf target) c.from_residual-in_err-files.result c.from_residual-in_err-files.ensures.1 (inl (names_hold_the_same (g.T.Target.held c.args.target.now)))
+    memory_given (IsSnapUnmet c.args.request.now shelf target) c.from_residual-in_err-files.result
+    c.from_residual-in_err-files.ensures.1 (inl (names_hold_the_same (g.T.Target.held c.args.target.now)))
 
 pub returns-in-Ok-write_files-clause-written : goal.returns-in-Ok-write_files-clause-written
 returns-in-Ok-write_files-clause-written g c =
@@ -57,7 +61,8 @@ returns-in-Ok-write_files-clause-written g c =
       placed = c.in-Ok.placed;
       is_placed = c.in-Ok.ensures.placed;
       files = names_and_bytes c.in_ok-files.files.items;
-      are_files = subst (λ (names : List (List ℕ)). AreSceneFiles c.args.request.now.folder names c.in-Ok.placed (names_and_bytes c.in_ok-files.files.items)) c.items.ensures c.in_ok-files.ensures;
+      are_files = subst (λ (names : List (List ℕ)). AreSceneFiles c.args.request.now.folder names c.in-Ok.placed
+          (names_and_bytes c.in_ok-files.files.items)) c.items.ensures c.in_ok-files.ensures;
       written = subst (λ (files : List NamedFile). PutsEach (names_and_bytes files) held after) c.deref.ensures.value c.in-Ok-write_files.ensures.written;
       text_is = c.in_ok-report.ensures;
     }
@@ -69,5 +74,11 @@ returns-clause-stop g c =
     let request = c.args.request.now in
     let status = c.in-Err-write_files.status in
     stop_is_unmet (IsSnapStop request shelf) (AreSnapFilesFor request shelf.told) target (names_and_bytes c.in_ok-files.files.items)
-    (record { placed = c.in-Ok.placed; is_placed = c.in-Ok.ensures.placed; are_files = subst (λ (names : List (List ℕ)). AreSceneFiles c.args.request.now.folder names c.in-Ok.placed (names_and_bytes c.in_ok-files.files.items)) c.items.ensures c.in_ok-files.ensures }) status
+    (record {
+      placed = c.in-Ok.placed;
+      is_placed = c.in-Ok.ensures.placed;
+      are_files =
+          subst (λ (names : List (List ℕ)). AreSceneFiles c.args.request.now.folder names c.in-Ok.placed
+          (names_and_bytes c.in_ok-files.files.items)) c.items.ensures c.in_ok-files.ensures;
+    }) status
     (subst (λ (files : List NamedFile). IsWriteStop (names_and_bytes files) target status) c.deref.ensures.value c.in-Err-write_files.ensures.stop)

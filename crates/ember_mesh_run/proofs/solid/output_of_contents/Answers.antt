@@ -28,14 +28,16 @@ status_of-requires-clause-few g c =
 
 pub status_of-requires-clause-small : goal.status_of-requires-clause-small
 status_of-requires-clause-small g c =
-    subst (All IsSmall) (sym c.deref-in-Err.ensures.value) (files_are_small c.in_ok-files.files.items c.args.contents.now c.in_ok-files.ensures.bytes c.requires.small)
+    subst (All IsSmall) (sym c.deref-in-Err.ensures.value)
+    (files_are_small c.in_ok-files.files.items c.args.contents.now c.in_ok-files.ensures.bytes c.requires.small)
 
 pub status_of-requires-clause-there : goal.status_of-requires-clause-there
 status_of-requires-clause-there g c =
     let formula = formula_of c.args.asked.now.expr in
     let wanted = c.args.asked.now.wanted in
     let fault = subst (λ (files : List MeshFile). IsBooleanFault files formula wanted c.in-Err.fault) c.deref.ensures.value c.in-Err.ensures.fault in
-    subst (λ (files : List MeshFile). NamesFile files c.in-Err.fault) (sym c.deref-in-Err.ensures.value) (faulty_file_is_there c.in_ok-files.files.items formula wanted c.in-Err.fault fault)
+    subst (λ (files : List MeshFile). NamesFile files c.in-Err.fault) (sym c.deref-in-Err.ensures.value)
+    (faulty_file_is_there c.in_ok-files.files.items formula wanted c.in-Err.fault fault)
 
 pub returns-in-Ok-clause-output : goal.returns-in-Ok-clause-output
 returns-in-Ok-clause-output g c = λ told h.
@@ -44,7 +46,8 @@ returns-in-Ok-clause-output g c = λ told h.
     record {
       files = files;
       are_files = files_are_told told _ _ files (made.names ∙ all_names _ c.args.contents.now c.requires.one_each) made.bytes h;
-      is_output = subst (λ (files : List MeshFile). IsOutput files (formula_of c.args.asked.now.expr) c.args.asked.now.wanted c.in-Ok.output) c.deref.ensures.value c.in-Ok.ensures.output;
+      is_output = subst (λ (files : List MeshFile). IsOutput files (formula_of c.args.asked.now.expr)
+          c.args.asked.now.wanted c.in-Ok.output) c.deref.ensures.value c.in-Ok.ensures.output;
     }
 
 pub returns-clause-cause : goal.returns-clause-cause
@@ -55,4 +58,6 @@ returns-clause-cause g c = λ told h.
     let wanted = c.args.asked.now.wanted in
     let fault = subst (λ (files : List MeshFile). IsBooleanFault files formula wanted c.in-Err.fault) c.deref.ensures.value c.in-Err.ensures.fault in
     let status = subst (λ (files : List MeshFile). IsStatusOf files c.in-Err.fault c.status_of.result) c.deref-in-Err.ensures.value c.status_of.ensures in
-    status_caused told c.args.names.now files (files_are_told told _ _ files (made.names ∙ all_names _ c.args.contents.now c.requires.one_each) made.bytes h) formula wanted c.in-Err.fault c.status_of.result fault status
+    status_caused told c.args.names.now files (files_are_told told _ _ files
+    (made.names ∙ all_names _ c.args.contents.now c.requires.one_each) made.bytes h) formula wanted c.in-Err.fault
+    c.status_of.result fault status

@@ -24,7 +24,8 @@ output_of_contents-requires-clause-one_each g c =
 
 pub output_of_contents-requires-clause-small : goal.output_of_contents-requires-clause-small
 output_of_contents-requires-clause-small g c =
-    subst (All (λ (bytes : Vec ℕ Global). length bytes.items ≤ 268435456)) (sym c.deref.ensures.value) (contents_are_small (g.S.Shelf.contents c.args.shelf.now) _ _ c.in-Ok-read_contents.ensures.contents)
+    subst (All (λ (bytes : Vec ℕ Global). length bytes.items ≤ 268435456)) (sym c.deref.ensures.value)
+    (contents_are_small (g.S.Shelf.contents c.args.shelf.now) _ _ c.in-Ok-read_contents.ensures.contents)
 
 pub returns-in-Ok-read_contents-clause-output : goal.returns-in-Ok-read_contents-clause-output
 returns-in-Ok-read_contents-clause-output g c =
@@ -32,9 +33,12 @@ returns-in-Ok-read_contents-clause-output g c =
     let names = c.items-names.result.now in
     let formula = formula_of c.in-Ok.asked.expr in
     let wanted = c.in-Ok.asked.wanted in
-    let contents = subst (λ (contents : List (Vec ℕ Global)). AreContents told names contents) (sym c.deref.ensures.value) c.in-Ok-read_contents.ensures.contents in
+    let contents = subst (λ (contents : List (Vec ℕ Global)). AreContents told names contents)
+    (sym c.deref.ensures.value) c.in-Ok-read_contents.ensures.contents in
     IfOk-weaker c.output_of_contents.result _ (IsOutputFor c.args.request.now told)
-    (λ output h. output_is_asked_for c.args.request.now told wanted formula output c.in-Ok.ensures.asks (subst (λ (names : List (List ℕ)). IsFilesOutput told names formula wanted output) c.items-names.ensures (h told contents)))
+    (λ output h. output_is_asked_for c.args.request.now told wanted formula output c.in-Ok.ensures.asks
+    (subst (λ (names : List (List ℕ)). IsFilesOutput told names formula wanted output) c.items-names.ensures
+    (h told contents)))
     c.output_of_contents.ensures.output
 
 pub returns-in-Ok-read_contents-clause-stop : goal.returns-in-Ok-read_contents-clause-stop
@@ -44,9 +48,12 @@ returns-in-Ok-read_contents-clause-stop g c =
     let names = c.items-names.result.now in
     let formula = formula_of c.in-Ok.asked.expr in
     let wanted = c.in-Ok.asked.wanted in
-    let contents = subst (λ (contents : List (Vec ℕ Global)). AreContents told names contents) (sym c.deref.ensures.value) c.in-Ok-read_contents.ensures.contents in
+    let contents = subst (λ (contents : List (Vec ℕ Global)). AreContents told names contents)
+    (sym c.deref.ensures.value) c.in-Ok-read_contents.ensures.contents in
     IfErr-weaker c.output_of_contents.result _ (IsStop c.args.request.now shelf)
-    (λ status h. files_stop c.args.request.now shelf formula wanted c.in-Ok.ensures.asks status (subst (λ (names : List (List ℕ)). IsFilesCause told names formula wanted status) c.items-names.ensures (h told contents)))
+    (λ status h. files_stop c.args.request.now shelf formula wanted c.in-Ok.ensures.asks status
+    (subst (λ (names : List (List ℕ)). IsFilesCause told names formula wanted status) c.items-names.ensures
+    (h told contents)))
     c.output_of_contents.ensures.cause
 
 pub returns-clause-stop : goal.returns-clause-stop

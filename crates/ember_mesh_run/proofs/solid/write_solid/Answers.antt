@@ -36,19 +36,23 @@ returns-in-Err-clause-stop g c =
     let target = target_call g.T.Target.held g.T.Target.begun g.T.Target.faults c.args.target.now c.args.target.now in
     let request = c.args.request.now in
     let stop = c.in-Err.ensures.stop in
-    cause_is_unmet (IsStop request shelf) (AreFilesFor request shelf.told) target c.in-Err.status (λ name h. h) (names_hold_the_same (g.T.Target.held c.args.target.now)) stop (stop_tells_memory request shelf c.in-Err.status stop)
+    cause_is_unmet (IsStop request shelf) (AreFilesFor request shelf.told) target c.in-Err.status (λ name h. h)
+    (names_hold_the_same (g.T.Target.held c.args.target.now)) stop
+    (stop_tells_memory request shelf c.in-Err.status stop)
 
 pub returns-in_err-report-clause-stop : goal.returns-in_err-report-clause-stop
 returns-in_err-report-clause-stop g c =
     let shelf = shelf_call g.S.Shelf.contents g.S.Shelf.faults g.S.Shelf.fault_at c.args.shelf.now c.solid_output.new.shelf in
     let target = target_call g.T.Target.held g.T.Target.begun g.T.Target.faults c.args.target.now c.args.target.now in
-    memory_given (IsSolidUnmet c.args.request.now shelf target) c.from_residual.result c.from_residual.ensures.1 (inl (names_hold_the_same (g.T.Target.held c.args.target.now)))
+    memory_given (IsSolidUnmet c.args.request.now shelf target) c.from_residual.result c.from_residual.ensures.1
+    (inl (names_hold_the_same (g.T.Target.held c.args.target.now)))
 
 pub returns-in_err-files-clause-stop : goal.returns-in_err-files-clause-stop
 returns-in_err-files-clause-stop g c =
     let shelf = shelf_call g.S.Shelf.contents g.S.Shelf.faults g.S.Shelf.fault_at c.args.shelf.now c.solid_output.new.shelf in
     let target = target_call g.T.Target.held g.T.Target.begun g.T.Target.faults c.args.target.now c.args.target.now in
-    memory_given (IsSolidUnmet c.args.request.now shelf target) c.from_residual-in_err-files.result c.from_residual-in_err-files.ensures.1 (inl (names_hold_the_same (g.T.Target.held c.args.target.now)))
+    memory_given (IsSolidUnmet c.args.request.now shelf target) c.from_residual-in_err-files.result
+    c.from_residual-in_err-files.ensures.1 (inl (names_hold_the_same (g.T.Target.held c.args.target.now)))
 
 pub returns-in-Ok-write_files-clause-written : goal.returns-in-Ok-write_files-clause-written
 returns-in-Ok-write_files-clause-written g c =

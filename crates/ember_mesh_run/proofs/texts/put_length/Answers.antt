@@ -13,4 +13,5 @@ pub returns : goal.returns
 returns c =
     let size : size_of c.product-size.result ≡ c.args.extent.now.trillionths = omega (arith, c.product-size.ensures) in
     on_ok_same _ _ _ c.put_decimal.result c.put_decimal.ensures
-    (ap (λ (xs : List ℕ). c.args.text.now.items ++ xs) (length_shown (record { negative = false; size = c.product-size.result }) c.args.extent.now (ap pos size)))
+    (ap (λ (xs : List ℕ). c.args.text.now.items ++ xs)
+    (length_shown (record { negative = false; size = c.product-size.result }) c.args.extent.now (ap pos size)))

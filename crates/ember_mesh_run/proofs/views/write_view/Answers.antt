@@ -13,4 +13,6 @@ returns-in-Err-clause-stop g c =
     let target = target_call g.T.Target.held g.T.Target.begun g.T.Target.faults c.args.target.now c.args.target.now in
     let request = c.args.request.now in
     let cause = subst (λ (names : List (List ℕ)). IsReadingCause names shelf c.in-Err.status) c.items.ensures c.in-Err.ensures.cause in
-    cause_is_unmet (IsReadingCause request.files shelf) (IsPageFor request shelf.told) target c.in-Err.status (λ name h. h) (names_hold_the_same (g.T.Target.held c.args.target.now)) cause (reading_tells_memory request.files shelf c.in-Err.status cause)
+    cause_is_unmet (IsReadingCause request.files shelf) (IsPageFor request shelf.told) target c.in-Err.status
+    (λ name h. h) (names_hold_the_same (g.T.Target.held c.args.target.now)) cause
+    (reading_tells_memory request.files shelf c.in-Err.status cause)

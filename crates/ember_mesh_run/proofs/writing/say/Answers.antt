@@ -5,4 +5,5 @@ use Rattle.ember_mesh_run.proofs.writing.say.Goals as goal
 pub returns : goal.returns
 returns g c =
     let e = c.write_all.ensures in
-    text_is_taken (sink_call g.E.Sink.taken g.E.Sink.flushed g.E.Sink.faults c.args.err.now c.write_all.new.sink) c.args.text.now c.write_all.result e.cause e.taken e.prefix
+    text_is_taken (sink_call g.E.Sink.taken g.E.Sink.flushed g.E.Sink.faults c.args.err.now c.write_all.new.sink)
+    c.args.text.now c.write_all.result e.cause e.taken e.prefix

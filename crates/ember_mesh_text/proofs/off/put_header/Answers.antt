@@ -6,4 +6,5 @@ pub returns : goal.returns
 unfolding off_header
 returns c =
     on_ok_if _ _ c.extend_from_slice-3.result c.extend_from_slice-3.ensures.items
-    (after5 _ _ _ _ _ _ _ _ _ _ c.in_ok-extend_from_slice.ensures.items c.in_ok-put_number.ensures c.in_ok-extend_from_slice-2.ensures.items c.in_ok-put_number-2.ensures)
+    (after5 _ _ _ _ _ _ _ _ _ _ c.in_ok-extend_from_slice.ensures.items c.in_ok-put_number.ensures
+    c.in_ok-extend_from_slice-2.ensures.items c.in_ok-put_number-2.ensures)

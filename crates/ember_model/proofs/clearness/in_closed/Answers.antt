@@ -17,7 +17,9 @@ use Rattle.ember_model.proofs.clearness.in_closed.Goals as goal
 -- a point is a place on its own ray
 here : (p : Spot) (es : List Plane) → none_positive es (moved (scaled (pos 1) p) X (pos 0)) ≡ none_positive es p
 here p es =
-    same_none_positive (pos 1) p (moved (scaled (pos 1) p) X (pos 0)) es (omega (arith, linear)) (λ g. value_ray g X p (pos 1) (pos 0) ∙ solve 2 (λ v k. num (pos 1) ⊗ v ⊕ num (pos 0) ⊗ k ≈ num (pos 1) ⊗ v) cancels (value_at g p) (along g X))
+    same_none_positive (pos 1) p (moved (scaled (pos 1) p) X (pos 0)) es (omega (arith, linear))
+    (λ g. value_ray g X p (pos 1) (pos 0) ∙ solve 2 (λ v k. num (pos 1) ⊗ v ⊕ num (pos 0) ⊗ k ≈ num (pos 1) ⊗ v)
+    cancels (value_at g p) (along g X))
 
 pub returns-then-is_on : goal.returns-then-is_on
 returns-then-is_on c =

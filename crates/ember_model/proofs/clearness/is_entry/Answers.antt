@@ -15,5 +15,7 @@ returns-then-offset-gt0 c =
     let v = exact (c.plane_value-offset.ensures.small & done) (stored w128 (input 0)) tt ∙ c.plane_value-offset.ensures.value in
     let n = negative_in (subst (λ (z : ℤ). z <ℤ pos 0) k (less_out _ _ c.if-slope-lt0.true)) in
     let u = positive_in (subst (λ (z : ℤ). pos 0 <ℤ z) v (less_out _ _ c.if-offset-gt0.true)) in
-    let m = exact (c.component-slope.ensures.small & done) (stored w64 (number (pos 0) ⊟ stored w64 (input 0))) tt ∙ ap (λ (z : ℤ). pos 0 -ℤ z) c.component-slope.ensures.value ∙ solve 1 (λ k. num (pos 0) ⊖ k ≈ neg k) cancels (along h a) in
+    let m = exact (c.component-slope.ensures.small & done) (stored w64 (number (pos 0) ⊟ stored w64 (input 0))) tt
+    ∙ ap (λ (z : ℤ). pos 0 -ℤ z) c.component-slope.ensures.value
+    ∙ solve 1 (λ k. num (pos 0) ⊖ k ≈ neg k) cancels (along h a) in
     c.none_positive.ensures ∙ (λ i. none_positive es (moved (scaled (m i) p) a (v i))) ∙ sym (λ i. n i && (u i && none_positive es (entry_point h a p)))

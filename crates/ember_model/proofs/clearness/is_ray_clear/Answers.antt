@@ -17,7 +17,8 @@ returns-then-not-none_positive c =
     let m : is_negative (value_at n p *ℤ along n a) ≡ true = (λ i. is_negative (sym s i *ℤ sym k i)) ∙ sym c.meets.ensures ∙ c.if-meets.true in
     let q = ray_point_is_hit n a p _ _ c.hit_on_ray-hit.result s k c.hit_on_ray-hit.ensures.value in
     let h : none_positive es (hit n a p) ≡ false = (λ i. none_positive es (sym q i)) ∙ sym c.none_positive.ensures ∙ c.if-not-none_positive.true in
-    ap not c.if-not-none_positive.true ∙ sym (λ i. cond (l i) (cond (is_zero (value_at n p)) (not (enters es a p)) true) (cond (m i && h i) (all_negative es (hit n a p)) true))
+    ap not c.if-not-none_positive.true ∙ sym (λ i. cond (l i) (cond (is_zero (value_at n p)) (not (enters es a p)) true)
+    (cond (m i && h i) (all_negative es (hit n a p)) true))
 
 pub returns-else-not-none_positive : goal.returns-else-not-none_positive
 returns-else-not-none_positive c =
@@ -28,4 +29,6 @@ returns-else-not-none_positive c =
     let m : is_negative (value_at n p *ℤ along n a) ≡ true = (λ i. is_negative (sym s i *ℤ sym k i)) ∙ sym c.meets.ensures ∙ c.if-meets.true in
     let q = ray_point_is_hit n a p _ _ c.hit_on_ray-hit.result s k c.hit_on_ray-hit.ensures.value in
     let h : none_positive es (hit n a p) ≡ true = (λ i. none_positive es (sym q i)) ∙ sym c.none_positive.ensures ∙ c.if-not-none_positive.false in
-    c.all_negative.ensures ∙ (λ i. all_negative es (q i)) ∙ sym (λ i. cond (l i) (cond (is_zero (value_at n p)) (not (enters es a p)) true) (cond (m i && h i) (all_negative es (hit n a p)) true))
+    c.all_negative.ensures ∙ (λ i. all_negative es (q i))
+    ∙ sym (λ i. cond (l i) (cond (is_zero (value_at n p)) (not (enters es a p)) true)
+    (cond (m i && h i) (all_negative es (hit n a p)) true))

@@ -22,7 +22,8 @@ returns-then-f-lt0 c =
     let s : is_negative c.args.s ≡ true = of_stored (exact (c.requires.s & done) (stored w128 (input 0)) tt) c.if-s-lt0.true in
     let e : is_negative c.args.e ≡ true = of_stored (exact (c.requires.e & done) (stored w128 (input 0)) tt) c.if-e-lt0.true in
     let f : is_negative c.args.f ≡ true = of_stored (exact (c.requires.f & done) (stored w128 (input 0)) tt) c.if-f-lt0.true in
-    ap (λ (z : ℤ). lt_z z (pos 0)) (exact (c.requires.g & done) (stored w128 (input 0)) tt) ∙ tested c.args.g ∙ sym (λ i. s i && (e i && (f i && is_negative c.args.g)))
+    ap (λ (z : ℤ). lt_z z (pos 0)) (exact (c.requires.g & done) (stored w128 (input 0)) tt) ∙ tested c.args.g
+    ∙ sym (λ i. s i && (e i && (f i && is_negative c.args.g)))
 
 pub returns-else-f-lt0 : goal.returns-else-f-lt0
 returns-else-f-lt0 c =

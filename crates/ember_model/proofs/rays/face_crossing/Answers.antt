@@ -19,7 +19,8 @@ returns-then-all_negative-clause-value c =
     let q = ray_point_is_hit f.support a p _ _ c.hit_on_ray.result s k c.hit_on_ray.ensures.value in
     let e = c.items.ensures in
     let h : all_negative f.edges (hit f.support a p) ≡ true = (λ i. all_negative (sym e i) (sym q i)) ∙ sym c.all_negative.ensures ∙ c.if-all_negative.true in
-    exact (c.sign_number.ensures.small & done) (stored w32 (stored w64 (input 0))) tt ∙ c.sign_number.ensures.value ∙ ap sign k ∙ sym (crossing_on f a p true c.requires.spot.weight m h)
+    exact (c.sign_number.ensures.small & done) (stored w32 (stored w64 (input 0))) tt ∙ c.sign_number.ensures.value
+    ∙ ap sign k ∙ sym (crossing_on f a p true c.requires.spot.weight m h)
 
 pub returns-else-meets-clause-value : goal.returns-else-meets-clause-value
 returns-else-meets-clause-value c =
@@ -31,7 +32,8 @@ returns-else-meets-clause-value c =
       | else-meets-via-then-meets+else-all_negative w ↦
           let q = ray_point_is_hit f.support a p _ _ w.hit_on_ray.result s k w.hit_on_ray.ensures.value in
           let e = w.items.ensures in
-          let h : all_negative f.edges (hit f.support a p) ≡ false = (λ i. all_negative (sym e i) (sym q i)) ∙ sym w.all_negative.ensures ∙ w.if-all_negative.false in
+          let h : all_negative f.edges (hit f.support a p) ≡ false =
+          (λ i. all_negative (sym e i) (sym q i)) ∙ sym w.all_negative.ensures ∙ w.if-all_negative.false in
           sym (crossing_on f a p false c.requires.spot.weight (m ∙ w.if-meets.true) h)
       | else-meets-via-else-meets w ↦ sym (crossing_off f a p (m ∙ w.if-meets.false))
     ]

@@ -15,10 +15,17 @@ returns-then-all_behind-clause-value c =
     let e = exact (c.edge_value-e.ensures.small & done) (stored w128 (input 0)) tt ∙ c.edge_value-e.ensures.value in
     let f = exact (c.edge_value-f.ensures.small & done) (stored w128 (input 0)) tt ∙ c.edge_value-f.ensures.value in
     let g = exact (c.edge_value-g.ensures.small & done) (stored w128 (input 0)) tt ∙ c.edge_value-g.ensures.value in
-    let b : behind a p t ≡ true = sym (c.all_behind.ensures ∙ (λ i. is_negative (sign (k i) *ℤ e i) && (is_negative (sign (k i) *ℤ f i) && is_negative (sign (k i) *ℤ g i)))) ∙ c.if-all_behind.true in
+    let b : behind a p t ≡ true = sym (c.all_behind.ensures
+    ∙ (λ i. is_negative (sign (k i) *ℤ e i) && (is_negative (sign (k i) *ℤ f i) && is_negative (sign (k i) *ℤ g i))))
+    ∙ c.if-all_behind.true in
     let s = exact (c.plane_value.ensures.small & done) (stored w128 (input 0)) tt ∙ c.plane_value.ensures.value ∙ ap (λ (n : Plane). value_at n p) n in
-    let u = exact (c.plane_value-then-all_behind.ensures.small & done) (stored w128 (input 0)) tt ∙ c.plane_value-then-all_behind.ensures.value ∙ ap (λ (n : Plane). value_at n q) n in
-    exact (c.signed_crossing.ensures.small & done) (stored w32 (input 0)) tt ∙ c.signed_crossing.ensures.value ∙ (λ i. cond (is_negative (s i *ℤ u i)) (sign (u i)) (pos 0)) ∙ sym (leg_behind a p q t c.requires.from.weight c.requires.to.weight c.requires.line ∙ ap (λ (b : Bool). cond b (cond (is_negative (value_at (support_of t) p *ℤ value_at (support_of t) q)) (sign (value_at (support_of t) q)) (pos 0)) (pos 0)) b)
+    let u = exact (c.plane_value-then-all_behind.ensures.small & done) (stored w128 (input 0)) tt
+    ∙ c.plane_value-then-all_behind.ensures.value ∙ ap (λ (n : Plane). value_at n q) n in
+    exact (c.signed_crossing.ensures.small & done) (stored w32 (input 0)) tt ∙ c.signed_crossing.ensures.value
+    ∙ (λ i. cond (is_negative (s i *ℤ u i)) (sign (u i)) (pos 0))
+    ∙ sym (leg_behind a p q t c.requires.from.weight c.requires.to.weight c.requires.line
+    ∙ ap (λ (b : Bool). cond b (cond (is_negative (value_at (support_of t) p *ℤ value_at (support_of t) q))
+    (sign (value_at (support_of t) q)) (pos 0)) (pos 0)) b)
 
 pub returns-else-all_behind-clause-value : goal.returns-else-all_behind-clause-value
 returns-else-all_behind-clause-value c =
@@ -28,5 +35,9 @@ returns-else-all_behind-clause-value c =
     let e = exact (c.edge_value-e.ensures.small & done) (stored w128 (input 0)) tt ∙ c.edge_value-e.ensures.value in
     let f = exact (c.edge_value-f.ensures.small & done) (stored w128 (input 0)) tt ∙ c.edge_value-f.ensures.value in
     let g = exact (c.edge_value-g.ensures.small & done) (stored w128 (input 0)) tt ∙ c.edge_value-g.ensures.value in
-    let b : behind a p t ≡ false = sym (c.all_behind.ensures ∙ (λ i. is_negative (sign (k i) *ℤ e i) && (is_negative (sign (k i) *ℤ f i) && is_negative (sign (k i) *ℤ g i)))) ∙ c.if-all_behind.false in
-    sym (leg_behind a p q t c.requires.from.weight c.requires.to.weight c.requires.line ∙ ap (λ (b : Bool). cond b (cond (is_negative (value_at (support_of t) p *ℤ value_at (support_of t) q)) (sign (value_at (support_of t) q)) (pos 0)) (pos 0)) b)
+    let b : behind a p t ≡ false = sym (c.all_behind.ensures
+    ∙ (λ i. is_negative (sign (k i) *ℤ e i) && (is_negative (sign (k i) *ℤ f i) && is_negative (sign (k i) *ℤ g i))))
+    ∙ c.if-all_behind.false in
+    sym (leg_behind a p q t c.requires.from.weight c.requires.to.weight c.requires.line
+    ∙ ap (λ (b : Bool). cond b (cond (is_negative (value_at (support_of t) p *ℤ value_at (support_of t) q))
+    (sign (value_at (support_of t) q)) (pos 0)) (pos 0)) b)

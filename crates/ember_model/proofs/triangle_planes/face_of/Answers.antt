@@ -10,7 +10,8 @@ pub returns-then-has_no_normal-clause-value : goal.returns-then-has_no_normal-cl
 unfolding is_flat
 returns-then-has_no_normal-clause-value c =
     let t = c.args.t.now in
-    let flat : is_flat t ≡ true = ap (λ (n : Plane). is_zero n.a && (is_zero n.b && is_zero n.c)) (sym c.support_of-support.ensures.value) ∙ sym c.has_no_normal.ensures ∙ c.if-has_no_normal.true in
+    let flat : is_flat t ≡ true = ap (λ (n : Plane). is_zero n.a && (is_zero n.b && is_zero n.c))
+    (sym c.support_of-support.ensures.value) ∙ sym c.has_no_normal.ensures ∙ c.if-has_no_normal.true in
     sym (ap (λ (b : Bool). cond b None (Some (face_of t))) flat)
 
 edges_are : (c : goal.After-of) → c.of.result ≡ c.main_edges.result

@@ -21,7 +21,9 @@ is_side : (c : goal.After-plane_with) → c.plane_with.result ≡ times_plane c.
 is_side c =
     let u = c.args.u.now in let s = c.args.s in let k = c.args.k in
     let kept = exact (c.requires.s & done) (stored w64 (input 0)) tt in
-    c.plane_with.ensures ∙ ap (λ (n : Vector). plane_through n u) (c.edge_normal.ensures.value ∙ (λ i. scale_v (kept i) (cross (as_vector c.vector_between-step.result) (unit k))) ∙ ap (λ (w : Vector). scale_v s (cross w (unit k))) c.vector_between-step.ensures.value) ∙ through_scaled s _ u
+    c.plane_with.ensures ∙ ap (λ (n : Vector). plane_through n u)
+    (c.edge_normal.ensures.value ∙ (λ i. scale_v (kept i) (cross (as_vector c.vector_between-step.result) (unit k)))
+    ∙ ap (λ (w : Vector). scale_v s (cross w (unit k))) c.vector_between-step.ensures.value) ∙ through_scaled s _ u
 
 pub returns-clause-value : goal.returns-clause-value
 returns-clause-value c = is_side c

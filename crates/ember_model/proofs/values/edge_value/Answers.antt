@@ -12,30 +12,51 @@ use Rattle.ember_model.proofs.values.edge_value.Goals as goal
 -- the plane's value at a point, by the point seen from the edge's start
 along_x : (u v : Corner) (s : Spot) → (v.z -ℤ u.z) *ℤ (s.y -ℤ s.w *ℤ u.y) -ℤ (v.y -ℤ u.y) *ℤ (s.z -ℤ s.w *ℤ u.z) ≡ value_at (edge_through u v (unit X)) s
 along_x u v s =
-    solve 10 (λ u v w l m n x y z h. (n ⊖ w) ⊗ (y ⊖ h ⊗ v) ⊖ (m ⊖ v) ⊗ (z ⊖ h ⊗ w) ≈ ((m ⊖ v) ⊗ num (pos 0) ⊖ (n ⊖ w) ⊗ num (pos 0)) ⊗ x ⊕ ((n ⊖ w) ⊗ num (pos 1) ⊖ (l ⊖ u) ⊗ num (pos 0)) ⊗ y ⊕ ((l ⊖ u) ⊗ num (pos 0) ⊖ (m ⊖ v) ⊗ num (pos 1)) ⊗ z ⊖ (((m ⊖ v) ⊗ num (pos 0) ⊖ (n ⊖ w) ⊗ num (pos 0)) ⊗ u ⊕ ((n ⊖ w) ⊗ num (pos 1) ⊖ (l ⊖ u) ⊗ num (pos 0)) ⊗ v ⊕ ((l ⊖ u) ⊗ num (pos 0) ⊖ (m ⊖ v) ⊗ num (pos 1)) ⊗ w) ⊗ h) cancels u.x u.y u.z v.x v.y v.z s.x s.y s.z s.w
+    solve 10 (λ u v w l m n x y z h. (n ⊖ w) ⊗ (y ⊖ h ⊗ v) ⊖ (m ⊖ v) ⊗ (z ⊖ h ⊗ w) ≈
+    ((m ⊖ v) ⊗ num (pos 0) ⊖ (n ⊖ w) ⊗ num (pos 0)) ⊗ x ⊕ ((n ⊖ w) ⊗ num (pos 1) ⊖ (l ⊖ u) ⊗ num (pos 0)) ⊗ y ⊕
+    ((l ⊖ u) ⊗ num (pos 0) ⊖ (m ⊖ v) ⊗ num (pos 1)) ⊗ z ⊖
+    (((m ⊖ v) ⊗ num (pos 0) ⊖ (n ⊖ w) ⊗ num (pos 0)) ⊗ u ⊕ ((n ⊖ w) ⊗ num (pos 1) ⊖ (l ⊖ u) ⊗ num (pos 0)) ⊗ v ⊕
+    ((l ⊖ u) ⊗ num (pos 0) ⊖ (m ⊖ v) ⊗ num (pos 1)) ⊗ w) ⊗ h) cancels u.x u.y u.z v.x v.y v.z s.x s.y s.z s.w
 
 along_y : (u v : Corner) (s : Spot) → (v.x -ℤ u.x) *ℤ (s.z -ℤ s.w *ℤ u.z) -ℤ (v.z -ℤ u.z) *ℤ (s.x -ℤ s.w *ℤ u.x) ≡ value_at (edge_through u v (unit Y)) s
 along_y u v s =
-    solve 10 (λ u v w l m n x y z h. (l ⊖ u) ⊗ (z ⊖ h ⊗ w) ⊖ (n ⊖ w) ⊗ (x ⊖ h ⊗ u) ≈ ((m ⊖ v) ⊗ num (pos 0) ⊖ (n ⊖ w) ⊗ num (pos 1)) ⊗ x ⊕ ((n ⊖ w) ⊗ num (pos 0) ⊖ (l ⊖ u) ⊗ num (pos 0)) ⊗ y ⊕ ((l ⊖ u) ⊗ num (pos 1) ⊖ (m ⊖ v) ⊗ num (pos 0)) ⊗ z ⊖ (((m ⊖ v) ⊗ num (pos 0) ⊖ (n ⊖ w) ⊗ num (pos 1)) ⊗ u ⊕ ((n ⊖ w) ⊗ num (pos 0) ⊖ (l ⊖ u) ⊗ num (pos 0)) ⊗ v ⊕ ((l ⊖ u) ⊗ num (pos 1) ⊖ (m ⊖ v) ⊗ num (pos 0)) ⊗ w) ⊗ h) cancels u.x u.y u.z v.x v.y v.z s.x s.y s.z s.w
+    solve 10 (λ u v w l m n x y z h. (l ⊖ u) ⊗ (z ⊖ h ⊗ w) ⊖ (n ⊖ w) ⊗ (x ⊖ h ⊗ u) ≈
+    ((m ⊖ v) ⊗ num (pos 0) ⊖ (n ⊖ w) ⊗ num (pos 1)) ⊗ x ⊕ ((n ⊖ w) ⊗ num (pos 0) ⊖ (l ⊖ u) ⊗ num (pos 0)) ⊗ y ⊕
+    ((l ⊖ u) ⊗ num (pos 1) ⊖ (m ⊖ v) ⊗ num (pos 0)) ⊗ z ⊖
+    (((m ⊖ v) ⊗ num (pos 0) ⊖ (n ⊖ w) ⊗ num (pos 1)) ⊗ u ⊕ ((n ⊖ w) ⊗ num (pos 0) ⊖ (l ⊖ u) ⊗ num (pos 0)) ⊗ v ⊕
+    ((l ⊖ u) ⊗ num (pos 1) ⊖ (m ⊖ v) ⊗ num (pos 0)) ⊗ w) ⊗ h) cancels u.x u.y u.z v.x v.y v.z s.x s.y s.z s.w
 
 along_z : (u v : Corner) (s : Spot) → (v.y -ℤ u.y) *ℤ (s.x -ℤ s.w *ℤ u.x) -ℤ (v.x -ℤ u.x) *ℤ (s.y -ℤ s.w *ℤ u.y) ≡ value_at (edge_through u v (unit Z)) s
 along_z u v s =
-    solve 10 (λ u v w l m n x y z h. (m ⊖ v) ⊗ (x ⊖ h ⊗ u) ⊖ (l ⊖ u) ⊗ (y ⊖ h ⊗ v) ≈ ((m ⊖ v) ⊗ num (pos 1) ⊖ (n ⊖ w) ⊗ num (pos 0)) ⊗ x ⊕ ((n ⊖ w) ⊗ num (pos 0) ⊖ (l ⊖ u) ⊗ num (pos 1)) ⊗ y ⊕ ((l ⊖ u) ⊗ num (pos 0) ⊖ (m ⊖ v) ⊗ num (pos 0)) ⊗ z ⊖ (((m ⊖ v) ⊗ num (pos 1) ⊖ (n ⊖ w) ⊗ num (pos 0)) ⊗ u ⊕ ((n ⊖ w) ⊗ num (pos 0) ⊖ (l ⊖ u) ⊗ num (pos 1)) ⊗ v ⊕ ((l ⊖ u) ⊗ num (pos 0) ⊖ (m ⊖ v) ⊗ num (pos 0)) ⊗ w) ⊗ h) cancels u.x u.y u.z v.x v.y v.z s.x s.y s.z s.w
+    solve 10 (λ u v w l m n x y z h. (m ⊖ v) ⊗ (x ⊖ h ⊗ u) ⊖ (l ⊖ u) ⊗ (y ⊖ h ⊗ v) ≈
+    ((m ⊖ v) ⊗ num (pos 1) ⊖ (n ⊖ w) ⊗ num (pos 0)) ⊗ x ⊕ ((n ⊖ w) ⊗ num (pos 0) ⊖ (l ⊖ u) ⊗ num (pos 1)) ⊗ y ⊕
+    ((l ⊖ u) ⊗ num (pos 0) ⊖ (m ⊖ v) ⊗ num (pos 0)) ⊗ z ⊖
+    (((m ⊖ v) ⊗ num (pos 1) ⊖ (n ⊖ w) ⊗ num (pos 0)) ⊗ u ⊕ ((n ⊖ w) ⊗ num (pos 0) ⊖ (l ⊖ u) ⊗ num (pos 1)) ⊗ v ⊕
+    ((l ⊖ u) ⊗ num (pos 0) ⊖ (m ⊖ v) ⊗ num (pos 0)) ⊗ w) ⊗ h) cancels u.x u.y u.z v.x v.y v.z s.x s.y s.z s.w
 
 pub returns-in-X-clause-value : goal.returns-in-X-clause-value
 returns-in-X-clause-value c =
     let u = c.args.u.now in let v = c.args.v.now in let s = c.args.p.now in
     let step = c.vector_between-step.ensures in let at = c.vector_from_corner-at.ensures in let e = step.value in let f = at.y in let g = at.z in
-    exact (c.product_difference.ensures.small & done) (stored w128 (input 0)) tt ∙ c.product_difference.ensures.value ∙ exact (step.small.z & at.small.y & step.small.y & at.small.z & done) (narrow 0 ⊠ narrow 1 ⊟ narrow 2 ⊠ narrow 3) tt ∙ (λ i. (e i).z *ℤ f i -ℤ (e i).y *ℤ g i) ∙ along_x u v s ∙ ap (λ (k : Axis). value_at (edge_through u v (unit k)) s) (sym c.in-X.is)
+    exact (c.product_difference.ensures.small & done) (stored w128 (input 0)) tt ∙ c.product_difference.ensures.value
+    ∙ exact (step.small.z & at.small.y & step.small.y & at.small.z & done) (narrow 0 ⊠ narrow 1 ⊟ narrow 2 ⊠ narrow 3)
+    tt ∙ (λ i. (e i).z *ℤ f i -ℤ (e i).y *ℤ g i) ∙ along_x u v s
+    ∙ ap (λ (k : Axis). value_at (edge_through u v (unit k)) s) (sym c.in-X.is)
 
 pub returns-in-Y-clause-value : goal.returns-in-Y-clause-value
 returns-in-Y-clause-value c =
     let u = c.args.u.now in let v = c.args.v.now in let s = c.args.p.now in
     let step = c.vector_between-step.ensures in let at = c.vector_from_corner-at.ensures in let e = step.value in let f = at.z in let g = at.x in
-    exact (c.product_difference-in-Y.ensures.small & done) (stored w128 (input 0)) tt ∙ c.product_difference-in-Y.ensures.value ∙ exact (step.small.x & at.small.z & step.small.z & at.small.x & done) (narrow 0 ⊠ narrow 1 ⊟ narrow 2 ⊠ narrow 3) tt ∙ (λ i. (e i).x *ℤ f i -ℤ (e i).z *ℤ g i) ∙ along_y u v s ∙ ap (λ (k : Axis). value_at (edge_through u v (unit k)) s) (sym c.in-Y.is)
+    exact (c.product_difference-in-Y.ensures.small & done) (stored w128 (input 0)) tt
+    ∙ c.product_difference-in-Y.ensures.value ∙ exact (step.small.x & at.small.z & step.small.z & at.small.x & done)
+    (narrow 0 ⊠ narrow 1 ⊟ narrow 2 ⊠ narrow 3) tt ∙ (λ i. (e i).x *ℤ f i -ℤ (e i).z *ℤ g i) ∙ along_y u v s
+    ∙ ap (λ (k : Axis). value_at (edge_through u v (unit k)) s) (sym c.in-Y.is)
 
 pub returns-in-Z-clause-value : goal.returns-in-Z-clause-value
 returns-in-Z-clause-value c =
     let u = c.args.u.now in let v = c.args.v.now in let s = c.args.p.now in
     let step = c.vector_between-step.ensures in let at = c.vector_from_corner-at.ensures in let e = step.value in let f = at.x in let g = at.y in
-    exact (c.product_difference-in-Z.ensures.small & done) (stored w128 (input 0)) tt ∙ c.product_difference-in-Z.ensures.value ∙ exact (step.small.y & at.small.x & step.small.x & at.small.y & done) (narrow 0 ⊠ narrow 1 ⊟ narrow 2 ⊠ narrow 3) tt ∙ (λ i. (e i).y *ℤ f i -ℤ (e i).x *ℤ g i) ∙ along_z u v s ∙ ap (λ (k : Axis). value_at (edge_through u v (unit k)) s) (sym c.in-Z.is)
+    exact (c.product_difference-in-Z.ensures.small & done) (stored w128 (input 0)) tt
+    ∙ c.product_difference-in-Z.ensures.value ∙ exact (step.small.y & at.small.x & step.small.x & at.small.y & done)
+    (narrow 0 ⊠ narrow 1 ⊟ narrow 2 ⊠ narrow 3) tt ∙ (λ i. (e i).y *ℤ f i -ℤ (e i).x *ℤ g i) ∙ along_z u v s
+    ∙ ap (λ (k : Axis). value_at (edge_through u v (unit k)) s) (sym c.in-Z.is)

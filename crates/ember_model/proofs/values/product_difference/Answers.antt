@@ -22,10 +22,16 @@ pub overflow_mul-result-2 : goal.overflow_mul-result-2
 overflow_mul-result-2 c = no_overflow (c.requires.b & c.requires.y & done) w128 (stored w128 (stored w64 (input 0)) ⊠ stored w128 (stored w64 (input 1))) tt
 
 pub overflow_sub-result : goal.overflow_sub-result
-overflow_sub-result c = no_overflow (c.requires.a & c.requires.x & c.requires.b & c.requires.y & done) w128 (stored w128 (stored w128 (stored w64 (input 0)) ⊠ stored w128 (stored w64 (input 1))) ⊟ stored w128 (stored w128 (stored w64 (input 2)) ⊠ stored w128 (stored w64 (input 3)))) tt
+overflow_sub-result c = no_overflow (c.requires.a & c.requires.x & c.requires.b & c.requires.y & done) w128
+    (stored w128 (stored w128 (stored w64 (input 0)) ⊠ stored w128 (stored w64 (input 1))) ⊟ stored w128
+    (stored w128 (stored w64 (input 2)) ⊠ stored w128 (stored w64 (input 3)))) tt
 
 pub returns-clause-value : goal.returns-clause-value
-returns-clause-value c = exact (c.requires.a & c.requires.x & c.requires.b & c.requires.y & done) (stored w128 (stored w128 (stored w128 (stored w64 (input 0)) ⊠ stored w128 (stored w64 (input 1))) ⊟ stored w128 (stored w128 (stored w64 (input 2)) ⊠ stored w128 (stored w64 (input 3))))) tt
+returns-clause-value c = exact (c.requires.a & c.requires.x & c.requires.b & c.requires.y & done)
+    (stored w128 (stored w128 (stored w128 (stored w64 (input 0)) ⊠ stored w128 (stored w64 (input 1))) ⊟ stored w128
+    (stored w128 (stored w64 (input 2)) ⊠ stored w128 (stored w64 (input 3))))) tt
 
 pub returns-clause-small : goal.returns-clause-small
-returns-clause-small c = bounded (c.requires.a & c.requires.x & c.requires.b & c.requires.y & done) (2 ^ 66) (stored w128 (stored w128 (stored w128 (stored w64 (input 0)) ⊠ stored w128 (stored w64 (input 1))) ⊟ stored w128 (stored w128 (stored w64 (input 2)) ⊠ stored w128 (stored w64 (input 3))))) tt
+returns-clause-small c = bounded (c.requires.a & c.requires.x & c.requires.b & c.requires.y & done) (2 ^ 66)
+    (stored w128 (stored w128 (stored w128 (stored w64 (input 0)) ⊠ stored w128 (stored w64 (input 1))) ⊟ stored w128
+    (stored w128 (stored w64 (input 2)) ⊠ stored w128 (stored w64 (input 3))))) tt

@@ -15,7 +15,9 @@ pub overflow_mul-d-2 : goal.overflow_mul-d-2
 overflow_mul-d-2 c = no_overflow (c.requires.normal.y & c.requires.u.y & done) w64 (stored w64 (input 0) ⊠ stored w64 (stored w32 (input 1))) tt
 
 pub overflow_add-d : goal.overflow_add-d
-overflow_add-d c = no_overflow (c.requires.normal.x & c.requires.u.x & c.requires.normal.y & c.requires.u.y & done) w64 (stored w64 (stored w64 (input 0) ⊠ stored w64 (stored w32 (input 1))) ⊞ stored w64 (stored w64 (input 2) ⊠ stored w64 (stored w32 (input 3)))) tt
+overflow_add-d c = no_overflow (c.requires.normal.x & c.requires.u.x & c.requires.normal.y & c.requires.u.y & done) w64
+    (stored w64 (stored w64 (input 0) ⊠ stored w64 (stored w32 (input 1))) ⊞ stored w64
+    (stored w64 (input 2) ⊠ stored w64 (stored w32 (input 3)))) tt
 
 pub overflow_cast-d-3 : goal.overflow_cast-d-3
 overflow_cast-d-3 c = no_overflow (c.requires.u.z & done) w64 (stored w32 (input 0)) tt
@@ -24,7 +26,18 @@ pub overflow_mul-d-3 : goal.overflow_mul-d-3
 overflow_mul-d-3 c = no_overflow (c.requires.normal.z & c.requires.u.z & done) w64 (stored w64 (input 0) ⊠ stored w64 (stored w32 (input 1))) tt
 
 pub overflow_add-d-2 : goal.overflow_add-d-2
-overflow_add-d-2 c = no_overflow (c.requires.normal.x & c.requires.u.x & c.requires.normal.y & c.requires.u.y & c.requires.normal.z & c.requires.u.z & done) w64 (stored w64 (stored w64 (stored w64 (input 0) ⊠ stored w64 (stored w32 (input 1))) ⊞ stored w64 (stored w64 (input 2) ⊠ stored w64 (stored w32 (input 3)))) ⊞ stored w64 (stored w64 (input 4) ⊠ stored w64 (stored w32 (input 5)))) tt
+overflow_add-d-2 c = no_overflow (c.requires.normal.x & c.requires.u.x & c.requires.normal.y & c.requires.u.y &
+    c.requires.normal.z & c.requires.u.z & done) w64
+    (stored w64 (stored w64 (stored w64 (input 0) ⊠ stored w64 (stored w32 (input 1))) ⊞ stored w64
+    (stored w64 (input 2) ⊠ stored w64 (stored w32 (input 3)))) ⊞ stored w64
+    (stored w64 (input 4) ⊠ stored w64 (stored w32 (input 5)))) tt
 
 pub returns : goal.returns
-returns c = let a = exact (c.requires.normal.x & done) (stored w64 (input 0)) tt in let b = exact (c.requires.normal.y & done) (stored w64 (input 0)) tt in let c' = exact (c.requires.normal.z & done) (stored w64 (input 0)) tt in let d = exact (c.requires.normal.x & c.requires.u.x & c.requires.normal.y & c.requires.u.y & c.requires.normal.z & c.requires.u.z & done) (stored w64 (stored w64 (stored w64 (stored w64 (input 0) ⊠ stored w64 (stored w32 (input 1))) ⊞ stored w64 (stored w64 (input 2) ⊠ stored w64 (stored w32 (input 3)))) ⊞ stored w64 (stored w64 (input 4) ⊠ stored w64 (stored w32 (input 5))))) tt in λ i. record { a = a i; b = b i; c = c' i; d = d i }
+returns c = let a = exact (c.requires.normal.x & done) (stored w64 (input 0)) tt in let b =
+    exact (c.requires.normal.y & done) (stored w64 (input 0)) tt in let c' =
+    exact (c.requires.normal.z & done) (stored w64 (input 0)) tt in let d =
+    exact (c.requires.normal.x & c.requires.u.x & c.requires.normal.y & c.requires.u.y & c.requires.normal.z &
+    c.requires.u.z & done) (stored w64 (stored w64
+    (stored w64 (stored w64 (input 0) ⊠ stored w64 (stored w32 (input 1))) ⊞ stored w64
+    (stored w64 (input 2) ⊠ stored w64 (stored w32 (input 3)))) ⊞ stored w64
+    (stored w64 (input 4) ⊠ stored w64 (stored w32 (input 5))))) tt in λ i. record { a = a i; b = b i; c = c' i; d = d i }

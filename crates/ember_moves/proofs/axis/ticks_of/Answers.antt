@@ -10,14 +10,18 @@ use Rattle.ember_moves.proofs.axis.ticks_of.Goals as goal
 pub rest_of-rest-requires-clause-positive : goal.rest_of-rest-requires-clause-positive
 rest_of-rest-requires-clause-positive c = mul-pos c.requires.step.numerator_positive c.requires.fineness.positive
 
-ticks : (c : goal.After-distance) → (c.distance.result ≡ ticks_of c.args.step.now c.args.fineness (value_of c.args.number.now)) × (c.distance.result ≤ c.args.step.now.numerator * c.args.fineness)
+ticks : (c : goal.After-distance) → (c.distance.result ≡ ticks_of c.args.step.now c.args.fineness
+    (value_of c.args.number.now)) × (c.distance.result ≤ c.args.step.now.numerator * c.args.fineness)
 ticks c =
     let low = to_z-of_z w128 c.ticks_below-low.result (record { sfits = c.ticks_below-low.type_inv }) in
     let high = to_z-of_z w128 c.ticks_above-high.result (record { sfits = c.ticks_above-high.type_inv }) in
     let rest = to_z-of_z w128 c.rest_of-rest.result (record { sfits = c.rest_of-rest.type_inv }) in
     let left = rw low at c.rest_of-rest.ensures.value in
     let greater = rw (low, high, rest) at c.distance.ensures in
-    distance_is_ticks c.args.step.now c.args.fineness (value_of c.args.number.now) c.ticks_below-low.result c.ticks_above-high.result c.rest_of-rest.result c.distance.result c.requires.fineness.positive (denominator_pos c.args.number.now) c.requires.step.numerator_positive c.ticks_below-low.ensures.value c.ticks_above-high.ensures.value left greater
+    distance_is_ticks c.args.step.now c.args.fineness (value_of c.args.number.now) c.ticks_below-low.result
+    c.ticks_above-high.result c.rest_of-rest.result c.distance.result c.requires.fineness.positive
+    (denominator_pos c.args.number.now) c.requires.step.numerator_positive c.ticks_below-low.ensures.value
+    c.ticks_above-high.ensures.value left greater
 
 pub returns-clause-value : goal.returns-clause-value
 returns-clause-value c = (ticks c).0

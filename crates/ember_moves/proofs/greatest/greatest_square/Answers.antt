@@ -20,9 +20,11 @@ loop-facet-preserved c =
     let squares : c.facet_square.result ≡ facet_square step c.args.fineness surface.vertices.items facet =
     c.facet_square.ensures ∙ ap (λ (vs : List Vertex). facet_square step c.args.fineness vs facet) c.deref.ensures.value in
     let greater = c.max-greatest.ensures ∙ ap (max c.loop-facet.greatest) squares in
-    greatest_more step c.args.fineness surface.vertices.items surface.facets.items i c.loop-facet.greatest c.max-greatest.result facet none c.loop-facet.invariant greater less is
+    greatest_more step c.args.fineness surface.vertices.items surface.facets.items i c.loop-facet.greatest
+    c.max-greatest.result facet none c.loop-facet.invariant greater less is
 
 pub returns : goal.returns
 returns c =
     let all : length c.args.surface.now.facets.items ≤ c.loop-facet.facet-index = rw c.deref-facet-items.ensures.value at c.loop-facet-test.false in
-    greatest_all c.args.grid.now.step c.args.fineness c.args.surface.now.vertices.items c.args.surface.now.facets.items c.loop-facet.facet-index c.loop-facet.greatest c.loop-facet.invariant all
+    greatest_all c.args.grid.now.step c.args.fineness c.args.surface.now.vertices.items c.args.surface.now.facets.items
+    c.loop-facet.facet-index c.loop-facet.greatest c.loop-facet.invariant all

@@ -8,7 +8,9 @@ use Rattle.ember_pairs.proofs.meetings.are_meeting.Goals as goal
 pub returns-then-not-aabbs_meet : goal.returns-then-not-aabbs_meet
 returns-then-not-aabbs_meet c =
     let t = c.args.t.now in let u = c.args.u.now in
-    let e : aabbs_meet (aabb_of_tri t) (aabb_of_tri u) ≡ false = (λ i. aabbs_meet (sym c.requires.facet i).aabb (sym c.requires.other_facet i).aabb) ∙ sym c.aabbs_meet.ensures ∙ c.if-not-aabbs_meet.true in
+    let e : aabbs_meet (aabb_of_tri t) (aabb_of_tri u) ≡ false =
+    (λ i. aabbs_meet (sym c.requires.facet i).aabb (sym c.requires.other_facet i).aabb) ∙ sym c.aabbs_meet.ensures
+    ∙ c.if-not-aabbs_meet.true in
     (λ r. absurd (false≢true r), λ m. absurd (boxes_apart t u e m))
 
 pub returns-in-Apart : goal.returns-in-Apart

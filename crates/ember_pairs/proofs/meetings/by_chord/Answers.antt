@@ -14,7 +14,8 @@ use Rattle.ember_pairs.proofs.ChordsWithin.{met_by_chord}
 use Rattle.ember_pairs.proofs.meetings.by_chord.Goals as goal
 
 -- what a chord shows holds
-shown : (t u : Tri) → is_flat t ≡ false → is_flat u ≡ false → (b : ByEdges) → IsByChord (heights_of (support_of t) u) (heights_over (edges_of t) u) b → IsByEdges t u b
+shown : (t u : Tri) → is_flat t ≡ false → is_flat u ≡ false → (b : ByEdges) →
+    IsByChord (heights_of (support_of t) u) (heights_over (edges_of t) u) b → IsByEdges t u b
 shown t u one other by_edges.Apart x = parted_by_chord t u x
 shown t u one other by_edges.Met x = met_by_chord t u one other x
 shown t u one other by_edges.Unknown x = tt
@@ -27,4 +28,5 @@ returns-in-Some c =
     let t = c.args.t.now in let u = c.args.u.now in
     let edges = given_heights t u c.in-Some.edges (sym c.in-Some.is ∙ c.edge_heights.ensures.value) in
     let here = subst (λ (h : Heights). IsByChord h c.in-Some.edges c.shown_by_chord.result) c.requires.over c.shown_by_chord.ensures in
-    shown t u c.requires.face c.requires.other_face c.shown_by_chord.result (subst (λ (hs : List Heights). IsByChord (heights_of (support_of t) u) hs c.shown_by_chord.result) edges here)
+    shown t u c.requires.face c.requires.other_face c.shown_by_chord.result
+    (subst (λ (hs : List Heights). IsByChord (heights_of (support_of t) u) hs c.shown_by_chord.result) edges here)

@@ -12,8 +12,10 @@ loop-a-init c =
 pub loop-a-preserved : goal.loop-a-preserved
 loop-a-preserved c =
     let below : c.loop-a.a < length c.args.list.now = omega arith in
-    rows_more c.args.tris.now c.args.list.now (pairs_of c.args.list.now) c.loop-a.out.items c.push_row.new.out.items c.loop-a.a below c.in_ok-push_row.ensures c.loop-a.invariant
+    rows_more c.args.tris.now c.args.list.now (pairs_of c.args.list.now) c.loop-a.out.items c.push_row.new.out.items
+    c.loop-a.a below c.in_ok-push_row.ensures c.loop-a.invariant
 
 pub returns : goal.returns
 returns c =
-    subst (λ (ps : List Pair). AreMeetingPairs c.args.tris.now c.args.list.now ps) (sym c.of.ensures) (rows_done c.args.tris.now c.args.list.now c.loop-a.out.items c.loop-a.a c.loop-a-test.false c.loop-a.invariant)
+    subst (λ (ps : List Pair). AreMeetingPairs c.args.tris.now c.args.list.now ps) (sym c.of.ensures)
+    (rows_done c.args.tris.now c.args.list.now c.loop-a.out.items c.loop-a.a c.loop-a-test.false c.loop-a.invariant)

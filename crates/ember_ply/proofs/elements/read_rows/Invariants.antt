@@ -6,7 +6,8 @@ use Rattle.ember_ply.proofs.elements.read_rows.Given as goal
 
 abbrev pub invariant-loop-left : goal.invariant-loop-left
 invariant-loop-left l = record {
-  same : rows_from l.element l.declarations 1 l.element.count (content_of l.fn.surface) (cursor_of l.cursor) ≡ rows_from l.element l.declarations l.number l.left (content_of l.surface) (cursor_of l.rest);
+  same : rows_from l.element l.declarations 1 l.element.count (content_of l.fn.surface) (cursor_of l.cursor) ≡ rows_from
+      l.element l.declarations l.number l.left (content_of l.surface) (cursor_of l.rest);
   few : length l.surface.vertices.items + left_at l.rest < 2 ^ 31;
   numbered : l.number + left_at l.rest ≤ 2 ^ 31;
 }

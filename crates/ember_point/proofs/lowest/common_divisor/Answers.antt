@@ -9,10 +9,20 @@ use Rattle.ember_point.proofs.lowest.common_divisor.Goals as goal
 pub overflow_cast-result : goal.overflow_cast-result
 overflow_cast-result c =
     let u = spot_of c.args.m.now in let v = c.args.m.now.valid in
-    fits_small w128 (divisor_small u v _ _ _ _ _ _ _ (c.unsigned_abs.ensures.value ∙ ap unsigned_abs (exact (v.w & done) (kept 0) tt)) (c.unsigned_abs-2.ensures.value ∙ ap unsigned_abs (exact (v.x & done) (kept 0) tt)) (c.unsigned_abs-3.ensures.value ∙ ap unsigned_abs (exact (v.y & done) (kept 0) tt)) (c.unsigned_abs-4.ensures.value ∙ ap unsigned_abs (exact (v.z & done) (kept 0) tt)) c.gcd-first.ensures c.gcd-second.ensures c.gcd-third.ensures) tt
+    fits_small w128 (divisor_small u v _ _ _ _ _ _ _
+    (c.unsigned_abs.ensures.value ∙ ap unsigned_abs (exact (v.w & done) (kept 0) tt))
+    (c.unsigned_abs-2.ensures.value ∙ ap unsigned_abs (exact (v.x & done) (kept 0) tt))
+    (c.unsigned_abs-3.ensures.value ∙ ap unsigned_abs (exact (v.y & done) (kept 0) tt))
+    (c.unsigned_abs-4.ensures.value ∙ ap unsigned_abs (exact (v.z & done) (kept 0) tt)) c.gcd-first.ensures
+    c.gcd-second.ensures c.gcd-third.ensures) tt
 
 pub returns : goal.returns
 returns c =
     let u = spot_of c.args.m.now in let v = c.args.m.now.valid in
-    let g = greatest_divisor u v _ _ _ _ _ _ _ (c.unsigned_abs.ensures.value ∙ ap unsigned_abs (exact (v.w & done) (kept 0) tt)) (c.unsigned_abs-2.ensures.value ∙ ap unsigned_abs (exact (v.x & done) (kept 0) tt)) (c.unsigned_abs-3.ensures.value ∙ ap unsigned_abs (exact (v.y & done) (kept 0) tt)) (c.unsigned_abs-4.ensures.value ∙ ap unsigned_abs (exact (v.z & done) (kept 0) tt)) c.gcd-first.ensures c.gcd-second.ensures c.gcd-third.ensures in
+    let g = greatest_divisor u v _ _ _ _ _ _ _ (c.unsigned_abs.ensures.value
+    ∙ ap unsigned_abs (exact (v.w & done) (kept 0) tt))
+    (c.unsigned_abs-2.ensures.value ∙ ap unsigned_abs (exact (v.x & done) (kept 0) tt))
+    (c.unsigned_abs-3.ensures.value ∙ ap unsigned_abs (exact (v.y & done) (kept 0) tt))
+    (c.unsigned_abs-4.ensures.value ∙ ap unsigned_abs (exact (v.z & done) (kept 0) tt)) c.gcd-first.ensures
+    c.gcd-second.ensures c.gcd-third.ensures in
     subst (λ d. IsGreatestDivisor u d) (sym (to_z-of_z (fits_small w128 g.small tt))) g

@@ -14,7 +14,8 @@ overflow_add-result c =
 
 pub overflow_add-result-2 : goal.overflow_add-result-2
 overflow_add-result-2 c =
-    no_overflow (c.requires.small_a & c.requires.small_x & c.requires.small_b & c.requires.small_y & c.requires.small_c & c.requires.small_z & done) w128 three tt
+    no_overflow (c.requires.small_a & c.requires.small_x & c.requires.small_b & c.requires.small_y & c.requires.small_c
+    & c.requires.small_z & done) w128 three tt
 
 pub returns : goal.returns
 returns c =

@@ -19,12 +19,14 @@ overflow_add-front-2 c =
 
 pub overflow_sub-front : goal.overflow_sub-front
 overflow_sub-front c =
-    no_overflow (c.narrow_product.ensures.small & c.narrow_product-2.ensures.small & c.narrow_product-3.ensures.small & c.narrow_product-4.ensures.small & done) w128 (front ⊟ kept 3) tt
+    no_overflow (c.narrow_product.ensures.small & c.narrow_product-2.ensures.small & c.narrow_product-3.ensures.small &
+    c.narrow_product-4.ensures.small & done) w128 (front ⊟ kept 3) tt
 
 pub returns : goal.returns
 returns c =
     let x = c.narrow_product.ensures in let y = c.narrow_product-2.ensures in let z = c.narrow_product-3.ensures in let w = c.narrow_product-4.ensures in
     let p = c.requires.plane in let m = c.args.m.now.valid in
     let sum = exact (x.small & y.small & z.small & w.small & done) (stored w128 (front ⊟ kept 3)) tt in
-    let products = exact (p.a & m.x & p.b & m.y & p.c & m.z & p.d & m.w & done) (narrow 0 ⊠ kept 1 ⊞ narrow 2 ⊠ kept 3 ⊞ narrow 4 ⊠ kept 5 ⊟ narrow 6 ⊠ kept 7) tt in
+    let products = exact (p.a & m.x & p.b & m.y & p.c & m.z & p.d & m.w & done)
+    (narrow 0 ⊠ kept 1 ⊞ narrow 2 ⊠ kept 3 ⊞ narrow 4 ⊠ kept 5 ⊟ narrow 6 ⊠ kept 7) tt in
     c.sign_of.ensures ∙ ap sgn (sum ∙ (λ i. x.value i +ℤ y.value i +ℤ z.value i -ℤ w.value i) ∙ products)

@@ -9,7 +9,8 @@ use Rattle.ember_point.proofs.plane_side.side.Goals as goal
 
 abbrev bounds : List ℕ
 bounds =
-    33554431 ∷ 4951760157141521099596496895 ∷ 33554431 ∷ 4951760157141521099596496895 ∷ 33554431 ∷ 4951760157141521099596496895 ∷ 549755813887 ∷ 302231454903657293676543 ∷ []
+    33554431 ∷ 4951760157141521099596496895 ∷ 33554431 ∷ 4951760157141521099596496895 ∷ 33554431
+    ∷ 4951760157141521099596496895 ∷ 549755813887 ∷ 302231454903657293676543 ∷ []
 
 inputs : {p : Plane} {v : Spot} → IsValidPlane p → IsValidMeet v → Inputs bounds (p.a ∷ v.x ∷ p.b ∷ v.y ∷ p.c ∷ v.z ∷ p.d ∷ v.w ∷ [])
 inputs a b = a.a & b.x & a.b & b.y & a.c & b.z & a.d & b.w & done

@@ -20,14 +20,17 @@ overflow_sub-result-in-Z c = no_overflow (c.requires.plane.d & c.requires.plane.
 pub returns-in-X : goal.returns-in-X
 returns-in-X c =
     let p = c.requires.plane in
-    rw c.in-X.is (same_plane refl (exact (p.b & done) (narrow 0) tt) (exact (p.c & done) (narrow 0) tt) (exact (p.d & p.a & c.requires.place & done) (stored w64 code) tt))
+    rw c.in-X.is (same_plane refl (exact (p.b & done) (narrow 0) tt) (exact (p.c & done) (narrow 0) tt)
+    (exact (p.d & p.a & c.requires.place & done) (stored w64 code) tt))
 
 pub returns-in-Y : goal.returns-in-Y
 returns-in-Y c =
     let p = c.requires.plane in
-    rw c.in-Y.is (same_plane (exact (p.a & done) (narrow 0) tt) refl (exact (p.c & done) (narrow 0) tt) (exact (p.d & p.b & c.requires.place & done) (stored w64 code) tt))
+    rw c.in-Y.is (same_plane (exact (p.a & done) (narrow 0) tt) refl (exact (p.c & done) (narrow 0) tt)
+    (exact (p.d & p.b & c.requires.place & done) (stored w64 code) tt))
 
 pub returns-in-Z : goal.returns-in-Z
 returns-in-Z c =
     let p = c.requires.plane in
-    rw c.in-Z.is (same_plane (exact (p.a & done) (narrow 0) tt) (exact (p.b & done) (narrow 0) tt) refl (exact (p.d & p.c & c.requires.place & done) (stored w64 code) tt))
+    rw c.in-Z.is (same_plane (exact (p.a & done) (narrow 0) tt) (exact (p.b & done) (narrow 0) tt) refl
+    (exact (p.d & p.c & c.requires.place & done) (stored w64 code) tt))

@@ -7,8 +7,10 @@ pub loop-i-preserved : goal.loop-i-preserved
 loop-i-preserved c =
     let ns = c.args.numbers.now in let i = c.loop-i.i in
     elim c.if-numbers-i.branch [
-      | then-numbers-i w ↦ subst (λ k. LeastOf ns (i + 1) k) (sym w.best-is) (least_new ns i c.loop-i.best _ c.loop-i-test.true c.loop-i.invariant w.if-numbers-i.true)
-      | else-numbers-i w ↦ subst (λ k. LeastOf ns (i + 1) k) (sym w.best-is) (least_keep ns i c.loop-i.best _ c.loop-i-test.true c.loop-i.invariant w.if-numbers-i.false)
+      | then-numbers-i w ↦ subst (λ k. LeastOf ns (i + 1) k) (sym w.best-is)
+          (least_new ns i c.loop-i.best _ c.loop-i-test.true c.loop-i.invariant w.if-numbers-i.true)
+      | else-numbers-i w ↦ subst (λ k. LeastOf ns (i + 1) k) (sym w.best-is)
+          (least_keep ns i c.loop-i.best _ c.loop-i-test.true c.loop-i.invariant w.if-numbers-i.false)
     ]
 
 pub returns-clause-least : goal.returns-clause-least

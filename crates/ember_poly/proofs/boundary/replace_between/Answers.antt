@@ -8,4 +8,5 @@ loop-init g c = let a = c.args in put_first a.from a.item a.items.now.items (ome
 pub loop-preserved : goal.loop-preserved
 loop-preserved g c =
     let a = c.args in let k = a.from + 1 in
-    c.remove.ensures.items ∙ ap (λ xs. take k xs ++ drop (suc k) xs) c.loop.invariant ∙ put_more a.from c.loop.counter a.item a.items.now.items (omega arith) (omega arith)
+    c.remove.ensures.items ∙ ap (λ xs. take k xs ++ drop (suc k) xs) c.loop.invariant
+    ∙ put_more a.from c.loop.counter a.item a.items.now.items (omega arith) (omega arith)

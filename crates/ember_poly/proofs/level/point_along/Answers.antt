@@ -18,9 +18,12 @@ invariant_of-result c =
     let l = weighs q.w q.weight in
     record {
       valid = elim c.match-axis.branch [
-        | in-X b ↦ subst (λ r. IsValidMeet (record { x = r.0; y = r.1.0; z = r.1.1.0; w = r.1.1.1.0 })) (sym b.result-is) (record { x = t; y = u; z = v; w = w; weight = l })
-        | in-Y b ↦ subst (λ r. IsValidMeet (record { x = r.0; y = r.1.0; z = r.1.1.0; w = r.1.1.1.0 })) (sym b.result-is) (record { x = v; y = t; z = u; w = w; weight = l })
-        | in-Z b ↦ subst (λ r. IsValidMeet (record { x = r.0; y = r.1.0; z = r.1.1.0; w = r.1.1.1.0 })) (sym b.result-is) (record { x = u; y = v; z = t; w = w; weight = l })
+        | in-X b ↦ subst (λ r. IsValidMeet (record { x = r.0; y = r.1.0; z = r.1.1.0; w = r.1.1.1.0 }))
+            (sym b.result-is) (record { x = t; y = u; z = v; w = w; weight = l })
+        | in-Y b ↦ subst (λ r. IsValidMeet (record { x = r.0; y = r.1.0; z = r.1.1.0; w = r.1.1.1.0 }))
+            (sym b.result-is) (record { x = v; y = t; z = u; w = w; weight = l })
+        | in-Z b ↦ subst (λ r. IsValidMeet (record { x = r.0; y = r.1.0; z = r.1.1.0; w = r.1.1.1.0 }))
+            (sym b.result-is) (record { x = u; y = v; z = t; w = w; weight = l })
       ];
     }
 
@@ -30,7 +33,10 @@ returns c =
     let t = exact (q.t & done) (wide 0) tt in let u = exact (q.u & done) (kept 0) tt in
     let v = exact (q.v & done) (kept 0) tt in let w = exact (q.w & done) (wide 0) tt in
     elim c.match-axis.branch [
-      | in-X b ↦ ap (λ r. record { x = r.0; y = r.1.0; z = r.1.1.0; w = r.1.1.1.0 }) b.result-is ∙ same_spot t u v w ∙ ap (λ k. point_at k a.t a.u a.v a.w) (sym b.in-X.is)
-      | in-Y b ↦ ap (λ r. record { x = r.0; y = r.1.0; z = r.1.1.0; w = r.1.1.1.0 }) b.result-is ∙ same_spot v t u w ∙ ap (λ k. point_at k a.t a.u a.v a.w) (sym b.in-Y.is)
-      | in-Z b ↦ ap (λ r. record { x = r.0; y = r.1.0; z = r.1.1.0; w = r.1.1.1.0 }) b.result-is ∙ same_spot u v t w ∙ ap (λ k. point_at k a.t a.u a.v a.w) (sym b.in-Z.is)
+      | in-X b ↦ ap (λ r. record { x = r.0; y = r.1.0; z = r.1.1.0; w = r.1.1.1.0 }) b.result-is ∙ same_spot t u v w
+          ∙ ap (λ k. point_at k a.t a.u a.v a.w) (sym b.in-X.is)
+      | in-Y b ↦ ap (λ r. record { x = r.0; y = r.1.0; z = r.1.1.0; w = r.1.1.1.0 }) b.result-is ∙ same_spot v t u w
+          ∙ ap (λ k. point_at k a.t a.u a.v a.w) (sym b.in-Y.is)
+      | in-Z b ↦ ap (λ r. record { x = r.0; y = r.1.0; z = r.1.1.0; w = r.1.1.1.0 }) b.result-is ∙ same_spot u v t w
+          ∙ ap (λ k. point_at k a.t a.u a.v a.w) (sym b.in-Z.is)
     ]

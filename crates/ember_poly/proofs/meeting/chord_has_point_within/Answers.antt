@@ -35,10 +35,16 @@ loop-edge-preserved c =
     let b = value_at (get_or hs i none) z in
     let s = c.chord_part_of.ensures a b c.side.ensures c.side-in-loop-edge.ensures in
     elim c.match-chord_part_of.branch [
-      | in-Whole w ↦ subst (λ b. Tried n p hs y z b (take (i + 1) hs)) (sym w.free-is) (free_at n p hs y z c.requires.line c.loop-edge.free i none c.loop-edge-test.true (subst (λ s. IsChordPart a b s) w.in-Whole.is s) c.loop-edge.invariant)
-      | in-Split+else-has_vertex_within w ↦ subst (λ b. Tried n p hs y z b (take (i + 1) hs)) (sym w.free-is) (split_at n p hs y z c.requires.line c.loop-edge.free i none c.loop-edge-test.true (subst (λ s. IsChordPart a b s) w.in-Split.is s) (λ f. differ (sym (w.has_vertex_within.ensures.1 f) ∙ w.if-has_vertex_within.false)) c.loop-edge.invariant)
+      | in-Whole w ↦ subst (λ b. Tried n p hs y z b (take (i + 1) hs)) (sym w.free-is)
+          (free_at n p hs y z c.requires.line c.loop-edge.free i none c.loop-edge-test.true
+          (subst (λ s. IsChordPart a b s) w.in-Whole.is s) c.loop-edge.invariant)
+      | in-Split+else-has_vertex_within w ↦ subst (λ b. Tried n p hs y z b (take (i + 1) hs)) (sym w.free-is)
+          (split_at n p hs y z c.requires.line c.loop-edge.free i none c.loop-edge-test.true
+          (subst (λ s. IsChordPart a b s) w.in-Split.is s)
+          (λ f. differ (sym (w.has_vertex_within.ensures.1 f) ∙ w.if-has_vertex_within.false)) c.loop-edge.invariant)
     ]
 
 pub returns : goal.returns
 returns c =
-    tried_end c.args.support.now c.args.p.now c.args.edges.now (spot_of c.args.from.now) (spot_of c.args.to.now) c.requires.line c.loop-edge.free c.loop-edge.edge-index c.loop-edge-test.false c.loop-edge.invariant
+    tried_end c.args.support.now c.args.p.now c.args.edges.now (spot_of c.args.from.now) (spot_of c.args.to.now)
+    c.requires.line c.loop-edge.free c.loop-edge.edge-index c.loop-edge-test.false c.loop-edge.invariant

@@ -35,9 +35,14 @@ loop-edge-preserved c =
     let f = c.args.r.now in let hs = c.args.edges.now in let i = c.loop-edge.edge-index in let h = get_or hs i none in
     let l = c.loop-edge-test.true in let v = c.loop-edge.invariant in let b = c.loop-edge.free in
     elim c.match-cross.branch [
-      | in-Below w ↦ subst (λ b. Tested f hs b (take (i + 1) hs)) (sym w.free-is) (low_at f hs b i none l (low_below f h (subst (λ r. IsCrossing f h r) w.in-Below.is c.cross.ensures)) v)
-      | in-On w ↦ subst (λ b. Tested f hs b (take (i + 1) hs)) (sym w.free-is) (low_at f hs b i none l (low_on f h (subst (λ r. IsCrossing f h r) w.in-On.is c.cross.ensures)) v)
-      | in-Along+else-chord_has_point_within w ↦ let k = subst (λ r. IsCrossing f h r) w.in-Along.is c.cross.ensures in subst (λ b. Tested f hs b (take (i + 1) hs)) (sym w.free-is) (cut_at f hs b i none l k.cuts (λ m. differ (sym (w.chord_has_point_within.ensures.1 (k.opens hs m)) ∙ w.if-chord_has_point_within.false)) v)
+      | in-Below w ↦ subst (λ b. Tested f hs b (take (i + 1) hs)) (sym w.free-is)
+          (low_at f hs b i none l (low_below f h (subst (λ r. IsCrossing f h r) w.in-Below.is c.cross.ensures)) v)
+      | in-On w ↦ subst (λ b. Tested f hs b (take (i + 1) hs)) (sym w.free-is)
+          (low_at f hs b i none l (low_on f h (subst (λ r. IsCrossing f h r) w.in-On.is c.cross.ensures)) v)
+      | in-Along+else-chord_has_point_within w ↦ let k = subst (λ r. IsCrossing f h r) w.in-Along.is c.cross.ensures in
+          subst (λ b. Tested f hs b (take (i + 1) hs)) (sym w.free-is)
+          (cut_at f hs b i none l k.cuts (λ m. differ
+          (sym (w.chord_has_point_within.ensures.1 (k.opens hs m)) ∙ w.if-chord_has_point_within.false)) v)
     ]
 
 pub returns : goal.returns

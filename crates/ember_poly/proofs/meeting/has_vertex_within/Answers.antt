@@ -11,5 +11,7 @@ pub returns-in-Some : goal.returns-in-Some
 returns-in-Some c =
     let n = c.args.support.now in let p = c.args.p.now in let h = c.args.edge.now in let hs = c.args.edges.now in
     let v = spot_of c.in-Some.m in let e = c.in-Some.ensures in
-    let m : IsMeet n p h v = record { first = e.on_first; second = e.on_second; third = e.on_third; weight = c.in-Some.m.valid.weight } in
-    (λ t. record { turns = λ z. absurd (differ (e.none.1 z)); at = v; meets = m; free = sym c.none_above.ensures ∙ t }, λ f. c.none_above.ensures ∙ fits_free n p h hs v m f)
+    let m : IsMeet n p h v = record { first = e.on_first; second = e.on_second; third = e.on_third; weight = c.in-Some.m.valid.weight } in (
+      λ t. record { turns = λ z. absurd (differ (e.none.1 z)); at = v; meets = m; free = sym c.none_above.ensures ∙ t },
+      λ f. c.none_above.ensures ∙ fits_free n p h hs v m f,
+    )

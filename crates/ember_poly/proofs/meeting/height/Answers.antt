@@ -39,7 +39,9 @@ overflow_sub-result c =
 pub returns-clause-value : goal.returns-clause-value
 returns-clause-value c =
     let p = c.requires.plane in let u = c.requires.corner in let q = c.args.p.now in let v = c.args.u.now in
-    exact (p.a & u.x & p.b & u.y & p.c & u.z & p.d & done) (stored w64 (sum ⊟ stored w64 (input 6))) tt ∙ solve 7 (λ a x b y c z d. a ⊗ x ⊕ b ⊗ y ⊕ c ⊗ z ⊖ d ≈ a ⊗ x ⊕ b ⊗ y ⊕ c ⊗ z ⊖ d ⊗ num (pos 1)) cancels q.a v.x q.b v.y q.c v.z q.d
+    exact (p.a & u.x & p.b & u.y & p.c & u.z & p.d & done) (stored w64 (sum ⊟ stored w64 (input 6))) tt
+    ∙ solve 7 (λ a x b y c z d. a ⊗ x ⊕ b ⊗ y ⊕ c ⊗ z ⊖ d ≈ a ⊗ x ⊕ b ⊗ y ⊕ c ⊗ z ⊖ d ⊗ num (pos 1)) cancels q.a v.x
+    q.b v.y q.c v.z q.d
 
 pub returns-clause-small : goal.returns-clause-small
 returns-clause-small c =

@@ -17,5 +17,9 @@ differ e = cc
 
 pub returns-then-is_on_one_side : goal.returns-then-is_on_one_side
 returns-then-is_on_one_side c =
-    let f = c.args.r.now in
-    (λ e. absurd (differ e), λ m. absurd (one_side_meets_not f c.r.inside.support c.args.t.now (ap (λ (g : Face). g.support) (sym c.r.view_is)) c.requires.normal (c.is_on_one_side.ensures c.if-is_on_one_side.true) m))
+    let f = c.args.r.now in (
+      λ e. absurd (differ e),
+      λ m. absurd (one_side_meets_not f c.r.inside.support c.args.t.now
+          (ap (λ (g : Face). g.support) (sym c.r.view_is)) c.requires.normal
+          (c.is_on_one_side.ensures c.if-is_on_one_side.true) m),
+    )

@@ -17,9 +17,15 @@ loop-edge-preserved c =
     let f = c.args.r.now in let hs = c.args.edges.now in let i = c.loop-edge.edge-index in let h = get_or hs i none in
     let l = c.loop-edge-test.true in let v = c.loop-edge.invariant in let b = c.loop-edge.is_cut in let t = c.loop-edge.is_cut_twice in
     elim c.match-reach.branch [
-      | in-Below w ↦ subst (λ b. Counted f b c.match-reach.is_cut_twice (take (i + 1) hs)) (sym w.is_cut-is) (subst (λ t. Counted f b t (take (i + 1) hs)) (sym w.is_cut_twice-is) (counted_low_at f hs b t i none l v (low_below f h (subst (λ r. IsReach f h r) w.in-Below.is c.reach.ensures))))
-      | in-On w ↦ subst (λ b. Counted f b c.match-reach.is_cut_twice (take (i + 1) hs)) (sym w.is_cut-is) (subst (λ t. Counted f b t (take (i + 1) hs)) (sym w.is_cut_twice-is) (counted_low_at f hs b t i none l v (low_on f h (subst (λ r. IsReach f h r) w.in-On.is c.reach.ensures))))
-      | in-Both w ↦ subst (λ b. Counted f b c.match-reach.is_cut_twice (take (i + 1) hs)) (sym w.is_cut-is) (subst (λ t. Counted f true t (take (i + 1) hs)) (sym w.is_cut_twice-is) (counted_cut_at f hs b t i none l v (subst (λ r. IsReach f h r) w.in-Both.is c.reach.ensures)))
+      | in-Below w ↦ subst (λ b. Counted f b c.match-reach.is_cut_twice (take (i + 1) hs)) (sym w.is_cut-is)
+          (subst (λ t. Counted f b t (take (i + 1) hs)) (sym w.is_cut_twice-is)
+          (counted_low_at f hs b t i none l v (low_below f h (subst (λ r. IsReach f h r) w.in-Below.is c.reach.ensures))))
+      | in-On w ↦ subst (λ b. Counted f b c.match-reach.is_cut_twice (take (i + 1) hs)) (sym w.is_cut-is)
+          (subst (λ t. Counted f b t (take (i + 1) hs)) (sym w.is_cut_twice-is)
+          (counted_low_at f hs b t i none l v (low_on f h (subst (λ r. IsReach f h r) w.in-On.is c.reach.ensures))))
+      | in-Both w ↦ subst (λ b. Counted f b c.match-reach.is_cut_twice (take (i + 1) hs)) (sym w.is_cut-is)
+          (subst (λ t. Counted f true t (take (i + 1) hs)) (sym w.is_cut_twice-is)
+          (counted_cut_at f hs b t i none l v (subst (λ r. IsReach f h r) w.in-Both.is c.reach.ensures)))
     ]
 
 pub returns-in-Above : goal.returns-in-Above

@@ -13,19 +13,35 @@ count_below-falling-requires-clause-known c =
 pub returns-then-turn-falling-clause-signs : goal.returns-then-turn-falling-clause-signs
 returns-then-turn-falling-clause-signs c =
     let p = c.args.plane.now in let ms = c.args.corners.now in let up = c.count_not_below-rising in let high = c.is_some_above-high in
-    c.reach_by-reach.ensures p ms (corner_is_classified p ms c.count_below-leading.result.0 up.result.0 c.count_below-falling.result.0 up.result.1 high.result c.count_below-leading.ensures.run up.ensures c.count_below-falling.ensures.run high.ensures.some high.ensures.none)
+    c.reach_by-reach.ensures p ms (corner_is_classified p ms c.count_below-leading.result.0 up.result.0
+    c.count_below-falling.result.0 up.result.1 high.result c.count_below-leading.ensures.run up.ensures
+    c.count_below-falling.ensures.run high.ensures.some high.ensures.none)
 
 pub returns-else-turn-falling-clause-signs : goal.returns-else-turn-falling-clause-signs
 returns-else-turn-falling-clause-signs c =
     let p = c.args.plane.now in let ms = c.args.corners.now in let up = c.count_not_below-rising in let high = c.is_some_above-high in
-    c.reach_by-reach.ensures p ms (corner_is_classified p ms c.count_below-leading.result.0 up.result.0 c.count_below-falling.result.0 up.result.1 high.result c.count_below-leading.ensures.run up.ensures c.count_below-falling.ensures.run high.ensures.some high.ensures.none)
+    c.reach_by-reach.ensures p ms (corner_is_classified p ms c.count_below-leading.result.0 up.result.0
+    c.count_below-falling.result.0 up.result.1 high.result c.count_below-leading.ensures.run up.ensures
+    c.count_below-falling.ensures.run high.ensures.some high.ensures.none)
 
 pub returns-then-turn-falling-clause-entry : goal.returns-then-turn-falling-clause-entry
 returns-then-turn-falling-clause-entry c =
     let p = c.args.plane.now in let ms = c.args.corners.now in let up = c.count_not_below-rising in let high = c.is_some_above-high in
-    λ e. entry_short p ms c.count_below-leading.result.0 up.result.0 c.count_below-falling.result.0 up.result.1 high.result c.count_below-leading.ensures.run up.ensures c.count_below-falling.ensures.run high.ensures.some high.ensures.none (straddles_by p ms c.reach_by-reach.result (c.reach_by-reach.ensures p ms (corner_is_classified p ms c.count_below-leading.result.0 up.result.0 c.count_below-falling.result.0 up.result.1 high.result c.count_below-leading.ensures.run up.ensures c.count_below-falling.ensures.run high.ensures.some high.ensures.none)) e) c.saturating_sub-entry_edge.result c.saturating_sub-entry_edge.ensures c.if-turn-falling.true
+    λ e. entry_short p ms c.count_below-leading.result.0 up.result.0 c.count_below-falling.result.0 up.result.1
+    high.result c.count_below-leading.ensures.run up.ensures c.count_below-falling.ensures.run high.ensures.some
+    high.ensures.none (straddles_by p ms c.reach_by-reach.result
+    (c.reach_by-reach.ensures p ms (corner_is_classified p ms c.count_below-leading.result.0 up.result.0
+    c.count_below-falling.result.0 up.result.1 high.result c.count_below-leading.ensures.run up.ensures
+    c.count_below-falling.ensures.run high.ensures.some high.ensures.none)) e) c.saturating_sub-entry_edge.result
+    c.saturating_sub-entry_edge.ensures c.if-turn-falling.true
 
 pub returns-else-turn-falling-clause-entry : goal.returns-else-turn-falling-clause-entry
 returns-else-turn-falling-clause-entry c =
     let p = c.args.plane.now in let ms = c.args.corners.now in let up = c.count_not_below-rising in let high = c.is_some_above-high in
-    λ e. entry_long p ms c.count_below-leading.result.0 up.result.0 c.count_below-falling.result.0 up.result.1 high.result c.count_below-leading.ensures.run up.ensures c.count_below-falling.ensures.run high.ensures.some high.ensures.none (straddles_by p ms c.reach_by-reach.result (c.reach_by-reach.ensures p ms (corner_is_classified p ms c.count_below-leading.result.0 up.result.0 c.count_below-falling.result.0 up.result.1 high.result c.count_below-leading.ensures.run up.ensures c.count_below-falling.ensures.run high.ensures.some high.ensures.none)) e) c.saturating_sub-entry_edge.result c.saturating_sub-entry_edge.ensures c.if-turn-falling.false
+    λ e. entry_long p ms c.count_below-leading.result.0 up.result.0 c.count_below-falling.result.0 up.result.1
+    high.result c.count_below-leading.ensures.run up.ensures c.count_below-falling.ensures.run high.ensures.some
+    high.ensures.none (straddles_by p ms c.reach_by-reach.result
+    (c.reach_by-reach.ensures p ms (corner_is_classified p ms c.count_below-leading.result.0 up.result.0
+    c.count_below-falling.result.0 up.result.1 high.result c.count_below-leading.ensures.run up.ensures
+    c.count_below-falling.ensures.run high.ensures.some high.ensures.none)) e) c.saturating_sub-entry_edge.result
+    c.saturating_sub-entry_edge.ensures c.if-turn-falling.false

@@ -7,12 +7,14 @@ use Rattle.ember_poly.proofs.passage.count_below.Goals as goal
 pub loop-i-preserved : goal.loop-i-preserved
 loop-i-preserved c =
     let p = c.args.p.now in let m = c.index-corners-i in
-    run_next p c.args.corners.now c.loop-i.i m.result c.loop-i-test.true m.is (neg_out (value_at p (spot_of m.result)) c.side_with_axis.ensures c.in-Neg.is) c.loop-i.invariant
+    run_next p c.args.corners.now c.loop-i.i m.result c.loop-i-test.true m.is
+    (neg_out (value_at p (spot_of m.result)) c.side_with_axis.ensures c.in-Neg.is) c.loop-i.invariant
 
 pub returns-in-Zero-clause-run : goal.returns-in-Zero-clause-run
 returns-in-Zero-clause-run c =
     let p = c.args.p.now in let m = c.index-corners-i in
-    run_stops p c.args.corners.now c.loop-i.i m.result c.loop-i-test.true m.is (zero_least (zero_out (value_at p (spot_of m.result)) c.side_with_axis.ensures c.in-Zero.is)) c.loop-i.invariant
+    run_stops p c.args.corners.now c.loop-i.i m.result c.loop-i-test.true m.is
+    (zero_least (zero_out (value_at p (spot_of m.result)) c.side_with_axis.ensures c.in-Zero.is)) c.loop-i.invariant
 
 pub returns-in-Zero-clause-next : goal.returns-in-Zero-clause-next
 returns-in-Zero-clause-next c =
@@ -22,7 +24,8 @@ returns-in-Zero-clause-next c =
 pub returns-in-Pos-clause-run : goal.returns-in-Pos-clause-run
 returns-in-Pos-clause-run c =
     let p = c.args.p.now in let m = c.index-corners-i in
-    run_stops p c.args.corners.now c.loop-i.i m.result c.loop-i-test.true m.is (above_least (pos_out (value_at p (spot_of m.result)) c.side_with_axis.ensures c.in-Pos.is)) c.loop-i.invariant
+    run_stops p c.args.corners.now c.loop-i.i m.result c.loop-i-test.true m.is
+    (above_least (pos_out (value_at p (spot_of m.result)) c.side_with_axis.ensures c.in-Pos.is)) c.loop-i.invariant
 
 pub returns-in-Pos-clause-next : goal.returns-in-Pos-clause-next
 returns-in-Pos-clause-next c =

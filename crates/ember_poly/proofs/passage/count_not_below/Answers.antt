@@ -11,14 +11,21 @@ pub loop-i-preserved : goal.loop-i-preserved
 loop-i-preserved c =
     let p = c.args.p.now in let ms = c.args.corners.now in let i = c.loop-i.i in let m = c.index-corners-i in
     elim c.match-side_with_axis.branch [
-      | in-Zero w ↦ subst (λ h. AreNotBelow p h (take (i + 1) ms)) (sym w.high-is) (risen_next p c.loop-i.high ms i m.result c.loop-i-test.true m.is (risen_zero p c.loop-i.high (take i ms) m.result (zero_out (value_at p (spot_of m.result)) c.side_with_axis.ensures w.in-Zero.is) c.loop-i.invariant))
-      | in-Pos w ↦ subst (λ h. AreNotBelow p h (take (i + 1) ms)) (sym w.high-is) (risen_next p _ ms i m.result c.loop-i-test.true m.is (risen_over p c.loop-i.high (take i ms) m.result (pos_out (value_at p (spot_of m.result)) c.side_with_axis.ensures w.in-Pos.is) c.loop-i.invariant))
+      | in-Zero w ↦ subst (λ h. AreNotBelow p h (take (i + 1) ms)) (sym w.high-is)
+          (risen_next p c.loop-i.high ms i m.result c.loop-i-test.true m.is
+          (risen_zero p c.loop-i.high (take i ms) m.result
+          (zero_out (value_at p (spot_of m.result)) c.side_with_axis.ensures w.in-Zero.is) c.loop-i.invariant))
+      | in-Pos w ↦ subst (λ h. AreNotBelow p h (take (i + 1) ms)) (sym w.high-is)
+          (risen_next p _ ms i m.result c.loop-i-test.true m.is
+          (risen_over p c.loop-i.high (take i ms) m.result
+          (pos_out (value_at p (spot_of m.result)) c.side_with_axis.ensures w.in-Pos.is) c.loop-i.invariant))
     ]
 
 pub returns-in-Neg : goal.returns-in-Neg
 returns-in-Neg c =
     let p = c.args.p.now in let m = c.index-corners-i in
-    rise_stops p c.loop-i.high c.args.corners.now c.loop-i.i m.result c.loop-i-test.true m.is (neg_out (value_at p (spot_of m.result)) c.side_with_axis.ensures c.in-Neg.is) c.loop-i.invariant
+    rise_stops p c.loop-i.high c.args.corners.now c.loop-i.i m.result c.loop-i-test.true m.is
+    (neg_out (value_at p (spot_of m.result)) c.side_with_axis.ensures c.in-Neg.is) c.loop-i.invariant
 
 pub returns : goal.returns
 returns c =

@@ -6,7 +6,8 @@ use Rattle.ember_poly.proofs.LevelMeets.{turns_up, turns_down, meets_up, meets_d
 use Rattle.ember_poly.specs.declared.level.Level.{Level}
 use Rattle.ember_poly.proofs.passage.point_of.Goals as goal
 
-level_is : {o : Option Level} {l : Level} (p : Plane) {b : Bool} → IfSome o (λ l. IsLevel l.axis l.at l.is_up p) → o ≡ Some l → l.is_up ≡ b → IsLevel l.axis l.at b p
+level_is : {o : Option Level} {l : Level} (p : Plane) {b : Bool} → IfSome o (λ l. IsLevel l.axis l.at l.is_up p) →
+    o ≡ Some l → l.is_up ≡ b → IsLevel l.axis l.at b p
 level_is {o} {l} p {b} h e u =
     subst (λ u. IsLevel l.axis l.at u p) u (subst (λ o. IfSome o (λ l. IsLevel l.axis l.at l.is_up p)) e h)
 

@@ -6,9 +6,12 @@ use Rattle.ember_poly.proofs.reaching.reach_of_corners.Goals as goal
 pub loop-m-preserved : goal.loop-m-preserved
 loop-m-preserved c =
     let p = c.args.p.now in let ms = c.args.corners.now in let i = c.loop-m.m-index in
-    signs_next p ms i c.m-item.result c.with_corner.result c.loop-m-test.true c.m-item.is (c.with_corner.ensures p (take i ms) c.m-item.result c.loop-m.invariant c.side.ensures)
+    signs_next p ms i c.m-item.result c.with_corner.result c.loop-m-test.true c.m-item.is
+    (c.with_corner.ensures p (take i ms) c.m-item.result c.loop-m.invariant c.side.ensures)
 
 pub returns-in-Both : goal.returns-in-Both
 returns-in-Both c =
     let p = c.args.p.now in let ms = c.args.corners.now in let i = c.loop-m.m-index in
-    seen_both p ms (i + 1) (subst (λ r. AreSigns p (take (i + 1) ms) r) c.in-Both.is (signs_next p ms i c.m-item.result c.with_corner.result c.loop-m-test.true c.m-item.is (c.with_corner.ensures p (take i ms) c.m-item.result c.loop-m.invariant c.side.ensures)))
+    seen_both p ms (i + 1) (subst (λ r. AreSigns p (take (i + 1) ms) r) c.in-Both.is
+    (signs_next p ms i c.m-item.result c.with_corner.result c.loop-m-test.true c.m-item.is
+    (c.with_corner.ensures p (take i ms) c.m-item.result c.loop-m.invariant c.side.ensures)))

@@ -11,7 +11,18 @@ wide = stored w128 (stored w32 (input 0))
 pub invariant_of-result : goal.invariant_of-result
 invariant_of-result c =
     let v = c.requires in
-    record { valid = record { x = bounded (v.x & done) 4951760157141521099596496895 wide tt; y = bounded (v.y & done) 4951760157141521099596496895 wide tt; z = bounded (v.z & done) 4951760157141521099596496895 wide tt; w = record { small = omega arith }; weight = omega (arith, ints) } }
+    record {
+      valid = record {
+        x = bounded (v.x & done) 4951760157141521099596496895 wide tt;
+        y =
+            bounded (v.y & done) 4951760157141521099596496895 wide tt;
+        z =
+            bounded (v.z & done) 4951760157141521099596496895 wide tt;
+        w = record { small = omega arith };
+        weight =
+            omega (arith, ints);
+      };
+    }
 
 pub returns : goal.returns
 returns c =

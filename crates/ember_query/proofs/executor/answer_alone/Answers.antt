@@ -15,12 +15,15 @@ returns-in_ok-results_alone-in-Fills g c =
 
 pub returns-in_ok-results_alone-in-Texts : goal.returns-in_ok-results_alone-in-Texts
 returns-in_ok-results_alone-in-Texts g c =
-    texts_found _ _ _ _ _ c.in-Texts.is c.in_ok-root-in-Texts.ensures.value c.in_ok-results_alone-in-Texts.ensures.items c.in_ok-results_alone-in-Texts.ensures.journals
+    texts_found _ _ _ _ _ c.in-Texts.is c.in_ok-root-in-Texts.ensures.value c.in_ok-results_alone-in-Texts.ensures.items
+    c.in_ok-results_alone-in-Texts.ensures.journals
 
 pub returns-in_ok-results_alone-in-Faces : goal.returns-in_ok-results_alone-in-Faces
 returns-in_ok-results_alone-in-Faces g c =
-    faces_found _ _ _ _ _ c.in-Faces.is c.in_ok-root-in-Faces.ensures.value c.in_ok-results_alone-in-Faces.ensures.items c.in_ok-results_alone-in-Faces.ensures.journals
+    faces_found _ _ _ _ _ c.in-Faces.is c.in_ok-root-in-Faces.ensures.value c.in_ok-results_alone-in-Faces.ensures.items
+    c.in_ok-results_alone-in-Faces.ensures.journals
 
 pub returns-in_ok-results_alone-in-Counts : goal.returns-in_ok-results_alone-in-Counts
 returns-in_ok-results_alone-in-Counts g c =
-    counts_found _ _ _ _ _ c.in-Counts.is c.in_ok-root-in-Counts.ensures.value c.in_ok-results_alone-in-Counts.ensures.items c.in_ok-results_alone-in-Counts.ensures.journals
+    counts_found _ _ _ _ _ c.in-Counts.is c.in_ok-root-in-Counts.ensures.value
+    c.in_ok-results_alone-in-Counts.ensures.items c.in_ok-results_alone-in-Counts.ensures.journals

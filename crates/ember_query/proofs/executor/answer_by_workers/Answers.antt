@@ -15,12 +15,15 @@ returns-in_ok-results_by_workers-in-Fills g c =
 
 pub returns-in_ok-results_by_workers-in-Texts : goal.returns-in_ok-results_by_workers-in-Texts
 returns-in_ok-results_by_workers-in-Texts g c =
-    texts_found _ _ _ _ _ c.in-Texts.is c.in_ok-root-in-Texts.ensures.value c.in_ok-results_by_workers-in-Texts.ensures.items c.in_ok-results_by_workers-in-Texts.ensures.journals
+    texts_found _ _ _ _ _ c.in-Texts.is c.in_ok-root-in-Texts.ensures.value
+    c.in_ok-results_by_workers-in-Texts.ensures.items c.in_ok-results_by_workers-in-Texts.ensures.journals
 
 pub returns-in_ok-results_by_workers-in-Faces : goal.returns-in_ok-results_by_workers-in-Faces
 returns-in_ok-results_by_workers-in-Faces g c =
-    faces_found _ _ _ _ _ c.in-Faces.is c.in_ok-root-in-Faces.ensures.value c.in_ok-results_by_workers-in-Faces.ensures.items c.in_ok-results_by_workers-in-Faces.ensures.journals
+    faces_found _ _ _ _ _ c.in-Faces.is c.in_ok-root-in-Faces.ensures.value
+    c.in_ok-results_by_workers-in-Faces.ensures.items c.in_ok-results_by_workers-in-Faces.ensures.journals
 
 pub returns-in_ok-results_by_workers-in-Counts : goal.returns-in_ok-results_by_workers-in-Counts
 returns-in_ok-results_by_workers-in-Counts g c =
-    counts_found _ _ _ _ _ c.in-Counts.is c.in_ok-root-in-Counts.ensures.value c.in_ok-results_by_workers-in-Counts.ensures.items c.in_ok-results_by_workers-in-Counts.ensures.journals
+    counts_found _ _ _ _ _ c.in-Counts.is c.in_ok-root-in-Counts.ensures.value
+    c.in_ok-results_by_workers-in-Counts.ensures.items c.in_ok-results_by_workers-in-Counts.ensures.journals

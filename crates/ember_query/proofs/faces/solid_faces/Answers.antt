@@ -10,15 +10,18 @@ report_of-report-requires g c = journals_fit _ _ _ c.in_ok-found.ensures.journal
 
 pub returns-clause-faces : goal.returns-clause-faces
 returns-clause-faces g c =
-    are_solid_faces _ _ _ _ _ _ _ c.leaf_faces_join.ensures c.in_ok-found.ensures.items c.in_ok-found.ensures.journals c.report_of-report.ensures (omega arith) c.in_ok-faces.ensures
+    are_solid_faces _ _ _ _ _ _ _ c.leaf_faces_join.ensures c.in_ok-found.ensures.items c.in_ok-found.ensures.journals
+    c.report_of-report.ensures (omega arith) c.in_ok-faces.ensures
 
 pub returns-clause-valid : goal.returns-clause-valid
 returns-clause-valid g c =
-    file_valid (are_solid_faces _ _ _ _ _ _ _ c.leaf_faces_join.ensures c.in_ok-found.ensures.items c.in_ok-found.ensures.journals c.report_of-report.ensures (omega arith) c.in_ok-faces.ensures).read
+    file_valid (are_solid_faces _ _ _ _ _ _ _ c.leaf_faces_join.ensures c.in_ok-found.ensures.items
+    c.in_ok-found.ensures.journals c.report_of-report.ensures (omega arith) c.in_ok-faces.ensures).read
 
 pub returns-clause-report : goal.returns-clause-report
 returns-clause-report g c =
-    faces_report_is _ _ _ _ _ _ _ c.leaf_faces_join.ensures c.in_ok-found.ensures.items c.in_ok-found.ensures.journals c.report_of-report.ensures (omega arith) c.in_ok-faces.ensures
+    faces_report_is _ _ _ _ _ _ _ c.leaf_faces_join.ensures c.in_ok-found.ensures.items c.in_ok-found.ensures.journals
+    c.report_of-report.ensures (omega arith) c.in_ok-faces.ensures
 
 pub returns-clause-count : goal.returns-clause-count
 returns-clause-count g c =

@@ -8,4 +8,5 @@ report_of-requires g c = journals_fit _ _ _ c.in_ok-found.ensures.journals
 
 pub returns : goal.returns
 returns g c =
-    is_solid_report _ _ _ _ _ _ c.visited_leaves_write_all.ensures c.in_ok-found.ensures.items c.in_ok-found.ensures.journals c.report_of.ensures (c.in_ok-faces.ensures ∙ ap sum c.deref.ensures.value)
+    is_solid_report _ _ _ _ _ _ c.visited_leaves_write_all.ensures c.in_ok-found.ensures.items
+    c.in_ok-found.ensures.journals c.report_of.ensures (c.in_ok-faces.ensures ∙ ap sum c.deref.ensures.value)

@@ -29,14 +29,20 @@ loop-t-preserved c =
     let ts = c.args.near.now in let i = c.loop-t.t-index in let t = get_or ts i no_tri in
     let l = c.loop-t-test.true in
     record {
-      value = c.add_crossing.ensures.value b k c.requires.side c.segment_back-segment.ensures.back ∙ ap (λ old. with_more old t.mesh (leg (face_of t) p q)) c.loop-t.invariant.value ∙ sym (tally_more (λ f. leg f p q) (flat_leg p q) ts i no_tri l (c.requires.numbered i no_tri l) c.args.v.now.counts);
+      value = c.add_crossing.ensures.value b k c.requires.side c.segment_back-segment.ensures.back
+          ∙ ap (λ old. with_more old t.mesh (leg (face_of t) p q)) c.loop-t.invariant.value
+          ∙ sym (tally_more (λ f. leg f p q) (flat_leg p q) ts i no_tri l (c.requires.numbered i no_tri l)
+          c.args.v.now.counts);
       within = λ m h. all_within c.add_crossing.new.v.counts (omega arith) (c.add_crossing.ensures.within (m + i) (c.loop-t.invariant.within m h));
     }
 
 pub returns-clause-within : goal.returns-clause-within
-returns-clause-within c = λ m h. let e = c.loop-t-test.false in let f = c.loop-t.auto.t-index-end in all_within c.loop-t.v.counts (omega arith) (c.loop-t.invariant.within m h)
+returns-clause-within c = λ m h. let e = c.loop-t-test.false in let f = c.loop-t.auto.t-index-end in
+    all_within c.loop-t.v.counts (omega arith) (c.loop-t.invariant.within m h)
 
 pub returns-clause-law : goal.returns-clause-law
 returns-clause-law c = λ ts f.
     let b = c.args.c.now in let k = c.args.k in let old = c.args.v.now.counts in
-    shift_law ts c.args.near.now b k old c.requires.side f ∙ sym (c.loop-t.invariant.value ∙ ap (λ (ns : List Tri). counts_at_right_half ns b k old) (take_all c.loop-t.t-index c.args.near.now c.loop-t-test.false))
+    shift_law ts c.args.near.now b k old c.requires.side f
+    ∙ sym (c.loop-t.invariant.value ∙ ap (λ (ns : List Tri). counts_at_right_half ns b k old)
+    (take_all c.loop-t.t-index c.args.near.now c.loop-t-test.false))

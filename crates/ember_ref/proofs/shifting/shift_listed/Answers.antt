@@ -36,7 +36,10 @@ loop-i-preserved c =
     let e : get_or ts i no_tri ≡ t = get_or-map (λ j. tri_at tris j) list i 0 no_tri l in
     let m : HasMesh 64 t = c.requires.numbered (get_or list i 0) no_tri (c.requires.places i 0 l) in
     record {
-      value = c.add_crossing.ensures.value b k c.requires.side c.segment_back-segment.ensures.back ∙ (λ j. with_more (c.loop-i.invariant.value j) (sym e j).mesh (leg (face_of (sym e j)) p q)) ∙ sym (tally_more (λ f. leg f p q) (flat_leg p q) ts i no_tri here (subst (HasMesh 64) (sym e) m) c.args.v.now.counts);
+      value = c.add_crossing.ensures.value b k c.requires.side c.segment_back-segment.ensures.back
+          ∙ (λ j. with_more (c.loop-i.invariant.value j) (sym e j).mesh (leg (face_of (sym e j)) p q))
+          ∙ sym (tally_more (λ f. leg f p q) (flat_leg p q) ts i no_tri here (subst (HasMesh 64) (sym e) m)
+          c.args.v.now.counts);
       within = λ m h. all_within c.add_crossing.new.v.counts (omega arith) (c.add_crossing.ensures.within (m + i) (c.loop-i.invariant.within m h));
     }
 
@@ -47,10 +50,13 @@ returns-clause-value c =
     c.loop-i.invariant.value ∙ ap (λ (ns : List Tri). counts_at_right_half ns c.args.c.now c.args.axis c.args.v.now.counts) (take_all c.loop-i.i-index ts n)
 
 pub returns-clause-within : goal.returns-clause-within
-returns-clause-within c = λ m h. let e = c.loop-i-test.false in let f = c.loop-i.auto.i-index-end in all_within c.loop-i.v.counts (omega arith) (c.loop-i.invariant.within m h)
+returns-clause-within c = λ m h. let e = c.loop-i-test.false in let f = c.loop-i.auto.i-index-end in
+    all_within c.loop-i.v.counts (omega arith) (c.loop-i.invariant.within m h)
 
 pub returns-clause-law : goal.returns-clause-law
 returns-clause-law c = λ scene f.
     let b = c.args.c.now in let k = c.args.axis in let old = c.args.v.now.counts in let ts = listed c.args.tris.now c.args.list.now in
     let n : length ts ≤ c.loop-i.i-index = omega (arith, c.loop-i-test.false, length-map c.args.list.now (λ j. tri_at c.args.tris.now j)) in
-    shift_law scene ts b k old c.requires.side f ∙ sym (c.loop-i.invariant.value ∙ ap (λ (ns : List Tri). counts_at_right_half ns b k old) (take_all c.loop-i.i-index ts n))
+    shift_law scene ts b k old c.requires.side f
+    ∙ sym (c.loop-i.invariant.value ∙ ap (λ (ns : List Tri). counts_at_right_half ns b k old)
+    (take_all c.loop-i.i-index ts n))

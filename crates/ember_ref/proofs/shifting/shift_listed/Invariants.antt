@@ -6,4 +6,8 @@ use Rattle.ember_ref.proofs.shifting.shift_listed.Given as goal
 
 abbrev pub invariant-loop-i : goal.invariant-loop-i
 invariant-loop-i l =
-    record { value : l.v.counts ≡ counts_at_right_half (take l.i-index (listed l.tris l.list)) l.fn.c l.fn.axis l.initial.v.counts; within : (m : ℕ) → All (Small m) l.initial.v.counts → All (Small (m + l.i-index)) l.v.counts }
+    record {
+      value : l.v.counts ≡ counts_at_right_half (take l.i-index (listed l.tris l.list)) l.fn.c l.fn.axis
+          l.initial.v.counts;
+      within : (m : ℕ) → All (Small m) l.initial.v.counts → All (Small (m + l.i-index)) l.v.counts;
+    }

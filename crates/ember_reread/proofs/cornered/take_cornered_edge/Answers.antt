@@ -11,7 +11,8 @@ returns-in_err-start c =
 
 pub returns-in_err-skip_byte-2 : goal.returns-in_err-skip_byte-2
 returns-in_err-skip_byte-2 c =
-    rw c.from_residual-in_err-skip_byte-2.ensures (no_edge_end c.in_ok-skip_byte.ensures c.in_ok-plane.ensures c.in_ok-start.ensures c.in_err-skip_byte-2.ensures)
+    rw c.from_residual-in_err-skip_byte-2.ensures
+    (no_edge_end c.in_ok-skip_byte.ensures c.in_ok-plane.ensures c.in_ok-start.ensures c.in_err-skip_byte-2.ensures)
 
 pub returns : goal.returns
 returns c =

@@ -23,7 +23,9 @@ returns-then-count-lt3-clause-line c =
 
 pub returns-in_err-skip_byte-2-clause-line : goal.returns-in_err-skip_byte-2-clause-line
 returns-in_err-skip_byte-2-clause-line c =
-    rw c.from_residual-in_err-skip_byte-2.ensures (no_support_end c.in_ok-skip_byte.ensures c.in_ok-support.ensures c.in_ok-count.ensures c.in_err-skip_byte-2.ensures)
+    rw c.from_residual-in_err-skip_byte-2.ensures
+    (no_support_end c.in_ok-skip_byte.ensures c.in_ok-support.ensures c.in_ok-count.ensures
+    c.in_err-skip_byte-2.ensures)
 
 pub returns-clause-line : goal.returns-clause-line
 returns-clause-line c =

@@ -11,7 +11,9 @@ pub returns-in_err-face-clause-form : goal.returns-in_err-face-clause-form
 returns-in_err-face-clause-form c =
     let t = c.begins_face.ensures.0 c.loop-alloc-test.true in
     let p = err_from_is_err_and c.from_residual.result c.from_residual.ensures.1 in
-    rw p.1 (⊎_elim (λ a. inl (p.2 ∙ a)) (λ f. inr (no_body (omega arith) c.loop-alloc.invariant f (not_an_end (length c.loop-alloc.faces.items) t.1))) c.in_err-face.ensures.form)
+    rw p.1 (⊎_elim (λ a. inl (p.2 ∙ a)) (λ f. inr
+    (no_body (omega arith) c.loop-alloc.invariant f (not_an_end (length c.loop-alloc.faces.items) t.1)))
+    c.in_err-face.ensures.form)
 
 pub loop-alloc-preserved : goal.loop-alloc-preserved
 loop-alloc-preserved c = push_face c.loop-alloc.invariant c.in_ok-face.ensures.ok c.in_ok-push.ensures.items

@@ -20,5 +20,8 @@ returns-then-corner-eq1 c =
 pub returns-else-corner-eq1 : goal.returns-else-corner-eq1
 returns-else-corner-eq1 c =
     let v = c.args.corner.now in let r = c.reduce.result in
-    let d = spots_are_equal (spot_of r) (spot_of v) in
-    (λ t. subst (λ s. IsLowest s) (d.0 (sym c.eq.ensures ∙ t)) c.reduce.ensures.lowest, λ l. c.eq.ensures ∙ d.1 (sym (same_lowest (spot_of v) (spot_of r) v.valid.weight r.valid.weight c.reduce.ensures.same l c.reduce.ensures.lowest)))
+    let d = spots_are_equal (spot_of r) (spot_of v) in (
+      λ t. subst (λ s. IsLowest s) (d.0 (sym c.eq.ensures ∙ t)) c.reduce.ensures.lowest,
+      λ l. c.eq.ensures ∙ d.1 (sym (same_lowest (spot_of v) (spot_of r) v.valid.weight r.valid.weight
+          c.reduce.ensures.same l c.reduce.ensures.lowest)),
+    )

@@ -24,6 +24,7 @@ returns-else-is_lowest c =
     let f = c.in_ok-four.ensures in
     let e = (same_fields (omega arith) (omega arith) f h.fields).0 in
     let l = subst (λ (u : Four). IsLowest (record { x = u.x; y = u.y; z = u.z; w = u.w })) (sym e) h.written.lowest in
-    let stored = same_spot (sym (exact (f.x.small & done) (kept 0) tt)) (sym (exact (f.y.small & done) (kept 0) tt)) (sym (exact (f.z.small & done) (kept 0) tt)) (sym (exact (f.w.small & done) (kept 0) tt)) in
+    let stored = same_spot (sym (exact (f.x.small & done) (kept 0) tt)) (sym (exact (f.y.small & done) (kept 0) tt))
+    (sym (exact (f.z.small & done) (kept 0) tt)) (sym (exact (f.w.small & done) (kept 0) tt)) in
     let t = c.is_lowest.ensures.1 (subst IsLowest stored l) in
     cc

@@ -6,7 +6,8 @@ pub loop-rest-preserved : goal.loop-rest-preserved
 loop-rest-preserved c =
     let left_positive : 0 < c.loop-rest.left = places_left c.loop-rest.left c.loop-rest.rest c.loop-rest.invariant.rest c.loop-rest-test.true in
     record {
-      text = text_more c.loop-rest.out.items _ _ c.loop-rest.left c.pow-unit.result c.loop-rest.rest c.loop-rest-test.true left_positive c.pow-unit.ensures c.in_ok-push.ensures.items c.loop-rest.invariant.text;
+      text = text_more c.loop-rest.out.items _ _ c.loop-rest.left c.pow-unit.result c.loop-rest.rest
+          c.loop-rest-test.true left_positive c.pow-unit.ensures c.in_ok-push.ensures.items c.loop-rest.invariant.text;
       small = omega arith;
       rest = omega (arith, c.pow-unit.ensures, power_of_10_positive (c.loop-rest.left - 1));
     }

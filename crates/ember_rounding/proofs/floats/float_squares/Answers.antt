@@ -33,8 +33,12 @@ pub loop-k-preserved : goal.loop-k-preserved
 loop-k-preserved c =
     let d : FloatPoint = record { x = 0; y = 0; z = 0 } in
     let less : c.loop-k.k < length c.args.points.now = omega (arith, c.requires.points.count, c.loop-k-test.true) in
-    squares_more (power_tick c.args.top) c.args.step.now c.args.offset.now c.args.corners.now c.args.points.now c.loop-k.k c.index-corners-k.result (get_or c.args.points.now c.loop-k.k d) d c.loop-k.squares.items c.push.new.self.items c.in-Some.square c.loop-k-test.true less c.index-corners-k.is refl c.loop-k.invariant c.in-Some.ensures c.in_ok-push.ensures.items
+    squares_more (power_tick c.args.top) c.args.step.now c.args.offset.now c.args.corners.now c.args.points.now
+    c.loop-k.k c.index-corners-k.result (get_or c.args.points.now c.loop-k.k d) d c.loop-k.squares.items
+    c.push.new.self.items c.in-Some.square c.loop-k-test.true less c.index-corners-k.is refl c.loop-k.invariant
+    c.in-Some.ensures c.in_ok-push.ensures.items
 
 pub returns-clause-squares : goal.returns-clause-squares
 returns-clause-squares c =
-    squares_all (power_tick c.args.top) c.args.step.now c.args.offset.now c.args.corners.now c.args.points.now c.loop-k.k c.loop-k.squares.items c.requires.points.count c.loop-k-test.false c.loop-k.invariant
+    squares_all (power_tick c.args.top) c.args.step.now c.args.offset.now c.args.corners.now c.args.points.now
+    c.loop-k.k c.loop-k.squares.items c.requires.points.count c.loop-k-test.false c.loop-k.invariant

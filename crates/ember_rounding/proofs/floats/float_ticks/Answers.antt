@@ -38,7 +38,8 @@ pub returns-then-ne-clause-ticks : goal.returns-then-ne-clause-ticks
 returns-then-ne-clause-ticks c =
     let r = c.exact_place-place.result in
     let least : size_of c.product-limit.result ≤ size_of r.numerator.size = search rules in
-    infinite r (place_of c.args.step.now c.args.offset.now c.args.axis c.args.corner.now) c.exact_place-place.ensures (omega (arith, least, c.product-limit.ensures))
+    infinite r (place_of c.args.step.now c.args.offset.now c.args.axis c.args.corner.now) c.exact_place-place.ensures
+    (omega (arith, least, c.product-limit.ensures))
 
 pub returns-clause-ticks : goal.returns-clause-ticks
 returns-clause-ticks c =

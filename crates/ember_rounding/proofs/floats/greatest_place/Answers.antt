@@ -13,9 +13,12 @@ loop-point-preserved c =
     let point : FloatPoint = get_or c.args.points.now c.loop-point.point-index none in
     let grown : c.max-greatest.result ≡ max c.loop-point.greatest c.point_place.result = c.max-greatest.ensures in
     record {
-      value = greatest_more point_place c.args.points.now c.loop-point.point-index c.loop-point.greatest c.max-greatest.result point none c.loop-point.invariant.value (grown ∙ ap (max c.loop-point.greatest) c.point_place.ensures.value) c.loop-point-test.true refl;
+      value = greatest_more point_place c.args.points.now c.loop-point.point-index c.loop-point.greatest
+          c.max-greatest.result point none c.loop-point.invariant.value
+          (grown ∙ ap (max c.loop-point.greatest) c.point_place.ensures.value) c.loop-point-test.true refl;
       few = omega (arith, grown, c.point_place.ensures.few, c.loop-point.invariant.few);
     }
 
 pub returns-clause-value : goal.returns-clause-value
-returns-clause-value c = greatest_all point_place c.args.points.now c.loop-point.point-index c.loop-point.greatest c.loop-point.invariant.value c.loop-point-test.false
+returns-clause-value c = greatest_all point_place c.args.points.now c.loop-point.point-index c.loop-point.greatest
+    c.loop-point.invariant.value c.loop-point-test.false

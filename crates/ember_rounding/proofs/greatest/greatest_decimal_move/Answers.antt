@@ -10,4 +10,9 @@ move_from-requires c = subst (λ (t : Tick). IsTick t) (sym c.decimal_tick.ensur
 
 pub returns-clause-moved : goal.returns-clause-moved
 unfolding greatest_decimal_move
-returns-clause-moved c = c.move_from.ensures ∙ rw (c.decimal_tick.ensures, c.greatest_square-square.ensures, c.deref.ensures.value, c.in_ok-squares.ensures.squares) refl
+returns-clause-moved c = c.move_from.ensures ∙ rw (
+  c.decimal_tick.ensures,
+  c.greatest_square-square.ensures,
+  c.deref.ensures.value,
+  c.in_ok-squares.ensures.squares,
+) refl

@@ -12,4 +12,10 @@ move_from-requires c =
 
 pub returns-clause-moved : goal.returns-clause-moved
 unfolding greatest_float_move
-returns-clause-moved c = c.move_from.ensures ∙ rw (c.power_tick.ensures, c.greatest_square-square.ensures, c.deref.ensures.value, c.in_ok-squares.ensures.squares, c.top_place-top.ensures.value) refl
+returns-clause-moved c = c.move_from.ensures ∙ rw (
+  c.power_tick.ensures,
+  c.greatest_square-square.ensures,
+  c.deref.ensures.value,
+  c.in_ok-squares.ensures.squares,
+  c.top_place-top.ensures.value,
+) refl

@@ -27,16 +27,23 @@ quotient_above-requires-clause-fits c = omega (arith, c.times-next.ensures, c.lo
 pub returns-then-quotient_above-ge-TEN_DIGITS-clause-places : goal.returns-then-quotient_above-ge-TEN_DIGITS-clause-places
 returns-then-quotient_above-ge-TEN_DIGITS-clause-places c =
     let places = c.loop-places.places in
-    let next = next_over c.args.root c.args.tick.now places (size_of c.loop-places.over) (size_of c.times-next.result) c.loop-places.invariant.value c.times-next.ensures in
-    let is : c.quotient_above.result ≡ rounded_up c.args.root c.args.tick.now (places + 1) = c.quotient_above.ensures ∙ ap (λ (n : ℕ). quotient true n c.args.tick.now.denominator) next in
-    places_are c.args.root c.args.tick.now c.requires.tick.denominator_positive 38 places (omega (arith, c.loop-places-test.true)) c.loop-places.invariant.short (λ l. omega (arith, is, c.if-quotient_above-ge-TEN_DIGITS.true))
+    let next = next_over c.args.root c.args.tick.now places (size_of c.loop-places.over) (size_of c.times-next.result)
+    c.loop-places.invariant.value c.times-next.ensures in
+    let is : c.quotient_above.result ≡ rounded_up c.args.root c.args.tick.now (places + 1) =
+    c.quotient_above.ensures ∙ ap (λ (n : ℕ). quotient true n c.args.tick.now.denominator) next in
+    places_are c.args.root c.args.tick.now c.requires.tick.denominator_positive 38 places
+    (omega (arith, c.loop-places-test.true)) c.loop-places.invariant.short
+    (λ l. omega (arith, is, c.if-quotient_above-ge-TEN_DIGITS.true))
 
 pub loop-places-preserved : goal.loop-places-preserved
 loop-places-preserved c =
     let places = c.loop-places.places in
-    let next = next_over c.args.root c.args.tick.now places (size_of c.loop-places.over) (size_of c.times-next.result) c.loop-places.invariant.value c.times-next.ensures in
-    let is : c.quotient_above.result ≡ rounded_up c.args.root c.args.tick.now (places + 1) = c.quotient_above.ensures ∙ ap (λ (n : ℕ). quotient true n c.args.tick.now.denominator) next in
-    let less : quotient true (size_of c.times-next.result) c.args.tick.now.denominator < 10 ^ 9 = omega (arith, c.quotient_above.ensures, c.if-quotient_above-ge-TEN_DIGITS.false) in
+    let next = next_over c.args.root c.args.tick.now places (size_of c.loop-places.over) (size_of c.times-next.result)
+    c.loop-places.invariant.value c.times-next.ensures in
+    let is : c.quotient_above.result ≡ rounded_up c.args.root c.args.tick.now (places + 1) =
+    c.quotient_above.ensures ∙ ap (λ (n : ℕ). quotient true n c.args.tick.now.denominator) next in
+    let less : quotient true (size_of c.times-next.result) c.args.tick.now.denominator < 10 ^ 9 =
+    omega (arith, c.quotient_above.ensures, c.if-quotient_above-ge-TEN_DIGITS.false) in
     let most = quotient_less (size_of c.times-next.result) c.args.tick.now.denominator (10 ^ 9) c.requires.tick.denominator_positive less in
     record {
       value = next;
@@ -47,4 +54,5 @@ loop-places-preserved c =
 pub returns-clause-places : goal.returns-clause-places
 returns-clause-places c =
     let all : c.loop-places.places ≡ 38 = omega (arith, c.loop-places-test.false, c.loop-places.auto.places-end) in
-    places_are c.args.root c.args.tick.now c.requires.tick.denominator_positive 38 38 (omega arith) (λ l. rw all at c.loop-places.invariant.short (omega arith)) (λ l. absurd (omega (arith, l)))
+    places_are c.args.root c.args.tick.now c.requires.tick.denominator_positive 38 38 (omega arith)
+    (λ l. rw all at c.loop-places.invariant.short (omega arith)) (λ l. absurd (omega (arith, l)))

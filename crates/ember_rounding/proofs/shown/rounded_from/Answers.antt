@@ -18,7 +18,8 @@ invariant_of-result-clause-small c =
 
 pub invariant_of-result-clause-short : goal.invariant_of-result-clause-short
 invariant_of-result-clause-short c =
-    λ l. let short : rounded_up c.args.root c.args.tick.now c.raised-places.result.0 < 10 ^ 9 = c.raised-places.ensures.short l in omega (arith, size_is c, short)
+    λ l. let short : rounded_up c.args.root c.args.tick.now c.raised-places.result.0 < 10 ^ 9 =
+    c.raised-places.ensures.short l in omega (arith, size_is c, short)
 
 pub returns : goal.returns
 returns c =

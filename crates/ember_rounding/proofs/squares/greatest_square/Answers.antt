@@ -8,7 +8,9 @@ loop-t-init c = greatest_none (triangle_square c.args.squares.now) c.args.triang
 
 pub loop-t-preserved : goal.loop-t-preserved
 loop-t-preserved c =
-    greatest_more (triangle_square c.args.squares.now) c.args.triangles.now c.loop-t.t-index c.loop-t.greatest c.max-greatest.result c.t-item.result c.t-item.result c.loop-t.invariant (c.max-greatest.ensures ∙ ap (max c.loop-t.greatest) c.triangle_square.ensures) c.loop-t-test.true c.t-item.is
+    greatest_more (triangle_square c.args.squares.now) c.args.triangles.now c.loop-t.t-index c.loop-t.greatest
+    c.max-greatest.result c.t-item.result c.t-item.result c.loop-t.invariant
+    (c.max-greatest.ensures ∙ ap (max c.loop-t.greatest) c.triangle_square.ensures) c.loop-t-test.true c.t-item.is
 
 pub returns : goal.returns
 returns c = greatest_all (triangle_square c.args.squares.now) c.args.triangles.now c.loop-t.t-index c.loop-t.greatest c.loop-t.invariant c.loop-t-test.false

@@ -19,5 +19,7 @@ put_shifted-requires c =
 
 pub overflow_sub-places : goal.overflow_sub-places
 overflow_sub-places c =
-    let most : length (decimal c.args.size) ≤ c.args.places = length-decimal-le_wide c.args.places c.args.size c.requires.some c.requires.below (omega (arith, c.requires.short)) in
+    let most : length (decimal c.args.size) ≤ c.args.places =
+    length-decimal-le_wide c.args.places c.args.size c.requires.some c.requires.below
+    (omega (arith, c.requires.short)) in
     omega (arith, most, c.digits_of.ensures)

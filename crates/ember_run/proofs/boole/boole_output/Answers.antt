@@ -19,30 +19,42 @@ returns-in-Err-clause-no_reply g c =
     let a = c.args in
     let shelf = shelf_call g.S.Shelf.contents g.S.Shelf.faults g.S.Shelf.fault_at a.shelf.now a.shelf.now in
     subst (λ (names : List (List ℕ)). IsNoReply (bool_verdict a.expr.now a.places) names shelf c.in-Err.status) c.items-files.ensures
-    (expression_is_no_reply (after_bounded_expr a.expr.now) (λ m formula tris. Writes (SolidFaces tris formula)) a.places _ c.items-files.result.now shelf c.in-Err.status refl c.in-Err.ensures.no_reply)
+    (expression_is_no_reply (after_bounded_expr a.expr.now) (λ m formula tris. Writes (SolidFaces tris formula))
+    a.places _ c.items-files.result.now shelf c.in-Err.status refl c.in-Err.ensures.no_reply)
 
 pub returns-in-Err-read_scene-clause-no_reply : goal.returns-in-Err-read_scene-clause-no_reply
 returns-in-Err-read_scene-clause-no_reply g c =
     let a = c.args in
     let shelf = shelf_call g.S.Shelf.contents g.S.Shelf.faults g.S.Shelf.fault_at a.shelf.now c.read_scene.new.shelf in
     subst (λ (names : List (List ℕ)). IsNoReply (bool_verdict a.expr.now a.places) names shelf c.in-Err-read_scene.status) c.items-files.ensures
-    (scene_is_no_reply (after_bounded_expr a.expr.now) (λ m formula tris. Writes (SolidFaces tris formula)) a.places _ c.items-files.result.now shelf c.in-Err-read_scene.status _ refl c.in-Ok.ensures.expr c.in-Err-read_scene.ensures.no_reply)
+    (scene_is_no_reply (after_bounded_expr a.expr.now) (λ m formula tris. Writes (SolidFaces tris formula)) a.places _
+    c.items-files.result.now shelf c.in-Err-read_scene.status _ refl c.in-Ok.ensures.expr
+    c.in-Err-read_scene.ensures.no_reply)
 
 pub returns-clause-text : goal.returns-clause-text
 returns-clause-text g c =
     let a = c.args in let told = g.S.Shelf.contents a.shelf.now in let names = c.items-files.result.now in
     subst (λ (names : List (List ℕ)). IsTextIfTold (bool_verdict a.expr.now a.places (map told names)) c.in_ok-reply.reply.text.items) c.items-files.ensures
-    (solid_written a.expr.now a.places _ (map told names) _ _ _ (length-map names told) c.in-Ok.ensures.expr c.in-Ok-read_scene.ensures.ok (solid_file a.expr.now _ _ c.in-Ok-read_scene.scene _ c.in-Ok.ensures.expr c.in_ok-reply.ensures.text))
+    (solid_written a.expr.now a.places _ (map told names) _ _ _ (length-map names told) c.in-Ok.ensures.expr
+    c.in-Ok-read_scene.ensures.ok (solid_file a.expr.now _ _ c.in-Ok-read_scene.scene _ c.in-Ok.ensures.expr
+    c.in_ok-reply.ensures.text))
 
 pub returns-clause-report : goal.returns-clause-report
 returns-clause-report g c =
     let a = c.args in let told = g.S.Shelf.contents a.shelf.now in let names = c.items-files.result.now in
-    subst (λ (names : List (List ℕ)). IsReportOfVerdictIfAsked a.reported (bool_verdict a.expr.now a.places (map told names)) c.in_ok-reply.reply.report.items) c.items-files.ensures
-    (solid_reported a.reported a.expr.now a.places _ (map told names) _ _ _ (length-map names told) c.in-Ok.ensures.expr c.in-Ok-read_scene.ensures.ok c.in_ok-reply.ensures.report)
+    subst (λ (names : List (List ℕ)). IsReportOfVerdictIfAsked a.reported
+    (bool_verdict a.expr.now a.places (map told names)) c.in_ok-reply.reply.report.items) c.items-files.ensures
+    (solid_reported a.reported a.expr.now a.places _ (map told names) _ _ _ (length-map names told) c.in-Ok.ensures.expr
+    c.in-Ok-read_scene.ensures.ok c.in_ok-reply.ensures.report)
 
 pub returns-clause-text_read : goal.returns-clause-text_read
 returns-clause-text_read g c =
     let a = c.args in let told = g.S.Shelf.contents a.shelf.now in let names = c.items-files.result.now in let scene = c.in-Ok-read_scene.scene in
-    subst (λ (names : List (List ℕ)). MayHold told names (λ contents. IsTextIfTold (bool_verdict a.expr.now a.places contents) c.in_ok-reply.reply.text.items)) c.items-files.ensures
-    (held_then told names (λ contents. SceneRead a.places contents scene.tris) (λ contents. IsTextIfTold (bool_verdict a.expr.now a.places contents) c.in_ok-reply.reply.text.items)
-    (λ contents l read. solid_written a.expr.now a.places _ contents _ _ _ l c.in-Ok.ensures.expr read (solid_file a.expr.now _ _ scene _ c.in-Ok.ensures.expr c.in_ok-reply.ensures.text)) c.in-Ok-read_scene.ensures.ok_read)
+    subst (λ (names : List (List ℕ)). MayHold told names
+    (λ contents. IsTextIfTold (bool_verdict a.expr.now a.places contents) c.in_ok-reply.reply.text.items))
+    c.items-files.ensures
+    (held_then told names (λ contents. SceneRead a.places contents scene.tris)
+    (λ contents. IsTextIfTold (bool_verdict a.expr.now a.places contents) c.in_ok-reply.reply.text.items)
+    (λ contents l read. solid_written a.expr.now a.places _ contents _ _ _ l c.in-Ok.ensures.expr read
+    (solid_file a.expr.now _ _ scene _ c.in-Ok.ensures.expr c.in_ok-reply.ensures.text))
+    c.in-Ok-read_scene.ensures.ok_read)

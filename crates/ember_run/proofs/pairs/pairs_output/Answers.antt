@@ -13,11 +13,14 @@ pub returns-in-Err-clause-no_reply : goal.returns-in-Err-clause-no_reply
 returns-in-Err-clause-no_reply g c =
     let a = c.args in
     let shelf = shelf_call g.S.Shelf.contents g.S.Shelf.faults g.S.Shelf.fault_at a.shelf.now c.read_scene.new.shelf in
-    subst (λ (names : List (List ℕ)). IsNoReply (pairs_verdict a.places) names shelf c.in-Err.status) c.items.ensures (c.in-Err.ensures.no_reply (λ tris. Writes (MeetingPairs tris)))
+    subst (λ (names : List (List ℕ)). IsNoReply (pairs_verdict a.places) names shelf c.in-Err.status) c.items.ensures
+    (c.in-Err.ensures.no_reply (λ tris. Writes (MeetingPairs tris)))
 
 pub returns-clause-text_read : goal.returns-clause-text_read
 returns-clause-text_read g c =
     let a = c.args in let told = g.S.Shelf.contents a.shelf.now in let names = c.items.result.now in let scene = c.in-Ok.scene in
-    subst (λ (names : List (List ℕ)). MayHold told names (λ contents. IsTextIfTold (pairs_verdict a.places contents) c.in_ok-text_of_pairs.field-0.items)) c.items.ensures
-    (held_then told names (λ contents. SceneRead a.places contents scene.tris) (λ contents. IsTextIfTold (pairs_verdict a.places contents) c.in_ok-text_of_pairs.field-0.items)
+    subst (λ (names : List (List ℕ)). MayHold told names
+    (λ contents. IsTextIfTold (pairs_verdict a.places contents) c.in_ok-text_of_pairs.field-0.items)) c.items.ensures
+    (held_then told names (λ contents. SceneRead a.places contents scene.tris)
+    (λ contents. IsTextIfTold (pairs_verdict a.places contents) c.in_ok-text_of_pairs.field-0.items)
     (λ contents l read. pairs_listed a.places contents scene.tris _ read c.in_ok-text_of_pairs.ensures) c.in-Ok.ensures.ok_read)

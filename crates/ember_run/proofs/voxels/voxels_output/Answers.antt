@@ -16,24 +16,34 @@ returns-in-Err-clause-no_reply g c =
     let a = c.args in
     let shelf = shelf_call g.S.Shelf.contents g.S.Shelf.faults g.S.Shelf.fault_at a.shelf.now a.shelf.now in
     subst (λ (names : List (List ℕ)). IsNoReply (voxels_verdict a.expr.now a.size a.places) names shelf c.in-Err.status) c.items-files.ensures
-    (expression_is_no_reply (after_expr a.expr.now) (λ m formula tris. Writes (Lattice tris formula a.size)) a.places _ c.items-files.result.now shelf c.in-Err.status refl c.in-Err.ensures.no_reply)
+    (expression_is_no_reply (after_expr a.expr.now) (λ m formula tris. Writes (Lattice tris formula a.size)) a.places _
+    c.items-files.result.now shelf c.in-Err.status refl c.in-Err.ensures.no_reply)
 
 pub returns-in-Err-read_scene-clause-no_reply : goal.returns-in-Err-read_scene-clause-no_reply
 returns-in-Err-read_scene-clause-no_reply g c =
     let a = c.args in
     let shelf = shelf_call g.S.Shelf.contents g.S.Shelf.faults g.S.Shelf.fault_at a.shelf.now c.read_scene.new.shelf in
     subst (λ (names : List (List ℕ)). IsNoReply (voxels_verdict a.expr.now a.size a.places) names shelf c.in-Err-read_scene.status) c.items-files.ensures
-    (scene_is_no_reply (after_expr a.expr.now) (λ m formula tris. Writes (Lattice tris formula a.size)) a.places _ c.items-files.result.now shelf c.in-Err-read_scene.status _ refl c.in-Ok.ensures.expr c.in-Err-read_scene.ensures.no_reply)
+    (scene_is_no_reply (after_expr a.expr.now) (λ m formula tris. Writes (Lattice tris formula a.size)) a.places _
+    c.items-files.result.now shelf c.in-Err-read_scene.status _ refl c.in-Ok.ensures.expr
+    c.in-Err-read_scene.ensures.no_reply)
 
 pub returns-clause-text : goal.returns-clause-text
 returns-clause-text g c =
     let a = c.args in let told = g.S.Shelf.contents a.shelf.now in let names = c.items-files.result.now in
-    subst (λ (names : List (List ℕ)). IsTextIfTold (voxels_verdict a.expr.now a.size a.places (map told names)) c.in_ok-text_of_voxels.field-0.items) c.items-files.ensures
-    (lattice_sampled a.expr.now a.size a.places _ (map told names) _ _ _ (length-map names told) c.in-Ok.ensures.expr c.in-Ok-read_scene.ensures.ok c.in_ok-text_of_voxels.ensures)
+    subst (λ (names : List (List ℕ)). IsTextIfTold (voxels_verdict a.expr.now a.size a.places (map told names))
+    c.in_ok-text_of_voxels.field-0.items) c.items-files.ensures
+    (lattice_sampled a.expr.now a.size a.places _ (map told names) _ _ _ (length-map names told) c.in-Ok.ensures.expr
+    c.in-Ok-read_scene.ensures.ok c.in_ok-text_of_voxels.ensures)
 
 pub returns-clause-text_read : goal.returns-clause-text_read
 returns-clause-text_read g c =
     let a = c.args in let told = g.S.Shelf.contents a.shelf.now in let names = c.items-files.result.now in let scene = c.in-Ok-read_scene.scene in
-    subst (λ (names : List (List ℕ)). MayHold told names (λ contents. IsTextIfTold (voxels_verdict a.expr.now a.size a.places contents) c.in_ok-text_of_voxels.field-0.items)) c.items-files.ensures
-    (held_then told names (λ contents. SceneRead a.places contents scene.tris) (λ contents. IsTextIfTold (voxels_verdict a.expr.now a.size a.places contents) c.in_ok-text_of_voxels.field-0.items)
-    (λ contents l read. lattice_sampled a.expr.now a.size a.places _ contents _ _ _ l c.in-Ok.ensures.expr read c.in_ok-text_of_voxels.ensures) c.in-Ok-read_scene.ensures.ok_read)
+    subst (λ (names : List (List ℕ)). MayHold told names
+    (λ contents. IsTextIfTold (voxels_verdict a.expr.now a.size a.places contents)
+    c.in_ok-text_of_voxels.field-0.items)) c.items-files.ensures
+    (held_then told names (λ contents. SceneRead a.places contents scene.tris)
+    (λ contents. IsTextIfTold (voxels_verdict a.expr.now a.size a.places contents)
+    c.in_ok-text_of_voxels.field-0.items)
+    (λ contents l read. lattice_sampled a.expr.now a.size a.places _ contents _ _ _ l c.in-Ok.ensures.expr read
+    c.in_ok-text_of_voxels.ensures) c.in-Ok-read_scene.ensures.ok_read)

@@ -19,4 +19,5 @@ returns c = record {
 }
   where
     all : c.loop-t.numbers.items ≡ map edge_number (map reversed (edges_in c.args.tris.now))
-    all = c.loop-t.invariant ∙ ap (λ (ts : List Tri). map edge_number (map reversed (edges_in ts))) (take_all c.loop-t.t-index c.args.tris.now c.loop-t-test.false)
+    all = c.loop-t.invariant ∙ ap (λ (ts : List Tri). map edge_number (map reversed (edges_in ts)))
+        (take_all c.loop-t.t-index c.args.tris.now c.loop-t-test.false)

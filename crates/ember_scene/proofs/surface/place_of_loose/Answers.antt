@@ -15,4 +15,5 @@ place_of_edge-requires-clause-to c =
 
 pub unreachable-requires : goal.unreachable-requires
 unreachable-requires c =
-    loose_edge_is_there c.args.soup.now.tris c.args.loose.now c.requires (subst (All (λ t. has_edge (edge_of c.args.loose.now) t ≡ false)) c.items.ensures c.in-None.ensures)
+    loose_edge_is_there c.args.soup.now.tris c.args.loose.now c.requires
+    (subst (All (λ t. has_edge (edge_of c.args.loose.now) t ≡ false)) c.items.ensures c.in-None.ensures)

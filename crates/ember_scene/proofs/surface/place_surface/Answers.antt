@@ -5,7 +5,8 @@ use Rattle.ember_scene.proofs.surface.place_surface.Goals as goal
 
 pub returns-clause-counts : goal.returns-clause-counts
 returns-clause-counts c =
-    let flat = c.in-Ok.ensures.flat ∙ ap (λ ts. length (flat_ones ts)) c.in-Ok.ensures.tris ∙ length-flat_images c.args.grid.now (c.args.file + 1) 0 c.args.surface.now in
+    let flat = c.in-Ok.ensures.flat ∙ ap (λ ts. length (flat_ones ts)) c.in-Ok.ensures.tris
+    ∙ length-flat_images c.args.grid.now (c.args.file + 1) 0 c.args.surface.now in
     λ i. record { triangles = triangles i; vanished = c.in-Ok.ensures.vanished i; flat = flat i }
   where
     triangles : c.len.result ≡ length c.args.surface.now.facets.items

@@ -9,7 +9,8 @@ loop-index-preserved c =
     let between = c.in_ok-extend_from_slice.ensures.items ∙ ap (λ (x : List ℕ). before ++ x) c.separator.ensures in
     let there : c.loop-index.index < length c.args.counts.now = omega (arith, c.requires.counts, c.loop-index-test.true) in
     let count = get_or_default c.args.counts.now c.loop-index.index _ _ there in
-    file_appended _ _ _ c.loop-index.index _ _ _ _ _ _ _ c.loop-index-test.true c.requires.counts c.requires.moves c.index-names-index.is count c.index-moves-index.is c.loop-index.invariant between c.in_ok-put_file.ensures
+    file_appended _ _ _ c.loop-index.index _ _ _ _ _ _ _ c.loop-index-test.true c.requires.counts c.requires.moves
+    c.index-names-index.is count c.index-moves-index.is c.loop-index.invariant between c.in_ok-put_file.ensures
 
 pub returns : goal.returns
 returns c = all_appended _ _ _ c.loop-index.index _ _ c.loop-index-test.false c.loop-index.invariant

@@ -6,4 +6,5 @@ pub returns : goal.returns
 unfolding grid_text
 returns c =
     on_ok_if _ _ c.extend_from_slice-3.result c.extend_from_slice-3.ensures.items
-    (after5 _ _ _ _ _ _ _ _ _ _ c.in_ok-extend_from_slice.ensures.items c.in_ok-put_fraction.ensures c.in_ok-extend_from_slice-2.ensures.items c.in_ok-put_offset.ensures)
+    (after5 _ _ _ _ _ _ _ _ _ _ c.in_ok-extend_from_slice.ensures.items c.in_ok-put_fraction.ensures
+    c.in_ok-extend_from_slice-2.ensures.items c.in_ok-put_offset.ensures)

@@ -16,4 +16,7 @@ returns-in_default-last c =
 pub returns : goal.returns
 returns c =
     let s = c.args.interval.now in
-    λ f at t h. answer_between f at _ _ (subst (λ o. IsInterval f.support at f.edges (record { first = o; last = Some c.in-Some-last.last })) c.in-Some.is (subst (λ o. IsInterval f.support at f.edges (record { first = s.first; last = o })) c.in-Some-last.is h)) c.between.result c.between.ensures
+    λ f at t h. answer_between f at _ _ (subst (λ o. IsInterval f.support at f.edges
+    (record { first = o; last = Some c.in-Some-last.last })) c.in-Some.is
+    (subst (λ o. IsInterval f.support at f.edges (record { first = s.first; last = o })) c.in-Some-last.is h))
+    c.between.result c.between.ensures

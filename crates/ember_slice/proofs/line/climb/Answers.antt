@@ -4,7 +4,9 @@ use Rattle.ember_slice.proofs.line.climb.Goals as goal
 
 pub overflow_sub-result : goal.overflow_sub-result
 overflow_sub-result c =
-    no_overflow (c.requires.support.a & c.requires.plane.b & c.requires.support.b & c.requires.plane.a & done) w64 (stored w64 (stored w64 (input 0) ⊠ stored w64 (input 1)) ⊟ stored w64 (stored w64 (input 2) ⊠ stored w64 (input 3))) tt
+    no_overflow (c.requires.support.a & c.requires.plane.b & c.requires.support.b & c.requires.plane.a & done) w64
+    (stored w64 (stored w64 (input 0) ⊠ stored w64 (input 1)) ⊟ stored w64
+    (stored w64 (input 2) ⊠ stored w64 (input 3))) tt
 
 abbrev climb_code : Code
 climb_code =

@@ -24,7 +24,8 @@ plain c =
     let product : to_z w128 (of_z w128 (pos 2 *ℤ to_z w128 (of_z w128 numerator))) ≡ pos 2 *ℤ numerator =
     omega (arith, ints, c.from-numerator.ensures, c.requires.step.numerator_small) in
     c.quotient.ensures ∙ rw (sum, product, c.twice_floor-twice.ensures.value, c.from-numerator.ensures)
-    (floor_chain (pos (2 * s.denominator) *ℤ v.numerator) v.denominator s.numerator (2 * s.numerator) (denominator_pos c.args.number.now) (omega (arith, c.requires.step.numerator_positive)))
+    (floor_chain (pos (2 * s.denominator) *ℤ v.numerator) v.denominator s.numerator (2 * s.numerator)
+    (denominator_pos c.args.number.now) (omega (arith, c.requires.step.numerator_positive)))
 
 pub returns-clause-value : goal.returns-clause-value
 unfolding cell_at

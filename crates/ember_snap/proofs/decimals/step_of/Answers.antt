@@ -13,7 +13,8 @@ pub returns-in_err-trillionths-clause-none : goal.returns-in_err-trillionths-cla
 returns-in_err-trillionths-clause-none c =
     let number = c.in_ok-number.number in
     let spells : value_of_text c.args.text.now ≡ Some (value_of number) = sym c.in_ok-number.ensures in
-    no_step_if_not_whole c.args.text.now (value_of number) c.from_residual-in_err-trillionths.result spells (denominator_pos number) c.in_err-trillionths.ensures.none
+    no_step_if_not_whole c.args.text.now (value_of number) c.from_residual-in_err-trillionths.result spells
+    (denominator_pos number) c.in_err-trillionths.ensures.none
 
 pub returns-then-trillionths-le0-clause-none : goal.returns-then-trillionths-le0-clause-none
 returns-then-trillionths-le0-clause-none c = λ step is.
@@ -31,7 +32,9 @@ returns-clause-some c =
     let spells : value_of_text c.args.text.now ≡ Some (value_of number) = sym c.in_ok-number.ensures in
     let positive : pos 0 <ℤ t.trillionths = omega (arith, ints, c.if-trillionths-le0.false, t.ensures.small) in
     let stored : to_z w128 (of_z w128 t.trillionths) ≡ t.trillionths = omega (arith, ints, t.ensures.small) in
-    least_if_given c.args.text.now (value_of number) t.trillionths (unsigned_abs (to_z w128 (of_z w128 t.trillionths))) s.result spells (denominator_pos number) t.ensures.some (rw stored (size_of_positive t.trillionths positive)) s.ensures.some s.ensures.least
+    least_if_given c.args.text.now (value_of number) t.trillionths (unsigned_abs (to_z w128 (of_z w128 t.trillionths)))
+    s.result spells (denominator_pos number) t.ensures.some (rw stored (size_of_positive t.trillionths positive))
+    s.ensures.some s.ensures.least
 
 pub returns-clause-none : goal.returns-clause-none
 returns-clause-none c =
@@ -41,4 +44,6 @@ returns-clause-none c =
     let spells : value_of_text c.args.text.now ≡ Some (value_of number) = sym c.in_ok-number.ensures in
     let positive : pos 0 <ℤ t.trillionths = omega (arith, ints, c.if-trillionths-le0.false, t.ensures.small) in
     let stored : to_z w128 (of_z w128 t.trillionths) ≡ t.trillionths = omega (arith, ints, t.ensures.small) in
-    no_step_if_none c.args.text.now (value_of number) t.trillionths (unsigned_abs (to_z w128 (of_z w128 t.trillionths))) s.result spells (denominator_pos number) t.ensures.some (rw stored (size_of_positive t.trillionths positive)) s.ensures.none
+    no_step_if_none c.args.text.now (value_of number) t.trillionths (unsigned_abs (to_z w128 (of_z w128 t.trillionths)))
+    s.result spells (denominator_pos number) t.ensures.some (rw stored (size_of_positive t.trillionths positive))
+    s.ensures.none

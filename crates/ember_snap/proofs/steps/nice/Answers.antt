@@ -12,4 +12,5 @@ pub returns-clause-step : goal.returns-clause-step
 returns-clause-step c =
     let digit : c.match-rank-rem3.digit ≤ 5 = elim c.match-rank-rem3.branch [ in-0 w ↦ omega arith | in-1 w ↦ omega arith | in_default w ↦ omega arith ] in
     let positive : 0 < c.match-rank-rem3.digit = elim c.match-rank-rem3.branch [ in-0 w ↦ omega arith | in-1 w ↦ omega arith | in_default w ↦ omega arith ] in
-    rw (c.pow.ensures, c.pow-2.ensures) (nice_is_step c.match-rank-rem3.digit c.saturating_sub.result c.saturating_sub-2.result positive digit (omega arith) (omega arith))
+    rw (c.pow.ensures, c.pow-2.ensures) (nice_is_step c.match-rank-rem3.digit c.saturating_sub.result
+    c.saturating_sub-2.result positive digit (omega arith) (omega arith))

@@ -7,7 +7,8 @@ returns-clause-mesh g c =
     record {
       planes = refl;
       corners = refl;
-      certified = certified_of c.in_ok-triangles.triangles.items c.deref.ensures.value c.deref-2.ensures.value c.deref-3.ensures.value c.deref-4.ensures.value c.in_ok-triangles.ensures;
+      certified = certified_of c.in_ok-triangles.triangles.items c.deref.ensures.value c.deref-2.ensures.value
+          c.deref-3.ensures.value c.deref-4.ensures.value c.in_ok-triangles.ensures;
     }
 
 pub returns-clause-faces : goal.returns-clause-faces

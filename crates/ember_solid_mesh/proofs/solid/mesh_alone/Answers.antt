@@ -19,4 +19,6 @@ returns-in_err-mesh-clause-fault g c =
     let formula = formula_of c.args.expr.now in
     let held = c.in_ok-faces.ensures.faces in
     let cause = c.in_err-mesh.field-0.0 in
-    passed_on (IsSolidFault c.args.scene.now.tris formula) c.from_residual-in_err-mesh.result cause c.from_residual-in_err-mesh.ensures.1 (solid_fault_is c.args.scene.now.tris formula held.bytes held.text cause (c.in_err-mesh.ensures.fault held.bytes held.read))
+    passed_on (IsSolidFault c.args.scene.now.tris formula) c.from_residual-in_err-mesh.result cause
+    c.from_residual-in_err-mesh.ensures.1 (solid_fault_is c.args.scene.now.tris formula held.bytes held.text cause
+    (c.in_err-mesh.ensures.fault held.bytes held.read))

@@ -30,4 +30,6 @@ returns-in_err-mesh-clause-fault g c =
     let faces = c.in_ok-faces.faces.items in
     let read = subst (λ (bytes : List ℕ). IsFaceFile bytes faces) c.deref.ensures.value c.in_ok-faces.ensures.faces in
     let cause = c.in_err-mesh.field-0.0 in
-    passed_on (IsSolidFault c.args.scene.now.tris formula) c.from_residual-in_err-mesh.result cause c.from_residual-in_err-mesh.ensures.1 (solid_fault_is c.args.scene.now.tris formula text.items c.in_ok-text.ensures.text cause (c.in_err-mesh.ensures.fault text.items read))
+    passed_on (IsSolidFault c.args.scene.now.tris formula) c.from_residual-in_err-mesh.result cause
+    c.from_residual-in_err-mesh.ensures.1 (solid_fault_is c.args.scene.now.tris formula text.items
+    c.in_ok-text.ensures.text cause (c.in_err-mesh.ensures.fault text.items read))

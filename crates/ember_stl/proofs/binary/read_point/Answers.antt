@@ -40,8 +40,11 @@ unfolding point_at
 point_read bytes at k m n x y z ek em en ex ey ez =
     ap (λ (o : Option Fraction). finite_point o (Some y) (Some z)) (ex ∙ ap (λ (i : ℕ). binary32_value i) ek)
     ∙ ap (λ (o : Option Fraction). finite_point (binary32_value (number_at bytes at)) o (Some z)) (ey ∙ ap (λ (i : ℕ). binary32_value i) em)
-    ∙ ap (λ (o : Option Fraction). finite_point (binary32_value (number_at bytes at)) (binary32_value (number_at bytes (at + 4))) o) (ez ∙ ap (λ (i : ℕ). binary32_value i) en)
+    ∙ ap (λ (o : Option Fraction). finite_point (binary32_value (number_at bytes at))
+    (binary32_value (number_at bytes (at + 4))) o) (ez ∙ ap (λ (i : ℕ). binary32_value i) en)
 
 pub returns : goal.returns
 returns c =
-    point_read c.args.bytes.now c.args.at c.read_number.result c.read_number-2.result c.read_number-3.result _ _ _ c.read_number.ensures c.read_number-2.ensures c.read_number-3.ensures c.in_ok-x.ensures c.in_ok-y.ensures c.in_ok-z.ensures
+    point_read c.args.bytes.now c.args.at c.read_number.result c.read_number-2.result c.read_number-3.result _ _ _
+    c.read_number.ensures c.read_number-2.ensures c.read_number-3.ensures c.in_ok-x.ensures c.in_ok-y.ensures
+    c.in_ok-z.ensures

@@ -3,7 +3,10 @@ use Rattle.ember_stl.proofs.Cuts.{last_cut, first_cut}
 use Rattle.ember_stl.proofs.scan.cut_first_line.Goals as goal
 
 pub returns-in-None-clause-lines : goal.returns-in-None-clause-lines
-returns-in-None-clause-lines c = last_cut c.args.bytes.now c.cut_line.result.0.now c.cut_line.result.1.now (grind arith) c.cut_line.ensures.onward c.in-None.ensures.cases c.cut_line.ensures.before
+returns-in-None-clause-lines c = last_cut c.args.bytes.now c.cut_line.result.0.now c.cut_line.result.1.now (grind arith)
+    c.cut_line.ensures.onward c.in-None.ensures.cases c.cut_line.ensures.before
 
 pub returns-in-Some-clause-lines : goal.returns-in-Some-clause-lines
-returns-in-Some-clause-lines c = first_cut c.args.bytes.now c.cut_line.result.0.now c.cut_line.result.1.now c.in-Some.after.now c.in-Some.field-0-0.now c.cut_line.ensures.onward c.in-Some.ensures.cases.0 c.cut_line.ensures.before
+returns-in-Some-clause-lines c = first_cut c.args.bytes.now c.cut_line.result.0.now c.cut_line.result.1.now
+    c.in-Some.after.now c.in-Some.field-0-0.now c.cut_line.ensures.onward c.in-Some.ensures.cases.0
+    c.cut_line.ensures.before

@@ -8,5 +8,7 @@ loop-blanks-preserved c =
     let blank : is_blank (slice_index c.args.text.bytes.now c.loop-blanks.blanks) ≡ true = cc in
     record {
       within = omega arith;
-      words = blank_passed (c.args.text.start + c.loop-blanks.blanks) (c.args.text.start + (c.loop-blanks.blanks + 1)) c.loop-blanks.blanks (c.loop-blanks.blanks + 1) c.args.text.bytes.now (omega arith) blank (omega arith) refl ∙ c.loop-blanks.invariant.words;
+      words = blank_passed (c.args.text.start + c.loop-blanks.blanks) (c.args.text.start + (c.loop-blanks.blanks + 1))
+          c.loop-blanks.blanks (c.loop-blanks.blanks + 1) c.args.text.bytes.now (omega arith) blank (omega arith) refl
+          ∙ c.loop-blanks.invariant.words;
     }

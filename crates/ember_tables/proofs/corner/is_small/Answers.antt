@@ -15,5 +15,16 @@ weight s = exact (s & done) (kept 0) tt
 pub returns : goal.returns
 returns c =
     let v = c.args.m.now.valid in
-    let most : ℕ = 77371252455336267181195263 in
-    (λ t. record { x = subst (Small most) (coordinate v.x) (c.fits.ensures.0 c.if-not-fits.false); y = subst (Small most) (coordinate v.y) (c.fits-2.ensures.0 c.if-not-fits-2.false); z = subst (Small most) (coordinate v.z) (c.fits-3.ensures.0 c.if-not-fits-3.false); w = subst (Small 37778931862957161709567) (weight v.w) (c.fits-4.ensures.0 t); positive = v.weight }, λ s. c.fits-4.ensures.1 (subst (Small 37778931862957161709567) (sym (weight v.w)) s.w))
+    let most : ℕ = 77371252455336267181195263 in (
+      λ t. record {
+        x = subst (Small most) (coordinate v.x) (c.fits.ensures.0 c.if-not-fits.false);
+        y =
+            subst (Small most) (coordinate v.y) (c.fits-2.ensures.0 c.if-not-fits-2.false);
+        z =
+            subst (Small most) (coordinate v.z) (c.fits-3.ensures.0 c.if-not-fits-3.false);
+        w =
+            subst (Small 37778931862957161709567) (weight v.w) (c.fits-4.ensures.0 t);
+        positive = v.weight;
+      },
+      λ s. c.fits-4.ensures.1 (subst (Small 37778931862957161709567) (sym (weight v.w)) s.w),
+    )

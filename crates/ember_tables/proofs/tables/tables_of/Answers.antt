@@ -22,8 +22,12 @@ returns-clause-tables c =
     let with_planes = subst (λ (qs : List Plane). AllZip (IsSegmentOf qs d.lines.keys d.corners.keys) edges ss) (sym ps) h.segments in
     let with_lines = subst (λ (ms : List LineKey). AllZip (IsSegmentOf c.in_ok-planes_of.field-0.items ms d.corners.keys) edges ss) (sym ls) with_planes in
     record {
-      segments = subst (λ (ks : List SpacePoint). AllZip (IsSegmentOf c.in_ok-planes_of.field-0.items c.in_ok-line_list.line_list.items ks) edges ss) (sym cs) with_lines;
-      planes = subst (AreDistinct (λ (p : Plane). p)) (sym ps) (distinct_images plane_of d.planes.keys (distinct same_entry plane_of same_entry_decides d.planes.keys h.planes));
+      segments = subst (λ (ks : List SpacePoint). AllZip
+          (IsSegmentOf c.in_ok-planes_of.field-0.items c.in_ok-line_list.line_list.items ks) edges ss) (sym cs)
+          with_lines;
+      planes = subst (AreDistinct (λ (p : Plane). p)) (sym ps)
+          (distinct_images plane_of d.planes.keys (distinct same_entry plane_of same_entry_decides d.planes.keys
+          h.planes));
       lines = subst (AreDistinct (λ (k : LineKey). k)) (sym ls) (distinct same_line (λ k. k) same_line_decides d.lines.keys h.lines);
       corners = subst (AreDistinct spot_of) (sym cs) (distinct same_corner spot_of same_corner_decides d.corners.keys h.corners);
       valid = subst (All IsValidPlane) (sym ps) h.valid;

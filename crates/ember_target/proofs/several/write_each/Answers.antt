@@ -15,7 +15,9 @@ returns-in-Err-clause-some g c =
       written = names_and_bytes (take i files);
       bytes = file.bytes.items;
       others = names_and_bytes (drop (i + 1) files);
-      all = files_before_and_behind files i file c.loop-file-test.true c.file-item.is ∙ ap (λ (name : List ℕ). names_and_bytes (take i files) ++ (name, file.bytes.items) ∷ names_and_bytes (drop (i + 1) files)) (sym c.as_str-name.ensures.value);
+      all = files_before_and_behind files i file c.loop-file-test.true c.file-item.is
+          ∙ ap (λ (name : List ℕ). names_and_bytes (take i files) ++ (name, file.bytes.items)
+          ∷ names_and_bytes (drop (i + 1) files)) (sym c.as_str-name.ensures.value);
       between = g.T.Target.held c.loop-file.target;
       put = c.loop-file.invariant.put;
       held = e.old;
@@ -29,10 +31,16 @@ loop-file-preserved g c =
     let i = c.loop-file.file-index in
     let file = c.file-item.result in
     let e = c.in_default.ensures in
-    let put = subst (λ (name : List ℕ). Puts (g.T.Target.held c.loop-file.target) (g.T.Target.held c.write_whole.new.target) name (Some file.bytes.items)) c.as_str-name.ensures.value (subst (λ (bytes : List ℕ). Puts (g.T.Target.held c.loop-file.target) (g.T.Target.held c.write_whole.new.target) c.as_str-name.result.now (Some bytes)) c.deref.ensures.value e.whole) in
+    let put = subst (λ (name : List ℕ). Puts (g.T.Target.held c.loop-file.target)
+    (g.T.Target.held c.write_whole.new.target) name (Some file.bytes.items)) c.as_str-name.ensures.value
+    (subst (λ (bytes : List ℕ). Puts (g.T.Target.held c.loop-file.target) (g.T.Target.held c.write_whole.new.target)
+    c.as_str-name.result.now (Some bytes)) c.deref.ensures.value e.whole) in
     record {
       none_begun = e.none_begun;
       later = omega (arith, c.loop-file.invariant.later, e.later);
-      put = subst (λ (put : List NamedBytes). PutsEach put (g.T.Target.held c.args.target.now) (g.T.Target.held c.write_whole.new.target)) (sym (files_with_one_more files i file c.loop-file-test.true c.file-item.is))
-          (PutsEach-more (names_and_bytes (take i files)) _ (g.T.Target.held c.loop-file.target) _ (string_bytes file.name) file.bytes.items c.loop-file.invariant.put put);
+      put = subst (λ (put : List NamedBytes). PutsEach put (g.T.Target.held c.args.target.now)
+          (g.T.Target.held c.write_whole.new.target))
+          (sym (files_with_one_more files i file c.loop-file-test.true c.file-item.is))
+          (PutsEach-more (names_and_bytes (take i files)) _ (g.T.Target.held c.loop-file.target) _
+          (string_bytes file.name) file.bytes.items c.loop-file.invariant.put put);
     }

@@ -7,7 +7,8 @@ invariant-loop-rest g l =
     record {
       begun : g.T.Target.begun l.target ≡ g.T.Target.begun l.fn.target;
       later : g.T.Target.faults l.fn.target ≤ g.T.Target.faults l.target;
-      bytes : (front : List ℕ) × (l.fn.bytes ≡ front ++ l.rest) × Grows (g.T.Target.begun l.fn.target) (g.T.Target.held l.fn.target) (g.T.Target.held l.target) front;
+      bytes : (front : List ℕ) × (l.fn.bytes ≡ front ++ l.rest) × Grows (g.T.Target.begun l.fn.target)
+          (g.T.Target.held l.fn.target) (g.T.Target.held l.target) front;
     }
 
 abbrev pub decreases-loop-rest : goal.decreases-loop-rest

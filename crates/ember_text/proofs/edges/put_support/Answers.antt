@@ -17,5 +17,11 @@ counted n l =
 pub returns : goal.returns
 returns c =
     let p = c.requires in
-    let e = five (exact (p.a & done) (wide 0) tt) (exact (p.b & done) (wide 0) tt) (exact (p.c & done) (wide 0) tt) (exact (p.d & done) (wide 0) tt) (counted c.args.count c.ranges.count.fits) in
-    record { ok = subst (λ ns. OnOk c.put_line.result (c.put_line.new.out.items ≡ c.args.out.now.items ++ line_of (102 ∷ []) ns)) e c.put_line.ensures.ok; fault = c.put_line.ensures.fault }
+    let e = five (exact (p.a & done) (wide 0) tt) (exact (p.b & done) (wide 0) tt) (exact (p.c & done) (wide 0) tt)
+    (exact (p.d & done) (wide 0) tt) (counted c.args.count c.ranges.count.fits) in
+    record {
+      ok = subst (λ ns. OnOk c.put_line.result
+          (c.put_line.new.out.items ≡ c.args.out.now.items ++ line_of (102 ∷ []) ns)) e c.put_line.ensures.ok;
+      fault =
+          c.put_line.ensures.fault;
+    }

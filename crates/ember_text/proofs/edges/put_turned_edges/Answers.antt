@@ -14,7 +14,9 @@ loop-next-init c =
     record {
       first = omega (arith, two);
       last = omega (arith, two);
-      grown = turned_begun es ms (length es - 1) c.index-corners-0.result c.index-corners-1.result c.args.out.now.items c.requires.paired two (omega (arith, two)) c.index-corners-0.is c.index-corners-1.is c.in_ok-put_edge.ensures.ok c.in_ok-put_edge-2.ensures.ok;
+      grown = turned_begun es ms (length es - 1) c.index-corners-0.result c.index-corners-1.result c.args.out.now.items
+          c.requires.paired two (omega (arith, two)) c.index-corners-0.is c.index-corners-1.is c.in_ok-put_edge.ensures.ok
+          c.in_ok-put_edge-2.ensures.ok;
     }
 
 pub loop-next-preserved : goal.loop-next-preserved
@@ -24,7 +26,9 @@ loop-next-preserved c =
     record {
       first = omega (arith, more);
       last = omega (arith, last);
-      grown = turned_more es ms l.next (l.next - 1) (l.next - 1 + 1) c.index-corners-next.result c.args.out.now.items c.requires.paired last (omega (arith, more)) (omega arith) c.index-corners-next.is l.invariant.grown c.in_ok-put_edge-3.ensures.ok;
+      grown = turned_more es ms l.next (l.next - 1) (l.next - 1 + 1) c.index-corners-next.result c.args.out.now.items
+          c.requires.paired last (omega (arith, more)) (omega arith) c.index-corners-next.is l.invariant.grown
+          c.in_ok-put_edge-3.ensures.ok;
     }
 
 pub returns-clause-ok : goal.returns-clause-ok
@@ -32,4 +36,6 @@ returns-clause-ok c =
     let es = c.args.edges.now in let ms = c.args.corners.now in let l = c.loop-next in
     let one : l.next ≡ 1 = omega (arith, c.loop-next-test.false, l.invariant.first) in
     let long = length-ring_edges es ms c.requires.paired in
-    subst (λ (rs : List RingEdge). HasGrown (Each IsEdgeText rs) c.args.out.now.items l.out.items) (ap (turned_from (ring_edges es ms)) one ∙ turned_all (ring_edges es ms) (omega (arith, long, c.requires.two))) l.invariant.grown
+    subst (λ (rs : List RingEdge). HasGrown (Each IsEdgeText rs) c.args.out.now.items l.out.items)
+    (ap (turned_from (ring_edges es ms)) one ∙ turned_all (ring_edges es ms) (omega (arith, long, c.requires.two)))
+    l.invariant.grown

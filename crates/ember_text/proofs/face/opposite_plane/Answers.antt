@@ -14,4 +14,5 @@ code = stored w64 (number (pos 0) ⊟ narrow 0)
 pub returns-clause-value : goal.returns-clause-value
 returns-clause-value c =
     let p = c.requires in
-    same_plane (exact (p.a & done) code tt ∙ minus c.args.p.now.a) (exact (p.b & done) code tt ∙ minus c.args.p.now.b) (exact (p.c & done) code tt ∙ minus c.args.p.now.c) (exact (p.d & done) code tt ∙ minus c.args.p.now.d)
+    same_plane (exact (p.a & done) code tt ∙ minus c.args.p.now.a) (exact (p.b & done) code tt ∙ minus c.args.p.now.b)
+    (exact (p.c & done) code tt ∙ minus c.args.p.now.c) (exact (p.d & done) code tt ∙ minus c.args.p.now.d)

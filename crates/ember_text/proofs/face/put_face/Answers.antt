@@ -9,4 +9,6 @@ pub returns-clause-ok : goal.returns-clause-ok
 returns-clause-ok c =
     let o = c.outline.ensures in let es = c.outline.result.0.now in let ms = c.outline.result.1.now in
     let long : length (ring_edges es ms) ≡ length es = length-ring_edges es ms o.paired in
-    on_ok_weaker c.put_edges.result (λ g. face_is_written c.args.r.now c.support.result (ring_edges es ms) (length es) c.args.out.now.items c.support.ensures.value c.support.ensures.valid o.outline (omega (arith, long, o.three)) (sym long) c.in_ok-put_support.ensures.ok g) c.put_edges.ensures.ok
+    on_ok_weaker c.put_edges.result (λ g. face_is_written c.args.r.now c.support.result (ring_edges es ms) (length es)
+    c.args.out.now.items c.support.ensures.value c.support.ensures.valid o.outline (omega (arith, long, o.three))
+    (sym long) c.in_ok-put_support.ensures.ok g) c.put_edges.ensures.ok

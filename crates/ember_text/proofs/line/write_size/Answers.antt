@@ -17,7 +17,9 @@ loop-left-preserved c =
       omega arith,
       omega (arith, length-set l.line (l.at - 1) (48 + l.left % 10)),
       omega arith,
-      rw (drop-set l.line (l.at - 1) _ (omega arith), e) (rw (decimal_step_wide l.left (omega arith) (omega (arith, l.auto.left-fits.fits)), append_assoc) at l.invariant.3),
+      rw (drop-set l.line (l.at - 1) _ (omega arith), e)
+          (rw (decimal_step_wide l.left (omega arith) (omega (arith, l.auto.left-fits.fits)), append_assoc) at
+          l.invariant.3),
     )
 
 pub write_digits-requires : goal.write_digits-requires

@@ -11,4 +11,6 @@ loop-k-init c = grown_none c.args.out.now.items
 
 pub loop-k-preserved : goal.loop-k-preserved
 loop-k-preserved c =
-    more_good_texts c.args.kept.now c.loop-k.k-index c.k-item.result c.args.out.now.items c.loop-k-test.true c.loop-k.invariant (subst (λ (k : Kept). Writes (written_face k) c.loop-k.out.items c.face_text.new.out.items) c.k-item.is c.in_ok-face_text.ensures.ok)
+    more_good_texts c.args.kept.now c.loop-k.k-index c.k-item.result c.args.out.now.items c.loop-k-test.true
+    c.loop-k.invariant (subst (λ (k : Kept). Writes (written_face k) c.loop-k.out.items c.face_text.new.out.items)
+    c.k-item.is c.in_ok-face_text.ensures.ok)

@@ -10,4 +10,7 @@ kept z = to_z w32 (of_z w32 z)
 
 pub returns : goal.returns
 returns c =
-    All-set (Small 16777216) (set (replicate 64 (pos 0)) 0 (kept c.from.result)) 1 (kept c.from-2.result) (record { small = omega (arith, ints) }) (All-set (Small 16777216) (replicate 64 (pos 0)) 0 (kept c.from.result) (record { small = omega (arith, ints) }) (All-replicate (Small 16777216) 64 (pos 0) (record { small = omega arith })))
+    All-set (Small 16777216) (set (replicate 64 (pos 0)) 0 (kept c.from.result)) 1 (kept c.from-2.result)
+    (record { small = omega (arith, ints) }) (All-set (Small 16777216) (replicate 64 (pos 0)) 0 (kept c.from.result)
+    (record { small = omega (arith, ints) }) (All-replicate (Small 16777216) 64 (pos 0)
+    (record { small = omega arith })))

@@ -17,7 +17,10 @@ zero_less z = omega (arith, ints)
 pub invariant_of-result : goal.invariant_of-result
 invariant_of-result c =
     let l = c.args.line.now in
-    record { small_n = bounded (l.small_dp & l.small_dq & l.small_d & c.requires & done) 4094 (stored w64 n) tt; small_e = bounded (l.small_dp & l.small_dq & l.small_d & c.requires & done) 25145348 (stored w64 e) tt }
+    record {
+      small_n = bounded (l.small_dp & l.small_dq & l.small_d & c.requires & done) 4094 (stored w64 n) tt;
+      small_e = bounded (l.small_dp & l.small_dq & l.small_d & c.requires & done) 25145348 (stored w64 e) tt;
+    }
 
 pub returns-clause-n : goal.returns-clause-n
 returns-clause-n c = let l = c.args.line.now in exact (l.small_dp & done) (stored w64 n) tt ∙ zero_less l.dp

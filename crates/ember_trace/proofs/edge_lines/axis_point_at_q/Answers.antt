@@ -9,7 +9,11 @@ e = narrow 2 ⊞ stored w64 (narrow 1 ⊠ stored w64 (stored w32 (input 3)))
 pub invariant_of-result : goal.invariant_of-result
 invariant_of-result c =
     let l = c.args.line.now in
-    record { small_n = bounded (l.small_dq & l.small_dp & l.small_d & c.requires & done) 4094 (narrow 0) tt; small_e = bounded (l.small_dq & l.small_dp & l.small_d & c.requires & done) 25145348 (stored w64 e) tt }
+    record {
+      small_n = bounded (l.small_dq & l.small_dp & l.small_d & c.requires & done) 4094 (narrow 0) tt;
+      small_e =
+          bounded (l.small_dq & l.small_dp & l.small_d & c.requires & done) 25145348 (stored w64 e) tt;
+    }
 
 pub returns-clause-e : goal.returns-clause-e
 returns-clause-e c =

@@ -38,15 +38,21 @@ other s p r = solve 3 (λ s p r. neg (s ⊗ p) ≈ s ⊗ (r ⊗ num (pos 0) ⊖ 
 -- the constants
 constant_x : (s : ℤ) (u v : Corner) → s *ℤ (v.z -ℤ u.z) *ℤ u.y -ℤ s *ℤ (v.y -ℤ u.y) *ℤ u.z ≡ (times_plane s (edge_through u v (unit X))).d
 constant_x s u v =
-    solve 7 (λ s a b c d e f. s ⊗ (f ⊖ c) ⊗ b ⊖ s ⊗ (e ⊖ b) ⊗ c ≈ s ⊗ (((e ⊖ b) ⊗ num (pos 0) ⊖ (f ⊖ c) ⊗ num (pos 0)) ⊗ a ⊕ ((f ⊖ c) ⊗ num (pos 1) ⊖ (d ⊖ a) ⊗ num (pos 0)) ⊗ b ⊕ ((d ⊖ a) ⊗ num (pos 0) ⊖ (e ⊖ b) ⊗ num (pos 1)) ⊗ c)) cancels s u.x u.y u.z v.x v.y v.z
+    solve 7 (λ s a b c d e f. s ⊗ (f ⊖ c) ⊗ b ⊖ s ⊗ (e ⊖ b) ⊗ c ≈ s ⊗
+    (((e ⊖ b) ⊗ num (pos 0) ⊖ (f ⊖ c) ⊗ num (pos 0)) ⊗ a ⊕ ((f ⊖ c) ⊗ num (pos 1) ⊖ (d ⊖ a) ⊗ num (pos 0)) ⊗ b ⊕
+    ((d ⊖ a) ⊗ num (pos 0) ⊖ (e ⊖ b) ⊗ num (pos 1)) ⊗ c)) cancels s u.x u.y u.z v.x v.y v.z
 
 constant_y : (s : ℤ) (u v : Corner) → s *ℤ (v.x -ℤ u.x) *ℤ u.z -ℤ s *ℤ (v.z -ℤ u.z) *ℤ u.x ≡ (times_plane s (edge_through u v (unit Y))).d
 constant_y s u v =
-    solve 7 (λ s a b c d e f. s ⊗ (d ⊖ a) ⊗ c ⊖ s ⊗ (f ⊖ c) ⊗ a ≈ s ⊗ (((e ⊖ b) ⊗ num (pos 0) ⊖ (f ⊖ c) ⊗ num (pos 1)) ⊗ a ⊕ ((f ⊖ c) ⊗ num (pos 0) ⊖ (d ⊖ a) ⊗ num (pos 0)) ⊗ b ⊕ ((d ⊖ a) ⊗ num (pos 1) ⊖ (e ⊖ b) ⊗ num (pos 0)) ⊗ c)) cancels s u.x u.y u.z v.x v.y v.z
+    solve 7 (λ s a b c d e f. s ⊗ (d ⊖ a) ⊗ c ⊖ s ⊗ (f ⊖ c) ⊗ a ≈ s ⊗
+    (((e ⊖ b) ⊗ num (pos 0) ⊖ (f ⊖ c) ⊗ num (pos 1)) ⊗ a ⊕ ((f ⊖ c) ⊗ num (pos 0) ⊖ (d ⊖ a) ⊗ num (pos 0)) ⊗ b ⊕
+    ((d ⊖ a) ⊗ num (pos 1) ⊖ (e ⊖ b) ⊗ num (pos 0)) ⊗ c)) cancels s u.x u.y u.z v.x v.y v.z
 
 constant_z : (s : ℤ) (u v : Corner) → s *ℤ (v.y -ℤ u.y) *ℤ u.x -ℤ s *ℤ (v.x -ℤ u.x) *ℤ u.y ≡ (times_plane s (edge_through u v (unit Z))).d
 constant_z s u v =
-    solve 7 (λ s a b c d e f. s ⊗ (e ⊖ b) ⊗ a ⊖ s ⊗ (d ⊖ a) ⊗ b ≈ s ⊗ (((e ⊖ b) ⊗ num (pos 1) ⊖ (f ⊖ c) ⊗ num (pos 0)) ⊗ a ⊕ ((f ⊖ c) ⊗ num (pos 0) ⊖ (d ⊖ a) ⊗ num (pos 1)) ⊗ b ⊕ ((d ⊖ a) ⊗ num (pos 0) ⊖ (e ⊖ b) ⊗ num (pos 0)) ⊗ c)) cancels s u.x u.y u.z v.x v.y v.z
+    solve 7 (λ s a b c d e f. s ⊗ (e ⊖ b) ⊗ a ⊖ s ⊗ (d ⊖ a) ⊗ b ≈ s ⊗
+    (((e ⊖ b) ⊗ num (pos 1) ⊖ (f ⊖ c) ⊗ num (pos 0)) ⊗ a ⊕ ((f ⊖ c) ⊗ num (pos 0) ⊖ (d ⊖ a) ⊗ num (pos 1)) ⊗ b ⊕
+    ((d ⊖ a) ⊗ num (pos 0) ⊖ (e ⊖ b) ⊗ num (pos 0)) ⊗ c)) cancels s u.x u.y u.z v.x v.y v.z
 
 pub overflow_sub-result : goal.overflow_sub-result
 overflow_sub-result c = no_overflow (c.line_through-line.result.small_dp & done) w64 less tt

@@ -16,15 +16,27 @@ seen s i j k l p q w = s *ℤ (l -ℤ j) *ℤ p -ℤ s *ℤ (k -ℤ i) *ℤ q -�
 
 along_x : (s : ℤ) (u v : Corner) (m : Spot) → seen s u.y u.z v.y v.z m.y m.z m.w ≡ value_at (times_plane s (edge_through u v (unit X))) m
 along_x s u v m =
-    solve 11 (λ s a b c d e f x y z w. s ⊗ (f ⊖ c) ⊗ y ⊖ s ⊗ (e ⊖ b) ⊗ z ⊖ (s ⊗ (f ⊖ c) ⊗ b ⊖ s ⊗ (e ⊖ b) ⊗ c) ⊗ w ≈ s ⊗ ((e ⊖ b) ⊗ num (pos 0) ⊖ (f ⊖ c) ⊗ num (pos 0)) ⊗ x ⊕ s ⊗ ((f ⊖ c) ⊗ num (pos 1) ⊖ (d ⊖ a) ⊗ num (pos 0)) ⊗ y ⊕ s ⊗ ((d ⊖ a) ⊗ num (pos 0) ⊖ (e ⊖ b) ⊗ num (pos 1)) ⊗ z ⊖ s ⊗ (((e ⊖ b) ⊗ num (pos 0) ⊖ (f ⊖ c) ⊗ num (pos 0)) ⊗ a ⊕ ((f ⊖ c) ⊗ num (pos 1) ⊖ (d ⊖ a) ⊗ num (pos 0)) ⊗ b ⊕ ((d ⊖ a) ⊗ num (pos 0) ⊖ (e ⊖ b) ⊗ num (pos 1)) ⊗ c) ⊗ w) cancels s u.x u.y u.z v.x v.y v.z m.x m.y m.z m.w
+    solve 11 (λ s a b c d e f x y z w. s ⊗ (f ⊖ c) ⊗ y ⊖ s ⊗ (e ⊖ b) ⊗ z ⊖ (s ⊗ (f ⊖ c) ⊗ b ⊖ s ⊗ (e ⊖ b) ⊗ c) ⊗ w ≈ s ⊗
+    ((e ⊖ b) ⊗ num (pos 0) ⊖ (f ⊖ c) ⊗ num (pos 0)) ⊗ x ⊕ s ⊗ ((f ⊖ c) ⊗ num (pos 1) ⊖ (d ⊖ a) ⊗ num (pos 0)) ⊗ y ⊕ s
+    ⊗ ((d ⊖ a) ⊗ num (pos 0) ⊖ (e ⊖ b) ⊗ num (pos 1)) ⊗ z ⊖ s ⊗
+    (((e ⊖ b) ⊗ num (pos 0) ⊖ (f ⊖ c) ⊗ num (pos 0)) ⊗ a ⊕ ((f ⊖ c) ⊗ num (pos 1) ⊖ (d ⊖ a) ⊗ num (pos 0)) ⊗ b ⊕
+    ((d ⊖ a) ⊗ num (pos 0) ⊖ (e ⊖ b) ⊗ num (pos 1)) ⊗ c) ⊗ w) cancels s u.x u.y u.z v.x v.y v.z m.x m.y m.z m.w
 
 along_y : (s : ℤ) (u v : Corner) (m : Spot) → seen s u.z u.x v.z v.x m.z m.x m.w ≡ value_at (times_plane s (edge_through u v (unit Y))) m
 along_y s u v m =
-    solve 11 (λ s a b c d e f x y z w. s ⊗ (d ⊖ a) ⊗ z ⊖ s ⊗ (f ⊖ c) ⊗ x ⊖ (s ⊗ (d ⊖ a) ⊗ c ⊖ s ⊗ (f ⊖ c) ⊗ a) ⊗ w ≈ s ⊗ ((e ⊖ b) ⊗ num (pos 0) ⊖ (f ⊖ c) ⊗ num (pos 1)) ⊗ x ⊕ s ⊗ ((f ⊖ c) ⊗ num (pos 0) ⊖ (d ⊖ a) ⊗ num (pos 0)) ⊗ y ⊕ s ⊗ ((d ⊖ a) ⊗ num (pos 1) ⊖ (e ⊖ b) ⊗ num (pos 0)) ⊗ z ⊖ s ⊗ (((e ⊖ b) ⊗ num (pos 0) ⊖ (f ⊖ c) ⊗ num (pos 1)) ⊗ a ⊕ ((f ⊖ c) ⊗ num (pos 0) ⊖ (d ⊖ a) ⊗ num (pos 0)) ⊗ b ⊕ ((d ⊖ a) ⊗ num (pos 1) ⊖ (e ⊖ b) ⊗ num (pos 0)) ⊗ c) ⊗ w) cancels s u.x u.y u.z v.x v.y v.z m.x m.y m.z m.w
+    solve 11 (λ s a b c d e f x y z w. s ⊗ (d ⊖ a) ⊗ z ⊖ s ⊗ (f ⊖ c) ⊗ x ⊖ (s ⊗ (d ⊖ a) ⊗ c ⊖ s ⊗ (f ⊖ c) ⊗ a) ⊗ w ≈ s ⊗
+    ((e ⊖ b) ⊗ num (pos 0) ⊖ (f ⊖ c) ⊗ num (pos 1)) ⊗ x ⊕ s ⊗ ((f ⊖ c) ⊗ num (pos 0) ⊖ (d ⊖ a) ⊗ num (pos 0)) ⊗ y ⊕ s
+    ⊗ ((d ⊖ a) ⊗ num (pos 1) ⊖ (e ⊖ b) ⊗ num (pos 0)) ⊗ z ⊖ s ⊗
+    (((e ⊖ b) ⊗ num (pos 0) ⊖ (f ⊖ c) ⊗ num (pos 1)) ⊗ a ⊕ ((f ⊖ c) ⊗ num (pos 0) ⊖ (d ⊖ a) ⊗ num (pos 0)) ⊗ b ⊕
+    ((d ⊖ a) ⊗ num (pos 1) ⊖ (e ⊖ b) ⊗ num (pos 0)) ⊗ c) ⊗ w) cancels s u.x u.y u.z v.x v.y v.z m.x m.y m.z m.w
 
 along_z : (s : ℤ) (u v : Corner) (m : Spot) → seen s u.x u.y v.x v.y m.x m.y m.w ≡ value_at (times_plane s (edge_through u v (unit Z))) m
 along_z s u v m =
-    solve 11 (λ s a b c d e f x y z w. s ⊗ (e ⊖ b) ⊗ x ⊖ s ⊗ (d ⊖ a) ⊗ y ⊖ (s ⊗ (e ⊖ b) ⊗ a ⊖ s ⊗ (d ⊖ a) ⊗ b) ⊗ w ≈ s ⊗ ((e ⊖ b) ⊗ num (pos 1) ⊖ (f ⊖ c) ⊗ num (pos 0)) ⊗ x ⊕ s ⊗ ((f ⊖ c) ⊗ num (pos 0) ⊖ (d ⊖ a) ⊗ num (pos 1)) ⊗ y ⊕ s ⊗ ((d ⊖ a) ⊗ num (pos 0) ⊖ (e ⊖ b) ⊗ num (pos 0)) ⊗ z ⊖ s ⊗ (((e ⊖ b) ⊗ num (pos 1) ⊖ (f ⊖ c) ⊗ num (pos 0)) ⊗ a ⊕ ((f ⊖ c) ⊗ num (pos 0) ⊖ (d ⊖ a) ⊗ num (pos 1)) ⊗ b ⊕ ((d ⊖ a) ⊗ num (pos 0) ⊖ (e ⊖ b) ⊗ num (pos 0)) ⊗ c) ⊗ w) cancels s u.x u.y u.z v.x v.y v.z m.x m.y m.z m.w
+    solve 11 (λ s a b c d e f x y z w. s ⊗ (e ⊖ b) ⊗ x ⊖ s ⊗ (d ⊖ a) ⊗ y ⊖ (s ⊗ (e ⊖ b) ⊗ a ⊖ s ⊗ (d ⊖ a) ⊗ b) ⊗ w ≈ s ⊗
+    ((e ⊖ b) ⊗ num (pos 1) ⊖ (f ⊖ c) ⊗ num (pos 0)) ⊗ x ⊕ s ⊗ ((f ⊖ c) ⊗ num (pos 0) ⊖ (d ⊖ a) ⊗ num (pos 1)) ⊗ y ⊕ s
+    ⊗ ((d ⊖ a) ⊗ num (pos 0) ⊖ (e ⊖ b) ⊗ num (pos 0)) ⊗ z ⊖ s ⊗
+    (((e ⊖ b) ⊗ num (pos 1) ⊖ (f ⊖ c) ⊗ num (pos 0)) ⊗ a ⊕ ((f ⊖ c) ⊗ num (pos 0) ⊖ (d ⊖ a) ⊗ num (pos 1)) ⊗ b ⊕
+    ((d ⊖ a) ⊗ num (pos 0) ⊖ (e ⊖ b) ⊗ num (pos 0)) ⊗ c) ⊗ w) cancels s u.x u.y u.z v.x v.y v.z m.x m.y m.z m.w
 
 -- the same as the code has it; the numbers are s, the two places and the point
 abbrev place : ℕ → Code

@@ -45,7 +45,12 @@ overflow_sub-d c = no_overflow (inputs c) w64 d tt
 
 pub invariant_of-result : goal.invariant_of-result
 invariant_of-result c =
-    record { small_dq = bounded (inputs c) 4094 (stored w64 dq) tt; small_dp = bounded (inputs c) 4094 (stored w64 dp) tt; small_d = bounded (inputs c) 16760836 (stored w64 d) tt }
+    record {
+      small_dq = bounded (inputs c) 4094 (stored w64 dq) tt;
+      small_dp =
+          bounded (inputs c) 4094 (stored w64 dp) tt;
+      small_d = bounded (inputs c) 16760836 (stored w64 d) tt;
+    }
 
 pub returns-clause-dq : goal.returns-clause-dq
 returns-clause-dq c =

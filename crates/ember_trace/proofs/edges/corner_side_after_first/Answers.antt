@@ -12,4 +12,6 @@ returns c =
     let w = c.args.way.now in let u = c.args.u.now in let v = c.args.v.now in let r = c.requires in let k = sym r.axes.second in
     let s = exact (r.s & done) (narrow 0) tt in
     let at = exact (c.coordinate.ensures.small & done) (stored w32 (input 0)) tt ∙ c.coordinate.ensures.value in
-    c.moved_edge_side.ensures (coordinate w.lo w.second_axis) ∙ (λ i. sgn (value_at (slid (slid (times_plane (s i) (edge_through u v (unit (k i)))) (k i) (coordinate w.lo w.second_axis)) w.main (at i)) (spot_of c.args.m.now)))
+    c.moved_edge_side.ensures (coordinate w.lo w.second_axis)
+    ∙ (λ i. sgn (value_at (slid (slid (times_plane (s i) (edge_through u v (unit (k i)))) (k i)
+    (coordinate w.lo w.second_axis)) w.main (at i)) (spot_of c.args.m.now)))

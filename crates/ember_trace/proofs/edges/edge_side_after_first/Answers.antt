@@ -15,4 +15,7 @@ pub returns-in_default : goal.returns-in_default
 returns-in_default c =
     let w = c.args.way.now in let u = c.args.u.now in let v = c.args.v.now in let e = exact (c.requires.s & done) (narrow 0) tt in
     let start = side_at_start w (times_plane c.args.s (edge_through u v (unit w.second_axis))) in
-    or_first c.side_by_corners.result start c.in_default.not-Zero ∙ ap (λ (s : Sign). or_sign s start) (c.side_by_corners.ensures ∙ (λ i. side_at_end w (slid_to_lo w w.main (slid_to_lo w w.second_axis (times_plane (e i) (edge_through u v (unit w.second_axis)))))))
+    or_first c.side_by_corners.result start c.in_default.not-Zero
+    ∙ ap (λ (s : Sign). or_sign s start) (c.side_by_corners.ensures
+    ∙ (λ i. side_at_end w (slid_to_lo w w.main
+    (slid_to_lo w w.second_axis (times_plane (e i) (edge_through u v (unit w.second_axis)))))))

@@ -17,4 +17,6 @@ returns-then-is_behind_edge_at_end-2 c =
     let x = c.is_behind_edge_at_end.ensures ∙ behind t.a t.b in
     let y = c.is_behind_edge_at_end-then-is_behind_edge_at_end.ensures ∙ behind t.b t.c in
     let z = c.is_behind_edge_at_end-then-is_behind_edge_at_end-2.ensures ∙ behind t.c t.a ∙ sym (and_true _) in
-    last_of_three c.is_behind_edge_at_end.result c.is_behind_edge_at_end-then-is_behind_edge_at_end.result c.is_behind_edge_at_end-then-is_behind_edge_at_end-2.result _ c.if-is_behind_edge_at_end.true c.if-is_behind_edge_at_end-2.true (λ i. x i && (y i && z i))
+    last_of_three c.is_behind_edge_at_end.result c.is_behind_edge_at_end-then-is_behind_edge_at_end.result
+    c.is_behind_edge_at_end-then-is_behind_edge_at_end-2.result _ c.if-is_behind_edge_at_end.true
+    c.if-is_behind_edge_at_end-2.true (λ i. x i && (y i && z i))

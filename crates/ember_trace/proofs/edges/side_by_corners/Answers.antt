@@ -16,14 +16,23 @@ moved w u v s = slid_to_lo w w.main (slid_to_lo w w.second_axis (times_plane s (
 pub returns-in_default : goal.returns-in_default
 returns-in_default c =
     let w = c.args.way.now in let u = c.args.u.now in let v = c.args.v.now in let e = exact (c.requires.s & done) (narrow 0) tt in
-    by_first w (moved w u v c.args.s) c.corner_side_after_first.result (c.corner_side_after_first.ensures ∙ (λ i. side_at (moved w u v (e i)) w.first_corner)) c.in_default.not-Zero
+    by_first w (moved w u v c.args.s) c.corner_side_after_first.result
+    (c.corner_side_after_first.ensures ∙ (λ i. side_at (moved w u v (e i)) w.first_corner)) c.in_default.not-Zero
 
 pub returns-in_default-corner_side_after_first : goal.returns-in_default-corner_side_after_first
 returns-in_default-corner_side_after_first c =
     let w = c.args.way.now in let u = c.args.u.now in let v = c.args.v.now in let e = exact (c.requires.s & done) (narrow 0) tt in
-    by_next w (moved w u v c.args.s) c.corner_side_after_first.result c.corner_side_after_first-in-Zero.result (c.corner_side_after_first.ensures ∙ (λ i. side_at (moved w u v (e i)) w.first_corner)) c.in-Zero.is (c.corner_side_after_first-in-Zero.ensures ∙ (λ i. side_at (moved w u v (e i)) w.second_corner)) c.in_default-corner_side_after_first.not-Zero
+    by_next w (moved w u v c.args.s) c.corner_side_after_first.result c.corner_side_after_first-in-Zero.result
+    (c.corner_side_after_first.ensures ∙ (λ i. side_at (moved w u v (e i)) w.first_corner)) c.in-Zero.is
+    (c.corner_side_after_first-in-Zero.ensures ∙ (λ i. side_at (moved w u v (e i)) w.second_corner))
+    c.in_default-corner_side_after_first.not-Zero
 
 pub returns-in-Zero-corner_side_after_first : goal.returns-in-Zero-corner_side_after_first
 returns-in-Zero-corner_side_after_first c =
     let w = c.args.way.now in let u = c.args.u.now in let v = c.args.v.now in let e = exact (c.requires.s & done) (narrow 0) tt in
-    by_last w (moved w u v c.args.s) c.corner_side_after_first.result c.corner_side_after_first-in-Zero.result c.corner_side_after_first-in-Zero-corner_side_after_first.result (c.corner_side_after_first.ensures ∙ (λ i. side_at (moved w u v (e i)) w.first_corner)) c.in-Zero.is (c.corner_side_after_first-in-Zero.ensures ∙ (λ i. side_at (moved w u v (e i)) w.second_corner)) c.in-Zero-corner_side_after_first.is (c.corner_side_after_first-in-Zero-corner_side_after_first.ensures ∙ (λ i. side_at (moved w u v (e i)) w.third_corner))
+    by_last w (moved w u v c.args.s) c.corner_side_after_first.result c.corner_side_after_first-in-Zero.result
+    c.corner_side_after_first-in-Zero-corner_side_after_first.result
+    (c.corner_side_after_first.ensures ∙ (λ i. side_at (moved w u v (e i)) w.first_corner)) c.in-Zero.is
+    (c.corner_side_after_first-in-Zero.ensures ∙ (λ i. side_at (moved w u v (e i)) w.second_corner))
+    c.in-Zero-corner_side_after_first.is (c.corner_side_after_first-in-Zero-corner_side_after_first.ensures
+    ∙ (λ i. side_at (moved w u v (e i)) w.third_corner))

@@ -14,12 +14,17 @@ second_out x y a b r e h t f = f ∙ sym (λ i. (sym e ∙ t) i && ((sym h ∙ f
 
 pub returns-then-is_behind_edge-2 : goal.returns-then-is_behind_edge-2
 returns-then-is_behind_edge-2 c =
-    last_of_three c.is_behind_edge.result c.is_behind_edge-then-is_behind_edge.result c.is_behind_edge-then-is_behind_edge-2.result _ c.if-is_behind_edge.true c.if-is_behind_edge-2.true
-    (all_three (λ (p : Plane). sgn (value_at p (reference_at_list c.args.lo))) c.args.t.now c.args.k _ _ _ _ _ _ refl refl refl (c.is_behind_edge.ensures _ refl) (c.is_behind_edge-then-is_behind_edge.ensures _ refl) (c.is_behind_edge-then-is_behind_edge-2.ensures _ refl))
+    last_of_three c.is_behind_edge.result c.is_behind_edge-then-is_behind_edge.result
+    c.is_behind_edge-then-is_behind_edge-2.result _ c.if-is_behind_edge.true c.if-is_behind_edge-2.true
+    (all_three (λ (p : Plane). sgn (value_at p (reference_at_list c.args.lo))) c.args.t.now c.args.k _ _ _ _ _ _ refl
+    refl refl (c.is_behind_edge.ensures _ refl) (c.is_behind_edge-then-is_behind_edge.ensures _ refl)
+    (c.is_behind_edge-then-is_behind_edge-2.ensures _ refl))
 
 pub returns-else-is_behind_edge-2 : goal.returns-else-is_behind_edge-2
 returns-else-is_behind_edge-2 c =
-    second_out c.is_behind_edge.result c.is_behind_edge-then-is_behind_edge.result _ _ _ (c.is_behind_edge.ensures _ refl) (c.is_behind_edge-then-is_behind_edge.ensures _ refl) c.if-is_behind_edge.true c.if-is_behind_edge-2.false
+    second_out c.is_behind_edge.result c.is_behind_edge-then-is_behind_edge.result _ _ _
+    (c.is_behind_edge.ensures _ refl) (c.is_behind_edge-then-is_behind_edge.ensures _ refl) c.if-is_behind_edge.true
+    c.if-is_behind_edge-2.false
 
 pub returns-else-is_behind_edge : goal.returns-else-is_behind_edge
 returns-else-is_behind_edge c = first_out c.is_behind_edge.result _ _ (c.is_behind_edge.ensures _ refl) c.if-is_behind_edge.false

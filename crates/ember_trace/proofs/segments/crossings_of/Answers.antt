@@ -7,9 +7,13 @@ use Rattle.ember_trace.proofs.segments.crossings_of.Goals as goal
 pub returns-clause-before : goal.returns-clause-before
 unfolding crossing_before
 returns-clause-before c =
-    exact (c.segments_above_wall-both.ensures.small & c.last_segments-last.ensures.small.0 & done) (stored w32 (stored w32 (input 0) ⊞ stored w32 (input 1))) tt ∙ (λ i. c.segments_above_wall-both.ensures.value i +ℤ c.last_segments-last.ensures.before i)
+    exact (c.segments_above_wall-both.ensures.small & c.last_segments-last.ensures.small.0 & done)
+    (stored w32 (stored w32 (input 0) ⊞ stored w32 (input 1))) tt
+    ∙ (λ i. c.segments_above_wall-both.ensures.value i +ℤ c.last_segments-last.ensures.before i)
 
 pub returns-clause-after : goal.returns-clause-after
 unfolding crossing_after
 returns-clause-after c =
-    exact (c.segments_above_wall-both.ensures.small & c.last_segments-last.ensures.small.1 & done) (stored w32 (stored w32 (input 0) ⊞ stored w32 (input 1))) tt ∙ (λ i. c.segments_above_wall-both.ensures.value i +ℤ c.last_segments-last.ensures.after i)
+    exact (c.segments_above_wall-both.ensures.small & c.last_segments-last.ensures.small.1 & done)
+    (stored w32 (stored w32 (input 0) ⊞ stored w32 (input 1))) tt
+    ∙ (λ i. c.segments_above_wall-both.ensures.value i +ℤ c.last_segments-last.ensures.after i)

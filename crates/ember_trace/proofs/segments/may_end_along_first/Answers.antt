@@ -13,4 +13,6 @@ pub returns : goal.returns
 returns c =
     let w = c.args.way.now in let z = floor_at_end w w.first_axis in let at = to_z w32 (of_z w32 c.args.at.now.first) in
     let e = exact (subst (λ (a : ℤ). Small 2048 a) (sym c.requires.first) (root_small z) & done) (stored w32 (input 0)) tt ∙ c.requires.first in
-    c.may_contain.ensures ∙ ap (λ (s : Interval). may_contain s at) (c.interval_at.ensures w.first_axis c.requires.first_index) ∙ contained_in_root c.args.triangle.now w.first_axis at z e
+    c.may_contain.ensures ∙ ap (λ (s : Interval). may_contain s at)
+    (c.interval_at.ensures w.first_axis c.requires.first_index)
+    ∙ contained_in_root c.args.triangle.now w.first_axis at z e

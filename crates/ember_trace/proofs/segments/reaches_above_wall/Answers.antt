@@ -12,5 +12,8 @@ use Rattle.ember_trace.proofs.segments.reaches_above_wall.Goals as goal
 pub returns : goal.returns
 returns c =
     let w = c.args.way.now in let at = to_z w32 (of_z w32 c.args.at.now.start) in
-    let e = exact (subst (λ (a : ℤ). Small 2048 a) (sym c.requires.start) (coordinate_small 2048 w.lo w.main w.small) & done) (stored w32 (input 0)) tt ∙ c.requires.start in
-    c.contains_above.ensures ∙ ap (λ (s : Interval). contains_above s at) (c.interval_at.ensures w.main c.requires.main_index) ∙ ap (λ (z : ℤ). contains_above (interval_along c.args.triangle.now.aabb w.main) z) e
+    let e = exact (subst (λ (a : ℤ). Small 2048 a) (sym c.requires.start) (coordinate_small 2048 w.lo w.main w.small) &
+    done) (stored w32 (input 0)) tt ∙ c.requires.start in
+    c.contains_above.ensures ∙ ap (λ (s : Interval). contains_above s at)
+    (c.interval_at.ensures w.main c.requires.main_index)
+    ∙ ap (λ (z : ℤ). contains_above (interval_along c.args.triangle.now.aabb w.main) z) e

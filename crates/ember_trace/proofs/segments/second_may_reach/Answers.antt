@@ -12,6 +12,11 @@ use Rattle.ember_trace.proofs.segments.second_may_reach.Goals as goal
 
 pub returns : goal.returns
 returns c =
-    let w = c.args.way.now in let z = floor_at_end w w.second_axis in let lo = coordinate w.lo w.second_axis in let at = to_z w32 (of_z w32 c.args.at.now.farthest_second) in
-    let e = exact (subst (λ (a : ℤ). Small 2048 a) (sym c.requires.farthest_second) (farthest_small z lo (coordinate_small 2048 w.lo w.second_axis w.small)) & done) (stored w32 (input 0)) tt ∙ c.requires.farthest_second in
-    c.begins_by.ensures ∙ ap (λ (s : Interval). begins_by s at) (c.interval_at.ensures w.second_axis c.requires.second_index) ∙ begun_in_root c.args.triangle.now w.second_axis at z lo e
+    let w = c.args.way.now in let z = floor_at_end w w.second_axis in let lo = coordinate w.lo w.second_axis in let at =
+    to_z w32 (of_z w32 c.args.at.now.farthest_second) in
+    let e = exact (subst (λ (a : ℤ). Small 2048 a) (sym c.requires.farthest_second)
+    (farthest_small z lo (coordinate_small 2048 w.lo w.second_axis w.small)) & done) (stored w32 (input 0)) tt
+    ∙ c.requires.farthest_second in
+    c.begins_by.ensures ∙ ap (λ (s : Interval). begins_by s at)
+    (c.interval_at.ensures w.second_axis c.requires.second_index)
+    ∙ begun_in_root c.args.triangle.now w.second_axis at z lo e

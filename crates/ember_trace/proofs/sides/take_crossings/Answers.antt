@@ -14,7 +14,9 @@ less_zero {z} s e = sym (exact (s & done) (stored w32 (input 0)) tt) ∙ ap (λ 
 no_more : (counts : List ℤ) (mesh : ℕ) (z : ℤ) → z ≡ pos 0 → counts ≡ with_more counts mesh (neg_ℤ z)
 no_more counts mesh z e =
     let same : (a : ℤ) → a +ℤ neg_ℤ (pos 0) ≡ a = λ a. omega (arith, ints) in
-    sym (ap (λ (y : ℤ). with_more counts mesh (neg_ℤ y)) e ∙ ap (λ (v : ℤ). slice_set counts (mesh - 1) v) (same (slice_index_or counts (mesh - 1) (pos 0))) ∙ set-get_or counts (mesh - 1) (pos 0))
+    sym (ap (λ (y : ℤ). with_more counts mesh (neg_ℤ y)) e
+    ∙ ap (λ (v : ℤ). slice_set counts (mesh - 1) v) (same (slice_index_or counts (mesh - 1) (pos 0)))
+    ∙ set-get_or counts (mesh - 1) (pos 0))
 
 pub returns-then-less-eq0-2-clause-before : goal.returns-then-less-eq0-2-clause-before
 returns-then-less-eq0-2-clause-before c = no_more _ c.args.mesh _ (less_zero c.requires.less_before c.if-less-eq0.true)

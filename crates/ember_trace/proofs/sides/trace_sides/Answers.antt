@@ -25,22 +25,31 @@ take_crossings-requires-clause-room_after c =
 
 pub loop-triangle-preserved : goal.loop-triangle-preserved
 loop-triangle-preserved c =
-    let i = c.loop-triangle.triangle-index in let n = c.args.near.now in let v = c.args.v.now.counts in let w = c.path_to-way.result in let f = c.triangle-item.result in
+    let i = c.loop-triangle.triangle-index in let n = c.args.near.now in let v = c.args.v.now.counts in let w =
+    c.path_to-way.result in let f = c.triangle-item.result in
     let less = c.crossings_of-less.ensures in
     record {
-      before = λ m h. all_within c.take_crossings.new.sides.before.counts (omega arith) (c.take_crossings.ensures.within_before (m + 3 * i) (c.loop-triangle.invariant.before m h));
-      after = λ m h. all_within c.take_crossings.new.sides.after.counts (omega arith) (c.take_crossings.ensures.within_after (m + 3 * i) (c.loop-triangle.invariant.after m h));
-      traced_before = taken_more (crossing_before w) n i f v c.loop-triangle.sides.before.counts _ _ c.loop-triangle-test.true c.triangle-item.is c.loop-triangle.invariant.traced_before less.before c.take_crossings.ensures.before;
-      traced_after = taken_more (crossing_after w) n i f v c.loop-triangle.sides.after.counts _ _ c.loop-triangle-test.true c.triangle-item.is c.loop-triangle.invariant.traced_after less.after c.take_crossings.ensures.after;
+      before = λ m h. all_within c.take_crossings.new.sides.before.counts (omega arith)
+          (c.take_crossings.ensures.within_before (m + 3 * i) (c.loop-triangle.invariant.before m h));
+      after = λ m h. all_within c.take_crossings.new.sides.after.counts (omega arith)
+          (c.take_crossings.ensures.within_after (m + 3 * i) (c.loop-triangle.invariant.after m h));
+      traced_before = taken_more (crossing_before w) n i f v c.loop-triangle.sides.before.counts _ _
+          c.loop-triangle-test.true c.triangle-item.is c.loop-triangle.invariant.traced_before less.before
+          c.take_crossings.ensures.before;
+      traced_after = taken_more (crossing_after w) n i f v c.loop-triangle.sides.after.counts _ _
+          c.loop-triangle-test.true c.triangle-item.is c.loop-triangle.invariant.traced_after less.after
+          c.take_crossings.ensures.after;
     }
 
 pub returns-clause-before : goal.returns-clause-before
 returns-clause-before c = λ m h.
-    let e = c.loop-triangle-test.false in let f = c.loop-triangle.auto.triangle-index-end in all_within c.loop-triangle.sides.before.counts (omega arith) (c.loop-triangle.invariant.before m h)
+    let e = c.loop-triangle-test.false in let f = c.loop-triangle.auto.triangle-index-end in
+    all_within c.loop-triangle.sides.before.counts (omega arith) (c.loop-triangle.invariant.before m h)
 
 pub returns-clause-after : goal.returns-clause-after
 returns-clause-after c = λ m h.
-    let e = c.loop-triangle-test.false in let f = c.loop-triangle.auto.triangle-index-end in all_within c.loop-triangle.sides.after.counts (omega arith) (c.loop-triangle.invariant.after m h)
+    let e = c.loop-triangle-test.false in let f = c.loop-triangle.auto.triangle-index-end in
+    all_within c.loop-triangle.sides.after.counts (omega arith) (c.loop-triangle.invariant.after m h)
 
 pub returns-clause-traced : goal.returns-clause-traced
 returns-clause-traced c =
@@ -57,4 +66,5 @@ returns-clause-traced c =
 pub returns-clause-sides : goal.returns-clause-sides
 returns-clause-sides c = λ reference_sides.
     let near = c.args.near.now in
-    are_sides (map tri_of near) c.args.c.now c.args.v.now.counts c.args.r.now _ near (record { tris = refl; reference_sides = reference_sides }) (returns-clause-traced c)
+    are_sides (map tri_of near) c.args.c.now c.args.v.now.counts c.args.r.now _ near
+    (record { tris = refl; reference_sides = reference_sides }) (returns-clause-traced c)

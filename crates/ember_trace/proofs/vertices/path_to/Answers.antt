@@ -8,5 +8,14 @@ invariant_of-result c =
     record {
       small = c.lo.ensures.small;
       corners = c.are_narrow.ensures;
-      region_corners = ∣ record { corners = ms; are_corners = c.corners-ring_corners.ensures; is_first = slice_get_read ms (length ms) 0 c.index-ring_corners-0.result refl (omega arith) c.index-ring_corners-0.is; is_second = slice_get_read ms (length ms) 1 c.index-ring_corners-1.result refl (omega arith) c.index-ring_corners-1.is; is_third = slice_get_read ms (length ms) 2 c.index-ring_corners-2.result refl (omega arith) c.index-ring_corners-2.is } ∣₁;
+      region_corners = ∣ record {
+        corners = ms;
+        are_corners = c.corners-ring_corners.ensures;
+        is_first =
+            slice_get_read ms (length ms) 0 c.index-ring_corners-0.result refl (omega arith) c.index-ring_corners-0.is;
+        is_second = slice_get_read ms (length ms) 1 c.index-ring_corners-1.result refl (omega arith)
+            c.index-ring_corners-1.is;
+        is_third = slice_get_read ms (length ms) 2 c.index-ring_corners-2.result refl
+            (omega arith) c.index-ring_corners-2.is;
+      } ∣₁;
     }

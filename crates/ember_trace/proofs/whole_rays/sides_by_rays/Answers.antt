@@ -21,8 +21,10 @@ loop-t-preserved c =
     record {
       before = c.add_count.ensures.within i c.loop-t.invariant.before;
       after = c.add_count-in-loop-t.ensures.within i c.loop-t.invariant.after;
-      counted_before = ray_counts_more (λ t. ray_before t c.main_axis-k.result a b d) ts i _ _ c.loop-t.before.counts _ _ c.loop-t-test.true c.loop-t.invariant.counted_before before c.add_count.ensures.value;
-      counted_after = ray_counts_more (λ t. ray_after t c.main_axis-k.result a b d) ts i _ _ c.loop-t.after.counts _ _ c.loop-t-test.true c.loop-t.invariant.counted_after after c.add_count-in-loop-t.ensures.value;
+      counted_before = ray_counts_more (λ t. ray_before t c.main_axis-k.result a b d) ts i _ _ c.loop-t.before.counts _
+          _ c.loop-t-test.true c.loop-t.invariant.counted_before before c.add_count.ensures.value;
+      counted_after = ray_counts_more (λ t. ray_after t c.main_axis-k.result a b d) ts i _ _ c.loop-t.after.counts _ _
+          c.loop-t-test.true c.loop-t.invariant.counted_after after c.add_count-in-loop-t.ensures.value;
     }
 
 pub returns-clause-ray_counts : goal.returns-clause-ray_counts
@@ -42,8 +44,14 @@ returns-clause-ray_counts c =
       is_first = slice_get_read ms (length ms) 0 a refl (omega arith) c.index-corners-0.is;
       is_second = slice_get_read ms (length ms) 1 b refl (omega arith) c.index-corners-1.is;
       is_third = slice_get_read ms (length ms) 2 d refl (omega arith) c.index-corners-2.is;
-      before = c.loop-t.invariant.counted_before ∙ ap (λ (k : Axis). ray_counts (λ t. ray_before t k a b d) (take c.loop-t.t-index ts) (replicate 64 (pos 0))) main ∙ ap (λ (us : List Tri). ray_counts (λ t. ray_before t (main_axis c.args.r.now.support) a b d) us (replicate 64 (pos 0))) all;
-      after = c.loop-t.invariant.counted_after ∙ ap (λ (k : Axis). ray_counts (λ t. ray_after t k a b d) (take c.loop-t.t-index ts) (replicate 64 (pos 0))) main ∙ ap (λ (us : List Tri). ray_counts (λ t. ray_after t (main_axis c.args.r.now.support) a b d) us (replicate 64 (pos 0))) all;
+      before = c.loop-t.invariant.counted_before
+          ∙ ap (λ (k : Axis). ray_counts (λ t. ray_before t k a b d) (take c.loop-t.t-index ts) (replicate 64 (pos 0)))
+          main ∙ ap (λ (us : List Tri). ray_counts (λ t. ray_before t (main_axis c.args.r.now.support) a b d) us
+          (replicate 64 (pos 0))) all;
+      after = c.loop-t.invariant.counted_after ∙ ap (λ (k : Axis). ray_counts (λ t. ray_after t k a b d)
+          (take c.loop-t.t-index ts) (replicate 64 (pos 0))) main
+          ∙ ap (λ (us : List Tri). ray_counts (λ t. ray_after t (main_axis c.args.r.now.support) a b d) us
+          (replicate 64 (pos 0))) all;
     }
 
 pub returns-clause-sides : goal.returns-clause-sides

@@ -4,7 +4,9 @@ use Rattle.ember_triangles.proofs.boundaries.boundaries_of.Goals as goal
 pub loop-first-preserved : goal.loop-first-preserved
 loop-first-preserved c =
     let split = c.split_at in
-    next_line c.args.by_line.now c.loop-first.boundaries.segments.items c.push_line.new.boundaries.segments.items c.loop-first.rest.now split.result.0.now split.result.1.now split.ensures.by_index.0 c.in_ok-push_line.ensures c.loop-first.invariant
+    next_line c.args.by_line.now c.loop-first.boundaries.segments.items c.push_line.new.boundaries.segments.items
+    c.loop-first.rest.now split.result.0.now split.result.1.now split.ensures.by_index.0 c.in_ok-push_line.ensures
+    c.loop-first.invariant
 
 pub returns : goal.returns
 returns c =

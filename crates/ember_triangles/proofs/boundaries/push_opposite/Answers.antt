@@ -7,4 +7,5 @@ use Rattle.ember_triangles.proofs.boundaries.push_opposite.Goals as goal
 pub returns : goal.returns
 returns c =
     let s = c.args.first.now in let t = c.args.second.now in let old = c.args.boundaries.now.segments.items in
-    subst (AddsBoundary old (s ∷ t ∷ [])) (sym (c.in_ok-push-2.ensures.items ∙ ap (λ (ss : List Segment). ss ++ t ∷ []) c.in_ok-push.ensures.items)) (both_stay old s t)
+    subst (AddsBoundary old (s ∷ t ∷ [])) (sym (c.in_ok-push-2.ensures.items
+    ∙ ap (λ (ss : List Segment). ss ++ t ∷ []) c.in_ok-push.ensures.items)) (both_stay old s t)

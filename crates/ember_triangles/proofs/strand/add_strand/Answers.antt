@@ -17,9 +17,15 @@ remove-requires c =
 pub returns : goal.returns
 returns c =
     λ plane. let ss = c.args.strands.now.items in let place = c.partition_point-place.result in
-    let there : slice_get ss place ≡ Some c.in-Some.s = subst (λ (ss : List Strand). slice_get ss place ≡ Some c.in-Some.s) c.deref-2.ensures.value (sym c.strand_at.ensures ∙ c.in-Some.is) in
-    instead (coefficient plane ss) (coefficient plane c.remove.new.self.items) (sign_in plane c.in-Some.s) (sign_in plane c.args.strand) (ap (λ (z : ℤ). z +ℤ sign_in plane c.in-Some.s) (ap (coefficient plane) c.remove.ensures.by_index.2) ∙ total-remove (sign_in plane) ss place c.in-Some.s there) (c.cancel.ensures plane c.if-cancel.true)
+    let there : slice_get ss place ≡ Some c.in-Some.s =
+    subst (λ (ss : List Strand). slice_get ss place ≡ Some c.in-Some.s) c.deref-2.ensures.value
+    (sym c.strand_at.ensures ∙ c.in-Some.is) in
+    instead (coefficient plane ss) (coefficient plane c.remove.new.self.items) (sign_in plane c.in-Some.s)
+    (sign_in plane c.args.strand) (ap (λ (z : ℤ). z +ℤ sign_in plane c.in-Some.s)
+    (ap (coefficient plane) c.remove.ensures.by_index.2) ∙ total-remove (sign_in plane) ss place c.in-Some.s there)
+    (c.cancel.ensures plane c.if-cancel.true)
 
 pub returns-2 : goal.returns-2
 returns-2 c =
-    λ plane. ap (coefficient plane) c.in_ok-insert.ensures.items ∙ total-insert (sign_in plane) c.args.strands.now.items c.partition_point-place.result c.args.strand
+    λ plane. ap (coefficient plane) c.in_ok-insert.ensures.items
+    ∙ total-insert (sign_in plane) c.args.strands.now.items c.partition_point-place.result c.args.strand

@@ -13,10 +13,15 @@ none_left t f s e g = omega (arith, linear, e, g)
 
 pub loop-strand-preserved : goal.loop-strand-preserved
 loop-strand-preserved c =
-    λ plane. moved (coefficient plane c.loop-strand.from.items) (coefficient plane c.loop-strand.to.items) (coefficient plane c.pop.new.self.items) (coefficient plane c.add_strand.new.strands.items) (sign_in plane c.in-Some.strand) _ (c.loop-strand.invariant plane) (total-push (sign_in plane) c.pop.new.self.items c.loop-strand.from.items c.in-Some.strand c.in-Some.ensures.items) (c.in_ok-add_strand.ensures plane)
+    λ plane. moved (coefficient plane c.loop-strand.from.items) (coefficient plane c.loop-strand.to.items)
+    (coefficient plane c.pop.new.self.items) (coefficient plane c.add_strand.new.strands.items)
+    (sign_in plane c.in-Some.strand) _ (c.loop-strand.invariant plane)
+    (total-push (sign_in plane) c.pop.new.self.items c.loop-strand.from.items c.in-Some.strand
+    c.in-Some.ensures.items) (c.in_ok-add_strand.ensures plane)
 
 pub returns-clause-moved : goal.returns-clause-moved
 returns-clause-moved c =
     let none : c.pop.new.self.items ≡ [] = search rules in
     let empty = c.in_default.ensures.items ∙ append-nil c.pop.new.self.items ∙ none in
-    λ plane. none_left (coefficient plane c.loop-strand.to.items) (coefficient plane c.loop-strand.from.items) _ (c.loop-strand.invariant plane) (ap (coefficient plane) empty)
+    λ plane. none_left (coefficient plane c.loop-strand.to.items) (coefficient plane c.loop-strand.from.items) _
+    (c.loop-strand.invariant plane) (ap (coefficient plane) empty)

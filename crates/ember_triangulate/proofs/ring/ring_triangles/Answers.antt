@@ -10,4 +10,5 @@ returns-in-Some c =
 
 pub returns : goal.returns
 returns c =
-    All-same (HasCornersOf c.args.boundary.now) c.in_ok-both.both.items c.in-Some-better_halves.two c.in_ok-both.ensures.items (c.in-Some-better_halves.ensures c.args.boundary.now c.in-Some-quadrangle_of.ensures)
+    All-same (HasCornersOf c.args.boundary.now) c.in_ok-both.both.items c.in-Some-better_halves.two
+    c.in_ok-both.ensures.items (c.in-Some-better_halves.ensures c.args.boundary.now c.in-Some-quadrangle_of.ensures)

@@ -16,10 +16,16 @@ returns-in_err-soup-clause-no_reply g c =
     let shelf = shelf_call g.S.Shelf.contents g.S.Shelf.faults g.S.Shelf.fault_at a.shelf.now c.read_file.new.shelf in
     passed_on (IsNoReply (λ contents. faces_verdict a.places (file_at contents 1)) (a.file.now ∷ []) shelf) _ _ c.from_residual.ensures.1
     (subst (λ (name : List ℕ). IsNoReply (λ contents. faces_verdict a.places (file_at contents 1)) (name ∷ []) shelf c.in_err-soup.field-0.0) c.as_str.ensures
-    (face_file_is_no_reply a.places _ shelf c.in_err-soup.field-0.0 e.refused e.refused_read e.file e.memory (λ i f. e.read_fault i (ap Err f)) (λ f. e.never.0 (ap Err f), λ f. e.never.1 (ap Err f), λ f. e.never.2 (ap Err f))))
+    (face_file_is_no_reply a.places _ shelf c.in_err-soup.field-0.0 e.refused e.refused_read e.file e.memory
+    (λ i f. e.read_fault i (ap Err f)) (
+      λ f. e.never.0 (ap Err f),
+      λ f. e.never.1 (ap Err f),
+      λ f. e.never.2 (ap Err f),
+    )))
 
 pub returns-clause-text_read : goal.returns-clause-text_read
 returns-clause-text_read g c =
     let a = c.args in let told = g.S.Shelf.contents a.shelf.now in let text = c.in_ok-faces_text.field-0.items in
     subst (λ (name : List ℕ). MayHold told (name ∷ []) (λ contents. IsTextIfTold (faces_verdict a.places (file_at contents 1)) text)) c.as_str.ensures
-    (faces_held told _ a.places _ text c.in_ok-soup.ensures.ok_read (subst (λ (tris : List Tri). IsFaceFileOf tris text) c.items.ensures c.in_ok-faces_text.ensures))
+    (faces_held told _ a.places _ text c.in_ok-soup.ensures.ok_read
+    (subst (λ (tris : List Tri). IsFaceFileOf tris text) c.items.ensures c.in_ok-faces_text.ensures))

@@ -8,7 +8,13 @@ use Rattle.ember_verdict.proofs.scene.read_parts.Goals as goal
 pub returns-in-Err-clause-no_reply : goal.returns-in-Err-clause-no_reply
 returns-in-Err-clause-no_reply g c =
     let l = c.loop-file.invariant in let e = c.in-Err.ensures in
-    part_is_no_reply _ _ _ _ _ _ _ _ _ _ c.loop-file-test.true l.parts l.parts_read l.contents l.number (c.as_str.ensures ∙ c.file-item.is) e.refused_read e.refused e.file (λ i f. let a = e.read_fault i (ap Err f) in (a.0, has_risen_later _ _ _ l.later a.1, a.2)) e.memory (λ f. e.never.0 (ap Err f), λ f. e.never.1 (ap Err f), λ f. e.never.2 (ap Err f))
+    part_is_no_reply _ _ _ _ _ _ _ _ _ _ c.loop-file-test.true l.parts l.parts_read l.contents l.number
+    (c.as_str.ensures ∙ c.file-item.is) e.refused_read e.refused e.file (λ i f. let a = e.read_fault i (ap Err f) in
+    (a.0, has_risen_later _ _ _ l.later a.1, a.2)) e.memory (
+      λ f. e.never.0 (ap Err f),
+      λ f. e.never.1 (ap Err f),
+      λ f. e.never.2 (ap Err f),
+    )
 
 pub returns-in_err-push-clause-no_reply : goal.returns-in_err-push-clause-no_reply
 returns-in_err-push-clause-no_reply g c =
@@ -22,6 +28,8 @@ loop-file-preserved g c =
       contents = e.contents ∙ l.contents;
       later = omega arith;
       number = omega arith;
-      parts = more_parts _ _ _ _ _ _ _ _ _ _ _ c.loop-file-test.true l.parts l.contents l.number (c.as_str.ensures ∙ c.file-item.is) c.in_ok-push.ensures.items e.number e.ok;
-      parts_read = more_held_parts _ _ _ _ _ _ _ _ _ _ _ c.loop-file-test.true l.parts_read l.contents l.number (c.as_str.ensures ∙ c.file-item.is) c.in_ok-push.ensures.items e.number e.ok_read;
+      parts = more_parts _ _ _ _ _ _ _ _ _ _ _ c.loop-file-test.true l.parts l.contents l.number
+          (c.as_str.ensures ∙ c.file-item.is) c.in_ok-push.ensures.items e.number e.ok;
+      parts_read = more_held_parts _ _ _ _ _ _ _ _ _ _ _ c.loop-file-test.true l.parts_read l.contents l.number
+          (c.as_str.ensures ∙ c.file-item.is) c.in_ok-push.ensures.items e.number e.ok_read;
     }

@@ -14,14 +14,23 @@ returns-in-Err-clause-no_reply g c =
     let a = c.args in let e = c.in-Err.ensures in
     let shelf = shelf_call g.S.Shelf.contents g.S.Shelf.faults g.S.Shelf.fault_at a.shelf.now c.read_bytes.new.shelf in
     subst (λ (name : List ℕ). IsNoReply (λ contents. slice_verdict a.at (file_at contents 1)) (name ∷ []) shelf c.in-Err.status) c.as_str.ensures
-    (unread_slice_is_no_reply a.at _ shelf c.in-Err.status e.refused e.refused_read e.file e.memory (λ i f. e.read_fault i (ap Err f)) (λ f. e.never.0 (ap Err f), λ f. e.never.1 (ap Err f), λ f. e.never.2 (ap Err f)))
+    (unread_slice_is_no_reply a.at _ shelf c.in-Err.status e.refused e.refused_read e.file e.memory
+    (λ i f. e.read_fault i (ap Err f)) (
+      λ f. e.never.0 (ap Err f),
+      λ f. e.never.1 (ap Err f),
+      λ f. e.never.2 (ap Err f),
+    ))
 
 pub returns-clause-text_read : goal.returns-clause-text_read
 returns-clause-text_read g c =
     let a = c.args in let e = c.in-Ok.ensures in let told = g.S.Shelf.contents a.shelf.now in let is = sym c.deref.ensures.value in
     let level : to_z w32 (of_z w32 a.at) ≡ a.at = search rules in
-    subst (λ (name : List ℕ). IfOk c.slice_of.result (λ text. MayHold told (name ∷ []) (λ contents. IsTextIfTold (slice_verdict a.at (file_at contents 1)) text.items))) c.as_str.ensures
-    (slice_held_if told _ a.at _ c.slice_of.result (subst (λ (bytes : List ℕ). Tells (told c.as_str.result.now) bytes) is e.ok_read) (subst (λ (bytes : List ℕ). length bytes ≤ 268435456) is e.few)
+    subst (λ (name : List ℕ). IfOk c.slice_of.result
+    (λ text. MayHold told (name ∷ []) (λ contents. IsTextIfTold (slice_verdict a.at (file_at contents 1))
+    text.items))) c.as_str.ensures
+    (slice_held_if told _ a.at _ c.slice_of.result
+    (subst (λ (bytes : List ℕ). Tells (told c.as_str.result.now) bytes) is e.ok_read)
+    (subst (λ (bytes : List ℕ). length bytes ≤ 268435456) is e.few)
     (subst (λ (at : ℤ). IfOk c.slice_of.result (λ text. IsSlice at c.deref.result.now text.items)) level c.slice_of.ensures.text))
 
 pub returns-clause-no_reply : goal.returns-clause-no_reply
@@ -30,5 +39,8 @@ returns-clause-no_reply g c =
     let level : to_z w32 (of_z w32 a.at) ≡ a.at = search rules in
     let shelf = shelf_call g.S.Shelf.contents g.S.Shelf.faults g.S.Shelf.fault_at a.shelf.now c.read_bytes.new.shelf in
     subst (λ (name : List ℕ). IfErr c.slice_of.result (IsNoReply (λ contents. slice_verdict a.at (file_at contents 1)) (name ∷ []) shelf)) c.as_str.ensures
-    (slice_is_no_reply_if a.at _ _ shelf c.slice_of.result (subst (λ (bytes : List ℕ). Tells (shelf.told c.as_str.result.now) bytes) is e.ok_read) (subst (λ (bytes : List ℕ). length bytes ≤ 268435456) is e.few)
-    (subst (λ (at : ℤ). IfErr c.slice_of.result (λ status. is_refusal status ≡ true → IsSliceRefusal at c.deref.result.now status)) level s.refused) s.no_read_fault s.never)
+    (slice_is_no_reply_if a.at _ _ shelf c.slice_of.result
+    (subst (λ (bytes : List ℕ). Tells (shelf.told c.as_str.result.now) bytes) is e.ok_read)
+    (subst (λ (bytes : List ℕ). length bytes ≤ 268435456) is e.few)
+    (subst (λ (at : ℤ). IfErr c.slice_of.result (λ status. is_refusal status ≡ true →
+    IsSliceRefusal at c.deref.result.now status)) level s.refused) s.no_read_fault s.never)

@@ -12,7 +12,8 @@ near_list-requires c = let a = all_places c.args.s.now.tris in
 
 pub returns-clause-valid : goal.returns-clause-valid
 returns-clause-valid c = record {
-  list = c.of.ensures ∙ c.in_ok-list.ensures ∙ ap (λ is. near_indices c.args.s.now.tris c.root-root.result is) (c.deref.ensures.value ∙ c.in_ok-all.ensures ∙ ap (λ ts. all_indices ts) c.items.ensures);
+  list = c.of.ensures ∙ c.in_ok-list.ensures ∙ ap (λ is. near_indices c.args.s.now.tris c.root-root.result is)
+      (c.deref.ensures.value ∙ c.in_ok-all.ensures ∙ ap (λ ts. all_indices ts) c.items.ensures);
   at = sym (ap (λ b. vector_at c.args.s.now.tris b) c.root-root.ensures ∙ root_is_outside c.args.s.now.tris c.args.s.now.meshes c.args.s.now.kept);
 }
 

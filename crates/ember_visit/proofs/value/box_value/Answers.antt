@@ -28,9 +28,12 @@ unfolding box_value
 returns-clause-value c = c.known.ensures.same (has_mesh (listed c.args.s.now.tris c.args.job.now.list)) (same_meshes c)
 
 -- the law for one set of undecided meshes is that for another with the same meshes
-other_set : (u w : ℕ → Bool) (counts : List ℤ) (f : Formula) (o : Option Bool) → ((n : ℕ) → IsMeshNumber 64 n → u n ≡ w n) → IfSome o (λ b. (others : List ℤ) → AgreeOutside u counts others → truth others f ≡ b) → IfSome o (λ b. (others : List ℤ) → AgreeOutside w counts others → truth others f ≡ b)
+other_set : (u w : ℕ → Bool) (counts : List ℤ) (f : Formula) (o : Option Bool) →
+    ((n : ℕ) → IsMeshNumber 64 n → u n ≡ w n) → IfSome o (λ b. (others : List ℤ) → AgreeOutside u counts others →
+    truth others f ≡ b) → IfSome o (λ b. (others : List ℤ) → AgreeOutside w counts others → truth others f ≡ b)
 other_set u w counts f None same law = law
 other_set u w counts f (Some b) same law = λ others agree. law others (record { same = λ n fit e. agree.same n fit (sym (same n fit) ∙ e) })
 
 pub returns-clause-law : goal.returns-clause-law
-returns-clause-law c = other_set (is_in c.meshes_of.result.0) (has_mesh (listed c.args.s.now.tris c.args.job.now.list)) c.args.job.now.at.counts (formula_of c.args.e.now) c.known.result (same_meshes c) c.known.ensures.law
+returns-clause-law c = other_set (is_in c.meshes_of.result.0) (has_mesh (listed c.args.s.now.tris c.args.job.now.list))
+    c.args.job.now.at.counts (formula_of c.args.e.now) c.known.result (same_meshes c) c.known.ensures.law

@@ -16,4 +16,6 @@ loop-i-preserved c n fit =
     let tris = c.args.tris.now in let list = c.args.list.now in let k = c.loop-i.i-index in
     let mesh = (tri_at tris (slice_index_or list k 0)).mesh in
     let rest = at_drop_more (λ is. has_mesh (listed tris is) n) list k 0 c.loop-i-test.true in
-    (λ i. c.with-meshes.ensures n fit i || has_mesh (listed tris (drop (k + 1) list)) n) ∙ moved (n == mesh) (is_in c.loop-i.meshes.0 n) (has_mesh (listed tris (drop (k + 1) list)) n) ∙ ap (λ b. is_in c.loop-i.meshes.0 n || b) (sym rest) ∙ c.loop-i.invariant n fit
+    (λ i. c.with-meshes.ensures n fit i || has_mesh (listed tris (drop (k + 1) list)) n)
+    ∙ moved (n == mesh) (is_in c.loop-i.meshes.0 n) (has_mesh (listed tris (drop (k + 1) list)) n)
+    ∙ ap (λ b. is_in c.loop-i.meshes.0 n || b) (sym rest) ∙ c.loop-i.invariant n fit

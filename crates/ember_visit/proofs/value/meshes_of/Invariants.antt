@@ -6,4 +6,5 @@ use Rattle.ember_visit.specs.Values.{has_mesh}
 use Rattle.ember_visit.proofs.value.meshes_of.Given as goal
 
 abbrev pub invariant-loop-i : goal.invariant-loop-i
-invariant-loop-i l = (n : ℕ) → IsMeshNumber 64 n → (is_in l.meshes.0 n || has_mesh (listed l.tris (drop l.i-index l.list)) n) ≡ has_mesh (listed l.tris l.list) n
+invariant-loop-i l = (n : ℕ) → IsMeshNumber 64 n →
+    (is_in l.meshes.0 n || has_mesh (listed l.tris (drop l.i-index l.list)) n) ≡ has_mesh (listed l.tris l.list) n

@@ -6,7 +6,9 @@ use Rattle.ember_voxel.proofs.grid.cells_before.Goals as goal
 pub returns-clause-bound : goal.returns-clause-bound
 returns-clause-bound c =
     let d = 2 ^ c.args.size in let x = c.args.x in
-    subst (λ s. (x + (s - 1)) / d ≤ 2 ^ (12 - c.args.size)) (sym (one_shl c.args.size 64 (omega arith))) (rounded_within d (pow_pos c.args.size) x (2 ^ (12 - c.args.size)) (omega (arith, c.requires.x, all_cells c.args.size c.requires.size)))
+    subst (λ s. (x + (s - 1)) / d ≤ 2 ^ (12 - c.args.size)) (sym (one_shl c.args.size 64 (omega arith)))
+    (rounded_within d (pow_pos c.args.size) x (2 ^ (12 - c.args.size))
+    (omega (arith, c.requires.x, all_cells c.args.size c.requires.size)))
 
 pub returns-clause-below : goal.returns-clause-below
 returns-clause-below c = λ i.

@@ -6,7 +6,9 @@ use Rattle.ember_voxel.proofs.grid.extent_along.Goals as goal
 
 pub returns-clause-extent : goal.returns-clause-extent
 returns-clause-extent c = record {
-  order = in_order (2 ^ c.args.size) c.offset-low.result (c.offset-low.result + 1 * 2 ^ c.log.result % 18446744073709551616) c.cells_before.result c.cells_before-2.result (omega arith) c.cells_before.ensures.from c.cells_before-2.ensures.from;
+  order = in_order (2 ^ c.args.size) c.offset-low.result
+      (c.offset-low.result + 1 * 2 ^ c.log.result % 18446744073709551616) c.cells_before.result c.cells_before-2.result
+      (omega arith) c.cells_before.ensures.from c.cells_before-2.ensures.from;
   bound = c.cells_before-2.ensures.bound;
 }
 
@@ -19,5 +21,7 @@ returns-clause-cells c = λ i.
     let small : c.log.result < 64 = omega (arith, c.log.ensures, c.offset-low.ensures.log) in
     let side : 1 * 2 ^ c.log.result % 18446744073709551616 ≡ 2 ^ log = one_shl c.log.result 64 small ∙ ap (λ l. 2 ^ l) c.log.ensures in
     let from = c.cells_before.ensures.from i ∙ box_begins_at low c.offset-low.result n c.offset-low.ensures.value in
-    let until = c.cells_before-2.ensures.below i ∙ box_ends_at low (pos (2 ^ log)) y n (further low c.offset-low.result (1 * 2 ^ c.log.result % 18446744073709551616) (2 ^ log) c.offset-low.ensures.value side) in
+    let until = c.cells_before-2.ensures.below i
+    ∙ box_ends_at low (pos (2 ^ log)) y n (further low c.offset-low.result
+    (1 * 2 ^ c.log.result % 18446744073709551616) (2 ^ log) c.offset-low.ensures.value side) in
     λ t. from t && until t

@@ -8,12 +8,15 @@ loop-i-init c = row_none c.args.n c.args.r c.args.x.now.from c.args.rows.now
 
 pub loop-i-preserved : goal.loop-i-preserved
 loop-i-preserved c =
-    row_more c.args.n c.args.r c.args.x.now.from c.loop-i.i c.row_start-start.result c.args.rows.now c.loop-i.rows c.row_start-start.ensures.value (omega arith) (omega (arith, c.requires.x.bound)) (omega (arith, c.row_start-start.ensures.bound, c.requires.x.bound, c.requires.size)) c.loop-i.invariant
+    row_more c.args.n c.args.r c.args.x.now.from c.loop-i.i c.row_start-start.result c.args.rows.now c.loop-i.rows
+    c.row_start-start.ensures.value (omega arith) (omega (arith, c.requires.x.bound))
+    (omega (arith, c.row_start-start.ensures.bound, c.requires.x.bound, c.requires.size)) c.loop-i.invariant
 
 pub returns-clause-cells : goal.returns-clause-cells
 returns-clause-cells c = λ q k l.
     let e : c.loop-i.i ≡ c.args.x.now.end = omega (arith, c.requires.x.order) in
-    c.loop-i.invariant.cells q k l ∙ ap (λ i. if q == c.args.r && (nat_le c.args.x.now.from k && nat_lt k i) then 49 else char_at c.args.n c.args.rows.now q k) e
+    c.loop-i.invariant.cells q k l ∙ ap (λ i. if q == c.args.r
+    && (nat_le c.args.x.now.from k && nat_lt k i) then 49 else char_at c.args.n c.args.rows.now q k) e
 
 pub returns-clause-feeds : goal.returns-clause-feeds
 returns-clause-feeds c = c.loop-i.invariant.feeds

@@ -13,12 +13,16 @@ pub bit_of-requires-clause-counts : goal.bit_of-requires-clause-counts
 bit_of-requires-clause-counts c = counts_within c.args.s.now.tris c.args.job.now c.requires.job 16777216 (omega arith) c.args.s.now.kept.few
 
 pub returns-in-Some : goal.returns-in-Some
-returns-in-Some c =
-    (leaf_by c.args.s.now.tris (formula_of c.args.e.now) c.args.size c.args.job.now c.in-Some.ensures.ends, λ i. record { cell = c.copy.ensures i; bit = c.in-Some.ensures.bit i })
+returns-in-Some c = (
+  leaf_by c.args.s.now.tris (formula_of c.args.e.now) c.args.size c.args.job.now c.in-Some.ensures.ends,
+  λ i. record { cell = c.copy.ensures i; bit = c.in-Some.ensures.bit i },
+)
 
 pub halve_job-requires-clause-side : goal.halve_job-requires-clause-side
 halve_job-requires-clause-side c =
-    subst (λ k. 0 < c.args.job.now.cell.log k) (sym c.longest.ensures) (may_halve c.args.s.now.tris (formula_of c.args.e.now) c.args.size c.args.job.now c.requires c.in-None.ensures.ends)
+    subst (λ k. 0 < c.args.job.now.cell.log k) (sym c.longest.ensures)
+    (may_halve c.args.s.now.tris (formula_of c.args.e.now) c.args.size c.args.job.now c.requires
+    c.in-None.ensures.ends)
 
 pub halve_job-requires-clause-places : goal.halve_job-requires-clause-places
 halve_job-requires-clause-places c = job_places c.args.s.now.tris c.args.job.now c.requires.job
@@ -32,5 +36,7 @@ halve_job-requires-clause-room c = counts_within c.args.s.now.tris c.args.job.no
 pub returns-in_ok-left-in-None : goal.returns-in_ok-left-in-None
 returns-in_ok-left-in-None c =
     let ts = c.args.s.now.tris in let j = c.args.job.now in
-    let h : AreHalfJobs ts j (longest j.cell) c.in_ok-left-in-None.left c.in_ok-left-in-None.right = subst (λ k. AreHalfJobs ts j k c.in_ok-left-in-None.left c.in_ok-left-in-None.right) c.longest.ensures c.in_ok-left-in-None.ensures in
+    let h : AreHalfJobs ts j (longest j.cell) c.in_ok-left-in-None.left c.in_ok-left-in-None.right =
+    subst (λ k. AreHalfJobs ts j k c.in_ok-left-in-None.left c.in_ok-left-in-None.right) c.longest.ensures
+    c.in_ok-left-in-None.ensures in
     halved_by ts (formula_of c.args.e.now) c.args.size j c.in_ok-left-in-None.left c.in_ok-left-in-None.right c.in-None.ensures.ends h.is_left h.is_right

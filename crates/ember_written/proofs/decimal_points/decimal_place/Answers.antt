@@ -17,8 +17,11 @@ pub returns-clause-far : goal.returns-clause-far
 returns-clause-far c =
     let r = c.exact_place-place.result in
     let below : size_of r.numerator.size < size_of c.product-limit.result = search rules in
-    let short : size_of r.numerator.size < r.denominator * 10 ^ 21 = omega (arith, below, c.product-limit.ensures) in
-    (λ e. absurd (cc e), λ h. absurd (not_long r (place_of c.args.step.now c.args.offset.now c.args.axis c.args.corner.now) c.exact_place-place.ensures short h))
+    let short : size_of r.numerator.size < r.denominator * 10 ^ 21 = omega (arith, below, c.product-limit.ensures) in (
+      λ e. absurd (cc e),
+      λ h. absurd (not_long r
+          (place_of c.args.step.now c.args.offset.now c.args.axis c.args.corner.now) c.exact_place-place.ensures short h),
+    )
 
 pub returns-clause-units : goal.returns-clause-units
 returns-clause-units c =

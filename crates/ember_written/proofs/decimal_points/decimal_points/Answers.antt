@@ -9,4 +9,6 @@ returns-in_default-clause-fault c =
 
 pub loop-corner-preserved : goal.loop-corner-preserved
 loop-corner-preserved c =
-    points_more (decimal_point c.args.places c.args.step.now c.args.offset.now) c.args.corners.now c.loop-corner.corner-index c.corner-item.result c.loop-corner.points.items c.push.new.self.items c.in-Some.point c.loop-corner-test.true c.corner-item.is c.in-Some.ensures c.loop-corner.invariant c.in_ok-push.ensures.items
+    points_more (decimal_point c.args.places c.args.step.now c.args.offset.now) c.args.corners.now
+    c.loop-corner.corner-index c.corner-item.result c.loop-corner.points.items c.push.new.self.items c.in-Some.point
+    c.loop-corner-test.true c.corner-item.is c.in-Some.ensures c.loop-corner.invariant c.in_ok-push.ensures.items

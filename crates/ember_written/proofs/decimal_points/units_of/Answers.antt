@@ -26,14 +26,16 @@ with_sign-requires c =
     let r = c.args.number.now in
     let unit : c.from.result ≡ 10 ^ c.args.places = c.from.ensures ∙ c.pow-unit.ensures in
     let scaled : size_of c.times.result ≡ size_of r.numerator.size * 10 ^ c.args.places = c.times.ensures ∙ ap (λ (k : ℕ). size_of r.numerator.size * k) unit in
-    units_are_small c.nearest-size.result r.denominator (size_of r.numerator.size) c.args.places r.positive c.requires.short c.requires.places (omega (arith, scaled, c.nearest-size.ensures.near.from))
+    units_are_small c.nearest-size.result r.denominator (size_of r.numerator.size) c.args.places r.positive
+    c.requires.short c.requires.places (omega (arith, scaled, c.nearest-size.ensures.near.from))
 
 pub returns : goal.returns
 returns c =
     let r = c.args.number.now in
     let unit : c.from.result ≡ 10 ^ c.args.places = c.from.ensures ∙ c.pow-unit.ensures in
     let scaled : size_of c.times.result ≡ size_of r.numerator.size * 10 ^ c.args.places = c.times.ensures ∙ ap (λ (k : ℕ). size_of r.numerator.size * k) unit in
-    let size : c.nearest-size.result ≡ nearest_whole (size_of r.numerator.size * 10 ^ c.args.places) r.denominator = c.nearest-size.ensures.value ∙ ap (λ (k : ℕ). nearest_whole k r.denominator) scaled in
+    let size : c.nearest-size.result ≡ nearest_whole (size_of r.numerator.size * 10 ^ c.args.places) r.denominator =
+    c.nearest-size.ensures.value ∙ ap (λ (k : ℕ). nearest_whole k r.denominator) scaled in
     to_z-of_z w128 c.with_sign.result (record { sfits = c.with_sign.type_inv })
     ∙ c.with_sign.ensures
     ∙ ap (signed_whole r.numerator.negative) size

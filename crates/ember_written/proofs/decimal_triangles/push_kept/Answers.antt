@@ -13,4 +13,5 @@ pub returns : goal.returns
 returns c =
     λ before is.
     let stays = ap vanishes (sym c.triangle_at-rounded.ensures) ∙ sym c.vanishes.ensures ∙ c.if-vanishes.false in
-    one_more c.args.points.now before c.args.triangle.now c.args.written.now _ c.triangle_at-rounded.result stays c.triangle_at-rounded.ensures is (c.in_ok-push.ensures _ is.mesh) c.in_ok-push-2.ensures.items
+    one_more c.args.points.now before c.args.triangle.now c.args.written.now _ c.triangle_at-rounded.result stays
+    c.triangle_at-rounded.ensures is (c.in_ok-push.ensures _ is.mesh) c.in_ok-push-2.ensures.items

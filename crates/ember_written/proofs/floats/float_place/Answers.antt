@@ -4,8 +4,10 @@ use Rattle.ember_written.proofs.floats.float_place.Goals as goal
 
 pub returns-clause-infinite : goal.returns-clause-infinite
 returns-clause-infinite c =
-    infinite_of c.exact_place-place.result (place_of c.args.step.now c.args.offset.now c.args.axis c.args.corner.now) c.nearest_binary32.result c.exact_place-place.ensures c.nearest_binary32.ensures.infinite
+    infinite_of c.exact_place-place.result (place_of c.args.step.now c.args.offset.now c.args.axis c.args.corner.now)
+    c.nearest_binary32.result c.exact_place-place.ensures c.nearest_binary32.ensures.infinite
 
 pub returns-clause-nearest : goal.returns-clause-nearest
 returns-clause-nearest c =
-    nearest_of c.exact_place-place.result (place_of c.args.step.now c.args.offset.now c.args.axis c.args.corner.now) c.nearest_binary32.result c.exact_place-place.ensures c.nearest_binary32.ensures.nearest
+    nearest_of c.exact_place-place.result (place_of c.args.step.now c.args.offset.now c.args.axis c.args.corner.now)
+    c.nearest_binary32.result c.exact_place-place.ensures c.nearest_binary32.ensures.nearest

@@ -14,5 +14,7 @@ loop-corner-preserved c =
     let p = c.in-Some.point in
     record {
       count = omega (arith, ap length c.in_ok-push.ensures.items, length_push ps p, c.loop-corner.invariant.count);
-      each = rw c.in_ok-push.ensures.items (each_more (IsFloatPoint c.args.step.now c.args.offset.now) c.args.corners.now ps c.loop-corner.corner-index c.corner-item.result p c.loop-corner.invariant.count c.loop-corner-test.true c.corner-item.is c.in-Some.ensures c.loop-corner.invariant.each);
+      each = rw c.in_ok-push.ensures.items (each_more (IsFloatPoint c.args.step.now c.args.offset.now)
+          c.args.corners.now ps c.loop-corner.corner-index c.corner-item.result p c.loop-corner.invariant.count
+          c.loop-corner-test.true c.corner-item.is c.in-Some.ensures c.loop-corner.invariant.each);
     }

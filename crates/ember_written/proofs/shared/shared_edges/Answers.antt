@@ -9,8 +9,10 @@ loop-t-init c = noted_none is_lower key_between same_ends c.new-edges.ensures.on
 
 pub loop-t-preserved : goal.loop-t-preserved
 loop-t-preserved c =
-    noted_next is_lower key_between same_ends positions_of c.args.written.now c.loop-t.t-index _ c.loop-t-test.true (c.in_ok-add_triangle.ensures _ c.loop-t.invariant)
+    noted_next is_lower key_between same_ends positions_of c.args.written.now c.loop-t.t-index _ c.loop-t-test.true
+    (c.in_ok-add_triangle.ensures _ c.loop-t.invariant)
 
 pub returns : goal.returns
 returns c =
-    shared_counted same_point is_lower key_between same_ends float_keys positions_of c.args.written.now c.loop-t.t-index c.len.result c.loop-t-test.false c.loop-t.invariant c.len.ensures.len
+    shared_counted same_point is_lower key_between same_ends float_keys positions_of c.args.written.now c.loop-t.t-index
+    c.len.result c.loop-t-test.false c.loop-t.invariant c.len.ensures.len

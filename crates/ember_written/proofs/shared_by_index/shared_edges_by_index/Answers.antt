@@ -9,8 +9,10 @@ loop-t-init c = noted_none nat_lt index_edge same_edge c.new-edges.ensures.once 
 
 pub loop-t-preserved : goal.loop-t-preserved
 loop-t-preserved c =
-    noted_next nat_lt index_edge same_edge indices_of c.args.triangles.now c.loop-t.t-index _ c.loop-t-test.true (c.in_ok-add_triangle.ensures _ c.loop-t.invariant)
+    noted_next nat_lt index_edge same_edge indices_of c.args.triangles.now c.loop-t.t-index _ c.loop-t-test.true
+    (c.in_ok-add_triangle.ensures _ c.loop-t.invariant)
 
 pub returns : goal.returns
 returns c =
-    shared_counted nat_eq nat_lt index_edge same_edge index_keys indices_of c.args.triangles.now c.loop-t.t-index c.len.result c.loop-t-test.false c.loop-t.invariant c.len.ensures.len
+    shared_counted nat_eq nat_lt index_edge same_edge index_keys indices_of c.args.triangles.now c.loop-t.t-index
+    c.len.result c.loop-t-test.false c.loop-t.invariant c.len.ensures.len

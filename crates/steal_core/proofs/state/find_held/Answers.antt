@@ -4,4 +4,6 @@ use Rattle.steal_core.proofs.CodeSteps.{search_passes_one}
 use Rattle.steal_core.proofs.state.find_held.Goals as goal
 
 pub loop-placed-preserved : goal.loop-placed-preserved
-loop-placed-preserved c = search_passes_one (is_held c.args.by c.args.path) c.args.boxes.now c.loop-placed.rest.now c.in-Some.after.now c.in-Some.placed.now c.loop-placed.i c.loop-placed.invariant c.in-Some.ensures.cases.0 (sym c.held.ensures ∙ c.if-held.false)
+loop-placed-preserved c = search_passes_one (is_held c.args.by c.args.path) c.args.boxes.now c.loop-placed.rest.now
+    c.in-Some.after.now c.in-Some.placed.now c.loop-placed.i c.loop-placed.invariant c.in-Some.ensures.cases.0
+    (sym c.held.ensures ∙ c.if-held.false)

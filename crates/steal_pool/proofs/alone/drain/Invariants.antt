@@ -12,5 +12,7 @@ invariant-loop g l = record {
   parts : All (IsPart g.K.VisitedJobs.is_visited g.K.BoxWeight.answers) l.output.parts.items;
   stays : KeepsHalves l.initial.output l.output;
   pushed : (worker_view l.owner).pushed ≡ (worker_view l.initial.owner).pushed;
-  sums : (h : Entry → ℕ) (u : ℕ → ℕ) → ended h u l.output + weigh (g.K.BoxWeight.weight h u) (worker_view l.initial.owner).taken ≡ ended h u l.initial.output + weigh (g.K.BoxWeight.weight h u) (worker_view l.owner).taken;
+  sums : (h : Entry → ℕ) (u : ℕ → ℕ) → ended h u l.output
+      + weigh (g.K.BoxWeight.weight h u) (worker_view l.initial.owner).taken ≡ ended h u l.initial.output
+      + weigh (g.K.BoxWeight.weight h u) (worker_view l.owner).taken;
 }

@@ -5,7 +5,8 @@ use Rattle.steal_pool.proofs.StateLists.{last_is_back}
 use Rattle.steal_pool.proofs.pool.drain_all.Goals as goal
 
 pub drain-requires-clause-owner : goal.drain-requires-clause-owner
-drain-requires-clause-owner g c = (last_is_back c.loop-owner.owners.items c.pop.new.self.items c.in-Some.owner c.loop-owner.invariant.back c.in-Some.ensures.items).0
+drain-requires-clause-owner g c = (last_is_back c.loop-owner.owners.items c.pop.new.self.items c.in-Some.owner
+    c.loop-owner.invariant.back c.in-Some.ensures.items).0
 
 pub loop-owner-preserved : goal.loop-owner-preserved
 loop-owner-preserved g c = record {

@@ -10,7 +10,10 @@ invariant-loop-owner g l = record {
   parts : All (IsPart g.K.VisitedJobs.is_visited g.K.BoxWeight.answers) l.output.parts.items;
   stays : KeepsHalves l.initial.output l.output;
   sums : (h : Entry → ℕ) (u : ℕ → ℕ)
-      → ended h u l.output + owners_taken (g.K.BoxWeight.weight h u) l.initial.owners.items + all_pushed (g.K.BoxWeight.weight h u) l.owners.items ≡ ended h u l.initial.output + all_pushed (g.K.BoxWeight.weight h u) l.initial.owners.items + owners_taken (g.K.BoxWeight.weight h u) l.owners.items;
+      → ended h u l.output + owners_taken (g.K.BoxWeight.weight h u) l.initial.owners.items
+      + all_pushed (g.K.BoxWeight.weight h u) l.owners.items ≡ ended h u l.initial.output
+      + all_pushed (g.K.BoxWeight.weight h u) l.initial.owners.items
+      + owners_taken (g.K.BoxWeight.weight h u) l.owners.items;
 }
 
 abbrev pub decreases-loop-owner : goal.decreases-loop-owner

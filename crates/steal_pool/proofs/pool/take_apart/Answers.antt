@@ -11,13 +11,20 @@ use Rattle.steal_pool.proofs.pool.take_apart.Goals as goal
 
 pub loop-state-preserved : goal.loop-state-preserved
 loop-state-preserved g c =
-    let first = may_leave_first g.K.VisitedJobs.is_visited g.K.BoxWeight.answers c.args.stealers.now.items c.loop-state.states.items c.first_state.new.states.items c.in-Some.state c.loop-state.invariant.states c.in-Some.ensures.first in record {
-      taking = rw c.in_ok-push.ensures.items (taking_next (Lent c.args.workers) c.args.stealers.now.items c.loop-state.owners.items c.loop-state.states.items c.first_state.new.states.items c.in-Some.state c.loop-state.invariant.taking c.in-Some.ensures.first);
+    let first = may_leave_first g.K.VisitedJobs.is_visited g.K.BoxWeight.answers c.args.stealers.now.items
+    c.loop-state.states.items c.first_state.new.states.items c.in-Some.state c.loop-state.invariant.states
+    c.in-Some.ensures.first in record {
+      taking = rw c.in_ok-push.ensures.items (taking_next (Lent c.args.workers) c.args.stealers.now.items
+          c.loop-state.owners.items c.loop-state.states.items c.first_state.new.states.items c.in-Some.state
+          c.loop-state.invariant.taking c.in-Some.ensures.first);
       states = first.1;
-      rows = rw c.in_ok-push-2.ensures.items (All-push (λ r. EachPass c.args.stealers.now.items r.items) c.loop-state.rows.items c.in-Some.state.passes c.loop-state.invariant.rows first.0.each);
+      rows = rw c.in_ok-push-2.ensures.items (All-push (λ r. EachPass c.args.stealers.now.items r.items)
+          c.loop-state.rows.items c.in-Some.state.passes c.loop-state.invariant.rows first.0.each);
       len = omega (arith, c.loop-state.invariant.len, c.in_ok-push-2.ensures.len, c.in-Some.ensures.len);
-      journals = journals_next (λ j. j.items) (λ s. s.output.journal.items) _ _ _ _ c.in-Some.state.output.journal c.in-Some.state c.in_ok-push-3.ensures.items c.in-Some.ensures.first refl ∙ c.loop-state.invariant.journals;
-      parts = rw c.in_ok-append.ensures.items (All-append (IsPart g.K.VisitedJobs.is_visited g.K.BoxWeight.answers) c.loop-state.parts.items c.in-Some.state.output.parts.items c.loop-state.invariant.parts first.0.parts_all);
+      journals = journals_next (λ j. j.items) (λ s. s.output.journal.items) _ _ _ _ c.in-Some.state.output.journal
+          c.in-Some.state c.in_ok-push-3.ensures.items c.in-Some.ensures.first refl ∙ c.loop-state.invariant.journals;
+      parts = rw c.in_ok-append.ensures.items (All-append (IsPart g.K.VisitedJobs.is_visited g.K.BoxWeight.answers)
+          c.loop-state.parts.items c.in-Some.state.output.parts.items c.loop-state.invariant.parts first.0.parts_all);
       held = λ h u. omega (
         arith,
         c.loop-state.invariant.held h u,
@@ -42,4 +49,5 @@ loop-state-preserved g c =
     }
 
 pub returns-clause-owners : goal.returns-clause-owners
-returns-clause-owners g c = taking_end (Lent c.args.workers) c.args.stealers.now.items c.loop-state.owners.items c.loop-state.states.items c.loop-state.invariant.taking c.in_default.ensures.first
+returns-clause-owners g c = taking_end (Lent c.args.workers) c.args.stealers.now.items c.loop-state.owners.items
+    c.loop-state.states.items c.loop-state.invariant.taking c.in_default.ensures.first

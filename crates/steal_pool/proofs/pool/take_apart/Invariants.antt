@@ -15,8 +15,13 @@ invariant-loop-state g l = record {
   len : vec_len l.rows + vec_len l.states ≡ vec_len l.initial.states;
   journals : map (λ j. j.items) l.journals.items ++ journals_of l.states.items ≡ journals_of l.initial.states.items;
   parts : All (IsPart g.K.VisitedJobs.is_visited g.K.BoxWeight.answers) l.parts.items;
-  held : (h : Entry → ℕ) (u : ℕ → ℕ) → weigh (λ j. weigh h j.items) l.journals.items + weigh (by_path u) l.parts.items + all_pushed (g.K.BoxWeight.weight h u) l.owners.items + all_held g.K.BoxWeight.weight h u l.states.items ≡ all_held g.K.BoxWeight.weight h u l.initial.states.items;
-  received : (h : Entry → ℕ) (u : ℕ → ℕ) → owners_taken (g.K.BoxWeight.weight h u) l.owners.items + rows_taken (g.K.BoxWeight.weight h u) l.rows.items + all_received g.K.BoxWeight.weight h u l.states.items ≡ all_received g.K.BoxWeight.weight h u l.initial.states.items;
+  held : (h : Entry → ℕ) (u : ℕ → ℕ) → weigh (λ j. weigh h j.items) l.journals.items + weigh (by_path u) l.parts.items
+      + all_pushed (g.K.BoxWeight.weight h u) l.owners.items
+      + all_held g.K.BoxWeight.weight h u l.states.items ≡ all_held g.K.BoxWeight.weight h u l.initial.states.items;
+  received : (h : Entry → ℕ) (u : ℕ → ℕ) → owners_taken (g.K.BoxWeight.weight h u) l.owners.items
+      + rows_taken (g.K.BoxWeight.weight h u) l.rows.items
+      + all_received g.K.BoxWeight.weight h u l.states.items ≡ all_received g.K.BoxWeight.weight h u
+      l.initial.states.items;
 }
 
 abbrev pub decreases-loop-state : goal.decreases-loop-state

@@ -7,16 +7,24 @@ use Rattle.steal_pool.proofs.Trees.{begins_both}
 use Rattle.steal_pool.proofs.tree.run_alone_named.Goals as goal
 
 pub returns-clause-count : goal.returns-clause-count
-returns-clause-count g c = (ap length c.of-2.ensures ∙ ap (λ vs. length (map (λ v. v.items) vs)) (c.in_ok-push.ensures.items ∙ ap (λ vs. vs ++ c.run_below.new.output.journal ∷ []) c.new-journals.ensures.items), refl)
+returns-clause-count g c = (
+  ap length c.of-2.ensures
+      ∙ ap (λ vs. length (map (λ v. v.items) vs)) (c.in_ok-push.ensures.items
+      ∙ ap (λ vs. vs ++ c.run_below.new.output.journal ∷ []) c.new-journals.ensures.items),
+  refl,
+)
 
 pub returns-clause-journals : goal.returns-clause-journals
 returns-clause-journals g c = record {
   first = c.run_below.new.output.journal.items;
   others = [];
   caller = [];
-  is = ap (λ js. js ++ [] ∷ []) (c.of-2.ensures ∙ ap (map (λ v. v.items)) (c.in_ok-push.ensures.items ∙ ap (λ vs. vs ++ c.run_below.new.output.journal ∷ []) c.new-journals.ensures.items));
+  is = ap (λ js. js ++ [] ∷ []) (c.of-2.ensures ∙ ap (map (λ v. v.items))
+      (c.in_ok-push.ensures.items ∙ ap (λ vs. vs ++ c.run_below.new.output.journal ∷ []) c.new-journals.ensures.items));
   count = refl;
-  begun = subst (λ (j : Job). Begins j.cell.path c.run_below.new.output.journal.items) c.in_ok-heap_job.ensures (λ h. begins_both c.in_ok-heap_job.heap_job.cell.path c.new-journal.result.items c.run_below.new.output.journal.items c.new-journal.ensures.items c.in_ok-run_below.ensures.stays h);
+  begun = subst (λ (j : Job). Begins j.cell.path c.run_below.new.output.journal.items) c.in_ok-heap_job.ensures
+      (λ h. begins_both c.in_ok-heap_job.heap_job.cell.path c.new-journal.result.items
+      c.run_below.new.output.journal.items c.new-journal.ensures.items c.in_ok-run_below.ensures.stays h);
   lefts = tt;
   both = λ h. omega arith;
   last = refl;
@@ -30,5 +38,7 @@ returns-clause-sums g c = λ h u. omega (
   ap (weigh h) c.new-journal.ensures.items,
   ap (weigh (by_path u)) c.new-parts.ensures.items,
   ap (weigh (by_path u)) c.of.ensures,
-  ap (λ js. weigh (weigh h) (js ++ [] ∷ [])) (c.of-2.ensures ∙ ap (map (λ v. v.items)) (c.in_ok-push.ensures.items ∙ ap (λ vs. vs ++ c.run_below.new.output.journal ∷ []) c.new-journals.ensures.items)),
+  ap (λ js. weigh (weigh h) (js ++ [] ∷ [])) (c.of-2.ensures
+      ∙ ap (map (λ v. v.items)) (c.in_ok-push.ensures.items
+      ∙ ap (λ vs. vs ++ c.run_below.new.output.journal ∷ []) c.new-journals.ensures.items)),
 )

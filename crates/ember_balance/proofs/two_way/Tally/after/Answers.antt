@@ -6,4 +6,5 @@ pub returns-then-number-self-clause-tallied : goal.returns-then-number-self-clau
 returns-then-number-self-clause-tallied c = λ ks h. tallied_same ks c.args.self.now c.args.two_way h c.if-number-self.true (omega arith) (omega arith)
 
 pub returns-then-is_even-clause-tallied : goal.returns-then-is_even-clause-tallied
-returns-then-is_even-clause-tallied c = λ ks h. tallied_other ks c.args.self.now c.args.two_way h (sym c.is_even.ensures ∙ c.if-is_even.true) (omega arith) (omega arith)
+returns-then-is_even-clause-tallied c = λ ks h. tallied_other ks c.args.self.now c.args.two_way h
+    (sym c.is_even.ensures ∙ c.if-is_even.true) (omega arith) (omega arith)

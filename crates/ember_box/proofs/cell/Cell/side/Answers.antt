@@ -9,4 +9,7 @@ side_of-requires c =
 
 pub returns : goal.returns
 returns c =
-    side_stored c.side_of.ensures.small ∙ c.side_of.ensures.value ∙ ap (λ n. pos (2 ^ slice_index_or c.self.inside.log n 0)) c.axis_index.ensures.axis_index ∙ ap (λ n. pos (2 ^ n)) (sym (log_of c.self.inside.lo c.self.inside.log c.self.inside.path c.args.axis)) ∙ ap (λ x. side x c.args.axis) c.self.view_is
+    side_stored c.side_of.ensures.small ∙ c.side_of.ensures.value
+    ∙ ap (λ n. pos (2 ^ slice_index_or c.self.inside.log n 0)) c.axis_index.ensures.axis_index
+    ∙ ap (λ n. pos (2 ^ n)) (sym (log_of c.self.inside.lo c.self.inside.log c.self.inside.path c.args.axis))
+    ∙ ap (λ x. side x c.args.axis) c.self.view_is

@@ -4,8 +4,10 @@ use Rattle.ember_certificate.proofs.unmatched.Ends.cancel.Goals as goal
 
 pub returns-then-first-key : goal.returns-then-first-key
 returns-then-first-key c =
-    λ n. first_cancelled n c.in-Some.first.now c.args.keys.now c.in-Some.behind.now c.in-Some.ensures.cases.0 (excess n c.args.self.now.starts.items c.args.self.now.ends.items) c.args.key c.if-first-key.true
+    λ n. first_cancelled n c.in-Some.first.now c.args.keys.now c.in-Some.behind.now c.in-Some.ensures.cases.0
+    (excess n c.args.self.now.starts.items c.args.self.now.ends.items) c.args.key c.if-first-key.true
 
 pub returns : goal.returns
 returns c =
-    λ n. back_pushed n c.args.key c.args.self.now c.push_reverse.new.self (excess_of n c.args.keys.now) c.in_ok-push_reverse.ensures.starts c.in_ok-push_reverse.ensures.ends
+    λ n. back_pushed n c.args.key c.args.self.now c.push_reverse.new.self (excess_of n c.args.keys.now)
+    c.in_ok-push_reverse.ensures.starts c.in_ok-push_reverse.ensures.ends

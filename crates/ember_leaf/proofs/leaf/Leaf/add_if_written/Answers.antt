@@ -11,14 +11,22 @@ use Rattle.ember_leaf.proofs.leaf.Leaf.add_if_written.Goals as goal
 pub returns-in_ok-push-clause-placed : goal.returns-in_ok-push-clause-placed
 returns-in_ok-push-clause-placed c =
     let a = c.args in
-    placed_push a.self.now.near.now a.i a.kept.now.items c.push.new.self.items c.in-Some.k c.requires.index c.requires.kept c.in-Some.ensures.placed c.in_ok-push.ensures.items
+    placed_push a.self.now.near.now a.i a.kept.now.items c.push.new.self.items c.in-Some.k c.requires.index
+    c.requires.kept c.in-Some.ensures.placed c.in_ok-push.ensures.items
 
 pub returns-in_ok-push-clause-written : goal.returns-in_ok-push-clause-written
 returns-in_ok-push-clause-written c =
-    let s = c.args.self.now in let ns = tris_of s.near.now in let f = formula_of s.expr.now in let i = c.args.i in let r = c.args.ring in let old = c.args.kept.now.items in
-    grown_owned ns s.cell.now s.windings.now.counts f i (r ∷ []) (r ∷ []) old c.push.new.self.items (grown_more ns s.cell.now s.windings.now.counts (λ scene. IsWrittenOfRegion scene f ns i) [] r old old c.push.new.self.items (c.in-Some.k ∷ []) (grown_none _ old (λ scene h. none)) c.in-Some.ensures.written c.in_ok-push.ensures.items) refl c.requires.regions
+    let s = c.args.self.now in let ns = tris_of s.near.now in let f = formula_of s.expr.now in let i = c.args.i in
+    let r = c.args.ring in let old = c.args.kept.now.items in
+    grown_owned ns s.cell.now s.windings.now.counts f i (r ∷ []) (r ∷ []) old c.push.new.self.items
+    (grown_more ns s.cell.now s.windings.now.counts (λ scene. IsWrittenOfRegion scene f ns i) [] r old old
+    c.push.new.self.items (c.in-Some.k ∷ []) (grown_none _ old (λ scene h. none)) c.in-Some.ensures.written
+    c.in_ok-push.ensures.items) refl c.requires.regions
 
 pub returns-in_default-clause-written : goal.returns-in_default-clause-written
 returns-in_default-clause-written c =
-    let s = c.args.self.now in let ns = tris_of s.near.now in let f = formula_of s.expr.now in let i = c.args.i in let r = c.args.ring in let old = c.args.kept.now.items in
-    grown_owned ns s.cell.now s.windings.now.counts f i (r ∷ []) (r ∷ []) old old (grown_more ns s.cell.now s.windings.now.counts (λ scene. IsWrittenOfRegion scene f ns i) [] r old old old [] (grown_none _ old (λ scene h. none)) c.in_default.ensures.written (sym (append-nil old))) refl c.requires.regions
+    let s = c.args.self.now in let ns = tris_of s.near.now in let f = formula_of s.expr.now in let i = c.args.i in
+    let r = c.args.ring in let old = c.args.kept.now.items in
+    grown_owned ns s.cell.now s.windings.now.counts f i (r ∷ []) (r ∷ []) old old
+    (grown_more ns s.cell.now s.windings.now.counts (λ scene. IsWrittenOfRegion scene f ns i) [] r old old old []
+    (grown_none _ old (λ scene h. none)) c.in_default.ensures.written (sym (append-nil old))) refl c.requires.regions

@@ -14,15 +14,33 @@ loop-ring-init c = (c.requires.kept, grown_none _ c.args.kept.now.items (λ scen
 
 pub loop-ring-preserved-in-Continue-1 : goal.loop-ring-preserved-in-Continue-1
 loop-ring-preserved-in-Continue-1 c =
-    let s = c.args.self.now in let at = c.loop-ring in let r = c.in-Some.ring in let ns = tris_of s.near.now in
-    (placed_push s.near.now c.args.i at.kept.items c.push.new.self.items c.in-Some-written_region.k c.requires.index at.invariant.0 c.in-Some-written_region.ensures.placed c.in_ok-push.ensures.items, grown_more ns s.cell.now s.windings.now.counts (λ scene. IsWrittenOfRegion scene (formula_of s.expr.now) ns c.args.i) at.yielded r c.args.kept.now.items at.kept.items c.push.new.self.items (c.in-Some-written_region.k ∷ []) at.invariant.1 c.in-Some-written_region.ensures.written c.in_ok-push.ensures.items, append_assoc at.yielded (r ∷ []) (into_iter_items c.next.new.self) ∙ ap (λ l. at.yielded ++ l) (sym c.in-Some.ensures.steps.0) ∙ at.invariant.2)
+    let s = c.args.self.now in let at = c.loop-ring in let r = c.in-Some.ring in let ns = tris_of s.near.now in (
+      placed_push s.near.now c.args.i at.kept.items c.push.new.self.items c.in-Some-written_region.k c.requires.index
+          at.invariant.0 c.in-Some-written_region.ensures.placed c.in_ok-push.ensures.items,
+      grown_more ns s.cell.now s.windings.now.counts
+          (λ scene. IsWrittenOfRegion scene (formula_of s.expr.now) ns c.args.i) at.yielded r c.args.kept.now.items
+          at.kept.items c.push.new.self.items (c.in-Some-written_region.k ∷ []) at.invariant.1
+          c.in-Some-written_region.ensures.written c.in_ok-push.ensures.items,
+      append_assoc at.yielded (r ∷ []) (into_iter_items c.next.new.self)
+          ∙ ap (λ l. at.yielded ++ l) (sym c.in-Some.ensures.steps.0) ∙ at.invariant.2,
+    )
 
 pub loop-ring-preserved : goal.loop-ring-preserved
 loop-ring-preserved c =
-    let s = c.args.self.now in let at = c.loop-ring in let r = c.in-Some.ring in let ns = tris_of s.near.now in
-    (at.invariant.0, grown_more ns s.cell.now s.windings.now.counts (λ scene. IsWrittenOfRegion scene (formula_of s.expr.now) ns c.args.i) at.yielded r c.args.kept.now.items at.kept.items at.kept.items [] at.invariant.1 c.in_default.ensures.written (sym (append-nil at.kept.items)), append_assoc at.yielded (r ∷ []) (into_iter_items c.next.new.self) ∙ ap (λ l. at.yielded ++ l) (sym c.in-Some.ensures.steps.0) ∙ at.invariant.2)
+    let s = c.args.self.now in let at = c.loop-ring in let r = c.in-Some.ring in let ns = tris_of s.near.now in (
+      at.invariant.0,
+      grown_more ns s.cell.now s.windings.now.counts
+          (λ scene. IsWrittenOfRegion scene (formula_of s.expr.now) ns c.args.i) at.yielded r c.args.kept.now.items
+          at.kept.items at.kept.items [] at.invariant.1 c.in_default.ensures.written (sym (append-nil at.kept.items)),
+      append_assoc at.yielded (r ∷ []) (into_iter_items c.next.new.self)
+          ∙ ap (λ l. at.yielded ++ l) (sym c.in-Some.ensures.steps.0) ∙ at.invariant.2,
+    )
 
 pub returns-clause-written : goal.returns-clause-written
 returns-clause-written c =
     let s = c.args.self.now in let at = c.loop-ring in
-    grown_owned (tris_of s.near.now) s.cell.now s.windings.now.counts (formula_of s.expr.now) c.args.i at.yielded c.args.list.items c.args.kept.now.items at.kept.items at.invariant.1 (all_yielded at.yielded (into_iter_items at.ring-iterator) at.invariant.2 (sym at.ring-iterator.rest.ok.0 ∙ c.in-None.ensures.steps.0) c.into_iter-ring-iterator.ensures.into_iter_gives.0) c.requires.regions
+    grown_owned (tris_of s.near.now) s.cell.now s.windings.now.counts (formula_of s.expr.now) c.args.i at.yielded
+    c.args.list.items c.args.kept.now.items at.kept.items at.invariant.1
+    (all_yielded at.yielded (into_iter_items at.ring-iterator) at.invariant.2
+    (sym at.ring-iterator.rest.ok.0 ∙ c.in-None.ensures.steps.0) c.into_iter-ring-iterator.ensures.into_iter_gives.0)
+    c.requires.regions

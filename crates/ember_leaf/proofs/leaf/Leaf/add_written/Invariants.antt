@@ -8,4 +8,8 @@ use Rattle.ember_leaf.proofs.leaf.Leaf.add_written.Given as goal
 
 abbrev pub invariant-loop-ring : goal.invariant-loop-ring
 invariant-loop-ring l =
-    ArePlacedBelow (tris_of l.self.near.now) (l.i + 1) l.kept.items × HasGrown (WhereFits (tris_of l.self.near.now) l.self.cell.now l.self.windings.now.counts (λ scene. Each (IsWrittenOfRegion scene (formula_of l.self.expr.now) (tris_of l.self.near.now) l.i) l.yielded)) l.fn.kept.items l.kept.items × (l.yielded ++ into_iter_items l.ring-iterator ≡ into_iter_items l.initial.ring-iterator)
+    ArePlacedBelow (tris_of l.self.near.now) (l.i + 1) l.kept.items × HasGrown
+    (WhereFits (tris_of l.self.near.now) l.self.cell.now l.self.windings.now.counts
+    (λ scene. Each (IsWrittenOfRegion scene (formula_of l.self.expr.now) (tris_of l.self.near.now) l.i) l.yielded))
+    l.fn.kept.items l.kept.items × (l.yielded ++ into_iter_items l.ring-iterator ≡ into_iter_items
+    l.initial.ring-iterator)

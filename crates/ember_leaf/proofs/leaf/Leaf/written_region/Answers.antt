@@ -17,8 +17,12 @@ flip_of-requires-clause-after c =
 
 pub returns-in-Some-clause-written : goal.returns-in-Some-clause-written
 returns-in-Some-clause-written c =
-    λ scene h. is_written scene (formula_of c.args.self.now.expr.now) (tris_of c.args.self.now.near.now) c.args.i c.args.ring _ _ (c.trace_sides.ensures.sides c.requires.reference_sides c.requires.inside scene h) c.flip_of.result c.in-Some.flipped c.requires.owner c.flip_of.ensures c.in-Some.is
+    λ scene h. is_written scene (formula_of c.args.self.now.expr.now) (tris_of c.args.self.now.near.now) c.args.i
+    c.args.ring _ _ (c.trace_sides.ensures.sides c.requires.reference_sides c.requires.inside scene h)
+    c.flip_of.result c.in-Some.flipped c.requires.owner c.flip_of.ensures c.in-Some.is
 
 pub returns-in-None-clause-written : goal.returns-in-None-clause-written
 returns-in-None-clause-written c =
-    λ scene h. isnt_written scene (formula_of c.args.self.now.expr.now) (tris_of c.args.self.now.near.now) c.args.i c.args.ring _ _ (c.trace_sides.ensures.sides c.requires.reference_sides c.requires.inside scene h) c.flip_of.result c.flip_of.ensures c.in-None.is
+    λ scene h. isnt_written scene (formula_of c.args.self.now.expr.now) (tris_of c.args.self.now.near.now) c.args.i
+    c.args.ring _ _ (c.trace_sides.ensures.sides c.requires.reference_sides c.requires.inside scene h)
+    c.flip_of.result c.flip_of.ensures c.in-None.is

@@ -7,10 +7,17 @@ use Rattle.ember_poly.proofs.boundary.Boundary.close.Goals as goal
 pub returns-in_ok-put-clause-part : goal.returns-in_ok-put-clause-part
 returns-in_ok-put-clause-part c =
     let a = c.args in let r = a.self.now in let q = c.requires.paired in
-    let count : c.len-len.result ≡ length (sides r) = omega (arith, c.len-len.ensures, r.edges.ok.0, length-sides_of r.edges.items r.corners.items r.plane_indices.items q.corners q.plane_indices) in
+    let count : c.len-len.result ≡ length (sides r) =
+    omega (
+      arith,
+      c.len-len.ensures,
+      r.edges.ok.0,
+      length-sides_of r.edges.items r.corners.items r.plane_indices.items q.corners q.plane_indices,
+    ) in
     record {
       index = 0;
-      order = c.in_ok-put.ensures.order ∙ part_of_rotated (sides r) a.passage.now a.plane a.plane_index c.len-len.result count c.rotate.ensures.order c.set_start.ensures.order;
+      order = c.in_ok-put.ensures.order ∙ part_of_rotated (sides r) a.passage.now a.plane a.plane_index c.len-len.result
+          count c.rotate.ensures.order c.set_start.ensures.order;
       paired = c.in_ok-put.ensures.paired;
     }
 
@@ -23,6 +30,8 @@ returns-in_ok-put-2-clause-part c =
     let long : ahead ≤ at.below_count = c.if-passage-ahead.false in
     record {
       index = ahead;
-      order = c.in_ok-put-2.ensures.order ∙ kept_around (sides r) at a.plane a.plane_index ahead (omega (arith, count, same, first)) (omega (arith, count, first)) (omega (arith, same, kept)) long c.set_start-else-passage-ahead.ensures.order;
+      order = c.in_ok-put-2.ensures.order ∙ kept_around (sides r) at a.plane a.plane_index ahead
+          (omega (arith, count, same, first)) (omega (arith, count, first)) (omega (arith, same, kept)) long
+          c.set_start-else-passage-ahead.ensures.order;
       paired = c.in_ok-put-2.ensures.paired;
     }

@@ -15,14 +15,22 @@ find_passage-passage-requires-clause-edges c =
 pub find_passage-passage-requires-clause-straddles : goal.find_passage-passage-requires-clause-straddles
 find_passage-passage-requires-clause-straddles c =
     let p = c.args.plane.now in let at = c.classify-classified in
-    straddles_by p c.args.self.now.boundary.corners.items at.result.reach (subst (λ ms. AreSigns p ms at.result.reach) c.as_slice.ensures.value at.ensures.signs) c.in-Both.is
+    straddles_by p c.args.self.now.boundary.corners.items at.result.reach
+    (subst (λ ms. AreSigns p ms at.result.reach) c.as_slice.ensures.value at.ensures.signs) c.in-Both.is
 
 pub returns-in_ok-keep_part-in-Both-clause-part : goal.returns-in_ok-keep_part-in-Both-clause-part
 returns-in_ok-keep_part-in-Both-clause-part c =
-    let r = c.args.self.now in let p = c.args.plane.now in let at = c.classify-classified in
-    (subst (λ t. IsReach (face_in r) p t) c.in-Both.is (reach_seen (face_in r) r.support p r.planes.items r.boundary.edges.items r.boundary.corners.items r.boundary.plane_indices.items at.result.reach refl c.requires.ring (subst (λ ms. AreSigns p ms at.result.reach) c.as_slice.ensures.value at.ensures.signs)), c.in_ok-keep_part-in-Both.ensures.part)
+    let r = c.args.self.now in let p = c.args.plane.now in let at = c.classify-classified in (
+      subst (λ t. IsReach (face_in r) p t) c.in-Both.is
+          (reach_seen (face_in r) r.support p r.planes.items r.boundary.edges.items r.boundary.corners.items
+          r.boundary.plane_indices.items at.result.reach refl c.requires.ring
+          (subst (λ ms. AreSigns p ms at.result.reach) c.as_slice.ensures.value at.ensures.signs)),
+      c.in_ok-keep_part-in-Both.ensures.part,
+    )
 
 pub returns-in_default-clause-part : goal.returns-in_default-clause-part
 returns-in_default-clause-part c =
     let r = c.args.self.now in let p = c.args.plane.now in let at = c.classify-classified in
-    clip_whole (face_in r) p at.result.reach (reach_seen (face_in r) r.support p r.planes.items r.boundary.edges.items r.boundary.corners.items r.boundary.plane_indices.items at.result.reach refl c.requires.ring (subst (λ ms. AreSigns p ms at.result.reach) c.as_slice.ensures.value at.ensures.signs)) c.in_default.not-Both
+    clip_whole (face_in r) p at.result.reach (reach_seen (face_in r) r.support p r.planes.items r.boundary.edges.items
+    r.boundary.corners.items r.boundary.plane_indices.items at.result.reach refl c.requires.ring
+    (subst (λ ms. AreSigns p ms at.result.reach) c.as_slice.ensures.value at.ensures.signs)) c.in_default.not-Both

@@ -18,4 +18,8 @@ returns-clause-ring c =
     let gs = d.planes.items in let part = c.in_ok-close.ensures.part in let new = c.rotate_to_oldest.new.self in
     let begun = c.rotate_to_oldest.ensures in let oldest = begun.order in
     let count : c.len-plane_index.result ≡ length gs = c.len-plane_index.ensures ∙ d.planes.ok.0 in
-    below_ring d.support p gs (sides r) at c.requires.passage v.represents v.counted new.edges.items new.corners.items new.plane_indices.items part.index oldest.index c.push.new.self.items (oldest.order ∙ ap (λ zs. rotated oldest.index zs) (part.order ∙ ap (λ b. rotated part.index (part_sides (sides r) at p b)) count)) begun.oldest begun.paired.corners begun.paired.plane_indices c.in_ok-push.ensures.items v.support v.planes c.requires.plane
+    below_ring d.support p gs (sides r) at c.requires.passage v.represents v.counted new.edges.items new.corners.items
+    new.plane_indices.items part.index oldest.index c.push.new.self.items
+    (oldest.order ∙ ap (λ zs. rotated oldest.index zs)
+    (part.order ∙ ap (λ b. rotated part.index (part_sides (sides r) at p b)) count)) begun.oldest begun.paired.corners
+    begun.paired.plane_indices c.in_ok-push.ensures.items v.support v.planes c.requires.plane

@@ -22,9 +22,11 @@ returns-clause-ok c =
     edge_put all rest edge mid _ _ refl
     (record {
       plane = p;
-      line = entry_with mid.lines.keys c.in_ok-line.line _ (IsLineKey edge.support edge.plane) (λ x t. subst (IsLineKey edge.support edge.plane) ((same_line_decides k.line x).0 t) y.line) l.number;
+      line = entry_with mid.lines.keys c.in_ok-line.line _ (IsLineKey edge.support edge.plane)
+          (λ x t. subst (IsLineKey edge.support edge.plane) ((same_line_decides k.line x).0 t) y.line) l.number;
       start = entry_stays old.corners.keys mid.corners.keys c.args.start (λ x. IsCorner edge.support edge.before edge.plane (spot_of x)) corners a;
-      end = entry_with mid.corners.keys c.in_ok-end.end _ (λ x. IsCorner edge.support edge.plane edge.after (spot_of x)) (λ x t. subst (IsCorner edge.support edge.plane edge.after) ((same_corner_decides k.end x).0 t) y.end) e.number;
+      end = entry_with mid.corners.keys c.in_ok-end.end _ (λ x. IsCorner edge.support edge.plane edge.after (spot_of x))
+          (λ x t. subst (IsCorner edge.support edge.plane edge.after) ((same_corner_decides k.end x).0 t) y.end) e.number;
     })
     c.in_ok-push.ensures.items g
 

@@ -28,7 +28,9 @@ pub returns-in_err-point-clause-fault : goal.returns-in_err-point-clause-fault
 returns-in_err-point-clause-fault c =
     λ all more h.
     let e = c.in-Some.first.now in let es = c.in-Some.others.now in
-    passed_on (IsFault all) _ _ c.from_residual.ensures.1 (first_fault all more c.args.face c.args.support.now c.args.self.now c.args.edges.now e es c.last_or-before.result _ c.in-Some.ensures.cases.0 c.last_or-before.ensures (c.in_err-point.ensures.fault (first_or e es)) h)
+    passed_on (IsFault all) _ _ c.from_residual.ensures.1
+    (first_fault all more c.args.face c.args.support.now c.args.self.now c.args.edges.now e es c.last_or-before.result
+    _ c.in-Some.ensures.cases.0 c.last_or-before.ensures (c.in_err-point.ensures.fault (first_or e es)) h)
 
 pub loop-plane-init : goal.loop-plane-init
 loop-plane-init c =
@@ -43,11 +45,20 @@ loop-plane-init c =
     let key = subst IsValidPlane (sym same) c.plane_key.ensures.valid in
     let here = subst (λ (ys : List Plane). IsCorner n before (first_or e ys) (spot_of point)) (sym is) c.in_ok-point.ensures.ok in
     record {
-      done = λ all more h. round_begins all more c.args.face n begun c.args.edges.now e es before is c.last_or-before.ensures (grown all _ old begun p.distinct h.draft.lines k.distinct (all_put IsValidPlane (plane_of entry) (planes_in old) (planes_in begun) put h.draft.valid key) (extends_put (plane_of entry) (planes_in old) (planes_in begun) put) (extends_same old.lines.keys old.lines.keys refl) (extends_put point old.corners.keys begun.corners.keys k.entries) refl h);
+      done = λ all more h. round_begins all more c.args.face n begun c.args.edges.now e es before is
+          c.last_or-before.ensures (grown all _ old begun p.distinct h.draft.lines k.distinct
+          (all_put IsValidPlane (plane_of entry) (planes_in old) (planes_in begun) put h.draft.valid key)
+          (extends_put (plane_of entry) (planes_in old) (planes_in begun) put)
+          (extends_same old.lines.keys old.lines.keys refl)
+          (extends_put point old.corners.keys begun.corners.keys k.entries) refl h);
       before = subst IsValidPlane (sym c.last_or-before.ensures) (valid_last e es (All-head IsValidPlane e es valid) (All-tail IsValidPlane e es valid));
       rest = c.requires.edges;
-      number = mapped_has plane_of begun.planes.keys c.in_ok-number.number _ (IsPlaneKey n) (λ x t. subst (IsPlaneKey n) (sym same ∙ (same_entry_decides entry x).0 t) c.plane_key.ensures.key) p.number;
-      start = entry_with begun.corners.keys c.in_ok-start.start _ (λ x. IsCorner n before (first_or e c.args.edges.now) (spot_of x)) (λ x t. subst (IsCorner n before (first_or e c.args.edges.now)) ((same_corner_decides point x).0 t) here) k.number;
+      number = mapped_has plane_of begun.planes.keys c.in_ok-number.number _ (IsPlaneKey n)
+          (λ x t. subst (IsPlaneKey n) (sym same ∙ (same_entry_decides entry x).0 t) c.plane_key.ensures.key) p.number;
+      start = entry_with begun.corners.keys c.in_ok-start.start _
+          (λ x. IsCorner n before (first_or e c.args.edges.now) (spot_of x))
+          (λ x t. subst (IsCorner n before (first_or e c.args.edges.now)) ((same_corner_decides point x).0 t) here)
+          k.number;
       planes = omega (arith, put_length entry old.planes.keys begun.planes.keys p.entries, c.requires.few.planes);
       lines = c.requires.few.lines;
       corners = omega (arith, put_length point old.corners.keys begun.corners.keys k.entries, c.requires.few.corners);
@@ -66,7 +77,9 @@ keys_of-requires c =
       support = c.requires.support;
       before = at.before;
       plane = All-head IsValidPlane e es valid;
-      after = subst IsValidPlane (sym c.first_or.ensures) (valid_first first es (All-head IsValidPlane first c.in-Some.others.now all) (All-tail IsValidPlane e es valid));
+      after = subst IsValidPlane (sym c.first_or.ensures)
+          (valid_first first es (All-head IsValidPlane first c.in-Some.others.now all)
+          (All-tail IsValidPlane e es valid));
     }
 
 pub returns-in_err-keyed-clause-fault : goal.returns-in_err-keyed-clause-fault
@@ -75,7 +88,10 @@ returns-in_err-keyed-clause-fault c =
     let at = c.loop-plane in let s = c.in-Some-split_first in let n = c.args.support.now in
     let e = s.plane.now in let es = s.behind.now in let first = c.in-Some.first.now in
     let edge : FaceEdge = record { face = c.args.face; support = n; before = at.before; plane = e; after = c.first_or.result } in
-    passed_on (IsFault all) _ _ c.from_residual-in_err-keyed.ensures.1 (next_fault all (edges_behind c.args.face n first e es ++ more) edge at.self _ (round_goes_on all more c.args.face n at.self first at.before at.rest.now e es c.first_or.result s.ensures.cases.0 c.first_or.ensures (at.invariant.done all more h)) c.in_err-keyed.ensures.fault)
+    passed_on (IsFault all) _ _ c.from_residual-in_err-keyed.ensures.1
+    (next_fault all (edges_behind c.args.face n first e es ++ more) edge at.self _
+    (round_goes_on all more c.args.face n at.self first at.before at.rest.now e es c.first_or.result s.ensures.cases.0
+    c.first_or.ensures (at.invariant.done all more h)) c.in_err-keyed.ensures.fault)
 
 pub returns-in_err-start-2-clause-fault : goal.returns-in_err-start-2-clause-fault
 returns-in_err-start-2-clause-fault c =
@@ -83,7 +99,10 @@ returns-in_err-start-2-clause-fault c =
     let at = c.loop-plane in let s = c.in-Some-split_first in let n = c.args.support.now in
     let e = s.plane.now in let es = s.behind.now in let first = c.in-Some.first.now in
     let edge : FaceEdge = record { face = c.args.face; support = n; before = at.before; plane = e; after = c.first_or.result } in
-    passed_on (IsFault all) _ _ c.from_residual-in_err-start-2.ensures.1 (c.in_err-start-2.ensures.fault all (edges_behind c.args.face n first e es ++ more) edge (round_goes_on all more c.args.face n at.self first at.before at.rest.now e es c.first_or.result s.ensures.cases.0 c.first_or.ensures (at.invariant.done all more h)))
+    passed_on (IsFault all) _ _ c.from_residual-in_err-start-2.ensures.1
+    (c.in_err-start-2.ensures.fault all (edges_behind c.args.face n first e es ++ more) edge
+    (round_goes_on all more c.args.face n at.self first at.before at.rest.now e es c.first_or.result s.ensures.cases.0
+    c.first_or.ensures (at.invariant.done all more h)))
 
 pub loop-plane-preserved : goal.loop-plane-preserved
 loop-plane-preserved c =
@@ -92,14 +111,19 @@ loop-plane-preserved c =
     let edge : FaceEdge = record { face = c.args.face; support = n; before = at.before; plane = e; after = c.first_or.result } in
     let valid = subst (All IsValidPlane) s.ensures.cases.0 i.rest in
     let keyed = c.in_ok-keyed.ensures.ok in let p = c.in_ok-start-2.ensures in
-    let start = subst (λ (ys : List Plane). HasEntry at.self.corners.keys at.start (λ x. IsCorner n at.before (first_or first ys) (spot_of x))) s.ensures.cases.0 i.start in
+    let start = subst (λ (ys : List Plane). HasEntry at.self.corners.keys at.start
+    (λ x. IsCorner n at.before (first_or first ys) (spot_of x))) s.ensures.cases.0 i.start in
     let end = subst (λ (q : Plane). IsCorner n e q (spot_of c.in_ok-keyed.keyed.end)) c.first_or.ensures keyed.end in
     record {
-      done = λ all more h. p.ok all (edges_behind c.args.face n first e es ++ more) edge (round_goes_on all more c.args.face n at.self first at.before at.rest.now e es c.first_or.result s.ensures.cases.0 c.first_or.ensures (i.done all more h)) keyed i.number start;
+      done = λ all more h. p.ok all (edges_behind c.args.face n first e es ++ more) edge
+          (round_goes_on all more c.args.face n at.self first at.before at.rest.now e es c.first_or.result
+          s.ensures.cases.0 c.first_or.ensures (i.done all more h)) keyed i.number start;
       before = All-head IsValidPlane e es valid;
       rest = All-tail IsValidPlane e es valid;
       number = subst (λ t. HasEntry (map plane_of t.keys) c.in_ok-number.number (IsPlaneKey n)) (sym p.planes) i.number;
-      start = entry_with c.push.new.self.corners.keys c.in_ok-start-2.start _ (λ x. IsCorner n e (first_or first es) (spot_of x)) (λ x t. subst (IsCorner n e (first_or first es)) (sym t) end) p.end;
+      start = entry_with c.push.new.self.corners.keys c.in_ok-start-2.start _
+          (λ x. IsCorner n e (first_or first es) (spot_of x))
+          (λ x t. subst (IsCorner n e (first_or first es)) (sym t) end) p.end;
       planes = subst (λ t. length t.keys ≤ length c.args.self.now.segments.items + 1) (sym p.planes) i.planes;
       lines = omega (arith, p.lines, p.segments, i.lines);
       corners = omega (arith, p.corners, p.segments, i.corners);

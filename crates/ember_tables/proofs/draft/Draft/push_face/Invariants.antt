@@ -12,7 +12,8 @@ use Rattle.ember_tables.proofs.draft.Draft.push_face.Given as goal
 
 abbrev pub invariant-loop-plane : goal.invariant-loop-plane
 invariant-loop-plane l = record {
-  done : (all more : List FaceEdge) → IsDraftBefore all (edges_round l.face l.support l.edges ++ more) l.fn.self → IsDraftBefore all (edges_behind l.face l.support l.first l.before l.rest ++ more) l.self;
+  done : (all more : List FaceEdge) → IsDraftBefore all (edges_round l.face l.support l.edges ++ more) l.fn.self →
+      IsDraftBefore all (edges_behind l.face l.support l.first l.before l.rest ++ more) l.self;
   before : IsValidPlane l.before;
   rest : All IsValidPlane l.rest;
   number : HasEntry (planes_in l.self) l.number (IsPlaneKey l.support);

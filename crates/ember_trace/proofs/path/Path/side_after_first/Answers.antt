@@ -19,9 +19,14 @@ slid_to_lo-requires-clause-plane c =
 pub slid_to_lo-requires-clause-stays_valid : goal.slid_to_lo-requires-clause-stays_valid
 slid_to_lo-requires-clause-stays_valid c =
     let w = c.args.self.now in
-    subst (λ (q : Plane). IsValidPlane (slid_to_lo w w.main q)) (sym c.slid_to_lo-slid.ensures) (slid_twice c.args.p.now w.second_axis w.main _ _ c.requires (coordinate_small 2048 w.lo w.second_axis w.small) (coordinate_small 2048 w.lo w.main w.small))
+    subst (λ (q : Plane). IsValidPlane (slid_to_lo w w.main q)) (sym c.slid_to_lo-slid.ensures)
+    (slid_twice c.args.p.now w.second_axis w.main _ _ c.requires (coordinate_small 2048 w.lo w.second_axis w.small)
+    (coordinate_small 2048 w.lo w.main w.small))
 
 pub side_at_end-requires : goal.side_at_end-requires
 side_at_end-requires c =
     let w = c.args.self.now in
-    subst IsValidPlane (sym c.slid_to_lo.ensures) (subst (λ (q : Plane). IsValidPlane (slid_to_lo w w.main q)) (sym c.slid_to_lo-slid.ensures) (slid_twice c.args.p.now w.second_axis w.main _ _ c.requires (coordinate_small 2048 w.lo w.second_axis w.small) (coordinate_small 2048 w.lo w.main w.small)))
+    subst IsValidPlane (sym c.slid_to_lo.ensures)
+    (subst (λ (q : Plane). IsValidPlane (slid_to_lo w w.main q)) (sym c.slid_to_lo-slid.ensures)
+    (slid_twice c.args.p.now w.second_axis w.main _ _ c.requires (coordinate_small 2048 w.lo w.second_axis w.small)
+    (coordinate_small 2048 w.lo w.main w.small)))

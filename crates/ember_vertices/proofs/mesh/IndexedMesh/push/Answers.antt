@@ -11,6 +11,8 @@ returns c =
     let kb = c.vertex_at-2.new.points.keys in
     let kc = c.vertex_at-3.new.points.keys in
     record {
-      vertices = vertices_pushed before t old.points.keys ka kb kc old.triangles.items c.push.new.self.items _ _ _ is.vertices is.triangles a.points a.index b.points b.index e.points e.index c.in_ok-push.ensures.items;
-      triangles = triangles_pushed before t old.points.keys ka kb kc old.triangles.items c.push.new.self.items _ _ _ is.vertices is.triangles a.points a.index b.points b.index e.points e.index c.in_ok-push.ensures.items;
+      vertices = vertices_pushed before t old.points.keys ka kb kc old.triangles.items c.push.new.self.items _ _ _
+          is.vertices is.triangles a.points a.index b.points b.index e.points e.index c.in_ok-push.ensures.items;
+      triangles = triangles_pushed before t old.points.keys ka kb kc old.triangles.items c.push.new.self.items _ _ _
+          is.vertices is.triangles a.points a.index b.points b.index e.points e.index c.in_ok-push.ensures.items;
     }

@@ -8,7 +8,8 @@ use Rattle.ember_written.proofs.shared_by_index.IndexEdges.add_rising.Goals as g
 pub returns-then-from-to : goal.returns-then-from-to
 returns-then-from-to c =
     on_ok_then c.add.result c.add.ensures
-    (λ more edges h. noted_rising nat_lt index_edge same_edge c.args.from c.args.to edges _ _ (index_edge c.args.from c.args.to) (lt-ltb c.args.from c.args.to c.if-from-to.true) refl (more edges h))
+    (λ more edges h. noted_rising nat_lt index_edge same_edge c.args.from c.args.to edges _ _
+    (index_edge c.args.from c.args.to) (lt-ltb c.args.from c.args.to c.if-from-to.true) refl (more edges h))
 
 pub returns : goal.returns
 returns c =

@@ -21,14 +21,20 @@ pub same-self-in_default : goal.same-self-in_default
 same-self-in_default c = refl
 
 pub returns-in_default : goal.returns-in_default
-returns-in_default c = (refl, no_steal c.args.by c.args.from c.args.self.now (has_none_same (is_queued c.args.from) c.deref.result.now c.args.self.now.boxes c.in_default.ensures (c.deref.ensures.value ∙ ap (λ (s : Core). s.boxes) c.self.view_is)))
+returns-in_default c = (
+  refl,
+  no_steal c.args.by c.args.from c.args.self.now
+      (has_none_same (is_queued c.args.from) c.deref.result.now c.args.self.now.boxes c.in_default.ensures
+      (c.deref.ensures.value ∙ ap (λ (s : Core). s.boxes) c.self.view_is)),
+)
 
 pub same-self-2 : goal.same-self-2
 same-self-2 c = refl
 
 pub relocate-requires : goal.relocate-requires
 relocate-requires c =
-    subst (λ xs. c.in-Some.i < length xs) (c.deref.ensures.value ∙ ap (λ (s : Core). s.boxes) c.self.view_is) (first_below (is_queued c.args.from) _ _ c.in-Some.ensures)
+    subst (λ xs. c.in-Some.i < length xs) (c.deref.ensures.value ∙ ap (λ (s : Core). s.boxes) c.self.view_is)
+    (first_below (is_queued c.args.from) _ _ c.in-Some.ensures)
 
 pub returns : goal.returns
 returns c =
