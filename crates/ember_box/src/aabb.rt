@@ -261,7 +261,7 @@ fn difference(a: i64, b: i64) -> i64
     a - b
 }
 
-// The margins of the plane over the bounding box.
+/// The margins of the plane over the bounding box.
 pub fn margins_of(p: &Plane, aabb: &Aabb) -> Margins
     requires plane { IsSupportSized p.now }
     requires sized { IsAabbSized aabb.now }
@@ -274,7 +274,7 @@ pub fn margins_of(p: &Plane, aabb: &Aabb) -> Margins
 }
 
 impl Margins {
-    // Whether neither is negative: the plane crosses the bounding box.
+    /// Whether neither margin is negative: then the plane crosses the bounding box.
     pub fn are_both(&self) -> bool
         ensures { result ≡ (int_le (pos 0) self.now.above && int_le (pos 0) self.now.below) }
     {

@@ -10,9 +10,9 @@ use crate::aabb::{Aabb, Interval, aabb_of_cell, contains_aabb, crosses, is_level
 use crate::cell::{Cell, halves};
 use ember_model::{Axis, Plane, Tri, support_of};
 
-// The plane to test, of a triangle with the bounding box `spans`. None if the triangle lies in the
-// box, or in a plane perpendicular to an axis: then it is near each half that its bounding box
-// meets, so bounding boxes alone decide.
+/// The plane to test, of a triangle with the bounding box `spans`. None if the triangle lies in the
+/// box, or in a plane perpendicular to an axis: then it is near each half that its bounding box
+/// meets, so bounding boxes alone decide.
 pub fn plane_to_test(whole: &Aabb, spans: &Aabb, t: &Tri) -> Option<Plane>
     requires valid { IsValidTri t.now }
     requires spans { spans.now ≡ aabb_of_tri t.now }
@@ -35,7 +35,8 @@ pub struct HalfBoxes {
     pub middle: i32,
 }
 
-// The halves of the box along the axis, along which its side is above 1.
+/// The bounding boxes of the two halves of a box along the axis. Requires that the box's side along
+/// it exceeds 1.
 pub fn half_boxes_of(c: &Cell, k: Axis) -> HalfBoxes
     requires { 0 < c.now.log k }
     ensures value { AreHalves c.now k result }
@@ -49,9 +50,9 @@ pub fn half_boxes_of(c: &Cell, k: Axis) -> HalfBoxes
     }
 }
 
-// Whether a triangle is near the left half. Its bounding box meets the box, and has the interval
-// `span` along the axis of the halves. It is near if it begins no later than that half ends, and if
-// the plane to test, if any, crosses the half.
+/// Whether a triangle, whose bounding box meets the whole box, is near the left half: its interval
+/// `span` along the axis of the halves begins no later than that half ends, and the plane to test,
+/// if any, crosses the half.
 pub fn meets_left(halves: &HalfBoxes, span: &Interval, plane: &Option<Plane>) -> bool
     requires halves { AreHalvesSized halves.now }
     requires plane { IsPlaneSized plane.now }
@@ -63,8 +64,8 @@ pub fn meets_left(halves: &HalfBoxes, span: &Interval, plane: &Option<Plane>) ->
     }
 }
 
-// Whether such a triangle is near the right half: it ends no earlier than that half begins, and the
-// plane to test, if any, crosses the half.
+/// Whether such a triangle is near the right half: its interval ends no earlier than that half
+/// begins, and the plane to test, if any, crosses the half.
 pub fn meets_right(halves: &HalfBoxes, span: &Interval, plane: &Option<Plane>) -> bool
     requires halves { AreHalvesSized halves.now }
     requires plane { IsPlaneSized plane.now }

@@ -65,7 +65,7 @@ fn middle_along(c: &Cell, k: Axis) -> Middle
     Middle { at, half: at - low }
 }
 
-// The bounding box of the box with its middles.
+/// The bounding box of the box, with the middle along each axis.
 pub fn middles_of(c: &Cell) -> Middles
     ensures value { AreMiddles c.now result }
     ensures sized { AreMiddlesSized result }
@@ -226,7 +226,7 @@ fn parts_by_plane(middles: &Middles, spans: &Aabb, p: &Plane) -> NearParts
     }
 }
 
-// Whether the triangle is near the box, and near its halves along each axis.
+/// Whether the triangle is near the box, and near its halves along each axis.
 pub fn near_parts(middles: &Middles, t: &Tri) -> NearParts
     requires valid { IsValidTri t.now }
     requires sized { AreMiddlesSized middles.now }

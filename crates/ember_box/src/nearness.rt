@@ -82,7 +82,8 @@ pub fn near_list(alloc: Global, s: &Scene, list: &[u32], c: &Cell) -> Result<Vec
     near_list_among(alloc, s.tris.items(), list, c)
 }
 
-// Appends the index if it belongs to the list, which has room for it.
+/// Appends the index `i` if `belongs` is true. Requires that the list has room for it, so it never
+/// allocates.
 pub fn push_if(belongs: bool, i: u32, list: &mut Vec<u32>)
     requires { vec_len list.old < vec_capacity list.old }
     ensures items { list.new.items ≡ (if belongs then list.old.items ++ i ∷ [] else list.old.items) }

@@ -44,7 +44,7 @@ pub struct Sums {
     pub z: u64,
 }
 
-// The sums of one triangle.
+/// The sums of one triangle: 0 or 1 for the box, and 0 to 2 for each axis.
 pub fn sums_of(parts: &NearParts) -> Sums
     ensures sums { (c : CellView) (t : Tri) → AreNearParts c t parts.now → AreSumsOfOne c t result }
     ensures few { AreFew result }
@@ -104,7 +104,8 @@ fn chosen(x_before_y: bool, x_before_z: bool, y_before_z: bool) -> Axis
     }
 }
 
-// The axis along which a box with these sums is halved.
+/// The axis along which a box with these sums is halved: of the axes along which the side exceeds
+/// 1, the one with the least sum, and in a tie the earlier one.
 pub fn least_axis(c: &Cell, sums: &Sums) -> Axis
     ensures { (ts : List Tri) → AreSums ts c.now sums.now → result ≡ halvings.halving_axis ts c.now }
 {
@@ -127,7 +128,7 @@ fn is_unprofitable(log: u8, near: u64, sum: u64) -> bool
     log == 0 || 7 * near as u128 <= 4 * sum as u128
 }
 
-// Whether a box with this number of near triangles is a leaf in any case.
+/// Whether a box with this number of near triangles is a leaf in any case: 16 or fewer.
 pub fn is_few(near: u64) -> bool
     ensures { result ≡ nat_le near 16 }
 {
@@ -141,7 +142,8 @@ fn ends(is_few: bool, x_unprofitable: bool, y_unprofitable: bool, z_unprofitable
     is_few || x_unprofitable && y_unprofitable && z_unprofitable
 }
 
-// Whether a box with these sums is a leaf.
+/// Whether a box with these sums is a leaf: it has few near triangles, or no axis is worth a
+/// halving.
 pub fn is_leaf_by(c: &Cell, sums: &Sums) -> bool
     ensures { (ts : List Tri) → AreSums ts c.now sums.now → result ≡ halvings.is_leaf ts c.now }
 {

@@ -13,7 +13,8 @@ pub struct Block {
     pub high: Corner,
 }
 
-// Box i, by the next six numbers: three for the least corner, and three for the sides.
+/// The next box, by the next six numbers: three for the least corner, and three for the sides. Box
+/// `i`, from 0, takes the numbers after the first `6 * i`.
 pub fn next_block(numbers: &mut Numbers) -> Block
     ensures block { (i : ℕ) → numbers.old.last ≡ state (6 * i) → result ≡ block_of i }
     ensures next { (i : ℕ) → numbers.old.last ≡ state (6 * i) → numbers.new.last ≡ state (6 * (i + 1)) }

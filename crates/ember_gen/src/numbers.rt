@@ -11,7 +11,7 @@ pub struct Numbers {
 }
 
 impl Numbers {
-    // The generator at its start.
+    /// The generator at its start. Each start gives the same numbers.
     #[tactic(auto, unfolding(crate::specs::Numbers::state))]
     pub fn new() -> Numbers
         ensures { result.last ≡ state 0 }
@@ -28,7 +28,7 @@ impl Numbers {
         (self.last / 65_536) as u32
     }
 
-    // A coordinate from -1792 to 1791.
+    /// Draws a coordinate from -1792 to 1791, in units.
     pub fn place(&mut self) -> i32
         ensures next { self.new.last ≡ next self.old.last }
         ensures place { result ≡ place (drawn self.new.last) }
@@ -37,7 +37,7 @@ impl Numbers {
         (self.draw() % 3584) as i32 - 1792
     }
 
-    // A side from 1 to 256.
+    /// Draws a side from 1 to 256, in units.
     pub fn side(&mut self) -> i32
         ensures next { self.new.last ≡ next self.old.last }
         ensures side { result ≡ pos (side (drawn self.new.last)) }

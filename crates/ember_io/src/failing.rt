@@ -3,7 +3,7 @@ ghost use Rattle.std.specs.Prelude.{IsTrue, Contains, ◌↔◌};
 
 use crate::Calls;
 
-// Whether the call of this number is to fail.
+/// Whether the call of this number, from 1, is to fail.
 pub fn is_failing(failing: &Calls, call: u64) -> bool
     ensures { IsTrue result ↔ Contains failing.now call }
 {

@@ -2,7 +2,7 @@
 ghost use Rattle.std.specs.Prelude.{◌≡◌, ◌<◌, ◌≤◌, [], ◌++◌, ◌+◌, ◌-◌, min, length, drop, take, Some, None, MatchOption};
 ghost use Rattle.ember_io.specs.Files.{named, first_of, first_or_empty, bytes_at};
 
-// The index of the first file of that name.
+/// The index of the first file of that name. None if no file has it.
 pub fn file_index_of(files: &[(String, Vec<u8>)], name: &str) -> Option<usize>
     ensures { MatchOption result (first_of (named files.now) name.now ≡ None) (λ i.
         first_of (named files.now) name.now ≡ Some (bytes_at (named files.now) i)) }
@@ -15,7 +15,7 @@ pub fn file_index_of(files: &[(String, Vec<u8>)], name: &str) -> Option<usize>
     None
 }
 
-// The index of the first file of that name, or the index past the last.
+/// The index of the first file of that name. If no file has it, the index past the last.
 #[tactic(auto, using(crate::proofs::FileIndices::named_past))]
 pub fn file_index_or_end(files: &[(String, Vec<u8>)], name: &str) -> usize
     ensures { Some (bytes_at (named files.now) result) ≡ first_or_empty (named files.now) name.now }
@@ -26,7 +26,7 @@ pub fn file_index_or_end(files: &[(String, Vec<u8>)], name: &str) -> usize
     }
 }
 
-// The index past the last, at which there are no bytes.
+/// The index past the last file, at which there are no bytes.
 #[tactic(auto, using(crate::proofs::FileIndices::named_past))]
 pub fn past_files(files: &[(String, Vec<u8>)]) -> usize
     ensures { bytes_at (named files.now) result ≡ [] }
@@ -34,7 +34,7 @@ pub fn past_files(files: &[(String, Vec<u8>)]) -> usize
     files.len()
 }
 
-// The bytes of the file at an index, and none past the last.
+/// The bytes of the file at an index. Empty if the index is past the last file.
 pub fn bytes_of(files: &[(String, Vec<u8>)], file_index: usize) -> &[u8]
     ensures { result.now ≡ bytes_at (named files.now) file_index }
 {
@@ -44,7 +44,8 @@ pub fn bytes_of(files: &[(String, Vec<u8>)], file_index: usize) -> &[u8]
     }
 }
 
-// Puts the bytes from `at` on, at most a piece, at the front of a buffer.
+/// Copies the bytes from the index `at` on to the front of `buf`, at most `piece` of them, and
+/// returns how many. Returns 0 only if no byte is left or `buf` is empty.
 pub fn give(bytes: &[u8], at: usize, piece: usize, buf: &mut [u8]) -> usize
     requires { 0 < piece }
     ensures bound { result ≤ length buf.new }

@@ -21,7 +21,8 @@ pub fn add_count(v: &mut Vector, mesh: u32, more: i32)
     v.counts[mesh as usize - 1] += more;
 }
 
-// Adds the crossings of the ray from the point along the axis with these triangles, closed or not.
+/// Adds the crossings of the ray from the point along the axis with these triangles, each to the
+/// count of its mesh. The meshes needn't be closed.
 pub fn count_rays(tris: &[Tri], point: &Spot, axis: Axis, v: &mut Vector)
     requires valid { All IsValidTri tris.now }
     requires numbered { All (HasMesh 64) tris.now }
@@ -36,7 +37,8 @@ pub fn count_rays(tris: &[Tri], point: &Spot, axis: Axis, v: &mut Vector)
     }
 }
 
-// Adds the crossings of the segment from p to q with these triangles, closed or not.
+/// Adds the crossings of the segment from `p` to `q` with these triangles, each to the count of its
+/// mesh. The segment is parallel to the axis `a`. The meshes needn't be closed.
 pub fn count_segments(tris: &[Tri], p: &Spot, q: &Spot, a: Axis, v: &mut Vector)
     requires valid { All IsValidTri tris.now }
     requires numbered { All (HasMesh 64) tris.now }

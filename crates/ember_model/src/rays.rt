@@ -14,8 +14,8 @@ use crate::triangle_planes::{component, support_of};
 use crate::values::{RayPoint, all_negative, edge_value, plane_value};
 use crate::vector3::sign_number;
 
-// Whether a ray meets a plane that has the value `front` at its start and the entry `slope` of its
-// normal along the ray.
+/// Whether a ray meets a plane that has the value `front` at its start and the entry `slope` of its
+/// normal along the ray. False if the ray starts on the plane or is parallel to it.
 pub fn meets(front: i128, slope: i64) -> bool
     requires front { Small (2 ^ 80) front }
     requires slope { Small 33554431 slope }
@@ -24,7 +24,8 @@ pub fn meets(front: i128, slope: i64) -> bool
     (front < 0 && slope > 0) || (front > 0 && slope < 0)
 }
 
-// The point at which such a ray meets the plane, if it does.
+/// The point at which such a ray along the axis meets the plane. It has no meaning if `meets` is
+/// false.
 #[tactic(none)]
 pub fn hit_on_ray(front: i128, slope: i64, axis: Axis) -> RayPoint
     requires front { Small (2 ^ 80) front }

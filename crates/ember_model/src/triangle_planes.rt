@@ -45,7 +45,7 @@ pub fn main_axis(p: &Plane) -> Axis
     }
 }
 
-// The entry of a plane's normal along an axis.
+/// The entry of a plane's normal along an axis.
 pub fn component(plane: &Plane, axis: Axis) -> i64
     requires { IsValidPlane plane.now }
     ensures value { result ≡ along plane.now axis }
@@ -95,7 +95,8 @@ pub fn has_no_normal(plane: &Plane) -> bool
     plane.a == 0 && (plane.b == 0 && plane.c == 0)
 }
 
-// The edge planes parallel to the main axis, for edges 0, 1 and 2.
+/// The edge planes parallel to the main axis, for edges 0, 1 and 2. Requires that `support` is the
+/// triangle's support plane.
 pub fn main_edges(t: &Tri, support: &Plane) -> [Plane; 3]
     requires tri { IsValidTri t.now }
     requires support { support.now ≡ support_of t.now }

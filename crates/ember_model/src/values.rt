@@ -35,7 +35,7 @@ pub struct RayPoint {
     pub offset: i128,
 }
 
-// The value of a plane at a point on the ray from `p`.
+/// The value of a plane at a point on the ray from `p`, at most 2^107 in size.
 #[tactic(none)]
 pub fn value_at_ray_point(edge: &Plane, p: &Spot, ray_point: &RayPoint) -> i128
     requires plane { IsValidPlane edge.now }
@@ -48,7 +48,7 @@ pub fn value_at_ray_point(edge: &Plane, p: &Spot, ray_point: &RayPoint) -> i128
         + ray_point.offset * component(edge, ray_point.axis) as i128
 }
 
-// Whether all planes are negative at a point on the ray from `p`.
+/// Whether the values of all planes are negative at a point on the ray from `p`.
 pub fn all_negative(edges: &[Plane], p: &Spot, ray_point: &RayPoint) -> bool
     requires planes { All IsValidPlane edges.now }
     requires spot { IsValidSpot p.now }
@@ -63,7 +63,7 @@ pub fn all_negative(edges: &[Plane], p: &Spot, ray_point: &RayPoint) -> bool
     true
 }
 
-// Whether no plane is positive at a point on the ray from `p`.
+/// Whether no plane has a positive value at a point on the ray from `p`.
 pub fn none_positive(edges: &[Plane], p: &Spot, ray_point: &RayPoint) -> bool
     requires planes { All IsValidPlane edges.now }
     requires spot { IsValidSpot p.now }
@@ -108,7 +108,8 @@ fn product_difference(a: i64, x: i64, b: i64, y: i64) -> i128
     a as i128 * x as i128 - b as i128 * y as i128
 }
 
-// The value, at `p`, of the plane through the edge from `u` to `v` and parallel to the axis `k`.
+/// The value, at `p`, of the plane through the edge from `u` to `v` and parallel to the axis `k`.
+/// It is at most 2^66 in size.
 pub fn edge_value(u: &Corner, v: &Corner, k: Axis, p: &Spot) -> i128
     requires from { IsValidCorner u.now }
     requires to { IsValidCorner v.now }

@@ -18,7 +18,7 @@ pub struct Vector3 {
     pub z: i64,
 }
 
-// The difference `to - from`.
+/// The difference `to - from`. Each entry is at most 4094 in size.
 #[tactic(none)]
 pub fn vector_between(from: &Corner, to: &Corner) -> Vector3
     requires from { IsValidCorner from.now }
@@ -33,7 +33,8 @@ pub fn vector_between(from: &Corner, to: &Corner) -> Vector3
     }
 }
 
-// The cross product of two differences of corners.
+/// The cross product of two differences of corners. Each entry is at most 33,521,672 in size, twice
+/// the square of 4094.
 #[tactic(none)]
 pub fn cross_product(u: &Vector3, v: &Vector3) -> Vector3
     requires u { IsVector3Within 4094 u.now }
@@ -48,7 +49,7 @@ pub fn cross_product(u: &Vector3, v: &Vector3) -> Vector3
     }
 }
 
-// The plane with the normal `normal` and the corner `u` on it.
+/// The plane with the normal `normal` that contains the corner `u`.
 #[tactic(none)]
 pub fn plane_with(normal: &Vector3, u: &Corner) -> Plane
     requires normal { IsVector3Within 33521672 normal.now }
@@ -64,8 +65,8 @@ pub fn plane_with(normal: &Vector3, u: &Corner) -> Plane
     }
 }
 
-// The normal of the plane through an edge of direction `step` and parallel to the axis `k`, times
-// the sign `s`.
+/// The normal of the plane through an edge of direction `step` and parallel to the axis `k`, times
+/// the sign `s`.
 #[tactic(none)]
 pub fn edge_normal(step: &Vector3, k: Axis, s: i64) -> Vector3
     requires step { IsVector3Within 4094 step.now }
@@ -83,7 +84,7 @@ pub fn edge_normal(step: &Vector3, k: Axis, s: i64) -> Vector3
     }
 }
 
-// The sign of `x` as a number: -1, 0 or 1.
+/// The sign of `x` as a number: -1, 0 or 1.
 pub fn sign_number(x: i64) -> i64
     ensures value { result ≡ sign x }
     ensures small { Small 1 result }

@@ -64,7 +64,7 @@ fn begin_at<T>(items: &mut Vec<T>, index: usize)
     items.reverse();
 }
 
-// A copy of the list, with room for this many more items.
+/// A copy of the list, with room for `room` more items. The only error is out-of-memory.
 pub fn with_room<T: Copy>(alloc: Global, items: &[T], room: usize) -> Result<Vec<T>, AllocError>
     ensures { IfOk result (λ list. list.items ≡ items.now) }
 {
@@ -74,7 +74,7 @@ pub fn with_room<T: Copy>(alloc: Global, items: &[T], room: usize) -> Result<Vec
 }
 
 impl Boundary {
-    // No sides.
+    /// A boundary without sides.
     pub fn new(alloc: Global) -> Boundary {
         Boundary {
             edges: Vec::new(alloc),
@@ -83,7 +83,7 @@ impl Boundary {
         }
     }
 
-    // A copy, with room for this many more sides.
+    /// A copy, with room for `room` more sides. The only error is out-of-memory.
     pub fn copy(&self, alloc: Global, room: usize) -> Result<Boundary, OutOfMemory>
         ensures edges { IfOk result (λ r. r.edges.items ≡ self.now.edges.items) }
         ensures corners { IfOk result (λ r. r.corners.items ≡ self.now.corners.items) }
@@ -144,8 +144,9 @@ impl Boundary {
         Ok(())
     }
 
-    // Keeps the edges below the plane, from the entry to the exit, and puts the edge along the cut
-    // after them, as seen around the ring. Afterwards the boundary may begin at any of its edges.
+    /// Keeps the edges below the plane, from the entry to the exit, and puts the edge along the cut
+    /// after them, as seen around the ring. Afterwards the boundary may begin at any of its edges.
+    /// The only error is out-of-memory.
     pub fn close(
         &mut self,
         passage: &Passage,
@@ -181,7 +182,7 @@ impl Boundary {
         }
     }
 
-    // Lets the sides begin at the oldest: the one whose plane has the lowest index.
+    /// Rotates the sides so that the oldest is first: the one whose plane has the lowest index.
     pub fn rotate_to_oldest(&mut self)
         requires some { 0 < length self.old.edges.items }
         requires paired { HasEqualLengths self.old }

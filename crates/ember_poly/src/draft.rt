@@ -32,7 +32,7 @@ fn refill<T: Copy>(list: &mut Vec<T>, items: &[T]) -> Result<(), AllocError>
     list.extend_from_slice(items)
 }
 
-// The ring as a draft.
+/// Turns a ring into a draft of the same face.
 pub fn draft_of(r: Ring) -> Draft
     ensures ring { HoldsRing result }
     ensures face { face_in result ≡ r }
@@ -133,7 +133,7 @@ impl Draft {
         })
     }
 
-    // The draft as a ring.
+    /// Turns the draft into a ring of the same face.
     pub fn into_ring(self) -> Ring
         requires { HoldsRing self }
         ensures { result ≡ face_in self }

@@ -54,7 +54,8 @@ fn level_along(axis: Axis, n: i64, d: i64) -> Option<Level>
     }
 }
 
-// The plane as a level, if it lies across an axis and has small numbers.
+/// The plane as a level. None unless the plane lies across an axis, its normal's entry along the
+/// axis is 1 or -1, and its constant is at most 2048 in size.
 pub fn level_of(p: &Plane) -> Option<Level>
     ensures { IfSome result (λ l. IsLevel l.axis l.at l.is_up p.now) }
 {
@@ -171,8 +172,8 @@ fn point_along(axis: Axis, t: i64, u: i128, v: i128, w: i64) -> Meet
     }
 }
 
-// The point of two planes and the level, in which the line of `p` turns to that of `q`
-// counter-clockwise.
+/// The point in which two planes meet the level. Requires that the line of `p` in the level turns
+/// to that of `q` counter-clockwise.
 pub fn level_point(p: &Plane, q: &Plane, level: &Level) -> Meet
     requires valid_p { IsValidPlane p.now }
     requires valid_q { IsValidPlane q.now }

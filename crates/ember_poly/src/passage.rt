@@ -179,10 +179,12 @@ fn reach_by(below_count: usize, some_above: bool) -> Reach
     }
 }
 
-// Classifies the corners by their sides of the plane, and computes each side once. The ring is
-// convex, so its corners form one run below the plane and one run not below it. Seen from the first
-// corner, either may be in two parts: `leading` corners below, `rising` ones that aren't, `falling`
-// ones below again, and others that aren't. `turn` is the index of the first falling corner.
+/// Classifies the corners of a ring by their sides of the plane, and computes each side at most
+/// once.
+// The ring is convex, so its corners form one run below the plane and one run not below it. Seen
+// from the first corner, either may be in two parts: `leading` corners below, `rising` ones that
+// aren't, `falling` ones below again, and others that aren't. `turn` is the index of the first
+// falling corner.
 // Example, with - for a corner below: in `--+++-` two are leading, three rising and one is falling,
 // `turn` is 5, and the run below is the last corner and the first two. `--++-+` would be two runs
 // below, so it doesn't occur.
@@ -257,7 +259,8 @@ fn point_of(p: &Plane, q: &Plane, r: &Plane, level: Option<Level>) -> Meet
     }
 }
 
-// Where the plane cuts the ring.
+/// The passage of a ring through the plane. Requires that the ring has corners on both sides of the
+/// plane, and that `classified` is what `classify` returned for them.
 pub fn find_passage(
     support: &Plane,
     boundary: &Boundary,

@@ -41,7 +41,7 @@ impl Model for Ring {
 // Room for this many cuts is reserved in a new ring: one by each wall of a box.
 const ROOM: usize = 6;
 
-// The corner as a point with the weight 1.
+/// The corner as a point with the weight 1.
 pub fn at_corner(c: &Corner) -> Meet
     requires { IsValidCorner c.now }
     ensures { spot_of result ≡ spot_of_corner c.now }

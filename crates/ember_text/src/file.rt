@@ -21,7 +21,7 @@ pub fn end_file(count: u32, out: &mut Vec<u8>) -> Result<(), OutOfMemory>
     put_ending(u64::from(count), out)
 }
 
-// Appends the last line, with this number of faces. The only error is out-of-memory.
+/// Appends the last line, with this number of faces. The only error is out-of-memory.
 pub fn put_ending(count: u64, out: &mut Vec<u8>) -> Result<(), OutOfMemory>
     ensures { OnOk result (out.new.items ≡ out.old.items ++ ending count) }
 {

@@ -28,7 +28,8 @@ fn decimal(text: &str, most_digits: usize) -> Option<u64>
     text.parse::<u64>().ok()
 }
 
-// `text` as a number from `least` to `most`, if it is one, in 1 to 9 decimal digits.
+/// `text` as a number. None unless it has 1 to 9 decimal digits, and nothing else, and the number
+/// is from `least` to `most`.
 pub fn number(text: &str, least: u32, most: u32) -> Option<u32>
     ensures { result ≡ number_within least most text.now }
 {
@@ -60,7 +61,8 @@ fn whole(text: &str, most_digits: usize) -> Option<i64>
     Some(if minus { -size } else { size })
 }
 
-// `text` as the level of `slice`, from -2048 to 2047.
+/// `text` as the level of `slice`, in units. None unless it is a whole number from -2048 to 2047,
+/// in 1 to 9 decimal digits after an optional hyphen.
 pub fn height(text: &str) -> Option<i32>
     ensures { result ≡ height_of text.now }
 {
@@ -123,7 +125,8 @@ fn four_parts(text: &str) -> Option<(&str, &str, &str, &str)>
     Some((x, y, z, w))
 }
 
-// `text` as a valid point, if it is four whole numbers with commas between them.
+/// `text` as a point. None unless it is four whole numbers with commas between them, and the point
+/// is valid.
 pub fn point(text: &str) -> Option<Spot>
     ensures { result ≡ point_of text.now }
 {
@@ -137,7 +140,7 @@ pub fn point(text: &str) -> Option<Spot>
     if is_valid(&point) { Some(point) } else { None }
 }
 
-// Whether a flag was given.
+/// Whether a flag was given: its value is `true`.
 pub fn is_set(value: Option<&str>) -> bool
     ensures { result ≡ is_set (option_map (λ text. text.now) value.entry) }
 {

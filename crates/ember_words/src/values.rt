@@ -12,7 +12,7 @@ use crate::text::{Text, Texts};
 use clap::ArgMatches;
 use std::alloc::Global;
 
-// The first value of an argument.
+/// The first value of an argument. None if it has none.
 #[tactic(auto, using(crate::proofs::ClapValues::first_value_rows))]
 pub fn first<'a>(matches: &ArgMatches<'a>, id: &str) -> Option<&'a str>
     ensures { option_map (λ text. text.now) result ≡ first_of id.now (rows_of (found_of matches.now)) }
@@ -20,7 +20,7 @@ pub fn first<'a>(matches: &ArgMatches<'a>, id: &str) -> Option<&'a str>
     matches.get_str(id)
 }
 
-// All values of an argument.
+/// All values of an argument, in order. None if the argument wasn't given.
 #[tactic(auto, using(crate::proofs::ClapValues::raw_values_rows))]
 pub fn all<'m, 'a>(matches: &'m ArgMatches<'a>, id: &str) -> Option<&'m [&'a str]>
     ensures { option_map (λ texts. map (λ text. text.now) texts.now) result ≡
@@ -29,7 +29,8 @@ pub fn all<'m, 'a>(matches: &'m ArgMatches<'a>, id: &str) -> Option<&'m [&'a str
     matches.get_strs(id)
 }
 
-// A number from `least` to `most`.
+/// The argument's first value as a number from `least` to `most`. Returns `WordsFault::Words` if
+/// there is no value, or it isn't such a number.
 pub fn number_value(
     matches: &ArgMatches<'_>,
     id: &str,
@@ -50,7 +51,8 @@ fn copied(alloc: Global, text: &str) -> Result<Text, WordsFault>
     Ok(Text::of(String::from_str(alloc, text)?))
 }
 
-// A text that isn't empty.
+/// A copy of the argument's first value. Returns `WordsFault::Words` if there is no value, or it is
+/// empty; the only other error is out-of-memory.
 pub fn text_value(alloc: Global, matches: &ArgMatches<'_>, id: &str) -> Result<Text, WordsFault>
     ensures { Reads (text_in id.now (rows_of (found_of matches.now))) result }
 {
@@ -60,7 +62,8 @@ pub fn text_value(alloc: Global, matches: &ArgMatches<'_>, id: &str) -> Result<T
     }
 }
 
-// A text that isn't empty, or none if the option wasn't given.
+/// A copy of the option's first value, or none if the option wasn't given. Returns
+/// `WordsFault::Words` if the value is empty; the only other error is out-of-memory.
 pub fn optional_value(
     alloc: Global,
     matches: &ArgMatches<'_>,
@@ -101,7 +104,8 @@ fn all_copied(alloc: Global, texts: &[&str]) -> Result<Texts, WordsFault>
     Ok(Texts::of(copies))
 }
 
-// The file names.
+/// Copies of the file names. Returns `WordsFault::Words` if none were given, one is empty or there
+/// are more than 64; the only other error is out-of-memory.
 pub fn file_names(alloc: Global, matches: &ArgMatches<'_>) -> Result<Texts, WordsFault>
     ensures { Reads (files_in (rows_of (found_of matches.now))) result }
 {

@@ -28,10 +28,11 @@ fn call_step<K: VisitedJobs + BoxWeight<I>, I, F: Fn(&Job) -> Result<Outcome<I>,
     call(job)
 }
 
-// Calls the step at a box, which decides what becomes of it and makes the item of a leaf. Enters
-// the box into the journal, adds the item to the parts, and returns the halves, if any: they are
-// still to be run. The halves' jobs are moved to the heap before this function returns, so each
-// level of `run_below` takes little stack.
+/// Calls the step at a box, which decides what becomes of it and makes the item of a leaf. Enters
+/// the box into the journal, adds the item to the parts, and returns the halves, if any: they are
+/// still to be run. The only error is out-of-memory.
+// The halves' jobs are moved to the heap before this function returns, so each level of `run_below`
+// takes little stack.
 #[tactic(auto, using(crate::proofs::DequeSteps::weigh_append))]
 pub fn run_step<
     K: VisitedJobs + BoxWeight<I>,
@@ -76,7 +77,7 @@ pub fn run_step<
     }
 }
 
-// Runs a box and all below it, left half first. The only error is out-of-memory.
+/// Runs a box and all below it, left half first. The only error is out-of-memory.
 #[tactic(auto, using(crate::proofs::DequeSteps::weigh_append))]
 pub fn run_below<
     K: VisitedJobs + BoxWeight<I>,
@@ -114,8 +115,9 @@ fn drain_next<K: VisitedJobs>(owner: &mut Owner<K>) -> Option<HeapJob>
     owner.pop_as::<Drained<K>>()
 }
 
-// Runs what is left in a deque to its end. All passes on it are back. The only error is
-// out-of-memory. `forever` has no end, so only a return leaves the loop.
+/// Runs all jobs that are left in a deque, with all boxes below them. Requires that all passes on
+/// the deque are back. The only error is out-of-memory.
+// `forever` has no end, so only a return leaves the loop.
 #[tactic(auto, using(crate::proofs::DequeSteps::weigh_append, crate::proofs::AccountSums::drained_one))]
 pub fn drain<
     R: Wait,

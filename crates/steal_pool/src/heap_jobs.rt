@@ -24,7 +24,7 @@ impl Model for HeapJob {
 }
 
 impl HeapJob {
-    // Moves the job to the heap.
+    /// Moves the job to the heap. The only error is out-of-memory.
     pub fn new(alloc: Global, job: Job) -> Result<HeapJob, OutOfMemory>
         ensures { IfOk result (λ heap_job. heap_job ≡ job) }
     {
@@ -33,7 +33,7 @@ impl HeapJob {
         })
     }
 
-    // The job.
+    /// The job, borrowed.
     pub fn job(&self) -> &Job
         ensures { result.now ≡ self.now }
     {

@@ -31,7 +31,8 @@ fn absorb<K: VisitedJobs>(owner: &mut Owner<K>, pass: Pass<HeapJob, HandleView>)
     owner.absorb::<ForStealer>(pass);
 }
 
-// Makes a pass on each deque, on which `lent` were made before.
+/// Makes a pass on each deque, and returns them in the order of the deques. Before the call, `lent`
+/// passes are out on each deque. The only error is out-of-memory.
 pub fn lend_each<K: VisitedJobs>(
     alloc: Global,
     stealers: &Vec<JobStealer<K>>,
@@ -62,7 +63,8 @@ fn first_pass(passes: &mut Vec<Pass<HeapJob, HandleView>>) -> Option<Pass<HeapJo
     Some(passes.remove(0))
 }
 
-// Takes back a worker's passes, one on each deque. Before it, `lent + 1` are out on each.
+/// Takes back a worker's passes, one on each deque. Before the call, `lent + 1` passes are out on
+/// each deque.
 pub fn absorb_each<K: VisitedJobs>(
     stealers: &Vec<JobStealer<K>>,
     owners: &mut Vec<Owner<K>>,

@@ -328,8 +328,10 @@ fn run_states<
     })
 }
 
-// The run of a root by 1 or more workers. No code reads the work. It is an argument because what
-// the names of `K` mean at a call is chosen by the call's arguments (names.rt).
+/// Runs the root and all boxes below it with this number of workers, at least 1. Returns the parts
+/// and the journals. The only error is out-of-memory.
+// No code reads the work. It is an argument because what the names of `K` mean at a call is chosen
+// by the call's arguments (names.rt).
 pub fn run_named<
     R: Threads + Wait + Sync,
     K: VisitedJobs + BoxWeight<I> + Send + Sync,

@@ -89,7 +89,7 @@ fn are_done<K: VisitedJobs, I>(workers: &[WorkerState<K, I>]) -> bool
     true
 }
 
-// Runs all workers to their end. The error means that memory was short in one of them.
+/// Runs all workers to their end. The error means that memory was short in one of them.
 pub fn run_workers<
     R: Threads + Wait + Sync,
     K: VisitedJobs + BoxWeight<I> + Send + Sync,

@@ -158,8 +158,9 @@ fn next_deque(from: usize, count: usize) -> usize {
     if from < last { from + 1 } else { 0 }
 }
 
-// Runs boxes until the finished ones make up the root. The error means that memory was short, here
-// or for another worker. `forever` has no end, so only a return leaves the loop.
+/// Runs boxes until the finished ones make up the root. The error means that memory was short, here
+/// or for another worker.
+// `forever` has no end, so only a return leaves the loop.
 #[tactic(auto, using(crate::proofs::AccountSums::balances_then, crate::proofs::AccountSums::released_balances, crate::proofs::AccountSums::none_balances))]
 pub fn work<
     R: Wait,
