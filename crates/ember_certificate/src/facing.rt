@@ -12,7 +12,7 @@ use ember_model::{Axis, Plane, main_axis};
 use ember_point::{Meet, side};
 use ember_wide::{PlanePoint, turn};
 
-// The same point, with less known of it.
+/// The same point as a `Meet`, whose limits are wider.
 pub fn meet_of(p: &SpacePoint) -> Meet
     ensures { meets.spot_of result ≡ spot_of p.now }
 {

@@ -3,7 +3,8 @@ ghost use Rattle.std.specs.Prelude.{◌≡◌, ◌≢◌, pos, ◌*ℤ◌, unsig
 ghost use Rattle.std.specs.Int.{◌∣◌};
 ghost use Rattle.ember_algebra.specs.Size.{Small};
 
-// The number divided by a divisor of it.
+/// `n / divisor`, without a remainder. The divisor isn't 0 and divides `n`, which is at most 2^62
+/// in size.
 pub fn quotient(n: i64, divisor: i64) -> i64
     requires nonzero { divisor ≢ pos 0 }
     requires divides { unsigned_abs divisor ∣ unsigned_abs n }
@@ -13,7 +14,8 @@ pub fn quotient(n: i64, divisor: i64) -> i64
     if divisor == 1 { n } else { n / divisor }
 }
 
-// The number divided by a divisor of it. Divides in 64 bits if the number fits into them.
+/// `n / divisor`, without a remainder. The divisor isn't 0 and divides `n`, which is at most 2^126
+/// in size. Divides in 64 bits if `n` is below 2^62 in size.
 pub fn large_quotient(n: i128, divisor: i64) -> i128
     requires nonzero { divisor ≢ pos 0 }
     requires divides { unsigned_abs divisor ∣ unsigned_abs n }

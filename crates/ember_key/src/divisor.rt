@@ -20,7 +20,7 @@ pub fn gcd(a: u64, b: u64) -> u64
     x
 }
 
-// The greatest common divisor of three numbers, 0 if all three are 0.
+/// The greatest common divisor of three numbers; 0 if all three are 0.
 pub fn divisor_of_three(a: i64, b: i64, c: i64) -> u64
     ensures { IsGreatestDivisor (a ∷ b ∷ c ∷ []) result }
 {
@@ -28,15 +28,15 @@ pub fn divisor_of_three(a: i64, b: i64, c: i64) -> u64
     gcd(first, c.unsigned_abs())
 }
 
-// The greatest common divisor of four numbers, 0 if all four are 0.
+/// The greatest common divisor of four numbers; 0 if all four are 0.
 pub fn divisor_of_four(a: i64, b: i64, c: i64, d: i64) -> u64
     ensures { IsGreatestDivisor (a ∷ b ∷ c ∷ d ∷ []) result }
 {
     gcd(divisor_of_three(a, b, c), d.unsigned_abs())
 }
 
-// The greatest common divisor of the two numbers. Computes one remainder in 128 bits, which is less
-// than the divisor.
+/// The greatest common divisor of `divisor`, which isn't 0, and `large`. Computes one remainder in
+/// 128 bits; it is less than `divisor`, so the rest runs in 64 bits.
 pub fn divisor_with(divisor: u64, large: i128) -> u64
     requires { divisor ≢ 0 }
     ensures { IsGcd divisor (unsigned_abs large) result }

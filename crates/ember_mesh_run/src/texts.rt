@@ -54,6 +54,7 @@ pub fn line(alloc: Global, why: &[u8]) -> Result<Vec<u8>, OutOfMemory>
     Ok(text)
 }
 
+/// Appends a count in decimal digits.
 pub fn put_count(count: u64, text: &mut Vec<u8>) -> Result<(), OutOfMemory>
     ensures { OnOk result (text.new.items ≡ text.old.items ++ decimal count) }
 {
@@ -61,6 +62,7 @@ pub fn put_count(count: u64, text: &mut Vec<u8>) -> Result<(), OutOfMemory>
     text.extend_from_slice(buffer.format(count).as_bytes())
 }
 
+/// Appends a number in decimal digits, with a minus sign before them if it is below 0.
 pub fn put_signed(number: i128, text: &mut Vec<u8>) -> Result<(), OutOfMemory>
     ensures { OnOk result (text.new.items ≡ text.old.items ++ signed_decimal number) }
 {

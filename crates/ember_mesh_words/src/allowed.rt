@@ -53,7 +53,8 @@ fn setting_beside(settings: &[Setting], argument: &Argument) -> Option<Setting>
     }
 }
 
-// The first option that is none of these.
+/// The first option among the arguments that `settings` doesn't list, or None. Only options with
+/// values count.
 pub fn first_beside(settings: &[Setting], arguments: &[Argument]) -> Option<Setting>
     ensures { result ≡ first_beside settings.now arguments.now }
 {

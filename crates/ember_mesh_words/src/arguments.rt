@@ -42,7 +42,7 @@ fn attached(word: &str) -> Option<(Setting, &str)>
     Some((setting, value))
 }
 
-// Whether the word asks for help: `--help` or `-h`.
+/// Whether the word asks for help: `--help` or `-h`.
 pub fn is_help(word: &str) -> bool
     ensures { result ≡ is_help word.now }
 {
@@ -87,7 +87,8 @@ fn said(alloc: Global, waits: Option<Setting>, word: &str) -> Result<WordMeaning
     }
 }
 
-// What the words after the command's name mean, in their order.
+/// What the words after the command's name mean, in their order. Refuses the first word that begins
+/// with a hyphen and is no option, by its number from 1, and an option at the end without a value.
 #[tactic(auto, using(crate::proofs::WordArguments::argument_more, crate::proofs::WordArguments::option_more, crate::proofs::WordArguments::unknown_more))]
 pub fn arguments_of(alloc: Global, words: &[String]) -> Result<Vec<Argument>, WordsFault>
     ensures { Reads (arguments_from 1 None (map string_bytes words.now)) (result_map_both (λ arguments. arguments.items) (λ fault.
@@ -150,7 +151,7 @@ impl Argument {
     }
 }
 
-// The last value of an option.
+/// The value of the option: the last one if there are several, None if there isn't any.
 #[tactic(auto, using(crate::proofs::WordArguments::later_value))]
 pub fn value_in(arguments: &[Argument], setting: Setting) -> Option<&Text>
     ensures { option_map (λ text. text.now) result ≡ value_in setting arguments.now }
@@ -164,7 +165,7 @@ pub fn value_in(arguments: &[Argument], setting: Setting) -> Option<&Text>
     value
 }
 
-// The file names.
+/// Copies of the file names among the arguments, in their order.
 pub fn names_in(alloc: Global, arguments: &[Argument]) -> Result<Texts, AllocError>
     ensures { IfOk result (λ names. names ≡ names_in arguments.now) }
 {
@@ -177,14 +178,14 @@ pub fn names_in(alloc: Global, arguments: &[Argument]) -> Result<Texts, AllocErr
     Ok(Texts::of(names))
 }
 
-// Whether one of the arguments is `--quiet`.
+/// Whether one of the arguments is `--quiet`.
 pub fn are_quiet(arguments: &[Argument]) -> bool
     ensures { result ≡ list_any is_quiet arguments.now }
 {
     arguments.iter().any(|argument| argument.is_quiet())
 }
 
-// Whether one of the arguments asks for help.
+/// Whether one of the arguments asks for help.
 pub fn ask_help(arguments: &[Argument]) -> bool
     ensures { result ≡ list_any asks_help arguments.now }
 {

@@ -23,7 +23,8 @@ fn document(alloc: Global, names: &Texts) -> Result<Text, WordsFault>
     }
 }
 
-// The document, its grid and the output of these arguments.
+/// The request that the arguments of `export` make. Refuses any number of file names but one, an
+/// option that `export` doesn't take, a missing or wrong output and wrong digits, in this order.
 pub fn export_of(alloc: Global, arguments: &[Argument]) -> Result<ExportRequest, WordsFault>
     ensures value { Reads (export_of arguments.now) result }
     ensures digits { IfOk result (λ request. IfSome request.digits (λ n. n ≤ 17)) }

@@ -15,7 +15,7 @@ fn put_mesh(text: &mut String, operator: &str, mesh: usize) -> Result<(), AllocE
     text.push_str(buffer.format(mesh))
 }
 
-// The meshes 1 to `more` + 1 with the operator between them.
+/// The meshes 1 to `more` + 1 joined by the operator, as in `m1|m2|m3`. `more` is at most 64.
 pub fn joined(alloc: Global, operator: &str, more: usize) -> Result<String, AllocError>
     requires { more ≤ 64 }
     ensures { IfOk result (λ text. string_bytes text ≡ joined operator.now more) }

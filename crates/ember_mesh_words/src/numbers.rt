@@ -28,7 +28,7 @@ fn is_positive(number: &Number<'_>) -> bool
     }
 }
 
-// Whether a text is a decimal above 0.
+/// Whether the text is a decimal above 0.
 pub fn is_above_zero(text: &str) -> bool
     ensures { result ≡ is_above_zero (value_of_text text.now) }
 {

@@ -16,7 +16,8 @@ fn is_option(word: &str) -> bool
     begins_with_hyphen(word) && !is_help(word)
 }
 
-// The number of the first such word, if there is one. The first word has the number 1.
+/// The number, from 1, of the first word that begins with a hyphen and doesn't ask for help. None
+/// if there is no such word.
 pub fn first_option(words: &[String]) -> Option<usize>
     ensures { result ≡ first_option 1 (map string_bytes words.now) }
 {
@@ -28,7 +29,7 @@ pub fn first_option(words: &[String]) -> Option<usize>
     None
 }
 
-// Whether one of the words asks for help.
+/// Whether one of the words asks for help.
 pub fn are_for_help(words: &[String]) -> bool
     ensures { result ≡ list_any is_help (map string_bytes words.now) }
 {
@@ -40,7 +41,7 @@ pub fn are_for_help(words: &[String]) -> bool
     false
 }
 
-// The words that don't begin with a hyphen.
+/// Copies of the words that don't begin with a hyphen, in their order.
 pub fn plain_names(alloc: Global, words: &[String]) -> Result<Texts, AllocError>
     ensures { IfOk result (λ names. names ≡ plain_names (map string_bytes words.now)) }
 {

@@ -11,7 +11,8 @@ use crate::names::Setting;
 use crate::values::{counted, folder, step};
 use std::alloc::Global;
 
-// The meshes, the folder and the step of these arguments.
+/// The request that the arguments of `snap` make, with 1 to 64 files. Refuses another number of
+/// files, an option that `snap` doesn't take, a missing folder and a wrong step, in this order.
 pub fn snap_of(alloc: Global, arguments: &[Argument]) -> Result<SnapRequest, WordsFault>
     ensures value { Reads (snap_of arguments.now) result }
     ensures limits { IfOk result IsWithinSnapLimits }

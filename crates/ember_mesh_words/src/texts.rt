@@ -6,21 +6,21 @@ ghost use Rattle.ember_mesh_words.specs.Arguments.{parts_of};
 use ember_words::Text;
 use std::alloc::{AllocError, Global};
 
-// A text of its own.
+/// A copy of the text.
 pub fn copied(alloc: Global, text: &str) -> Result<Text, AllocError>
     ensures { IfOk result (λ copy. copy ≡ text.now) }
 {
     Ok(Text::of(String::from_str(alloc, text)?))
 }
 
-// The text before the first equals sign, and the text after it.
+/// The text before the first equals sign, and the text after it. None if there is no equals sign.
 pub fn parts(word: &str) -> Option<(&str, &str)>
     ensures { option_map (λ p. (p.0.now, p.1.now)) result ≡ parts_of word.now }
 {
     word.split_once('=')
 }
 
-// Whether the word begins with a hyphen.
+/// Whether the word begins with a hyphen.
 pub fn begins_with_hyphen(word: &str) -> bool
     ensures { result ≡ is_minus word.now }
 {

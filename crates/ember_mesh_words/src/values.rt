@@ -15,7 +15,7 @@ use ember_number::number_below;
 use ember_words::{Text, Texts};
 use std::alloc::{AllocError, Global};
 
-// The same names, if there are 1 to 64 of them.
+/// The same names, if there are 1 to 64 of them. Otherwise `NoFiles` or `TooManyFiles`.
 pub fn counted(names: Texts) -> Result<Texts, Refusal>
     ensures value { result ≡ files_of names }
     ensures range { IfOk result (λ files. IsInRange 1 64 (length files)) }
@@ -30,7 +30,8 @@ pub fn counted(names: Texts) -> Result<Texts, Refusal>
     Ok(names)
 }
 
-// The expression of this number of meshes.
+/// The expression over 1 to 64 meshes: a copy of the given one, or the meshes joined by the
+/// operation's operator. `NoExpression` if there is neither, `NeedlessExpression` if both.
 pub fn expression(
     alloc: Global,
     operation: Operation,
@@ -48,7 +49,7 @@ pub fn expression(
     }
 }
 
-// The name of the folder.
+/// A copy of the folder's name; `NoFolder` if none is given.
 pub fn folder(alloc: Global, given: Option<&Text>) -> Result<Text, WordsFault>
     ensures { Reads (folder_of (option_map (λ text. text.now) given.entry)) result }
 {
@@ -58,7 +59,7 @@ pub fn folder(alloc: Global, given: Option<&Text>) -> Result<Text, WordsFault>
     }
 }
 
-// A value that may be missing.
+/// A copy of the value, or None if none is given.
 pub fn optional(alloc: Global, given: Option<&Text>) -> Result<Option<Text>, AllocError>
     ensures { IfOk result (λ value. value ≡ option_map (λ text. text.now) given.entry) }
 {
@@ -68,7 +69,7 @@ pub fn optional(alloc: Global, given: Option<&Text>) -> Result<Option<Text>, All
     }
 }
 
-// The name of the output.
+/// A copy of the output's name; `NoOutput` if none is given.
 pub fn output(alloc: Global, given: Option<&Text>) -> Result<Text, WordsFault>
     ensures { Reads (output_of (option_map (λ text. text.now) given.entry)) result }
 {
@@ -86,7 +87,8 @@ fn ends_in(ending: &[u8], name: &[u8]) -> bool
     end.eq_ignore_ascii_case(ending)
 }
 
-// The format that the output's name shows.
+/// The format that the ending of the output's name shows, in any case. `OutputEnding` if the ending
+/// is none of `.stl`, `.glb`, `.obj`, `.ply` and `.off`.
 pub fn format_of(name: &str) -> Result<OutputFormat, Refusal>
     ensures { result ≡ format_of name.now }
 {
@@ -106,7 +108,8 @@ pub fn format_of(name: &str) -> Result<OutputFormat, Refusal>
     }
 }
 
-// The step that is asked for.
+/// The step that is asked for: `nice` if none is given. `NotAStep` if the value is neither `nice`
+/// nor `finest` nor a decimal above 0.
 pub fn step(alloc: Global, given: Option<&Text>) -> Result<WantedStep, WordsFault>
     ensures value { Reads (step_of (option_map (λ text. text.now) given.entry)) result }
     ensures above { IfOk result IsValidStep }
@@ -127,7 +130,7 @@ pub fn step(alloc: Global, given: Option<&Text>) -> Result<WantedStep, WordsFaul
     Err(WordsFault::Refused(Refusal::NotAStep))
 }
 
-// The number of workers, from 1 to 64.
+/// The number of workers, from 1 to 64: 4 if none is given. `Workers` for other values.
 pub fn workers(given: Option<&Text>) -> Result<u32, Refusal>
     ensures value { result ≡ workers_of (option_map (λ text. text.now) given.entry) }
     ensures range { IfOk result (λ n. IsInRange 1 64 n) }
@@ -142,7 +145,7 @@ pub fn workers(given: Option<&Text>) -> Result<u32, Refusal>
     }
 }
 
-// The number of digits, at most 17, if it is given.
+/// The number of decimal places, from 0 to 17; None if it isn't given. `Digits` for other values.
 pub fn digits(given: Option<&Text>) -> Result<Option<u32>, Refusal>
     ensures value { result ≡ digits_of (option_map (λ text. text.now) given.entry) }
     ensures range { IfOk result (λ digits. IfSome digits (λ n. n ≤ 17)) }

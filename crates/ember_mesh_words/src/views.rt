@@ -12,7 +12,8 @@ use crate::names::Setting;
 use crate::values::{counted, output};
 use std::alloc::Global;
 
-// The page of these arguments.
+/// The request that the arguments of `view` make, with 1 to 64 files. Refuses another number of
+/// files, an option that `view` doesn't take, and a missing output, in this order.
 pub fn view_of(alloc: Global, arguments: &[Argument]) -> Result<ViewRequest, WordsFault>
     ensures value { Reads (view_of arguments.now) result }
     ensures range { IfOk result (λ request. IsInRange 1 64 (length request.files)) }

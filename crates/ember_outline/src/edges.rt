@@ -33,7 +33,8 @@ fn has_edge_off(last: &Meet, edges: &[CorneredEdge]) -> bool
     false
 }
 
-// Whether some edge of a face does.
+/// Whether some edge of a face starts or ends off its own plane. Each edge ends at the start of the
+/// next, and the last one at the start of the first.
 pub fn has_edge_off_round(edges: &[CorneredEdge]) -> bool
     ensures { IsTrue result ↔ HasEdgeOffRound (map edge_of edges.now) }
 {

@@ -89,8 +89,8 @@ fn is_chain(support: &Plane, first: &CorneredEdge, others: &[CorneredEdge]) -> b
     true
 }
 
-// Whether the edges lead once around a convex polygon in the plane, counter-clockwise as seen from
-// its front.
+/// Whether the edges lead once around a convex polygon in the plane, counter-clockwise as seen from
+/// its front. Fewer than three edges don't.
 pub fn is_round(alloc: Global, support: &Plane, edges: &[CorneredEdge]) -> Result<bool, OutOfMemory>
     requires { IsValidPlane support.now }
     ensures { IfOk result (λ round. IsTrue round ↔

@@ -12,7 +12,7 @@ use ember_model::Plane;
 use ember_point::{Meet, side};
 use ember_reread::{CorneredEdge, CorneredFace};
 
-// Whether the corner is on the plane.
+/// Whether the corner is on the plane.
 pub fn is_on(plane: &Plane, corner: &Meet) -> bool
     requires { IsValidPlane plane.now }
     ensures { result ≡ is_zero (value_at plane.now (spot_of corner.now)) }
@@ -20,7 +20,7 @@ pub fn is_on(plane: &Plane, corner: &Meet) -> bool
     matches!(side(plane, corner), Sign::Zero)
 }
 
-// Whether all corners are on the plane of the face.
+/// Whether all corners of the face are on its plane.
 pub fn are_on_face(face: &CorneredFace) -> bool
     ensures { result ≡ list_all (λ (e : CorneredEdge). is_zero (value_at face.now.support (spot_of e.start)))
         face.now.edges.items }
@@ -37,7 +37,7 @@ fn is_behind(edge: &CorneredEdge, corner: &Meet) -> bool
     matches!(side(&edge.plane, corner), Sign::Neg)
 }
 
-// Whether the edges start behind the plane of the edge.
+/// Whether the other edges all start behind the plane of `edge`, and none of them on it.
 pub fn start_behind(edge: &CorneredEdge, others: &[CorneredEdge]) -> bool
     ensures { result ≡ list_all (λ (e : CorneredEdge). is_negative (value_at edge.now.plane (spot_of e.start)))
         others.now }
@@ -45,7 +45,7 @@ pub fn start_behind(edge: &CorneredEdge, others: &[CorneredEdge]) -> bool
     others.iter().all(|other| is_behind(edge, &other.start))
 }
 
-// Whether the corner is behind the planes of the edges.
+/// Whether the corner is behind the planes of all of the edges, and on none of them.
 pub fn lies_behind(corner: &Meet, edges: &[CorneredEdge]) -> bool
     ensures { result ≡ list_all (λ (e : CorneredEdge). is_negative (value_at e.plane (spot_of corner.now)))
         edges.now }

@@ -54,8 +54,8 @@ fn space_point(m: &Meet) -> Option<SpacePoint>
     })
 }
 
-// The corner in which three planes meet, in lowest terms. None if there isn't one, or if its
-// numbers are too large.
+/// The corner in which three planes meet, in lowest terms. None if they don't meet in one point, or
+/// if its numbers are beyond the limits of a `SpacePoint`.
 pub fn corner_of(p: &Plane, q: &Plane, r: &Plane) -> Option<SpacePoint>
     requires p { IsValidPlane p.now }
     requires q { IsValidPlane q.now }

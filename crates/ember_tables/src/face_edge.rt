@@ -15,7 +15,7 @@ pub struct FaceEdge {
     pub after: Plane,
 }
 
-// The first plane of the list, or the other one if it has none.
+/// The first plane of the list, or `otherwise` if the list is empty.
 pub fn first_or(edges: &[Plane], otherwise: &Plane) -> Plane
     ensures { result ≡ first_or otherwise.now edges.now }
 {
@@ -25,7 +25,7 @@ pub fn first_or(edges: &[Plane], otherwise: &Plane) -> Plane
     }
 }
 
-// The last plane of the list, or the other one if it has none.
+/// The last plane of the list, or `otherwise` if the list is empty.
 pub fn last_or(edges: &[Plane], otherwise: &Plane) -> Plane
     ensures { result ≡ last_or otherwise.now edges.now }
 {

@@ -20,8 +20,8 @@ pub struct Keyed {
     pub end: SpacePoint,
 }
 
-// The corner in which an edge starts. `NoLine` if its plane is parallel to the face, and `NoCorner`
-// if it starts in no point within the limits.
+/// The corner in which an edge starts. `NoLine` if its plane is parallel to the face, and
+/// `NoCorner` if it doesn't start in one point within the limits of a `SpacePoint`.
 pub fn start_of(
     face: usize,
     support: &Plane,
@@ -44,8 +44,8 @@ pub fn start_of(
     }
 }
 
-// The key of an edge's line, and the corner in which it ends. `NoLine` if the edge plane is
-// parallel to the face, and `NoCorner` if the end of the edge isn't one point within the limits.
+/// The key of an edge's line, and the corner in which it ends. `NoLine` if its plane is parallel to
+/// the face, and `NoCorner` if it doesn't end in one point within the limits of a `SpacePoint`.
 pub fn keys_of(edge: &FaceEdge) -> Result<Keyed, TableFault>
     requires { IsValidEdge edge.now }
     ensures ok { IfOk result (λ k. IsKeyed edge.now k) }

@@ -8,7 +8,8 @@ use crate::fault::TableFault;
 use indexmap::IndexSet;
 use std::hash::Hash;
 
-// The number of the entry in the table. If it isn't there yet, it becomes the last one.
+/// The index of the entry in the table, which has fewer than 4,294,967,295 entries. Appends the
+/// entry if it isn't there yet. Fails only if there is no memory.
 pub fn number_of<T: Copy + Eq + Hash>(table: &mut IndexSet<T>, entry: T) -> Result<u32, TableFault>
     requires room { length table.old.keys < 4294967295 }
     ensures entries { OnOk result (IsKeptOrPut entry table.old.keys table.new.keys) }

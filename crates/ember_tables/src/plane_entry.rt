@@ -14,7 +14,7 @@ pub struct PlaneEntry {
     pub d: i64,
 }
 
-// The numbers of the plane.
+/// The table's entry for the plane: its four numbers.
 pub fn entry_of(p: &Plane) -> PlaneEntry
     ensures { result ≡ entry_of p.now }
 {

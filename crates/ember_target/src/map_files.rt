@@ -8,7 +8,7 @@ use ember_io::{Failed, OutOfMemory};
 use std::alloc::Global;
 use std::collections::BTreeMap;
 
-// The bytes that a name holds, or None if there is no file of that name.
+/// The bytes of the file of this name, or None if there is no such file.
 pub fn file_bytes<'a>(files: &'a BTreeMap<String, Vec<u8>>, name: &str) -> Option<&'a [u8]>
     ensures { MatchOption result (value_at (held_by files.now) name.now ≡ None) (λ bytes.
         value_at (held_by files.now) name.now ≡ Some bytes.now) }
@@ -19,7 +19,8 @@ pub fn file_bytes<'a>(files: &'a BTreeMap<String, Vec<u8>>, name: &str) -> Optio
     }
 }
 
-// A name holds these bytes then.
+/// Puts a file of this name with these bytes, in place of the one that had the name. Changes no
+/// file if there is no memory.
 pub fn put_file(
     alloc: Global,
     files: &mut BTreeMap<String, Vec<u8>>,
@@ -35,7 +36,8 @@ pub fn put_file(
     Ok(())
 }
 
-// The file of this name takes these bytes at its end. It fails if there is none, or no memory.
+/// Appends the bytes to the file of this name. Fails, and changes no file, if there is no such file
+/// or no memory.
 pub fn extend_file(
     files: &mut BTreeMap<String, Vec<u8>>,
     name: &str,
@@ -54,7 +56,7 @@ pub fn extend_file(
     Ok(())
 }
 
-// No file has this name then.
+/// Removes the file of this name, if there is one.
 pub fn remove_file(files: &mut BTreeMap<String, Vec<u8>>, name: &str)
     ensures { Puts (held_by files.old) (held_by files.new) name.now None }
 {

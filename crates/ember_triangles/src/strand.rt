@@ -13,7 +13,7 @@ pub enum Strand {
 }
 
 impl Strand {
-    // The number of the strand's plane.
+    /// The number of the strand's plane.
     pub fn plane(&self) -> u32 {
         match self {
             Strand::Over(plane) => *plane,

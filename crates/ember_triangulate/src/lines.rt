@@ -17,7 +17,7 @@ struct Lines {
     diagonals: Diagonals,
 }
 
-// The segment with these numbers.
+/// The segment from one corner to another on a line of a plane, all by their numbers.
 pub fn segment(plane: u32, line: u32, start: u32, end: u32) -> Segment
     ensures plane { result.plane ≡ plane }
     ensures line { result.line ≡ line }

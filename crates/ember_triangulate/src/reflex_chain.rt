@@ -13,7 +13,7 @@ pub struct ReflexChain {
 }
 
 impl ReflexChain {
-    // The chain of one corner, with this index.
+    /// The chain of one corner, by the index of its place.
     pub fn of(alloc: Global, place: usize) -> Result<ReflexChain, Stop> {
         let mut places = VecDeque::new(alloc);
         places.push_back(place)?;

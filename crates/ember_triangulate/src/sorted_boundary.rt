@@ -35,7 +35,8 @@ pub struct SortedBoundary {
 }
 
 impl SortedBoundary {
-    // The boundary with its corners sorted from left to right, as seen from the plane's front.
+    /// The boundary with its corners sorted from left to right, as seen from the plane's front.
+    /// `NotFound` if a corner has no point, or if no segment starts there.
     pub fn of(
         alloc: Global,
         plane: &Plane,
@@ -71,7 +72,8 @@ pub fn turn_at(places: &[Place], a: usize, b: usize, c: usize) -> Sign {
     turn(&a.point, &b.point, &c.point)
 }
 
-// Whether the places with these indices turn left.
+/// Whether the places with these indices turn left. They don't if they lie on one line, or if an
+/// index is out of range.
 pub fn turns_left(places: &[Place], a: usize, b: usize, c: usize) -> bool {
     match turn_at(places, a, b, c) {
         Sign::Pos => true,

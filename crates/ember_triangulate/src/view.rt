@@ -13,7 +13,7 @@ pub struct View {
 }
 
 impl View {
-    // The view of the plane from its front, along its main axis.
+    /// The view of the plane from its front, along its main axis.
     pub fn of(plane: &Plane) -> View {
         let axis = main_axis(plane);
         let along = match axis {
@@ -50,7 +50,7 @@ pub fn sweep_order(p: &PlanePoint, q: &PlanePoint) -> Ordering {
     }
 }
 
-// Whether the three points turn left.
+/// Whether the three points turn left. Points on one line don't.
 pub fn is_left_turn(p: &PlanePoint, q: &PlanePoint, r: &PlanePoint) -> bool {
     match turn(p, q, r) {
         Sign::Pos => true,
