@@ -1,8 +1,8 @@
 -- The triangles of an output have the meaning of its expression.
 use Rattle.std.proofs.Common.{List, length}
 use Rattle.ember_expr.specs.Formula.{Formula}
-use Rattle.ember_meaning.specs.Meaning.{IsFalseOutside, HaveMeaning}
-use Rattle.ember_meaning.specs.Nearby.{WindOnceAtMost}
+use Rattle.ember_meaning.specs.Regions.Meaning.{IsFalseOutside, HaveMeaning}
+use Rattle.ember_meaning.specs.Regions.Nearby.{WindOnceAtMost}
 use Rattle.ember_scene.specs.Images.{images_of}
 use Rattle.ember_solid_mesh.specs.MeshFaces.{faces_of_mesh}
 use Rattle.ember_solid_mesh.proofs.MeshMeaning.{mesh_means, mesh_winds_once_at_most}

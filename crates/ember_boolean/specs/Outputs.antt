@@ -14,7 +14,7 @@ use Rattle.ember_model.specs.declared.tri.Tri.{Tri}
 use Rattle.ember_moves.specs.Shown.{AreMoves}
 use Rattle.ember_mesh_text.specs.declared.format.TextFormat.{TextFormat}
 use Rattle.ember_mesh_text.specs.Texts.{text_of}
-use Rattle.ember_meaning.specs.Solids.{IsSolidReport}
+use Rattle.ember_meaning.specs.Regions.Solids.{IsSolidReport}
 use Rattle.ember_scene.specs.Images.{images_of, counts_on}
 use Rattle.ember_solid_mesh.specs.declared.mesh.SolidMesh.{SolidMesh}
 use Rattle.ember_solid_mesh.specs.Asked.{IsThereIf}

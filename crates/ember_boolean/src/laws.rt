@@ -1,10 +1,10 @@
 // What outputs mean, and which files are never open.
 ghost use Rattle.std.specs.Prelude.{List, All};
-ghost use Rattle.ember_chain.specs.Chains.{IsClosedSurface};
+ghost use Rattle.ember_meaning.specs.Closed.Chains.{IsClosedSurface};
 ghost use Rattle.ember_expr.specs.Formula.{Formula};
 ghost use Rattle.ember_grid.specs.Closed.{IsSurfaceClosed};
-ghost use Rattle.ember_meaning.specs.Meaning.{IsFalseOutside, HaveMeaning};
-ghost use Rattle.ember_meaning.specs.Nearby.{WindOnceAtMost};
+ghost use Rattle.ember_meaning.specs.Regions.Meaning.{IsFalseOutside, HaveMeaning};
+ghost use Rattle.ember_meaning.specs.Regions.Nearby.{WindOnceAtMost};
 ghost use Rattle.ember_scene.specs.declared.fault.Open.{Open};
 ghost use Rattle.ember_scene.specs.declared.fault.SceneFault.TheVariants as scene_fault;
 ghost use Rattle.ember_scene.specs.Images.{images_of};

@@ -9,7 +9,7 @@ use Rattle.ember_model.specs.declared.point.Axis.{Axis}
 use Rattle.ember_model.specs.declared.face.Face.{Face}
 use Rattle.ember_model.specs.Faces.{is_flat, face_of, crossing}
 use Rattle.ember_model.specs.Meshes.{wind, faces_of, of_mesh, vector, meshes}
-use Rattle.ember_meaning.specs.Meaning.{one_if}
+use Rattle.ember_meaning.specs.Regions.Meaning.{one_if}
 use Rattle.ember_meaning.proofs.Lines.{In, total_of, Fraction, is_below, on_line, key, is_hit, amount, beyond, onward}
 use Rattle.ember_meaning.proofs.Lines.{is_same_place, is_tri_hit, tri_key, tri_hits, seen, Placed}
 use Rattle.ember_meaning.proofs.Telescope.{telescope}

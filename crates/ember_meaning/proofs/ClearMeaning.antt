@@ -17,8 +17,8 @@ use Rattle.ember_expr.specs.Truth.{truth}
 use Rattle.ember_leaf.specs.declared.kept.Kept.{Kept}
 use Rattle.ember_leaf.specs.Scenes.{IsWritten}
 use Rattle.ember_text.specs.Documents.{written_face}
-use Rattle.ember_meaning.specs.Meaning.{one_if}
-use Rattle.ember_meaning.specs.Meaning.{IsFalseOutside, HaveMeaning}
+use Rattle.ember_meaning.specs.Regions.Meaning.{one_if}
+use Rattle.ember_meaning.specs.Regions.Meaning.{IsFalseOutside, HaveMeaning}
 use Rattle.ember_meaning.proofs.General.{meaning_on_lines}
 use Rattle.ember_meaning.proofs.GeneralLines.{general_line}
 

@@ -39,11 +39,11 @@ use Rattle.ember_text.specs.Texts.{oriented_face}
 use Rattle.ember_meaning.proofs.Lines.{seen as counts_ahead}
 use Rattle.ember_text.specs.Documents.{written_face}
 use Rattle.ember_trace.proofs.CutRegions.{IsCutOut, region_cut}
-use Rattle.ember_meaning.specs.Meaning.{one_if}
+use Rattle.ember_meaning.specs.Regions.Meaning.{one_if}
 use Rattle.ember_meaning.proofs.CountedPoints.{IsFairAt, IsFairInAll, is_in_box}
 use Rattle.ember_meaning.proofs.Listed.{Entry, IsListing, has_inside, is_hit_at, Without, ends, keeps, drops}
 use Rattle.ember_meaning.proofs.Lines.{In, here, there, Fraction, is_below, key, is_hit, is_tri_hit, tri_key, tri_hits, Placed, onward, beyond}
-use Rattle.ember_meaning.specs.Meaning.{IsFalseOutside, HasMeaning}
+use Rattle.ember_meaning.specs.Regions.Meaning.{IsFalseOutside, HasMeaning}
 use Rattle.ember_meaning.proofs.HitConditions.{hit_point, SomeHit, IsGeneralAt, IsRegular, HaveMeaningOnLines}
 use Rattle.ember_meaning.proofs.Entries.{one_holds, Listed, leaf_list_exists}
 use Rattle.ember_law.proofs.Vectors.{axes_law}

@@ -23,7 +23,7 @@ use Rattle.ember_leaf.specs.Written.{front}
 use Rattle.ember_text.specs.Documents.{written_face}
 use Rattle.ember_meaning.proofs.CountedPoints.{IsFairInAll}
 use Rattle.ember_meaning.proofs.Listed.{Entry, is_hit_at}
-use Rattle.ember_meaning.specs.Meaning.{HasMeaning}
+use Rattle.ember_meaning.specs.Regions.Meaning.{HasMeaning}
 use Rattle.ember_meaning.proofs.Lines.{In, is_below, key, is_hit, Placed, beyond, onward, tri_key, tri_hits, seen}
 
 -- the winding numbers behind a region, of those before and after it along its main axis

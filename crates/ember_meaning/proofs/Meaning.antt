@@ -29,10 +29,10 @@ use Rattle.ember_leaf.specs.Scenes.{HasOneValue}
 use Rattle.ember_text.specs.Documents.{written_face}
 use Rattle.ember_meaning.proofs.CountedPoints.{is_in_box}
 use Rattle.ember_meaning.proofs.Listed.{Entry, IsEntries, is_hit_at, Without}
-use Rattle.ember_meaning.specs.Meaning.{one_if}
+use Rattle.ember_meaning.specs.Regions.Meaning.{one_if}
 use Rattle.ember_meaning.proofs.Lines.{In, total_of, Fraction, is_below, on_line, key, is_hit, amount, beyond, onward}
 use Rattle.ember_meaning.proofs.Lines.{is_same_place, is_tri_hit, tri_key, tri_hits, seen}
-use Rattle.ember_meaning.specs.Meaning.{IsFalseOutside}
+use Rattle.ember_meaning.specs.Regions.Meaning.{IsFalseOutside}
 use Rattle.ember_meaning.proofs.HitConditions.{before_hit, after_hit, hit_point, truth_before, truth_after, truth_ahead, truth_back, IsRegular, IsRegularLine}
 use Rattle.ember_meaning.proofs.AlongLine.{along_line, total_of-filter}
 use Rattle.ember_meaning.proofs.Entries.{entries_count, one_holds}

@@ -11,13 +11,13 @@ use Rattle.ember_model.specs.Points.{offset_by}
 use Rattle.ember_law.proofs.Generic.{wind_shifted}
 use Rattle.ember_law.proofs.GenericClear.{clear_shifted, clear_faces}
 use Rattle.ember_law.proofs.Shifted.{weight_shifted}
-use Rattle.ember_chain.specs.Chains.{face_from, IsOutlined}
-use Rattle.ember_chain.proofs.ClearRectangle.{each_axis}
-use Rattle.ember_chain.proofs.ShiftedPoints.{clear_shifted_faces}
+use Rattle.ember_meaning.specs.Closed.Chains.{face_from, IsOutlined}
+use Rattle.ember_meaning.proofs.ClearRectangle.{each_axis}
+use Rattle.ember_meaning.proofs.ShiftedPoints.{clear_shifted_faces}
 use Rattle.ember_expr.specs.Formula.{Formula}
 use Rattle.ember_expr.specs.Truth.{truth}
-use Rattle.ember_meaning.specs.Meaning.{one_if, HaveMeaning}
-use Rattle.ember_meaning.specs.Nearby.{HaveMeaningNearby, WindNearbyAsHere, WindHereAsNearby, WindOnceAtMost, AgreeOver}
+use Rattle.ember_meaning.specs.Regions.Meaning.{one_if, HaveMeaning}
+use Rattle.ember_meaning.specs.Regions.Nearby.{HaveMeaningNearby, WindNearbyAsHere, WindHereAsNearby, WindOnceAtMost, AgreeOver}
 use Rattle.ember_meaning.proofs.ClearMeaning.{vector_shifted}
 
 module _ (scene : List Tri) (x : Formula) (ws : List WrittenFace) (lines : AllByRecursion IsOutlined ws)

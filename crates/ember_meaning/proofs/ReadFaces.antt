@@ -11,8 +11,8 @@ use Rattle.ember_model.specs.Meshes.{IsScene}
 use Rattle.ember_poly.specs.Cuts.{HasInside}
 use Rattle.ember_poly.proofs.OutlinePoints.{outline_has_its_points}
 use Rattle.ember_poly.proofs.OwnOutline.{outline_is_its_own}
-use Rattle.ember_chain.specs.Chains.{face_from, AxesAgreeOffScene, IsOutlined}
-use Rattle.ember_chain.proofs.Closed.{closed_faces}
+use Rattle.ember_meaning.specs.Closed.Chains.{face_from, AxesAgreeOffScene, IsOutlined}
+use Rattle.ember_meaning.proofs.Closed.{closed_faces}
 use Rattle.ember_expr.specs.Formula.{Formula}
 use Rattle.ember_expr.specs.Truth.{truth}
 use Rattle.ember_box.specs.Boxes.{Cell, root}
@@ -24,7 +24,7 @@ use Rattle.ember_leaf.specs.Scenes.{LeafGives, regions, nothing, IsWritten}
 use Rattle.ember_leaf.proofs.WallClips.{each_every}
 use Rattle.ember_text.specs.Texts.{IsTextInRange, oriented_face}
 use Rattle.ember_text.specs.Documents.{IsDocumentText, written_face}
-use Rattle.ember_meaning.specs.Meaning.{IsFalseOutside, HaveMeaning, ReadsWithMeaning}
+use Rattle.ember_meaning.specs.Regions.Meaning.{IsFalseOutside, HaveMeaning, ReadsWithMeaning}
 use Rattle.ember_meaning.proofs.FlippedFaces.{inside-turned}
 use Rattle.ember_meaning.proofs.ClearMeaning.{meaning_of_written}
 use Rattle.ember_meaning.proofs.SameFaces.{HaveSamePoints, same_meaning}

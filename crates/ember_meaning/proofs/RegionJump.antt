@@ -2,7 +2,7 @@
 use Rattle.std.proofs.Common.{◌≡◌, zero, suc, refl, sym, Bool, true, false, cond, ℤ, pos, negsuc, ◌-ℤ◌, neg_ℤ}
 use Rattle.std.proofs.lemmas.Bool.{false≢true}
 use Rattle.ember_algebra.specs.Sign.{sign, is_positive, is_zero}
-use Rattle.ember_meaning.specs.Meaning.{one_if}
+use Rattle.ember_meaning.specs.Regions.Meaning.{one_if}
 use Rattle.ember_meaning.proofs.HitConditions.{before_hit, after_hit}
 
 -- ---- signs: the written face's amount, from the region's support along the ray and the values on

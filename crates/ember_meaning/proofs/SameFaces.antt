@@ -14,7 +14,7 @@ use Rattle.ember_model.specs.Clear.{IsClear, AreClear}
 use Rattle.ember_model.specs.Meshes.{wind}
 use Rattle.ember_poly.specs.Outlines.{SamePoints}
 use Rattle.ember_expr.specs.Formula.{Formula}
-use Rattle.ember_meaning.specs.Meaning.{HaveMeaning}
+use Rattle.ember_meaning.specs.Regions.Meaning.{HaveMeaning}
 
 -- ---- one face
 -- the crossing, given whether the hit is inside

@@ -21,7 +21,7 @@ use Rattle.ember_box.specs.Near.{near}
 use Rattle.ember_leaf.specs.declared.kept.Kept.{Kept}
 use Rattle.ember_leaf.specs.Written.{front, IsWrittenOfRegion, unowned, same_value, written, IsWrittenOf, regional, hidden}
 use Rattle.ember_leaf.specs.Scenes.{IsBeside, LeafGives, regions, nothing, IsWritten}
-use Rattle.ember_meaning.specs.Nearby.{AgreeOver}
+use Rattle.ember_meaning.specs.Regions.Nearby.{AgreeOver}
 
 -- what each member gives by one relation, it gives by another
 each_as : {X Y : Type 0} {R S : X → List Y → Type 0} → ((x : X) (ys : List Y) → R x ys → S x ys) → {xs : List X} {ys : List Y} → Each R xs ys → Each S xs ys

@@ -6,7 +6,7 @@ use Rattle.std.proofs.lemmas.List.Sums.{sum_by-cons}
 use Rattle.std.proofs.lemmas.Bool.{cases_Bool, false≢true, and_parts, not-true}
 use Rattle.ember_algebra.proofs.Laws.{linear}
 use Rattle.ember_box.specs.Sums.{number}
-use Rattle.ember_meaning.specs.Meaning.{one_if}
+use Rattle.ember_meaning.specs.Regions.Meaning.{one_if}
 use Rattle.ember_meaning.proofs.Lines.{In, here, there, IsOrder, total_of, beyond, onward, is_same_place, Placed}
 
 -- ---- lists whose members pass alike

@@ -1,3 +1,2 @@
-pub mod Meaning
-pub mod Nearby
-pub mod Solids
+pub mod Closed
+pub mod Regions

@@ -1,11 +1,14 @@
-//! What the written regions of a scene mean: at each point that is clear of all faces they wind
-//! once where the expression is true, and not at all elsewhere. The faces that are read back from
-//! their document mean the same, and are a closed surface.
+//! What faces and written regions of a scene mean, and that the surface of faces which wind alike
+//! along all axes is closed.
 #![tactic(auto)]
 
-mod law;
+mod closed;
+mod regions;
 
-pub use law::{
+pub use closed::{
+    agreeing_faces_are_closed, agreeing_faces_have_paired_pieces, outlined_faces_are_missed_nearby,
+};
+pub use regions::{
     documents_read_with_their_meaning, outlined_faces_have_their_meaning_nearby,
     solids_are_one_where_expressions_agree, written_regions_have_their_meaning,
 };

@@ -11,7 +11,7 @@ use Rattle.ember_expr.specs.Grammar.{expr_of}
 use Rattle.ember_expr.specs.Truth.{truth}
 use Rattle.ember_grid.specs.declared.choice.Wanted.{Wanted}
 use Rattle.ember_grid.specs.declared.choice.Wanted.TheVariants.{Nice, Finest, Given}
-use Rattle.ember_meaning.specs.Meaning.{IsFalseOutside}
+use Rattle.ember_meaning.specs.Regions.Meaning.{IsFalseOutside}
 use Rattle.ember_mesh_text.specs.declared.format.TextFormat.TheVariants as texts
 use Rattle.ember_mesh_words.specs.declared.command.OutputFormat.{OutputFormat}
 use Rattle.ember_mesh_words.specs.declared.command.OutputFormat.TheVariants as output

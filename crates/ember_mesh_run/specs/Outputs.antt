@@ -8,8 +8,8 @@ use Rattle.ember_boolean.specs.Files.{IsPlaced}
 use Rattle.ember_boolean.specs.Outputs.{IsOutput}
 use Rattle.ember_expr.specs.Formula.{Formula}
 use Rattle.ember_grid.specs.declared.choice.Wanted.{Wanted}
-use Rattle.ember_meaning.specs.Meaning.{HaveMeaning}
-use Rattle.ember_meaning.specs.Nearby.{WindOnceAtMost}
+use Rattle.ember_meaning.specs.Regions.Meaning.{HaveMeaning}
+use Rattle.ember_meaning.specs.Regions.Nearby.{WindOnceAtMost}
 use Rattle.ember_mesh_words.specs.declared.command.Request.{Request}
 use Rattle.ember_mesh_words.specs.declared.command.SnapRequest.{SnapRequest}
 use Rattle.ember_scene.specs.declared.scene.Placed.{Placed}

@@ -1,5 +1,5 @@
 // The law of round faces.
-ghost use Rattle.ember_chain.specs.Chains.{IsOutlined};
+ghost use Rattle.ember_meaning.specs.Closed.Chains.{IsOutlined};
 ghost use Rattle.ember_model.specs.FaceFiles.{WrittenFace};
 ghost use Rattle.ember_outline.specs.Rounds.{IsRound};
 

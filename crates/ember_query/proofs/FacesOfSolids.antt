@@ -12,7 +12,7 @@ use Rattle.ember_step.specs.Faces.{AreLeafFaces, AreSceneFaces, LeafFacesJoin}
 use Rattle.ember_text.specs.Documents.{written_face}
 use Rattle.ember_text.specs.FacesInTexts.{IsFaceInText}
 use Rattle.ember_text.proofs.DocumentsWithFaces.{faces_have_document}
-use Rattle.ember_meaning.specs.Solids.{AreJournalsOfSolid, AreSolidFaces, IsSolid, IsSolidReport}
+use Rattle.ember_meaning.specs.Regions.Solids.{AreJournalsOfSolid, AreSolidFaces, IsSolid, IsSolidReport}
 use Rattle.ember_query.proofs.SolidRuns.{of_run}
 
 module _ (tris : List Tri) (formula : Formula) (lists : List (List Face)) (journals : List (List Entry)) (count : ℕ)

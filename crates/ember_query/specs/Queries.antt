@@ -8,7 +8,7 @@ use Rattle.ember_query.specs.declared.query.Answer.TheVariants as answer
 use Rattle.ember_query.specs.declared.query.Query.{Query}
 use Rattle.ember_query.specs.declared.query.Query.TheVariants as query
 use Rattle.ember_query.specs.Leaves.{AreFills, ArePairsOfLeaves, AreRegionCounts}
-use Rattle.ember_meaning.specs.Solids.{AreJournalsOfSolid}
+use Rattle.ember_meaning.specs.Regions.Solids.{AreJournalsOfSolid}
 use Rattle.ember_step.specs.Faces.{AreLeafFaces}
 use Rattle.ember_step.specs.Texts.{AreLeafTexts}
 

@@ -3,7 +3,7 @@ ghost use Rattle.std.specs.Prelude.{◌≡◌, length, flat_map, All, IfOk};
 ghost use Rattle.ember_expr.specs.Formula.{formula_of};
 ghost use Rattle.ember_model.specs.Valid.{IsValidFace};
 ghost use Rattle.ember_query.specs.Queries.{IsExecutor};
-ghost use Rattle.ember_meaning.specs.Solids.{AreSolidFaces, IsSolidReport};
+ghost use Rattle.ember_meaning.specs.Regions.Solids.{AreSolidFaces, IsSolidReport};
 
 use crate::query::{Answer, Query, query_faces};
 use ember_expr::Expr;

@@ -15,7 +15,7 @@ ghost use Rattle.std.specs.Prelude.{◌≤◌, IfOk};
 ghost use Rattle.ember_expr.specs.Formula.{formula_of};
 ghost use Rattle.ember_query.specs.Leaves.{AreFills, ArePairsOfLeaves, AreRegionCounts};
 ghost use Rattle.ember_query.specs.Queries.{IsExecutor};
-ghost use Rattle.ember_meaning.specs.Solids.{AreJournalsOfSolid};
+ghost use Rattle.ember_meaning.specs.Regions.Solids.{AreJournalsOfSolid};
 ghost use Rattle.ember_step.specs.Faces.{AreLeafFaces};
 ghost use Rattle.ember_step.specs.Texts.{AreLeafTexts};
 

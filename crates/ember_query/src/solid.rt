@@ -2,7 +2,7 @@
 ghost use Rattle.std.specs.Prelude.{◌≡◌, IfOk};
 ghost use Rattle.std.specs.List.{sum};
 ghost use Rattle.ember_expr.specs.Formula.{formula_of};
-ghost use Rattle.ember_meaning.specs.Solids.{IsSolidReport, IsSolidText};
+ghost use Rattle.ember_meaning.specs.Regions.Solids.{IsSolidReport, IsSolidText};
 ghost use Rattle.ember_query.specs.Queries.{IsExecutor};
 
 use crate::query::{Answer, Query, query_counts, query_texts};

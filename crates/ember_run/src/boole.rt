@@ -2,7 +2,7 @@
 ghost use Rattle.std.specs.Prelude.{◌≡◌, ◌≤◌, length, map, IfOk, IfErr};
 ghost use Rattle.ember_expr.specs.Formula.{formula_of};
 ghost use Rattle.ember_query.specs.Queries.{IsExecutor};
-ghost use Rattle.ember_meaning.specs.Solids.{IsSolidText};
+ghost use Rattle.ember_meaning.specs.Regions.Solids.{IsSolidText};
 ghost use Rattle.ember_verdict.specs.Reported.{IsReportOfVerdictIfAsked};
 ghost use Rattle.ember_verdict.specs.Statuses.{IsTextIfTold};
 ghost use Rattle.ember_verdict.specs.Devices.{shelf_call};

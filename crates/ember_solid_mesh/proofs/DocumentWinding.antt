@@ -4,7 +4,7 @@ use Rattle.std.specs.List.{AllByRecursion}
 use Rattle.ember_model.specs.declared.face.Face.{Face}
 use Rattle.ember_model.specs.declared.plane.Plane.{Plane}
 use Rattle.ember_model.specs.FaceFiles.{WrittenFace}
-use Rattle.ember_chain.specs.Chains.{face_from, IsOutlined}
+use Rattle.ember_meaning.specs.Closed.Chains.{face_from, IsOutlined}
 use Rattle.ember_certificate.specs.declared.space_point.SpacePoint.{SpacePoint}
 use Rattle.ember_certificate.specs.Certificate.{IsCertified, edges_in}
 use Rattle.ember_certificate.specs.Closed.{AreSegmentsClosed}

@@ -9,12 +9,12 @@ use Rattle.ember_model.specs.FaceFiles.{WrittenFace}
 use Rattle.ember_model.specs.Meshes.{IsScene, vector}
 use Rattle.ember_model.specs.Points.{offset_by}
 use Rattle.ember_law.proofs.Generic.{wind_shifted}
-use Rattle.ember_chain.specs.Chains.{face_from, IsOutlined}
-use Rattle.ember_chain.proofs.ClearRectangle.{each_axis}
+use Rattle.ember_meaning.specs.Closed.Chains.{face_from, IsOutlined}
+use Rattle.ember_meaning.proofs.ClearRectangle.{each_axis}
 use Rattle.ember_expr.specs.Formula.{Formula}
 use Rattle.ember_expr.specs.Truth.{truth}
-use Rattle.ember_meaning.specs.Meaning.{IsFalseOutside, HaveMeaning}
-use Rattle.ember_meaning.specs.Nearby.{WindOnceAtMost}
+use Rattle.ember_meaning.specs.Regions.Meaning.{IsFalseOutside, HaveMeaning}
+use Rattle.ember_meaning.specs.Regions.Nearby.{WindOnceAtMost}
 use Rattle.ember_meaning.proofs.Nearby.{meaning_nearby, wind_nearby_as_here}
 use Rattle.ember_meaning.proofs.ReadFaces.{document_reads}
 use Rattle.ember_reread.proofs.OneReading.{face_file_is_read_once}

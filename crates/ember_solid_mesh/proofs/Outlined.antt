@@ -4,7 +4,7 @@ use Rattle.std.specs.List.{All, AllByRecursion, slice_get}
 use Rattle.std.proofs.lemmas.List.{map-append, take-map, take_more}
 use Rattle.std.proofs.lemmas.List.Elements.{All-push}
 use Rattle.std.proofs.lemmas.Option.{slice_get-get_or, slice_get-map}
-use Rattle.ember_chain.specs.Chains.{IsOutlined}
+use Rattle.ember_meaning.specs.Closed.Chains.{IsOutlined}
 use Rattle.ember_model.specs.declared.face.Face.{Face}
 use Rattle.ember_model.specs.FaceFiles.{WrittenFace, IsFaceFile}
 use Rattle.ember_outline.specs.declared.fault.OutlineFault.{OutlineFault}

@@ -4,12 +4,12 @@ use Rattle.std.specs.List.{All}
 use Rattle.std.proofs.lemmas.List.Concat.{flat_map-cons}
 use Rattle.std.proofs.lemmas.List.Elements.{All-cons, All-nil}
 use Rattle.ember_algebra.specs.Relations.{Each, none, more}
-use Rattle.ember_chain.specs.Chains.{face_from}
+use Rattle.ember_meaning.specs.Closed.Chains.{face_from}
 use Rattle.ember_expr.specs.Formula.{Formula}
 use Rattle.ember_model.specs.declared.face.Face.{Face}
 use Rattle.ember_model.specs.declared.tri.Tri.{Tri}
 use Rattle.ember_model.specs.FaceFiles.{WrittenFace, IsWrittenFace, IsFaceFile, face_lines, header, ending}
-use Rattle.ember_meaning.specs.Solids.{IsSolidText}
+use Rattle.ember_meaning.specs.Regions.Solids.{IsSolidText}
 use Rattle.ember_reread.specs.declared.fault.RereadFault.{RereadFault}
 use Rattle.ember_reread.specs.declared.fault.RereadFault.TheVariants.{Form, OutOfMemory}
 use Rattle.ember_text.specs.Documents.{IsDocumentText, written_face}

@@ -1,8 +1,8 @@
 -- The faces that the mesh of a solid cuts up are those of its document, which have the meaning and are closed.
 use Rattle.std.proofs.Common.{◌≡◌, ℕ, sym, ap, subst, ◌∙◌, List, map}
-use Rattle.ember_chain.specs.Chains.{IsClosedSurface, face_from}
+use Rattle.ember_meaning.specs.Closed.Chains.{IsClosedSurface, face_from}
 use Rattle.ember_expr.specs.Formula.{Formula}
-use Rattle.ember_meaning.specs.Meaning.{IsFalseOutside, HaveMeaning, ReadsWithMeaning}
+use Rattle.ember_meaning.specs.Regions.Meaning.{IsFalseOutside, HaveMeaning, ReadsWithMeaning}
 use Rattle.ember_meaning.proofs.ReadFaces.{document_reads}
 use Rattle.ember_model.specs.declared.face.Face.{Face}
 use Rattle.ember_model.specs.declared.tri.Tri.{Tri}

@@ -10,7 +10,7 @@ use Rattle.ember_model.specs.declared.plane.Plane.{Plane}
 use Rattle.ember_model.specs.declared.tri.Tri.{Tri}
 use Rattle.ember_model.specs.FaceFiles.{IsFaceFile}
 use Rattle.ember_key.specs.declared.lines.LineKey.{LineKey}
-use Rattle.ember_meaning.specs.Solids.{IsSolidText}
+use Rattle.ember_meaning.specs.Regions.Solids.{IsSolidText}
 use Rattle.ember_reread.specs.declared.fault.RereadFault.{RereadFault}
 use Rattle.ember_reread.specs.declared.fault.RereadFault.TheVariants as reread
 use Rattle.ember_tables.specs.declared.fault.TableFault.{TableFault}

@@ -5,7 +5,7 @@ use Rattle.ember_model.specs.declared.tri.Tri.{Tri}
 use Rattle.ember_outline.specs.declared.fault.OutlineFault.{OutlineFault}
 use Rattle.ember_outline.specs.declared.fault.OutlineFault.TheVariants as outline
 use Rattle.ember_outline.specs.Rounds.{IsOffEdge, IsOffPlane, IsNotRound}
-use Rattle.ember_meaning.specs.Solids.{IsSolidText}
+use Rattle.ember_meaning.specs.Regions.Solids.{IsSolidText}
 use Rattle.ember_reread.specs.declared.fault.RereadFault.{RereadFault}
 use Rattle.ember_reread.specs.declared.fault.RereadFault.TheVariants as reread
 use Rattle.ember_tables.specs.declared.fault.TableFault.{TableFault}

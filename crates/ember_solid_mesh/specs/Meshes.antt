@@ -2,10 +2,10 @@
 use Rattle.std.specs.Prelude.{◌≡◌, ℕ, Bool, List, length}
 use Rattle.std.specs.List.{AllByRecursion}
 use Rattle.ember_certificate.specs.Certificate.{IsCertified}
-use Rattle.ember_chain.specs.Chains.{IsOutlined}
+use Rattle.ember_meaning.specs.Closed.Chains.{IsOutlined}
 use Rattle.ember_expr.specs.Formula.{Formula}
 use Rattle.ember_model.specs.declared.tri.Tri.{Tri}
-use Rattle.ember_meaning.specs.Solids.{IsSolidReport, IsSolidText}
+use Rattle.ember_meaning.specs.Regions.Solids.{IsSolidReport, IsSolidText}
 use Rattle.ember_tables.specs.declared.tables.Tables.{Tables}
 use Rattle.ember_solid_mesh.specs.declared.mesh.SolidMesh.{SolidMesh}
 use Rattle.ember_solid_mesh.specs.declared.solid.MeshedSolid.{MeshedSolid}

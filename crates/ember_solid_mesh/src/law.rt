@@ -2,10 +2,10 @@
 ghost use Rattle.std.specs.Prelude.{ℕ, List};
 ghost use Rattle.ember_certificate.specs.Certificate.{edges_in};
 ghost use Rattle.ember_certificate.specs.Closed.{AreSegmentsClosed};
-ghost use Rattle.ember_chain.specs.Chains.{IsClosedSurface};
+ghost use Rattle.ember_meaning.specs.Closed.Chains.{IsClosedSurface};
 ghost use Rattle.ember_expr.specs.Formula.{Formula};
-ghost use Rattle.ember_meaning.specs.Meaning.{IsFalseOutside, HaveMeaning};
-ghost use Rattle.ember_meaning.specs.Nearby.{WindOnceAtMost};
+ghost use Rattle.ember_meaning.specs.Regions.Meaning.{IsFalseOutside, HaveMeaning};
+ghost use Rattle.ember_meaning.specs.Regions.Nearby.{WindOnceAtMost};
 ghost use Rattle.ember_model.specs.declared.tri.Tri.{Tri};
 ghost use Rattle.ember_model.specs.Meshes.{IsScene};
 ghost use Rattle.ember_winding.specs.TriangleFaces.{WindAlike, WindAlikeNearby};

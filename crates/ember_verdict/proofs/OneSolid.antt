@@ -4,11 +4,11 @@ use Rattle.std.specs.List.{list_all}
 use Rattle.std.specs.Prelude.{if◌then◌else◌}
 use Rattle.ember_algebra.proofs.Large.{eventually_map}
 use Rattle.ember_box.specs.Reference.{reference_at}
-use Rattle.ember_chain.specs.Chains.{face_from}
+use Rattle.ember_meaning.specs.Closed.Chains.{face_from}
 use Rattle.ember_expr.specs.Formula.{Formula}
 use Rattle.ember_expr.specs.Truth.{truth}
-use Rattle.ember_meaning.specs.Meaning.{HaveMeaning, one_if}
-use Rattle.ember_meaning.specs.Nearby.{AgreeOver, WindNearbyAsHere, WindHereAsNearby, WindOnceAtMost}
+use Rattle.ember_meaning.specs.Regions.Meaning.{HaveMeaning, one_if}
+use Rattle.ember_meaning.specs.Regions.Nearby.{AgreeOver, WindNearbyAsHere, WindHereAsNearby, WindOnceAtMost}
 use Rattle.ember_meaning.proofs.Nearby.{wind_nearby_as_here, wind_here_as_nearby, wind_once_at_most, meanings_agree}
 use Rattle.ember_meaning.proofs.SameWritten.{same_written}
 use Rattle.ember_model.specs.ClearTest.{is_clear_of}

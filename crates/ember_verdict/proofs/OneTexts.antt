@@ -13,7 +13,7 @@ use Rattle.ember_pairs.specs.declared.pair.Pair.{Pair}
 use Rattle.ember_pairs.specs.Pairs.{AtPair, meeting, apart}
 use Rattle.ember_pairs.specs.Texts.{pairs_text}
 use Rattle.ember_report.specs.Runs.{run_report}
-use Rattle.ember_meaning.specs.Solids.{IsSolidText}
+use Rattle.ember_meaning.specs.Regions.Solids.{IsSolidText}
 use Rattle.ember_report.specs.Reports.{report_line_of}
 use Rattle.ember_reread.proofs.OneOutline.{text_one, texts_one}
 use Rattle.ember_slice.specs.Segments.{IsSliceText}

@@ -1,19 +1,19 @@
 -- The file of a solid: the faces that are read back from it have the meaning, and are closed.
 use Rattle.std.proofs.Common.{◌≡◌, ℕ, Bool, true, false, List, [], pos, Result, Ok, Err, refl, subst}
 use Rattle.std.specs.Prelude.{if◌then◌else◌, replicate}
-use Rattle.ember_chain.specs.Chains.{IsClosedSurface}
+use Rattle.ember_meaning.specs.Closed.Chains.{IsClosedSurface}
 use Rattle.ember_expr.specs.declared.fault.ExprFault.{ExprFault}
 use Rattle.ember_expr.specs.Formula.{Formula}
 use Rattle.ember_expr.specs.Grammar.{expr_of}
 use Rattle.ember_expr.specs.Truth.{truth}
-use Rattle.ember_meaning.specs.Meaning.{HaveMeaning, IsFalseOutside}
+use Rattle.ember_meaning.specs.Regions.Meaning.{HaveMeaning, IsFalseOutside}
 use Rattle.ember_meaning.proofs.ReadFaces.{document_reads}
 use Rattle.ember_model.specs.declared.face.Face.{Face}
 use Rattle.ember_model.specs.declared.scene.Scene.{Scene}
 use Rattle.ember_model.specs.declared.tri.Tri.{Tri}
 use Rattle.ember_model.specs.FaceFiles.{WrittenFace}
 use Rattle.ember_model.specs.Meshes.{IsScene}
-use Rattle.ember_meaning.specs.Solids.{IsSolidText}
+use Rattle.ember_meaning.specs.Regions.Solids.{IsSolidText}
 use Rattle.ember_reread.proofs.OneReading.{face_file_is_read_once}
 use Rattle.ember_verdict.specs.declared.status.Status.TheVariants.{ExprRefused, Unbounded}
 use Rattle.ember_verdict.specs.Outputs.{SolidFaces}

@@ -4,7 +4,7 @@ use Rattle.std.specs.Prelude.{codes, replicate, if◌then◌else◌}
 use Rattle.ember_expr.specs.Formula.{Formula}
 use Rattle.ember_expr.specs.Truth.{truth}
 use Rattle.ember_model.specs.declared.tri.Tri.{Tri}
-use Rattle.ember_meaning.specs.Solids.{IsSolidReport}
+use Rattle.ember_meaning.specs.Regions.Solids.{IsSolidReport}
 use Rattle.ember_report.specs.declared.report.Report.{Report}
 use Rattle.ember_report.specs.Reports.{report_line_of}
 use Rattle.ember_verdict.specs.declared.status.Status.{Status}

@@ -1,7 +1,7 @@
 -- The face file of triangles, and its text while it grows, triangle by triangle
 use Rattle.std.specs.Prelude.{◌≡◌, ℕ, List, [], ◌∷◌, ◌++◌, All, map, flat_map, length}
 use Rattle.ember_algebra.specs.Relations.{Each}
-use Rattle.ember_chain.specs.Chains.{IsOutlined}
+use Rattle.ember_meaning.specs.Closed.Chains.{IsOutlined}
 use Rattle.ember_model.specs.declared.face.Face.{Face}
 use Rattle.ember_model.specs.declared.tri.Tri.{Tri}
 use Rattle.ember_model.specs.Edges.{RingEdge}
@@ -20,7 +20,7 @@ pub record IsFaceFileOf (ts : List Tri) (bytes : List ℕ) : Type 0 where
 abbrev pub written_lines : WrittenFace → List ℕ
 written_lines w = face_lines w.support w.edges
 
--- the face whose lines these are. `face_from` of ember_chain and `face_in` of ember_reread are the same map from a
+-- the face whose lines these are. `face_from` of ember_meaning and `face_in` of ember_reread are the same map from a
 -- written face to a face; `written_face` of ember_text is another one, from a written region
 abbrev pub written_face : WrittenFace → Face
 written_face w = record { support = w.support; edges = map (λ (e : RingEdge). e.plane) w.edges }

@@ -4,8 +4,8 @@ use Rattle.ember_algebra.specs.Sums.{total}
 use Rattle.ember_box.specs.Reference.{reference_at}
 use Rattle.ember_expr.specs.Formula.{Formula}
 use Rattle.ember_expr.specs.Truth.{truth}
-use Rattle.ember_meaning.specs.Meaning.{one_if}
-use Rattle.ember_meaning.specs.Nearby.{WhereShifted}
+use Rattle.ember_meaning.specs.Regions.Meaning.{one_if}
+use Rattle.ember_meaning.specs.Regions.Nearby.{WhereShifted}
 use Rattle.ember_model.specs.Clear.{AreClear}
 use Rattle.ember_model.specs.Meshes.{faces_of, vector, wind}
 use Rattle.ember_model.specs.Planes.{value_at}

@@ -1,13 +1,13 @@
 -- What `bool` and `demo` write of a solid
 use Rattle.std.specs.Prelude.{◌≡◌, ℕ, Bool, true, false, List, []}
-use Rattle.ember_chain.specs.Chains.{IsClosedSurface}
+use Rattle.ember_meaning.specs.Closed.Chains.{IsClosedSurface}
 use Rattle.ember_expr.specs.Formula.{Formula}
 use Rattle.ember_leaf.specs.declared.kept.Kept.{Kept}
-use Rattle.ember_meaning.specs.Meaning.{HaveMeaning, ReadsWithMeaning}
+use Rattle.ember_meaning.specs.Regions.Meaning.{HaveMeaning, ReadsWithMeaning}
 use Rattle.ember_model.specs.declared.tri.Tri.{Tri}
 use Rattle.ember_model.specs.declared.face.Face.{Face}
 use Rattle.ember_model.specs.FaceFiles.{IsFaceFile}
-use Rattle.ember_meaning.specs.Solids.{IsSolid, IsSolidText}
+use Rattle.ember_meaning.specs.Regions.Solids.{IsSolid, IsSolidText}
 use Rattle.ember_report.specs.declared.report.Report.{Report}
 use Rattle.ember_report.specs.Reports.{report_line_of}
 

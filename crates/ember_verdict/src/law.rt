@@ -4,7 +4,7 @@ ghost use Rattle.std.specs.Prelude.{◌≡◌, ◌≢◌, ◌↔◌, ℕ, ℤ, p
 ghost use Rattle.std.specs.List.{list_all};
 ghost use Rattle.std.specs.declared.option.Option.{Option};
 ghost use Rattle.ember_expr.specs.Formula.{Formula};
-ghost use Rattle.ember_meaning.specs.Meaning.{IsFalseOutside};
+ghost use Rattle.ember_meaning.specs.Regions.Meaning.{IsFalseOutside};
 ghost use Rattle.ember_model.specs.declared.face.Face.{Face};
 ghost use Rattle.ember_model.specs.declared.point.Axis.{Axis};
 ghost use Rattle.ember_model.specs.declared.point.Spot.{Spot};
@@ -13,7 +13,7 @@ ghost use Rattle.ember_model.specs.FaceFiles.{IsFaceFile};
 ghost use Rattle.ember_model.specs.Clear.{IsClearOf};
 ghost use Rattle.ember_model.specs.ClearTest.{is_clear_of};
 ghost use Rattle.ember_model.specs.Meshes.{IsBalanced, IsScene, faces_of, vector, wind};
-ghost use Rattle.ember_meaning.specs.Solids.{IsSolidText};
+ghost use Rattle.ember_meaning.specs.Regions.Solids.{IsSolidText};
 ghost use Rattle.ember_words.specs.declared.command.Command.TheVariants.{Boole, Demo, Pairs, Voxels};
 ghost use Rattle.ember_words.specs.WordsCommand.{command_of};
 ghost use Rattle.ember_verdict.specs.OfScenes.{IsOfScene};

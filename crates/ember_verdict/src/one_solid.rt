@@ -2,7 +2,7 @@
 ghost use Rattle.std.specs.Prelude.{◌≡◌, ◌↔◌, ℕ, ℤ, pos, ◌<ℤ◌, true, List, Some};
 ghost use Rattle.std.specs.List.{list_all};
 ghost use Rattle.ember_expr.specs.Formula.{Formula};
-ghost use Rattle.ember_meaning.specs.Nearby.{AgreeOver, WindNearbyAsHere, WindHereAsNearby, WindOnceAtMost};
+ghost use Rattle.ember_meaning.specs.Regions.Nearby.{AgreeOver, WindNearbyAsHere, WindHereAsNearby, WindOnceAtMost};
 ghost use Rattle.ember_model.specs.declared.face.Face.{Face};
 ghost use Rattle.ember_model.specs.declared.point.Spot.{Spot};
 ghost use Rattle.ember_model.specs.declared.tri.Tri.{Tri};

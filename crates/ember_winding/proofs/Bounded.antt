@@ -12,7 +12,7 @@ use Rattle.ember_model.specs.declared.point.Spot.{Spot}
 use Rattle.ember_model.specs.declared.face.Face.{Face}
 use Rattle.ember_model.specs.Edges.{RingEdge, IsEdge, IsEdgeChain, IsOutline, normal}
 use Rattle.ember_model.specs.Planes.{value_at}
-use Rattle.ember_chain.proofs.EdgeForm.{start_on, end_on}
+use Rattle.ember_meaning.proofs.EdgeForm.{start_on, end_on}
 use Rattle.ember_winding.proofs.EdgeCount.{far, step_is}
 use Rattle.ember_winding.proofs.Seen.{height}
 

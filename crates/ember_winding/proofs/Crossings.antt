@@ -13,7 +13,7 @@ use Rattle.ember_model.specs.Faces.{hit, crossing}
 use Rattle.ember_model.specs.Planes.{value_at, along}
 use Rattle.ember_model.proofs.Hits.{crossing_off, crossing_on}
 use Rattle.ember_model.proofs.SignTests.{zero_out, nonzero_out, zero_scaled}
-use Rattle.ember_chain.proofs.Starts.{one_if}
+use Rattle.ember_meaning.proofs.Starts.{one_if}
 use Rattle.ember_certificate.specs.declared.segment.Segment.{Segment}
 use Rattle.ember_certificate.specs.declared.space_point.SpacePoint.{SpacePoint}
 use Rattle.ember_certificate.specs.Facing.{spot_of}

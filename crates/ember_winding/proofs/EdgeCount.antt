@@ -21,11 +21,11 @@ use Rattle.ember_model.specs.Planes.{value_at}
 use Rattle.ember_model.proofs.Hits.{closed_on}
 use Rattle.ember_model.proofs.Legs.{value_between, size_is_pos, size_is_neg, ends_nonzero}
 use Rattle.ember_model.proofs.SignTests.{clash, and_true, sgn_scaled, negative_not, positive_in, size_positive, zero_scaled}
-use Rattle.ember_chain.specs.Chains.{DirectedEdge, displacement, is_zero_vector, reached, coverage}
-use Rattle.ember_chain.proofs.RectangleRound.{IsGeneralFace}
-use Rattle.ember_chain.proofs.Displacements.{Parallel, zeroE, displacement_value, dot_swap, none_parallel}
-use Rattle.ember_chain.proofs.Displacements.{parallel_swap, square_positive, zero_vector_in, zero_vector_out}
-use Rattle.ember_chain.proofs.EdgeForm.{start_on, end_on, leads, course_nonzero, line_displacement, flat_displacement, edge_form}
+use Rattle.ember_meaning.specs.Closed.Chains.{DirectedEdge, displacement, is_zero_vector, reached, coverage}
+use Rattle.ember_meaning.proofs.RectangleRound.{IsGeneralFace}
+use Rattle.ember_meaning.proofs.Displacements.{Parallel, zeroE, displacement_value, dot_swap, none_parallel}
+use Rattle.ember_meaning.proofs.Displacements.{parallel_swap, square_positive, zero_vector_in, zero_vector_out}
+use Rattle.ember_meaning.proofs.EdgeForm.{start_on, end_on, leads, course_nonzero, line_displacement, flat_displacement, edge_form}
 use Rattle.ember_winding.proofs.Passings.{passing, below, passing_on_line, opposite_product, pick_is_cond}
 use Rattle.ember_winding.proofs.Seen.{area, height, turn_at, passing_at, area_course, area_dot, area_scale}
 use Rattle.ember_winding.proofs.Seen.{height_on_ray, height_step, turn_sign, step_sign, may_sums}

@@ -19,10 +19,10 @@ use Rattle.ember_model.specs.Planes.{value_at}
 use Rattle.ember_model.proofs.Legs.{value_between}
 use Rattle.ember_model.proofs.SignTests.{and_parts, negative_out}
 use Rattle.ember_poly.proofs.Chains.{each_map}
-use Rattle.ember_chain.specs.Chains.{DirectedEdge, edges_to, directed_edges, face_from, IsOutlined}
-use Rattle.ember_chain.proofs.RectangleRound.{IsGeneral, IsGeneralFace}
-use Rattle.ember_chain.proofs.EdgeForm.{once_round}
-use Rattle.ember_chain.proofs.Starts.{one_if}
+use Rattle.ember_meaning.specs.Closed.Chains.{DirectedEdge, edges_to, directed_edges, face_from, IsOutlined}
+use Rattle.ember_meaning.proofs.RectangleRound.{IsGeneral, IsGeneralFace}
+use Rattle.ember_meaning.proofs.EdgeForm.{once_round}
+use Rattle.ember_meaning.proofs.Starts.{one_if}
 use Rattle.ember_winding.proofs.Halves.{AtEnds, none_above, leaving, all_at_first, all_at_last, AreApart, leaving_tells}
 use Rattle.ember_winding.proofs.Seen.{height, passing_at}
 use Rattle.ember_winding.proofs.EdgeCount.{far, edge_count}

@@ -17,9 +17,9 @@ use Rattle.ember_model.specs.Faces.{hit, crossing}
 use Rattle.ember_model.specs.Meshes.{wind}
 use Rattle.ember_model.specs.Planes.{value_at}
 use Rattle.ember_poly.proofs.OutlinePoints.{Ended, edge_has_end}
-use Rattle.ember_chain.specs.Chains.{DirectedEdge, displacement, edges_to, directed_edges, face_from, IsOutlined}
-use Rattle.ember_chain.proofs.EdgeForm.{start_on, end_on, has_normal}
-use Rattle.ember_chain.proofs.Starts.{one_if}
+use Rattle.ember_meaning.specs.Closed.Chains.{DirectedEdge, displacement, edges_to, directed_edges, face_from, IsOutlined}
+use Rattle.ember_meaning.proofs.EdgeForm.{start_on, end_on, has_normal}
+use Rattle.ember_meaning.proofs.Starts.{one_if}
 use Rattle.ember_key.specs.declared.lines.LineKey.{LineKey}
 use Rattle.ember_certificate.specs.declared.segment.Segment.{Segment}
 use Rattle.ember_certificate.specs.declared.space_point.SpacePoint.{SpacePoint}

@@ -28,11 +28,11 @@ use Rattle.ember_law.proofs.Generic.{at_hit_of, value_at_hit, cancel_zero}
 use Rattle.ember_poly.proofs.Chains.{each_map}
 use Rattle.ember_poly.proofs.InsideSigns.{eventually_each}
 use Rattle.ember_poly.proofs.OutlinePoints.{Ended, edge_has_end}
-use Rattle.ember_chain.specs.Chains.{displacement, face_from, IsOutlined}
-use Rattle.ember_chain.proofs.ClearCorners.{hit_course}
-use Rattle.ember_chain.proofs.ClearRectangle.{all_of}
-use Rattle.ember_chain.proofs.Displacements.{Parallel, displacementE, zeroE, orthogonal_to_none, square_positive}
-use Rattle.ember_chain.proofs.EdgeForm.{course_nonzero, start_on}
+use Rattle.ember_meaning.specs.Closed.Chains.{displacement, face_from, IsOutlined}
+use Rattle.ember_meaning.proofs.ClearCorners.{hit_course}
+use Rattle.ember_meaning.proofs.ClearRectangle.{all_of}
+use Rattle.ember_meaning.proofs.Displacements.{Parallel, displacementE, zeroE, orthogonal_to_none, square_positive}
+use Rattle.ember_meaning.proofs.EdgeForm.{course_nonzero, start_on}
 use Rattle.ember_key.specs.LineKeys.{numerators}
 use Rattle.ember_certificate.specs.declared.space_point.SpacePoint.{SpacePoint}
 use Rattle.ember_certificate.specs.Facing.{spot_of}

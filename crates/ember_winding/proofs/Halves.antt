@@ -16,7 +16,7 @@ use Rattle.ember_algebra.proofs.Sums.{total_same}
 use Rattle.ember_model.specs.Faces.{size}
 use Rattle.ember_model.proofs.SignTests.{clash, sgn_scaled, negative_in, negative_not, positive_in, not_positive_in, positive_nonzero, size_positive}
 use Rattle.ember_model.proofs.Legs.{size_is_pos, size_is_neg, ends_nonzero}
-use Rattle.ember_chain.proofs.Starts.{one_if}
+use Rattle.ember_meaning.proofs.Starts.{one_if}
 
 -- the values of a plane at the two ends of a segment
 pub record AtEnds : Type 0 where

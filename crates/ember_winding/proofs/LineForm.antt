@@ -12,8 +12,8 @@ use Rattle.ember_model.specs.declared.point.Spot.{Spot}
 use Rattle.ember_model.specs.Edges.{normal}
 use Rattle.ember_model.proofs.SignTests.{sgn_scaled}
 use Rattle.ember_model.proofs.Tuples.{spot_tuple}
-use Rattle.ember_chain.specs.Chains.{displacement}
-use Rattle.ember_chain.proofs.Displacements.{Parallel, displacementE, zeroE, parallel_swap, square_positive}
+use Rattle.ember_meaning.specs.Closed.Chains.{displacement}
+use Rattle.ember_meaning.proofs.Displacements.{Parallel, displacementE, zeroE, parallel_swap, square_positive}
 use Rattle.ember_key.specs.declared.lines.LineKey.{LineKey}
 use Rattle.ember_key.specs.LineKeys.{direction, moment, numerators, IsOnLine}
 use Rattle.ember_winding.proofs.Passings.{passing, below, passing_on_line}

@@ -16,9 +16,9 @@ use Rattle.ember_model.proofs.SignTests.{sgn_scaled, zero_scaled, positive_nonze
 use Rattle.ember_model.proofs.Tuples.{plane_tuple, spot_tuple}
 use Rattle.ember_point.specs.Points.{weight, meet_of}
 use Rattle.ember_point.proofs.Meets.{on_first, on_second, on_third}
-use Rattle.ember_chain.specs.Chains.{displacement}
-use Rattle.ember_chain.proofs.Displacements.{zeroE}
-use Rattle.ember_chain.proofs.EdgeForm.{flat_displacement}
+use Rattle.ember_meaning.specs.Closed.Chains.{displacement}
+use Rattle.ember_meaning.proofs.Displacements.{zeroE}
+use Rattle.ember_meaning.proofs.EdgeForm.{flat_displacement}
 use Rattle.ember_tables.specs.Tables.{IsCorner}
 use Rattle.ember_winding.proofs.Passings.{passing}
 use Rattle.ember_winding.proofs.Seen.{area, height, turn_at, passing_at, area_none, height_step, turn_back}

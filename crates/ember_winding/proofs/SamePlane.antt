@@ -16,7 +16,7 @@ use Rattle.ember_model.specs.Points.{scaled}
 use Rattle.ember_model.proofs.PlaneValues.{size-is, value_times}
 use Rattle.ember_model.proofs.SignTests.{sgn_scaled}
 use Rattle.ember_model.proofs.Tuples.{spot_tuple, same_spot}
-use Rattle.ember_chain.proofs.Displacements.{displacementE}
+use Rattle.ember_meaning.proofs.Displacements.{displacementE}
 use Rattle.ember_key.specs.PlaneKeys.{IsSameOriented}
 use Rattle.ember_winding.proofs.Passings.{passing}
 use Rattle.ember_winding.proofs.Seen.{area, areaE, height, turn_at, passing_at}

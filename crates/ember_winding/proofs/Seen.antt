@@ -12,8 +12,8 @@ use Rattle.ember_model.specs.Edges.{normal}
 use Rattle.ember_model.specs.Planes.{value_at}
 use Rattle.ember_model.proofs.SignTests.{sgn_scaled}
 use Rattle.ember_model.proofs.Tuples.{spot_tuple}
-use Rattle.ember_chain.specs.Chains.{displacement}
-use Rattle.ember_chain.proofs.Displacements.{displacementE, zeroE}
+use Rattle.ember_meaning.specs.Closed.Chains.{displacement}
+use Rattle.ember_meaning.proofs.Displacements.{displacementE, zeroE}
 use Rattle.ember_certificate.specs.Facing.{triangle_normal}
 use Rattle.ember_winding.specs.TriangleFaces.{side_plane}
 use Rattle.ember_winding.proofs.Passings.{passing}

@@ -17,10 +17,10 @@ use Rattle.ember_model.proofs.Legs.{value_between, size_is_pos, size_is_neg, end
 use Rattle.ember_model.proofs.SignTests.{clash, negative_not, zero_scaled}
 use Rattle.ember_model.proofs.Tuples.{plane_tuple, spot_tuple}
 use Rattle.ember_poly.proofs.FaceTests.{edge_in, edge_out, same_test}
-use Rattle.ember_chain.specs.Chains.{displacement}
-use Rattle.ember_chain.proofs.RectangleRound.{IsGeneral}
-use Rattle.ember_chain.proofs.Displacements.{Parallel, dot_swap, orthogonal_to_none, parallel_orthogonal, parallel_swap, zero_carried}
-use Rattle.ember_chain.proofs.EdgeForm.{flat_displacement}
+use Rattle.ember_meaning.specs.Closed.Chains.{displacement}
+use Rattle.ember_meaning.proofs.RectangleRound.{IsGeneral}
+use Rattle.ember_meaning.proofs.Displacements.{Parallel, dot_swap, orthogonal_to_none, parallel_orthogonal, parallel_swap, zero_carried}
+use Rattle.ember_meaning.proofs.EdgeForm.{flat_displacement}
 use Rattle.ember_winding.proofs.EdgeCount.{far}
 
 -- the plane through the line in which g and h meet that contains the direction e

@@ -11,7 +11,7 @@ use Rattle.ember_model.specs.declared.point.Spot.{Spot}
 use Rattle.ember_model.specs.ClearTest.{all_negative}
 use Rattle.ember_model.specs.Planes.{value_at}
 use Rattle.ember_model.proofs.SignTests.{sgn_scaled}
-use Rattle.ember_chain.proofs.Starts.{one_if}
+use Rattle.ember_meaning.proofs.Starts.{one_if}
 use Rattle.ember_certificate.specs.Facing.{FacesFront}
 use Rattle.ember_winding.specs.TriangleFaces.{side_plane, face_of_points}
 use Rattle.ember_winding.proofs.Passings.{may_triangle, passing_triangle, flipped_positive, pick_of_three}

@@ -23,10 +23,10 @@ use Rattle.ember_model.proofs.SignTests.{and_parts, positive_nonzero}
 use Rattle.ember_model.proofs.Tuples.{spot_tuple}
 use Rattle.ember_law.proofs.Generic.{at_hit_of, cancel_zero}
 use Rattle.ember_poly.proofs.RingOutline.{each_get}
-use Rattle.ember_chain.specs.Chains.{displacement}
-use Rattle.ember_chain.proofs.Displacements.{displacementE, zeroE}
-use Rattle.ember_chain.proofs.EdgeForm.{flat_displacement}
-use Rattle.ember_chain.proofs.Starts.{one_if}
+use Rattle.ember_meaning.specs.Closed.Chains.{displacement}
+use Rattle.ember_meaning.proofs.Displacements.{displacementE, zeroE}
+use Rattle.ember_meaning.proofs.EdgeForm.{flat_displacement}
+use Rattle.ember_meaning.proofs.Starts.{one_if}
 use Rattle.ember_certificate.specs.declared.segment.Segment.{Segment}
 use Rattle.ember_certificate.specs.declared.space_point.SpacePoint.{SpacePoint}
 use Rattle.ember_certificate.specs.declared.triangle.Triangle.{Triangle}

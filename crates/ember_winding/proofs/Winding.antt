@@ -9,7 +9,7 @@ use Rattle.ember_model.specs.FaceFiles.{WrittenFace}
 use Rattle.ember_model.specs.Meshes.{wind}
 use Rattle.ember_model.specs.Points.{offset_by}
 use Rattle.ember_law.proofs.Generic.{wind_shifted}
-use Rattle.ember_chain.specs.Chains.{face_from, IsOutlined}
+use Rattle.ember_meaning.specs.Closed.Chains.{face_from, IsOutlined}
 use Rattle.ember_certificate.specs.declared.triangle.Triangle.{Triangle}
 use Rattle.ember_certificate.specs.Certificate.{IsCertified}
 use Rattle.ember_tables.specs.declared.tables.Tables.{Tables}

@@ -11,7 +11,7 @@ use Rattle.ember_model.specs.Clear.{AreClear}
 use Rattle.ember_model.specs.Edges.{normal}
 use Rattle.ember_model.specs.Meshes.{wind}
 use Rattle.ember_model.specs.Points.{offset_by}
-use Rattle.ember_chain.specs.Chains.{displacement}
+use Rattle.ember_meaning.specs.Closed.Chains.{displacement}
 use Rattle.ember_key.specs.LineKeys.{numerators}
 use Rattle.ember_certificate.specs.declared.space_point.SpacePoint.{SpacePoint}
 use Rattle.ember_certificate.specs.declared.triangle.Triangle.{Triangle}

@@ -2,7 +2,7 @@
 ghost use Rattle.std.specs.Prelude.{List, map};
 ghost use Rattle.std.specs.List.{AllByRecursion};
 ghost use Rattle.ember_model.specs.FaceFiles.{WrittenFace};
-ghost use Rattle.ember_chain.specs.Chains.{face_from, IsOutlined};
+ghost use Rattle.ember_meaning.specs.Closed.Chains.{face_from, IsOutlined};
 ghost use Rattle.ember_certificate.specs.declared.triangle.Triangle.{Triangle};
 ghost use Rattle.ember_certificate.specs.Certificate.{IsCertified};
 ghost use Rattle.ember_tables.specs.declared.tables.Tables.{Tables};

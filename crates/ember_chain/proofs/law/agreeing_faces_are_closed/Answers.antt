@@ -1,5 +1,0 @@
-use Rattle.ember_chain.proofs.Closed.{closed_faces}
-use Rattle.ember_chain.proofs.law.agreeing_faces_are_closed.Goals as goal
-
-pub returns : goal.returns
-returns c = closed_faces

@@ -1,0 +1,5 @@
+use Rattle.ember_meaning.proofs.ReadFaces.{document_reads}
+use Rattle.ember_meaning.proofs.regions.law.documents_read_with_their_meaning.Goals as goal
+
+pub returns : goal.returns
+returns c = λ scene. document_reads scene 64
