@@ -21,7 +21,7 @@ build:
 	tools/build
 
 mesh:
-	tools/build --program ember_mesh_program
+	tools/build --program mesh_program
 
 install: build
 	install -d $(bin) $(man) $(doc)/examples $(bash) $(zsh)
@@ -34,7 +34,7 @@ install: build
 
 install-mesh: mesh
 	install -d $(bin) $(man) $(mesh_doc)/examples $(bash) $(zsh)
-	install crates/ember_mesh_program/out/ember_mesh_program $(bin)/ember-mesh
+	install crates/mesh_program/out/mesh_program $(bin)/ember-mesh
 	install -m 644 docs/man/ember-mesh.1 $(man)/ember-mesh.1
 	install -m 644 $(mesh_documents:%=docs/%) $(mesh_doc)
 	install -m 644 $(mesh_examples:%=examples/%) $(mesh_doc)/examples

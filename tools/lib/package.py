@@ -11,7 +11,7 @@ from pathlib import Path
 
 TOP = Path(__file__).resolve().parent.parent.parent
 # The crate of each program, by the program's place in a package.
-PROGRAMS = {"bin/ember": "ember", "bin/ember-mesh": "ember_mesh_program"}
+PROGRAMS = {"bin/ember": "ember", "bin/ember-mesh": "mesh_program"}
 # What a package is made of.
 SOURCES = ["crates", "crates.txt", "HANDLES", "docs", "completions", "examples", "tools", "packages", "Makefile", "LICENSE", "CHANGELOG.md"]
 
@@ -37,7 +37,7 @@ def output_of(*words):
 
 def version():
     """Returns the version of both programs: the one that `ember-mesh --version` writes."""
-    text = (TOP / "crates/ember_mesh_run/src/messages.rt").read_text(encoding="utf-8")
+    text = (TOP / "crates/mesh_run/src/messages.rt").read_text(encoding="utf-8")
     return re.search(r'const VERSION: &str = "ember-mesh ([\d.]+)\\n";', text)[1]
 
 

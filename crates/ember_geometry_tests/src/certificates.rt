@@ -1,10 +1,9 @@
 // Whether triangles cut up a square with two sides.
 use crate::shapes::plane;
-use ember_certificate::{
-    Segment, SpacePoint, Triangle, are_closed, are_free_paired, faces_front, is_certified,
+use mesh_certificate::{
+    LineKey, Segment, SpacePoint, Triangle, are_closed, are_free_paired, faces_front, is_certified,
     same_chains,
 };
-use ember_key::LineKey;
 use std::alloc::Global;
 use std::test::Fail;
 

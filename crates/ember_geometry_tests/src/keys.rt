@@ -2,8 +2,8 @@
 ghost use Rattle.ember_algebra.specs.Size.{Small};
 ghost use Rattle.ember_model.specs.Valid.{IsValidPlane};
 
-use ember_key::{LineKey, line_key, plane_key};
 use ember_model::Plane;
+use mesh_certificate::{LineKey, line_key, plane_key};
 use std::test::Fail;
 
 // The number, or 0 in place of one that no normal has.

@@ -1,5 +1,5 @@
 // How far a run has come, on a terminal and by a clock that the tests set.
-use ember_progress::{ProgressGate, Stage, Stages, percentage, weight};
+use mesh_outside::{ProgressGate, Stage, Stages, percentage, weight};
 use std::alloc::Global;
 use std::cell::{Cell, RefCell};
 use std::fmt::{Display, Write};

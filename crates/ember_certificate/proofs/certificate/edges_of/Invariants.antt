@@ -1,6 +1,0 @@
-use Rattle.std.proofs.Common.{◌≡◌, take}
-use Rattle.ember_certificate.specs.Certificate.{edges_in}
-use Rattle.ember_certificate.proofs.certificate.edges_of.Given as goal
-
-abbrev pub invariant-loop-t : goal.invariant-loop-t
-invariant-loop-t l = l.edges.items ≡ edges_in (take l.t-index l.triangles)

@@ -1,5 +1,0 @@
-use Rattle.ember_certificate.proofs.Boundaries.{boundary_from_chains}
-use Rattle.ember_certificate.proofs.law.one_chain_has_one_boundary.Goals as goal
-
-pub returns : goal.returns
-returns c = boundary_from_chains

@@ -1,9 +1,0 @@
-use Rattle.std.proofs.Common.{◌-◌}
-use Rattle.std.proofs.lemmas.List.Sorted.{IsPermutation-trans, IsPermutation-put_mid}
-use Rattle.ember_certificate.proofs.order.sort_stretches.Goals as goal
-
-pub loop-low-preserved : goal.loop-low-preserved
-loop-low-preserved c =
-    IsPermutation-trans _ _ _ c.loop-low.invariant
-    (IsPermutation-put_mid c.loop-low.low (c.stretch_end-high.result - c.loop-low.low) c.loop-low.numbers
-    c.sort_unstable.new.self c.sort_unstable.ensures.permutation)

@@ -1,7 +1,0 @@
-use Rattle.std.proofs.Common.{◌≡◌, ℕ, ◌+ℤ◌, ◌-ℤ◌, take}
-use Rattle.ember_certificate.specs.Keys.{excess, excess_of}
-use Rattle.ember_certificate.proofs.unmatched.unmatched_ends.Given as goal
-
-abbrev pub invariant-loop-key : goal.invariant-loop-key
-invariant-loop-key l =
-    (n : ℕ) → excess n l.left.starts.items l.left.ends.items +ℤ excess_of n l.rest ≡ excess_of n l.first -ℤ excess_of n (take l.key-index l.second)

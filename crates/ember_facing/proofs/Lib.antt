@@ -1,6 +1,0 @@
-pub mod Buckets
-pub mod Leading
-pub mod Rows
-pub mod AreaSums
-pub mod FloatUnits
-pub mod Counted

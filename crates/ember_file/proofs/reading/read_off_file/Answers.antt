@@ -1,5 +1,0 @@
-use Rattle.ember_file.proofs.Limits.{off_is_within}
-use Rattle.ember_file.proofs.reading.read_off_file.Goals as goal
-
-pub returns-in-Ok-clause-within : goal.returns-in-Ok-clause-within
-returns-in-Ok-clause-within c = off_is_within c.args.bytes.now c.in-Ok.surface c.in-Ok.ensures.ok

@@ -1,7 +1,0 @@
-//! Floats nearest to fractions.
-#![tactic(auto)]
-
-mod binary32;
-mod scaling;
-
-pub use binary32::nearest_binary32;

@@ -1,7 +1,0 @@
-//! Says which format a mesh file has.
-#![tactic(auto)]
-
-mod format;
-mod signs;
-
-pub use format::{Format, format_of};

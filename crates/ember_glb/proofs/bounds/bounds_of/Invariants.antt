@@ -1,7 +1,0 @@
-use Rattle.std.proofs.Common.{◌≡◌, take}
-use Rattle.std.specs.List.{fold}
-use Rattle.ember_glb.specs.Widened.{widened}
-use Rattle.ember_glb.proofs.bounds.bounds_of.Given as goal
-
-abbrev pub invariant-loop-triangle : goal.invariant-loop-triangle
-invariant-loop-triangle l = l.bounds ≡ fold widened l.initial.bounds (take l.triangle-index l.triangles)

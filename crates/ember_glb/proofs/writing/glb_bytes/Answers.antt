@@ -1,7 +1,0 @@
-use Rattle.std.proofs.lemmas.Result.{IfOk-weaker}
-use Rattle.ember_glb.proofs.ReadBack.{read_back}
-use Rattle.ember_glb.proofs.writing.glb_bytes.Goals as goal
-
-pub returns-then-not-is_empty-clause-read_back : goal.returns-then-not-is_empty-clause-read_back
-returns-then-not-is_empty-clause-read_back c = λ some. IfOk-weaker c.with_mesh.result _ _
-    (λ bytes glb. read_back c.args.triangles.now bytes.items glb) c.with_mesh.ensures.glb

@@ -1,6 +1,0 @@
-use Rattle.std.proofs.Common.{arith}
-use Rattle.ember_grid.proofs.WidestSteps.{fine_step_fits}
-use Rattle.ember_grid.proofs.choice.least_fine_step.Goals as goal
-
-pub unreachable-requires : goal.unreachable-requires
-unreachable-requires c = c.in-None.ensures.none 189998 (omega arith) (fine_step_fits c.args.coordinates.now c.requires)

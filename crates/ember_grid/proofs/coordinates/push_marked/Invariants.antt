@@ -1,6 +1,0 @@
-use Rattle.std.proofs.Common.{take}
-use Rattle.ember_grid.specs.Lists.{HasAppended, marked}
-use Rattle.ember_grid.proofs.coordinates.push_marked.Given as goal
-
-abbrev pub invariant-loop-index : goal.invariant-loop-index
-invariant-loop-index l = HasAppended l.fn.lists (marked (take l.index l.marks) (take l.index l.vertices)) l.lists

@@ -1,8 +1,0 @@
-use Rattle.std.proofs.Common.{◌≡◌, ◌≤◌, length, take}
-use Rattle.ember_grid.specs.Corners.{corner_at}
-use Rattle.ember_grid.specs.Images.{images}
-use Rattle.ember_grid.proofs.counting.count_images.Given as goal
-
-abbrev pub invariant-loop-facet : goal.invariant-loop-facet
-invariant-loop-facet l =
-    (l.count ≡ length (images (corner_at l.grid l.surface.vertices.items) 0 (take l.facet-index l.surface.facets.items))) × (l.count ≤ l.facet-index)

@@ -1,5 +1,0 @@
-use Rattle.ember_grid.proofs.Maps.{map_keeps_closed}
-use Rattle.ember_grid.proofs.laws.maps_keep_meshes_closed.Goals as goal
-
-pub returns : goal.returns
-returns c = map_keeps_closed

@@ -1,4 +1,0 @@
-pub mod Appended
-pub mod EdgeUses
-pub mod Meshes
-pub mod SaidLines

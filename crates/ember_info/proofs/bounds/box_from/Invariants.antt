@@ -1,8 +1,0 @@
-use Rattle.std.proofs.Common.{◌≡◌, drop}
-use Rattle.std.specs.Prelude.{fold}
-use Rattle.ember_info.specs.Bounds.{widened, box_from}
-use Rattle.ember_info.proofs.bounds.box_from.Given as goal
-
-abbrev pub invariant-loop-point : goal.invariant-loop-point
-invariant-loop-point l =
-    fold widened l.bounds (drop l.point-index l.others) ≡ box_from l.fn.first l.others

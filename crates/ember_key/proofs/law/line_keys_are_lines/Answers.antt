@@ -1,5 +1,0 @@
-use Rattle.ember_key.proofs.LineLaws.{line_keys_decide}
-use Rattle.ember_key.proofs.law.line_keys_are_lines.Goals as goal
-
-pub returns : goal.returns
-returns c = λ p q r s k l hk hl. line_keys_decide hk hl

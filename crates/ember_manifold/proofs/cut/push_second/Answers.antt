@@ -1,9 +1,0 @@
-use Rattle.std.proofs.Common.{[], ◌∷◌}
-use Rattle.ember_manifold.specs.Cuts.{triangle, halves}
-use Rattle.ember_manifold.proofs.Cuts.{put_after}
-use Rattle.ember_manifold.proofs.cut.push_second.Goals as goal
-
-pub returns : goal.returns
-returns c = λ before is.
-    let es = c.args.edges.now.edges.keys in let t = c.args.t.now in let m = c.args.m.now in
-    put_after before (triangle t.b t.c m ∷ []) (halves es t.a t.b m) (c.in_ok-push_halves.ensures _ (c.in_ok-push_one.ensures before is))

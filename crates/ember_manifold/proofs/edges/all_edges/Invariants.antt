@@ -1,6 +1,0 @@
-use Rattle.std.proofs.Common.{◌≡◌, ◌*◌, ◌++◌, drop}
-use Rattle.ember_manifold.specs.Edges.{edges_from}
-use Rattle.ember_manifold.proofs.edges.all_edges.Given as goal
-
-abbrev pub invariant-loop-index : goal.invariant-loop-index
-invariant-loop-index l = l.edges.items ++ edges_from (3 * l.index) (drop l.index l.triangles) ≡ edges_from 0 l.triangles

@@ -1,6 +1,0 @@
-use Rattle.std.proofs.Common.{take}
-use Rattle.ember_manifold.specs.Splits.{AreSplitOf}
-use Rattle.ember_manifold.proofs.split.split_by.Given as goal
-
-abbrev pub invariant-loop-index : goal.invariant-loop-index
-invariant-loop-index l = AreSplitOf l.mesh (take l.index l.triangles)

@@ -1,9 +1,0 @@
-use Rattle.ember_mesh_run.specs.Calls.{sink_call}
-use Rattle.ember_mesh_run.proofs.ErrTexts.{text_is_taken}
-use Rattle.ember_mesh_run.proofs.writing.say.Goals as goal
-
-pub returns : goal.returns
-returns g c =
-    let e = c.write_all.ensures in
-    text_is_taken (sink_call g.E.Sink.taken g.E.Sink.flushed g.E.Sink.faults c.args.err.now c.write_all.new.sink)
-    c.args.text.now c.write_all.result e.cause e.taken e.prefix

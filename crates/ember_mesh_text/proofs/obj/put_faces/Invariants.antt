@@ -1,6 +1,0 @@
-use Rattle.std.proofs.Common.{◌≡◌, ◌++◌, flat_map, take}
-use Rattle.ember_mesh_text.specs.Texts.{obj_face}
-use Rattle.ember_mesh_text.proofs.obj.put_faces.Given as goal
-
-abbrev pub invariant-loop-triangle : goal.invariant-loop-triangle
-invariant-loop-triangle l = l.out.items ≡ l.fn.out.items ++ flat_map obj_face (take l.triangle-index l.triangles)

@@ -1,7 +1,0 @@
-use Rattle.std.proofs.Common.{◌∙◌, ap, Some}
-use Rattle.ember_number.proofs.Doublings.{short_lowered_below}
-use Rattle.ember_number.proofs.binary_sizes.short_lowered.Goals as goal
-
-pub returns : goal.returns
-returns c =
-    ap Some c.short_shifted.ensures ∙ short_lowered_below c.args.up c.args.significand c.args.places c.args.factor c.requires.significand

@@ -1,4 +1,0 @@
-pub mod Joins
-pub mod Corners
-pub mod RowCounts
-pub mod Soundness

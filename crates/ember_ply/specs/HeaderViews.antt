@@ -1,7 +1,0 @@
--- The header that code has in hand
-use Rattle.ember_ply.specs.declared.header.Header.{Header}
-use Rattle.ember_ply.specs.Header as header
-
--- a header as definitions see it
-abbrev pub header_of : Header → header.Header
-header_of h = record { encoding = h.encoding; kind = h.kind; declarations = h.declarations.items }

@@ -1,8 +1,0 @@
-//! Rounding of fractions to numbers that can be written.
-#![tactic(auto)]
-
-mod decimal;
-mod rounding;
-
-pub use decimal::{put_decimal, put_shifted};
-pub use rounding::{divide, nearest};

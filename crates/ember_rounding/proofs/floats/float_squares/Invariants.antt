@@ -1,8 +1,0 @@
-use Rattle.std.proofs.Common.{◌≡◌, take}
-use Rattle.ember_rounding.specs.Ticks.{power_tick}
-use Rattle.ember_rounding.specs.Squares.{float_squares}
-use Rattle.ember_rounding.proofs.floats.float_squares.Given as goal
-
-abbrev pub invariant-loop-k : goal.invariant-loop-k
-invariant-loop-k l =
-    l.squares.items ≡ float_squares (power_tick l.top) l.step l.offset (take l.k l.corners) (take l.k l.points)

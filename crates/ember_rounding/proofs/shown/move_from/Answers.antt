@@ -1,6 +1,0 @@
-use Rattle.std.proofs.Common.{ℕ, ap, ◌∙◌}
-use Rattle.ember_rounding.specs.Shown.{rounded_from}
-use Rattle.ember_rounding.proofs.shown.move_from.Goals as goal
-
-pub returns : goal.returns
-returns c = c.rounded_from.ensures ∙ ap (λ (root : ℕ). rounded_from root c.args.tick.now) c.root_above.ensures.root

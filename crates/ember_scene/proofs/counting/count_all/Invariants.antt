@@ -1,7 +1,0 @@
-use Rattle.std.proofs.Common.{◌≡◌, ◌≤◌, ◌*◌, ◌^◌, length, take}
-use Rattle.ember_scene.specs.Images.{images_of}
-use Rattle.ember_scene.proofs.counting.count_all.Given as goal
-
-abbrev pub invariant-loop-surface : goal.invariant-loop-surface
-invariant-loop-surface l =
-    (l.count ≡ length (images_of l.grid (take l.surface-index l.surfaces))) × (l.count ≤ 2 ^ 64 * l.surface-index)

@@ -1,9 +1,0 @@
-use Rattle.std.proofs.Common.{◌≡◌, map, take}
-use Rattle.ember_scene.specs.Images.{meshes_on, counts_on}
-use Rattle.ember_scene.proofs.scene.meshes_of.Given as goal
-
-abbrev pub invariant-loop-index : goal.invariant-loop-index
-invariant-loop-index l = record {
-  tris : map (λ part. part.tris) l.meshes.parts.items ≡ meshes_on l.grid 1 (take l.index l.surfaces);
-  counts : l.meshes.counts.items ≡ map (counts_on l.grid) (take l.index l.surfaces);
-}

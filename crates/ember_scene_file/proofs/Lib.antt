@@ -1,9 +1,0 @@
-pub mod Parts
-pub mod LowestTerms
-pub mod MeshTriangles
-pub mod Offsets
-pub mod FileLines
-pub mod LexedTails
-pub mod PlainTexts
-pub mod ScenePieces
-pub mod SceneData

@@ -1,6 +1,0 @@
-use Rattle.std.proofs.Common.{refl}
-use Rattle.ember_snap.proofs.SpanSteps.{spans_fit}
-use Rattle.ember_snap.proofs.search.fits.Goals as goal
-
-pub returns-in-Some : goal.returns-in-Some
-returns-in-Some c = (λ _. spans_fit c.args.step.now c.args.coordinates.now c.in-Some.field-0 c.in-Some.ensures.found, λ _. refl)

@@ -1,5 +1,0 @@
-use Rattle.ember_snap.proofs.SpanSteps.{Covers}
-use Rattle.ember_snap.proofs.spans.fitting_span.Given as goal
-
-abbrev pub invariant-loop-number : goal.invariant-loop-number
-invariant-loop-number l = Covers l.step l.numbers l.number-index l.span

@@ -1,2 +1,0 @@
-pub mod FarPoints
-pub mod Fans

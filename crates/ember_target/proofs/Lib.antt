@@ -1,3 +1,0 @@
-pub mod HeldNames
-pub mod MapFiles
-pub mod SeveralFiles

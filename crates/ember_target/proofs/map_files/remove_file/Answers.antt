@@ -1,6 +1,0 @@
-use Rattle.std.proofs.Common.{None}
-use Rattle.ember_target.proofs.MapFiles.{Puts-updated}
-use Rattle.ember_target.proofs.map_files.remove_file.Goals as goal
-
-pub returns : goal.returns
-returns c = Puts-updated c.args.files.now c.remove.new.self c.args.name.now None c.remove.ensures.updates

@@ -1,8 +1,0 @@
-use Rattle.std.proofs.Common.{ℕ, List}
-use Rattle.ember_certificate.specs.declared.segment.Segment.{Segment}
-use Rattle.ember_triangles.specs.Marks.{AreMarks}
-use Rattle.ember_triangles.proofs.marks.push_splits.Given as goal
-
-abbrev pub invariant-loop-s : goal.invariant-loop-s
-invariant-loop-s l =
-    (line : ℕ) (done : List Segment) → AreMarks line done l.fn.marks.items → AreMarks line done l.marks.items

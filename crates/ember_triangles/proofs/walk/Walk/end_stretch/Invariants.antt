@@ -1,7 +1,0 @@
-use Rattle.std.proofs.Common.{take}
-use Rattle.ember_triangles.specs.Walks.{AddsStretch}
-use Rattle.ember_triangles.proofs.walk.Walk.end_stretch.Given as goal
-
-abbrev pub invariant-loop-s : goal.invariant-loop-s
-invariant-loop-s l =
-    AddsStretch l.self (take l.s-index l.self.stretch.items) l.fn.segments.items l.segments.items

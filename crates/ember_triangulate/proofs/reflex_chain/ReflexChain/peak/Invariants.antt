@@ -1,5 +1,0 @@
-use Rattle.std.proofs.Common.{◌-◌}
-use Rattle.ember_triangulate.proofs.reflex_chain.ReflexChain.peak.Given as goal
-
-abbrev pub decreases-halves : goal.decreases-halves
-decreases-halves l = l.high - l.low

@@ -1,4 +1,0 @@
-use Rattle.ember_triangulate.proofs.ring.better_halves.Goals as goal
-
-pub returns : goal.returns
-returns c = c.halves.ensures

@@ -1,5 +1,0 @@
-use Rattle.std.proofs.Common.{◌∙◌}
-use Rattle.ember_vertices.proofs.mesh.IndexedMesh.vertices.Goals as goal
-
-pub returns : goal.returns
-returns c = λ ts is. c.as_slice.ensures.keys ∙ is.vertices

@@ -1,7 +1,0 @@
-//! The page that shows surfaces.
-#![tactic(auto)]
-
-mod floats;
-mod views;
-
-pub use views::view_of;

@@ -1,5 +1,0 @@
-pub mod Counts
-pub mod Corners
-pub mod Joins
-pub mod RowsInOrder
-pub mod Soundness

@@ -1,6 +1,0 @@
-//! Certified triangles wind as the faces that they cut up.
-#![tactic(auto)]
-
-mod law;
-
-pub use law::certified_triangles_wind_as_faces;

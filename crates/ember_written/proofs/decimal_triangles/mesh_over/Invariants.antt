@@ -1,6 +1,0 @@
-use Rattle.std.proofs.Common.{take}
-use Rattle.ember_written.specs.DecimalTriangles.{IsMeshOver}
-use Rattle.ember_written.proofs.decimal_triangles.mesh_over.Given as goal
-
-abbrev pub invariant-loop-triangle : goal.invariant-loop-triangle
-invariant-loop-triangle l = IsMeshOver l.points (take l.triangle-index l.triangles) l.written

@@ -1,5 +1,0 @@
-use Rattle.ember_written.proofs.WrittenClosed.{certified_are_closed}
-use Rattle.ember_written.proofs.laws.certified_triangles_are_closed.Goals as goal
-
-pub returns : goal.returns
-returns c = certified_are_closed

@@ -1,5 +1,0 @@
-use Rattle.ember_written.proofs.Proper.{proper_corners}
-use Rattle.ember_written.proofs.laws.proper_triangles_have_corners.Goals as goal
-
-pub returns : goal.returns
-returns c = proper_corners

@@ -1,5 +1,0 @@
-use Rattle.ember_written.proofs.Signs.{units_have_the_decimal}
-use Rattle.ember_written.proofs.laws.units_have_the_nearest_decimal.Goals as goal
-
-pub returns : goal.returns
-returns c = units_have_the_decimal

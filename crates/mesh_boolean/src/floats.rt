@@ -1,0 +1,80 @@
+// The STL or the GLB of a mesh.
+ghost use Rattle.std.specs.Prelude.{All, IfOk, IfErr};
+ghost use Rattle.mesh_certificate.specs.Certificate.Certificate.{IsProper};
+ghost use Rattle.ember_model.specs.Valid.{IsValidPlane};
+ghost use Rattle.mesh_grid.specs.Snap.Steps.{IsStep};
+ghost use Rattle.mesh_boolean.specs.declared.wanted.MeshFormat.TheVariants.{Floats};
+ghost use Rattle.mesh_boolean.specs.Outputs.{AreShownIf, IsFloatFile, IsOfFloats};
+ghost use Rattle.mesh_boolean.specs.WritingFaults.{IsFloatFileFault, IsWritingFault};
+
+use crate::rounding::{RoundedMesh, rounded_with_effect};
+use crate::wanted::FloatFormat;
+use crate::writing::Written;
+use crate::writing_fault::WritingFault;
+use mesh_grid::Grid;
+use mesh_solid::SolidMesh;
+use mesh_write::{WrittenTriangle, glb_bytes, stl_bytes};
+use mesh_written::shared_edges;
+use std::alloc::Global;
+
+// The file of the triangles.
+fn float_bytes(
+    alloc: Global,
+    format: FloatFormat,
+    triangles: &[WrittenTriangle],
+) -> Result<Vec<u8>, WritingFault>
+    ensures file { IfOk result (λ bytes. IsFloatFile format triangles.now bytes.items) }
+    ensures fault { IfErr result (IsFloatFileFault format triangles.now) }
+{
+    match format {
+        FloatFormat::Stl => match stl_bytes(alloc, triangles) {
+            Ok(bytes) => Ok(bytes),
+            Err(fault) => Err(WritingFault::from(fault)),
+        },
+        FloatFormat::Glb => match glb_bytes(alloc, triangles) {
+            Ok(bytes) => Ok(bytes),
+            Err(fault) => Err(WritingFault::from(fault)),
+        },
+    }
+}
+
+// The STL or the GLB of a mesh on a grid. The mesh isn't kept while its bytes are made.
+pub(crate) fn float_file(
+    alloc: Global,
+    mesh: SolidMesh,
+    grid: &Grid,
+    format: FloatFormat,
+    shows: bool,
+) -> Result<Written, WritingFault>
+    requires step { IsStep grid.now.step }
+    requires proper { All (IsProper mesh.planes.items mesh.corners.items) mesh.triangles.items }
+    requires valid { All IsValidPlane mesh.planes.items }
+    ensures floats { IfOk result (IsOfFloats format grid.now mesh) }
+    ensures shown { IfOk result (λ file. AreShownIf shows grid.now mesh file.shown) }
+    ensures fault { IfErr result (IsWritingFault (Floats format) grid.now mesh) }
+{
+    let RoundedMesh {
+        triangles: written,
+        effect,
+    } = rounded_with_effect(alloc, &mesh, grid)?;
+    let faces = mesh.faces;
+    let planes = mesh.planes.len() as u64;
+    let triangles = mesh.triangles.len() as u64;
+    let count = written.len() as u64;
+    let vanished = triangles - count;
+    drop(mesh);
+    let shared = shared_edges(alloc, &written)?;
+    let bytes = float_bytes(alloc, format, &written)?;
+    Ok(Written {
+        bytes,
+        faces,
+        planes,
+        triangles,
+        vanished,
+        written: count,
+        shared,
+        is_manifold: false,
+        effect,
+        shown: shows.then_some(written),
+    })
+}

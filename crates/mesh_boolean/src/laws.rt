@@ -1,0 +1,55 @@
+// What outputs mean, and which files are never open.
+ghost use Rattle.std.specs.Prelude.{List, All};
+ghost use Rattle.ember_meaning.specs.Closed.Chains.{IsClosedSurface};
+ghost use Rattle.ember_expr.specs.Formula.{Formula};
+ghost use Rattle.mesh_grid.specs.Grid.Closed.{IsSurfaceClosed};
+ghost use Rattle.ember_meaning.specs.Regions.Meaning.{IsFalseOutside, HaveMeaning};
+ghost use Rattle.ember_meaning.specs.Regions.Nearby.{WindOnceAtMost};
+ghost use Rattle.mesh_scene.specs.declared.scene.fault.Open.{Open};
+ghost use Rattle.mesh_scene.specs.declared.scene.fault.SceneFault.TheVariants as scene_fault;
+ghost use Rattle.mesh_scene.specs.Scene.Images.{images_of};
+ghost use Rattle.mesh_solid.specs.Mesh.MeshFaces.{faces_of_mesh};
+ghost use Rattle.mesh_read.specs.declared.surface.surface.Surface.{Surface};
+ghost use Rattle.mesh_boolean.specs.declared.fault.BooleanFault.TheVariants.{Scene};
+ghost use Rattle.mesh_boolean.specs.declared.files.MeshFile.{MeshFile};
+ghost use Rattle.mesh_boolean.specs.declared.wanted.WantedFile.{WantedFile};
+ghost use Rattle.mesh_boolean.specs.declared.output.Output.{Output};
+ghost use Rattle.mesh_boolean.specs.Files.{AreReadings};
+ghost use Rattle.mesh_boolean.specs.Outputs.{IsOutput};
+ghost use Rattle.mesh_boolean.specs.Faults.{IsBooleanFault};
+
+use mesh_scene::closed_surfaces_are_never_open;
+
+/// Let an expression be false if all winding numbers are 0. The faces that the triangles of an
+/// output cut up, before these are rounded, wind once where it is true of the files' triangles on
+/// the grid, and not at all elsewhere, and they are a closed surface.
+pub fn faces_of_outputs_have_the_meaning()
+    ensures means { (files : List MeshFile) (formula : Formula) (wanted : WantedFile) (out : Output) →
+        IsFalseOutside formula → (is : IsOutput files formula wanted out) →
+        HaveMeaning (images_of out.grid is.surfaces) formula is.solid.of_document.tables_are.faces }
+    ensures closed { (files : List MeshFile) (formula : Formula) (wanted : WantedFile) (out : Output) →
+        IsFalseOutside formula → (is : IsOutput files formula wanted out) →
+        IsClosedSurface is.solid.of_document.tables_are.read.written }
+{}
+
+/// Let an expression be false if all winding numbers are 0. The triangles of an output, before they
+/// are rounded, wind once where it is true of the files' triangles on the grid, and not at all
+/// elsewhere. Around each point that is clear of the output's triangles alone, they wind once or not
+/// at all.
+pub fn triangles_of_outputs_have_the_meaning()
+    ensures means { (files : List MeshFile) (formula : Formula) (wanted : WantedFile) (out : Output) →
+        IsFalseOutside formula → (is : IsOutput files formula wanted out) →
+        HaveMeaning (images_of out.grid is.surfaces) formula (faces_of_mesh is.mesh) }
+    ensures once { (files : List MeshFile) (formula : Formula) (wanted : WantedFile) (out : Output) →
+        IsFalseOutside formula → (is : IsOutput files formula wanted out) → WindOnceAtMost (faces_of_mesh is.mesh) }
+{}
+
+/// Files whose surfaces are closed by the exact positions of their corners are never refused as
+/// open.
+pub fn closed_files_are_never_open()
+    ensures { (files : List MeshFile) (formula : Formula) (wanted : WantedFile) (o : Open) →
+        ((surfaces : List Surface) → AreReadings files surfaces → All IsSurfaceClosed surfaces) →
+        IsBooleanFault files formula wanted (Scene (scene_fault.Open o)) → ⊥ }
+{
+    closed_surfaces_are_never_open();
+}

@@ -1,0 +1,28 @@
+// The output for mesh files.
+use crate::writing::Written;
+use ember_model::Scene;
+use ember_report::Report;
+use mesh_grid::{Grid, Length};
+use mesh_scene::Counts;
+
+/// A solid as a file, with the grid and the numbers of the run that made it.
+#[derive(Drop)]
+pub struct Output {
+    pub written: Written,
+    /// The grid on which the mesh is exact.
+    pub grid: Grid,
+    /// The counts of each file, in order.
+    pub counts: Vec<Counts>,
+    /// How far a corner of each file moved to the grid at most, in order.
+    pub moves: Vec<Length>,
+    pub report: Report,
+    /// What was computed from, and the exact result, if they were to be kept.
+    pub kept: Option<Kept>,
+}
+
+/// The triangles of mesh files on their grid, and the document of the solid.
+#[derive(Drop)]
+pub struct Kept {
+    pub scene: Scene,
+    pub document: Vec<u8>,
+}

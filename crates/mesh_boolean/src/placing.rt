@@ -1,0 +1,38 @@
+// The scene of mesh files.
+ghost use Rattle.std.specs.Prelude.{◌≤◌, length, All, IfOk, IfErr};
+ghost use Rattle.mesh_grid.specs.Grid.Grids.{IsChoice};
+ghost use Rattle.mesh_boolean.specs.Files.{IsSmall, IsPlaced};
+ghost use Rattle.mesh_boolean.specs.Faults.{IsPlacingFault};
+
+use crate::fault::BooleanFault;
+use crate::files::{MeshFile, surfaces_in};
+use mesh_grid::Wanted;
+use mesh_outside::{Stage, Stages};
+use mesh_scene::{Placed, scene_of};
+use std::alloc::Global;
+
+/// The scene of mesh files on the grid that is wanted for them: each file is a closed mesh, and the
+/// file with the index `i` has the mesh number `i + 1`. The surfaces of the files aren't kept. There
+/// are at most 64 files, of at most 2^28 bytes each, and a given step is in range. `stages` is told of
+/// each file and before the corners are put on the grid. Of several faults the first of these is
+/// reported:
+///
+/// 1. The first file that isn't read.
+/// 2. The surfaces are no scene: see [`scene_of`](mesh_scene::scene_of).
+pub fn placed_files<'a, P: Stages>(
+    alloc: Global,
+    files: &[MeshFile<'a>],
+    wanted: Wanted,
+    stages: &P,
+) -> Result<Placed, BooleanFault<'a>>
+    requires few { length files.now ≤ 64 }
+    requires sizes { All IsSmall files.now }
+    requires choice { IsChoice wanted }
+    ensures placed { IfOk result (IsPlaced files.now wanted) }
+    ensures fault { IfErr result (IsPlacingFault files.now wanted) }
+{
+    let surfaces = surfaces_in(alloc, files, stages)?;
+    stages.begin(Stage::Snapping);
+    let placed = scene_of(alloc, &surfaces, wanted)?;
+    Ok(placed)
+}

@@ -1,0 +1,61 @@
+-- Whether points lie on lines: moments in 64 bits and in 256.
+use Rattle.std.proofs.Common.{◌≡◌, Bool, false, ℕ, ◌*◌, ◌^◌, ◌<◌, ◌≤◌, nat_eq, ℤ, pos, ◌+ℤ◌, ◌-ℤ◌, ◌*ℤ◌, ◌<ℤ◌}
+use Rattle.std.proofs.Common.{unsigned_abs, SFits, to_z, of_z, to_z-of_z, sym, ap, ◌∙◌, arith}
+use Rattle.std.proofs.lemmas.Bool.{eqb-true, eq-eqb, false≢true}
+use Rattle.std.proofs.lemmas.Bool.Decides.{not_from_Decides}
+use Rattle.std.proofs.lemmas.Cmp.{int_ranked}
+use Rattle.std.specs.Bool.{Decides}
+use Rattle.std.specs.Ordering.{int_cmp}
+use Rattle.std.specs.declared.cmp.Ordering.TheVariants.{Less, Equal, Greater}
+use borrow.Author.Differences.{ints}
+use mir.Syntax.{Width}
+use Rattle.ember_algebra.specs.Size.{Small}
+use Rattle.ember_algebra.proofs.Ring.{◌⊕◌, ◌⊖◌, ◌⊗◌, num, ◌≈◌, solve, cancels}
+use Rattle.mesh_number.specs.declared.wide.whole.Wide.{Wide}
+use Rattle.mesh_number.specs.Wide.Whole.{size_of, value_of}
+use Rattle.mesh_number.proofs.Sizes.{product_size}
+use Rattle.mesh_number.proofs.Determinants.{size_of_value}
+
+-- a test that fails refuses what asks for more
+pub refused : {P Q : Type 0} (b : Bool) → Decides b P → b ≡ false → (Q → P) → Decides false Q
+refused b d f more =
+    (λ t. absurd (false≢true t), λ q. absurd (not_from_Decides b d f (more q)))
+
+-- ---- equal integers
+-- integers that are stored are equal exactly if their bits are
+pub equal_bits : (w : Width) {x y : ℤ} → SFits w x → SFits w y → Decides (nat_eq (of_z w x) (of_z w y)) (x ≡ y)
+equal_bits w {x} {y} fx fy =
+    (λ t. sym (to_z-of_z fx) ∙ ap (to_z w) (eqb-true (of_z w x) (of_z w y) t) ∙ to_z-of_z fy, λ e. eq-eqb (of_z w x) (of_z w y) (ap (of_z w) e))
+
+-- and so are those that the stored ones are equal to
+pub equal_values : (w : Width) {x y u v : ℤ} → SFits w x → SFits w y → x ≡ u → y ≡ v → Decides (nat_eq (of_z w x) (of_z w y)) (u ≡ v)
+equal_values w fx fy e f =
+    let d = equal_bits w fx fy in (λ t. sym e ∙ d.0 t ∙ f, λ q. d.1 (e ∙ q ∙ sym f))
+
+-- ---- in 256 bits
+-- a product of small numbers
+pub product_within : (n : Wide) (x y : ℤ) (j k : ℕ) → value_of n ≡ x *ℤ y → Small j x → Small k y → j * k < 2 ^ 255 → size_of n.size < 2 ^ 255
+product_within n x y j k e sx sy l =
+    let s : unsigned_abs (value_of n) ≤ j * k = rw e (product_size x y j k sx.small sy.small) in
+    omega (arith, size_of_value n, s, l)
+
+pub negative_small : {k : ℕ} {y : ℤ} → Small k y → Small k (pos 0 -ℤ y)
+negative_small s = record { small = omega (arith, ints, s.small) }
+
+-- a difference of products as a sum
+pub difference_of : (n m s : Wide) (a b c d : ℤ) → value_of n ≡ a *ℤ b → value_of m ≡ c *ℤ (pos 0 -ℤ d) →
+    value_of s ≡ value_of n +ℤ value_of m → value_of s ≡ a *ℤ b -ℤ c *ℤ d
+difference_of n m s a b c d e f g =
+    g ∙ rw (e, f) (solve 4 (λ a b c d. a ⊗ b ⊕ c ⊗ (num (pos 0) ⊖ d) ≈ a ⊗ b ⊖ c ⊗ d) cancels a b c d)
+
+-- what an order says of equality
+pub equal_order : {x y u v : ℤ} → Equal ≡ int_cmp x y → x ≡ u → y ≡ v → u ≡ v
+equal_order {x} {y} h e f = sym e ∙ int_ranked x y Equal h ∙ f
+
+pub less_order : {x y u v : ℤ} → Less ≡ int_cmp x y → x ≡ u → y ≡ v → u ≡ v → ⊥
+less_order {x} {y} h e f q =
+    let l : x <ℤ y = int_ranked x y Less h in let p = e ∙ q ∙ sym f in omega (arith, ints, l, p)
+
+pub greater_order : {x y u v : ℤ} → Greater ≡ int_cmp x y → x ≡ u → y ≡ v → u ≡ v → ⊥
+greater_order {x} {y} h e f q =
+    let l : y <ℤ x = int_ranked x y Greater h in let p = e ∙ q ∙ sym f in omega (arith, ints, l, p)

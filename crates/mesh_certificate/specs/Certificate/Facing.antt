@@ -1,0 +1,50 @@
+-- Triangles that face the front of a plane
+use Rattle.std.specs.Prelude.{◌≡◌, Bool, ◌&&◌, ℤ, pos, ◌-ℤ◌, ◌*ℤ◌, ◌<ℤ◌}
+use Rattle.ember_algebra.specs.Vector.{Vector}
+use Rattle.ember_algebra.specs.Vector.{dot, cross}
+use Rattle.ember_algebra.specs.Sign.{is_zero}
+use Rattle.ember_algebra.specs.Det.{det3}
+use Rattle.ember_model.specs.declared.plane.Plane.{Plane}
+use Rattle.ember_model.specs.declared.point.Spot.{Spot}
+use Rattle.ember_model.specs.declared.point.Axis.{Axis}
+use Rattle.ember_model.specs.declared.point.Axis.TheVariants.{X, Y, Z}
+use Rattle.ember_model.specs.Planes.{value_at}
+use Rattle.ember_model.specs.Edges.{normal}
+use Rattle.mesh_certificate.specs.declared.certificate.space_point.SpacePoint.{SpacePoint}
+
+abbrev pub spot_of : SpacePoint → Spot
+spot_of p = record { x = p.x; y = p.y; z = p.z; w = p.w }
+
+-- the vector from u to v, times both weights
+abbrev pub displacement : Spot → Spot → Vector
+displacement u v =
+    record { x = u.w *ℤ v.x -ℤ v.w *ℤ u.x; y = u.w *ℤ v.y -ℤ v.w *ℤ u.y; z = u.w *ℤ v.z -ℤ v.w *ℤ u.z }
+
+-- the normal of the triangle u, v, w, times a positive number: from its side they go round it counter-clockwise
+abbrev pub triangle_normal : Spot → Spot → Spot → Vector
+triangle_normal u v w = cross (displacement u v) (displacement u w)
+
+-- the corners lie on the plane, and the triangle's normal isn't 0 and points to the plane's front
+pub record FacesFront (p : Plane) (u v w : Spot) : Type 0 where
+  pub first : value_at p u ≡ pos 0
+  pub second : value_at p v ≡ pos 0
+  pub third : value_at p w ≡ pos 0
+  pub front : pos 0 <ℤ dot (normal p) (triangle_normal u v w)
+
+-- ---- the same, seen along an axis
+-- the other two coordinates, in turn, and the weight
+abbrev pub seen_along : Axis → Spot → Vector
+seen_along X s = record { x = s.y; y = s.z; z = s.w }
+seen_along Y s = record { x = s.z; y = s.x; z = s.w }
+seen_along Z s = record { x = s.x; y = s.y; z = s.w }
+
+abbrev pub rows : Vector → Vector → Vector → ℤ
+rows a b c = det3 a.x a.y a.z b.x b.y b.z c.x c.y c.z
+
+-- positive if the three points turn to the left
+abbrev pub turn_along : Axis → Spot → Spot → Spot → ℤ
+turn_along k u v w = rows (seen_along k u) (seen_along k v) (seen_along k w)
+
+-- ---- as a test
+abbrev pub are_on : Plane → Spot → Spot → Spot → Bool
+are_on p u v w = is_zero (value_at p u) && (is_zero (value_at p v) && is_zero (value_at p w))

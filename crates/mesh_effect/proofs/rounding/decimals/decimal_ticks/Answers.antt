@@ -1,0 +1,36 @@
+use Rattle.std.proofs.Common.{◌≡◌, ◌≤◌, ◌<◌, true, ℕ, ◌*◌, ◌^◌, ap, ◌∙◌, rules, arith}
+use Rattle.mesh_number.specs.Number.Fractions.{Fraction}
+use Rattle.mesh_number.specs.Number.Quotients.{quotient}
+use Rattle.mesh_number.specs.Wide.Whole.{size_of}
+use Rattle.mesh_written.specs.Places.{place_of}
+use Rattle.mesh_effect.specs.Rounding.Squares.{decimal_ticks}
+use Rattle.mesh_effect.proofs.RatioErrors.{too_long, ticks_of_decimal}
+use Rattle.mesh_effect.proofs.rounding.decimals.decimal_ticks.Goals as goal
+
+pub error_of-error-requires-clause-short : goal.error_of-error-requires-clause-short
+error_of-error-requires-clause-short c =
+    let r = c.exact_place-place.result in
+    let below : size_of r.numerator.size < size_of c.product-limit.result = search rules in
+    omega (arith, below, c.product-limit.ensures)
+
+pub ticks-requires-clause-short : goal.ticks-requires-clause-short
+ticks-requires-clause-short c = omega (arith, c.product.ensures, c.error_of-error.ensures.small)
+
+pub ticks-requires-clause-within : goal.ticks-requires-clause-within
+ticks-requires-clause-within c = omega (arith, c.product.ensures, c.error_of-error.ensures.small)
+
+pub returns-then-ne-clause-ticks : goal.returns-then-ne-clause-ticks
+returns-then-ne-clause-ticks c =
+    let r = c.exact_place-place.result in
+    let least : size_of c.product-limit.result ≤ size_of r.numerator.size = search rules in
+    too_long r (place_of c.args.step.now c.args.offset.now c.args.axis c.args.corner.now) c.exact_place-place.ensures
+    (omega (arith, least, c.product-limit.ensures))
+
+pub returns-clause-ticks : goal.returns-clause-ticks
+returns-clause-ticks c =
+    let r = c.exact_place-place.result in
+    let same : size_of c.product.result ≡ c.error_of-error.result = omega (arith, c.product.ensures) in
+    c.ticks.ensures.value
+    ∙ ap (λ (n : ℕ). quotient true (n * 2 ^ 62) (r.denominator * 2 ^ 0)) same
+    ∙ ticks_of_decimal r c.args.places c.error_of-error.result c.error_of-error.ensures.value
+    ∙ ap (λ (v : Fraction). decimal_ticks c.args.places v) c.exact_place-place.ensures

@@ -1,0 +1,54 @@
+use Rattle.std.proofs.Common.{◌≡◌, true, ℕ, ◌-◌, ◌*◌, ◌^◌, ap, ◌∙◌, arith}
+use Rattle.std.proofs.lemmas.Nat.{one_shl}
+use Rattle.mesh_number.specs.Number.Quotients.{quotient}
+use Rattle.mesh_number.specs.Wide.Whole.{size_of}
+use Rattle.mesh_effect.proofs.Above.{quotient_most}
+use Rattle.mesh_effect.proofs.TickCounts.{few_ticks, raised_most, low_ticks, high_ticks}
+use Rattle.mesh_effect.proofs.rounding.ticks.ticks.Goals.{After-quotient_above, After-shifted_above}
+use Rattle.mesh_effect.proofs.rounding.ticks.ticks.Goals as goal
+
+pub times-requires : goal.times-requires
+times-requires c =
+    let most = raised_most (size_of c.args.error.now) c.args.d c.args.shift c.requires.positive c.requires.within c.if-shift-le-BITS.true in
+    let unit = one_shl (62 - c.args.shift) 128 (omega arith) in
+    rw unit (omega (arith, most, c.requires.small))
+
+pub quotient_above-requires-clause-fits : goal.quotient_above-requires-clause-fits
+quotient_above-requires-clause-fits c =
+    let raised = c.times.ensures ∙ ap (λ (k : ℕ). size_of c.args.error.now * k) (one_shl (62 - c.args.shift) 128 (omega arith)) in
+    let most = raised_most (size_of c.args.error.now) c.args.d c.args.shift c.requires.positive c.requires.within c.if-shift-le-BITS.true in
+    omega (arith, raised, most, c.requires.positive)
+
+low : (c : After-quotient_above) → c.quotient_above.result ≡ quotient true (size_of c.args.error.now * 2 ^ 62) (c.args.d * 2 ^ c.args.shift)
+low c =
+    let raised = c.times.ensures ∙ ap (λ (k : ℕ). size_of c.args.error.now * k) (one_shl (62 - c.args.shift) 128 (omega arith)) in
+    c.quotient_above.ensures
+    ∙ ap (λ (n : ℕ). quotient true n c.args.d) raised
+    ∙ low_ticks (size_of c.args.error.now) c.args.d c.args.shift c.requires.positive c.requires.within c.if-shift-le-BITS.true
+
+pub returns-then-shift-le-BITS-clause-value : goal.returns-then-shift-le-BITS-clause-value
+returns-then-shift-le-BITS-clause-value c = low c
+
+pub returns-then-shift-le-BITS-clause-few : goal.returns-then-shift-le-BITS-clause-few
+returns-then-shift-le-BITS-clause-few c =
+    let few = few_ticks (size_of c.args.error.now) c.args.d c.args.shift c.requires.positive c.requires.within in
+    omega (arith, low c, few)
+
+pub shifted_above-requires : goal.shifted_above-requires
+shifted_above-requires c =
+    let most = quotient_most (size_of c.args.error.now) c.args.d (2 ^ 104) c.requires.positive c.requires.short in
+    omega (arith, c.quotient_above-else-shift-le-BITS.ensures, most)
+
+high : (c : After-shifted_above) → c.shifted_above.result ≡ quotient true (size_of c.args.error.now * 2 ^ 62) (c.args.d * 2 ^ c.args.shift)
+high c =
+    c.shifted_above.ensures
+    ∙ ap (λ (n : ℕ). quotient true n (2 ^ (c.args.shift - 62))) c.quotient_above-else-shift-le-BITS.ensures
+    ∙ high_ticks (size_of c.args.error.now) c.args.d c.args.shift c.requires.positive c.requires.within (omega (arith, c.if-shift-le-BITS.false))
+
+pub returns-else-shift-le-BITS-clause-value : goal.returns-else-shift-le-BITS-clause-value
+returns-else-shift-le-BITS-clause-value c = high c
+
+pub returns-else-shift-le-BITS-clause-few : goal.returns-else-shift-le-BITS-clause-few
+returns-else-shift-le-BITS-clause-few c =
+    let few = few_ticks (size_of c.args.error.now) c.args.d c.args.shift c.requires.positive c.requires.within in
+    omega (arith, high c, few)

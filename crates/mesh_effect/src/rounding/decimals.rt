@@ -1,0 +1,99 @@
+// Moves of corners that are written as decimals.
+ghost use Rattle.std.specs.Prelude.{◌≡◌, ◌*◌, ◌^◌, ◌<◌, ◌≤◌, map, IfSome, IfOk, IfErr, MatchOption};
+ghost use Rattle.mesh_number.specs.Wide.Whole.{size_of};
+ghost use Rattle.mesh_number.specs.Float.Binary32.{distance};
+ghost use Rattle.mesh_grid.specs.Snap.Steps.{IsStep};
+ghost use Rattle.mesh_written.specs.Places.{fraction_of, place_of};
+ghost use Rattle.mesh_written.specs.Decimals.{IsTooLong, IsFarPoint, IsDecimalFault};
+ghost use Rattle.mesh_effect.specs.Rounding.Ticks.{ticks_between, decimal_tick};
+ghost use Rattle.mesh_effect.specs.Rounding.Squares.{decimal_number, decimal_square};
+
+use crate::rounding::squares::sum_of_squares;
+use crate::rounding::ticks::ticks;
+use ember_model::Axis;
+use mesh_certificate::SpacePoint;
+use mesh_grid::{Offset, Step};
+use mesh_number::{Magnitude, divide};
+use mesh_written::{PlaceFault, Ratio, exact_place};
+use std::alloc::Global;
+use std::cmp::Ordering;
+
+// 10^21: a longer decimal isn't written.
+const LIMIT: u128 = 1_000_000_000_000_000_000_000;
+
+// How far the nearest decimal with these places is from the number, times the number's denominator,
+// in units of the last place.
+fn error_of(number: &Ratio, places: u32) -> u128
+    requires places { places ≤ 17 }
+    requires short { size_of number.now.numerator.size < number.now.denominator * 10 ^ 21 }
+    ensures value { let v = fraction_of number.now in
+        result ≡ distance v.numerator v.denominator (decimal_number places v) }
+    ensures small { result ≤ number.now.denominator }
+{
+    let unit = 10u64.pow(places);
+    let over = number.numerator.size.times(u128::from(unit));
+    let (_, rest) = divide(&over, number.denominator);
+    rest.min(number.denominator - rest)
+}
+
+// How many ticks the nearest decimal is from where the corner lies along the axis, rounded up. None
+// if the corner is 10^21 or more from zero there.
+fn decimal_ticks(
+    corner: &SpacePoint,
+    axis: Axis,
+    step: &Step,
+    offset: &Offset,
+    places: u32,
+) -> Option<u128>
+    requires step { IsStep step.now }
+    requires places { places ≤ 17 }
+    ensures ticks { MatchOption result (IsTooLong (place_of step.now offset.now axis corner.now)) (λ ticks.
+        let v = place_of step.now offset.now axis corner.now in
+        ticks ≡ ticks_between (decimal_tick places) v (decimal_number places v)) }
+    ensures few { IfSome result (λ ticks. ticks ≤ 2 ^ 62) }
+{
+    let place = exact_place(corner, axis, step, offset);
+    let limit = Magnitude::product(place.denominator, LIMIT);
+    if place.numerator.size.compare(&limit) != Ordering::Less {
+        return None;
+    }
+    let error = error_of(&place, places);
+    Some(ticks(&Magnitude::product(error, 1), place.denominator, 0))
+}
+
+// The square of the corner's move to its decimals, in ticks, where each axis is rounded up.
+fn decimal_square(corner: &SpacePoint, step: &Step, offset: &Offset, places: u32) -> Option<u128>
+    requires step { IsStep step.now }
+    requires places { places ≤ 17 }
+    ensures { MatchOption result (IsFarPoint step.now offset.now corner.now)
+        (λ square. square ≡ decimal_square places step.now offset.now corner.now) }
+{
+    let x = decimal_ticks(corner, Axis::X, step, offset, places)?;
+    let y = decimal_ticks(corner, Axis::Y, step, offset, places)?;
+    let z = decimal_ticks(corner, Axis::Z, step, offset, places)?;
+    Some(sum_of_squares(x, y, z))
+}
+
+// The same for each corner, in order.
+pub(crate) fn decimal_squares(
+    alloc: Global,
+    corners: &[SpacePoint],
+    step: &Step,
+    offset: &Offset,
+    places: u32,
+) -> Result<Vec<u128>, PlaceFault>
+    requires step { IsStep step.now }
+    requires places { places ≤ 17 }
+    ensures squares { IfOk result (λ squares. squares.items ≡
+        map (decimal_square places step.now offset.now) corners.now) }
+    ensures fault { IfErr result (IsDecimalFault step.now offset.now corners.now) }
+{
+    let mut squares = Vec::with_capacity(alloc, corners.len())?;
+    for corner in corners {
+        let Some(square) = decimal_square(corner, step, offset, places) else {
+            return Err(PlaceFault::TooFar);
+        };
+        squares.push(square)?;
+    }
+    Ok(squares)
+}

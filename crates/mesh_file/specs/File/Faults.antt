@@ -1,0 +1,80 @@
+-- The first fault of a file, with the text of a bad word
+use Rattle.std.specs.Prelude.{ℕ, Bool, true, false}
+use Rattle.mesh_read.specs.declared.stl.fault.StlFault.{StlFault}
+use Rattle.mesh_read.specs.declared.stl.fault.StlFault.TheVariants as stl
+use Rattle.mesh_ply.specs.declared.fault.PlyFault.{PlyFault}
+use Rattle.mesh_ply.specs.declared.fault.PlyFault.TheVariants as ply
+use Rattle.mesh_read.specs.declared.off.fault.OffFault.{OffFault}
+use Rattle.mesh_read.specs.declared.off.fault.OffFault.TheVariants as off
+use Rattle.mesh_read.specs.declared.wavefront.fault.WavefrontFault.{WavefrontFault}
+use Rattle.mesh_read.specs.declared.wavefront.fault.WavefrontFault.TheVariants as error
+use Rattle.mesh_read.specs.Wavefront.Faults as wavefront
+use Rattle.mesh_file.specs.declared.file.fault.FileFault.{FileFault}
+use Rattle.mesh_file.specs.declared.file.fault.FileFault.TheVariants as file
+
+-- a fault as definitions see it: words are their bytes
+pub data Fault : Type 0 where
+  CutOff : ℕ → Fault
+  Stl : StlFault → Fault
+  Ply : PlyFault → Fault
+  Off : OffFault → Fault
+  Wavefront : wavefront.Fault → Fault
+  OutOfMemory : Fault
+
+-- the fault that an error shows
+abbrev pub fault_of : FileFault → Fault
+fault_of (file.CutOff facets) = CutOff facets
+fault_of (file.Stl fault) = Stl fault
+fault_of (file.Ply fault) = Ply fault
+fault_of (file.Off fault) = Off fault
+fault_of (file.Wavefront fault) = Wavefront (wavefront.fault_of fault)
+fault_of file.OutOfMemory = OutOfMemory
+
+-- ---- the fault of a file for one of each reader
+-- an STL that is cut off, and out-of-memory, are faults of the file
+abbrev pub of_stl : StlFault → Fault
+of_stl (stl.CutOff facets) = CutOff facets
+of_stl stl.OutOfMemory = OutOfMemory
+of_stl fault = Stl fault
+
+-- for the other readers, out-of-memory is
+abbrev pub of_ply : PlyFault → Fault
+of_ply ply.OutOfMemory = OutOfMemory
+of_ply fault = Ply fault
+
+abbrev pub of_off : OffFault → Fault
+of_off off.OutOfMemory = OutOfMemory
+of_off fault = Off fault
+
+abbrev pub of_wavefront : wavefront.Fault → Fault
+of_wavefront wavefront.OutOfMemory = OutOfMemory
+of_wavefront fault = Wavefront fault
+
+-- ---- faults that are a reader's alone
+-- neither out-of-memory nor that an STL is cut off
+abbrev pub is_plain_stl : StlFault → Bool
+is_plain_stl (stl.CutOff facets) = false
+is_plain_stl stl.OutOfMemory = false
+is_plain_stl fault = true
+
+-- not out-of-memory
+abbrev pub is_plain_ply : PlyFault → Bool
+is_plain_ply ply.OutOfMemory = false
+is_plain_ply fault = true
+
+abbrev pub is_plain_off : OffFault → Bool
+is_plain_off off.OutOfMemory = false
+is_plain_off fault = true
+
+abbrev pub is_plain_wavefront : WavefrontFault → Bool
+is_plain_wavefront error.OutOfMemory = false
+is_plain_wavefront fault = true
+
+-- the fault of a reader in it, if there is one, is the reader's alone
+abbrev pub is_plain : FileFault → Bool
+is_plain (file.CutOff facets) = true
+is_plain (file.Stl fault) = is_plain_stl fault
+is_plain (file.Ply fault) = is_plain_ply fault
+is_plain (file.Off fault) = is_plain_off fault
+is_plain (file.Wavefront fault) = is_plain_wavefront fault
+is_plain file.OutOfMemory = true

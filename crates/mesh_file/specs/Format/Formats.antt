@@ -1,0 +1,39 @@
+-- Which format a file has
+use Rattle.std.specs.Prelude.{ℕ, ◌-◌, Bool, true, ◌&&◌, ◌||◌, List, [], ◌∷◌, if◌then◌else◌, ◌==◌, nat_eq}
+use Rattle.std.specs.Prelude.{length, drop, codes}
+use Rattle.std.specs.List.{starts_with}
+use Rattle.std.specs.Str.{str_eq_ignore_ascii_case}
+use Rattle.mesh_read.specs.Stl.Scan.{words_from}
+use Rattle.mesh_read.specs.Stl.ReadStl.{is_binary, is_ascii, begins_with}
+use Rattle.mesh_file.specs.declared.format.format.Format.{Format}
+use Rattle.mesh_file.specs.declared.format.format.Format.TheVariants.{Ply, BinaryStl, AsciiStl, Off, CutOffStl, Obj}
+
+-- a line ends where these bytes begin
+abbrev pub ends_line : List ℕ → Bool
+ends_line [] = true
+ends_line (b ∷ bs) = b == 10 || b == 13
+
+-- the text begins with `ply` and a line end
+abbrev pub is_ply : List ℕ → Bool
+is_ply bytes = starts_with nat_eq bytes (codes "ply") && ends_line (drop 3 bytes)
+
+-- the first word is OFF, COFF or NOFF, in any case
+abbrev pub is_off : List ℕ → Bool
+is_off bytes =
+    begins_with (codes "OFF") (words_from 0 bytes)
+    || begins_with (codes "COFF") (words_from 0 bytes)
+    || begins_with (codes "NOFF") (words_from 0 bytes)
+
+-- the name ends in .stl, in any case
+abbrev pub has_stl_name : List ℕ → Bool
+has_stl_name name = str_eq_ignore_ascii_case (drop (length name - 4) name) (codes ".stl")
+
+-- the format of a file with this name and these bytes: the first that fits
+abbrev pub format_said : List ℕ → List ℕ → Format
+format_said name bytes =
+    if is_ply bytes then Ply
+    else (if is_binary bytes then BinaryStl
+    else (if is_ascii bytes then AsciiStl
+    else (if is_off bytes then Off
+    else (if has_stl_name name then CutOffStl
+    else Obj))))

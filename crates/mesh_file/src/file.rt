@@ -1,0 +1,11 @@
+// Reads a mesh file of any format, and says why a file is refused.
+
+mod fault;
+mod phrases;
+mod reading;
+mod reason;
+mod reason_parts;
+
+pub use fault::FileFault;
+pub use reading::read_file;
+pub use reason::put_reason;

@@ -1,0 +1,155 @@
+// A file of any format.
+ghost use Rattle.std.specs.Prelude.{◌≡◌, ◌⊎◌, ◌≤◌, true, length, None, Ok, Err, IfOk, IfErr};
+ghost use Rattle.std.specs.List.{find};
+ghost use Rattle.mesh_read.specs.Surface.Surfaces.{IsSurface, content_of, is_facet_too_large};
+ghost use Rattle.mesh_read.specs.Stl.ReadStl.{read_stl_of};
+ghost use Rattle.mesh_ply.specs.ReadPly.{read_ply_of};
+ghost use Rattle.mesh_read.specs.Off.ReadOff.{read_off_of};
+ghost use Rattle.mesh_read.specs.Wavefront.ReadWavefront.{read_wavefront_of};
+ghost use Rattle.mesh_read.specs.Wavefront.Faults as wavefront;
+ghost use Rattle.mesh_file.specs.File.Faults.{fault_of, is_plain, of_stl, of_ply, of_off, of_wavefront};
+ghost use Rattle.mesh_file.specs.File.ReadFile.{with_faults, reading_of};
+
+use crate::file::fault::FileFault;
+use crate::format::{Format, format_of};
+use mesh_ply::{PlyFault, read_ply};
+use mesh_read::{OffFault, StlFault, Surface, WavefrontFault, read_off, read_stl, read_wavefront};
+use std::alloc::Global;
+
+// The fault of a file, for one of each reader.
+fn stl_fault<'a>(fault: StlFault) -> FileFault<'a>
+    ensures fault { fault_of result ≡ of_stl fault }
+    ensures memory { fault ≡ StlFault.OutOfMemory → result ≡ FileFault.OutOfMemory }
+    ensures plain { is_plain result ≡ true }
+{
+    match fault {
+        StlFault::CutOff(facets) => FileFault::CutOff(facets),
+        StlFault::OutOfMemory => FileFault::OutOfMemory,
+        other => FileFault::Stl(other),
+    }
+}
+
+fn ply_fault<'a>(fault: PlyFault) -> FileFault<'a>
+    ensures fault { fault_of result ≡ of_ply fault }
+    ensures memory { fault ≡ PlyFault.OutOfMemory → result ≡ FileFault.OutOfMemory }
+    ensures plain { is_plain result ≡ true }
+{
+    match fault {
+        PlyFault::OutOfMemory => FileFault::OutOfMemory,
+        other => FileFault::Ply(other),
+    }
+}
+
+fn off_fault<'a>(fault: OffFault) -> FileFault<'a>
+    ensures fault { fault_of result ≡ of_off fault }
+    ensures memory { fault ≡ OffFault.OutOfMemory → result ≡ FileFault.OutOfMemory }
+    ensures plain { is_plain result ≡ true }
+{
+    match fault {
+        OffFault::OutOfMemory => FileFault::OutOfMemory,
+        other => FileFault::Off(other),
+    }
+}
+
+fn wavefront_fault<'a>(fault: WavefrontFault<'a>) -> FileFault<'a>
+    ensures fault { fault_of result ≡ of_wavefront (wavefront.fault_of fault.entry) }
+    ensures memory { fault.entry ≡ WavefrontFault.OutOfMemory → result ≡ FileFault.OutOfMemory }
+    ensures plain { is_plain result ≡ true }
+{
+    match fault {
+        WavefrontFault::OutOfMemory => FileFault::OutOfMemory,
+        other => FileFault::Wavefront(other),
+    }
+}
+
+// The surface of an STL file, binary, ASCII or cut off.
+fn read_stl_file<'a>(alloc: Global, bytes: &'a [u8]) -> Result<Surface<'a>, FileFault<'a>>
+    requires { length bytes.now ≤ 268435456 }
+    ensures ok { IfOk result (λ s. with_faults of_stl (read_stl_of bytes.now) ≡ Ok (content_of s)) }
+    ensures surface { IfOk result IsSurface }
+    ensures within { IfOk result (λ s. find (is_facet_too_large s.vertices.items) s.facets.items ≡ None) }
+    ensures fault { IfErr result (λ e. (e ≡ FileFault.OutOfMemory)
+        ⊎ (with_faults of_stl (read_stl_of bytes.now) ≡ Err (fault_of e))) }
+    ensures plain { IfErr result (λ e. is_plain e ≡ true) }
+{
+    match read_stl(alloc, bytes) {
+        Ok(surface) => Ok(surface),
+        Err(fault) => Err(stl_fault(fault)),
+    }
+}
+
+fn read_ply_file<'a>(alloc: Global, bytes: &'a [u8]) -> Result<Surface<'a>, FileFault<'a>>
+    requires { length bytes.now ≤ 268435456 }
+    ensures ok { IfOk result (λ s. with_faults of_ply (read_ply_of bytes.now) ≡ Ok (content_of s)) }
+    ensures surface { IfOk result IsSurface }
+    ensures within { IfOk result (λ s. find (is_facet_too_large s.vertices.items) s.facets.items ≡ None) }
+    ensures fault { IfErr result (λ e. (e ≡ FileFault.OutOfMemory)
+        ⊎ (with_faults of_ply (read_ply_of bytes.now) ≡ Err (fault_of e))) }
+    ensures plain { IfErr result (λ e. is_plain e ≡ true) }
+{
+    match read_ply(alloc, bytes) {
+        Ok(surface) => Ok(surface),
+        Err(fault) => Err(ply_fault(fault)),
+    }
+}
+
+fn read_off_file<'a>(alloc: Global, bytes: &'a [u8]) -> Result<Surface<'a>, FileFault<'a>>
+    requires { length bytes.now ≤ 268435456 }
+    ensures ok { IfOk result (λ s. with_faults of_off (read_off_of bytes.now) ≡ Ok (content_of s)) }
+    ensures surface { IfOk result IsSurface }
+    ensures within { IfOk result (λ s. find (is_facet_too_large s.vertices.items) s.facets.items ≡ None) }
+    ensures fault { IfErr result (λ e. (e ≡ FileFault.OutOfMemory)
+        ⊎ (with_faults of_off (read_off_of bytes.now) ≡ Err (fault_of e))) }
+    ensures plain { IfErr result (λ e. is_plain e ≡ true) }
+{
+    match read_off(alloc, bytes) {
+        Ok(surface) => Ok(surface),
+        Err(fault) => Err(off_fault(fault)),
+    }
+}
+
+fn read_wavefront_file<'a>(alloc: Global, bytes: &'a [u8]) -> Result<Surface<'a>, FileFault<'a>>
+    requires { length bytes.now ≤ 268435456 }
+    ensures ok { IfOk result (λ s. with_faults of_wavefront (read_wavefront_of bytes.now) ≡ Ok (content_of s)) }
+    ensures surface { IfOk result IsSurface }
+    ensures within { IfOk result (λ s. find (is_facet_too_large s.vertices.items) s.facets.items ≡ None) }
+    ensures fault { IfErr result (λ e. (e ≡ FileFault.OutOfMemory)
+        ⊎ (with_faults of_wavefront (read_wavefront_of bytes.now) ≡ Err (fault_of e))) }
+    ensures plain { IfErr result (λ e. is_plain e ≡ true) }
+{
+    match read_wavefront(alloc, bytes) {
+        Ok(surface) => Ok(surface),
+        Err(fault) => Err(wavefront_fault(fault)),
+    }
+}
+
+/// The vertices and triangles of a mesh file with this name, or its first fault.
+///
+/// [`format_of`](crate::format::format_of) says which format it has. Each format has its own reader,
+/// which says what is read and where a triangle's place is: [`read_ply`](mesh_ply::read_ply),
+/// [`read_stl`](mesh_read::read_stl), [`read_off`](mesh_read::read_off) and
+/// [`read_wavefront`](mesh_read::read_wavefront). A file that is STL by its name alone is
+/// [`CutOff`](FileFault::CutOff).
+///
+/// All coordinates of triangles are below 10^15 in size. They may borrow their digits from `bytes`,
+/// and a fault its bad word. There are at most 2^28 bytes.
+pub fn read_file<'a>(
+    alloc: Global,
+    name: &[u8],
+    bytes: &'a [u8],
+) -> Result<Surface<'a>, FileFault<'a>>
+    requires { length bytes.now ≤ 268435456 }
+    ensures ok { IfOk result (λ s. reading_of name.now bytes.now ≡ Ok (content_of s)) }
+    ensures surface { IfOk result IsSurface }
+    ensures within { IfOk result (λ s. find (is_facet_too_large s.vertices.items) s.facets.items ≡ None) }
+    ensures fault { IfErr result (λ e. (e ≡ FileFault.OutOfMemory)
+        ⊎ (reading_of name.now bytes.now ≡ Err (fault_of e))) }
+    ensures plain { IfErr result (λ e. is_plain e ≡ true) }
+{
+    match format_of(name, bytes) {
+        Format::Ply => read_ply_file(alloc, bytes),
+        Format::BinaryStl | Format::AsciiStl | Format::CutOffStl => read_stl_file(alloc, bytes),
+        Format::Off => read_off_file(alloc, bytes),
+        Format::Obj => read_wavefront_file(alloc, bytes),
+    }
+}

@@ -1,0 +1,65 @@
+-- The grid of a scene, and why there is none
+use Rattle.std.specs.Prelude.{◌≡◌, List, [], None, ⊤}
+use Rattle.std.specs.List.{find}
+use Rattle.mesh_grid.specs.declared.snap.steps.Step.{Step}
+use Rattle.mesh_grid.specs.declared.snap.spans.Coordinates.{Coordinates}
+use Rattle.mesh_grid.specs.Snap.Steps.{IsStep, nice_of, fine_of}
+use Rattle.mesh_grid.specs.Snap.Spans.{FitsAll, IsLeast}
+use Rattle.mesh_grid.specs.Snap.Offsets.{IsOffset}
+use Rattle.mesh_read.specs.declared.surface.surface.Surface.{Surface}
+use Rattle.mesh_read.specs.Surface.Surfaces.{is_facet_too_large}
+use Rattle.mesh_grid.specs.declared.grid.grid.Grid.{Grid}
+use Rattle.mesh_grid.specs.declared.grid.choice.Wanted.{Wanted}
+use Rattle.mesh_grid.specs.declared.grid.choice.Wanted.TheVariants.{Nice, Finest, Given}
+use Rattle.mesh_grid.specs.declared.grid.extent.Extent.{Extent}
+use Rattle.mesh_grid.specs.declared.grid.fault.GridFault.{GridFault}
+use Rattle.mesh_grid.specs.declared.grid.fault.GridFault.TheVariants.{NoTriangles, StepTooSmall, OutOfMemory}
+use Rattle.mesh_grid.specs.Grid.Corners.{corners_in, HasCoordinates}
+use Rattle.mesh_grid.specs.Grid.Lengths.{IsLength}
+
+-- no triangle has a coordinate of 10^15 or more in size
+abbrev pub IsWithinLimit : Surface → Type 0
+IsWithinLimit s = find (is_facet_too_large s.vertices.items) s.facets.items ≡ None
+
+-- a given step is in range
+abbrev pub IsChoice : Wanted → Type 0
+IsChoice Nice = ⊤
+IsChoice Finest = ⊤
+IsChoice (Given step) = IsStep step
+
+-- the least nice step at which the coordinates fit, the finest one, or the given one
+abbrev pub IsWantedStep : Wanted → Coordinates → Step → Type 0
+IsWantedStep Nice c step = IsLeast nice_of c step
+IsWantedStep Finest c step = IsLeast fine_of c step
+IsWantedStep (Given given) c step = step ≡ given
+
+-- the step is as wanted, and the offset is that of all corners
+pub record IsGrid (surfaces : List Surface) (wanted : Wanted) (g : Grid) : Type 0 where
+  pub coordinates : Coordinates
+  pub of_corners : HasCoordinates surfaces coordinates
+  pub step : IsWantedStep wanted coordinates g.step
+  pub offset : IsOffset g.step coordinates g.offset
+
+-- how long the coordinates are, and the finest step at which they fit
+pub record IsExtent (c : Coordinates) (e : Extent) : Type 0 where
+  pub is_length : IsLength c e.trillionths
+  pub least : IsLeast fine_of c e.finest
+
+-- the coordinates don't fit at the given step, and this is their extent
+pub record IsTooSmall (c : Coordinates) (wanted : Wanted) (e : Extent) : Type 0 where
+  pub given : Step
+  pub is_given : wanted ≡ Given given
+  pub too_small : FitsAll given c → ⊥
+  pub is_extent : IsExtent c e
+
+abbrev pub IsStepFault : Coordinates → Wanted → GridFault → Type 0
+IsStepFault c wanted NoTriangles = ⊥
+IsStepFault c wanted (StepTooSmall e) = IsTooSmall c wanted e
+IsStepFault c wanted OutOfMemory = ⊥
+
+-- there are no triangles, or the given step is too small and the fault has the extent; or out-of-memory
+abbrev pub IsGridFault : List Surface → Wanted → GridFault → Type 0
+IsGridFault surfaces wanted NoTriangles = corners_in surfaces ≡ []
+IsGridFault surfaces wanted (StepTooSmall e) =
+    (c : Coordinates) × HasCoordinates surfaces c × IsTooSmall c wanted e
+IsGridFault surfaces wanted OutOfMemory = ⊤

@@ -1,0 +1,3 @@
+pub mod Snap
+pub mod Grid
+pub mod Moves

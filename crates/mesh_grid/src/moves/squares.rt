@@ -1,0 +1,79 @@
+// How far corners move, squared.
+ghost use Rattle.std.specs.Prelude.{◌≡◌, ◌≤◌, ◌^◌, max, true, if◌then◌else◌};
+ghost use Rattle.mesh_grid.specs.Snap.Steps.{IsStep};
+ghost use Rattle.mesh_grid.specs.Grid.Corners.{IsOnGrid, LandsAt, FacetLands};
+ghost use Rattle.mesh_grid.specs.Moves.Moves.{IsFineness};
+ghost use Rattle.mesh_grid.specs.Moves.Greatest.{square, square_of, square_at, facet_square};
+
+use crate::grid::Grid;
+use crate::moves::axis::ticks_of;
+use mesh_read::{Facet, Vertex};
+
+fn square(n: u128) -> u128
+    requires { n ≤ 2 ^ 61 }
+    ensures value { result ≡ square n }
+    ensures small { result ≤ 2 ^ 122 }
+{
+    n * n
+}
+
+// The square of the length of a vertex's move, where each axis is rounded up.
+fn square_of(vertex: &Vertex, grid: &Grid, fineness: u64) -> u128
+    requires step { IsStep grid.now.step }
+    requires lands { IsOnGrid grid.now vertex.now }
+    requires fineness { IsFineness grid.now.step fineness }
+    ensures { result ≡ square_of grid.now.step fineness vertex.now }
+{
+    let x = square(ticks_of(&vertex.x, &grid.step, fineness));
+    let y = square(ticks_of(&vertex.y, &grid.step, fineness));
+    let z = square(ticks_of(&vertex.z, &grid.step, fineness));
+    x + (y + z)
+}
+
+// The greater of a square and that of the vertex's move. What isn't a corner doesn't count, and may
+// lie off the grid.
+pub(crate) fn with_vertex(
+    greatest: u128,
+    is_corner: bool,
+    vertex: &Vertex,
+    grid: &Grid,
+    fineness: u64,
+) -> u128
+    requires step { IsStep grid.now.step }
+    requires lands { is_corner ≡ true → IsOnGrid grid.now vertex.now }
+    requires fineness { IsFineness grid.now.step fineness }
+    ensures { result ≡ (if is_corner then max greatest (square_of grid.now.step fineness vertex.now) else greatest) }
+{
+    if is_corner {
+        greatest.max(square_of(vertex, grid, fineness))
+    } else {
+        greatest
+    }
+}
+
+// The same as `square_of` for the vertex with this index.
+fn square_at(vertices: &[Vertex], index: u32, grid: &Grid, fineness: u64) -> u128
+    requires step { IsStep grid.now.step }
+    requires lands { LandsAt grid.now vertices.now index }
+    requires fineness { IsFineness grid.now.step fineness }
+    ensures { result ≡ square_at grid.now.step fineness vertices.now index }
+{
+    match vertices.get(index as usize) {
+        Some(vertex) => square_of(vertex, grid, fineness),
+        None => 0,
+    }
+}
+
+// The greatest for the corners of the triangle.
+pub(crate) fn facet_square(vertices: &[Vertex], facet: &Facet, grid: &Grid, fineness: u64) -> u128
+    requires step { IsStep grid.now.step }
+    requires lands { FacetLands grid.now vertices.now facet.now }
+    requires fineness { IsFineness grid.now.step fineness }
+    ensures { result ≡ facet_square grid.now.step fineness vertices.now facet.now }
+{
+    let [a, b, c] = facet.corners;
+    let at_a = square_at(vertices, a, grid, fineness);
+    let at_b = square_at(vertices, b, grid, fineness);
+    let at_c = square_at(vertices, c, grid, fineness);
+    at_a.max(at_b).max(at_c)
+}

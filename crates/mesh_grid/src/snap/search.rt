@@ -1,0 +1,131 @@
+// The search for a step.
+ghost use Rattle.std.specs.Prelude.{ℕ, ◌<◌, ◌↔◌, IsTrue, IfSome, IfNone};
+ghost use Rattle.mesh_grid.specs.Snap.Steps.{IsStep, nice_of, fine_of};
+ghost use Rattle.mesh_grid.specs.Snap.Spans.{Fits, FitsAll, AreNumbers, AreCoordinates, IsLeast, AreEnds, AreAllEnds};
+
+use crate::snap::cells::cell;
+use crate::snap::spans::{Coordinates, MOST, fitting_spans};
+use crate::snap::steps::{FINE_STEPS, FINEST, NICE_STEPS, Step, fine, nice};
+use mesh_number::Number;
+
+// The indices of two numbers of a list that are far apart: a step at which these don't fit is
+// refused without a look at the others.
+#[derive(Clone, Copy)]
+pub(crate) struct Ends {
+    pub low: usize,
+    pub high: usize,
+}
+
+#[derive(Clone, Copy)]
+pub(crate) struct AllEnds {
+    pub x: Ends,
+    pub y: Ends,
+    pub z: Ends,
+}
+
+// The least and the greatest number, as far as the finest grid shows.
+fn ends_of(numbers: &[Number]) -> Ends
+    requires { AreNumbers numbers.now }
+    ensures { AreEnds numbers.now result }
+{
+    let first = cell(&numbers[0], &FINEST);
+    let mut least = first;
+    let mut greatest = first;
+    let mut ends = Ends { low: 0, high: 0 };
+    for (place, number) in numbers.iter().enumerate() {
+        let cell = cell(number, &FINEST);
+        if cell < least {
+            least = cell;
+            ends.low = place;
+        }
+        if cell > greatest {
+            greatest = cell;
+            ends.high = place;
+        }
+    }
+    ends
+}
+
+// `true` only if the numbers don't fit on the grid, as the cells of two of them show; `false` shows
+// nothing.
+fn are_far_apart(numbers: &[Number], ends: &Ends, step: &Step) -> bool
+    requires step { IsStep step.now }
+    requires numbers { AreNumbers numbers.now }
+    requires ends { AreEnds numbers.now ends.now }
+    ensures { IsTrue result → Fits step.now numbers.now → ⊥ }
+{
+    cell(&numbers[ends.high], step) - cell(&numbers[ends.low], step) > MOST
+}
+
+// Whether the coordinates fit on the grid along all axes.
+fn fits(coordinates: &Coordinates, ends: &AllEnds, step: &Step) -> bool
+    requires step { IsStep step.now }
+    requires coordinates { AreCoordinates coordinates.now }
+    requires ends { AreAllEnds coordinates.now ends.now }
+    ensures { IsTrue result ↔ FitsAll step.now coordinates.now }
+{
+    if are_far_apart(coordinates.x, &ends.x, step) {
+        return false;
+    }
+    if are_far_apart(coordinates.y, &ends.y, step) {
+        return false;
+    }
+    if are_far_apart(coordinates.z, &ends.z, step) {
+        return false;
+    }
+    match fitting_spans(coordinates, step) {
+        Some(_) => true,
+        None => false,
+    }
+}
+
+fn all_ends(coordinates: &Coordinates) -> AllEnds
+    requires { AreCoordinates coordinates.now }
+    ensures { AreAllEnds coordinates.now result }
+{
+    AllEnds {
+        x: ends_of(coordinates.x),
+        y: ends_of(coordinates.y),
+        z: ends_of(coordinates.z),
+    }
+}
+
+/// The least of the nice steps at which the coordinates fit on a grid, or `None`. Nice are 1, 2 and
+/// 5 times a power of ten, from 10^-12 to 5 * 10^11.
+///
+/// There are coordinates along each axis, and each is below 10^15 in size.
+pub fn nice_step(coordinates: &Coordinates) -> Option<Step>
+    requires { AreCoordinates coordinates.now }
+    ensures found { IfSome result (IsLeast nice_of coordinates.now) }
+    ensures step { IfSome result IsStep }
+    ensures none { IfNone result ((rank : ℕ) → rank < 72 → FitsAll (nice_of rank) coordinates.now → ⊥) }
+{
+    let ends = all_ends(coordinates);
+    for rank in 0..NICE_STEPS {
+        let step = nice(rank);
+        if fits(coordinates, &ends, &step) {
+            return Some(step);
+        }
+    }
+    None
+}
+
+/// The least step at which the coordinates fit on a grid, or `None`. The steps are the numbers of
+/// at most four digits times a power of ten, from 10^-12 to 9.999 * 10^11.
+///
+/// There are coordinates along each axis, and each is below 10^15 in size.
+pub fn finest_step(coordinates: &Coordinates) -> Option<Step>
+    requires { AreCoordinates coordinates.now }
+    ensures found { IfSome result (IsLeast fine_of coordinates.now) }
+    ensures step { IfSome result IsStep }
+    ensures none { IfNone result ((rank : ℕ) → rank < 189_999 → FitsAll (fine_of rank) coordinates.now → ⊥) }
+{
+    let ends = all_ends(coordinates);
+    for rank in 0..FINE_STEPS {
+        let step = fine(rank);
+        if fits(coordinates, &ends, &step) {
+            return Some(step);
+        }
+    }
+    None
+}

@@ -1,0 +1,5 @@
+pub mod Appended
+pub mod EdgeUses
+pub mod Meshes
+pub mod SaidLines
+pub mod Rounded

@@ -1,0 +1,8 @@
+//! What info prints of a mesh file, and what view shows of it.
+#![tactic(auto)]
+
+mod info;
+mod view;
+
+pub use info::{BoundingBox, Info, info_of, put_info, triangles_of};
+pub use view::view_of;

@@ -1,0 +1,17 @@
+pub mod Rounding
+pub mod DigitNumbers
+pub mod Parts
+pub mod SignedFloors
+pub mod Doublings
+pub mod Denominators
+pub mod Products
+pub mod Sizes
+pub mod Determinants
+pub mod Halving
+pub mod Digits
+pub mod Distances
+pub mod Powers
+pub mod Signs
+pub mod Bits
+pub mod NearestFloats
+pub mod Scales

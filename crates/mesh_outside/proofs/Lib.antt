@@ -1,0 +1,5 @@
+pub mod HeldNames
+pub mod MapFiles
+pub mod SeveralFiles
+mod Halves
+mod RunWeights

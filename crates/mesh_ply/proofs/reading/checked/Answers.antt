@@ -1,0 +1,13 @@
+use Rattle.std.proofs.Common.{rules, arith}
+use Rattle.std.proofs.lemmas.Grind.{common_steps}
+use Rattle.mesh_read.proofs.FarPoints.{far_by_content}
+use Rattle.mesh_ply.proofs.reading.checked.Goals as goal
+
+pub returns-then-is_empty-clause-fault : goal.returns-then-is_empty-clause-fault
+returns-then-is_empty-clause-fault c = first_of (search rules, grind (arith, far_by_content), grind (arith, common_steps))
+
+pub returns-in-Some-clause-fault : goal.returns-in-Some-clause-fault
+returns-in-Some-clause-fault c = first_of (search rules, grind (arith, far_by_content), grind (arith, common_steps))
+
+pub returns-clause-ok : goal.returns-clause-ok
+returns-clause-ok c = first_of (search rules, grind (arith, far_by_content), grind (arith, common_steps))

@@ -1,0 +1,104 @@
+// The reading of a file.
+ghost use Rattle.std.specs.Prelude.{◌≡◌, ◌⊎◌, ◌≤◌, length, Ok, Err, IfOk, IfErr};
+ghost use Rattle.mesh_read.specs.Surface.Surfaces.{IsSurface, content_of};
+ghost use Rattle.mesh_ply.specs.ReadPly.{no_content, elements_from, content_of_file, as_mesh, read_ply_of};
+ghost use Rattle.mesh_ply.specs.Cursors.{begun};
+
+use crate::cursor::first_cursor;
+use crate::declarations::{Declaration, Encoding};
+use crate::elements::read_elements;
+use crate::fault::PlyFault;
+use crate::header::read_header;
+use crate::row::Row;
+use mesh_read::{Surface, first_too_large};
+use std::alloc::Global;
+
+// What the rows of these elements say.
+fn read_body<'a>(
+    alloc: Global,
+    encoding: Encoding,
+    declarations: &[Declaration],
+    body: &'a [u8],
+) -> Result<Surface<'a>, PlyFault>
+    requires { length body.now ≤ 268435456 }
+    ensures ok { IfOk result (λ s.
+        elements_from declarations.now no_content (begun encoding body.entry.now) ≡ Ok (content_of s)) }
+    ensures fault { IfErr result (λ e. (e ≡ PlyFault.OutOfMemory)
+        ⊎ (elements_from declarations.now no_content (begun encoding body.entry.now) ≡ Err e)) }
+{
+    let mut surface = Surface {
+        vertices: Vec::new(alloc),
+        facets: Vec::new(alloc),
+    };
+    let mut row = Row {
+        x: None,
+        y: None,
+        z: None,
+        has_corners: false,
+        corners: Vec::new(alloc),
+    };
+    let cursor = first_cursor(encoding, body);
+    read_elements(&mut surface, &mut row, declarations, cursor)?;
+    Ok(surface)
+}
+
+// The vertices and triangles of a file, whatever they are.
+fn read_content<'a>(alloc: Global, bytes: &'a [u8]) -> Result<Surface<'a>, PlyFault>
+    requires { length bytes.now ≤ 268435456 }
+    ensures ok { IfOk result (λ s. content_of_file bytes.entry.now ≡ Ok (content_of s)) }
+    ensures fault { IfErr result (λ e. (e ≡ PlyFault.OutOfMemory) ⊎ (content_of_file bytes.entry.now ≡ Err e)) }
+{
+    let (header, body) = read_header(alloc, bytes)?;
+    let Some(encoding) = header.encoding else {
+        return Err(PlyFault::NoFormat);
+    };
+    read_body(alloc, encoding, &header.declarations, body)
+}
+
+// The surface, if it is a mesh.
+#[tactic(none)]
+fn checked<'a>(surface: Surface<'a>) -> Result<Surface<'a>, PlyFault>
+    ensures ok { IfOk result (λ s. as_mesh (Ok (content_of surface.entry)) ≡ Ok (content_of s)) }
+    ensures fault { IfErr result (λ e. as_mesh (Ok (content_of surface.entry)) ≡ Err e) }
+{
+    if surface.facets.is_empty() {
+        return Err(PlyFault::NoTriangles);
+    }
+    match first_too_large(&surface) {
+        Some(place) => Err(PlyFault::TooLarge(place)),
+        None => Ok(surface),
+    }
+}
+
+// The surface of a file, if it is a mesh.
+fn read_mesh<'a>(alloc: Global, bytes: &'a [u8]) -> Result<Surface<'a>, PlyFault>
+    requires { length bytes.now ≤ 268435456 }
+    ensures ok { IfOk result (λ s. read_ply_of bytes.now ≡ Ok (content_of s)) }
+    ensures fault { IfErr result (λ e. (e ≡ PlyFault.OutOfMemory) ⊎ (read_ply_of bytes.now ≡ Err e)) }
+{
+    let surface = read_content(alloc, bytes)?;
+    checked(surface)
+}
+
+/// The vertices and triangles of a PLY file, or its first fault.
+///
+/// The header ends with the first line whose first word is `end_header`. Lines that begin with
+/// `ply`, `comment` or `obj_info` are passed over, as are lines without a word; the caller tests
+/// whether the file begins with `ply`. The format is `ascii`, `binary_little_endian` or
+/// `binary_big_endian`. The rows of the elements follow in the header's order. In an ASCII file a
+/// row is a line with a word, and what follows its last property isn't read.
+///
+/// A `vertex` has the properties `x`, `y` and `z`, and a `face` the list `vertex_indices` or
+/// `vertex_index` of indices from 0 of vertices with rows before it. Other elements, properties and
+/// lists are passed over. A face is cut into triangles from its first corner, and its number from 1
+/// is their place.
+///
+/// The coordinates of an ASCII file borrow their digits from `text`, which has at most 2^28 bytes.
+pub fn read_ply<'a>(alloc: Global, text: &'a [u8]) -> Result<Surface<'a>, PlyFault>
+    requires { length text.now ≤ 268435456 }
+    ensures ok { IfOk result (λ s. read_ply_of text.now ≡ Ok (content_of s)) }
+    ensures surface { IfOk result IsSurface }
+    ensures fault { IfErr result (λ e. (e ≡ PlyFault.OutOfMemory) ⊎ (read_ply_of text.now ≡ Err e)) }
+{
+    read_mesh(alloc, text)
+}

@@ -1,0 +1,63 @@
+// Whole rows.
+ghost use Rattle.std.specs.Prelude.{◌≡◌, ◌⊎◌, ◌≤◌, ◌<◌, true, Ok, Err, IfOk, IfErr};
+ghost use Rattle.mesh_ply.specs.CursorViews.{cursor_of, left_at};
+ghost use Rattle.mesh_ply.specs.Rows.{empty_row, begins_property, properties, row_at};
+ghost use Rattle.mesh_ply.specs.RowViews.{row_of};
+
+use crate::cursor::{Cursor, enter_row};
+use crate::declarations::Declaration;
+use crate::fault::PlyFault;
+use crate::place::RowPlace;
+use crate::properties::{read_list_property, read_scalar_property};
+use crate::row::{Row, clear_row};
+
+// Reads the properties up to the next element.
+fn read_properties<'a>(
+    row: &mut Row<'a>,
+    place: RowPlace,
+    declarations: &[Declaration],
+    cursor: Cursor<'a>,
+) -> Result<Cursor<'a>, PlyFault>
+    ensures ok { IfOk result (λ c. properties place declarations.now (row_of row.old) (cursor_of cursor.entry)
+        ≡ Ok (row_of row.new, cursor_of c)) }
+    ensures fault { IfErr result (λ e. (e ≡ PlyFault.OutOfMemory)
+        ⊎ (properties place declarations.now (row_of row.old) (cursor_of cursor.entry) ≡ Err e)) }
+    ensures left { IfOk result (λ c. left_at c ≤ left_at cursor.entry) }
+    ensures shorter { IfOk result (λ c. begins_property declarations.now ≡ true → left_at c < left_at cursor.entry) }
+{
+    let mut rest = cursor;
+    let mut declared = declarations;
+    while let Some((declaration, others)) = declared.split_first() {
+        match *declaration {
+            Declaration::Element(_) => return Ok(rest),
+            Declaration::Scalar(axis, kind) => {
+                rest = read_scalar_property(row, place, axis, kind, rest)?;
+            }
+            Declaration::List(are_corners, size, item) => {
+                rest = read_list_property(row, place, are_corners, size, item, rest)?;
+            }
+        }
+        declared = others;
+    }
+    Ok(rest)
+}
+
+// The next row, with these properties.
+pub(crate) fn read_row<'a>(
+    row: &mut Row<'a>,
+    place: RowPlace,
+    declarations: &[Declaration],
+    cursor: Cursor<'a>,
+) -> Result<Cursor<'a>, PlyFault>
+    ensures ok { IfOk result (λ c. row_at place declarations.now (cursor_of cursor.entry)
+        ≡ Ok (row_of row.new, cursor_of c)) }
+    ensures fault { IfErr result (λ e. (e ≡ PlyFault.OutOfMemory)
+        ⊎ (row_at place declarations.now (cursor_of cursor.entry) ≡ Err e)) }
+    ensures shorter { IfOk result (λ c. begins_property declarations.now ≡ true → left_at c < left_at cursor.entry) }
+{
+    clear_row(row);
+    let Some(begun) = enter_row(cursor) else {
+        return Err(PlyFault::ShortRow(place.name, place.number));
+    };
+    read_properties(row, place, declarations, begun)
+}

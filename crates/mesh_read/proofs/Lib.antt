@@ -1,0 +1,15 @@
+pub mod Cuts
+pub mod FarPoints
+pub mod Fans
+pub mod StlCuts
+pub mod Triangles
+pub mod Lines
+pub mod Joins
+pub mod Corners
+pub mod RowCounts
+pub mod Soundness
+pub mod Counts
+pub mod WavefrontCorners
+pub mod WavefrontJoins
+pub mod RowsInOrder
+pub mod WavefrontSoundness

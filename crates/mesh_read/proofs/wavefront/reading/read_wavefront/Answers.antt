@@ -1,0 +1,5 @@
+use Rattle.mesh_read.proofs.WavefrontSoundness.{reads_surface}
+use Rattle.mesh_read.proofs.wavefront.reading.read_wavefront.Goals as goal
+
+pub returns-clause-surface : goal.returns-clause-surface
+returns-clause-surface c = reads_surface c.args.bytes.now c.read_mesh.result c.read_mesh.ensures.ok

@@ -1,0 +1,5 @@
+pub mod Scan
+pub mod Surface
+pub mod Stl
+pub mod Off
+pub mod Wavefront

@@ -1,0 +1,95 @@
+-- Parts of a file: its lines and their words, each with its place
+use Rattle.std.specs.Prelude.{ℕ, ◌+◌, ◌-◌, Bool, ◌||◌, List, [], ◌∷◌, ◌++◌, if◌then◌else◌, ◌==◌, length}
+use Rattle.std.specs.Prelude.{drop, zero, suc, Option, None, Some}
+use Rattle.mesh_read.specs.declared.scan.part.Part.{Part}
+use Rattle.mesh_read.specs.declared.scan.part.Span.{Span}
+
+-- some bytes, and how many bytes of the file are before them
+pub record Piece : Type 0 where
+  pub start : ℕ
+  pub text : List ℕ
+
+-- a part as definitions see it
+abbrev pub piece_of : Part → Piece
+piece_of p = record { start = p.start; text = p.bytes.now }
+
+-- the range of a piece
+abbrev pub span_of : Piece → Span
+span_of p = record { start = p.start; end = p.start + length p.text }
+
+-- the bytes before the first byte of a kind
+abbrev pub before : (ℕ → Bool) → List ℕ → List ℕ
+before stops [] = []
+before stops (b ∷ bs) = if stops b then [] else b ∷ before stops bs
+
+-- the text from that byte on
+abbrev pub onward : (ℕ → Bool) → List ℕ → List ℕ
+onward stops [] = []
+onward stops (b ∷ bs) = if stops b then b ∷ bs else onward stops bs
+
+-- ---- lines
+-- a byte in front of the first of the lines
+abbrev pub before_lines : ℕ → ℕ → List Piece → List Piece
+before_lines start b [] = record { start = start; text = b ∷ [] } ∷ []
+before_lines start b (line ∷ lines) = record { start = start; text = b ∷ line.text } ∷ lines
+
+-- the lines that line feeds end, of bytes that start at this place; the last line feed begins no further line
+abbrev pub lines_from : ℕ → List ℕ → List Piece
+lines_from start [] = []
+lines_from start (b ∷ bs) =
+    if b == 10
+    then record { start = start; text = [] } ∷ lines_from (start + 1) bs
+    else before_lines start b (lines_from (start + 1) bs)
+
+-- the lines of a part
+abbrev pub lines_in : Part → List Piece
+lines_in p = lines_from p.start p.bytes.now
+
+-- what follows the first line
+abbrev pub after_line : List ℕ → List ℕ
+after_line text = drop 1 (onward (λ b. b == 10) text)
+
+-- what follows the first n lines
+abbrev pub after_lines : ℕ → List ℕ → List ℕ
+after_lines zero text = text
+after_lines (suc count) text = after_line (after_lines count text)
+
+abbrev pub is_hash : ℕ → Bool
+is_hash b = b == 35
+
+-- a line up to its first #
+abbrev pub uncommented : Piece → Piece
+uncommented line = record line { text = before is_hash line.text }
+
+-- ---- words
+-- a space, a tab or a carriage return
+abbrev pub is_separator : ℕ → Bool
+is_separator b = b == 32 || b == 9 || b == 13
+
+-- the words with this one in front of them, which ends at this place, if it has a byte
+abbrev pub with_word_ending : ℕ → List ℕ → List Piece → List Piece
+with_word_ending end [] words = words
+with_word_ending end (b ∷ bs) words = record { start = end - length (b ∷ bs); text = b ∷ bs } ∷ words
+
+-- the words of a text that starts at this place, where `begun` is the word that is open
+abbrev pub words_from : ℕ → List ℕ → List ℕ → List Piece
+words_from place [] begun = with_word_ending place begun []
+words_from place (b ∷ bs) begun =
+    if is_separator b
+    then with_word_ending place begun (words_from (place + 1) bs [])
+    else words_from (place + 1) bs (begun ++ b ∷ [])
+
+-- the words of a line
+abbrev pub words_of : Piece → List Piece
+words_of line = words_from line.start line.text []
+
+-- the words of a part
+abbrev pub words_in : Part → List Piece
+words_in p = words_of (piece_of p)
+
+-- the first three, if there are three or more
+abbrev pub first_three : List Piece → Option (Piece × Piece × Piece)
+first_three [] = None
+first_three (a ∷ []) = None
+first_three (a ∷ b ∷ []) = None
+first_three (a ∷ b ∷ c ∷ more) = Some (a, b, c)

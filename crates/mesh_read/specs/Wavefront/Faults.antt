@@ -1,0 +1,24 @@
+-- The first fault of a file, with the text of a bad word
+use Rattle.std.specs.Prelude.{ℕ, List}
+use Rattle.mesh_read.specs.declared.wavefront.fault.WavefrontFault.{WavefrontFault}
+use Rattle.mesh_read.specs.declared.wavefront.fault.WavefrontFault.TheVariants as error
+
+-- a fault as definitions see it: words are their bytes
+pub data Fault : Type 0 where
+  FewCoordinates : ℕ → Fault
+  NotANumber : ℕ → List ℕ → Fault
+  UnknownVertex : ℕ → List ℕ → Fault
+  FewCorners : ℕ → Fault
+  NoTriangles : Fault
+  TooLarge : ℕ → Fault
+  OutOfMemory : Fault
+
+-- the fault that an error shows
+abbrev pub fault_of : WavefrontFault → Fault
+fault_of (error.FewCoordinates line) = FewCoordinates line
+fault_of (error.NotANumber line word) = NotANumber line word.now
+fault_of (error.UnknownVertex line reference) = UnknownVertex line reference.now
+fault_of (error.FewCorners line) = FewCorners line
+fault_of error.NoTriangles = NoTriangles
+fault_of (error.TooLarge line) = TooLarge line
+fault_of error.OutOfMemory = OutOfMemory

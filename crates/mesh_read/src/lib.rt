@@ -1,0 +1,14 @@
+//! Mesh files as surfaces: STL, OFF and OBJ, and what their readers share with that of PLY.
+#![tactic(auto)]
+
+mod off;
+mod scan;
+mod stl;
+mod surface;
+mod wavefront;
+
+pub use off::{OffFault, read_off};
+pub use scan::{Part, Span, cut_before, next_line, next_word, three_words, without_comment};
+pub use stl::{StlFault, WordPlace, begins_with_word, is_ascii_stl, is_binary_stl, read_stl};
+pub use surface::{Facet, Surface, Vertex, first_too_large, push_fan};
+pub use wavefront::{WavefrontFault, read_wavefront};

@@ -1,0 +1,36 @@
+// What makes a file no mesh.
+use crate::scan::Span;
+use thiserror::Error;
+
+/// The first fault of a file, or out-of-memory. Lines are counted from 1.
+#[derive(Clone, Copy, Debug, PartialEq, Eq, Error)]
+pub enum OffFault {
+    /// The first word isn't `OFF`, `COFF` or `NOFF`.
+    #[error("no OFF at the beginning")]
+    NoOff,
+    /// Two numbers don't follow that word, in its line or the next.
+    #[error("OFF has no counts")]
+    NoCounts,
+    /// There are fewer lines than vertices and faces.
+    #[error("fewer lines than the counts say")]
+    FewLines,
+    /// The vertex in this line has fewer than three coordinates.
+    #[error("line {0}: fewer than three coordinates")]
+    FewCoordinates(u32),
+    /// A coordinate in this line isn't a decimal: the first of the vertex that isn't, with its
+    /// bytes.
+    #[error("line {0}: not a number")]
+    NotANumber(u32, Span),
+    /// This line isn't a face: a number of corners, at least three, and as many indices of
+    /// vertices.
+    #[error("line {0}: face not understood")]
+    Face(u32),
+    /// There are no faces.
+    #[error("no triangles in it")]
+    NoTriangles,
+    /// The face in this line is the first with a coordinate of 10^15 or more in size.
+    #[error("line {0}: a coordinate of 1e15 or more")]
+    TooLarge(u32),
+    #[error("out of memory")]
+    OutOfMemory,
+}

@@ -1,0 +1,149 @@
+// The pass over a file.
+ghost use Rattle.std.specs.Prelude.{◌≡◌, ◌⊎◌, ◌+◌, ◌<◌, ◌≤◌, ◌^◌, [], ◌∷◌, take, drop, length, Ok, Err, IfOk, IfErr};
+ghost use Rattle.mesh_read.specs.Scan.Parts.{piece_of, words_in};
+ghost use Rattle.mesh_read.specs.Surface.Surfaces.{IsSurface, content_of};
+ghost use Rattle.mesh_read.specs.Off.RowViews.{rows_in};
+ghost use Rattle.mesh_read.specs.Off.ReadOff.{points_of, facets_of, whole, counts_of, counted, behind_keyword, is_keyword, content_in, as_mesh, read_off_of};
+
+use crate::off::counts::counts_in;
+use crate::off::faces::read_faces;
+use crate::off::fault::OffFault;
+use crate::off::row::Rows;
+use crate::off::rows::{are_rows, next_row};
+use crate::off::vertices::read_vertices;
+use crate::scan::{Part, next_word};
+use crate::surface::{Surface, first_too_large};
+use std::alloc::Global;
+
+// The vertices and faces of these rows.
+fn read_lists<'a>(
+    alloc: Global,
+    rows: Rows<'a>,
+    vertices: u32,
+    faces: usize,
+) -> Result<Surface<'a>, OffFault>
+    requires numbered { rows.number ≤ rows.rest.start + 1 }
+    requires rows { vertices + faces ≤ length (rows_in rows) }
+    ensures ok { IfOk result (λ s. whole
+        (points_of (take vertices (rows_in rows.entry)))
+        (facets_of vertices (take faces (drop vertices (rows_in rows.entry)))) ≡ Ok (content_of s)) }
+    ensures fault { IfErr result (λ e. (e ≡ OffFault.OutOfMemory) ⊎ (whole
+        (points_of (take vertices (rows_in rows.entry)))
+        (facets_of vertices (take faces (drop vertices (rows_in rows.entry)))) ≡ Err e)) }
+{
+    let (list, rest) = read_vertices(alloc, rows, vertices as usize)?;
+    let facets = read_faces(alloc, rest, vertices, faces)?;
+    Ok(Surface {
+        vertices: list,
+        facets,
+    })
+}
+
+// The vertices and faces after a row of counts with this first word.
+fn read_counted<'a>(
+    alloc: Global,
+    first: Part<'a>,
+    others: Part<'a>,
+    rows: Rows<'a>,
+) -> Result<Surface<'a>, OffFault>
+    requires { rows.number ≤ rows.rest.start + 1 }
+    ensures ok { IfOk result (λ s.
+        counted (counts_of (piece_of first.entry ∷ words_in others.entry)) (rows_in rows.entry) ≡ Ok (content_of s)) }
+    ensures fault { IfErr result (λ e. (e ≡ OffFault.OutOfMemory)
+        ⊎ (counted (counts_of (piece_of first.entry ∷ words_in others.entry)) (rows_in rows.entry) ≡ Err e)) }
+{
+    let Some((vertices, faces)) = counts_in(first, others) else {
+        return Err(OffFault::NoCounts);
+    };
+    if !are_rows(rows, (vertices + faces) as usize) {
+        return Err(OffFault::FewLines);
+    }
+    read_lists(alloc, rows, vertices as u32, faces as usize)
+}
+
+// The vertices and faces after the word at the beginning, which these words follow in its line.
+fn read_behind<'a>(alloc: Global, words: Part<'a>, rows: Rows<'a>) -> Result<Surface<'a>, OffFault>
+    requires { rows.number ≤ rows.rest.start + 1 }
+    ensures ok { IfOk result (λ s. behind_keyword (words_in words.entry) (rows_in rows.entry) ≡ Ok (content_of s)) }
+    ensures fault { IfErr result (λ e. (e ≡ OffFault.OutOfMemory)
+        ⊎ (behind_keyword (words_in words.entry) (rows_in rows.entry) ≡ Err e)) }
+{
+    if let Some((first, others)) = next_word(words) {
+        return read_counted(alloc, first, others, rows);
+    }
+    let Some((row, rest)) = next_row(rows) else {
+        return Err(OffFault::NoCounts);
+    };
+    read_counted(alloc, row.first, row.others, rest)
+}
+
+// Whether the word is `OFF`, `COFF` or `NOFF`, in any case.
+fn names_format(word: &[u8]) -> bool
+    ensures { result ≡ is_keyword word.now }
+{
+    word.eq_ignore_ascii_case(b"OFF")
+        || word.eq_ignore_ascii_case(b"COFF")
+        || word.eq_ignore_ascii_case(b"NOFF")
+}
+
+// The vertices and faces of a file, whatever they are.
+fn read_rows<'a>(alloc: Global, rows: Rows<'a>) -> Result<Surface<'a>, OffFault>
+    requires { rows.number ≤ rows.rest.start + 1 }
+    ensures ok { IfOk result (λ s. content_in (rows_in rows.entry) ≡ Ok (content_of s)) }
+    ensures fault { IfErr result (λ e. (e ≡ OffFault.OutOfMemory) ⊎ (content_in (rows_in rows.entry) ≡ Err e)) }
+{
+    let Some((row, rest)) = next_row(rows) else {
+        return Err(OffFault::NoOff);
+    };
+    if !names_format(row.first.bytes) {
+        return Err(OffFault::NoOff);
+    }
+    read_behind(alloc, row.others, rest)
+}
+
+// The surface, if it is a mesh.
+#[tactic(none)]
+fn checked<'a>(surface: Surface<'a>) -> Result<Surface<'a>, OffFault>
+    ensures ok { IfOk result (λ s. as_mesh (Ok (content_of surface.entry)) ≡ Ok (content_of s)) }
+    ensures fault { IfErr result (λ e. as_mesh (Ok (content_of surface.entry)) ≡ Err e) }
+{
+    if surface.facets.is_empty() {
+        return Err(OffFault::NoTriangles);
+    }
+    match first_too_large(&surface) {
+        Some(place) => Err(OffFault::TooLarge(place)),
+        None => Ok(surface),
+    }
+}
+
+// The surface of a file, if it is a mesh.
+#[tactic(none)]
+fn read_mesh<'a>(alloc: Global, bytes: &'a [u8]) -> Result<Surface<'a>, OffFault>
+    requires { length bytes.now ≤ 268435456 }
+    ensures ok { IfOk result (λ s. read_off_of bytes.now ≡ Ok (content_of s)) }
+    ensures fault { IfErr result (λ e. (e ≡ OffFault.OutOfMemory) ⊎ (read_off_of bytes.now ≡ Err e)) }
+{
+    let rest = Part { start: 0, bytes };
+    let surface = read_rows(alloc, Rows { number: 1, rest })?;
+    checked(surface)
+}
+
+/// The vertices and triangles of an OFF file, or its first fault.
+///
+/// Lines are counted from 1, and a `#` and what follows it in its line don't count. The first word
+/// is `OFF`, `COFF` or `NOFF`, in any case. The numbers of vertices and of faces follow it in its
+/// line, or otherwise are in the next line with a word. Each further line with a word is a vertex:
+/// the first three words are decimals, or then a face: a number of corners, and as many indices of
+/// vertices, from 0. What follows them isn't read. A face is cut into triangles from its first
+/// corner, and its line is their place.
+///
+/// [`FewLines`](OffFault::FewLines) precedes each fault of a vertex or a face, and those are in the
+/// order of lines. The coordinates borrow their digits from `bytes`. There are at most 2^28 bytes.
+pub fn read_off(alloc: Global, bytes: &[u8]) -> Result<Surface<'_>, OffFault>
+    requires { length bytes.now ≤ 268435456 }
+    ensures ok { IfOk result (λ s. read_off_of bytes.now ≡ Ok (content_of s)) }
+    ensures surface { IfOk result IsSurface }
+    ensures fault { IfErr result (λ e. (e ≡ OffFault.OutOfMemory) ⊎ (read_off_of bytes.now ≡ Err e)) }
+{
+    read_mesh(alloc, bytes)
+}

@@ -1,0 +1,14 @@
+// Reads the triangles of an STL file, binary or ASCII.
+
+mod ascii;
+mod binary;
+mod facets;
+mod fault;
+mod keyword;
+mod kind;
+mod reading;
+mod scan;
+
+pub use fault::{StlFault, WordPlace};
+pub use kind::{begins_with_word, is_ascii_stl, is_binary_stl};
+pub use reading::read_stl;

@@ -1,0 +1,33 @@
+// Triangles with points of their own.
+ghost use Rattle.std.specs.Prelude.{◌≡◌, ◌+◌, ◌<◌, ◌^◌, length, OnOk};
+ghost use Rattle.mesh_read.specs.Surface.Surfaces.{point_of, content_of, IsSurface};
+ghost use Rattle.mesh_read.specs.Stl.Facets.{with_triangle};
+
+use crate::surface::{Facet, Surface, Vertex};
+use std::alloc::AllocError;
+
+// Appends a triangle and its vertices.
+pub(crate) fn push_triangle<'a>(
+    surface: &mut Surface<'a>,
+    place: u32,
+    a: Vertex<'a>,
+    b: Vertex<'a>,
+    c: Vertex<'a>,
+) -> Result<(), AllocError>
+    requires few { length surface.old.vertices.items + 3 < 2 ^ 32 }
+    requires surface { IsSurface surface.old }
+    ensures content { let more = with_triangle place (point_of a.entry) (point_of b.entry) (point_of c.entry) in
+        OnOk result (content_of surface.new ≡ more (content_of surface.old)) }
+    ensures count { OnOk result (length surface.new.vertices.items ≡ length surface.old.vertices.items + 3) }
+    ensures surface { OnOk result (IsSurface surface.new) }
+{
+    let first = surface.vertices.len() as u32;
+    surface.vertices.push(a)?;
+    surface.vertices.push(b)?;
+    surface.vertices.push(c)?;
+    surface.facets.push(Facet {
+        corners: [first, first + 1, first + 2],
+        place,
+    })?;
+    Ok(())
+}

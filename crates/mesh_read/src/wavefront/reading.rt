@@ -1,0 +1,156 @@
+// The pass over a file.
+ghost use Rattle.std.specs.Prelude.{◌≡◌, ◌⊎◌, ◌+◌, ◌<◌, ◌≤◌, ◌^◌, length, map, Ok, Err, OnOk, IfOk, IfErr};
+ghost use Rattle.mesh_read.specs.Scan.Parts.{piece_of};
+ghost use Rattle.mesh_read.specs.Surface.Surfaces.{IsSurface, content_of};
+ghost use Rattle.mesh_read.specs.Wavefront.Faults.{fault_of};
+ghost use Rattle.mesh_read.specs.Wavefront.Rows.{rows_of};
+ghost use Rattle.mesh_read.specs.Wavefront.ReadWavefront.{keyword_of, point_in, with_point, after_words, content_in, as_mesh, read_wavefront_of};
+
+use crate::scan::Part;
+use crate::surface::{Surface, first_too_large};
+use crate::wavefront::faces::add_face;
+use crate::wavefront::fault::WavefrontFault;
+use crate::wavefront::lines::skip_mark;
+use crate::wavefront::rows::{Rows, next_row};
+use crate::wavefront::vertices::read_vertex;
+use std::alloc::Global;
+
+#[derive(Clone, Copy)]
+enum Keyword {
+    Vertex,
+    Face,
+    Other,
+}
+
+fn keyword_in(word: &[u8]) -> Keyword
+    ensures { result ≡ keyword_of word.now }
+{
+    match word {
+        [b'v'] => Keyword::Vertex,
+        [b'f'] => Keyword::Face,
+        _ => Keyword::Other,
+    }
+}
+
+// Appends the vertex of these words.
+fn add_vertex<'a>(
+    surface: &mut Surface<'a>,
+    line: u32,
+    words: &[Part<'a>],
+) -> Result<(), WavefrontFault<'a>>
+    ensures ok { OnOk result
+        (with_point (content_of surface.old) (point_in line (map piece_of words.now)) ≡ Ok (content_of surface.new)) }
+    ensures fault { IfErr result (λ e. (e ≡ WavefrontFault.OutOfMemory)
+        ⊎ (point_in line (map piece_of words.now) ≡ Err (fault_of e))) }
+    ensures count { OnOk result (length surface.new.vertices.items ≡ length surface.old.vertices.items + 1) }
+{
+    let vertex = read_vertex(line, words)?;
+    if surface.vertices.push(vertex).is_err() {
+        return Err(WavefrontFault::OutOfMemory);
+    }
+    Ok(())
+}
+
+// Appends what a line with these words says.
+fn add_row<'a>(
+    surface: &mut Surface<'a>,
+    corners: &mut Vec<u32>,
+    line: u32,
+    words: &[Part<'a>],
+) -> Result<(), WavefrontFault<'a>>
+    requires { length surface.old.vertices.items < 2 ^ 32 }
+    ensures ok { OnOk result
+        (after_words line (content_of surface.old) (map piece_of words.now) ≡ Ok (content_of surface.new)) }
+    ensures fault { IfErr result (λ e. (e ≡ WavefrontFault.OutOfMemory)
+        ⊎ (after_words line (content_of surface.old) (map piece_of words.now) ≡ Err (fault_of e))) }
+    ensures count { OnOk result (length surface.new.vertices.items ≤ length surface.old.vertices.items + 1) }
+{
+    let Some((keyword, others)) = words.split_first() else {
+        return Ok(());
+    };
+    match keyword_in(keyword.bytes) {
+        Keyword::Vertex => add_vertex(surface, line, others),
+        Keyword::Face => add_face(surface, corners, line, others),
+        Keyword::Other => Ok(()),
+    }
+}
+
+// The vertices and faces of a file, whatever they are.
+#[tactic(auto, using(crate::proofs::RowsInOrder::row_read, crate::proofs::RowsInOrder::no_rows))]
+fn read_rows<'a>(alloc: Global, bytes: &'a [u8]) -> Result<Surface<'a>, WavefrontFault<'a>>
+    requires { length bytes.now ≤ 268435456 }
+    ensures ok { IfOk result (λ s. content_in (rows_of bytes.now) ≡ Ok (content_of s)) }
+    ensures fault { IfErr result (λ e. (e ≡ WavefrontFault.OutOfMemory)
+        ⊎ (content_in (rows_of bytes.now) ≡ Err (fault_of e))) }
+{
+    let mut surface = Surface {
+        vertices: Vec::new(alloc),
+        facets: Vec::new(alloc),
+    };
+    let mut words = Vec::new(alloc);
+    let mut corners = Vec::new(alloc);
+    let rest = Part {
+        start: 0,
+        bytes: skip_mark(bytes),
+    };
+    let mut rows = Rows { number: 1, rest };
+    while !rows.rest.bytes.is_empty() {
+        let Ok(after) = next_row(&mut words, rows) else {
+            return Err(WavefrontFault::OutOfMemory);
+        };
+        add_row(&mut surface, &mut corners, rows.number, &words)?;
+        rows = after;
+    }
+    Ok(surface)
+}
+
+// The surface, if it is a mesh.
+#[tactic(auto, using(crate::proofs::FarPoints::far_by_content))]
+fn checked<'a>(surface: Surface<'a>) -> Result<Surface<'a>, WavefrontFault<'a>>
+    ensures ok { IfOk result (λ s. as_mesh (Ok (content_of surface.entry)) ≡ Ok (content_of s)) }
+    ensures fault { IfErr result (λ e. as_mesh (Ok (content_of surface.entry)) ≡ Err (fault_of e)) }
+{
+    if surface.facets.is_empty() {
+        return Err(WavefrontFault::NoTriangles);
+    }
+    match first_too_large(&surface) {
+        Some(place) => Err(WavefrontFault::TooLarge(place)),
+        None => Ok(surface),
+    }
+}
+
+// The surface of a file, if it is a mesh.
+fn read_mesh<'a>(alloc: Global, bytes: &'a [u8]) -> Result<Surface<'a>, WavefrontFault<'a>>
+    requires { length bytes.now ≤ 268435456 }
+    ensures ok { IfOk result (λ s. read_wavefront_of bytes.now ≡ Ok (content_of s)) }
+    ensures fault { IfErr result (λ e. (e ≡ WavefrontFault.OutOfMemory)
+        ⊎ (read_wavefront_of bytes.now ≡ Err (fault_of e))) }
+{
+    checked(read_rows(alloc, bytes)?)
+}
+
+/// The vertices and triangles of an OBJ file, or its first fault.
+///
+/// A byte order mark at the beginning doesn't count. A line ends with a line feed or with the file.
+/// If it has no `#` and ends with a backslash, or with one and a carriage return, the next line is
+/// joined to it. A `#` and what follows it in its line don't count. Spaces, tabs and carriage
+/// returns separate words.
+///
+/// A line with the first word `v` is a vertex: the next three words are decimals. A line with the
+/// first word `f` is a face of at least three references, each a number and maybe a slash and more
+/// after it. The number `k` names the k-th vertex of the file, from 1, and `-k` the k-th of those
+/// before the line, from the last. It must be before the line. Other lines aren't read.
+///
+/// A face is cut into triangles from its first corner, and its line is their place. Faults are
+/// reported in the order of lines, [`NoTriangles`](WavefrontFault::NoTriangles) and
+/// [`TooLarge`](WavefrontFault::TooLarge) after all others. The coordinates borrow their digits
+/// from `bytes`, and a fault its bad word. There are at most 2^28 bytes.
+pub fn read_wavefront(alloc: Global, bytes: &[u8]) -> Result<Surface<'_>, WavefrontFault<'_>>
+    requires { length bytes.now ≤ 268435456 }
+    ensures ok { IfOk result (λ s. read_wavefront_of bytes.now ≡ Ok (content_of s)) }
+    ensures surface { IfOk result IsSurface }
+    ensures fault { IfErr result (λ e. (e ≡ WavefrontFault.OutOfMemory)
+        ⊎ (read_wavefront_of bytes.now ≡ Err (fault_of e))) }
+{
+    read_mesh(alloc, bytes)
+}

@@ -1,0 +1,246 @@
+// STL files that are read, and their first faults.
+use mesh_number::{Number, floor_times};
+use mesh_read::{
+    Facet, StlFault, Surface, Vertex, WordPlace, is_ascii_stl, is_binary_stl, read_stl,
+};
+use std::alloc::{AllocError, Global};
+use std::process::Abort;
+use std::test::Fail;
+
+// The bits of some binary32: 1, 1/2, -2, one just above 10^15, infinity and NaN.
+const ONE: u32 = 0x3F80_0000;
+
+const HALF: u32 = 0x3F00_0000;
+
+const MINUS_TWO: u32 = 0xC000_0000;
+
+const FAR: u32 = 0x5863_5FAA;
+
+const INFINITY: u32 = 0x7F80_0000;
+
+const NAN: u32 = 0xFFC0_0000;
+
+// Each file here is short enough.
+fn read(alloc: Global, bytes: &[u8]) -> Result<Surface<'_>, StlFault> {
+    if bytes.len() > 268_435_456 {
+        return Err(StlFault::OutOfMemory);
+    }
+    read_stl(alloc, bytes)
+}
+
+// The number of triangles, or the fault.
+fn count(alloc: Global, bytes: &[u8]) -> Result<usize, StlFault> {
+    match read(alloc, bytes) {
+        Ok(surface) => Ok(surface.facets.len()),
+        Err(fault) => Err(fault),
+    }
+}
+
+#[test]
+fn ascii_files(rt: HostRuntime) {
+    let rows: [(&[u8], Result<usize, StlFault>); 18] = [
+        (
+            b"solid s\nfacet normal 0 0 1\nouter loop\nvertex 0 0 0\nvertex 1 0 0\nvertex 0 1 0\nendloop\nendfacet\nendsolid s\n",
+            Ok(1),
+        ),
+        (
+            b" SOLID\r\nFACET\r\n\r\nVERTEX 0 0 0\r\n VERTEX +1. 0 0\r\n\tVertex .0 1e0 0 7 x\r\nEndFacet\r\n",
+            Ok(1),
+        ),
+        (
+            b"solid\nfacet\nvertex 0 0 0\nvertex 1 0 0\nvertex 0 1 0\nendfacet\nendsolid\nsolid\nfacet\nvertex 0 0 0\nvertex 1 0 0\nvertex 0 1 0\nendfacet",
+            Ok(2),
+        ),
+        (
+            b"solid\nfacet\nvertex 9 9 9\nfacet\nvertex 0 0 0\nvertex 1 0 0\nvertex 0 1 0\nendfacet",
+            Ok(1),
+        ),
+        (b"solid\nvertex 0 0\nfacet", Err(StlFault::VertexOutside(2))),
+        (
+            b"solid\nfacet\nvertex x 0\n",
+            Err(StlFault::FewCoordinates(3)),
+        ),
+        (
+            b"solid\nfacet\nvertex 0 nan 0x1\n",
+            Err(StlFault::NotANumber(3, WordPlace { start: 21, end: 24 })),
+        ),
+        (
+            b"solid\nfacet\nendfacet\nvertex",
+            Err(StlFault::NotThreeVertices(3)),
+        ),
+        (b"solid\nendfacet", Err(StlFault::NotThreeVertices(2))),
+        (
+            b"solid\nfacet\nvertex 0 0 0\nvertex 1 0 0\nvertex 0 1 0\nvertex 0 0 1\nendfacet",
+            Err(StlFault::NotThreeVertices(7)),
+        ),
+        (b"solid\nfacet\nvertex 0 0 0", Err(StlFault::EndsInFacet(2))),
+        (
+            b"solid\nfacet\n normal 0 0 1\nvertex",
+            Err(StlFault::UnknownWord(3, WordPlace { start: 13, end: 19 })),
+        ),
+        (b"solid\nendsolid", Err(StlFault::NoTriangles)),
+        (
+            b"solid\nfacet\nvertex 0 0 0\nvertex 0 -1e15 0\nvertex 0 1 0\nendfacet",
+            Err(StlFault::LargeInLine(2)),
+        ),
+        (
+            b"solid\nfacet\nvertex 0 0 0\nvertex 0 999999999999999.9 0\nvertex 0 1 0\nendfacet",
+            Ok(1),
+        ),
+        (b"", Err(StlFault::CutOff(0))),
+        (b"solids\nfacet", Err(StlFault::CutOff(0))),
+        (b"solid name", Err(StlFault::CutOff(0))),
+    ];
+    for (bytes, want) in rows {
+        assert_eq!(rt; count(rt.alloc(), bytes), want);
+    }
+}
+
+// A binary STL whose header begins so, with this count and these facets of nine coordinates each.
+fn binary_file(
+    alloc: Global,
+    header: &[u8; 11],
+    facets: u32,
+    coordinates: &[[u32; 9]],
+) -> Result<Vec<u8>, AllocError> {
+    let mut bytes = Vec::new(alloc);
+    bytes.extend_from_slice(header)?;
+    bytes.extend_from_slice(&[0; 69])?;
+    bytes.extend_from_slice(&facets.to_le_bytes())?;
+    for facet in coordinates {
+        bytes.extend_from_slice(&[0; 12])?;
+        for bits in facet {
+            bytes.extend_from_slice(&bits.to_le_bytes())?;
+        }
+        bytes.extend_from_slice(b"##")?;
+    }
+    Ok(bytes)
+}
+
+#[test]
+fn binary_files(rt: HostRuntime) -> Result<(), Fail> {
+    let near = [0, 0, 0, ONE, 0, 0, 0, ONE, 0];
+    let far = [0, 0, 0, ONE, 0, 0, 0, 0, FAR];
+    let infinite = [0, 0, 0, ONE, 0, INFINITY, 0, ONE, 0];
+    let no_number = [NAN, 0, 0, ONE, 0, 0, 0, ONE, 0];
+    let rows: [(&[u8; 11], u32, &[[u32; 9]], Result<usize, StlFault>); 9] = [
+        (b"exported by", 1, &[near], Ok(1)),
+        (b"solid facet", 3, &[near, near, near], Ok(3)),
+        (b"exported by", 0, &[], Err(StlFault::NoTriangles)),
+        (
+            b"exported by",
+            2,
+            &[near, infinite],
+            Err(StlFault::NotFinite(2)),
+        ),
+        (
+            b"exported by",
+            3,
+            &[far, no_number, infinite],
+            Err(StlFault::NotFinite(2)),
+        ),
+        (
+            b"exported by",
+            3,
+            &[near, far, far],
+            Err(StlFault::LargeInFacet(2)),
+        ),
+        (b"exported by", 2, &[near], Err(StlFault::CutOff(2))),
+        (b"exported by", 0, &[near], Err(StlFault::CutOff(0))),
+        (b"solid facet", 2, &[near], Err(StlFault::NoTriangles)),
+    ];
+    for (header, facets, coordinates, want) in rows {
+        let bytes = binary_file(rt.alloc(), header, facets, coordinates)?;
+        assert_eq!(rt; count(rt.alloc(), &bytes), want);
+    }
+    Ok(())
+}
+
+fn thousandths(number: &Number) -> Option<i128> {
+    floor_times(number, 1000)
+}
+
+// The coordinates of a vertex in thousandths.
+fn coordinates(vertex: &Vertex) -> [Option<i128>; 3] {
+    [
+        thousandths(&vertex.x),
+        thousandths(&vertex.y),
+        thousandths(&vertex.z),
+    ]
+}
+
+// The file has these vertices in thousandths, three for each triangle, and triangles with these places.
+fn check(
+    rt: &impl Abort,
+    alloc: Global,
+    bytes: &[u8],
+    want: &[[i128; 3]],
+    places: &[u32],
+) -> Result<(), Fail> {
+    let Ok(surface) = read(alloc, bytes) else {
+        return Err(Fail::from("refused"));
+    };
+    assert_eq!(rt; surface.vertices.len(), want.len());
+    for (vertex, [x, y, z]) in surface.vertices.iter().zip(want) {
+        assert_eq!(rt; coordinates(vertex), [Some(*x), Some(*y), Some(*z)]);
+    }
+    assert_eq!(rt; surface.facets.len(), places.len());
+    let mut first = 0;
+    for (facet, place) in surface.facets.iter().zip(places) {
+        assert!(rt; first < 1000);
+        let corners = [first, first + 1, first + 2];
+        assert_eq!(rt;
+            *facet,
+            Facet {
+                corners,
+                place: *place
+            }
+        );
+        first += 3;
+    }
+    Ok(())
+}
+
+#[test]
+fn triangles_have_their_vertices_and_places(rt: HostRuntime) -> Result<(), Fail> {
+    let ascii =
+        b"solid\nfacet\nvertex 0 0 0.5\nvertex 1e1 0 0\nvertex 0 -2 0\nendfacet\nfacet\nvertex 1 2 3\nvertex 4 5 6\nvertex 7 8 9\nendfacet";
+    let vertices = [
+        [0, 0, 500],
+        [10_000, 0, 0],
+        [0, -2000, 0],
+        [1000, 2000, 3000],
+        [4000, 5000, 6000],
+        [7000, 8000, 9000],
+    ];
+    check(&rt, rt.alloc(), ascii, &vertices, &[2, 7])?;
+    let facets = [[ONE, 0, 0, 0, HALF, 0, 0, 0, MINUS_TWO]];
+    let binary = binary_file(rt.alloc(), b"solid facet", 1, &facets)?;
+    check(
+        &rt,
+        rt.alloc(),
+        &binary,
+        &[[1000, 0, 0], [0, 500, 0], [0, 0, -2000]],
+        &[1],
+    )
+}
+
+#[test]
+fn forms_of_files(rt: HostRuntime) -> Result<(), Fail> {
+    let binary = binary_file(rt.alloc(), b"solid facet", 1, &[[0; 9]])?;
+    let mut longer = Vec::from_slice(rt.alloc(), &binary)?;
+    longer.extend_from_slice(b"\n")?;
+    let rows: [(&[u8], bool, bool); 5] = [
+        (&binary, true, true),
+        (&longer, false, true),
+        (b"\n\tSolid x\nEndSolid", false, true),
+        (b"solid", false, false),
+        (b"solids facet", false, false),
+    ];
+    for (bytes, is_binary, is_ascii) in rows {
+        assert!(rt; bytes.len() <= 268_435_456);
+        assert_eq!(rt; is_binary_stl(bytes), is_binary);
+        assert_eq!(rt; is_ascii_stl(bytes), is_ascii);
+    }
+    Ok(())
+}

@@ -1,0 +1,39 @@
+use Rattle.std.proofs.Common.{List, ℕ, refl, subst, arith}
+use Rattle.mesh_run.specs.Calls.{TakesUntilFault, shelf_call, sink_call, target_call}
+use Rattle.mesh_run.specs.Causes.{IsStop}
+use Rattle.mesh_run.specs.Lines.{why_of}
+use Rattle.mesh_run.specs.Serves.{AreFilesFor, WritesSolid}
+use Rattle.mesh_run.proofs.Shown.{stop_is_shown}
+use Rattle.mesh_run.proofs.UnmetRequests.{said_status_ends, said_status_tells_memory, unmet_is_shown}
+use Rattle.mesh_run.proofs.solid.serve_solid.Goals as goal
+
+pub line_of-said-requires : goal.line_of-said-requires
+line_of-said-requires g c =
+    let shelf = shelf_call g.S.Shelf.contents g.S.Shelf.faults g.S.Shelf.fault_at c.args.shelf.now c.write_solid.new.shelf in
+    let target = target_call g.T.Target.held g.T.Target.begun g.T.Target.faults c.args.target.now c.write_solid.new.target in
+    let request = c.args.request.now in
+    unmet_is_shown (IsStop request shelf) (AreFilesFor request shelf.told) target
+    (stop_is_shown request shelf (omega (arith, c.requires.limits.files))) c.in-Err.status c.in-Err.ensures.stop
+
+pub returns-in-Ok-clause-outcome : goal.returns-in-Ok-clause-outcome
+returns-in-Ok-clause-outcome g c =
+    let err = sink_call g.E.Sink.taken g.E.Sink.flushed g.E.Sink.faults c.args.err.now c.say.new.err in
+    (c.in-Ok.report.items, c.in-Ok.ensures.written, subst (λ (text : List ℕ). TakesUntilFault err text) c.deref.ensures.value c.say.ensures)
+
+pub returns-in-Err-clause-outcome : goal.returns-in-Err-clause-outcome
+returns-in-Err-clause-outcome g c =
+    let shelf = shelf_call g.S.Shelf.contents g.S.Shelf.faults g.S.Shelf.fault_at c.args.shelf.now c.write_solid.new.shelf in
+    let target = target_call g.T.Target.held g.T.Target.begun g.T.Target.faults c.args.target.now c.write_solid.new.target in
+    let err = sink_call g.E.Sink.taken g.E.Sink.flushed g.E.Sink.faults c.args.err.now c.say_why.new.err in
+    let request = c.args.request.now in
+    said_status_ends (IsStop request shelf) (AreFilesFor request shelf.told) target (WritesSolid request shelf target)
+    (why_of request) refl (λ h. h) c.in-Err.status c.say_why.result err c.line_of-said.result c.in-Err.ensures.stop
+    c.line_of-said.ensures c.say_why.ensures.said c.say_why.ensures.memory
+
+pub returns-in-Err-clause-memory : goal.returns-in-Err-clause-memory
+returns-in-Err-clause-memory g c =
+    let shelf = shelf_call g.S.Shelf.contents g.S.Shelf.faults g.S.Shelf.fault_at c.args.shelf.now c.write_solid.new.shelf in
+    let target = target_call g.T.Target.held g.T.Target.begun g.T.Target.faults c.args.target.now c.write_solid.new.target in
+    let request = c.args.request.now in
+    said_status_tells_memory (IsStop request shelf) (AreFilesFor request shelf.told) target _ _ c.in-Err.status
+    c.say_why.result c.line_of-said.result c.in-Err.ensures.stop c.say_why.ensures.said c.say_why.ensures.memory

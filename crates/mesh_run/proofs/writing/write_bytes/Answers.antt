@@ -1,0 +1,14 @@
+use Rattle.std.proofs.Common.{[], refl}
+use Rattle.std.specs.Prelude.{codes}
+use Rattle.mesh_run.specs.Lines.{line}
+use Rattle.mesh_run.proofs.writing.write_bytes.Goals as goal
+
+pub returns-in-Ok-clause-outcome : goal.returns-in-Ok-clause-outcome
+returns-in-Ok-clause-outcome g c =
+    let e = c.in-Ok.ensures in
+    ([], (record { taken = e.taken; flushed = e.flushed }, refl), c.say.ensures)
+
+pub returns-in-Err-clause-outcome : goal.returns-in-Err-clause-outcome
+returns-in-Err-clause-outcome g c =
+    let e = c.in-Err.ensures in
+    (line (codes "cannot write to standard output"), (record { failed = e.cause.failed; prefix = e.prefix }, refl), c.say-in-Err.ensures)

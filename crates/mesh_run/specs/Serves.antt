@@ -1,0 +1,202 @@
+-- What a call promises
+use Rattle.std.specs.Prelude.{◌≡◌, ◌≤◌, ℕ, List, [], ◌∷◌, false, None, Some, Result, Ok, Err, codes}
+use Rattle.std.specs.declared.option.Option.{Option}
+use Rattle.mesh_boolean.specs.declared.output.Output.{Output}
+use Rattle.mesh_boolean.specs.declared.writing.Written.{Written}
+use Rattle.mesh_words.specs.declared.command.Command.{Command}
+use Rattle.mesh_words.specs.declared.command.Command.TheVariants.{Boole, Snap, Export, Info, View, Help, Version}
+use Rattle.mesh_words.specs.declared.command.ExportRequest.{ExportRequest}
+use Rattle.mesh_words.specs.declared.command.Request.{Request}
+use Rattle.mesh_words.specs.declared.command.SnapRequest.{SnapRequest}
+use Rattle.mesh_words.specs.declared.command.ViewRequest.{ViewRequest}
+use Rattle.mesh_words.specs.declared.faults.Refusal.{Refusal}
+use Rattle.mesh_words.specs.Commands.{command_of}
+use Rattle.mesh_scene.specs.declared.scene.scene.Placed.{Placed}
+use Rattle.mesh_outside.specs.Target.Several.{NamedBytes, PutsEach}
+use Rattle.mesh_outside.specs.Target.Targets.{Puts}
+use Rattle.mesh_run.specs.Calls.{ShelfCall, TargetCall, SinkCall, KeepsContents, HoldsAll}
+use Rattle.mesh_run.specs.Calls.{TakesAll, TakesSome, TakesUntilFault}
+use Rattle.mesh_run.specs.Causes.{IsReadingCause, IsSnapStop, IsStop}
+use Rattle.mesh_run.specs.ExportLines.{export_why}
+use Rattle.mesh_run.specs.Exports.{IsExport, IsExportStop}
+use Rattle.mesh_run.specs.Infos.{AreInfoLines}
+use Rattle.mesh_run.specs.Lines.{line, reading_why, snap_why, why_of}
+use Rattle.mesh_run.specs.Memory.{hides_memory}
+use Rattle.mesh_run.specs.Messages.{usage_text, version_text}
+use Rattle.mesh_run.specs.Outputs.{IsOutputFor, IsPlacedFor}
+use Rattle.mesh_run.specs.Pages.{IsPageOf}
+use Rattle.mesh_run.specs.Reports.{export_report, report_of, snap_report}
+use Rattle.mesh_run.specs.Unmet.{EndsAs, IsUnmet}
+use Rattle.mesh_run.specs.WordLines.{refusal_text}
+use Rattle.mesh_run.specs.Writes.{AreMeshFiles, AreSceneFiles, AreSolidFiles}
+use Rattle.mesh_run.specs.declared.status.Status.{Status}
+use Rattle.mesh_run.specs.declared.status.Status.TheVariants.{Done, Words, WriteFault, OutOfMemory}
+
+-- ---- a Boolean
+-- the output is that of the request, and its files are put, each in its turn; err takes the report
+pub record WritesSolid (request : Request) (shelf : ShelfCall) (target : TargetCall) (text : List ℕ) : Type 0 where
+  pub output : Output
+  pub is_output : IsOutputFor request shelf.told output
+  pub files : List NamedBytes
+  pub are_files : AreSolidFiles request output files
+  pub written : PutsEach files target.held target.held_after
+  pub text_is : text ≡ report_of request output
+
+-- these are the files of an output of the request
+pub record AreFilesFor (request : Request) (told : List ℕ → Option (List ℕ)) (files : List NamedBytes) : Type 0 where
+  pub output : Output
+  pub is_output : IsOutputFor request told output
+  pub are_files : AreSolidFiles request output files
+
+abbrev pub IsSolidUnmet : Request → ShelfCall → TargetCall → Status → Type 0
+IsSolidUnmet request shelf target status =
+    IsUnmet (IsStop request shelf) (AreFilesFor request shelf.told) target status
+
+-- or the files aren't all written; err takes the line of the status
+abbrev pub IsSolidOutcome : Request → ShelfCall → TargetCall → Status → List ℕ → Type 0
+IsSolidOutcome request shelf target status text =
+    EndsAs (WritesSolid request shelf target) (IsSolidUnmet request shelf target) (why_of request) status text
+
+-- ---- meshes on their grid
+-- the files of the request are placed as it asks for, and the files of their scene are put, each in its turn; err takes
+-- the lines of the grid and of the files
+pub record WritesScene (request : SnapRequest) (shelf : ShelfCall) (target : TargetCall) (text : List ℕ) : Type 0 where
+  pub placed : Placed
+  pub is_placed : IsPlacedFor request shelf.told placed
+  pub files : List NamedBytes
+  pub are_files : AreSceneFiles request.folder request.files placed files
+  pub written : PutsEach files target.held target.held_after
+  pub text_is : text ≡ snap_report request placed
+
+-- these are the files of a scene that the request asks for
+pub record AreSnapFilesFor (request : SnapRequest) (told : List ℕ → Option (List ℕ)) (files : List NamedBytes) :
+    Type 0 where
+  pub placed : Placed
+  pub is_placed : IsPlacedFor request told placed
+  pub are_files : AreSceneFiles request.folder request.files placed files
+
+abbrev pub IsSnapUnmet : SnapRequest → ShelfCall → TargetCall → Status → Type 0
+IsSnapUnmet request shelf target status =
+    IsUnmet (IsSnapStop request shelf) (AreSnapFilesFor request shelf.told) target status
+
+-- or the files aren't all written; err takes the line of the status
+abbrev pub IsSnapOutcome : SnapRequest → ShelfCall → TargetCall → Status → List ℕ → Type 0
+IsSnapOutcome request shelf target status text =
+    EndsAs (WritesScene request shelf target) (IsSnapUnmet request shelf target) (snap_why request) status text
+
+-- ---- a document
+-- the mesh is that of the document that is named, and its files are put, each in its turn; err takes the lines of the
+-- mesh
+pub record WritesExport (request : ExportRequest) (shelf : ShelfCall) (target : TargetCall)
+    (text : List ℕ) : Type 0 where
+  pub mesh : Written
+  pub is_export : IsExport request shelf.told mesh
+  pub files : List NamedBytes
+  pub are_files : AreMeshFiles request.view request.output mesh files
+  pub written : PutsEach files target.held target.held_after
+  pub text_is : text ≡ export_report request mesh
+
+-- these are the files of a mesh that the request asks for
+pub record AreExportFilesFor (request : ExportRequest) (told : List ℕ → Option (List ℕ)) (files : List NamedBytes) :
+    Type 0 where
+  pub mesh : Written
+  pub is_export : IsExport request told mesh
+  pub are_files : AreMeshFiles request.view request.output mesh files
+
+abbrev pub IsExportUnmet : ExportRequest → ShelfCall → TargetCall → Status → Type 0
+IsExportUnmet request shelf target status =
+    IsUnmet (IsExportStop request shelf) (AreExportFilesFor request shelf.told) target status
+
+-- or the files aren't all written; err takes the line of the status
+abbrev pub IsExportOutcome : ExportRequest → ShelfCall → TargetCall → Status → List ℕ → Type 0
+IsExportOutcome request shelf target status text =
+    EndsAs (WritesExport request shelf target) (IsExportUnmet request shelf target) (export_why request) status text
+
+-- ---- help and the version
+-- out takes this message, or fails
+abbrev pub IsMessageOutcome : List ℕ → SinkCall → Status → List ℕ → Type 0
+IsMessageOutcome message out Done text = TakesAll out message × (text ≡ [])
+IsMessageOutcome message out WriteFault text =
+    TakesSome out message × (text ≡ line (codes "cannot write to standard output"))
+IsMessageOutcome message out OutOfMemory text =
+    (out.taken_after ≡ out.taken) × (text ≡ line (codes "out of memory"))
+IsMessageOutcome message out status text = ⊥
+
+-- ---- what is said of meshes
+-- out takes the lines of the files, or fails
+pub record WritesInfos (names : List (List ℕ)) (shelf : ShelfCall) (out : SinkCall) (status : Status)
+    (text : List ℕ) : Type 0 where
+  pub lines : List ℕ
+  pub are_lines : AreInfoLines shelf.told names lines
+  pub written : IsMessageOutcome lines out status text
+
+-- or not all files are read, and out takes nothing
+abbrev pub IsInfoOutcome : List (List ℕ) → ShelfCall → SinkCall → Status → List ℕ → Type 0
+IsInfoOutcome names shelf out Done text = WritesInfos names shelf out Done text
+IsInfoOutcome names shelf out WriteFault text = WritesInfos names shelf out WriteFault text
+IsInfoOutcome names shelf out status text =
+    IsReadingCause names shelf status × (out.taken_after ≡ out.taken) × (text ≡ line (reading_why names status))
+
+-- ---- a page
+-- the name of the output holds the page of the files, and each other name what it held; err takes nothing
+pub record WritesPage (request : ViewRequest) (shelf : ShelfCall) (target : TargetCall) (text : List ℕ) : Type 0 where
+  pub page : List ℕ
+  pub is_page : IsPageOf shelf.told request.files page
+  pub written : Puts target.held target.held_after request.output (Some page)
+  pub text_is : text ≡ []
+
+-- this is the page of the files under its name
+pub record IsPageFor (request : ViewRequest) (told : List ℕ → Option (List ℕ)) (files : List NamedBytes) : Type 0 where
+  pub page : List ℕ
+  pub is_page : IsPageOf told request.files page
+  pub all : files ≡ (request.output, page) ∷ []
+
+abbrev pub IsPageUnmet : ViewRequest → ShelfCall → TargetCall → Status → Type 0
+IsPageUnmet request shelf target status =
+    IsUnmet (IsReadingCause request.files shelf) (IsPageFor request shelf.told) target status
+
+-- or no page is written; err takes the line of the status
+abbrev pub IsViewOutcome : ViewRequest → ShelfCall → TargetCall → Status → List ℕ → Type 0
+IsViewOutcome request shelf target status text =
+    EndsAs (WritesPage request shelf target) (IsPageUnmet request shelf target) (reading_why request.files) status text
+
+-- ---- words that are refused
+abbrev pub IsWordsOutcome : List (List ℕ) → Refusal → Status → List ℕ → Type 0
+IsWordsOutcome words why (Words refusal) text = (refusal ≡ why) × (text ≡ line (refusal_text words why))
+IsWordsOutcome words why OutOfMemory text = text ≡ line (codes "out of memory")
+IsWordsOutcome words why status text = ⊥
+
+-- ---- all words
+-- what comes of words that give this command, or are refused; err takes the text
+abbrev pub IsOutcome : List (List ℕ) → Result Command Refusal → ShelfCall → TargetCall → SinkCall → Status → List ℕ →
+    Type 0
+IsOutcome words (Err why) shelf target out status text =
+    IsWordsOutcome words why status text × HoldsAll target × (out.taken_after ≡ out.taken)
+IsOutcome words (Ok (Info names)) shelf target out status text =
+    IsInfoOutcome names shelf out status text × HoldsAll target
+IsOutcome words (Ok (View request)) shelf target out status text =
+    IsViewOutcome request shelf target status text × (out.taken_after ≡ out.taken)
+IsOutcome words (Ok (Snap request)) shelf target out status text =
+    IsSnapOutcome request shelf target status text × (out.taken_after ≡ out.taken)
+IsOutcome words (Ok (Export request)) shelf target out status text =
+    IsExportOutcome request shelf target status text × (out.taken_after ≡ out.taken)
+IsOutcome words (Ok Help) shelf target out status text = IsMessageOutcome usage_text out status text × HoldsAll target
+IsOutcome words (Ok Version) shelf target out status text =
+    IsMessageOutcome version_text out status text × HoldsAll target
+IsOutcome words (Ok (Boole request)) shelf target out status text =
+    IsSolidOutcome request shelf target status text × (out.taken_after ≡ out.taken)
+
+-- what a call with these words promises
+pub record MeshServes (words : List (List ℕ)) (shelf : ShelfCall) (target : TargetCall) (out err : SinkCall)
+    (status : Status) : Type 0 where
+  -- the shelf has what it had, no new file is begun, and no count of faults falls
+  pub contents : KeepsContents shelf
+  pub none_begun : target.begun ≡ None
+  pub target_later : target.faults ≤ target.faults_after
+  pub out_later : out.faults ≤ out.faults_after
+  -- what was written or why not, and what err takes of it up to its first fault
+  pub text : List ℕ
+  pub outcome : IsOutcome words (command_of words) shelf target out status text
+  pub said : TakesUntilFault err text
+  -- out-of-memory isn't hidden in another status
+  pub memory : hides_memory status ≡ false

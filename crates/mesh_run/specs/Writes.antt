@@ -1,0 +1,92 @@
+-- The files that a request gets, by their names and bytes
+use Rattle.std.specs.Prelude.{◌≡◌, ℕ, zero, suc, List, [], ◌∷◌, ◌++◌, length, codes, decimal, Some, MatchOption}
+use Rattle.std.specs.declared.option.Option.{Option}
+use Rattle.std.specs.Global.{Vec}
+use Rattle.mesh_boolean.specs.declared.output.Kept.{Kept}
+use Rattle.mesh_boolean.specs.declared.output.Output.{Output}
+use Rattle.mesh_boolean.specs.declared.writing.Written.{Written}
+use Rattle.mesh_words.specs.declared.command.Request.{Request}
+use Rattle.ember_model.specs.declared.tri.Tri.{Tri}
+use Rattle.mesh_write.specs.Page.Pages.{page_of}
+use Rattle.mesh_write.specs.Page.ReadBack.{IsReadBack}
+use Rattle.mesh_scene.specs.declared.scene.scene.Placed.{Placed}
+use Rattle.mesh_scene.specs.SceneFile.Meshes.{mesh_text, triangles_of}
+use Rattle.mesh_scene.specs.SceneFile.Texts.{IsSceneText}
+use Rattle.mesh_write.specs.declared.stl.triangle.WrittenTriangle.{WrittenTriangle}
+use Rattle.mesh_outside.specs.Target.Several.{NamedBytes}
+
+-- they are there if a name is given for them
+abbrev pub AreFilesIf : Option (List ℕ) → (List ℕ → List NamedBytes → Type 0) → List NamedBytes → Type 0
+AreFilesIf name Are files = MatchOption name (files ≡ []) (λ given. Are given files)
+
+-- files that have the property are appended
+pub record AreAppended (Are : List NamedBytes → Type 0) (old new : List NamedBytes) : Type 0 where
+  pub made : List NamedBytes
+  pub are : Are made
+  pub all : new ≡ old ++ made
+
+-- ---- a scene in a folder
+-- the name of a file in a folder
+abbrev pub in_folder : List ℕ → List ℕ → List ℕ
+in_folder folder name = folder ++ (codes "/" ++ name)
+
+-- mesh i as `i.obj`
+abbrev pub mesh_file : List ℕ → List Tri → ℕ → NamedBytes
+mesh_file folder tris i = (in_folder folder (decimal i ++ codes ".obj"), mesh_text (triangles_of i tris))
+
+-- the first meshes, so many of them
+abbrev pub mesh_files : List ℕ → List Tri → ℕ → List NamedBytes
+mesh_files folder tris zero = []
+mesh_files folder tris (suc n) = mesh_files folder tris n ++ mesh_file folder tris (suc n) ∷ []
+
+-- all meshes of a scene on its grid, and `scene.json`
+pub record AreSceneFiles (folder : List ℕ) (names : List (List ℕ)) (placed : Placed) (files : List NamedBytes) :
+    Type 0 where
+  pub text : List ℕ
+  pub is_text : IsSceneText placed.grid names placed.counts.items placed.moves.items text
+  pub all : files ≡ mesh_files folder placed.scene.tris (length names)
+      ++ (in_folder folder (codes "scene.json"), text) ∷ []
+
+-- ---- a mesh
+-- the page of this name that shows these triangles under that title; a reader finds them in it again
+pub record IsPageFile (title : List ℕ) (shown : Option (Vec WrittenTriangle)) (name : List ℕ)
+    (files : List NamedBytes) :
+    Type 0 where
+  pub triangles : Vec WrittenTriangle
+  pub are_shown : shown ≡ Some triangles
+  pub all : files ≡ (name, page_of title triangles.items) ∷ []
+  pub read_back : IsReadBack triangles.items (page_of title triangles.items)
+
+-- a mesh under its name, and before it the page that shows it under this name, if a page is asked for
+pub record AreMeshFiles (page : Option (List ℕ)) (name : List ℕ) (mesh : Written) (files : List NamedBytes) :
+    Type 0 where
+  pub pages : List NamedBytes
+  pub are_pages : AreFilesIf page (IsPageFile name mesh.shown) pages
+  pub all : files ≡ pages ++ (name, mesh.bytes.items) ∷ []
+
+-- ---- a Boolean
+-- the files of a scene in a folder, and the document
+pub record AreKeptFiles (names : List (List ℕ)) (placed : Placed) (document folder : List ℕ) (files : List NamedBytes) :
+    Type 0 where
+  pub scene : List NamedBytes
+  pub are_scene : AreSceneFiles folder names placed scene
+  pub all : files ≡ scene ++ (in_folder folder (codes "doc.txt"), document) ∷ []
+
+-- the scene that an output keeps, with its grid and counts
+abbrev pub placed_of : Output → Kept → Placed
+placed_of out kept = record { grid = out.grid; scene = kept.scene; counts = out.counts; moves = out.moves }
+
+-- the files of what an output keeps
+pub record AreOutputsKept (names : List (List ℕ)) (out : Output) (folder : List ℕ) (files : List NamedBytes) :
+    Type 0 where
+  pub kept : Kept
+  pub is_kept : out.kept ≡ Some kept
+  pub are_files : AreKeptFiles names (placed_of out kept) kept.document.items folder files
+
+-- what is to be kept, the page, and the mesh; without the two options, the mesh alone
+pub record AreSolidFiles (request : Request) (out : Output) (files : List NamedBytes) : Type 0 where
+  pub kept : List NamedBytes
+  pub are_kept : AreFilesIf request.keep (AreOutputsKept request.files out) kept
+  pub mesh : List NamedBytes
+  pub are_mesh : AreMeshFiles request.view request.output out.written mesh
+  pub all : files ≡ kept ++ mesh

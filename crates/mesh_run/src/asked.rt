@@ -1,0 +1,113 @@
+// What words ask for, before any file is read.
+ghost use Rattle.std.specs.Prelude.{◌≡◌, ◌≤◌, IfOk, IfErr, IfSome, IfNone};
+ghost use Rattle.mesh_boolean.specs.Outputs.{HasFewDigits};
+ghost use Rattle.ember_expr.specs.Formula.{formula_of};
+ghost use Rattle.mesh_grid.specs.Grid.Grids.{IsChoice};
+ghost use Rattle.mesh_words.specs.Commands.{IsWithinLimits};
+ghost use Rattle.mesh_run.specs.Asked.{Asks, AsksFile, IsExpression, IsExpressionCause, IsStepOfNoGrid, IsWanted, IsWordsCause, format_asked};
+
+use crate::status::Status;
+use ember_expr::{Expr, ExprFault, bounded, parse};
+use ember_words::Text;
+use mesh_boolean::{FloatFormat, MeshFormat, WantedFile};
+use mesh_grid::{Wanted, step_of};
+use mesh_words::{OutputFormat, Request, WantedStep};
+use mesh_write::TextFormat;
+use std::alloc::Global;
+
+// The file and the expression that a request asks for.
+#[derive(Drop)]
+pub(crate) struct Asked {
+    pub wanted: WantedFile,
+    pub expr: Expr,
+}
+
+/// The step that is asked for, unless no grid has it.
+pub(crate) fn wanted_of(step: &WantedStep) -> Option<Wanted>
+    ensures wanted { IfSome result (IsWanted step.now) }
+    ensures choice { IfSome result IsChoice }
+    ensures none { IfNone result (IsStepOfNoGrid step.now) }
+{
+    match step {
+        WantedStep::Nice => Some(Wanted::Nice),
+        WantedStep::Finest => Some(Wanted::Finest),
+        WantedStep::Decimal(text) => match step_of(text.as_str().as_bytes()) {
+            Some(step) => Some(Wanted::Given(step)),
+            None => None,
+        },
+    }
+}
+
+/// The format that the output's name and `--digits` ask for.
+pub(crate) fn format_asked(format: OutputFormat, digits: Option<u32>) -> MeshFormat
+    requires { IfSome digits (λ n. n ≤ 17) }
+    ensures value { result ≡ format_asked format digits }
+    ensures digits { HasFewDigits result }
+{
+    match format {
+        OutputFormat::Stl => MeshFormat::Floats(FloatFormat::Stl),
+        OutputFormat::Glb => MeshFormat::Floats(FloatFormat::Glb),
+        OutputFormat::Obj => MeshFormat::Text(TextFormat::Obj, digits),
+        OutputFormat::Ply => MeshFormat::Text(TextFormat::Ply, digits),
+        OutputFormat::Off => MeshFormat::Text(TextFormat::Off, digits),
+    }
+}
+
+// The file that a request asks for, unless no grid has the step.
+fn file_asked(request: &Request) -> Result<WantedFile, Status>
+    requires { IsWithinLimits request.now }
+    ensures wanted { IfOk result (AsksFile request.now) }
+    ensures choice { IfOk result (λ wanted. IsChoice wanted.grid) }
+    ensures digits { IfOk result (λ wanted. HasFewDigits wanted.format) }
+    ensures cause { IfErr result (IsWordsCause request.now) }
+{
+    let format = format_asked(request.format, request.digits);
+    match wanted_of(&request.step) {
+        Some(grid) => Ok(WantedFile {
+            grid,
+            format,
+            shows: request.view.is_some(),
+            keeps: request.keep.is_some(),
+        }),
+        None => Err(Status::StepOfNoGrid),
+    }
+}
+
+// The expression of the text over so many meshes, if it is false outside all of them.
+fn bounded_expression(alloc: Global, text: &Text, meshes: u32) -> Result<Expr, Status>
+    requires { meshes ≤ 64 }
+    ensures expression { IfOk result (λ expr. IsExpression text.now meshes (formula_of expr)) }
+    ensures cause { IfErr result (IsExpressionCause text.now meshes) }
+{
+    match parse(alloc, text.as_str().as_bytes(), meshes) {
+        Ok(expr) => {
+            if bounded(&expr) {
+                Ok(expr)
+            } else {
+                Err(Status::Unbounded)
+            }
+        }
+        Err(ExprFault::OutOfMemory) => Err(Status::OutOfMemory),
+        Err(fault) => Err(Status::ExprRefused(fault)),
+    }
+}
+
+// The file and the expression that a request asks for, or why it asks for nothing that can be
+// computed.
+pub(crate) fn asked_by(alloc: Global, request: &Request) -> Result<Asked, Status>
+    requires { IsWithinLimits request.now }
+    ensures asks { IfOk result (λ asked. Asks request.now asked.wanted (formula_of asked.expr)) }
+    ensures choice { IfOk result (λ asked. IsChoice asked.wanted.grid) }
+    ensures digits { IfOk result (λ asked. HasFewDigits asked.wanted.format) }
+    ensures cause { IfErr result (IsWordsCause request.now) }
+{
+    let wanted = match file_asked(request) {
+        Ok(wanted) => wanted,
+        Err(status) => return Err(status),
+    };
+    let meshes = request.files.items().len() as u32;
+    match bounded_expression(alloc, &request.expression, meshes) {
+        Ok(expr) => Ok(Asked { wanted, expr }),
+        Err(status) => Err(status),
+    }
+}

@@ -1,0 +1,276 @@
+// The files that a request gets.
+ghost use Rattle.std.specs.Prelude.{◌≡◌, ◌≤◌, ◌++◌, ◌∷◌, [], length, IfOk, IsSome, OnOk};
+ghost use Rattle.mesh_write.specs.Page.Pages.{page_of};
+ghost use Rattle.mesh_write.specs.Page.ReadBack.{IsReadBack};
+ghost use Rattle.mesh_grid.specs.Snap.Steps.{IsStep};
+ghost use Rattle.mesh_outside.specs.Target.Several.{names_and_bytes};
+ghost use Rattle.mesh_run.specs.Writes.{AreAppended, AreFilesIf, AreKeptFiles, AreMeshFiles, AreOutputsKept, AreSceneFiles, AreSolidFiles, IsPageFile, in_folder, mesh_file, mesh_files};
+
+use ember_model::{OutOfMemory, Tri};
+use ember_words::Text;
+use mesh_boolean::{Kept, Output, Written};
+use mesh_outside::NamedFile;
+use mesh_scene::{Placed, grid_mesh, scene_text};
+use mesh_words::Request;
+use mesh_write::{WrittenTriangle, page_bytes};
+use std::alloc::Global;
+
+// Appends a file with this name and these bytes.
+fn put_named(
+    alloc: Global,
+    name: &Text,
+    bytes: Vec<u8>,
+    files: &mut Vec<NamedFile>,
+) -> Result<(), OutOfMemory>
+    ensures { OnOk result (names_and_bytes files.new.items ≡
+        names_and_bytes files.old.items ++ (name.now, bytes.items) ∷ []) }
+{
+    let name = String::from_str(alloc, name.as_str())?;
+    files.push(NamedFile { name, bytes })?;
+    Ok(())
+}
+
+// Appends a file of this name in a folder.
+fn put_inside(
+    alloc: Global,
+    folder: &Text,
+    name: &str,
+    bytes: Vec<u8>,
+    files: &mut Vec<NamedFile>,
+) -> Result<(), OutOfMemory>
+    ensures { OnOk result (names_and_bytes files.new.items ≡
+        names_and_bytes files.old.items ++ (in_folder folder.now name.now, bytes.items) ∷ []) }
+{
+    let folder = folder.as_str();
+    let name = format!(in alloc; "{folder}/{name}")?;
+    files.push(NamedFile { name, bytes })?;
+    Ok(())
+}
+
+// Appends the file of a mesh on its grid.
+fn put_mesh(
+    alloc: Global,
+    folder: &Text,
+    tris: &[Tri],
+    mesh: u32,
+    files: &mut Vec<NamedFile>,
+) -> Result<(), OutOfMemory>
+    ensures { OnOk result (names_and_bytes files.new.items ≡
+        names_and_bytes files.old.items ++ mesh_file folder.now tris.now mesh ∷ []) }
+{
+    let text = grid_mesh(alloc, tris, mesh)?;
+    let name = format!(in alloc; "{mesh}.obj")?;
+    put_inside(alloc, folder, name.as_str(), text, files)
+}
+
+// Appends the files of the first meshes.
+fn put_meshes(
+    alloc: Global,
+    folder: &Text,
+    tris: &[Tri],
+    meshes: u32,
+    files: &mut Vec<NamedFile>,
+) -> Result<(), OutOfMemory>
+    ensures { OnOk result (names_and_bytes files.new.items ≡
+        names_and_bytes files.old.items ++ mesh_files folder.now tris.now meshes) }
+{
+    for index in 0..meshes {
+        put_mesh(alloc, folder, tris, index + 1, files)?;
+    }
+    Ok(())
+}
+
+// Appends the files of a scene: its meshes on their grid, and the grid.
+fn put_scene(
+    alloc: Global,
+    folder: &Text,
+    names: &[Text],
+    placed: &Placed,
+    files: &mut Vec<NamedFile>,
+) -> Result<(), OutOfMemory>
+    requires few { length names.now ≤ 64 }
+    requires step { IsStep placed.now.grid.step }
+    requires counts { length placed.now.counts.items ≡ length names.now }
+    requires moves { length placed.now.moves.items ≡ length names.now }
+    ensures { OnOk result (AreAppended (AreSceneFiles folder.now names.now placed.now)
+        (names_and_bytes files.old.items) (names_and_bytes files.new.items)) }
+{
+    put_meshes(
+        alloc,
+        folder,
+        placed.scene.tris.items(),
+        names.len() as u32,
+        files,
+    )?;
+    let text = scene_text(alloc, &placed.grid, names, &placed.counts, &placed.moves)?;
+    put_inside(alloc, folder, "scene.json", text, files)
+}
+
+/// The files of a scene in a folder: its meshes on their grid, and the grid.
+pub fn scene_files(
+    alloc: Global,
+    folder: &Text,
+    names: &[Text],
+    placed: &Placed,
+) -> Result<Vec<NamedFile>, OutOfMemory>
+    requires few { length names.now ≤ 64 }
+    requires step { IsStep placed.now.grid.step }
+    requires counts { length placed.now.counts.items ≡ length names.now }
+    requires moves { length placed.now.moves.items ≡ length names.now }
+    ensures { IfOk result (λ files. AreSceneFiles folder.now names.now placed.now (names_and_bytes files.items)) }
+{
+    let mut files = Vec::new(alloc);
+    put_scene(alloc, folder, names, placed, &mut files)?;
+    Ok(files)
+}
+
+// Appends the page that shows triangles under this title.
+fn put_page(
+    alloc: Global,
+    page: &Text,
+    title: &Text,
+    shown: &[WrittenTriangle],
+    files: &mut Vec<NamedFile>,
+) -> Result<(), OutOfMemory>
+    ensures is_page { OnOk result (names_and_bytes files.new.items ≡
+        names_and_bytes files.old.items ++ (page.now, page_of title.now shown.now) ∷ []) }
+    ensures read_back { OnOk result (IsReadBack shown.now (page_of title.now shown.now)) }
+{
+    let bytes = page_bytes(alloc, title.as_str().as_bytes(), shown)?;
+    put_named(alloc, page, bytes, files)
+}
+
+// Appends the page of this name, if one is named, that shows triangles under this title.
+fn put_pages(
+    alloc: Global,
+    page: &Option<Text>,
+    title: &Text,
+    shown: Option<Vec<WrittenTriangle>>,
+    files: &mut Vec<NamedFile>,
+) -> Result<(), OutOfMemory>
+    requires { IsSome page.now → IsSome shown }
+    ensures { OnOk result (AreAppended (AreFilesIf page.now (IsPageFile title.now shown))
+        (names_and_bytes files.old.items) (names_and_bytes files.new.items)) }
+{
+    let Some(page) = page else {
+        return Ok(());
+    };
+    let shown = shown.unwrap();
+    put_page(alloc, page, title, &shown, files)
+}
+
+// Appends the page that shows a mesh, if one is asked for, and the mesh.
+fn put_mesh_files(
+    alloc: Global,
+    page: &Option<Text>,
+    name: &Text,
+    mesh: Written,
+    files: &mut Vec<NamedFile>,
+) -> Result<(), OutOfMemory>
+    requires { IsSome page.now → IsSome mesh.shown }
+    ensures { OnOk result (AreAppended (AreMeshFiles page.now name.now mesh)
+        (names_and_bytes files.old.items) (names_and_bytes files.new.items)) }
+{
+    let Written { bytes, shown, .. } = mesh;
+    put_pages(alloc, page, name, shown, files)?;
+    put_named(alloc, name, bytes, files)
+}
+
+/// The page that shows a mesh, if one is asked for, and the mesh.
+pub fn written_files(
+    alloc: Global,
+    page: &Option<Text>,
+    name: &Text,
+    mesh: Written,
+) -> Result<Vec<NamedFile>, OutOfMemory>
+    requires { IsSome page.now → IsSome mesh.shown }
+    ensures { IfOk result (λ files. AreMeshFiles page.now name.now mesh (names_and_bytes files.items)) }
+{
+    let mut files = Vec::new(alloc);
+    put_mesh_files(alloc, page, name, mesh, &mut files)?;
+    Ok(files)
+}
+
+// Appends the files of a scene in a folder, and the document.
+fn put_kept(
+    alloc: Global,
+    folder: &Text,
+    names: &[Text],
+    placed: &Placed,
+    document: Vec<u8>,
+    files: &mut Vec<NamedFile>,
+) -> Result<(), OutOfMemory>
+    requires few { length names.now ≤ 64 }
+    requires step { IsStep placed.now.grid.step }
+    requires counts { length placed.now.counts.items ≡ length names.now }
+    requires moves { length placed.now.moves.items ≡ length names.now }
+    ensures { OnOk result (AreAppended (AreKeptFiles names.now placed.now document.items folder.now)
+        (names_and_bytes files.old.items) (names_and_bytes files.new.items)) }
+{
+    put_scene(alloc, folder, names, placed, files)?;
+    put_inside(alloc, folder, "doc.txt", document, files)
+}
+
+// The files of what is to be kept of an output, and its mesh.
+fn kept_files(
+    alloc: Global,
+    request: &Request,
+    output: Output,
+) -> Result<(Vec<NamedFile>, Written), OutOfMemory>
+    requires few { length request.now.files ≤ 64 }
+    requires step { IsStep output.grid.step }
+    requires counts { length output.counts.items ≡ length request.now.files }
+    requires moves { length output.moves.items ≡ length request.now.files }
+    requires kept { IsSome request.now.keep → IsSome output.kept }
+    ensures files { IfOk result (λ made.
+        AreFilesIf request.now.keep (AreOutputsKept request.now.files output) (names_and_bytes made.0.items)) }
+    ensures mesh { IfOk result (λ made. made.1 ≡ output.written) }
+{
+    let Output {
+        written,
+        grid,
+        counts,
+        moves,
+        kept,
+        ..
+    } = output;
+    let mut files = Vec::new(alloc);
+    let Some(folder) = &request.keep else {
+        return Ok((files, written));
+    };
+    let Kept { scene, document } = kept.unwrap();
+    let placed = Placed {
+        grid,
+        scene,
+        counts,
+        moves,
+    };
+    put_kept(
+        alloc,
+        folder,
+        request.files.items(),
+        &placed,
+        document,
+        &mut files,
+    )?;
+    Ok((files, written))
+}
+
+/// The files of a Boolean: what is to be kept, the page that shows the solid, and the solid itself.
+pub fn solid_files(
+    alloc: Global,
+    request: &Request,
+    output: Output,
+) -> Result<Vec<NamedFile>, OutOfMemory>
+    requires few { length request.now.files ≤ 64 }
+    requires step { IsStep output.grid.step }
+    requires counts { length output.counts.items ≡ length request.now.files }
+    requires moves { length output.moves.items ≡ length request.now.files }
+    requires kept { IsSome request.now.keep → IsSome output.kept }
+    requires shown { IsSome request.now.view → IsSome output.written.shown }
+    ensures { IfOk result (λ files. AreSolidFiles request.now output (names_and_bytes files.items)) }
+{
+    let (mut files, mesh) = kept_files(alloc, request, output)?;
+    put_mesh_files(alloc, &request.view, &request.output, mesh, &mut files)?;
+    Ok(files)
+}

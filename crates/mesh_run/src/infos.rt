@@ -1,0 +1,111 @@
+// What is said of meshes.
+ghost use Rattle.std.specs.Prelude.{◌≡◌, ◌≤◌, ℕ, List, length, All, false, IfOk, IfErr};
+ghost use Rattle.std.specs.declared.option.Option.{Option};
+ghost use Rattle.ember_algebra.specs.Relations.{Each};
+ghost use Rattle.mesh_boolean.specs.Files.{AreReadings};
+ghost use Rattle.mesh_run.specs.Calls.{KeepsContents, TakesUntilFault, shelf_call, sink_call};
+ghost use Rattle.mesh_run.specs.Causes.{IsReadingCause, IsRefusalCause};
+ghost use Rattle.mesh_run.specs.Files.{AreContents};
+ghost use Rattle.mesh_run.specs.Infos.{AreInfoLines, IsFileLine};
+ghost use Rattle.mesh_run.specs.Memory.{hides_memory};
+ghost use Rattle.mesh_run.specs.Serves.{IsInfoOutcome};
+
+use crate::lines::reading_line;
+use crate::reading::{mesh_files, read_contents};
+use crate::refusals::status_of;
+use crate::status::Status;
+use crate::writing::{say, say_out_of_memory, write_bytes};
+use ember_io::{Shelf, Sink};
+use ember_model::OutOfMemory;
+use ember_words::{Text, Texts};
+use mesh_boolean::{MeshFile, surfaces_in};
+use mesh_info::put_info;
+use mesh_read::Surface;
+use std::alloc::Global;
+use steal_pool::OpenGate;
+
+// The line of each file, one after another.
+#[tactic(auto, using(crate::proofs::InfoOutcomes::surfaces_are_as_many))]
+fn info_lines(
+    alloc: Global,
+    files: &[MeshFile],
+    surfaces: &[Surface],
+) -> Result<Vec<u8>, OutOfMemory>
+    requires { AreReadings files.now surfaces.now }
+    ensures { IfOk result (λ lines. Each IsFileLine files.now lines.items) }
+{
+    let mut lines = Vec::new(alloc);
+    for (index, surface) in surfaces.iter().enumerate() {
+        put_info(alloc, files[index].name, surface, &mut lines)?;
+    }
+    Ok(lines)
+}
+
+// The lines of files with these names and bytes.
+fn infos_of_contents(alloc: Global, names: &[Text], contents: &[Vec<u8>]) -> Result<Vec<u8>, Status>
+    requires few { length names.now ≤ 64 }
+    requires one_each { length contents.now ≡ length names.now }
+    requires small { All (λ bytes. length bytes.items ≤ 268435456) contents.now }
+    ensures lines { IfOk result (λ lines. (told : List ℕ → Option (List ℕ)) →
+        AreContents told names.now contents.now → AreInfoLines told names.now lines.items) }
+    ensures cause { IfErr result (λ status. (told : List ℕ → Option (List ℕ)) →
+        AreContents told names.now contents.now → IsRefusalCause told names.now status) }
+{
+    let made = mesh_files(alloc, names, contents)?;
+    let files = made.as_slice();
+    match surfaces_in(alloc, files, &OpenGate) {
+        Ok(surfaces) => {
+            let lines = info_lines(alloc, files, &surfaces)?;
+            Ok(lines)
+        }
+        Err(fault) => Err(status_of(alloc, files, fault)),
+    }
+}
+
+// The lines of the files with these names. The error is the status with which the call ends
+// instead.
+fn infos_in<S: Shelf>(alloc: Global, shelf: &mut S, names: &[Text]) -> Result<Vec<u8>, Status>
+    requires { length names.now ≤ 64 }
+    ensures contents { KeepsContents (shelf_call S.contents S.faults S.fault_at shelf.old shelf.new) }
+    ensures lines { IfOk result (λ lines. AreInfoLines (S.contents shelf.old) names.now lines.items) }
+    ensures cause { IfErr result
+        (IsReadingCause names.now (shelf_call S.contents S.faults S.fault_at shelf.old shelf.new)) }
+{
+    match read_contents(alloc, shelf, names) {
+        Ok(contents) => infos_of_contents(alloc, names, &contents),
+        Err(status) => Err(status),
+    }
+}
+
+/// Writes what is said of the meshes in these files to `out`, or the line of the status to err. If
+/// a file is refused, nothing is written to `out`.
+pub fn serve_infos<S: Shelf, O: Sink, E: Sink>(
+    alloc: Global,
+    names: &Texts,
+    shelf: &mut S,
+    out: &mut O,
+    err: &mut E,
+) -> Status
+    requires { length names.now ≤ 64 }
+    ensures contents { KeepsContents (shelf_call S.contents S.faults S.fault_at shelf.old shelf.new) }
+    ensures later { O.faults out.old ≤ O.faults out.new }
+    ensures outcome { (text : List ℕ) × IsInfoOutcome names.now
+        (shelf_call S.contents S.faults S.fault_at shelf.old shelf.new)
+        (sink_call O.taken O.flushed O.faults out.old out.new) result text ×
+        TakesUntilFault (sink_call E.taken E.flushed E.faults err.old err.new) text }
+    ensures memory { hides_memory result ≡ false }
+{
+    match infos_in(alloc, shelf, names.items()) {
+        Ok(lines) => write_bytes(out, err, &lines),
+        Err(status) => match reading_line(alloc, names, &status) {
+            Ok(line) => {
+                say(err, &line);
+                status
+            }
+            Err(_) => {
+                say_out_of_memory(err);
+                Status::OutOfMemory
+            }
+        },
+    }
+}

@@ -1,0 +1,113 @@
+// The bytes of the files, in order.
+ghost use Rattle.std.specs.Prelude.{◌≡◌, ◌<◌, ◌≤◌, ◌+◌, ℕ, List, length, map, take, All, IfOk, IfErr};
+ghost use Rattle.std.specs.declared.option.Option.{Option};
+ghost use Rattle.mesh_run.specs.Calls.{shelf_call};
+ghost use Rattle.mesh_run.specs.Causes.{IsEndAt, IsReadingCause, IsRefusalCause};
+ghost use Rattle.mesh_run.specs.Files.{AreContents, AreReadAs};
+
+use crate::refusals::status_of;
+use crate::status::Status;
+use ember_io::{ReadEnd, Shelf, read_all};
+use ember_model::OutOfMemory;
+use ember_words::Text;
+use mesh_boolean::{MeshFile, surfaces_in};
+use mesh_read::Surface;
+use std::alloc::Global;
+use steal_pool::OpenGate;
+
+/// The greatest number of bytes of a file, 2^28.
+pub const MOST_BYTES: u64 = 268_435_456;
+
+/// The files with these bytes, in order. There may be more names than bytes.
+pub fn mesh_files<'a>(
+    alloc: Global,
+    names: &'a [Text],
+    contents: &'a [Vec<u8>],
+) -> Result<Vec<MeshFile<'a>>, OutOfMemory>
+    requires few { length contents.now ≤ length names.now }
+    ensures names { IfOk result (λ files.
+        map (λ file. file.name.now) files.items ≡ take (length contents.now) names.now) }
+    ensures bytes { IfOk result (λ files.
+        map (λ file. file.bytes.now) files.items ≡ map (λ bytes. bytes.items) contents.now) }
+{
+    let mut files = Vec::with_capacity(alloc, contents.len())?;
+    for (index, bytes) in contents.iter().enumerate() {
+        files.push(MeshFile {
+            name: names[index].as_str().as_bytes(),
+            bytes: bytes.as_slice(),
+        })?;
+    }
+    Ok(files)
+}
+
+/// The surfaces of files with these bytes, or why the first that has none is refused. There may be
+/// more names than bytes.
+pub fn surfaces_of<'a>(
+    alloc: Global,
+    names: &'a [Text],
+    contents: &'a [Vec<u8>],
+) -> Result<Vec<Surface<'a>>, Status>
+    requires few { length names.now ≤ 64 }
+    requires named { length contents.now ≤ length names.now }
+    requires small { All (λ bytes. length bytes.items ≤ 268435456) contents.now }
+    ensures read { IfOk result (λ surfaces. (told : List ℕ → Option (List ℕ)) →
+        AreContents told (take (length contents.now) names.now) contents.now →
+        AreReadAs told (take (length contents.now) names.now) surfaces.items) }
+    ensures cause { IfErr result (λ status. (told : List ℕ → Option (List ℕ)) →
+        AreContents told (take (length contents.now) names.now) contents.now →
+        IsRefusalCause told names.now status) }
+{
+    let files = mesh_files(alloc, names, contents)?;
+    match surfaces_in(alloc, &files, &OpenGate) {
+        Ok(surfaces) => Ok(surfaces),
+        Err(fault) => Err(status_of(alloc, &files, fault)),
+    }
+}
+
+// Why reading ends at the file after these: one of them is refused, or that file can't be read.
+fn status_after(alloc: Global, names: &[Text], contents: &[Vec<u8>], end: ReadEnd) -> Status
+    requires few { length names.now ≤ 64 }
+    requires named { length contents.now < length names.now }
+    requires small { All (λ bytes. length bytes.items ≤ 268435456) contents.now }
+    ensures { (told : List ℕ → Option (List ℕ)) →
+        AreContents told (take (length contents.now) names.now) contents.now →
+        IsEndAt told names.now (length contents.now + 1) end result }
+{
+    let number = contents.len() as u32 + 1;
+    match surfaces_of(alloc, names, contents) {
+        Ok(_) => match end {
+            ReadEnd::ReadFault => Status::ReadFault(number),
+            ReadEnd::TooLong(_) => Status::LongFile(number),
+            ReadEnd::OutOfMemory => Status::OutOfMemory,
+        },
+        Err(status) => status,
+    }
+}
+
+/// The bytes of the files with these names, in order, at most 2^28 each. There are at most 64 names.
+/// The error is the status: a file is refused, or can't be read, or is too long, or out-of-memory.
+///
+/// A file can be refused before one after it can't be read. So if a file isn't read, those before it
+/// are looked at.
+pub fn read_contents<S: Shelf>(
+    alloc: Global,
+    shelf: &mut S,
+    names: &[Text],
+) -> Result<Vec<Vec<u8>>, Status>
+    requires { length names.now ≤ 64 }
+    ensures same { S.contents shelf.new ≡ S.contents shelf.old }
+    ensures later { S.faults shelf.old ≤ S.faults shelf.new }
+    ensures contents { IfOk result (λ contents. AreContents (S.contents shelf.old) names.now contents.items) }
+    ensures cause { IfErr result
+        (IsReadingCause names.now (shelf_call S.contents S.faults S.fault_at shelf.old shelf.new)) }
+{
+    let mut contents = Vec::with_capacity(alloc, names.len())?;
+    for name in names {
+        let number = contents.len() as u32 + 1;
+        match read_all(alloc, shelf, name.as_str(), number, MOST_BYTES) {
+            Ok(bytes) => contents.push(bytes)?,
+            Err(end) => return Err(status_after(alloc, names, &contents, end)),
+        }
+    }
+    Ok(contents)
+}

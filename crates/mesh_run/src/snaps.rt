@@ -1,0 +1,142 @@
+// Meshes on their grid.
+ghost use Rattle.std.specs.Prelude.{◌≡◌, ◌≤◌, ℕ, List, length, All, false, None, IfOk, IfErr};
+ghost use Rattle.std.specs.declared.option.Option.{Option};
+ghost use Rattle.mesh_grid.specs.Grid.Grids.{IsChoice};
+ghost use Rattle.mesh_words.specs.Commands.{IsWithinSnapLimits};
+ghost use Rattle.mesh_run.specs.Calls.{KeepsContents, TakesUntilFault, shelf_call, sink_call, target_call};
+ghost use Rattle.mesh_run.specs.Causes.{IsPlacingCause, IsSnapStop};
+ghost use Rattle.mesh_run.specs.Files.{AreContents};
+ghost use Rattle.mesh_run.specs.Memory.{hides_memory};
+ghost use Rattle.mesh_run.specs.Outputs.{AreFilesPlaced, IsPlacedFor};
+ghost use Rattle.mesh_run.specs.Serves.{IsSnapOutcome, IsSnapUnmet, WritesScene};
+
+use crate::asked::wanted_of;
+use crate::files::scene_files;
+use crate::lines::snap_line;
+use crate::reading::{mesh_files, read_contents};
+use crate::refusals::status_of;
+use crate::report::snap_report;
+use crate::status::Status;
+use crate::writing::{say, say_why, write_files};
+use ember_io::{Shelf, Sink};
+use ember_words::Text;
+use mesh_boolean::placed_files;
+use mesh_grid::Wanted;
+use mesh_outside::{Stages, Target};
+use mesh_scene::Placed;
+use mesh_words::SnapRequest;
+use std::alloc::Global;
+
+// Files with these names and bytes on the grid that is wanted.
+fn placed_of_contents<P: Stages>(
+    alloc: Global,
+    names: &[Text],
+    contents: &[Vec<u8>],
+    wanted: Wanted,
+    stages: &P,
+) -> Result<Placed, Status>
+    requires few { length names.now ≤ 64 }
+    requires one_each { length contents.now ≡ length names.now }
+    requires small { All (λ bytes. length bytes.items ≤ 268435456) contents.now }
+    requires choice { IsChoice wanted }
+    ensures placed { IfOk result (λ placed. (told : List ℕ → Option (List ℕ)) →
+        AreContents told names.now contents.now → AreFilesPlaced told names.now wanted placed) }
+    ensures cause { IfErr result (λ status. (told : List ℕ → Option (List ℕ)) →
+        AreContents told names.now contents.now → IsPlacingCause told names.now wanted status) }
+{
+    let files = mesh_files(alloc, names, contents)?;
+    match placed_files(alloc, &files, wanted, stages) {
+        Ok(placed) => Ok(placed),
+        Err(fault) => Err(status_of(alloc, &files, fault)),
+    }
+}
+
+// The files of a request on the grid that it asks for. The error is the status with which the call
+// ends instead.
+fn placed_for<S: Shelf, P: Stages>(
+    alloc: Global,
+    request: &SnapRequest,
+    shelf: &mut S,
+    stages: &P,
+) -> Result<Placed, Status>
+    requires { IsWithinSnapLimits request.now }
+    ensures contents { KeepsContents (shelf_call S.contents S.faults S.fault_at shelf.old shelf.new) }
+    ensures placed { IfOk result (IsPlacedFor request.now (S.contents shelf.old)) }
+    ensures stop { IfErr result
+        (IsSnapStop request.now (shelf_call S.contents S.faults S.fault_at shelf.old shelf.new)) }
+{
+    let Some(wanted) = wanted_of(&request.step) else {
+        return Err(Status::StepOfNoGrid);
+    };
+    let names = request.files.items();
+    match read_contents(alloc, shelf, names) {
+        Ok(contents) => placed_of_contents(alloc, names, &contents, wanted, stages),
+        Err(status) => Err(status),
+    }
+}
+
+// Writes the files of the scene that a request asks for, and gives the report, or the status that
+// says why they aren't written.
+fn write_scene<S: Shelf, T: Target, P: Stages>(
+    alloc: Global,
+    request: &SnapRequest,
+    shelf: &mut S,
+    target: &mut T,
+    stages: &P,
+) -> Result<Vec<u8>, Status>
+    requires limits { IsWithinSnapLimits request.now }
+    requires begun { T.begun target.old ≡ None }
+    ensures contents { KeepsContents (shelf_call S.contents S.faults S.fault_at shelf.old shelf.new) }
+    ensures none_begun { T.begun target.new ≡ None }
+    ensures later { T.faults target.old ≤ T.faults target.new }
+    ensures written { IfOk result (λ report. WritesScene request.now
+        (shelf_call S.contents S.faults S.fault_at shelf.old shelf.new)
+        (target_call T.held T.begun T.faults target.old target.new) report.items) }
+    ensures stop { IfErr result (IsSnapUnmet request.now
+        (shelf_call S.contents S.faults S.fault_at shelf.old shelf.new)
+        (target_call T.held T.begun T.faults target.old target.new)) }
+{
+    let placed = match placed_for(alloc, request, shelf, stages) {
+        Ok(placed) => placed,
+        Err(status) => return Err(status),
+    };
+    let report = snap_report(alloc, request, &placed)?;
+    let files = scene_files(alloc, &request.folder, request.files.items(), &placed)?;
+    match write_files(alloc, target, Some(&request.folder), &files) {
+        Ok(()) => Ok(report),
+        Err(status) => Err(status),
+    }
+}
+
+/// Puts the meshes of a request on their grid and writes them and the grid, and the report or the
+/// line of the status to err.
+pub fn serve_snap<S: Shelf, T: Target, E: Sink, P: Stages>(
+    alloc: Global,
+    request: &SnapRequest,
+    shelf: &mut S,
+    target: &mut T,
+    err: &mut E,
+    stages: &P,
+) -> Status
+    requires limits { IsWithinSnapLimits request.now }
+    requires begun { T.begun target.old ≡ None }
+    ensures contents { KeepsContents (shelf_call S.contents S.faults S.fault_at shelf.old shelf.new) }
+    ensures none_begun { T.begun target.new ≡ None }
+    ensures later { T.faults target.old ≤ T.faults target.new }
+    ensures outcome { (text : List ℕ) × IsSnapOutcome request.now
+        (shelf_call S.contents S.faults S.fault_at shelf.old shelf.new)
+        (target_call T.held T.begun T.faults target.old target.new) result text ×
+        TakesUntilFault (sink_call E.taken E.flushed E.faults err.old err.new) text }
+    ensures memory { hides_memory result ≡ false }
+{
+    match write_scene(alloc, request, shelf, target, stages) {
+        Ok(report) => {
+            say(err, &report);
+            Status::Done
+        }
+        Err(status) => {
+            let said = snap_line(alloc, request, &status);
+            say_why(err, status, said)
+        }
+    }
+}

@@ -1,0 +1,147 @@
+// The page that shows meshes.
+ghost use Rattle.std.specs.Prelude.{◌≡◌, ◌++◌, ◌≤◌, ℕ, List, [], length, All, false, None, IfOk, IfErr, OnOk, codes};
+ghost use Rattle.std.specs.declared.option.Option.{Option};
+ghost use Rattle.mesh_info.specs.View.Views.{IsView};
+ghost use Rattle.mesh_run.specs.Calls.{KeepsContents, TakesUntilFault, shelf_call, sink_call, target_call};
+ghost use Rattle.mesh_run.specs.Causes.{IsReadingCause, IsRefusalCause};
+ghost use Rattle.mesh_run.specs.Files.{AreContents};
+ghost use Rattle.mesh_run.specs.Memory.{hides_memory};
+ghost use Rattle.mesh_run.specs.Pages.{IsPageOf, title_of};
+ghost use Rattle.mesh_run.specs.Serves.{IsPageUnmet, IsViewOutcome, WritesPage};
+
+use crate::lines::reading_line;
+use crate::reading::{read_contents, surfaces_of};
+use crate::status::Status;
+use crate::writing::{say, say_why, write_files};
+use ember_io::{Shelf, Sink};
+use ember_model::OutOfMemory;
+use ember_words::Text;
+use mesh_info::view_of;
+use mesh_outside::{NamedFile, Target};
+use mesh_read::Surface;
+use mesh_words::ViewRequest;
+use std::alloc::Global;
+
+// Appends a name behind a comma.
+fn put_behind(name: &Text, title: &mut Vec<u8>) -> Result<(), OutOfMemory>
+    ensures { OnOk result (title.new.items ≡ title.old.items ++ (codes ", " ++ name.now)) }
+{
+    title.extend_from_slice(b", ")?;
+    title.extend_from_slice(name.as_str().as_bytes())
+}
+
+// The names with commas between them.
+fn title_of(alloc: Global, names: &[Text]) -> Result<Vec<u8>, OutOfMemory>
+    ensures { IfOk result (λ title. title.items ≡ title_of names.now) }
+{
+    let mut title = Vec::new(alloc);
+    if let Some((first, others)) = names.split_first() {
+        title.extend_from_slice(first.as_str().as_bytes())?;
+        for name in others {
+            put_behind(name, &mut title)?;
+        }
+    }
+    Ok(title)
+}
+
+// The page of surfaces under these names.
+fn page_of(alloc: Global, names: &[Text], surfaces: &[Surface]) -> Result<Vec<u8>, OutOfMemory>
+    ensures { IfOk result (λ page. IsView (title_of names.now) surfaces.now page.items) }
+{
+    let title = title_of(alloc, names)?;
+    view_of(alloc, &title, surfaces)
+}
+
+// The page of files with these names and bytes.
+fn page_of_contents(alloc: Global, names: &[Text], contents: &[Vec<u8>]) -> Result<Vec<u8>, Status>
+    requires few { length names.now ≤ 64 }
+    requires one_each { length contents.now ≡ length names.now }
+    requires small { All (λ bytes. length bytes.items ≤ 268435456) contents.now }
+    ensures page { IfOk result (λ page. (told : List ℕ → Option (List ℕ)) →
+        AreContents told names.now contents.now → IsPageOf told names.now page.items) }
+    ensures cause { IfErr result (λ status. (told : List ℕ → Option (List ℕ)) →
+        AreContents told names.now contents.now → IsRefusalCause told names.now status) }
+{
+    match surfaces_of(alloc, names, contents) {
+        Ok(surfaces) => {
+            let page = page_of(alloc, names, &surfaces)?;
+            Ok(page)
+        }
+        Err(status) => Err(status),
+    }
+}
+
+// The page of the files with these names. The error is the status with which the call ends instead.
+fn page_in<S: Shelf>(alloc: Global, shelf: &mut S, names: &[Text]) -> Result<Vec<u8>, Status>
+    requires { length names.now ≤ 64 }
+    ensures contents { KeepsContents (shelf_call S.contents S.faults S.fault_at shelf.old shelf.new) }
+    ensures page { IfOk result (λ page. IsPageOf (S.contents shelf.old) names.now page.items) }
+    ensures cause { IfErr result
+        (IsReadingCause names.now (shelf_call S.contents S.faults S.fault_at shelf.old shelf.new)) }
+{
+    match read_contents(alloc, shelf, names) {
+        Ok(contents) => page_of_contents(alloc, names, &contents),
+        Err(status) => Err(status),
+    }
+}
+
+// Writes the page that a request asks for, or gives the status that says why it isn't written.
+fn write_view<S: Shelf, T: Target>(
+    alloc: Global,
+    request: &ViewRequest,
+    shelf: &mut S,
+    target: &mut T,
+) -> Result<(), Status>
+    requires few { length request.now.files ≤ 64 }
+    requires begun { T.begun target.old ≡ None }
+    ensures contents { KeepsContents (shelf_call S.contents S.faults S.fault_at shelf.old shelf.new) }
+    ensures none_begun { T.begun target.new ≡ None }
+    ensures later { T.faults target.old ≤ T.faults target.new }
+    ensures written { IfOk result (λ _. WritesPage request.now
+        (shelf_call S.contents S.faults S.fault_at shelf.old shelf.new)
+        (target_call T.held T.begun T.faults target.old target.new) []) }
+    ensures stop { IfErr result (IsPageUnmet request.now
+        (shelf_call S.contents S.faults S.fault_at shelf.old shelf.new)
+        (target_call T.held T.begun T.faults target.old target.new)) }
+{
+    let page = match page_in(alloc, shelf, request.files.items()) {
+        Ok(page) => page,
+        Err(status) => return Err(status),
+    };
+    let file = NamedFile {
+        name: String::from_str(alloc, request.output.as_str())?,
+        bytes: page,
+    };
+    write_files(alloc, target, None, &[file])
+}
+
+/// Writes the page that a request asks for, or the line of the status to err.
+pub fn serve_view<S: Shelf, T: Target, E: Sink>(
+    alloc: Global,
+    request: &ViewRequest,
+    shelf: &mut S,
+    target: &mut T,
+    err: &mut E,
+) -> Status
+    requires few { length request.now.files ≤ 64 }
+    requires begun { T.begun target.old ≡ None }
+    ensures contents { KeepsContents (shelf_call S.contents S.faults S.fault_at shelf.old shelf.new) }
+    ensures none_begun { T.begun target.new ≡ None }
+    ensures later { T.faults target.old ≤ T.faults target.new }
+    ensures outcome { (text : List ℕ) × IsViewOutcome request.now
+        (shelf_call S.contents S.faults S.fault_at shelf.old shelf.new)
+        (target_call T.held T.begun T.faults target.old target.new) result text ×
+        TakesUntilFault (sink_call E.taken E.flushed E.faults err.old err.new) text }
+    ensures memory { hides_memory result ≡ false }
+{
+    match write_view(alloc, request, shelf, target) {
+        Ok(()) => {
+            say(err, &[]);
+            Status::Done
+        }
+        Err(status) => {
+            let said = reading_line(alloc, &request.files, &status);
+            say_why(err, status, said)
+        }
+    }
+}

@@ -1,0 +1,122 @@
+// What the target and the two streams get.
+ghost use Rattle.std.specs.Prelude.{◌≡◌, ◌≤◌, ℕ, List, codes, false, None, IfOk, IfErr, OnOk, OnErr};
+ghost use Rattle.mesh_outside.specs.Target.Several.{PutsEach, names_and_bytes};
+ghost use Rattle.mesh_run.specs.Calls.{HoldsAll, TakesUntilFault, sink_call, target_call};
+ghost use Rattle.mesh_run.specs.Lines.{line};
+ghost use Rattle.mesh_run.specs.Memory.{hides_memory};
+ghost use Rattle.mesh_run.specs.Serves.{IsMessageOutcome};
+ghost use Rattle.mesh_run.specs.Unmet.{IsUnwrittenStatus, IsWriteStop};
+
+use crate::status::Status;
+use ember_io::{Sink, write_all};
+use ember_model::OutOfMemory;
+use ember_words::Text;
+use mesh_outside::{NamedFile, Target, WriteEnd, write_each};
+use std::alloc::Global;
+
+const MEMORY_LINE: &[u8] = b"ember-mesh: out of memory\n";
+
+const NO_OUTPUT_LINE: &[u8] = b"ember-mesh: cannot write to standard output\n";
+
+/// Writes a text to err, up to its first fault, which changes nothing else.
+pub fn say<E: Sink>(err: &mut E, text: &[u8])
+    ensures { TakesUntilFault (sink_call E.taken E.flushed E.faults err.old err.new) text.now }
+{
+    let _ = write_all(err, text);
+}
+
+/// Writes the line of out-of-memory to err. It allocates nothing.
+pub fn say_out_of_memory<E: Sink>(err: &mut E)
+    ensures { TakesUntilFault (sink_call E.taken E.flushed E.faults err.old err.new)
+        (line (codes "out of memory")) }
+{
+    say(err, MEMORY_LINE);
+}
+
+/// Writes bytes to `out`, or the line of a failure to err.
+pub fn write_bytes<O: Sink, E: Sink>(out: &mut O, err: &mut E, bytes: &[u8]) -> Status
+    ensures later { O.faults out.old ≤ O.faults out.new }
+    ensures outcome { (text : List ℕ) × IsMessageOutcome bytes.now
+        (sink_call O.taken O.flushed O.faults out.old out.new) result text ×
+        TakesUntilFault (sink_call E.taken E.flushed E.faults err.old err.new) text }
+    ensures memory { hides_memory result ≡ false }
+{
+    match write_all(out, bytes) {
+        Ok(()) => {
+            say(err, &[]);
+            Status::Done
+        }
+        Err(_) => {
+            say(err, NO_OUTPUT_LINE);
+            Status::WriteFault
+        }
+    }
+}
+
+/// Writes the line of a status to err. Without memory for the line, that of out-of-memory is
+/// written, and this is the status then.
+pub fn say_why<E: Sink>(err: &mut E, status: Status, said: Result<Vec<u8>, OutOfMemory>) -> Status
+    ensures said { IfOk said (λ text. (result ≡ status) ×
+        TakesUntilFault (sink_call E.taken E.flushed E.faults err.old err.new) text.items) }
+    ensures memory { OnErr said ((result ≡ Status.OutOfMemory) ×
+        TakesUntilFault (sink_call E.taken E.flushed E.faults err.old err.new) (line (codes "out of memory"))) }
+{
+    match said {
+        Ok(text) => {
+            say(err, &text);
+            status
+        }
+        Err(_) => {
+            say_out_of_memory(err);
+            Status::OutOfMemory
+        }
+    }
+}
+
+// Makes a folder, if one is named. If it can't be made, no file can be written there, and this is
+// told of the first of them.
+#[tactic(auto, using(crate::proofs::KeptNames::names_hold_the_same))]
+fn make_folder<T: Target>(target: &mut T, folder: Option<&Text>)
+    ensures begun { T.begun target.new ≡ T.begun target.old }
+    ensures held { HoldsAll (target_call T.held T.begun T.faults target.old target.new) }
+    ensures later { T.faults target.old ≤ T.faults target.new }
+{
+    if let Some(folder) = folder {
+        let _ = target.make_folder(folder.as_str());
+    }
+}
+
+// The status of a file of this name that isn't written.
+fn unwritten_status(alloc: Global, name: &str, why: WriteEnd) -> Status
+    ensures { IsUnwrittenStatus name.now why result }
+{
+    match why {
+        WriteEnd::WriteFault | WriteEnd::NamesTaken => match String::from_str(alloc, name) {
+            Ok(name) => Status::NotWritten(name),
+            Err(_) => Status::OutOfMemory,
+        },
+        WriteEnd::OutOfMemory => Status::OutOfMemory,
+    }
+}
+
+/// Writes files to the target, each in its turn. The folder is made before, if one is named and it
+/// isn't there. The error names the file that isn't written, or is out-of-memory.
+pub fn write_files<T: Target>(
+    alloc: Global,
+    target: &mut T,
+    folder: Option<&Text>,
+    files: &[NamedFile],
+) -> Result<(), Status>
+    requires { T.begun target.old ≡ None }
+    ensures none_begun { T.begun target.new ≡ None }
+    ensures later { T.faults target.old ≤ T.faults target.new }
+    ensures written { OnOk result (PutsEach (names_and_bytes files.now) (T.held target.old) (T.held target.new)) }
+    ensures stop { IfErr result (IsWriteStop (names_and_bytes files.now)
+        (target_call T.held T.begun T.faults target.old target.new)) }
+{
+    make_folder(target, folder);
+    match write_each(alloc, target, files) {
+        Ok(()) => Ok(()),
+        Err(file) => Err(unwritten_status(alloc, file.name, file.why)),
+    }
+}

@@ -1,0 +1,16 @@
+pub mod Sums
+pub mod Excesses
+pub mod LooseNumbers
+pub mod LooseEdges
+pub mod Meshes
+pub mod Scenes
+pub mod SceneFaults
+pub mod Parts
+pub mod LowestTerms
+pub mod MeshTriangles
+pub mod Offsets
+pub mod FileLines
+pub mod LexedTails
+pub mod PlainTexts
+pub mod ScenePieces
+pub mod SceneData

@@ -1,0 +1,11 @@
+//! Surfaces of several files on one grid, and the scene file that says which grid.
+#![tactic(auto)]
+
+mod scene;
+mod scene_file;
+
+pub use scene::{Counts, Open, Placed, SceneFault, closed_surfaces_are_never_open, scene_of};
+pub use scene_file::{
+    SceneFileFault, grid_mesh, read_scene, scene_text, scenes_have_one_grid,
+    written_scenes_are_read,
+};

@@ -1,0 +1,50 @@
+use Rattle.std.proofs.Common.{List, map, sym, ap, subst, ◌∙◌}
+use Rattle.std.specs.List.{All}
+use Rattle.ember_model.specs.FaceFiles.{IsFaceFile}
+use Rattle.ember_model.specs.Valid.{IsValidFace}
+use Rattle.mesh_solid.specs.Outline.Rounds.{IsRound}
+use Rattle.ember_reread.specs.declared.cornered_face.CorneredFace.{CorneredFace}
+use Rattle.ember_reread.specs.Cornered.{IsFileOf, face_of}
+use Rattle.ember_reread.specs.Lines.{face_in}
+use Rattle.mesh_solid.specs.Mesh.Faults.{IsDocumentFault, of_mesh_fault, of_reading_fault}
+use Rattle.mesh_solid.proofs.Outlined.{file_holds, outlined_mesh_is}
+use Rattle.mesh_solid.proofs.Passing.{passed_on}
+use Rattle.mesh_solid.proofs.SolidSteps.{mesh_fault_is, reading_fault_is}
+use Rattle.mesh_solid.proofs.mesh.document.document_mesh.Goals as goal
+
+pub returns-in_err-written-clause-fault : goal.returns-in_err-written-clause-fault
+returns-in_err-written-clause-fault g c =
+    let cause = c.in_err-written.field-0.0 in
+    passed_on (IsDocumentFault c.args.bytes.now) c.from_residual.result (of_reading_fault cause)
+    c.from_residual.ensures.1 (reading_fault_is c.args.bytes.now cause c.in_err-written.ensures.form)
+
+pub returns-in_err-faces-clause-fault : goal.returns-in_err-faces-clause-fault
+returns-in_err-faces-clause-fault g c =
+    let cause = c.in_err-faces.field-0.0 in
+    let file = subst (λ (fs : List CorneredFace). IsFileOf (map face_of fs) c.args.bytes.now) (sym c.deref.ensures.value) c.in_ok-written.ensures.faces in
+    passed_on (IsDocumentFault c.args.bytes.now) c.from_residual-in_err-faces.result cause
+    c.from_residual-in_err-faces.ensures.1 (c.in_err-faces.ensures.fault c.args.bytes.now file)
+
+pub mesh_of_faces-requires-clause-valid : goal.mesh_of_faces-requires-clause-valid
+mesh_of_faces-requires-clause-valid g c =
+    let same = c.in_ok-faces.ensures.faces ∙ ap (λ (fs : List CorneredFace). map face_in (map face_of fs)) c.deref.ensures.value in
+    subst (All IsValidFace) (sym same) c.in_ok-written.ensures.valid
+
+pub returns-in_err-mesh-clause-fault : goal.returns-in_err-mesh-clause-fault
+returns-in_err-mesh-clause-fault g c =
+    let bytes = c.args.bytes.now in
+    let ws = map face_of c.in_ok-written.written.items in
+    let same = c.in_ok-faces.ensures.faces ∙ ap (λ (fs : List CorneredFace). map face_in (map face_of fs)) c.deref.ensures.value in
+    let read = subst (IsFaceFile bytes) (sym same) (file_holds ws bytes c.in_ok-written.ensures.faces) in
+    let cause = c.in_err-mesh.field-0.0 in
+    passed_on (IsDocumentFault bytes) c.from_residual-in_err-mesh.result (of_mesh_fault cause)
+    c.from_residual-in_err-mesh.ensures.1 (mesh_fault_is bytes cause (c.in_err-mesh.ensures.fault bytes read))
+
+pub returns-clause-mesh : goal.returns-clause-mesh
+returns-clause-mesh g c =
+    let bytes = c.args.bytes.now in
+    let ws = map face_of c.in_ok-written.written.items in
+    let same = c.in_ok-faces.ensures.faces ∙ ap (λ (fs : List CorneredFace). map face_in (map face_of fs)) c.deref.ensures.value in
+    let read = subst (IsFaceFile bytes) (sym same) (file_holds ws bytes c.in_ok-written.ensures.faces) in
+    let round = subst (λ (fs : List CorneredFace). All IsRound (map face_of fs)) c.deref.ensures.value c.in_ok-faces.ensures.round in
+    outlined_mesh_is ws bytes c.in_ok-mesh.mesh c.in_ok-written.ensures.faces round (c.in_ok-mesh.ensures.mesh bytes read)

@@ -1,0 +1,8 @@
+use Rattle.mesh_solid.proofs.Winding.{wind_alike, wind_alike_nearby}
+use Rattle.mesh_solid.proofs.winding.law.certified_triangles_wind_as_faces.Goals as goal
+
+pub returns-clause-alike : goal.returns-clause-alike
+returns-clause-alike c = wind_alike
+
+pub returns-clause-nearby : goal.returns-clause-nearby
+returns-clause-nearby c = wind_alike_nearby

@@ -1,0 +1,4 @@
+pub mod Outline
+pub mod Tables
+pub mod Winding
+pub mod Mesh

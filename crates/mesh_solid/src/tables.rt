@@ -1,0 +1,13 @@
+// The planes, lines and corners of faces by numbers: equal ones have one number.
+
+mod corner;
+mod draft;
+mod face_edge;
+mod fault;
+mod keyed;
+mod numbering;
+mod plane_entry;
+mod tables;
+
+pub use fault::TableFault;
+pub use tables::{Tables, tables_of};

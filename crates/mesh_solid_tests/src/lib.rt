@@ -1,0 +1,5 @@
+//! Tests of certificates, of triangles and of corners as they are written.
+#![tactic(auto)]
+
+mod triangles;
+mod written;

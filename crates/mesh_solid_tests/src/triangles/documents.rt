@@ -1,0 +1,93 @@
+// Documents from anywhere become certified triangles, or are refused.
+ghost use Rattle.std.specs.Prelude.{IfOk};
+ghost use Rattle.mesh_triangles.specs.PlaneQueries.{IsPlaneAnswer, IsPlaneQuery};
+
+use crate::triangles::tables::TETRA;
+use mesh_solid::{DocumentFault, SolidMesh, document_mesh};
+use mesh_triangles::{PlaneAnswer, PlaneQuery, TrianglesFault, answer_planes_alone};
+use std::alloc::{AllocError, Global};
+use std::test::Fail;
+
+// The bottom of the tetrahedron alone.
+const BOTTOM: &[u8] = b"ember 1\nf 0 0 -1 0 3\ne -1 0 0 0 0 0 0 1\n\
+    e 1 1 0 1 0 1 0 1\ne 0 -1 0 0 1 0 0 1\n";
+
+// The document of the bottom and these lines.
+fn with_bottom(alloc: Global, lines: &[u8]) -> Result<Vec<u8>, AllocError> {
+    let mut document = Vec::from_slice(alloc, BOTTOM)?;
+    document.extend_from_slice(lines)?;
+    Ok(document)
+}
+
+/// The mesh of a document, by the calling thread alone.
+pub fn mesh_of(alloc: Global, bytes: &[u8]) -> Result<SolidMesh, DocumentFault> {
+    document_mesh(
+        alloc,
+        bytes,
+        &|query: &PlaneQuery| -> Result<PlaneAnswer, TrianglesFault>
+            requires { IsPlaneQuery query.now }
+            ensures { IfOk result (IsPlaneAnswer query.entry.now) }
+        { answer_planes_alone(alloc, query) },
+    )
+}
+
+#[test]
+fn a_tetrahedron_has_four_triangles(rt: HostRuntime) -> Result<(), Fail> {
+    let mesh = mesh_of(rt.alloc(), TETRA)?;
+    assert_eq!(rt; (mesh.faces, mesh.triangles.len()), (4, 4));
+    assert_eq!(rt; (mesh.planes.len(), mesh.corners.len()), (4, 4));
+    let empty = mesh_of(rt.alloc(), b"ember 1\nend 0\n")?;
+    assert_eq!(rt; (empty.faces, empty.triangles.len()), (0, 0));
+    Ok(())
+}
+
+#[test]
+fn what_is_no_document_is_refused(rt: HostRuntime) {
+    for bytes in [b"".as_slice(), b"ember 1\n", b"ember 1\nend 1\n"] {
+        assert_eq!(rt;
+            mesh_of(rt.alloc(), bytes).err(),
+            Some(DocumentFault::NotADocument)
+        );
+    }
+}
+
+#[test]
+fn one_face_is_not_closed(rt: HostRuntime) -> Result<(), Fail> {
+    let document = with_bottom(rt.alloc(), b"end 1\n")?;
+    assert!(rt;
+        matches!(
+            mesh_of(rt.alloc(), &document).err(),
+            Some(DocumentFault::NotCut(TrianglesFault::NotClosed(_)))
+        )
+    );
+    Ok(())
+}
+
+// The face after the bottom has each fault in turn: a corner above its plane, one on its plane but
+// past its edge, the opposite front, and corners in the other order.
+#[test]
+fn edges_that_are_no_outline_are_refused(rt: HostRuntime) -> Result<(), Fail> {
+    let rows: [(&[u8], DocumentFault); 4] = [
+        (
+            b"f 0 0 -1 0 3\ne -1 0 0 0 0 0 0 1\ne 1 1 0 1 0 1 1 1\ne 0 -1 0 0 1 0 0 1\nend 2\n",
+            DocumentFault::OffPlane(1),
+        ),
+        (
+            b"f 0 0 -1 0 3\ne -1 0 0 0 0 0 0 1\ne 1 1 0 1 0 2 0 1\ne 0 -1 0 0 1 0 0 1\nend 2\n",
+            DocumentFault::OffEdge(1),
+        ),
+        (
+            b"f 0 0 1 0 3\ne -1 0 0 0 0 0 0 1\ne 1 1 0 1 0 1 0 1\ne 0 -1 0 0 1 0 0 1\nend 2\n",
+            DocumentFault::NotRound(1),
+        ),
+        (
+            b"f 0 0 -1 0 3\ne -1 0 0 0 0 1 0 1\ne 0 -1 0 0 0 0 0 1\ne 1 1 0 1 1 0 0 1\nend 2\n",
+            DocumentFault::NotRound(1),
+        ),
+    ];
+    for (lines, fault) in rows {
+        let document = with_bottom(rt.alloc(), lines)?;
+        assert_eq!(rt; mesh_of(rt.alloc(), &document).err(), Some(fault));
+    }
+    Ok(())
+}

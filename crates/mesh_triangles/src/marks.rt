@@ -1,0 +1,93 @@
+// What is at the corners of a line.
+ghost use Rattle.std.specs.Prelude.{◌≡◌, ℕ, List, [], ◌∷◌, ◌++◌, All, OnOk};
+ghost use Rattle.mesh_certificate.specs.declared.certificate.segment.Segment.{Segment};
+ghost use Rattle.mesh_triangles.specs.Marks.{AreMarks};
+
+use crate::corner_order::CornerOrder;
+use crate::fault::TrianglesFault;
+use crate::split::Split;
+use crate::tables::Tables;
+use mesh_certificate::Segment;
+
+/// What a mark is.
+#[derive(Clone, Copy, Debug, PartialEq, Eq)]
+pub enum What {
+    /// A segment of the plane starts.
+    Start(u32),
+    /// A segment of the plane ends.
+    End(u32),
+    /// The line is split.
+    Split,
+}
+
+/// Something that is at a corner of a line.
+#[derive(Clone, Copy)]
+pub struct Mark {
+    pub corner: u32,
+    pub what: What,
+    place: usize,
+}
+
+fn mark_at(order: &CornerOrder, corner: u32, what: What) -> Mark
+    ensures corner { result.corner ≡ corner }
+    ensures what { result.what ≡ what }
+{
+    Mark {
+        corner,
+        what,
+        place: order.place_of(corner),
+    }
+}
+
+fn push_ends(
+    marks: &mut Vec<Mark>,
+    order: &CornerOrder,
+    segment: &Segment,
+) -> Result<(), TrianglesFault>
+    ensures { (line : ℕ) (done : List Segment) → segment.now.line ≡ line → AreMarks line done marks.old.items →
+        OnOk result (AreMarks line (done ++ segment.now ∷ []) marks.new.items) }
+{
+    marks.push(mark_at(order, segment.start, What::Start(segment.plane)))?;
+    marks.push(mark_at(order, segment.end, What::End(segment.plane)))?;
+    Ok(())
+}
+
+fn push_splits(
+    marks: &mut Vec<Mark>,
+    order: &CornerOrder,
+    splits: &[Split],
+) -> Result<(), TrianglesFault>
+    ensures { (line : ℕ) (done : List Segment) → AreMarks line done marks.old.items →
+        OnOk result (AreMarks line done marks.new.items) }
+{
+    for s in splits {
+        marks.push(mark_at(order, s.corner, What::Split))?;
+    }
+    Ok(())
+}
+
+/// Replaces the marks by those of a line's segments and splits, in order along it. The order of
+/// corners becomes that of this line.
+pub fn put_marks(
+    marks: &mut Vec<Mark>,
+    order: &mut CornerOrder,
+    tables: &Tables,
+    line: u32,
+    segments: &[Segment],
+    splits: &[Split],
+) -> Result<(), TrianglesFault>
+    requires { All (λ s. s.line ≡ line) segments.now }
+    ensures { OnOk result (AreMarks line segments.now marks.new.items) }
+{
+    let Some(key) = tables.lines.get(line as usize) else {
+        return Err(TrianglesFault::UnknownLine(line));
+    };
+    order.renew(tables.corners, key, segments, splits)?;
+    marks.clear();
+    for s in segments {
+        push_ends(marks, order, s)?;
+    }
+    push_splits(marks, order, splits)?;
+    marks.sort_unstable_by_key(|m| m.place);
+    Ok(())
+}

@@ -1,0 +1,11 @@
+// The tables of planes, lines and corners.
+use ember_model::Plane;
+use mesh_certificate::{LineKey, SpacePoint};
+
+/// What the numbers of planes, lines and corners denote.
+#[derive(Clone, Copy)]
+pub struct Tables<'a> {
+    pub planes: &'a [Plane],
+    pub lines: &'a [LineKey],
+    pub corners: &'a [SpacePoint],
+}

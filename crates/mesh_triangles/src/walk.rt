@@ -1,0 +1,167 @@
+// Walks along a line.
+ghost use Rattle.std.specs.Prelude.{◌≡◌, ℕ, List, [], ◌∷◌, ◌++◌, OnOk};
+ghost use Rattle.mesh_certificate.specs.declared.certificate.segment.Segment.{Segment};
+ghost use Rattle.mesh_triangles.specs.declared.marks.Mark.{Mark};
+ghost use Rattle.mesh_triangles.specs.Walks.{IsWalked, AddsStretch};
+
+use crate::fault::TrianglesFault;
+use crate::marks::{Mark, What};
+use crate::strand::{Strand, add_strand, are_balanced, doubled, move_strands};
+use crate::through::Through;
+use mesh_certificate::Segment;
+use std::alloc::Global;
+
+/// The boundaries of the planes' parts, and the corners that they run through.
+#[derive(Drop)]
+pub struct Boundaries {
+    pub segments: Vec<Segment>,
+    pub through: Vec<Through>,
+}
+
+/// A walk along a line: the corner at which it is, what changes there so far, and the strands of
+/// the stretch that ends there, with the corner at which they start. Strands are in order of
+/// planes.
+#[derive(Drop)]
+pub struct Walk {
+    line: u32,
+    last: u32,
+    stretch: Vec<Strand>,
+    here: u32,
+    changes: Vec<Strand>,
+    is_split: bool,
+}
+
+fn segment_on(line: u32, plane: u32, start: u32, end: u32) -> Segment
+    ensures line { result.line ≡ line }
+    ensures plane { result.plane ≡ plane }
+    ensures start { result.start ≡ start }
+    ensures end { result.end ≡ end }
+{
+    Segment {
+        plane,
+        line,
+        start,
+        end,
+    }
+}
+
+impl Walk {
+    /// A walk along the line 0 that begins.
+    pub fn new(alloc: Global) -> Walk {
+        Walk {
+            line: 0,
+            last: 0,
+            stretch: Vec::new(alloc),
+            here: 0,
+            changes: Vec::new(alloc),
+            is_split: false,
+        }
+    }
+
+    /// Begins anew, along another line.
+    pub fn begin(&mut self, line: u32)
+        ensures { (before : List Segment) → IsWalked line [] before self.new before }
+    {
+        self.line = line;
+        self.last = 0;
+        self.stretch.clear();
+        self.here = 0;
+        self.changes.clear();
+        self.is_split = false;
+    }
+
+    /// Goes on to the corner of the next mark.
+    pub fn pass(&mut self, mark: &Mark, boundaries: &mut Boundaries) -> Result<(), TrianglesFault>
+        ensures { (line : ℕ) (done : List Mark) (before : List Segment) →
+            IsWalked line done before self.old boundaries.old.segments.items →
+            OnOk result (IsWalked line (done ++ mark.now ∷ []) before self.new boundaries.new.segments.items) }
+    {
+        self.go_to(mark.corner, boundaries)?;
+        self.change(mark.what)
+    }
+
+    fn go_to(&mut self, corner: u32, boundaries: &mut Boundaries) -> Result<(), TrianglesFault>
+        ensures walked { (line : ℕ) (done : List Mark) (before : List Segment) →
+            IsWalked line done before self.old boundaries.old.segments.items →
+            OnOk result (IsWalked line done before self.new boundaries.new.segments.items) }
+        ensures here { OnOk result (self.new.here ≡ corner) }
+    {
+        if corner == self.here {
+            return Ok(());
+        }
+        self.settle(boundaries)?;
+        self.here = corner;
+        Ok(())
+    }
+
+    // Adds what is at the corner.
+    fn change(&mut self, what: What) -> Result<(), TrianglesFault>
+        ensures { (line : ℕ) (done : List Mark) (before after : List Segment) (m : Mark) →
+            IsWalked line done before self.old after → m.corner ≡ self.old.here → m.what ≡ what →
+            OnOk result (IsWalked line (done ++ m ∷ []) before self.new after) }
+    {
+        match what {
+            What::Start(plane) => add_strand(&mut self.changes, Strand::Over(plane)),
+            What::End(plane) => add_strand(&mut self.changes, Strand::Back(plane)),
+            What::Split => {
+                self.is_split = true;
+                Ok(())
+            }
+        }
+    }
+
+    /// Leaves the corner. It is run through if no coefficient changes and the line isn't split
+    /// there; otherwise a stretch ends there and another one begins.
+    pub fn settle(&mut self, boundaries: &mut Boundaries) -> Result<(), TrianglesFault>
+        ensures walked { (line : ℕ) (done : List Mark) (before : List Segment) →
+            IsWalked line done before self.old boundaries.old.segments.items →
+            OnOk result (IsWalked line done before self.new boundaries.new.segments.items) }
+        ensures settled { OnOk result (self.new.changes.items ≡ []) }
+    {
+        if self.changes.is_empty() && !self.is_split {
+            return self.run_through(&mut boundaries.through);
+        }
+        self.end_stretch(&mut boundaries.segments)?;
+        move_strands(&mut self.changes, &mut self.stretch)?;
+        self.last = self.here;
+        self.is_split = false;
+        Ok(())
+    }
+
+    fn run_through(&self, through: &mut Vec<Through>) -> Result<(), TrianglesFault> {
+        for s in &self.stretch {
+            through.push(Through {
+                plane: s.plane(),
+                corner: self.here,
+                line: self.line,
+            })?;
+        }
+        Ok(())
+    }
+
+    fn end_stretch(&self, segments: &mut Vec<Segment>) -> Result<(), TrianglesFault>
+        ensures { OnOk result (AddsStretch self.now self.now.stretch.items segments.old.items segments.new.items) }
+    {
+        let line = self.line;
+        if !are_balanced(&self.stretch) {
+            return Err(TrianglesFault::NotClosed(line));
+        }
+        if let Some(plane) = doubled(&self.stretch) {
+            return Err(TrianglesFault::Overlap { plane, line });
+        }
+        for s in &self.stretch {
+            segments.push(self.segment(s))?;
+        }
+        Ok(())
+    }
+
+    // The strand's segment, between the two ends of the stretch.
+    fn segment(&self, strand: &Strand) -> Segment
+        ensures { (before : List Segment) → AddsStretch self.now (strand.now ∷ []) before (before ++ result ∷ []) }
+    {
+        match *strand {
+            Strand::Over(plane) => segment_on(self.line, plane, self.last, self.here),
+            Strand::Back(plane) => segment_on(self.line, plane, self.here, self.last),
+        }
+    }
+}

@@ -1,0 +1,94 @@
+// Why words give no command.
+ghost use Rattle.std.specs.Prelude.{◌≡◌};
+ghost use Rattle.mesh_words.specs.declared.faults.WordsFault.TheVariants.{Refused, OutOfMemory};
+
+use crate::names::Setting;
+use std::alloc::{AllocError, AllocFailed};
+use thiserror::Error;
+
+/// Why the words are refused.
+#[derive(Clone, Copy, Debug, PartialEq, Eq, Error)]
+pub enum Refusal {
+    /// There is no word.
+    #[error("no command; see ember-mesh help")]
+    NoCommand,
+    /// The first word names no command.
+    #[error("no such command; see ember-mesh help")]
+    UnknownCommand,
+    /// The word with this number (the name of the command has the number 0) begins with a hyphen
+    /// and is no option.
+    #[error("unknown option; see ember-mesh help")]
+    UnknownOption(usize),
+    /// The last word is an option whose value is missing.
+    #[error("the last option needs a value; see ember-mesh help")]
+    NoValue,
+    /// There is no file name.
+    #[error("no files; see ember-mesh help")]
+    NoFiles,
+    /// There are more than 64 file names.
+    #[error("more than 64 files; see ember-mesh help")]
+    TooManyFiles,
+    /// `bool` has no `--expr`.
+    #[error("--expr is missing; see ember-mesh help")]
+    NoExpression,
+    /// Another command than `bool` has an `--expr`.
+    #[error("--expr is for bool alone; see ember-mesh help")]
+    NeedlessExpression,
+    /// The command doesn't take this option.
+    #[error("the option is not for this command; see ember-mesh help")]
+    NotFor(Setting),
+    /// `export` has no file name, or more than one.
+    #[error("export takes one document; see ember-mesh help")]
+    NotOneDocument,
+    /// `snap` has no `-d`.
+    #[error("-d is missing; see ember-mesh help")]
+    NoFolder,
+    /// There is no `-o`.
+    #[error("-o is missing; see ember-mesh help")]
+    NoOutput,
+    /// The name of the output ends in none of `.stl`, `.obj`, `.ply`, `.off` and `.glb`.
+    #[error("-o: the name must end in .stl, .obj, .ply, .off or .glb")]
+    OutputEnding,
+    /// The value of `--step` is neither `nice` nor `finest` nor a decimal above 0.
+    #[error("--step: not a number above 0")]
+    NotAStep,
+    /// The value of `--workers` isn't a number from 1 to 64.
+    #[error("--workers: not a number from 1 to 64; see ember-mesh help")]
+    Workers,
+    /// The value of `--digits` isn't a number from 0 to 17.
+    #[error("--digits: not a number from 0 to 17; see ember-mesh help")]
+    Digits,
+}
+
+/// Why words give no command.
+#[derive(Clone, Copy, Debug, PartialEq, Eq, Error)]
+pub enum WordsFault {
+    #[error("{0}")]
+    Refused(Refusal),
+    #[error("out of memory")]
+    OutOfMemory,
+}
+
+impl From<Refusal> for WordsFault {
+    ghost from_gives = { λ why fault. fault ≡ Refused why };
+
+    fn from(why: Refusal) -> WordsFault {
+        WordsFault::Refused(why)
+    }
+}
+
+impl From<AllocError> for WordsFault {
+    ghost from_gives = { λ _ fault. fault ≡ OutOfMemory };
+
+    fn from(_error: AllocError) -> WordsFault {
+        WordsFault::OutOfMemory
+    }
+}
+
+impl<T: Drop> From<AllocFailed<T>> for WordsFault {
+    ghost from_gives = { λ _ fault. fault ≡ OutOfMemory };
+
+    fn from(_error: AllocFailed<T>) -> WordsFault {
+        WordsFault::OutOfMemory
+    }
+}

@@ -1,0 +1,6 @@
+// Tests of the second program's command lines, by calls from outside.
+
+#[cfg(test)]
+mod command_lines;
+#[cfg(test)]
+mod refusals;

@@ -1,0 +1,6 @@
+use Rattle.std.proofs.Common.{◌≡◌, ◌++◌, flat_map, take}
+use Rattle.mesh_write.specs.Text.Texts.{obj_face}
+use Rattle.mesh_write.proofs.text.obj.put_faces.Given as goal
+
+abbrev pub invariant-loop-triangle : goal.invariant-loop-triangle
+invariant-loop-triangle l = l.out.items ≡ l.fn.out.items ++ flat_map obj_face (take l.triangle-index l.triangles)

@@ -1,0 +1,30 @@
+use Rattle.std.proofs.Common.{◌<◌, ◌*◌, ◌^◌, ap, ◌∙◌, rules, arith}
+use Rattle.std.proofs.lemmas.Int.{to_z-of_z}
+use mir.Syntax.{w128}
+use Rattle.mesh_number.specs.Wide.Whole.{size_of}
+use Rattle.mesh_written.specs.Decimals.{units_of}
+use Rattle.mesh_written.specs.Places.{place_of}
+use Rattle.mesh_written.proofs.Signs.{not_long}
+use Rattle.mesh_written.proofs.decimal_points.decimal_place.Goals as goal
+
+pub units_of-requires-clause-short : goal.units_of-requires-clause-short
+units_of-requires-clause-short c =
+    let r = c.exact_place-place.result in
+    let below : size_of r.numerator.size < size_of c.product-limit.result = search rules in
+    omega (arith, below, c.product-limit.ensures)
+
+pub returns-clause-far : goal.returns-clause-far
+returns-clause-far c =
+    let r = c.exact_place-place.result in
+    let below : size_of r.numerator.size < size_of c.product-limit.result = search rules in
+    let short : size_of r.numerator.size < r.denominator * 10 ^ 21 = omega (arith, below, c.product-limit.ensures) in (
+      λ e. absurd (cc e),
+      λ h. absurd (not_long r
+          (place_of c.args.step.now c.args.offset.now c.args.axis c.args.corner.now) c.exact_place-place.ensures short h),
+    )
+
+pub returns-clause-units : goal.returns-clause-units
+returns-clause-units c =
+    to_z-of_z w128 c.units_of.result (record { sfits = c.units_of.type_inv })
+    ∙ c.units_of.ensures
+    ∙ ap (units_of c.args.places) c.exact_place-place.ensures

@@ -1,0 +1,48 @@
+-- Corners as decimals
+use Rattle.std.specs.Prelude.{ℕ, ◌*◌, ◌^◌, ◌≤◌, ℤ, pos, int_lt, unsigned_abs, List, ⊤}
+use Rattle.std.specs.List.{Any}
+use Rattle.ember_model.specs.declared.point.Axis.{Axis}
+use Rattle.ember_model.specs.declared.point.Axis.TheVariants.{X, Y, Z}
+use Rattle.mesh_number.specs.Number.Fractions.{Fraction, signed_whole}
+use Rattle.mesh_number.specs.Round.Nearest.{nearest_whole}
+use Rattle.mesh_number.specs.Round.Decimals.{decimal_text}
+use Rattle.mesh_grid.specs.declared.snap.steps.Step.{Step}
+use Rattle.mesh_grid.specs.declared.snap.offsets.Offset.{Offset}
+use Rattle.mesh_write.specs.declared.vertices.point.DecimalPoint.{DecimalPoint}
+use Rattle.mesh_certificate.specs.declared.certificate.space_point.SpacePoint.{SpacePoint}
+use Rattle.mesh_written.specs.declared.fault.PlaceFault.{PlaceFault}
+use Rattle.mesh_written.specs.declared.fault.PlaceFault.TheVariants.{TooFar, OutOfMemory}
+use Rattle.mesh_written.specs.Places.{place_of}
+
+-- the text of the nearest decimal of at most this many places
+abbrev pub decimal_of : Fraction → ℕ → List ℕ
+decimal_of v places =
+    let size = nearest_whole (unsigned_abs v.numerator * 10 ^ places) v.denominator in
+    decimal_text (int_lt v.numerator (pos 0)) size places
+
+-- the number is 10^21 or more in size
+abbrev pub IsTooLong : Fraction → Type 0
+IsTooLong v = 10 ^ 21 * v.denominator ≤ unsigned_abs v.numerator
+
+-- ---- points
+-- the whole number of units of the last of these places that is nearest; of two, the even one
+abbrev pub units_of : ℕ → Fraction → ℤ
+units_of places v =
+    signed_whole (int_lt v.numerator (pos 0)) (nearest_whole (unsigned_abs v.numerator * 10 ^ places) v.denominator)
+
+-- the corner in the user's unit, rounded along each axis
+abbrev pub decimal_point : ℕ → Step → Offset → SpacePoint → DecimalPoint
+decimal_point places s o c = record {
+  x = units_of places (place_of s o X c);
+  y = units_of places (place_of s o Y c);
+  z = units_of places (place_of s o Z c);
+}
+
+-- along some axis the corner is 10^21 or more from zero
+pub record IsFarPoint (s : Step) (o : Offset) (c : SpacePoint) : Type 0 where
+  pub axis : Axis
+  pub long : IsTooLong (place_of s o axis c)
+
+abbrev pub IsDecimalFault : Step → Offset → List SpacePoint → PlaceFault → Type 0
+IsDecimalFault s o cs TooFar = Any (IsFarPoint s o) cs
+IsDecimalFault s o cs OutOfMemory = ⊤

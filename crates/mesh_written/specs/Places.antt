@@ -1,0 +1,31 @@
+-- Where corners lie in the user's unit
+use Rattle.std.specs.Prelude.{◌*◌, ℤ, pos, ◌+ℤ◌, ◌*ℤ◌, unsigned_abs}
+use Rattle.ember_model.specs.declared.point.Axis.{Axis}
+use Rattle.ember_model.specs.declared.point.Axis.TheVariants.{X, Y, Z}
+use Rattle.mesh_number.specs.Number.Fractions.{Fraction}
+use Rattle.mesh_number.specs.Wide.Whole.{value_of}
+use Rattle.mesh_grid.specs.declared.snap.steps.Step.{Step}
+use Rattle.mesh_grid.specs.declared.snap.offsets.Offset.{Offset}
+use Rattle.mesh_certificate.specs.declared.certificate.space_point.SpacePoint.{SpacePoint}
+use Rattle.mesh_written.specs.declared.ratio.Ratio.{Ratio}
+
+-- a corner's coordinate times its weight, and an offset
+abbrev pub coordinate_along : Axis → SpacePoint → ℤ
+coordinate_along X c = c.x
+coordinate_along Y c = c.y
+coordinate_along Z c = c.z
+
+abbrev pub offset_along : Axis → Offset → ℤ
+offset_along X o = o.x
+offset_along Y o = o.y
+offset_along Z o = o.z
+
+-- (coordinate / weight + offset) steps, on one denominator
+abbrev pub place_of : Step → Offset → Axis → SpacePoint → Fraction
+place_of s o k c = record {
+  numerator = (coordinate_along k c +ℤ offset_along k o *ℤ c.w) *ℤ pos s.numerator;
+  denominator = s.denominator * unsigned_abs c.w;
+}
+
+abbrev pub fraction_of : Ratio → Fraction
+fraction_of r = record { numerator = value_of r.numerator; denominator = r.denominator }

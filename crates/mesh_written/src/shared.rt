@@ -1,0 +1,128 @@
+// Edges of more than two triangles.
+ghost use Rattle.std.specs.Prelude.{◌≡◌, ◌∷◌, [], ◌++◌, not, List, IfOk, OnOk};
+ghost use Rattle.mesh_written.specs.declared.shared.EdgeKey.{EdgeKey};
+ghost use Rattle.mesh_written.specs.Closed.{positions_of, AreWrittenClosed};
+ghost use Rattle.mesh_written.specs.Shared.{is_lower, key_between, same_ends, has_key, with_key, rising, rising_edges, AreNoted, IsSharedCount};
+
+use indexmap::IndexSet;
+use mesh_write::{FloatPoint, WrittenTriangle};
+use std::alloc::{AllocError, Global};
+
+// A directed edge, by the bits of the coordinates of its ends.
+#[derive(Clone, Copy, PartialEq, Eq, Hash)]
+struct EdgeKey {
+    from_x: u32,
+    from_y: u32,
+    from_z: u32,
+    to_x: u32,
+    to_y: u32,
+    to_z: u32,
+}
+
+// The edges that were looked at: each of them once, and those that occurred again.
+#[derive(Drop)]
+struct Edges {
+    once: IndexSet<EdgeKey>,
+    again: IndexSet<EdgeKey>,
+}
+
+// Whether the first point comes before the second by the bits of x, of y and of z.
+fn is_lower(p: &FloatPoint, q: &FloatPoint) -> bool
+    ensures { result ≡ is_lower p.now q.now }
+{
+    p.x < q.x || (p.x == q.x && (p.y < q.y || (p.y == q.y && p.z < q.z)))
+}
+
+fn key_between(from: &FloatPoint, to: &FloatPoint) -> EdgeKey
+    ensures { result ≡ key_between from.now to.now }
+{
+    EdgeKey {
+        from_x: from.x,
+        from_y: from.y,
+        from_z: from.z,
+        to_x: to.x,
+        to_y: to.y,
+        to_z: to.z,
+    }
+}
+
+// Puts the key into the set, and returns whether it is new there.
+fn put(set: &mut IndexSet<EdgeKey>, key: EdgeKey) -> Result<bool, AllocError>
+    ensures keys { OnOk result (set.new.keys ≡ with_key same_ends set.old.keys key) }
+    ensures is_new { IfOk result (λ is_new. is_new ≡ not (has_key same_ends set.old.keys key)) }
+{
+    let is_new = set.insert(key)?;
+    Ok(is_new)
+}
+
+impl Edges {
+    fn new(alloc: Global) -> Edges
+        ensures once { result.once.keys ≡ [] }
+        ensures again { result.again.keys ≡ [] }
+    {
+        Edges {
+            once: IndexSet::new(alloc),
+            again: IndexSet::new(alloc),
+        }
+    }
+
+    // Notes an edge that occurs again.
+    fn add_again(&mut self, key: EdgeKey) -> Result<(), AllocError>
+        ensures once { OnOk result (self.new.once.keys ≡ self.old.once.keys) }
+        ensures again { OnOk result (self.new.again.keys ≡ with_key same_ends self.old.again.keys key) }
+    {
+        put(&mut self.again, key)?;
+        Ok(())
+    }
+
+    // Notes an edge.
+    fn add(&mut self, key: EdgeKey) -> Result<(), AllocError>
+        ensures { OnOk result ((keys : List EdgeKey) →
+            AreNoted same_ends keys self.old.once.keys self.old.again.keys →
+            AreNoted same_ends (keys ++ key ∷ []) self.new.once.keys self.new.again.keys) }
+    {
+        let is_new = put(&mut self.once, key)?;
+        if is_new {
+            return Ok(());
+        }
+        self.add_again(key)
+    }
+
+    // Notes an edge if its start comes before its end.
+    fn add_rising(&mut self, from: &FloatPoint, to: &FloatPoint) -> Result<(), AllocError>
+        ensures { OnOk result ((keys : List EdgeKey) →
+            AreNoted same_ends keys self.old.once.keys self.old.again.keys →
+            AreNoted same_ends (keys ++ rising is_lower key_between from.now to.now)
+            self.new.once.keys self.new.again.keys) }
+    {
+        if is_lower(from, to) {
+            return self.add(key_between(from, to));
+        }
+        Ok(())
+    }
+
+    // Notes those edges of the triangle whose start comes before their end.
+    fn add_triangle(&mut self, t: &WrittenTriangle) -> Result<(), AllocError>
+        ensures { OnOk result ((keys : List EdgeKey) →
+            AreNoted same_ends keys self.old.once.keys self.old.again.keys →
+            AreNoted same_ends (keys ++ rising_edges is_lower key_between (positions_of t.now ∷ []))
+            self.new.once.keys self.new.again.keys) }
+    {
+        self.add_rising(&t.a, &t.b)?;
+        self.add_rising(&t.b, &t.c)?;
+        self.add_rising(&t.c, &t.a)
+    }
+}
+
+/// How many edges belong to more than two of the written triangles, which are closed. In a closed
+/// mesh such an edge occurs more than once in each direction, so only one of its two directions is
+/// looked at.
+pub fn shared_edges(alloc: Global, written: &[WrittenTriangle]) -> Result<u64, AllocError>
+    ensures { IfOk result (λ count. AreWrittenClosed written.now → IsSharedCount written.now count) }
+{
+    let mut edges = Edges::new(alloc);
+    for t in written {
+        edges.add_triangle(t)?;
+    }
+    Ok(edges.again.len() as u64)
+}
