@@ -6,7 +6,7 @@ use Rattle.ember_model.specs.Valid.{IsValidPlane}
 use Rattle.mesh_certificate.specs.Key.PlaneKeys.{IsPlaneKey}
 use Rattle.mesh_certificate.specs.Certificate.Facing.{spot_of}
 use Rattle.mesh_solid.specs.declared.tables.face_edge.FaceEdge.{FaceEdge}
-use Rattle.mesh_solid.specs.declared.tables.draft.Draft.{Draft}
+use Rattle.mesh_solid.specs.declared.tables.draft.TableBuilder.{TableBuilder}
 use Rattle.mesh_solid.specs.Tables.Edges.{first_or, edges_behind}
 use Rattle.mesh_solid.specs.Tables.Numberings.{HasEntry, plane_of}
 use Rattle.mesh_solid.specs.Tables.Tables.{IsCorner, IsFault}
@@ -16,7 +16,7 @@ use Rattle.mesh_solid.proofs.Lists.{extends_same, extends_put, entry_with, mappe
 use Rattle.mesh_solid.proofs.Numbers.{same_entry_decides, same_corner_decides}
 use Rattle.mesh_solid.proofs.Segments.{grown}
 use Rattle.mesh_solid.proofs.Drafts.{passed_on, next_fault, round_begins, first_fault, round_goes_on}
-use Rattle.mesh_solid.proofs.tables.draft.Draft.push_face.Goals as goal
+use Rattle.mesh_solid.proofs.tables.draft.TableBuilder.push_face.Goals as goal
 
 pub start_of-requires-clause-before : goal.start_of-requires-clause-before
 start_of-requires-clause-before c =
@@ -38,7 +38,7 @@ loop-plane-init c =
     let before = c.last_or-before.result in let is = c.in-Some.ensures.cases.0 in
     let valid = subst (All IsValidPlane) is c.requires.edges in
     let old = c.args.self.now in let p = c.in_ok-number.ensures in let k = c.in_ok-start.ensures in
-    let begun : Draft = record old { planes = c.number_of.new.table; corners = c.number_of-2.new.table } in
+    let begun : TableBuilder = record old { planes = c.number_of.new.table; corners = c.number_of-2.new.table } in
     let entry = c.entry_of.result in let point = c.in_ok-point.point in
     let same : plane_of entry ≡ c.plane_key.result = ap plane_of c.entry_of.ensures in
     let put = mapped_put plane_of entry old.planes.keys begun.planes.keys p.entries in

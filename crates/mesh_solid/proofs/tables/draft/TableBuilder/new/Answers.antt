@@ -5,7 +5,7 @@ use Rattle.ember_model.specs.Valid.{IsValidPlane}
 use Rattle.mesh_solid.specs.declared.tables.plane_entry.PlaneEntry.{PlaneEntry}
 use Rattle.mesh_solid.specs.Tables.Numberings.{plane_of}
 use Rattle.mesh_solid.specs.Tables.Tables.{IsSegmentOf}
-use Rattle.mesh_solid.proofs.tables.draft.Draft.new.Goals as goal
+use Rattle.mesh_solid.proofs.tables.draft.TableBuilder.new.Goals as goal
 
 pub returns-clause-draft : goal.returns-clause-draft
 returns-clause-draft c =

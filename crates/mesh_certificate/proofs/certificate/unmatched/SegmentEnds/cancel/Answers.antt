@@ -1,6 +1,6 @@
 use Rattle.mesh_certificate.specs.Certificate.Keys.{excess, excess_of}
 use Rattle.mesh_certificate.proofs.LeftOver.{first_cancelled, back_pushed}
-use Rattle.mesh_certificate.proofs.certificate.unmatched.Ends.cancel.Goals as goal
+use Rattle.mesh_certificate.proofs.certificate.unmatched.SegmentEnds.cancel.Goals as goal
 
 pub returns-then-first-key : goal.returns-then-first-key
 returns-then-first-key c =

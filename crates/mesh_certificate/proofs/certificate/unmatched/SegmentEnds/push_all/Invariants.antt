@@ -1,6 +1,6 @@
 use Rattle.std.proofs.Common.{◌≡◌, ℕ, ◌+ℤ◌, take}
 use Rattle.mesh_certificate.specs.Certificate.Keys.{excess, excess_of}
-use Rattle.mesh_certificate.proofs.certificate.unmatched.Ends.push_all.Given as goal
+use Rattle.mesh_certificate.proofs.certificate.unmatched.SegmentEnds.push_all.Given as goal
 
 abbrev pub invariant-loop-key : goal.invariant-loop-key
 invariant-loop-key l =

@@ -1,21 +1,21 @@
 use Rattle.std.proofs.Common.{refl, sym, subst, arith}
 use Rattle.mesh_certificate.specs.Key.LineKeys.{IsLineKey}
 use Rattle.mesh_certificate.specs.Certificate.Facing.{spot_of}
-use Rattle.mesh_solid.specs.declared.tables.draft.Draft.{Draft}
+use Rattle.mesh_solid.specs.declared.tables.draft.TableBuilder.{TableBuilder}
 use Rattle.mesh_solid.specs.Tables.Tables.{IsCorner}
 use Rattle.mesh_solid.specs.Tables.Drafts.{planes_in}
 use Rattle.mesh_solid.proofs.Lists.{extends_same, extends_put, entry_stays, entry_with}
 use Rattle.mesh_solid.proofs.Numbers.{same_line_decides, same_corner_decides}
 use Rattle.mesh_solid.proofs.Segments.{grown, edge_put}
 use Rattle.mesh_solid.proofs.Drafts.{one_too_many}
-use Rattle.mesh_solid.proofs.tables.draft.Draft.push.Goals as goal
+use Rattle.mesh_solid.proofs.tables.draft.TableBuilder.push.Goals as goal
 
 pub returns-clause-ok : goal.returns-clause-ok
 returns-clause-ok c =
     λ all rest edge h y p a.
     let k = c.args.keyed.now in let old = c.args.self.now in
     let l = c.in_ok-line.ensures in let e = c.in_ok-end.ensures in
-    let mid : Draft = record old { lines = c.number_of.new.table; corners = c.number_of-2.new.table } in
+    let mid : TableBuilder = record old { lines = c.number_of.new.table; corners = c.number_of-2.new.table } in
     let lines = extends_put k.line old.lines.keys mid.lines.keys l.entries in
     let corners = extends_put k.end old.corners.keys mid.corners.keys e.entries in
     let g = grown all _ old mid h.draft.planes l.distinct e.distinct h.draft.valid (extends_same (planes_in old) (planes_in old) refl) lines corners refl h in

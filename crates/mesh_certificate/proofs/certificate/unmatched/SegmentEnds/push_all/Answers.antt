@@ -1,5 +1,5 @@
 use Rattle.mesh_certificate.proofs.LeftOver.{next_pushed}
-use Rattle.mesh_certificate.proofs.certificate.unmatched.Ends.push_all.Goals as goal
+use Rattle.mesh_certificate.proofs.certificate.unmatched.SegmentEnds.push_all.Goals as goal
 
 pub loop-key-preserved : goal.loop-key-preserved
 loop-key-preserved c =

@@ -8,7 +8,7 @@ use Rattle.mesh_solid.specs.Tables.Edges.{first_or, edges_behind, edges_round}
 use Rattle.mesh_solid.specs.Tables.Numberings.{HasEntry}
 use Rattle.mesh_solid.specs.Tables.Tables.{IsCorner}
 use Rattle.mesh_solid.specs.Tables.Drafts.{planes_in, IsDraftBefore}
-use Rattle.mesh_solid.proofs.tables.draft.Draft.push_face.Given as goal
+use Rattle.mesh_solid.proofs.tables.draft.TableBuilder.push_face.Given as goal
 
 abbrev pub invariant-loop-plane : goal.invariant-loop-plane
 invariant-loop-plane l = record {

@@ -1,5 +1,5 @@
 use Rattle.mesh_certificate.proofs.LeftOver.{first_pushed}
-use Rattle.mesh_certificate.proofs.certificate.unmatched.Ends.push_below.Goals as goal
+use Rattle.mesh_certificate.proofs.certificate.unmatched.SegmentEnds.push_below.Goals as goal
 
 pub loop-key-preserved : goal.loop-key-preserved
 loop-key-preserved c =
