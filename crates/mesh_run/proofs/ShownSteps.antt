@@ -10,22 +10,22 @@ use Rattle.mesh_number.specs.declared.wide.whole.Wide.{Wide}
 use Rattle.mesh_number.specs.Wide.Whole.{size_of, value_of}
 use Rattle.mesh_number.proofs.Determinants.{size_of_value}
 use Rattle.mesh_written.proofs.Signs.{decimal_of_ratio, fits_with_places}
-use Rattle.mesh_grid.specs.declared.snap.steps.Step.{Step}
-use Rattle.mesh_grid.specs.declared.grid.extent.Extent.{Extent}
+use Rattle.mesh_grid.specs.declared.snap.steps.GridStep.{GridStep}
+use Rattle.mesh_grid.specs.declared.grid.extent.SceneExtent.{SceneExtent}
 use Rattle.mesh_run.specs.Lines.{length_text, size_text, step_text}
 
 abbrev over : ℕ → ℤ → Fraction
 over d z = record { numerator = z; denominator = d }
 
 -- the numerator over the denominator, with its places, fits into 128 bits
-pub step_fits : (w : Wide) (s : Step) → 0 < s.denominator → s.numerator < 2 ^ 64 → value_of w ≡ pos s.numerator →
+pub step_fits : (w : Wide) (s : GridStep) → 0 < s.denominator → s.numerator < 2 ^ 64 → value_of w ≡ pos s.numerator →
     size_of w.size * 10 ^ 12 + s.denominator < 2 ^ 128 * s.denominator
 step_fits w s p small e =
     let size : size_of w.size ≡ s.numerator = sym (size_of_value w) ∙ ap unsigned_abs e in
     fits_with_places (size_of w.size) s.denominator 12 p (omega (arith, size, small, p)) (omega arith)
 
 -- and its decimal is that of the step
-pub step_shown : (w : Wide) (s : Step) → 0 < s.denominator → s.denominator < 2 ^ 64 → value_of w ≡ pos s.numerator →
+pub step_shown : (w : Wide) (s : GridStep) → 0 < s.denominator → s.denominator < 2 ^ 64 → value_of w ≡ pos s.numerator →
     decimal_text w.negative (nearest_whole (size_of w.size * 10 ^ 12) s.denominator) 12 ≡ step_text s
 step_shown w s p small e =
     decimal_of_ratio (record { numerator = w; denominator = s.denominator; positive = p; small = omega (arith, small) })
@@ -33,11 +33,11 @@ step_shown w s p small e =
 
 -- ---- a length
 -- the trillionths, with their places, fit into 128 bits
-pub length_fits : (w : Wide) (e : Extent) → size_of w.size ≡ e.trillionths → size_of w.size * 10 ^ 12 + 1000000000000 < 2 ^ 128 * 1000000000000
+pub length_fits : (w : Wide) (e : SceneExtent) → size_of w.size ≡ e.trillionths → size_of w.size * 10 ^ 12 + 1000000000000 < 2 ^ 128 * 1000000000000
 length_fits w e size = let small = e.small in omega (arith, size, small)
 
 -- and their decimal is that of the length
-pub length_shown : (w : Wide) (e : Extent) → value_of w ≡ pos e.trillionths →
+pub length_shown : (w : Wide) (e : SceneExtent) → value_of w ≡ pos e.trillionths →
     decimal_text w.negative (nearest_whole (size_of w.size * 10 ^ 12) 1000000000000) 12 ≡ length_text e
 length_shown w e value =
     decimal_of_ratio (record {

@@ -7,7 +7,7 @@ use Rattle.ember_expr.specs.declared.fault.ExprFault.{ExprFault}
 use Rattle.ember_expr.specs.declared.fault.ExprFault.TheVariants as expr
 use Rattle.mesh_file.specs.declared.format.format.Format.{Format}
 use Rattle.mesh_file.specs.declared.format.format.Format.TheVariants as formats
-use Rattle.mesh_grid.specs.declared.grid.extent.Extent.{Extent}
+use Rattle.mesh_grid.specs.declared.grid.extent.SceneExtent.{SceneExtent}
 use Rattle.mesh_grid.specs.declared.grid.grid.Grid.{Grid}
 use Rattle.mesh_grid.specs.Grid.Lengths.{trillion}
 use Rattle.mesh_words.specs.declared.command.OutputFormat.{OutputFormat}
@@ -20,7 +20,7 @@ use Rattle.ember_model.specs.declared.point.Corner.{Corner}
 use Rattle.mesh_grid.specs.Moves.Shown.{Rounded}
 use Rattle.mesh_number.specs.Number.Fractions.{Fraction}
 use Rattle.mesh_scene.specs.declared.scene.fault.Open.{Open}
-use Rattle.mesh_grid.specs.declared.snap.steps.Step.{Step}
+use Rattle.mesh_grid.specs.declared.snap.steps.GridStep.{GridStep}
 use Rattle.mesh_grid.specs.Snap.Steps.{IsStep}
 use Rattle.mesh_solid.specs.declared.mesh.fault.SolidFault.{SolidFault}
 use Rattle.mesh_solid.specs.declared.mesh.fault.SolidFault.TheVariants as solid
@@ -45,11 +45,11 @@ abbrev pub line : List ℕ → List ℕ
 line text = codes "ember-mesh: " ++ (text ++ codes "\n")
 
 -- a step in the user's unit
-abbrev pub step_text : Step → List ℕ
+abbrev pub step_text : GridStep → List ℕ
 step_text s = decimal_of (record { numerator = pos s.numerator; denominator = s.denominator }) 12
 
 -- how long a scene is, in the user's unit
-abbrev pub length_text : Extent → List ℕ
+abbrev pub length_text : SceneExtent → List ℕ
 length_text e = decimal_of (record { numerator = pos e.trillionths; denominator = trillion }) 12
 
 -- size / 10 ^ places

@@ -1,7 +1,7 @@
 -- What is reported
 use Rattle.std.specs.Prelude.{ℕ, ◌==◌, List, [], ◌∷◌, ◌++◌, codes, decimal, drop, if◌then◌else◌}
 use Rattle.std.specs.Fmt.{signed_decimal}
-use Rattle.mesh_boolean.specs.declared.output.Output.{Output}
+use Rattle.mesh_boolean.specs.declared.output.SolidFile.{SolidFile}
 use Rattle.mesh_boolean.specs.declared.writing.Written.{Written}
 use Rattle.mesh_grid.specs.declared.grid.grid.Grid.{Grid}
 use Rattle.mesh_words.specs.declared.command.ExportRequest.{ExportRequest}
@@ -14,7 +14,7 @@ use Rattle.mesh_grid.specs.Moves.Shown as moves
 use Rattle.mesh_effect.specs.Rounding.Shown.{rounded_of}
 use Rattle.mesh_effect.specs.Rounding.Texts.{move_text}
 use Rattle.mesh_scene.specs.declared.scene.counts.Counts.{Counts}
-use Rattle.mesh_scene.specs.declared.scene.scene.Placed.{Placed}
+use Rattle.mesh_scene.specs.declared.scene.scene.PlacedScene.{PlacedScene}
 use Rattle.mesh_run.specs.Lines.{line, step_text}
 use Rattle.mesh_run.specs.Lines as lines
 
@@ -96,15 +96,15 @@ abbrev pub mesh_lines : OutputFormat → ℕ → Written → List ℕ
 mesh_lines format faces mesh = empty_line mesh ++ (warning_line format mesh ++ mesh_line faces mesh)
 
 -- all lines of a Boolean
-abbrev pub report_lines : List (List ℕ) → OutputFormat → Output → List ℕ
+abbrev pub report_lines : List (List ℕ) → OutputFormat → SolidFile → List ℕ
 report_lines names format out =
     scene_lines names out.grid out.counts.items out.moves.items ++ mesh_lines format out.report.faces out.written
 
 -- ---- reports, unless they are to be quiet
-abbrev pub report_of : Request → Output → List ℕ
+abbrev pub report_of : Request → SolidFile → List ℕ
 report_of request out = if request.quiet then [] else report_lines request.files request.format out
 
-abbrev pub snap_report : SnapRequest → Placed → List ℕ
+abbrev pub snap_report : SnapRequest → PlacedScene → List ℕ
 snap_report request placed =
     if request.quiet then [] else scene_lines request.files placed.grid placed.counts.items placed.moves.items
 

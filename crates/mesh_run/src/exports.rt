@@ -19,7 +19,7 @@ use crate::writing::{say, say_why, write_files};
 use ember_io::{ReadEnd, Shelf, Sink, read_all};
 use ember_words::Text;
 use mesh_boolean::{DocumentFileFault, Written, document_file};
-use mesh_grid::{Grid, Offset, Step};
+use mesh_grid::{Grid, GridStep, Offset};
 use mesh_outside::Target;
 use mesh_scene::{SceneFileFault, read_scene};
 use mesh_words::ExportRequest;
@@ -30,7 +30,7 @@ fn unit_grid() -> Grid
     ensures { result ≡ unit_grid }
 {
     Grid {
-        step: Step {
+        step: GridStep {
             numerator: 1,
             denominator: 1,
         },

@@ -11,7 +11,7 @@ use ember_expr::ExprFault;
 use ember_model::OutOfMemory;
 use ember_words::Texts;
 use mesh_file::Format;
-use mesh_grid::Extent;
+use mesh_grid::SceneExtent;
 use mesh_scene::Open;
 use mesh_solid::SolidFault;
 use mesh_triangles::TrianglesFault;
@@ -172,7 +172,7 @@ fn put_too_many(count: u64, text: &mut Vec<u8>) -> Result<(), OutOfMemory>
 }
 
 // Appends that a step is too small, how long the scene is, and the finest step that would do.
-fn put_extent(given: &[u8], extent: &Extent, text: &mut Vec<u8>) -> Result<(), OutOfMemory>
+fn put_extent(given: &[u8], extent: &SceneExtent, text: &mut Vec<u8>) -> Result<(), OutOfMemory>
     requires { 0 < extent.now.finest.denominator }
     ensures { OnOk result (text.new.items ≡ text.old.items ++
         (codes "--step " ++ (given.now ++ (SCENE_IS.now ++ (length_text extent.now ++

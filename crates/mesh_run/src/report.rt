@@ -7,10 +7,10 @@ ghost use Rattle.mesh_run.specs.Reports.{counts_line, counts_lines, empty_line, 
 use crate::texts::{line, put_count, put_move, put_signed, put_step};
 use ember_model::OutOfMemory;
 use ember_words::Text;
-use mesh_boolean::{Output, Written};
+use mesh_boolean::{SolidFile, Written};
 use mesh_effect::put_move as put_rounding_move;
 use mesh_grid::{Grid, Length};
-use mesh_scene::{Counts, Placed};
+use mesh_scene::{Counts, PlacedScene};
 use mesh_words::{ExportRequest, OutputFormat, Request, SnapRequest};
 use std::alloc::Global;
 
@@ -218,7 +218,11 @@ fn put_scene(
 
 /// The report of an output; empty if the request wants none. It has a line for the grid, a line for
 /// each file, one that the result is empty, if it is, and one with the numbers of the result.
-pub fn report_of(alloc: Global, request: &Request, output: &Output) -> Result<Vec<u8>, OutOfMemory>
+pub fn report_of(
+    alloc: Global,
+    request: &Request,
+    output: &SolidFile,
+) -> Result<Vec<u8>, OutOfMemory>
     requires { 0 < output.now.grid.step.denominator }
     ensures { IfOk result (λ text. text.items ≡ report_of request.now output.now) }
 {
@@ -250,7 +254,7 @@ pub fn report_of(alloc: Global, request: &Request, output: &Output) -> Result<Ve
 pub fn snap_report(
     alloc: Global,
     request: &SnapRequest,
-    placed: &Placed,
+    placed: &PlacedScene,
 ) -> Result<Vec<u8>, OutOfMemory>
     requires { 0 < placed.now.grid.step.denominator }
     ensures { IfOk result (λ text. text.items ≡ snap_report request.now placed.now) }

@@ -23,7 +23,7 @@ use ember_words::Text;
 use mesh_boolean::placed_files;
 use mesh_grid::Wanted;
 use mesh_outside::{Stages, Target};
-use mesh_scene::Placed;
+use mesh_scene::PlacedScene;
 use mesh_words::SnapRequest;
 use std::alloc::Global;
 
@@ -34,7 +34,7 @@ fn placed_of_contents<P: Stages>(
     contents: &[Vec<u8>],
     wanted: Wanted,
     stages: &P,
-) -> Result<Placed, Status>
+) -> Result<PlacedScene, Status>
     requires few { length names.now ≤ 64 }
     requires one_each { length contents.now ≡ length names.now }
     requires small { All (λ bytes. length bytes.items ≤ 268435456) contents.now }
@@ -58,7 +58,7 @@ fn placed_for<S: Shelf, P: Stages>(
     request: &SnapRequest,
     shelf: &mut S,
     stages: &P,
-) -> Result<Placed, Status>
+) -> Result<PlacedScene, Status>
     requires { IsWithinSnapLimits request.now }
     ensures contents { KeepsContents (shelf_call S.contents S.faults S.fault_at shelf.old shelf.new) }
     ensures placed { IfOk result (IsPlacedFor request.now (S.contents shelf.old)) }

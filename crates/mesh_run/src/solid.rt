@@ -26,7 +26,7 @@ use ember_io::{Shelf, Sink};
 use ember_model::OutOfMemory;
 use ember_query::{Answer, Query};
 use ember_words::Text;
-use mesh_boolean::{Output, solid_file};
+use mesh_boolean::{SolidFile, solid_file};
 use mesh_outside::{Stages, Target};
 use mesh_triangles::{PlaneAnswer, PlaneQuery, TrianglesFault};
 use mesh_words::Request;
@@ -45,7 +45,7 @@ fn output_of_contents<
     stages: &P,
     executor: &C,
     plane_executor: &D,
-) -> Result<Output, Status>
+) -> Result<SolidFile, Status>
     requires few { length names.now ≤ 64 }
     requires one_each { length contents.now ≡ length names.now }
     requires small { All (λ bytes. length bytes.items ≤ 268435456) contents.now }
@@ -89,7 +89,7 @@ fn solid_output<
     stages: &P,
     executor: &C,
     plane_executor: &D,
-) -> Result<Output, Status>
+) -> Result<SolidFile, Status>
     requires limits { IsWithinLimits request.now }
     requires executor { IsExecutor C.pre C.post executor.now }
     requires plane_executor { IsPlaneExecutor D.pre D.post plane_executor.now }

@@ -5,7 +5,7 @@ ghost use Rattle.mesh_run.specs.declared.status.Status.TheVariants.{OutOfMemory}
 
 use ember_expr::ExprFault;
 use mesh_file::Format;
-use mesh_grid::Extent;
+use mesh_grid::SceneExtent;
 use mesh_scene::Open;
 use mesh_solid::{DocumentFault, SolidFault};
 use mesh_triangles::TrianglesFault;
@@ -51,7 +51,7 @@ pub enum Status {
     TooManyWritten,
     /// The meshes don't fit on a grid with the given step. They are so long, and this is the finest
     /// step with which they fit.
-    StepTooSmall(Extent),
+    StepTooSmall(SceneExtent),
     /// A corner of the result is too far from 0 for the numbers of the output's format.
     TooFar,
     OutOfMemory,

@@ -10,7 +10,7 @@ use ember_model::{Axis, Corner, OutOfMemory};
 use ember_words::Texts;
 use itoa::Buffer;
 use mesh_certificate::SpacePoint;
-use mesh_grid::{Extent, Grid, Length, Step};
+use mesh_grid::{Grid, GridStep, Length, SceneExtent};
 use mesh_number::{Magnitude, Wide, put_decimal};
 use mesh_words::WantedStep;
 use mesh_written::{PlaceFault, put_place};
@@ -68,7 +68,7 @@ pub fn put_signed(number: i128, text: &mut Vec<u8>) -> Result<(), OutOfMemory>
 }
 
 /// Appends a step in the user's unit.
-pub fn put_step(step: &Step, text: &mut Vec<u8>) -> Result<(), OutOfMemory>
+pub fn put_step(step: &GridStep, text: &mut Vec<u8>) -> Result<(), OutOfMemory>
     requires { 0 < step.now.denominator }
     ensures { OnOk result (text.new.items ≡ text.old.items ++ step_text step.now) }
 {
@@ -77,7 +77,7 @@ pub fn put_step(step: &Step, text: &mut Vec<u8>) -> Result<(), OutOfMemory>
 }
 
 /// Appends how long a scene is, in the user's unit.
-pub fn put_length(extent: &Extent, text: &mut Vec<u8>) -> Result<(), OutOfMemory>
+pub fn put_length(extent: &SceneExtent, text: &mut Vec<u8>) -> Result<(), OutOfMemory>
     ensures { OnOk result (text.new.items ≡ text.old.items ++ length_text extent.now) }
 {
     let size = Magnitude::product(extent.trillionths, 1);
