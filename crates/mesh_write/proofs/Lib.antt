@@ -1,4 +1,4 @@
-pub mod Vertices
+pub mod VertexLists
 pub mod Meshes
 pub mod Appended
 pub mod Positions
