@@ -1,7 +1,8 @@
 """The tokens of a file of Rattle or antt: its text without comments and layout.
 
-Comments, spaces, line breaks, and a comma before a closing bracket make no difference. Two things that look like layout have a meaning, and count:
-- whether there is a space in a word: `a - b` are three words, and in antt `a-b` is one name;
+It makes no difference how many spaces or line breaks part two words, which comments there are, and whether there is a comma before a closing bracket.
+Doc comments are comments, too: no `derive` in the crates reads them. Two things that look like layout have a meaning, and count:
+- whether there is a space at all: `a - b` are three words, and in antt `a-b` is one name;
 - in an antt file, which lines begin an entry of the file, or of a block after `where` or `do`. A line that goes on with an entry makes no difference.
 """
 import re
