@@ -1,6 +1,7 @@
 """The tokens of a file of Rattle or antt: its text without comments and layout.
 
-It makes no difference how many spaces or line breaks part two words, which comments there are, and whether there is a comma before a closing bracket.
+It makes no difference how many spaces or line breaks part two words, which comments there are, whether there is a comma before a closing bracket,
+and whether an antt file imports names of a module by one `use` or by several, one after another.
 Doc comments are comments, too: no `derive` in the crates reads them. Two things that look like layout have a meaning, and count:
 - whether there is a space at all: `a - b` are three words, and in antt `a-b` is one name;
 - in an antt file, which lines begin an entry of the file, or of a block after `where` or `do`. A line that goes on with an entry makes no difference.
@@ -32,7 +33,7 @@ def tokens_of(path, text):
     if path.endswith(".rt"):
         return [it[0] for it in without_last_commas(text, found_by(RATTLE, text))]
     if path.endswith(".antt"):
-        return list(with_entries(text, without_last_commas(text, found_by(ANTT, text))))
+        return with_imports_joined(list(with_entries(text, without_last_commas(text, found_by(ANTT, text)))))
     return [text]
 
 
@@ -74,3 +75,29 @@ def with_entries(text, found):
                 yield "\n"
         is_opened = it[0] in BLOCKS
         yield it[0]
+
+
+def with_imports_joined(found):
+    """Joins `use M.{a}` and `use M.{b}`, if they follow one another, to `use M.{a, b}`."""
+    kept, module = [], None
+    for entry in entries_of(found):
+        names = entry.index("{") if entry[:1] == ["use"] and "{" in entry else None
+        if names is not None and module == entry[:names]:
+            # before the last bracket, and before the line break behind it
+            end = len(kept) - 1 - kept[::-1].index("}")
+            kept[end:end] = [",", *entry[names + 1 : entry.index("}")]]
+        else:
+            kept += entry
+        module = entry[:names] if names is not None else None
+    return kept
+
+
+def entries_of(found):
+    """Yields the tokens of each entry, the line break before the next one included."""
+    entry = []
+    for it in found:
+        if entry and entry[-1] == "\n" and it != "\n":
+            yield entry
+            entry = []
+        entry.append(it)
+    yield entry
