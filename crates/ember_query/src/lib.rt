@@ -13,4 +13,4 @@ pub use faces::{SolidFaces, solid_faces};
 pub use query::{
     Answer, Query, RunResult, query_counts, query_faces, query_fills, query_pairs, query_texts,
 };
-pub use solid::{Solid, query_report, solid_of};
+pub use solid::{SolidDocument, query_report, solid_of};

@@ -15,7 +15,7 @@ use std::alloc::{AllocError, Global};
 
 /// The document, which is the face file of the written regions, and the report.
 #[derive(Drop)]
-pub struct Solid {
+pub struct SolidDocument {
     pub text: Vec<u8>,
     pub report: Report,
 }
@@ -27,7 +27,7 @@ pub fn solid_of<C: Fn(&Query) -> Result<Answer, OutOfMemory>>(
     scene: &Scene,
     expr: &Expr,
     executor: &C,
-) -> Result<Solid, OutOfMemory>
+) -> Result<SolidDocument, OutOfMemory>
     requires { IsExecutor C.pre C.post executor.now }
     ensures text { IfOk result (λ solid. IsSolidText scene.now.tris (formula_of expr.now) solid.text.items) }
     ensures report { IfOk result (λ solid. IsSolidReport scene.now.tris (formula_of expr.now) solid.report) }
@@ -41,7 +41,7 @@ pub fn solid_of<C: Fn(&Query) -> Result<Answer, OutOfMemory>>(
     // A law, which does nothing: the texts, one after another, are the text of the written regions.
     leaf_texts_join(scene, expr);
     let text = document_of(alloc, found.items)?;
-    Ok(Solid { text, report })
+    Ok(SolidDocument { text, report })
 }
 
 // The sum of the numbers. An overflow of 64 bits would be reported as out-of-memory.

@@ -15,10 +15,10 @@ use Rattle.ember_model.specs.declared.plane.Plane.{Plane}
 use Rattle.ember_model.specs.Valid.{IsValidPlane}
 use Rattle.ember_model.specs.declared.scene.Scene.{Scene}
 use Rattle.ember_model.specs.declared.tri.Tri.{Tri}
-use Rattle.mesh_scene.specs.declared.scene.scene.Placed.{Placed}
+use Rattle.mesh_scene.specs.declared.scene.scene.PlacedScene.{PlacedScene}
 use Rattle.mesh_scene.specs.Scene.Images.{images_of}
 use Rattle.mesh_grid.specs.declared.snap.offsets.Offset.{Offset}
-use Rattle.mesh_grid.specs.declared.snap.steps.Step.{Step}
+use Rattle.mesh_grid.specs.declared.snap.steps.GridStep.{GridStep}
 use Rattle.mesh_solid.specs.declared.mesh.mesh.SolidMesh.{SolidMesh}
 use Rattle.mesh_solid.specs.declared.mesh.solid.MeshedSolid.{MeshedSolid}
 use Rattle.mesh_solid.specs.Mesh.Asked.{IsThereIf}
@@ -43,7 +43,7 @@ use Rattle.mesh_written.proofs.Proper.{proper_corners}
 use Rattle.mesh_written.proofs.WrittenClosed.{certified_are_closed, written_are_closed}
 use Rattle.mesh_written.proofs.DecimalsClosed.{decimals_are_closed, indices_are_closed}
 use Rattle.mesh_boolean.specs.declared.files.MeshFile.{MeshFile}
-use Rattle.mesh_boolean.specs.declared.output.Kept.{Kept}
+use Rattle.mesh_boolean.specs.declared.output.KeptDocument.{KeptDocument}
 use Rattle.mesh_boolean.specs.declared.wanted.MeshFormat.{MeshFormat}
 use Rattle.mesh_boolean.specs.declared.wanted.FloatFormat.{FloatFormat}
 use Rattle.mesh_boolean.specs.declared.wanted.MeshFormat.TheVariants.{Floats, Text}
@@ -63,7 +63,7 @@ kept_are_fewer ws =
     let e = length-filter_both (λ t. not (vanishes t)) vanishes (λ t. twice (vanishes t)) ws in omega (arith, e)
 
 -- no more triangles are written than there are
-pub written_are_fewer : (s : Step) (o : Offset) (planes : List Plane) (corners : List SpacePoint) (ts : List Triangle)
+pub written_are_fewer : (s : GridStep) (o : Offset) (planes : List Plane) (corners : List SpacePoint) (ts : List Triangle)
     (ws : List WrittenTriangle) → AreWritten s o planes corners ts ws → length ws ≤ length ts
 written_are_fewer s o planes corners ts ws h =
     let all = map (triangle_at planes h.points) ts in
@@ -180,7 +180,7 @@ shown_if_asked true written = refl
 shown_if_asked false written = tt
 
 -- the scene is kept with its document
-abbrev kept_with : Scene → Option (Vec ℕ) → Option Kept
+abbrev kept_with : Scene → Option (Vec ℕ) → Option KeptDocument
 kept_with scene document = option_map (λ (d : Vec ℕ). record { scene = scene; document = d }) document
 
 both_are_kept : (keeps : Bool) (tris : List Tri) (bytes : List ℕ) (scene : Scene) (document : Option (Vec ℕ)) →
@@ -190,10 +190,10 @@ both_are_kept keeps tris bytes scene (Some document) e h = (h.0, record { scene 
 both_are_kept keeps tris bytes scene None e h = h
 
 -- the file of the mesh of the files' scene is an output for them
-module _ (files : List MeshFile) (formula : Formula) (wanted : WantedFile) (placed : Placed) (is : IsPlaced files wanted.grid placed) where
+module _ (files : List MeshFile) (formula : Formula) (wanted : WantedFile) (placed : PlacedScene) (is : IsPlaced files wanted.grid placed) where
   pub output_is : (meshed : MeshedSolid) → IsMeshedSolid placed.scene.tris formula wanted.keeps meshed →
       (file : Written) → IsWritten wanted.format placed.grid meshed.mesh file →
-      AreShownIf wanted.shows placed.grid meshed.mesh file.shown → (kept : Option Kept) →
+      AreShownIf wanted.shows placed.grid meshed.mesh file.shown → (kept : Option KeptDocument) →
       kept ≡ kept_with placed.scene meshed.document →
       IsOutput files formula wanted (record {
         written = file;

@@ -8,7 +8,7 @@ use Rattle.mesh_grid.specs.Grid.Grids.{IsWithinLimit, IsGrid}
 use Rattle.ember_model.specs.declared.tri.Tri.{Tri}
 use Rattle.ember_model.specs.Meshes.{IsScene}
 use Rattle.mesh_grid.specs.Moves.Shown.{AreMoves}
-use Rattle.mesh_scene.specs.declared.scene.scene.Placed.{Placed}
+use Rattle.mesh_scene.specs.declared.scene.scene.PlacedScene.{PlacedScene}
 use Rattle.mesh_scene.specs.Scene.Images.{images_of, counts_on}
 use Rattle.mesh_grid.specs.Snap.Steps.{IsStep}
 use Rattle.mesh_read.specs.declared.surface.surface.Surface.{Surface}
@@ -34,7 +34,7 @@ readings_are_as_many files surfaces h =
     sym (length-map surfaces held) ∙ sym (ap length h) ∙ length-map files reading
 
 -- the scene of surfaces is that of the files whose readings give them
-pub files_are_placed : (files : List MeshFile) (wanted : Wanted) (surfaces : List Surface) (placed : Placed) →
+pub files_are_placed : (files : List MeshFile) (wanted : Wanted) (surfaces : List Surface) (placed : PlacedScene) →
     AreReadings files surfaces → IsStep placed.grid.step → IsGrid surfaces wanted placed.grid →
     placed.scene.tris ≡ images_of placed.grid surfaces → placed.scene.meshes ≡ length surfaces →
     placed.counts.items ≡ map (counts_on placed.grid) surfaces → AreMoves placed.grid surfaces placed.moves.items →

@@ -7,7 +7,7 @@ use Rattle.mesh_write.specs.Glb.Written.{IsTooLong}
 use Rattle.mesh_grid.specs.declared.grid.grid.Grid.{Grid}
 use Rattle.mesh_write.specs.declared.text.format.TextFormat.{TextFormat}
 use Rattle.mesh_grid.specs.declared.snap.offsets.Offset.{Offset}
-use Rattle.mesh_grid.specs.declared.snap.steps.Step.{Step}
+use Rattle.mesh_grid.specs.declared.snap.steps.GridStep.{GridStep}
 use Rattle.mesh_solid.specs.declared.mesh.mesh.SolidMesh.{SolidMesh}
 use Rattle.mesh_write.specs.declared.stl.triangle.WrittenTriangle.{WrittenTriangle}
 use Rattle.mesh_written.specs.declared.fault.PlaceFault.{PlaceFault}
@@ -55,7 +55,7 @@ decimal_fault_is format digits grid mesh place_fault.TooFar h = h
 decimal_fault_is format digits grid mesh place_fault.OutOfMemory h = tt
 
 -- a corner that rounds to infinity is too far out for a decimal
-far_for_decimals : (s : Step) (o : Offset) (c : SpacePoint) → IsTooFar s o c → IsFarPoint s o c
+far_for_decimals : (s : GridStep) (o : Offset) (c : SpacePoint) → IsTooFar s o c → IsFarPoint s o c
 far_for_decimals s o c h = record { axis = h.axis; long = omega (arith, h.infinite) }
 
 -- a corner that is too far out for the triangles that are shown

@@ -6,7 +6,7 @@ use Rattle.mesh_grid.specs.declared.grid.grid.Grid.{Grid}
 use Rattle.mesh_effect.specs.declared.rounding.length.Move.{Move}
 use Rattle.mesh_effect.specs.Rounding.Greatest.{greatest_decimal_move, greatest_float_move}
 use Rattle.mesh_effect.specs.Rounding.Shown.{rounded_of}
-use Rattle.mesh_grid.specs.declared.snap.steps.Step.{Step}
+use Rattle.mesh_grid.specs.declared.snap.steps.GridStep.{GridStep}
 use Rattle.mesh_solid.specs.declared.mesh.mesh.SolidMesh.{SolidMesh}
 use Rattle.mesh_write.specs.declared.stl.triangle.FloatPoint.{FloatPoint}
 use Rattle.mesh_write.specs.declared.vertices.point.DecimalTriangle.{DecimalTriangle}
@@ -33,7 +33,7 @@ over_vertices ts = map (indexed (vertices_of ts)) ts
 
 -- ---- effects
 -- the move is more than a hundredth of the step
-abbrev pub is_above_hundredth : Move → Step → Bool
+abbrev pub is_above_hundredth : Move → GridStep → Bool
 is_above_hundredth m s = nat_lt (s.numerator * 10 ^ m.places) (100 * m.size * s.denominator)
 
 -- how far the corners of triangles moved at most when the corners became these points, whether this is more than a

@@ -6,7 +6,7 @@ use Rattle.mesh_grid.specs.declared.grid.choice.Wanted.{Wanted}
 use Rattle.mesh_grid.specs.declared.grid.grid.Grid.{Grid}
 use Rattle.ember_model.specs.Meshes.{IsScene}
 use Rattle.mesh_grid.specs.Moves.Shown.{AreMoves}
-use Rattle.mesh_scene.specs.declared.scene.scene.Placed.{Placed}
+use Rattle.mesh_scene.specs.declared.scene.scene.PlacedScene.{PlacedScene}
 use Rattle.mesh_scene.specs.Scene.Faults.{IsSceneGrid}
 use Rattle.mesh_scene.specs.Scene.Images.{images_of, counts_on}
 use Rattle.mesh_read.specs.declared.surface.surface.Surface.{Surface}
@@ -36,7 +36,7 @@ pub record ArePlaced (files : List MeshFile) (wanted : Wanted) (surfaces : List 
   pub scene : IsScene (images_of grid surfaces) (length surfaces)
 
 -- the triangles, counts and moves of such surfaces
-pub record IsPlaced (files : List MeshFile) (wanted : Wanted) (placed : Placed) : Type 0 where
+pub record IsPlaced (files : List MeshFile) (wanted : Wanted) (placed : PlacedScene) : Type 0 where
   pub surfaces : List Surface
   pub are_placed : ArePlaced files wanted surfaces placed.grid
   pub tris : placed.scene.tris ≡ images_of placed.grid surfaces

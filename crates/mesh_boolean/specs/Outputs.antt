@@ -37,8 +37,8 @@ use Rattle.mesh_boolean.specs.declared.wanted.FloatFormat.TheVariants.{Stl, Glb}
 use Rattle.mesh_boolean.specs.declared.wanted.MeshFormat.{MeshFormat}
 use Rattle.mesh_boolean.specs.declared.wanted.MeshFormat.TheVariants.{Floats, Text}
 use Rattle.mesh_boolean.specs.declared.wanted.WantedFile.{WantedFile}
-use Rattle.mesh_boolean.specs.declared.output.Kept.{Kept}
-use Rattle.mesh_boolean.specs.declared.output.Output.{Output}
+use Rattle.mesh_boolean.specs.declared.output.KeptDocument.{KeptDocument}
+use Rattle.mesh_boolean.specs.declared.output.SolidFile.{SolidFile}
 use Rattle.mesh_boolean.specs.declared.writing.Written.{Written}
 use Rattle.mesh_boolean.specs.Effects.{IsDecimalEffect, IsFloatEffect, decimals_of, over_vertices}
 use Rattle.mesh_boolean.specs.Files.{ArePlaced}
@@ -154,7 +154,7 @@ IsClosedAs (Text format digits) grid mesh file = IsClosedText format digits grid
 
 -- ---- outputs
 -- the scene has these triangles, and the document these bytes
-pub record AreKept (images : List Tri) (bytes : List ℕ) (kept : Kept) : Type 0 where
+pub record AreKept (images : List Tri) (bytes : List ℕ) (kept : KeptDocument) : Type 0 where
   pub scene : kept.scene.tris ≡ images
   pub document : kept.document.items ≡ bytes
 
@@ -162,7 +162,7 @@ pub record AreKept (images : List Tri) (bytes : List ℕ) (kept : Kept) : Type 0
 -- of their triangles, with this report of the run; the file is this mesh in the wanted format, closed;
 -- and the triangles
 -- that are shown, and the scene and the document of the solid, are there if they are wanted
-pub record IsOutput (files : List MeshFile) (formula : Formula) (wanted : WantedFile) (out : Output) : Type 0 where
+pub record IsOutput (files : List MeshFile) (formula : Formula) (wanted : WantedFile) (out : SolidFile) : Type 0 where
   pub surfaces : List Surface
   pub are_placed : ArePlaced files wanted.grid surfaces out.grid
   pub counts : out.counts.items ≡ map (counts_on out.grid) surfaces

@@ -13,7 +13,7 @@ ghost use Rattle.mesh_read.specs.declared.surface.surface.Surface.{Surface};
 ghost use Rattle.mesh_boolean.specs.declared.fault.BooleanFault.TheVariants.{Scene};
 ghost use Rattle.mesh_boolean.specs.declared.files.MeshFile.{MeshFile};
 ghost use Rattle.mesh_boolean.specs.declared.wanted.WantedFile.{WantedFile};
-ghost use Rattle.mesh_boolean.specs.declared.output.Output.{Output};
+ghost use Rattle.mesh_boolean.specs.declared.output.SolidFile.{SolidFile};
 ghost use Rattle.mesh_boolean.specs.Files.{AreReadings};
 ghost use Rattle.mesh_boolean.specs.Outputs.{IsOutput};
 ghost use Rattle.mesh_boolean.specs.Faults.{IsBooleanFault};
@@ -24,10 +24,10 @@ use mesh_scene::closed_surfaces_are_never_open;
 /// output cut up, before these are rounded, wind once where it is true of the files' triangles on
 /// the grid, and not at all elsewhere, and they are a closed surface.
 pub fn faces_of_outputs_have_the_meaning()
-    ensures means { (files : List MeshFile) (formula : Formula) (wanted : WantedFile) (out : Output) →
+    ensures means { (files : List MeshFile) (formula : Formula) (wanted : WantedFile) (out : SolidFile) →
         IsFalseOutside formula → (is : IsOutput files formula wanted out) →
         HaveMeaning (images_of out.grid is.surfaces) formula is.solid.of_document.tables_are.faces }
-    ensures closed { (files : List MeshFile) (formula : Formula) (wanted : WantedFile) (out : Output) →
+    ensures closed { (files : List MeshFile) (formula : Formula) (wanted : WantedFile) (out : SolidFile) →
         IsFalseOutside formula → (is : IsOutput files formula wanted out) →
         IsClosedSurface is.solid.of_document.tables_are.read.written }
 {}
@@ -37,10 +37,10 @@ pub fn faces_of_outputs_have_the_meaning()
 /// elsewhere. Around each point that is clear of the output's triangles alone, they wind once or not
 /// at all.
 pub fn triangles_of_outputs_have_the_meaning()
-    ensures means { (files : List MeshFile) (formula : Formula) (wanted : WantedFile) (out : Output) →
+    ensures means { (files : List MeshFile) (formula : Formula) (wanted : WantedFile) (out : SolidFile) →
         IsFalseOutside formula → (is : IsOutput files formula wanted out) →
         HaveMeaning (images_of out.grid is.surfaces) formula (faces_of_mesh is.mesh) }
-    ensures once { (files : List MeshFile) (formula : Formula) (wanted : WantedFile) (out : Output) →
+    ensures once { (files : List MeshFile) (formula : Formula) (wanted : WantedFile) (out : SolidFile) →
         IsFalseOutside formula → (is : IsOutput files formula wanted out) → WindOnceAtMost (faces_of_mesh is.mesh) }
 {}
 

@@ -25,7 +25,7 @@ pub use laws::{
     closed_files_are_never_open, faces_of_outputs_have_the_meaning,
     triangles_of_outputs_have_the_meaning,
 };
-pub use output::{Kept, Output};
+pub use output::{KeptDocument, SolidFile};
 pub use placing::placed_files;
 pub use solid::solid_file;
 pub use wanted::{FloatFormat, MeshFormat, WantedFile};

@@ -7,7 +7,7 @@ use mesh_scene::Counts;
 
 /// A solid as a file, with the grid and the numbers of the run that made it.
 #[derive(Drop)]
-pub struct Output {
+pub struct SolidFile {
     pub written: Written,
     /// The grid on which the mesh is exact.
     pub grid: Grid,
@@ -17,12 +17,12 @@ pub struct Output {
     pub moves: Vec<Length>,
     pub report: Report,
     /// What was computed from, and the exact result, if they were to be kept.
-    pub kept: Option<Kept>,
+    pub kept: Option<KeptDocument>,
 }
 
 /// The triangles of mesh files on their grid, and the document of the solid.
 #[derive(Drop)]
-pub struct Kept {
+pub struct KeptDocument {
     pub scene: Scene,
     pub document: Vec<u8>,
 }

@@ -8,7 +8,7 @@ use crate::fault::BooleanFault;
 use crate::files::{MeshFile, surfaces_in};
 use mesh_grid::Wanted;
 use mesh_outside::{Stage, Stages};
-use mesh_scene::{Placed, scene_of};
+use mesh_scene::{PlacedScene, scene_of};
 use std::alloc::Global;
 
 /// The scene of mesh files on the grid that is wanted for them: each file is a closed mesh, and the
@@ -24,7 +24,7 @@ pub fn placed_files<'a, P: Stages>(
     files: &[MeshFile<'a>],
     wanted: Wanted,
     stages: &P,
-) -> Result<Placed, BooleanFault<'a>>
+) -> Result<PlacedScene, BooleanFault<'a>>
     requires few { length files.now ≤ 64 }
     requires sizes { All IsSmall files.now }
     requires choice { IsChoice wanted }

@@ -11,7 +11,7 @@ ghost use Rattle.mesh_triangles.specs.PlaneQueries.{IsPlaneExecutor};
 
 use crate::fault::BooleanFault;
 use crate::files::MeshFile;
-use crate::output::{Kept, Output};
+use crate::output::{KeptDocument, SolidFile};
 use crate::placing::placed_files;
 use crate::wanted::WantedFile;
 use crate::writing::written_of;
@@ -24,11 +24,11 @@ use mesh_triangles::{PlaneAnswer, PlaneQuery, TrianglesFault};
 use std::alloc::Global;
 
 // The scene and the document of its solid, if that is there; otherwise the scene is dropped.
-fn kept_with(scene: Scene, document: Option<Vec<u8>>) -> Option<Kept>
+fn kept_with(scene: Scene, document: Option<Vec<u8>>) -> Option<KeptDocument>
     ensures { result ≡ option_map (λ document. record { scene = scene; document = document }) document }
 {
     match document {
-        Some(document) => Some(Kept { scene, document }),
+        Some(document) => Some(KeptDocument { scene, document }),
         None => None,
     }
 }
@@ -61,7 +61,7 @@ pub fn solid_file<
     stages: &P,
     executor: &C,
     plane_executor: &D,
-) -> Result<Output, BooleanFault<'a>>
+) -> Result<SolidFile, BooleanFault<'a>>
     requires few { length files.now ≤ 64 }
     requires sizes { All IsSmall files.now }
     requires choice { IsChoice wanted.grid }
@@ -87,7 +87,7 @@ pub fn solid_file<
     let kept = kept_with(placed.scene, document);
     stages.begin(Stage::Writing);
     let written = written_of(alloc, mesh, &placed.grid, wanted.format, wanted.shows)?;
-    Ok(Output {
+    Ok(SolidFile {
         written,
         grid: placed.grid,
         counts: placed.counts,

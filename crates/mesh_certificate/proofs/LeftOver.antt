@@ -9,7 +9,7 @@ use Rattle.ember_algebra.proofs.Sums.{occurrences-append}
 use Rattle.ember_balance.specs.Counts.{count}
 use Rattle.ember_balance.proofs.SortedSurplus.{count_permutation}
 use Rattle.mesh_certificate.specs.declared.certificate.segment.Segment.{Segment}
-use Rattle.mesh_certificate.specs.declared.certificate.unmatched.Ends.{Ends}
+use Rattle.mesh_certificate.specs.declared.certificate.unmatched.SegmentEnds.{SegmentEnds}
 use Rattle.mesh_certificate.specs.Certificate.Chains.{HaveSameBoundary}
 use Rattle.mesh_certificate.specs.Certificate.Keys.{start_key, end_key, segment_key, start_in, end_in, excess, excess_of}
 use Rattle.mesh_certificate.proofs.Keyed.{boundary_from_keys, keys_from_boundary}
@@ -29,10 +29,10 @@ excess_of-append n ks ls =
     (λ i. excess n (a i) (b i)) ∙ excess-append n (map start_in ks) (map end_in ks) (map start_in ls) (map end_in ls)
 
 -- ---- one segment more
-abbrev excess_at : ℕ → Ends → ℤ
+abbrev excess_at : ℕ → SegmentEnds → ℤ
 excess_at n e = excess n e.starts.items e.ends.items
 
-module _ (n k : ℕ) (d e : Ends) where
+module _ (n k : ℕ) (d e : SegmentEnds) where
   excess_pushed : e.starts.items ≡ d.starts.items ++ start_in k ∷ [] → e.ends.items ≡ d.ends.items ++ end_in k ∷ [] →
       excess_at n e ≡ excess_at n d +ℤ excess_of n (k ∷ [])
   excess_pushed a b =
@@ -54,7 +54,7 @@ module _ (n k : ℕ) (ks ls : List ℕ) (split : ks ≡ k ∷ ls) where
   excess_of-cons = ap (excess_of n) split ∙ excess_of-append n (k ∷ []) ls
 
   -- the first one goes to the starts and ends
-  pub first_pushed : (z : ℤ) (d e : Ends) → e.starts.items ≡ d.starts.items ++ start_in k ∷ [] →
+  pub first_pushed : (z : ℤ) (d e : SegmentEnds) → e.starts.items ≡ d.starts.items ++ start_in k ∷ [] →
       e.ends.items ≡ d.ends.items ++ end_in k ∷ [] → excess_at n d +ℤ excess_of n ks ≡ z →
       excess_at n e +ℤ excess_of n ls ≡ z
   first_pushed z d e a b h =
@@ -80,7 +80,7 @@ module _ (n : ℕ) (ks : List ℕ) (i : ℕ) (l : i < length ks) where
   excess_of-more = ap (excess_of n) (take_more ks i 0 l) ∙ excess_of-append n (take i ks) (k ∷ [])
 
   -- one of all those that are appended
-  pub next_pushed : (z : ℤ) (d e : Ends) → e.starts.items ≡ d.starts.items ++ start_in k ∷ [] →
+  pub next_pushed : (z : ℤ) (d e : SegmentEnds) → e.starts.items ≡ d.starts.items ++ start_in k ∷ [] →
       e.ends.items ≡ d.ends.items ++ end_in k ∷ [] → excess_at n d ≡ z +ℤ excess_of n (take i ks) →
       excess_at n e ≡ z +ℤ excess_of n (take (i + 1) ks)
   next_pushed z d e a b h =
@@ -91,7 +91,7 @@ module _ (n : ℕ) (ks : List ℕ) (i : ℕ) (l : i < length ks) where
       moved x y a c d e f g = omega (arith, linear, e, f, g)
 
   -- one of the second list is compared: from d and rest us by e and vs to g and ws
-  pub next_compared : (z : ℤ) (d e g : Ends) (us vs ws : List ℕ) →
+  pub next_compared : (z : ℤ) (d e g : SegmentEnds) (us vs ws : List ℕ) →
       excess_at n d +ℤ excess_of n us ≡ z -ℤ excess_of n (take i ks) →
       excess_at n e +ℤ excess_of n vs ≡ excess_at n d +ℤ excess_of n us →
       excess_at n g +ℤ excess_of n ws ≡ excess_at n e +ℤ excess_of n vs -ℤ excess_of n (k ∷ []) →

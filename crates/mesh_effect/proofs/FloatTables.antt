@@ -1,14 +1,14 @@
 -- The squares of corners with their points, one corner more at a time.
 use Rattle.std.proofs.Common.{◌≡◌, ◌≤◌, ◌<◌, ℕ, zero, suc, ◌+◌, List, [], ◌∷◌, ◌++◌, length, take, get_or, refl, sym, ap, ◌∙◌, arith}
 use Rattle.std.proofs.lemmas.List.{take_all}
-use Rattle.mesh_grid.specs.declared.snap.steps.Step.{Step}
+use Rattle.mesh_grid.specs.declared.snap.steps.GridStep.{GridStep}
 use Rattle.mesh_grid.specs.declared.snap.offsets.Offset.{Offset}
 use Rattle.mesh_write.specs.declared.stl.triangle.FloatPoint.{FloatPoint}
 use Rattle.mesh_certificate.specs.declared.certificate.space_point.SpacePoint.{SpacePoint}
 use Rattle.mesh_effect.specs.declared.rounding.tick.Tick.{Tick}
 use Rattle.mesh_effect.specs.Rounding.Squares.{float_square, float_squares}
 
-module _ (tick : Tick) (s : Step) (o : Offset) where
+module _ (tick : Tick) (s : GridStep) (o : Offset) where
   one_more : (cs : List SpacePoint) (ps : List FloatPoint) (i : ℕ) (c : SpacePoint) (p : FloatPoint) → i < length cs →
       i < length ps → float_squares tick s o (take (suc i) cs) (take (suc i) ps) ≡ float_squares tick s o (take i cs)
       (take i ps) ++ float_square tick s o (get_or cs i c) (get_or ps i p) ∷ []

@@ -12,7 +12,7 @@ use Rattle.ember_algebra.proofs.Order.{mul_le, mul_lt}
 use Rattle.ember_algebra.proofs.Ring.{◌⊕◌, ◌⊖◌, ◌⊗◌, ◌≈◌, num, solve, cancels}
 use Rattle.mesh_number.specs.Number.Fractions.{Fraction, is_below_limit, floor_of_multiple}
 use Rattle.mesh_number.specs.Number.Quotients.{quotient}
-use Rattle.mesh_grid.specs.declared.snap.steps.Step.{Step}
+use Rattle.mesh_grid.specs.declared.snap.steps.GridStep.{GridStep}
 use Rattle.mesh_grid.specs.Snap.Cells.{scaled_number, scaled_step, scaled_half, cell_of}
 use Rattle.mesh_grid.specs.Snap.Decimals.{negated}
 use Rattle.mesh_grid.proofs.Floors.{floor_low, floor_high, floor_is, floor_chain}
@@ -80,7 +80,7 @@ scaled_floor k a b p q =
     let f = solve 3 (λ k b y. k ⊗ (b ⊗ y ⊕ b) ≈ k ⊗ b ⊗ y ⊕ k ⊗ b) cancels (pos k) (pos b) y in
     floor_is (pos k *ℤ a) y (k * b) (mul-pos p q) (omega (arith, linear, low, e)) (omega (arith, linear, high, f))
 
-module _ (s : Step) (k : ℕ) (v : Fraction) (some : 0 < k) (p : 0 < v.denominator) (q : 0 < s.numerator) where
+module _ (s : GridStep) (k : ℕ) (v : Fraction) (some : 0 < k) (p : 0 < v.denominator) (q : 0 < s.numerator) where
   -- the cell of a multiple that is rounded down is that of the number
   cell_is : int_div_euclid (floor_of_multiple (2 * (s.denominator * k)) v +ℤ pos (s.numerator * k)) (pos (2 * (s.numerator * k))) ≡ cell_of s v
   cell_is =
@@ -176,12 +176,12 @@ greater_is_move d k z x y m p xl xh yl yh e =
     (omega (arith, enough, size), least)
 
 -- the number is at most m ticks from its cell, and m is the least such number
-record IsMove (s : Step) (k : ℕ) (v : Fraction) (m : ℕ) : Type 0 where
+record IsMove (s : GridStep) (k : ℕ) (v : Fraction) (m : ℕ) : Type 0 where
   enough : k * scaled_distance s v ≤ v.denominator * m
   least : v.denominator * m < k * scaled_distance s v + v.denominator
 
 -- the greater of the distances of both floors from the middle of the cell is the move
-move_is : (s : Step) (k : ℕ) (v : Fraction) (low high rest : ℤ) (m : ℕ) → 0 < k → 0 < v.denominator → 0 < s.numerator →
+move_is : (s : GridStep) (k : ℕ) (v : Fraction) (low high rest : ℤ) (m : ℕ) → 0 < k → 0 < v.denominator → 0 < s.numerator →
     low ≡ floor_of_multiple (2 * (s.denominator * k)) v → high ≡ ceiling_of_multiple (2 * (s.denominator * k)) v →
     rest ≡ int_rem_euclid (low +ℤ pos (s.numerator * k)) (pos (2 * (s.numerator * k))) →
     m ≡ max (unsigned_abs (high -ℤ (low +ℤ (pos (s.numerator * k) -ℤ rest))))
@@ -203,7 +203,7 @@ move_is s k v low high rest m some p q e f r is =
     record { enough = both.0; least = both.1 }
 
 -- there is only one such number
-ticks_are : (s : Step) (k : ℕ) (v : Fraction) (m : ℕ) → 0 < v.denominator → IsMove s k v m → m ≡ ticks_of s k v
+ticks_are : (s : GridStep) (k : ℕ) (v : Fraction) (m : ℕ) → 0 < v.denominator → IsMove s k v m → m ≡ ticks_of s k v
 ticks_are s k v m p move =
     let d = v.denominator in
     let low : m * d ≤ k * scaled_distance s v + (d - 1) = omega (arith, move.least, p) in
@@ -211,14 +211,14 @@ ticks_are s k v m p move =
     sym (div-eq_of_lt-le {k = m} d {m = k * scaled_distance s v + (d - 1)} low high)
 
 -- ---- how far at most
-distance_is_most : (s : Step) (v : Fraction) → 0 < v.denominator → 0 < s.numerator → scaled_distance s v ≤ v.denominator * s.numerator
+distance_is_most : (s : GridStep) (v : Fraction) → 0 < v.denominator → 0 < s.numerator → scaled_distance s v ≤ v.denominator * s.numerator
 distance_is_most s v p q =
     let near = cell_nearest s v p q in
     size_is_most (scaled_number s v -ℤ scaled_step s v *ℤ cell_of s v) (v.denominator * s.numerator)
     (omega (arith, linear, near.below)) (omega (arith, linear, near.above))
 
 -- a move is at most half a step
-move_is_most : (s : Step) (k : ℕ) (v : Fraction) (m : ℕ) → 0 < v.denominator → 0 < s.numerator → IsMove s k v m → m ≤ s.numerator * k
+move_is_most : (s : GridStep) (k : ℕ) (v : Fraction) (m : ℕ) → 0 < v.denominator → 0 < s.numerator → IsMove s k v m → m ≤ s.numerator * k
 move_is_most s k v m p q move =
     let d = v.denominator in
     let most : k * scaled_distance s v ≤ k * (d * s.numerator) = mul-le-mul_left k (distance_is_most s v p q) in
@@ -228,7 +228,7 @@ move_is_most s k v m p q move =
     omega (arith, next)
 
 -- the greater of the distances of both floors from the middle of the cell, in ticks
-pub distance_is_ticks : (s : Step) (k : ℕ) (v : Fraction) (low high rest : ℤ) (m : ℕ) → 0 < k → 0 < v.denominator →
+pub distance_is_ticks : (s : GridStep) (k : ℕ) (v : Fraction) (low high rest : ℤ) (m : ℕ) → 0 < k → 0 < v.denominator →
     0 < s.numerator → low ≡ floor_of_multiple (2 * (s.denominator * k)) v →
     high ≡ ceiling_of_multiple (2 * (s.denominator * k)) v →
     rest ≡ int_rem_euclid (low +ℤ pos (s.numerator * k)) (pos (2 * (s.numerator * k))) →
@@ -239,5 +239,5 @@ distance_is_ticks s k v low high rest m some p q e f r is =
     (ticks_are s k v m p move, move_is_most s k v m p q move)
 
 -- ticks aren't below the distance
-pub ticks_not_below : (s : Step) (k : ℕ) (v : Fraction) → 0 < v.denominator → k * scaled_distance s v ≤ v.denominator * ticks_of s k v
+pub ticks_not_below : (s : GridStep) (k : ℕ) (v : Fraction) → 0 < v.denominator → k * scaled_distance s v ≤ v.denominator * ticks_of s k v
 ticks_not_below s k v p = above_quotient (k * scaled_distance s v) v.denominator p

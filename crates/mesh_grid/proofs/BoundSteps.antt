@@ -6,14 +6,14 @@ use Rattle.std.specs.Int.RustNames.{unsigned_abs}
 use Rattle.std.proofs.lemmas.List.{take_all}
 use Rattle.std.proofs.lemmas.List.Elements.{All-more}
 use Rattle.mesh_number.specs.declared.number.values.Number.{Number}
-use Rattle.mesh_grid.specs.declared.snap.steps.Step.{Step}
+use Rattle.mesh_grid.specs.declared.snap.steps.GridStep.{GridStep}
 use Rattle.mesh_grid.specs.Snap.Cells.{cell_at, IsBetween}
 use Rattle.mesh_grid.proofs.SpanSteps.{cell_is_met}
 use Rattle.mesh_grid.specs.declared.grid.lengths.Bounds.{Bounds}
 use Rattle.mesh_grid.specs.Grid.Lengths.{AreBounds, AreWidened, greater_of}
 
 -- the bounds of the first i cells, each of them small
-pub record BoundFirst (s : Step) (xs : List Number) (i : ℕ) (b : Bounds) : Type 0 where
+pub record BoundFirst (s : GridStep) (xs : List Number) (i : ℕ) (b : Bounds) : Type 0 where
   pub within : All (λ x. IsBetween b.least (cell_at s x) b.greatest) (take i xs)
   pub least_met : Any (λ x. cell_at s x ≡ b.least) xs
   pub greatest_met : Any (λ x. cell_at s x ≡ b.greatest) xs
@@ -22,7 +22,7 @@ pub record BoundFirst (s : Step) (xs : List Number) (i : ℕ) (b : Bounds) : Typ
   pub greatest_small : unsigned_abs b.greatest < 2 ^ 107
 
 -- one number alone
-pub bound_none : (s : Step) (xs : List Number) (x : Number) (z : ℤ) → 0 < length xs → x ≡ get_or xs 0 x →
+pub bound_none : (s : GridStep) (xs : List Number) (x : Number) (z : ℤ) → 0 < length xs → x ≡ get_or xs 0 x →
     z ≡ cell_at s x → unsigned_abs z < 2 ^ 107 → BoundFirst s xs 0 (record { least = z; greatest = z })
 bound_none s xs x z less e f small = record {
   within = λ k d h. absurd (omega arith);
@@ -33,7 +33,7 @@ bound_none s xs x z less e f small = record {
   greatest_small = small;
 }
 
-met_widened : (s : Step) (xs : List Number) (old new z : ℤ) → Any (λ y. cell_at s y ≡ old) xs →
+met_widened : (s : GridStep) (xs : List Number) (old new z : ℤ) → Any (λ y. cell_at s y ≡ old) xs →
     Any (λ y. cell_at s y ≡ z) xs → (new ≡ old) ⊎ (new ≡ z) → Any (λ y. cell_at s y ≡ new) xs
 met_widened s xs old new z a b c =
     ⊎_elim (λ e. (a.0, a.1, a.2, a.3, a.4 ∙ sym e)) (λ e. (b.0, b.1, b.2, b.3, b.4 ∙ sym e)) c
@@ -42,7 +42,7 @@ small_widened : (old new z : ℤ) → unsigned_abs old < 2 ^ 107 → unsigned_ab
 small_widened old new z a b c = ⊎_elim (λ e. rw e a) (λ e. rw e b) c
 
 -- one number more
-pub bound_more : (s : Step) (xs : List Number) (i : ℕ) (old new : Bounds) (x : Number) (z : ℤ) → BoundFirst s xs i old →
+pub bound_more : (s : GridStep) (xs : List Number) (i : ℕ) (old new : Bounds) (x : Number) (z : ℤ) → BoundFirst s xs i old →
     AreWidened old z new → i < length xs → x ≡ get_or xs i x → z ≡ cell_at s x → unsigned_abs z < 2 ^ 107 →
     BoundFirst s xs (i + 1) new
 bound_more s xs i old new x z bound wide less e f small =
@@ -65,7 +65,7 @@ bound_more s xs i old new x z bound wide less e f small =
     }
 
 -- all numbers
-pub bound_all : (s : Step) (xs : List Number) (i : ℕ) (b : Bounds) → BoundFirst s xs i b → length xs ≤ i → AreBounds s xs b
+pub bound_all : (s : GridStep) (xs : List Number) (i : ℕ) (b : Bounds) → BoundFirst s xs i b → length xs ≤ i → AreBounds s xs b
 bound_all s xs i b bound h = record {
   within = rw (take_all i xs h) at bound.within;
   least_met = bound.least_met;

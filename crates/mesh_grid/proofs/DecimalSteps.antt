@@ -15,7 +15,7 @@ use lib.IntN.{*ℤ_comm}
 use Rattle.std.proofs.Math.IntN.{neg_ℤ-neg_ℤ}
 use Rattle.mesh_number.specs.Number.Fractions.{Fraction, is_below_limit, floor_times, floor_of_multiple}
 use Rattle.mesh_number.proofs.DigitNumbers.{pow_ten_pos}
-use Rattle.mesh_grid.specs.declared.snap.steps.Step.{Step}
+use Rattle.mesh_grid.specs.declared.snap.steps.GridStep.{GridStep}
 use Rattle.mesh_grid.specs.Snap.Steps.{IsStep}
 use Rattle.mesh_grid.specs.Snap.Decimals.{IsReduced, IsDecimalStep, IsStepOfTrillionths}
 use Rattle.mesh_grid.proofs.Floors.{floor_low, floor_is}
@@ -71,7 +71,7 @@ same_over_powers m n t p k h a e =
     eq_of_mul-eq-mul_left (10 ^ (12 - p)) (pow_ten_pos (12 - p)) (n * 10 ^ p) (m * 10 ^ k) (left ∙ e ∙ right)
 
 -- no other step has a smaller numerator than the number without zeros at its end
-pub reduced_least : (m t p : ℕ) (other : Step) → p ≤ 12 → m * 10 ^ (12 - p) ≡ t → IsReduced m p → IsStepOfTrillionths t other → m ≤ other.numerator
+pub reduced_least : (m t p : ℕ) (other : GridStep) → p ≤ 12 → m * 10 ^ (12 - p) ≡ t → IsReduced m p → IsStepOfTrillionths t other → m ≤ other.numerator
 reduced_least m t p other h a r o =
     let e : other.numerator * 10 ^ 12 ≡ t * 10 ^ o.step.places = o.same ∙ ap (λ (x : ℕ). t * x) o.step.denominator in
     reduced_least_of m other.numerator p o.step.places r (same_over_powers m other.numerator t p o.step.places h a e)
@@ -126,7 +126,7 @@ step_from_trillionths (pos a) f d t over under p e h =
 step_from_trillionths (negsuc a) f d t over under p e h = absurd (omega (arith, ints, e, p))
 
 -- a decimal step is a whole number of trillionths
-pub step_has_trillionths : (n : ℤ) (d : ℕ) (s : Step) → (r : IsDecimalStep s) →
+pub step_has_trillionths : (n : ℤ) (d : ℕ) (s : GridStep) → (r : IsDecimalStep s) →
     (n *ℤ pos s.denominator) ≡ pos (s.numerator * d) →
     (pos (10 ^ 12) *ℤ n) ≡ (pos (s.numerator * 10 ^ (12 - r.places)) *ℤ pos d)
 step_has_trillionths (pos a) d s r h =
@@ -140,7 +140,7 @@ step_has_trillionths (pos a) d s r h =
 step_has_trillionths (negsuc a) d s r h = absurd (omega (arith, ints, h, r.step.denominator_positive))
 
 -- a step's value is below the limit
-pub step_below_limit : (v : Fraction) (s : Step) → IsStep s → 0 < v.denominator →
+pub step_below_limit : (v : Fraction) (s : GridStep) → IsStep s → 0 < v.denominator →
     (v.numerator *ℤ pos s.denominator) ≡ pos (s.numerator * v.denominator) → is_below_limit v ≡ true
 step_below_limit v s r p h = by v.numerator h
   where

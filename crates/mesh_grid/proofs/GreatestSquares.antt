@@ -4,7 +4,7 @@ use Rattle.std.specs.List.{All}
 use Rattle.std.proofs.lemmas.List.{drop_all}
 use Rattle.std.proofs.lemmas.List.Elements.{All-nil, All-cons, All-weaker}
 use Rattle.std.proofs.Math.Nat.{le-max_left, le-max_right, max-le, max-zero, zero-max}
-use Rattle.mesh_grid.specs.declared.snap.steps.Step.{Step}
+use Rattle.mesh_grid.specs.declared.snap.steps.GridStep.{GridStep}
 use Rattle.mesh_read.specs.declared.surface.surface.Vertex.{Vertex}
 use Rattle.mesh_read.specs.declared.surface.surface.Facet.{Facet}
 use Rattle.mesh_grid.specs.Moves.Greatest.{facet_square, greatest_square}
@@ -25,7 +25,7 @@ max_moves m n r =
     let high : all ≤ each = max-le m_each (max-le n_each r_each) in
     omega (arith, low, high)
 
-module _ (s : Step) (fineness : ℕ) (vertices : List Vertex) where
+module _ (s : GridStep) (fineness : ℕ) (vertices : List Vertex) where
   pub greatest_none : (fs : List Facet) → max 0 (greatest_square s fineness vertices fs) ≡ greatest_square s fineness vertices fs
   greatest_none fs = zero-max (greatest_square s fineness vertices fs)
 

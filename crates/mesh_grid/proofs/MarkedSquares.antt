@@ -6,7 +6,7 @@ use Rattle.std.proofs.lemmas.Bool.{cases_eq, cases_lt, true≢false}
 use Rattle.std.proofs.lemmas.List.Elements.{All-nil, All-cons, All-head, All-tail, All-weaker}
 use Rattle.std.proofs.lemmas.Option.{slice_get-get_or, slice_get_past}
 use Rattle.std.proofs.Math.Nat.{le-max_left, le-max_right, max-le}
-use Rattle.mesh_grid.specs.declared.snap.steps.Step.{Step}
+use Rattle.mesh_grid.specs.declared.snap.steps.GridStep.{GridStep}
 use Rattle.mesh_read.specs.declared.surface.surface.Vertex.{Vertex}
 use Rattle.mesh_read.specs.declared.surface.surface.Facet.{Facet}
 use Rattle.mesh_read.specs.declared.surface.surface.Surface.{Surface}
@@ -16,7 +16,7 @@ use Rattle.mesh_grid.proofs.CornerMarks.{three_corners, marks_hold}
 use Rattle.mesh_grid.specs.Moves.Greatest.{square_of, square_from, square_at, facet_square, greatest_square}
 use Rattle.mesh_grid.proofs.GreatestSquares.{none_is_greater}
 
-module _ (s : Step) (fineness : ℕ) (vertices : List Vertex) where
+module _ (s : GridStep) (fineness : ℕ) (vertices : List Vertex) where
   -- no corner of a triangle has a square above the triangle's
   corners_below : (f : Facet) → HasThreeCorners f → All (λ corner. square_at s fineness vertices corner ≤ facet_square s fineness vertices f) f.corners
   corners_below f three =
@@ -59,16 +59,16 @@ module _ (s : Step) (fineness : ℕ) (vertices : List Vertex) where
       (All-tail (λ g. All (λ corner. square_at s fineness vertices corner ≤ most) g.corners) f fs h))
 
 -- the greatest of the first i vertices that have a mark
-pub record IsFirstGreatest (s : Step) (fineness : ℕ) (surface : Surface) (marks : List Bool) (i greatest : ℕ) : Type 0 where
+pub record IsFirstGreatest (s : GridStep) (fineness : ℕ) (surface : Surface) (marks : List Bool) (i greatest : ℕ) : Type 0 where
   pub above : (k : ℕ) → k < i → get_or marks k false ≡ true → square_at s fineness surface.vertices.items k ≤ greatest
   pub below : greatest ≤ greatest_square s fineness surface.vertices.items surface.facets.items
 
-pub first_none : (s : Step) (fineness : ℕ) (surface : Surface) (marks : List Bool) → IsFirstGreatest s fineness surface marks 0 0
+pub first_none : (s : GridStep) (fineness : ℕ) (surface : Surface) (marks : List Bool) → IsFirstGreatest s fineness surface marks 0 0
 first_none s fineness surface marks =
     record { above = λ k l e. absurd (omega (arith, l)); below = omega arith }
 
 -- one vertex more
-pub first_more : (s : Step) (fineness : ℕ) (surface : Surface) (marks : List Bool) (i old new : ℕ) (v : Vertex) →
+pub first_more : (s : GridStep) (fineness : ℕ) (surface : Surface) (marks : List Bool) (i old new : ℕ) (v : Vertex) →
     AreMarksOf surface marks → All HasThreeCorners surface.facets.items → i < length surface.vertices.items →
     v ≡ get_or surface.vertices.items i v → new ≡ cond (get_or marks i false) (max old (square_of s fineness v)) old →
     IsFirstGreatest s fineness surface marks i old → IsFirstGreatest s fineness surface marks (i + 1) new
@@ -105,7 +105,7 @@ first_more s fineness surface marks i old new v m three less is e h = by (get_or
     }
 
 -- all vertices
-pub first_all : (s : Step) (fineness : ℕ) (surface : Surface) (marks : List Bool) (i greatest : ℕ) →
+pub first_all : (s : GridStep) (fineness : ℕ) (surface : Surface) (marks : List Bool) (i greatest : ℕ) →
     AreMarksOf surface marks → All HasThreeCorners surface.facets.items → length surface.vertices.items ≤ i →
     IsFirstGreatest s fineness surface marks i greatest →
     greatest ≡ greatest_square s fineness surface.vertices.items surface.facets.items

@@ -3,12 +3,12 @@ use Rattle.std.proofs.Common.{◌≡◌, ◌<◌, ◌+◌, ◌*◌, arith, ◌+�
 use borrow.Author.Differences.{ints}
 use Rattle.ember_algebra.proofs.Laws.{linear}
 use Rattle.mesh_number.specs.Number.Fractions.{Fraction}
-use Rattle.mesh_grid.specs.declared.snap.steps.Step.{Step}
+use Rattle.mesh_grid.specs.declared.snap.steps.GridStep.{GridStep}
 use Rattle.mesh_grid.specs.Snap.Cells.{scaled_number, scaled_step, scaled_half, cell_of, IsNearest}
 use Rattle.mesh_grid.proofs.Floors.{floor_low, floor_high}
 
 -- the cell of a number is a nearest one
-pub cell_nearest : (s : Step) (v : Fraction) → 0 < v.denominator → 0 < s.numerator → IsNearest s v (cell_of s v)
+pub cell_nearest : (s : GridStep) (v : Fraction) → 0 < v.denominator → 0 < s.numerator → IsNearest s v (cell_of s v)
 cell_nearest s v p q =
     let under : 0 < v.denominator * (2 * s.numerator) = mul-pos p (omega arith) in
     let low = floor_low (scaled_number s v +ℤ scaled_half s v) (v.denominator * (2 * s.numerator)) under in

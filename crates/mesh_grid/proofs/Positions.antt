@@ -11,7 +11,7 @@ use Rattle.ember_algebra.proofs.Ring.{◌⊕◌, ◌⊗◌, ◌≈◌, solve, ca
 use Rattle.mesh_number.specs.Number.Fractions.{Fraction}
 use Rattle.mesh_number.specs.Number.Values.{value_of}
 use Rattle.mesh_number.proofs.Denominators.{denominator_pos}
-use Rattle.mesh_grid.specs.declared.snap.steps.Step.{Step}
+use Rattle.mesh_grid.specs.declared.snap.steps.GridStep.{GridStep}
 use Rattle.mesh_grid.specs.Snap.Steps.{IsStep}
 use Rattle.mesh_grid.specs.Snap.Cells.{scaled_number, scaled_half, cell_of, cell_at}
 use Rattle.mesh_grid.proofs.Floors.{floor_chain, floor_is}
@@ -37,7 +37,7 @@ floor_scaled a k d p q =
     ∙ ap (λ (z : ℤ). int_div_euclid (z +ℤ pos 0) (pos d)) inner ∙ ap (λ (z : ℤ). int_div_euclid z (pos d)) more
 
 -- equal numbers have one cell
-same_cell : (s : Step) (v w : Fraction) → 0 < s.numerator → 0 < v.denominator → 0 < w.denominator → is_same_number v w ≡ true → cell_of s v ≡ cell_of s w
+same_cell : (s : GridStep) (v w : Fraction) → 0 < s.numerator → 0 < v.denominator → 0 < w.denominator → is_same_number v w ≡ true → cell_of s v ≡ cell_of s w
 same_cell s v w n p q h =
     let zero = zero_out (v.numerator *ℤ pos w.denominator -ℤ w.numerator *ℤ pos v.denominator) h in
     let cross : v.numerator *ℤ pos w.denominator ≡ w.numerator *ℤ pos v.denominator = omega (arith, linear, zero) in

@@ -6,7 +6,7 @@ use Rattle.std.proofs.lemmas.List.Elements.{All-contains_itself, Contains-append
 use Rattle.mesh_number.specs.declared.number.values.Number.{Number}
 use Rattle.mesh_number.specs.Number.Fractions.{is_below_limit}
 use Rattle.mesh_number.specs.Number.Values.{value_of}
-use Rattle.mesh_grid.specs.declared.snap.steps.Step.{Step}
+use Rattle.mesh_grid.specs.declared.snap.steps.GridStep.{GridStep}
 use Rattle.mesh_grid.specs.declared.snap.spans.Coordinates.{Coordinates}
 use Rattle.mesh_grid.specs.declared.snap.offsets.Offset.{Offset}
 use Rattle.mesh_grid.specs.Snap.Steps.{nice_of, fine_of}
@@ -15,7 +15,7 @@ use Rattle.mesh_grid.specs.Snap.Spans.{Fits, FitsAll, AreNumbers, AreCoordinates
 use Rattle.mesh_grid.specs.Snap.Offsets.{IsOffset, LandsAlong, LandsOnGrid}
 use Rattle.mesh_grid.specs.declared.grid.choice.Wanted.{Wanted}
 use Rattle.mesh_grid.specs.declared.grid.choice.Wanted.TheVariants.{Nice, Finest, Given}
-use Rattle.mesh_grid.specs.declared.grid.extent.Extent.{Extent}
+use Rattle.mesh_grid.specs.declared.grid.extent.SceneExtent.{SceneExtent}
 use Rattle.mesh_grid.specs.Grid.Lengths.{IsLength, IsLengthAlong, trillionth}
 use Rattle.mesh_grid.specs.Grid.Grids.{IsWantedStep, IsExtent, IsTooSmall}
 use Rattle.mesh_grid.specs.Grid.Lists.{HaveSameEntries}
@@ -81,17 +81,17 @@ same_coordinates c d s h = record {
   z = same_numbers d.z.now c.z.now (same_turned _ _ s.z) h.z;
 }
 
-same_fits_along : (s : Step) (xs ys : List Number) → HaveSameEntries xs ys → Fits s xs → Fits s ys
+same_fits_along : (s : GridStep) (xs ys : List Number) → HaveSameEntries xs ys → Fits s xs → Fits s ys
 same_fits_along s xs ys e h = (h.0, same_all (λ x. IsBetween h.0 (cell_at s x) (h.0 +ℤ pos 4094)) xs ys e h.1)
 
-same_fits : (s : Step) (c d : Coordinates) → AreSameCoordinates c d → FitsAll s c → FitsAll s d
+same_fits : (s : GridStep) (c d : Coordinates) → AreSameCoordinates c d → FitsAll s c → FitsAll s d
 same_fits s c d e h = record {
   x = same_fits_along s c.x.now d.x.now e.x h.x;
   y = same_fits_along s c.y.now d.y.now e.y h.y;
   z = same_fits_along s c.z.now d.z.now e.z h.z;
 }
 
-same_least : (steps : ℕ → Step) (c d : Coordinates) (s : Step) → AreSameCoordinates c d → IsLeast steps c s → IsLeast steps d s
+same_least : (steps : ℕ → GridStep) (c d : Coordinates) (s : GridStep) → AreSameCoordinates c d → IsLeast steps c s → IsLeast steps d s
 same_least steps c d s e h = record {
   rank = h.rank;
   step = h.step;
@@ -99,19 +99,19 @@ same_least steps c d s e h = record {
   least = λ lower less fits. h.least lower less (same_fits (steps lower) d c (turned c d e) fits);
 }
 
-pub same_wanted : (wanted : Wanted) (c d : Coordinates) (s : Step) → AreSameCoordinates c d → IsWantedStep wanted c s → IsWantedStep wanted d s
+pub same_wanted : (wanted : Wanted) (c d : Coordinates) (s : GridStep) → AreSameCoordinates c d → IsWantedStep wanted c s → IsWantedStep wanted d s
 same_wanted Nice c d s e h = same_least nice_of c d s e h
 same_wanted Finest c d s e h = same_least fine_of c d s e h
 same_wanted (Given given) c d s e h = h
 
-same_within : (s : Step) (xs ys : List Number) (least greatest : ℤ) → HaveSameEntries xs ys →
+same_within : (s : GridStep) (xs ys : List Number) (least greatest : ℤ) → HaveSameEntries xs ys →
     All (λ x. IsBetween least (cell_at s x) greatest) xs → All (λ x. IsBetween least (cell_at s x) greatest) ys
 same_within s xs ys least greatest = same_all (λ x. IsBetween least (cell_at s x) greatest) xs ys
 
-same_met : (s : Step) (xs ys : List Number) (z : ℤ) → HaveSameEntries xs ys → Any (λ x. cell_at s x ≡ z) xs → Any (λ x. cell_at s x ≡ z) ys
+same_met : (s : GridStep) (xs ys : List Number) (z : ℤ) → HaveSameEntries xs ys → Any (λ x. cell_at s x ≡ z) xs → Any (λ x. cell_at s x ≡ z) ys
 same_met s xs ys z = same_any (λ x. cell_at s x ≡ z) xs ys
 
-same_spans : (s : Step) (c d : Coordinates) (o : Offset) → AreSameCoordinates c d → (h : IsOffset s c o) → AreSpans s d h.spans
+same_spans : (s : GridStep) (c d : Coordinates) (o : Offset) → AreSameCoordinates c d → (h : IsOffset s c o) → AreSpans s d h.spans
 same_spans s c d o e h = record {
   x = record {
     within = same_within s c.x.now d.x.now h.spans.x.least h.spans.x.greatest e.x h.least_and_greatest.x.within;
@@ -133,17 +133,17 @@ same_spans s c d o e h = record {
   };
 }
 
-pub same_offset : (s : Step) (c d : Coordinates) (o : Offset) → AreSameCoordinates c d → IsOffset s c o → IsOffset s d o
+pub same_offset : (s : GridStep) (c d : Coordinates) (o : Offset) → AreSameCoordinates c d → IsOffset s c o → IsOffset s d o
 same_offset s c d o e h = record {
   spans = h.spans;
   least_and_greatest = same_spans s c d o e h;
   offset = h.offset;
 }
 
-same_along : (s : Step) (xs ys : List Number) (o : ℤ) → HaveSameEntries xs ys → LandsAlong s xs o → LandsAlong s ys o
+same_along : (s : GridStep) (xs ys : List Number) (o : ℤ) → HaveSameEntries xs ys → LandsAlong s xs o → LandsAlong s ys o
 same_along s xs ys o = same_all (λ x. IsBetween (negsuc 2046) (cell_at s x -ℤ o) (pos 2047)) xs ys
 
-pub same_landing : (s : Step) (c d : Coordinates) (o : Offset) → AreSameCoordinates c d → LandsOnGrid s c o → LandsOnGrid s d o
+pub same_landing : (s : GridStep) (c d : Coordinates) (o : Offset) → AreSameCoordinates c d → LandsOnGrid s c o → LandsOnGrid s d o
 same_landing s c d o e h = record {
   x = same_along s c.x.now d.x.now o.x e.x h.x;
   y = same_along s c.y.now d.y.now o.y e.y h.y;
@@ -172,13 +172,13 @@ same_length c d n e h = record {
   greatest = h.greatest;
 }
 
-same_extent : (c d : Coordinates) (t : Extent) → AreSameCoordinates c d → IsExtent c t → IsExtent d t
+same_extent : (c d : Coordinates) (t : SceneExtent) → AreSameCoordinates c d → IsExtent c t → IsExtent d t
 same_extent c d t e h = record {
   is_length = same_length c d t.trillionths e h.is_length;
   least = same_least fine_of c d t.finest e h.least;
 }
 
-pub same_too_small : (c d : Coordinates) (wanted : Wanted) (t : Extent) → AreSameCoordinates c d → IsTooSmall c wanted t → IsTooSmall d wanted t
+pub same_too_small : (c d : Coordinates) (wanted : Wanted) (t : SceneExtent) → AreSameCoordinates c d → IsTooSmall c wanted t → IsTooSmall d wanted t
 same_too_small c d wanted t e h = record {
   given = h.given;
   is_given = h.is_given;

@@ -1,4 +1,4 @@
--- Spans of cells: what they say, and one number more.
+-- CellRanges of cells: what they say, and one number more.
 use Rattle.std.proofs.Common.{◌≡◌, ◌≤◌, ◌<◌, ◌⊎◌, ⊎_elim, Bool, true, false, ℕ, ◌+◌, ◌^◌, List, length, take, get_or}
 use Rattle.std.proofs.Common.{◌∙◌, sym, arith, ℤ, pos, ◌+ℤ◌, ◌-ℤ◌, ◌<ℤ◌, ◌≤ℤ◌}
 use borrow.Author.Differences.{ints}
@@ -7,15 +7,15 @@ use Rattle.std.specs.Int.RustNames.{unsigned_abs}
 use Rattle.std.proofs.lemmas.List.{take_all}
 use Rattle.std.proofs.lemmas.List.Elements.{All-more}
 use Rattle.mesh_number.specs.declared.number.values.Number.{Number}
-use Rattle.mesh_grid.specs.declared.snap.steps.Step.{Step}
-use Rattle.mesh_grid.specs.declared.snap.spans.Span.{Span}
+use Rattle.mesh_grid.specs.declared.snap.steps.GridStep.{GridStep}
+use Rattle.mesh_grid.specs.declared.snap.spans.CellRange.{CellRange}
 use Rattle.mesh_grid.specs.Snap.Cells.{cell_at, IsBetween}
-use Rattle.mesh_grid.specs.declared.snap.spans.Spans.{Spans}
+use Rattle.mesh_grid.specs.declared.snap.spans.CellRanges.{CellRanges}
 use Rattle.mesh_grid.specs.declared.snap.spans.Coordinates.{Coordinates}
 use Rattle.mesh_grid.specs.Snap.Spans.{Fits, FitsAll, IsSpan, AreSpans, IsWidened}
 
 -- cells with a span fit on a grid
-span_fits : (s : Step) (xs : List Number) (span : Span) → IsSpan s xs span → Fits s xs
+span_fits : (s : GridStep) (xs : List Number) (span : CellRange) → IsSpan s xs span → Fits s xs
 span_fits s xs span h = (
   span.least,
   λ k d less. let within = h.within k d less in
@@ -23,13 +23,13 @@ span_fits s xs span h = (
 )
 
 -- what holds of all cells holds of one
-pub at_one : (s : Step) (xs : List Number) (z low high : ℤ) → All (λ x. IsBetween low (cell_at s x) high) xs →
+pub at_one : (s : GridStep) (xs : List Number) (z low high : ℤ) → All (λ x. IsBetween low (cell_at s x) high) xs →
     Any (λ x. cell_at s x ≡ z) xs → IsBetween low z high
 at_one s xs z low high all any =
     let at : IsBetween low (cell_at s (get_or xs any.0 any.1)) high = all any.0 any.1 any.2 in rw (any.3, any.4) at at
 
 -- two cells that are too far apart don't fit
-pub too_wide : (s : Step) (xs : List Number) (low high : ℤ) → Any (λ x. cell_at s x ≡ low) xs →
+pub too_wide : (s : GridStep) (xs : List Number) (low high : ℤ) → Any (λ x. cell_at s x ≡ low) xs →
     Any (λ x. cell_at s x ≡ high) xs → pos 4094 <ℤ (high -ℤ low) → Fits s xs → ⊥
 too_wide s xs low high first last wide fits =
     let a = at_one s xs low fits.0 (fits.0 +ℤ pos 4094) fits.1 first in
@@ -37,7 +37,7 @@ too_wide s xs low high first last wide fits =
     omega (arith, ints, a.low_enough, b.high_enough)
 
 -- the span of the first i cells, each of them small
-pub record Covers (s : Step) (xs : List Number) (i : ℕ) (span : Span) : Type 0 where
+pub record Covers (s : GridStep) (xs : List Number) (i : ℕ) (span : CellRange) : Type 0 where
   pub within : All (λ x. IsBetween span.least (cell_at s x) span.greatest) (take i xs)
   pub least_met : Any (λ x. cell_at s x ≡ span.least) xs
   pub greatest_met : Any (λ x. cell_at s x ≡ span.greatest) xs
@@ -47,12 +47,12 @@ pub record Covers (s : Step) (xs : List Number) (i : ℕ) (span : Span) : Type 0
   pub greatest_small : unsigned_abs span.greatest < 2 ^ 107
 
 -- the cell of one number
-pub cell_is_met : (s : Step) (xs : List Number) (i : ℕ) (x : Number) (z : ℤ) → i < length xs → x ≡ get_or xs i x →
+pub cell_is_met : (s : GridStep) (xs : List Number) (i : ℕ) (x : Number) (z : ℤ) → i < length xs → x ≡ get_or xs i x →
     z ≡ cell_at s x → Any (λ y. cell_at s y ≡ z) xs
 cell_is_met s xs i x z less e f = (i, x, less, sym e, sym f)
 
 -- one number alone
-pub covers_none : (s : Step) (xs : List Number) (x : Number) (z : ℤ) → 0 < length xs → x ≡ get_or xs 0 x →
+pub covers_none : (s : GridStep) (xs : List Number) (x : Number) (z : ℤ) → 0 < length xs → x ≡ get_or xs 0 x →
     z ≡ cell_at s x → unsigned_abs z < 2 ^ 107 → Covers s xs 0 (record { least = z; greatest = z })
 covers_none s xs x z less e f small = record {
   within = λ k d h. absurd (omega arith);
@@ -64,7 +64,7 @@ covers_none s xs x z less e f small = record {
   greatest_small = small;
 }
 
-met_widened : (s : Step) (xs : List Number) (old new z : ℤ) → Any (λ y. cell_at s y ≡ old) xs →
+met_widened : (s : GridStep) (xs : List Number) (old new z : ℤ) → Any (λ y. cell_at s y ≡ old) xs →
     Any (λ y. cell_at s y ≡ z) xs → (new ≡ old) ⊎ (new ≡ z) → Any (λ y. cell_at s y ≡ new) xs
 met_widened s xs old new z a b c =
     ⊎_elim (λ e. (a.0, a.1, a.2, a.3, a.4 ∙ sym e)) (λ e. (b.0, b.1, b.2, b.3, b.4 ∙ sym e)) c
@@ -73,7 +73,7 @@ small_widened : (old new z : ℤ) → unsigned_abs old < 2 ^ 107 → unsigned_ab
 small_widened old new z a b c = ⊎_elim (λ e. rw e a) (λ e. rw e b) c
 
 -- what a cell more makes of a span is small
-pub widened_small : (s : Step) (xs : List Number) (i : ℕ) (old new : Span) (z : ℤ) → Covers s xs i old →
+pub widened_small : (s : GridStep) (xs : List Number) (i : ℕ) (old new : CellRange) (z : ℤ) → Covers s xs i old →
     IsWidened old z new → unsigned_abs z < 2 ^ 107 →
     (unsigned_abs new.least < 2 ^ 107) × (unsigned_abs new.greatest < 2 ^ 107)
 widened_small s xs i old new z covers wide small = (
@@ -82,7 +82,7 @@ widened_small s xs i old new z covers wide small = (
 )
 
 -- and it is cell_is_met
-pub widened_met : (s : Step) (xs : List Number) (i : ℕ) (old new : Span) (x : Number) (z : ℤ) → Covers s xs i old →
+pub widened_met : (s : GridStep) (xs : List Number) (i : ℕ) (old new : CellRange) (x : Number) (z : ℤ) → Covers s xs i old →
     IsWidened old z new → i < length xs → x ≡ get_or xs i x → z ≡ cell_at s x →
     Any (λ y. cell_at s y ≡ new.least) xs × Any (λ y. cell_at s y ≡ new.greatest) xs
 widened_met s xs i old new x z covers wide less e f =
@@ -92,7 +92,7 @@ widened_met s xs i old new x z covers wide less e f =
     )
 
 -- one number more
-pub covers_more : (s : Step) (xs : List Number) (i : ℕ) (old new : Span) (x : Number) (z : ℤ) → Covers s xs i old →
+pub covers_more : (s : GridStep) (xs : List Number) (i : ℕ) (old new : CellRange) (x : Number) (z : ℤ) → Covers s xs i old →
     IsWidened old z new → i < length xs → x ≡ get_or xs i x → z ≡ cell_at s x → unsigned_abs z < 2 ^ 107 →
     (new.greatest -ℤ new.least) ≤ℤ pos 4094 → Covers s xs (i + 1) new
 covers_more s xs i old new x z covers wide less e f small narrow =
@@ -117,7 +117,7 @@ covers_more s xs i old new x z covers wide less e f small narrow =
     }
 
 -- all numbers
-pub covers_all : (s : Step) (xs : List Number) (i : ℕ) (span : Span) → Covers s xs i span → length xs ≤ i → IsSpan s xs span
+pub covers_all : (s : GridStep) (xs : List Number) (i : ℕ) (span : CellRange) → Covers s xs i span → length xs ≤ i → IsSpan s xs span
 covers_all s xs i span covers h = record {
   within = rw (take_all i xs h) at covers.within;
   least_met = covers.least_met;
@@ -126,7 +126,7 @@ covers_all s xs i span covers h = record {
 }
 
 -- along all axes
-pub spans_fit : (s : Step) (c : Coordinates) (spans : Spans) → AreSpans s c spans → FitsAll s c
+pub spans_fit : (s : GridStep) (c : Coordinates) (spans : CellRanges) → AreSpans s c spans → FitsAll s c
 spans_fit s c spans h = record {
   x = span_fits s c.x.now spans.x h.x;
   y = span_fits s c.y.now spans.y h.y;

@@ -10,7 +10,7 @@ use Rattle.mesh_number.specs.declared.number.values.Number.{Number}
 use Rattle.mesh_number.specs.Number.Fractions.{Fraction}
 use Rattle.mesh_number.specs.Number.Values.{value_of}
 use Rattle.mesh_number.proofs.Denominators.{denominator_pos}
-use Rattle.mesh_grid.specs.declared.snap.steps.Step.{Step}
+use Rattle.mesh_grid.specs.declared.snap.steps.GridStep.{GridStep}
 use Rattle.mesh_grid.specs.declared.snap.spans.Coordinates.{Coordinates}
 use Rattle.mesh_grid.specs.Snap.Steps.{nice_of, fine_of}
 use Rattle.mesh_grid.specs.Snap.Cells.{cell_of, cell_at, IsNearest, IsBetween}
@@ -67,7 +67,7 @@ fine_short v p h =
     let high = cell_below 999900000000 v (cell_of (fine_of 189998) v) p h near in
     record { low_enough = omega (arith, linear, low); high_enough = omega (arith, linear, high) }
 
-fits_if_short : (s : Step) → ((v : Fraction) → 0 < v.denominator → unsigned_abs v.numerator < 10 ^ 15 * v.denominator →
+fits_if_short : (s : GridStep) → ((v : Fraction) → 0 < v.denominator → unsigned_abs v.numerator < 10 ^ 15 * v.denominator →
     IsShort (cell_of s v)) → (xs : List Number) → AreNumbers xs → Fits s xs
 unfolding cell_at
 fits_if_short s short xs h = (

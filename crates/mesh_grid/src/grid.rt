@@ -17,7 +17,7 @@ mod snapping;
 
 pub use choice::{Wanted, grid_of};
 pub use counting::count_images;
-pub use extent::Extent;
+pub use extent::SceneExtent;
 pub use fault::{GridFault, SnapFault};
 pub use grid::Grid;
 pub use laws::maps_keep_meshes_closed;

@@ -15,4 +15,4 @@ pub use offsets::{Offset, offset_at};
 pub use quotients::remainder;
 pub use search::{finest_step, nice_step};
 pub use spans::{Coordinates, are_coordinates};
-pub use steps::Step;
+pub use steps::GridStep;

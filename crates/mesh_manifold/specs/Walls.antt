@@ -3,7 +3,7 @@ use Rattle.std.specs.Prelude.{Bool, true, false, not, ◌&&◌, int_lt, pos, if�
 use Rattle.std.specs.declared.cmp.Ordering.{Ordering}
 use Rattle.std.specs.declared.cmp.Ordering.TheVariants.{Less, Equal, Greater}
 use Rattle.mesh_write.specs.declared.vertices.point.DecimalPoint.{DecimalPoint}
-use Rattle.mesh_manifold.specs.declared.wall.Wall.{Wall}
+use Rattle.mesh_manifold.specs.declared.wall.EdgeTriangle.{EdgeTriangle}
 use Rattle.mesh_manifold.specs.Turns.{inner, turn}
 
 -- by how it turns, and whether it goes on or back if it doesn't turn
@@ -13,7 +13,7 @@ late_by Less back = true
 late_by Equal back = back
 
 -- the wall is half a turn or more from the first one
-abbrev pub is_in_second_half : DecimalPoint → DecimalPoint → Wall → Wall → Bool
+abbrev pub is_in_second_half : DecimalPoint → DecimalPoint → EdgeTriangle → EdgeTriangle → Bool
 is_in_second_half u v first w = late_by (turn u v first.normal w.normal) (int_lt (inner first.normal w.normal) (pos 0))
 
 abbrev pub before_by : Ordering → Bool → Bool
@@ -22,7 +22,7 @@ before_by Less same = false
 before_by Equal same = same
 
 -- one wall comes before another
-abbrev pub is_before : DecimalPoint → DecimalPoint → Wall → Wall → Wall → Bool
+abbrev pub is_before : DecimalPoint → DecimalPoint → EdgeTriangle → EdgeTriangle → EdgeTriangle → Bool
 is_before u v first w x =
     if is_in_second_half u v first w
     then is_in_second_half u v first x && before_by (turn u v w.normal x.normal) (w.is_back && not x.is_back)

@@ -4,7 +4,7 @@ ghost use Rattle.mesh_manifold.specs.Turns.{IsNormal};
 use crate::classes::join;
 use crate::edges::HalfEdge;
 use crate::turns::{Normal, normal_of, opposite};
-use crate::wall::Wall;
+use crate::wall::EdgeTriangle;
 use crate::walls::insert;
 use ember_model::Plane;
 use mesh_write::DecimalPoint;
@@ -19,10 +19,10 @@ fn facing(normal: Normal, is_back: bool) -> Normal
 }
 
 // The wall of an edge, by the plane of its triangle.
-fn wall_of(planes: &[Plane], numbers: &[u32], edge: &HalfEdge) -> Option<Wall> {
+fn wall_of(planes: &[Plane], numbers: &[u32], edge: &HalfEdge) -> Option<EdgeTriangle> {
     let number = *numbers.get(edge.corner / 3)?;
     let normal = normal_of(planes.get(number as usize)?)?;
-    Some(Wall {
+    Some(EdgeTriangle {
         normal: facing(normal, edge.is_back),
         is_back: edge.is_back,
         corner: edge.corner,
@@ -38,7 +38,7 @@ fn ring_of(
     u: &DecimalPoint,
     v: &DecimalPoint,
     edges: &[HalfEdge],
-) -> Result<Vec<Wall>, AllocError> {
+) -> Result<Vec<EdgeTriangle>, AllocError> {
     let mut walls = Vec::with_capacity(alloc, edges.len())?;
     let mut first = None;
     for edge in edges {

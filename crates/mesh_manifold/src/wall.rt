@@ -6,7 +6,7 @@ use crate::turns::Normal;
 /// A triangle at an edge: the normal of its plane, as if its own edge led forward, and the corner
 /// at which its edge starts.
 #[derive(Clone, Copy, Debug, PartialEq, Eq)]
-pub struct Wall {
+pub struct EdgeTriangle {
     pub normal: Normal,
     pub is_back: bool,
     pub corner: usize,

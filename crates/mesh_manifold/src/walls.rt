@@ -3,13 +3,18 @@ ghost use Rattle.std.specs.Prelude.{◌≡◌, ◌+◌, ◌≤◌, length, OnOk}
 ghost use Rattle.mesh_manifold.specs.Walls.{is_in_second_half, is_before};
 
 use crate::turns::{inner, turn};
-use crate::wall::Wall;
+use crate::wall::EdgeTriangle;
 use mesh_write::DecimalPoint;
 use std::alloc::AllocError;
 use std::cmp::Ordering;
 
 // Whether the wall is half a turn or more from the first one, counter-clockwise.
-fn is_in_second_half(u: &DecimalPoint, v: &DecimalPoint, first: &Wall, wall: &Wall) -> bool
+fn is_in_second_half(
+    u: &DecimalPoint,
+    v: &DecimalPoint,
+    first: &EdgeTriangle,
+    wall: &EdgeTriangle,
+) -> bool
     ensures { result ≡ is_in_second_half u.now v.now first.now wall.now }
 {
     match turn(u, v, &first.normal, &wall.normal) {
@@ -21,7 +26,13 @@ fn is_in_second_half(u: &DecimalPoint, v: &DecimalPoint, first: &Wall, wall: &Wa
 
 // Whether a wall comes before another on the way round, which begins at the first one. Of two at
 // the same place, the one whose edge leads back comes first.
-fn is_before(u: &DecimalPoint, v: &DecimalPoint, first: &Wall, one: &Wall, other: &Wall) -> bool
+fn is_before(
+    u: &DecimalPoint,
+    v: &DecimalPoint,
+    first: &EdgeTriangle,
+    one: &EdgeTriangle,
+    other: &EdgeTriangle,
+) -> bool
     ensures { result ≡ is_before u.now v.now first.now one.now other.now }
 {
     let late = is_in_second_half(u, v, first, one);
@@ -36,7 +47,13 @@ fn is_before(u: &DecimalPoint, v: &DecimalPoint, first: &Wall, one: &Wall, other
 }
 
 // Where the wall belongs among walls in order.
-fn place_of(u: &DecimalPoint, v: &DecimalPoint, first: &Wall, walls: &[Wall], wall: &Wall) -> usize
+fn place_of(
+    u: &DecimalPoint,
+    v: &DecimalPoint,
+    first: &EdgeTriangle,
+    walls: &[EdgeTriangle],
+    wall: &EdgeTriangle,
+) -> usize
     ensures { result ≤ length walls.now }
 {
     for (place, other) in walls.iter().enumerate() {
@@ -51,9 +68,9 @@ fn place_of(u: &DecimalPoint, v: &DecimalPoint, first: &Wall, walls: &[Wall], wa
 pub fn insert(
     u: &DecimalPoint,
     v: &DecimalPoint,
-    first: &Wall,
-    walls: &mut Vec<Wall>,
-    wall: Wall,
+    first: &EdgeTriangle,
+    walls: &mut Vec<EdgeTriangle>,
+    wall: EdgeTriangle,
 ) -> Result<(), AllocError>
     ensures { OnOk result (length walls.new.items ≡ length walls.old.items + 1) }
 {

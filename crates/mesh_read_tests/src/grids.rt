@@ -1,6 +1,6 @@
 // Grids for the numbers of mesh files: cells, steps and offsets.
 use mesh_grid::{
-    Coordinates, Offset, Step, are_coordinates, cell, finest_step, nice_step, offset_at,
+    Coordinates, GridStep, Offset, are_coordinates, cell, finest_step, nice_step, offset_at,
 };
 use mesh_number::{Number, read_decimal};
 use std::process::Abort;
@@ -25,7 +25,7 @@ fn cells_are_nearest(rt: HostRuntime) -> Result<(), Fail> {
     ];
     for (text, numerator, denominator, want) in rows {
         let number = number(text)?;
-        let step = Step {
+        let step = GridStep {
             numerator,
             denominator,
         };
@@ -42,7 +42,7 @@ fn grid(
     rt: &impl Abort,
     low: [&[u8]; 3],
     high: [&[u8]; 3],
-) -> Result<(Option<Step>, Option<Step>, Option<Offset>), Fail> {
+) -> Result<(Option<GridStep>, Option<GridStep>, Option<Offset>), Fail> {
     let x = [number(low[0])?, number(high[0])?];
     let y = [number(low[1])?, number(high[1])?];
     let z = [number(low[2])?, number(high[2])?];
@@ -60,8 +60,8 @@ fn grid(
     Ok((nice, finest_step(&coordinates), offset))
 }
 
-fn step(numerator: u64, denominator: u64) -> Option<Step> {
-    Some(Step {
+fn step(numerator: u64, denominator: u64) -> Option<GridStep> {
+    Some(GridStep {
         numerator,
         denominator,
     })

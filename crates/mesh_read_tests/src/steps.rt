@@ -1,5 +1,5 @@
 // Steps that decimals spell.
-use mesh_grid::{Step, step_of};
+use mesh_grid::{GridStep, step_of};
 
 #[test]
 fn decimals_spell_steps(rt: HostRuntime) {
@@ -16,7 +16,7 @@ fn decimals_spell_steps(rt: HostRuntime) {
         (b"1.099511627775000", 1_099_511_627_775, 1_000_000_000_000),
     ];
     for (text, numerator, denominator) in rows {
-        let want = Step {
+        let want = GridStep {
             numerator,
             denominator,
         };

@@ -3,7 +3,7 @@ use Rattle.std.proofs.Common.{ℕ, List}
 use Rattle.std.specs.declared.option.Option.{Option}
 use Rattle.mesh_boolean.proofs.OutputMeaning.{output_means, output_winds_once_at_most}
 use Rattle.mesh_boolean.specs.declared.wanted.WantedFile.{WantedFile}
-use Rattle.mesh_boolean.specs.declared.output.Output.{Output}
+use Rattle.mesh_boolean.specs.declared.output.SolidFile.{SolidFile}
 use Rattle.ember_expr.specs.Formula.{Formula}
 use Rattle.mesh_words.specs.declared.command.Request.{Request}
 use Rattle.mesh_run.specs.Asked.{Asks}
@@ -11,7 +11,7 @@ use Rattle.mesh_run.specs.Outputs.{IsFilesOutput, IsOutputFor}
 
 -- since its expression is false outside all meshes
 pub output_is_asked_for : (request : Request) (told : List ℕ →
-    Option (List ℕ)) (wanted : WantedFile) (formula : Formula) (output : Output) → Asks request wanted formula →
+    Option (List ℕ)) (wanted : WantedFile) (formula : Formula) (output : SolidFile) → Asks request wanted formula →
     IsFilesOutput told request.files formula wanted output → IsOutputFor request told output
 output_is_asked_for request told wanted formula output asks of_files =
     let outside = asks.expression.bounded in

@@ -5,7 +5,7 @@ use Rattle.std.proofs.lemmas.List.{length-map}
 use Rattle.std.specs.declared.option.Option.{Option}
 use Rattle.std.specs.Prelude.{IsSome, is_some}
 use Rattle.mesh_boolean.specs.declared.files.MeshFile.{MeshFile}
-use Rattle.mesh_boolean.specs.declared.output.Output.{Output}
+use Rattle.mesh_boolean.specs.declared.output.SolidFile.{SolidFile}
 use Rattle.mesh_boolean.specs.declared.writing.Written.{Written}
 use Rattle.mesh_boolean.specs.Files.{AreReadings}
 use Rattle.mesh_grid.specs.declared.grid.grid.Grid.{Grid}
@@ -15,7 +15,7 @@ use Rattle.mesh_words.specs.declared.command.SnapRequest.{SnapRequest}
 use Rattle.mesh_grid.specs.declared.moves.length.Length.{Length}
 use Rattle.mesh_grid.specs.Moves.Shown.{AreMoves, greatest_move, rounded_of}
 use Rattle.mesh_scene.specs.declared.scene.counts.Counts.{Counts}
-use Rattle.mesh_scene.specs.declared.scene.scene.Placed.{Placed}
+use Rattle.mesh_scene.specs.declared.scene.scene.PlacedScene.{PlacedScene}
 use Rattle.mesh_scene.specs.Scene.Images.{counts_on}
 use Rattle.mesh_solid.specs.Mesh.Asked.{IsThereIf}
 use Rattle.mesh_read.specs.declared.surface.surface.Surface.{Surface}
@@ -46,26 +46,26 @@ named_moves told names files surfaces grid moves are read e =
     sym (length-map moves rounded_of) ∙ ap length e ∙ length-map surfaces (greatest_move grid) ∙ named_surfaces told names files surfaces are read
 
 -- of an output
-pub output_counts_are_named : (request : Request) (told : List ℕ → Option (List ℕ)) (out : Output) →
+pub output_counts_are_named : (request : Request) (told : List ℕ → Option (List ℕ)) (out : SolidFile) →
     IsOutputFor request told out → length out.counts.items ≡ length request.files
 output_counts_are_named request told out h =
     let of = h.of_files in
     named_counts told request.files of.files of.is_output.surfaces out.grid out.counts.items of.are_files of.is_output.are_placed.read of.is_output.counts
 
-pub output_moves_are_named : (request : Request) (told : List ℕ → Option (List ℕ)) (out : Output) →
+pub output_moves_are_named : (request : Request) (told : List ℕ → Option (List ℕ)) (out : SolidFile) →
     IsOutputFor request told out → length out.moves.items ≡ length request.files
 output_moves_are_named request told out h =
     let of = h.of_files in
     named_moves told request.files of.files of.is_output.surfaces out.grid out.moves.items of.are_files of.is_output.are_placed.read of.is_output.moves
 
 -- of meshes on their grid
-pub placed_counts_are_named : (request : SnapRequest) (told : List ℕ → Option (List ℕ)) (placed : Placed) →
+pub placed_counts_are_named : (request : SnapRequest) (told : List ℕ → Option (List ℕ)) (placed : PlacedScene) →
     IsPlacedFor request told placed → length placed.counts.items ≡ length request.files
 placed_counts_are_named request told placed h =
     let of = h.of_files in
     named_counts told request.files of.files of.is_placed.surfaces placed.grid placed.counts.items of.are_files of.is_placed.are_placed.read of.is_placed.counts
 
-pub placed_moves_are_named : (request : SnapRequest) (told : List ℕ → Option (List ℕ)) (placed : Placed) →
+pub placed_moves_are_named : (request : SnapRequest) (told : List ℕ → Option (List ℕ)) (placed : PlacedScene) →
     IsPlacedFor request told placed → length placed.moves.items ≡ length request.files
 placed_moves_are_named request told placed h =
     let of = h.of_files in
@@ -79,11 +79,11 @@ named_is_there asked P None name h e s = absurd (false≢true (sym h ∙ e ∙ s
 named_is_there asked P (Some it) name h e s = refl
 
 -- what a folder keeps
-pub kept_is_there : (request : Request) (told : List ℕ → Option (List ℕ)) (out : Output) → IsOutputFor request told out → IsSome request.keep → IsSome out.kept
+pub kept_is_there : (request : Request) (told : List ℕ → Option (List ℕ)) (out : SolidFile) → IsOutputFor request told out → IsSome request.keep → IsSome out.kept
 kept_is_there request told out h s = named_is_there h.wanted.keeps _ out.kept request.keep h.of_files.is_output.kept h.asks.file.keeps s
 
 -- and what a page shows
-pub shown_is_there : (request : Request) (told : List ℕ → Option (List ℕ)) (out : Output) →
+pub shown_is_there : (request : Request) (told : List ℕ → Option (List ℕ)) (out : SolidFile) →
     IsOutputFor request told out → IsSome request.view → IsSome out.written.shown
 shown_is_there request told out h s = named_is_there h.wanted.shows _ out.written.shown request.view h.of_files.is_output.shown h.asks.file.shows s
 

@@ -2,29 +2,29 @@
 use Rattle.std.proofs.Common.{◌<◌, ◌≤◌, ◌-◌, ℕ, List, length, sym, subst, arith}
 use Rattle.std.proofs.lemmas.Option.{slice_get_within}
 use Rattle.std.specs.declared.option.Option.{Option}
-use Rattle.mesh_boolean.specs.declared.output.Output.{Output}
+use Rattle.mesh_boolean.specs.declared.output.SolidFile.{SolidFile}
 use Rattle.mesh_file.specs.declared.format.format.Format.{Format}
 use Rattle.mesh_grid.specs.declared.grid.choice.Wanted.{Wanted}
-use Rattle.mesh_grid.specs.declared.grid.extent.Extent.{Extent}
+use Rattle.mesh_grid.specs.declared.grid.extent.SceneExtent.{SceneExtent}
 use Rattle.mesh_words.specs.declared.command.Request.{Request}
 use Rattle.mesh_words.specs.declared.command.SnapRequest.{SnapRequest}
 use Rattle.mesh_number.proofs.DigitNumbers.{pow_ten_pos}
 use Rattle.mesh_scene.specs.declared.scene.fault.Open.{Open}
 use Rattle.mesh_scene.specs.declared.scene.fault.SceneFault.TheVariants as scene
-use Rattle.mesh_scene.specs.declared.scene.scene.Placed.{Placed}
-use Rattle.mesh_grid.specs.declared.snap.steps.Step.{Step}
+use Rattle.mesh_scene.specs.declared.scene.scene.PlacedScene.{PlacedScene}
+use Rattle.mesh_grid.specs.declared.snap.steps.GridStep.{GridStep}
 use Rattle.mesh_grid.specs.Snap.Steps.{IsStep, fine_decade}
 use Rattle.mesh_run.specs.Calls.{ShelfCall}
 use Rattle.mesh_run.specs.Causes.{HaveOpen, HaveSceneFault, IsSnapStop, IsStop}
-use Rattle.mesh_run.specs.Lines.{IsShown}
+use Rattle.mesh_report.specs.Lines.{IsShown}
 use Rattle.mesh_run.specs.Outputs.{IsOutputFor, IsPlacedFor}
 use Rattle.mesh_run.proofs.ToldFiles.{files_are_as_many}
-use Rattle.mesh_run.specs.declared.status.Status.{Status}
-use Rattle.mesh_run.specs.declared.status.Status.TheVariants.{Done, Words, StepOfNoGrid, ReadFault, WriteFault}
-use Rattle.mesh_run.specs.declared.status.Status.TheVariants.{NotWritten, FileRefused, NoTriangles, NotAScene}
-use Rattle.mesh_run.specs.declared.status.Status.TheVariants.{NotClosed, ExprRefused, Unbounded, LongFile}
-use Rattle.mesh_run.specs.declared.status.Status.TheVariants.{TooManyTriangles, TooManyWritten, StepTooSmall}
-use Rattle.mesh_run.specs.declared.status.Status.TheVariants.{TooFar, DocumentRefused, OutOfMemory, Uncertified}
+use Rattle.mesh_report.specs.declared.status.Status.{Status}
+use Rattle.mesh_report.specs.declared.status.Status.TheVariants.{Done, Words, StepOfNoGrid, ReadFault, WriteFault}
+use Rattle.mesh_report.specs.declared.status.Status.TheVariants.{NotWritten, FileRefused, NoTriangles, NotAScene}
+use Rattle.mesh_report.specs.declared.status.Status.TheVariants.{NotClosed, ExprRefused, Unbounded, LongFile}
+use Rattle.mesh_report.specs.declared.status.Status.TheVariants.{TooManyTriangles, TooManyWritten, StepTooSmall}
+use Rattle.mesh_report.specs.declared.status.Status.TheVariants.{TooFar, DocumentRefused, OutOfMemory, Uncertified}
 
 -- the file that isn't closed is one of them
 open_is_few : (told : List ℕ → Option (List ℕ)) (names : List (List ℕ)) (wanted : Wanted) (o : Open) (format : Format) →
@@ -35,11 +35,11 @@ open_is_few told names wanted o format few h =
     omega (arith, few, inside, as_many)
 
 -- the step that would do is above 0
-least_is_shown : (told : List ℕ → Option (List ℕ)) (names : List (List ℕ)) (wanted : Wanted) (extent : Extent) →
+least_is_shown : (told : List ℕ → Option (List ℕ)) (names : List (List ℕ)) (wanted : Wanted) (extent : SceneExtent) →
     HaveSceneFault told names wanted (scene.StepTooSmall extent) → 0 < extent.finest.denominator
 least_is_shown told names wanted extent h =
     let least = h.is_fault.is_fault.2.is_extent.least in
-    subst (λ (s : Step). 0 < s.denominator) (sym least.step) (pow_ten_pos (12 - fine_decade least.rank))
+    subst (λ (s : GridStep). 0 < s.denominator) (sym least.step) (pow_ten_pos (12 - fine_decade least.rank))
 
 -- why a request gets no output can be shown
 pub stop_is_shown : (request : Request) (shelf : ShelfCall) → length request.files ≤ 64 → (status : Status) → IsStop request shelf status → IsShown status
@@ -91,11 +91,11 @@ snap_stop_is_shown request shelf few OutOfMemory h = tt
 snap_stop_is_shown request shelf few (Uncertified fault) h = tt
 
 -- so can the step of an output
-pub output_step_is_shown : (request : Request) (told : List ℕ → Option (List ℕ)) (output : Output) →
+pub output_step_is_shown : (request : Request) (told : List ℕ → Option (List ℕ)) (output : SolidFile) →
     IsOutputFor request told output → 0 < output.grid.step.denominator
 output_step_is_shown request told output h = h.of_files.is_output.are_placed.on_grid.step.denominator_positive
 
 -- and of meshes on their grid
-pub placed_step_is_shown : (request : SnapRequest) (told : List ℕ → Option (List ℕ)) (placed : Placed) →
+pub placed_step_is_shown : (request : SnapRequest) (told : List ℕ → Option (List ℕ)) (placed : PlacedScene) →
     IsPlacedFor request told placed → IsStep placed.grid.step
 placed_step_is_shown request told placed h = h.of_files.is_placed.are_placed.on_grid.step

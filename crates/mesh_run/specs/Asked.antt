@@ -18,23 +18,23 @@ use Rattle.mesh_words.specs.declared.command.OutputFormat.TheVariants as output
 use Rattle.mesh_words.specs.declared.command.Request.{Request}
 use Rattle.mesh_words.specs.declared.command.WantedStep.{WantedStep}
 use Rattle.mesh_words.specs.declared.command.WantedStep.TheVariants as step
-use Rattle.mesh_grid.specs.declared.snap.steps.Step.{Step}
+use Rattle.mesh_grid.specs.declared.snap.steps.GridStep.{GridStep}
 use Rattle.mesh_grid.specs.Snap.Decimals.{IsStepOf, IsLeastStepOf}
-use Rattle.mesh_run.specs.declared.status.Status.{Status}
-use Rattle.mesh_run.specs.declared.status.Status.TheVariants.{StepOfNoGrid, ExprRefused, Unbounded, OutOfMemory}
+use Rattle.mesh_report.specs.declared.status.Status.{Status}
+use Rattle.mesh_report.specs.declared.status.Status.TheVariants.{StepOfNoGrid, ExprRefused, Unbounded, OutOfMemory}
 
 -- ---- steps
 -- the step that is asked for
 abbrev pub IsWanted : WantedStep → Wanted → Type 0
 IsWanted step.Nice wanted = wanted ≡ Nice
 IsWanted step.Finest wanted = wanted ≡ Finest
-IsWanted (step.Decimal text) wanted = (s : Step) × IsLeastStepOf text s × (wanted ≡ Given s)
+IsWanted (step.Decimal text) wanted = (s : GridStep) × IsLeastStepOf text s × (wanted ≡ Given s)
 
 -- no grid has it
 abbrev pub IsStepOfNoGrid : WantedStep → Type 0
 IsStepOfNoGrid step.Nice = ⊥
 IsStepOfNoGrid step.Finest = ⊥
-IsStepOfNoGrid (step.Decimal text) = (s : Step) → IsStepOf text s → ⊥
+IsStepOfNoGrid (step.Decimal text) = (s : GridStep) → IsStepOf text s → ⊥
 
 -- ---- formats
 -- the format that the output's name and `--digits` ask for

@@ -3,7 +3,7 @@ use Rattle.std.specs.Prelude.{ℕ, List}
 use Rattle.std.specs.declared.option.Option.{Option}
 use Rattle.mesh_boolean.specs.declared.files.MeshFile.{MeshFile}
 use Rattle.mesh_boolean.specs.declared.wanted.WantedFile.{WantedFile}
-use Rattle.mesh_boolean.specs.declared.output.Output.{Output}
+use Rattle.mesh_boolean.specs.declared.output.SolidFile.{SolidFile}
 use Rattle.mesh_boolean.specs.Files.{IsPlaced}
 use Rattle.mesh_boolean.specs.Outputs.{IsOutput}
 use Rattle.ember_expr.specs.Formula.{Formula}
@@ -12,7 +12,7 @@ use Rattle.ember_meaning.specs.Regions.Meaning.{HaveMeaning}
 use Rattle.ember_meaning.specs.Regions.Nearby.{WindOnceAtMost}
 use Rattle.mesh_words.specs.declared.command.Request.{Request}
 use Rattle.mesh_words.specs.declared.command.SnapRequest.{SnapRequest}
-use Rattle.mesh_scene.specs.declared.scene.scene.Placed.{Placed}
+use Rattle.mesh_scene.specs.declared.scene.scene.PlacedScene.{PlacedScene}
 use Rattle.mesh_scene.specs.Scene.Images.{images_of}
 use Rattle.mesh_solid.specs.Mesh.MeshFaces.{faces_of_mesh}
 use Rattle.mesh_run.specs.Asked.{Asks, IsWanted}
@@ -20,20 +20,20 @@ use Rattle.mesh_run.specs.Files.{AreFiles}
 
 -- the output is that of the files with these names
 pub record IsFilesOutput (told : List ℕ → Option (List ℕ)) (names : List (List ℕ)) (formula : Formula)
-    (wanted : WantedFile) (output : Output) : Type 0 where
+    (wanted : WantedFile) (output : SolidFile) : Type 0 where
   pub files : List MeshFile
   pub are_files : AreFiles told names files
   pub is_output : IsOutput files formula wanted output
 
 -- before the output's triangles are rounded, they wind once where the expression is true of the files' triangles on the
 -- grid, and not at all elsewhere; around each point that is clear of the output's triangles alone, once or not at all
-pub record MeansFormula (files : List MeshFile) (formula : Formula) (wanted : WantedFile) (output : Output)
+pub record MeansFormula (files : List MeshFile) (formula : Formula) (wanted : WantedFile) (output : SolidFile)
     (is : IsOutput files formula wanted output) : Type 0 where
   pub means : HaveMeaning (images_of output.grid is.surfaces) formula (faces_of_mesh is.mesh)
   pub once : WindOnceAtMost (faces_of_mesh is.mesh)
 
 -- the output is what the request asks for, and means it
-pub record IsOutputFor (request : Request) (told : List ℕ → Option (List ℕ)) (output : Output) : Type 0 where
+pub record IsOutputFor (request : Request) (told : List ℕ → Option (List ℕ)) (output : SolidFile) : Type 0 where
   pub wanted : WantedFile
   pub formula : Formula
   pub asks : Asks request wanted formula
@@ -43,14 +43,14 @@ pub record IsOutputFor (request : Request) (told : List ℕ → Option (List ℕ
 -- ---- meshes on their grid
 -- the placed files are those with these names
 pub record AreFilesPlaced (told : List ℕ →
-    Option (List ℕ)) (names : List (List ℕ)) (wanted : Wanted) (placed : Placed) :
+    Option (List ℕ)) (names : List (List ℕ)) (wanted : Wanted) (placed : PlacedScene) :
     Type 0 where
   pub files : List MeshFile
   pub are_files : AreFiles told names files
   pub is_placed : IsPlaced files wanted placed
 
 -- they are on the grid that the request asks for
-pub record IsPlacedFor (request : SnapRequest) (told : List ℕ → Option (List ℕ)) (placed : Placed) : Type 0 where
+pub record IsPlacedFor (request : SnapRequest) (told : List ℕ → Option (List ℕ)) (placed : PlacedScene) : Type 0 where
   pub wanted : Wanted
   pub asks : IsWanted request.step wanted
   pub of_files : AreFilesPlaced told request.files wanted placed

@@ -1,7 +1,7 @@
 -- What a call promises
 use Rattle.std.specs.Prelude.{◌≡◌, ◌≤◌, ℕ, List, [], ◌∷◌, false, None, Some, Result, Ok, Err, codes}
 use Rattle.std.specs.declared.option.Option.{Option}
-use Rattle.mesh_boolean.specs.declared.output.Output.{Output}
+use Rattle.mesh_boolean.specs.declared.output.SolidFile.{SolidFile}
 use Rattle.mesh_boolean.specs.declared.writing.Written.{Written}
 use Rattle.mesh_words.specs.declared.command.Command.{Command}
 use Rattle.mesh_words.specs.declared.command.Command.TheVariants.{Boole, Snap, Export, Info, View, Help, Version}
@@ -11,31 +11,31 @@ use Rattle.mesh_words.specs.declared.command.SnapRequest.{SnapRequest}
 use Rattle.mesh_words.specs.declared.command.ViewRequest.{ViewRequest}
 use Rattle.mesh_words.specs.declared.faults.Refusal.{Refusal}
 use Rattle.mesh_words.specs.Commands.{command_of}
-use Rattle.mesh_scene.specs.declared.scene.scene.Placed.{Placed}
+use Rattle.mesh_scene.specs.declared.scene.scene.PlacedScene.{PlacedScene}
 use Rattle.mesh_outside.specs.Target.Several.{NamedBytes, PutsEach}
 use Rattle.mesh_outside.specs.Target.Targets.{Puts}
 use Rattle.mesh_run.specs.Calls.{ShelfCall, TargetCall, SinkCall, KeepsContents, HoldsAll}
 use Rattle.mesh_run.specs.Calls.{TakesAll, TakesSome, TakesUntilFault}
 use Rattle.mesh_run.specs.Causes.{IsReadingCause, IsSnapStop, IsStop}
-use Rattle.mesh_run.specs.ExportLines.{export_why}
+use Rattle.mesh_report.specs.ExportLines.{export_why}
 use Rattle.mesh_run.specs.Exports.{IsExport, IsExportStop}
 use Rattle.mesh_run.specs.Infos.{AreInfoLines}
-use Rattle.mesh_run.specs.Lines.{line, reading_why, snap_why, why_of}
+use Rattle.mesh_report.specs.Lines.{line, reading_why, snap_why, why_of}
 use Rattle.mesh_run.specs.Memory.{hides_memory}
-use Rattle.mesh_run.specs.Messages.{usage_text, version_text}
+use Rattle.mesh_report.specs.Messages.{usage_text, version_text}
 use Rattle.mesh_run.specs.Outputs.{IsOutputFor, IsPlacedFor}
 use Rattle.mesh_run.specs.Pages.{IsPageOf}
-use Rattle.mesh_run.specs.Reports.{export_report, report_of, snap_report}
+use Rattle.mesh_report.specs.Reports.{export_report, report_of, snap_report}
 use Rattle.mesh_run.specs.Unmet.{EndsAs, IsUnmet}
-use Rattle.mesh_run.specs.WordLines.{refusal_text}
+use Rattle.mesh_report.specs.WordLines.{refusal_text}
 use Rattle.mesh_run.specs.Writes.{AreMeshFiles, AreSceneFiles, AreSolidFiles}
-use Rattle.mesh_run.specs.declared.status.Status.{Status}
-use Rattle.mesh_run.specs.declared.status.Status.TheVariants.{Done, Words, WriteFault, OutOfMemory}
+use Rattle.mesh_report.specs.declared.status.Status.{Status}
+use Rattle.mesh_report.specs.declared.status.Status.TheVariants.{Done, Words, WriteFault, OutOfMemory}
 
 -- ---- a Boolean
 -- the output is that of the request, and its files are put, each in its turn; err takes the report
 pub record WritesSolid (request : Request) (shelf : ShelfCall) (target : TargetCall) (text : List ℕ) : Type 0 where
-  pub output : Output
+  pub output : SolidFile
   pub is_output : IsOutputFor request shelf.told output
   pub files : List NamedBytes
   pub are_files : AreSolidFiles request output files
@@ -44,7 +44,7 @@ pub record WritesSolid (request : Request) (shelf : ShelfCall) (target : TargetC
 
 -- these are the files of an output of the request
 pub record AreFilesFor (request : Request) (told : List ℕ → Option (List ℕ)) (files : List NamedBytes) : Type 0 where
-  pub output : Output
+  pub output : SolidFile
   pub is_output : IsOutputFor request told output
   pub are_files : AreSolidFiles request output files
 
@@ -61,7 +61,7 @@ IsSolidOutcome request shelf target status text =
 -- the files of the request are placed as it asks for, and the files of their scene are put, each in its turn; err takes
 -- the lines of the grid and of the files
 pub record WritesScene (request : SnapRequest) (shelf : ShelfCall) (target : TargetCall) (text : List ℕ) : Type 0 where
-  pub placed : Placed
+  pub placed : PlacedScene
   pub is_placed : IsPlacedFor request shelf.told placed
   pub files : List NamedBytes
   pub are_files : AreSceneFiles request.folder request.files placed files
@@ -71,7 +71,7 @@ pub record WritesScene (request : SnapRequest) (shelf : ShelfCall) (target : Tar
 -- these are the files of a scene that the request asks for
 pub record AreSnapFilesFor (request : SnapRequest) (told : List ℕ → Option (List ℕ)) (files : List NamedBytes) :
     Type 0 where
-  pub placed : Placed
+  pub placed : PlacedScene
   pub is_placed : IsPlacedFor request told placed
   pub are_files : AreSceneFiles request.folder request.files placed files
 

@@ -2,14 +2,14 @@
 use Rattle.std.specs.Prelude.{◌≡◌, ℕ, zero, suc, List, [], ◌∷◌, ◌++◌, length, codes, decimal, Some, MatchOption}
 use Rattle.std.specs.declared.option.Option.{Option}
 use Rattle.std.specs.Global.{Vec}
-use Rattle.mesh_boolean.specs.declared.output.Kept.{Kept}
-use Rattle.mesh_boolean.specs.declared.output.Output.{Output}
+use Rattle.mesh_boolean.specs.declared.output.KeptDocument.{KeptDocument}
+use Rattle.mesh_boolean.specs.declared.output.SolidFile.{SolidFile}
 use Rattle.mesh_boolean.specs.declared.writing.Written.{Written}
 use Rattle.mesh_words.specs.declared.command.Request.{Request}
 use Rattle.ember_model.specs.declared.tri.Tri.{Tri}
 use Rattle.mesh_write.specs.Page.Pages.{page_of}
 use Rattle.mesh_write.specs.Page.ReadBack.{IsReadBack}
-use Rattle.mesh_scene.specs.declared.scene.scene.Placed.{Placed}
+use Rattle.mesh_scene.specs.declared.scene.scene.PlacedScene.{PlacedScene}
 use Rattle.mesh_scene.specs.SceneFile.Meshes.{mesh_text, triangles_of}
 use Rattle.mesh_scene.specs.SceneFile.Texts.{IsSceneText}
 use Rattle.mesh_write.specs.declared.stl.triangle.WrittenTriangle.{WrittenTriangle}
@@ -40,7 +40,7 @@ mesh_files folder tris zero = []
 mesh_files folder tris (suc n) = mesh_files folder tris n ++ mesh_file folder tris (suc n) ∷ []
 
 -- all meshes of a scene on its grid, and `scene.json`
-pub record AreSceneFiles (folder : List ℕ) (names : List (List ℕ)) (placed : Placed) (files : List NamedBytes) :
+pub record AreSceneFiles (folder : List ℕ) (names : List (List ℕ)) (placed : PlacedScene) (files : List NamedBytes) :
     Type 0 where
   pub text : List ℕ
   pub is_text : IsSceneText placed.grid names placed.counts.items placed.moves.items text
@@ -66,25 +66,25 @@ pub record AreMeshFiles (page : Option (List ℕ)) (name : List ℕ) (mesh : Wri
 
 -- ---- a Boolean
 -- the files of a scene in a folder, and the document
-pub record AreKeptFiles (names : List (List ℕ)) (placed : Placed) (document folder : List ℕ) (files : List NamedBytes) :
+pub record AreKeptFiles (names : List (List ℕ)) (placed : PlacedScene) (document folder : List ℕ) (files : List NamedBytes) :
     Type 0 where
   pub scene : List NamedBytes
   pub are_scene : AreSceneFiles folder names placed scene
   pub all : files ≡ scene ++ (in_folder folder (codes "doc.txt"), document) ∷ []
 
 -- the scene that an output keeps, with its grid and counts
-abbrev pub placed_of : Output → Kept → Placed
+abbrev pub placed_of : SolidFile → KeptDocument → PlacedScene
 placed_of out kept = record { grid = out.grid; scene = kept.scene; counts = out.counts; moves = out.moves }
 
 -- the files of what an output keeps
-pub record AreOutputsKept (names : List (List ℕ)) (out : Output) (folder : List ℕ) (files : List NamedBytes) :
+pub record AreOutputsKept (names : List (List ℕ)) (out : SolidFile) (folder : List ℕ) (files : List NamedBytes) :
     Type 0 where
-  pub kept : Kept
+  pub kept : KeptDocument
   pub is_kept : out.kept ≡ Some kept
   pub are_files : AreKeptFiles names (placed_of out kept) kept.document.items folder files
 
 -- what is to be kept, the page, and the mesh; without the two options, the mesh alone
-pub record AreSolidFiles (request : Request) (out : Output) (files : List NamedBytes) : Type 0 where
+pub record AreSolidFiles (request : Request) (out : SolidFile) (files : List NamedBytes) : Type 0 where
   pub kept : List NamedBytes
   pub are_kept : AreFilesIf request.keep (AreOutputsKept request.files out) kept
   pub mesh : List NamedBytes

@@ -8,9 +8,9 @@ ghost use Rattle.mesh_run.specs.Writes.{AreAppended, AreFilesIf, AreKeptFiles, A
 
 use ember_model::{OutOfMemory, Tri};
 use ember_words::Text;
-use mesh_boolean::{Kept, Output, Written};
+use mesh_boolean::{KeptDocument, SolidFile, Written};
 use mesh_outside::NamedFile;
-use mesh_scene::{Placed, grid_mesh, scene_text};
+use mesh_scene::{PlacedScene, grid_mesh, scene_text};
 use mesh_words::Request;
 use mesh_write::{WrittenTriangle, page_bytes};
 use std::alloc::Global;
@@ -85,7 +85,7 @@ fn put_scene(
     alloc: Global,
     folder: &Text,
     names: &[Text],
-    placed: &Placed,
+    placed: &PlacedScene,
     files: &mut Vec<NamedFile>,
 ) -> Result<(), OutOfMemory>
     requires few { length names.now ≤ 64 }
@@ -111,7 +111,7 @@ pub fn scene_files(
     alloc: Global,
     folder: &Text,
     names: &[Text],
-    placed: &Placed,
+    placed: &PlacedScene,
 ) -> Result<Vec<NamedFile>, OutOfMemory>
     requires few { length names.now ≤ 64 }
     requires step { IsStep placed.now.grid.step }
@@ -196,7 +196,7 @@ fn put_kept(
     alloc: Global,
     folder: &Text,
     names: &[Text],
-    placed: &Placed,
+    placed: &PlacedScene,
     document: Vec<u8>,
     files: &mut Vec<NamedFile>,
 ) -> Result<(), OutOfMemory>
@@ -215,7 +215,7 @@ fn put_kept(
 fn kept_files(
     alloc: Global,
     request: &Request,
-    output: Output,
+    output: SolidFile,
 ) -> Result<(Vec<NamedFile>, Written), OutOfMemory>
     requires few { length request.now.files ≤ 64 }
     requires step { IsStep output.grid.step }
@@ -226,7 +226,7 @@ fn kept_files(
         AreFilesIf request.now.keep (AreOutputsKept request.now.files output) (names_and_bytes made.0.items)) }
     ensures mesh { IfOk result (λ made. made.1 ≡ output.written) }
 {
-    let Output {
+    let SolidFile {
         written,
         grid,
         counts,
@@ -238,8 +238,8 @@ fn kept_files(
     let Some(folder) = &request.keep else {
         return Ok((files, written));
     };
-    let Kept { scene, document } = kept.unwrap();
-    let placed = Placed {
+    let KeptDocument { scene, document } = kept.unwrap();
+    let placed = PlacedScene {
         grid,
         scene,
         counts,
@@ -260,7 +260,7 @@ fn kept_files(
 pub fn solid_files(
     alloc: Global,
     request: &Request,
-    output: Output,
+    output: SolidFile,
 ) -> Result<Vec<NamedFile>, OutOfMemory>
     requires few { length request.now.files ≤ 64 }
     requires step { IsStep output.grid.step }

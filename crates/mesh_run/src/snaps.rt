@@ -12,18 +12,15 @@ ghost use Rattle.mesh_run.specs.Serves.{IsSnapOutcome, IsSnapUnmet, WritesScene}
 
 use crate::asked::wanted_of;
 use crate::files::scene_files;
-use crate::lines::snap_line;
 use crate::reading::{mesh_files, read_contents};
-use crate::refusals::status_of;
-use crate::report::snap_report;
-use crate::status::Status;
 use crate::writing::{say, say_why, write_files};
 use ember_io::{Shelf, Sink};
 use ember_words::Text;
 use mesh_boolean::placed_files;
 use mesh_grid::Wanted;
 use mesh_outside::{Stages, Target};
-use mesh_scene::Placed;
+use mesh_report::{Status, snap_line, snap_report, status_of};
+use mesh_scene::PlacedScene;
 use mesh_words::SnapRequest;
 use std::alloc::Global;
 
@@ -34,7 +31,7 @@ fn placed_of_contents<P: Stages>(
     contents: &[Vec<u8>],
     wanted: Wanted,
     stages: &P,
-) -> Result<Placed, Status>
+) -> Result<PlacedScene, Status>
     requires few { length names.now ≤ 64 }
     requires one_each { length contents.now ≡ length names.now }
     requires small { All (λ bytes. length bytes.items ≤ 268435456) contents.now }
@@ -58,7 +55,7 @@ fn placed_for<S: Shelf, P: Stages>(
     request: &SnapRequest,
     shelf: &mut S,
     stages: &P,
-) -> Result<Placed, Status>
+) -> Result<PlacedScene, Status>
     requires { IsWithinSnapLimits request.now }
     ensures contents { KeepsContents (shelf_call S.contents S.faults S.fault_at shelf.old shelf.new) }
     ensures placed { IfOk result (IsPlacedFor request.now (S.contents shelf.old)) }

@@ -16,18 +16,15 @@ ghost use Rattle.mesh_run.specs.Serves.{IsSolidOutcome, IsSolidUnmet, WritesSoli
 
 use crate::asked::{Asked, asked_by};
 use crate::files::solid_files;
-use crate::lines::line_of;
 use crate::reading::{mesh_files, read_contents};
-use crate::refusals::status_of;
-use crate::report::report_of;
-use crate::status::Status;
 use crate::writing::{say, say_why, write_files};
 use ember_io::{Shelf, Sink};
 use ember_model::OutOfMemory;
 use ember_query::{Answer, Query};
 use ember_words::Text;
-use mesh_boolean::{Output, solid_file};
+use mesh_boolean::{SolidFile, solid_file};
 use mesh_outside::{Stages, Target};
+use mesh_report::{Status, line_of, report_of, status_of};
 use mesh_triangles::{PlaneAnswer, PlaneQuery, TrianglesFault};
 use mesh_words::Request;
 use std::alloc::Global;
@@ -45,7 +42,7 @@ fn output_of_contents<
     stages: &P,
     executor: &C,
     plane_executor: &D,
-) -> Result<Output, Status>
+) -> Result<SolidFile, Status>
     requires few { length names.now ≤ 64 }
     requires one_each { length contents.now ≡ length names.now }
     requires small { All (λ bytes. length bytes.items ≤ 268435456) contents.now }
@@ -89,7 +86,7 @@ fn solid_output<
     stages: &P,
     executor: &C,
     plane_executor: &D,
-) -> Result<Output, Status>
+) -> Result<SolidFile, Status>
     requires limits { IsWithinLimits request.now }
     requires executor { IsExecutor C.pre C.post executor.now }
     requires plane_executor { IsPlaneExecutor D.pre D.post plane_executor.now }

@@ -2,12 +2,12 @@
 use Rattle.std.proofs.Common.{◌≡◌, ℕ, zero, suc, ◌*◌, ◌/◌, ◌^◌, ◌<◌, ◌≤◌, sym, ap, subst, ◌∙◌, arith, mul-le-mul}
 use Rattle.std.specs.Int.{IsGcd, ◌∣◌}
 use Rattle.std.proofs.Math.Nat.{div-mul_cancel, mul_comm, mul-dvd-mul_right, dvd_of_mul-dvd-mul_left, one-dvd}
-use Rattle.mesh_grid.specs.declared.snap.steps.Step.{Step}
+use Rattle.mesh_grid.specs.declared.snap.steps.GridStep.{GridStep}
 use Rattle.mesh_grid.specs.Snap.Steps.{IsStep}
 use Rattle.mesh_certificate.proofs.Divisors.{gcd_nonzero}
 use Rattle.mesh_scene.specs.SceneFile.Fractions.{IsInLowestTerms}
 
-pub divisor_positive : (s : Step) (g : ℕ) → IsStep s → IsGcd s.numerator s.denominator g → 0 < g
+pub divisor_positive : (s : GridStep) (g : ℕ) → IsStep s → IsGcd s.numerator s.denominator g → 0 < g
 divisor_positive s g is gcd =
     let positive = is.numerator_positive in
     let nonzero = gcd_nonzero gcd (λ e. omega arith) in
@@ -33,7 +33,7 @@ common_is_one a b g n d k e f positive gcd p q =
     let turned : g * k ∣ g * 1 = subst (λ (m : ℕ). m ∣ g * 1) (mul_comm k g) (subst (λ (m : ℕ). k * g ∣ m) (omega arith) up) in
     dvd_of_mul-dvd-mul_left {k = g} k positive turned
 
-pub divided_is_lowest : (s : Step) (g : ℕ) → IsStep s → IsGcd s.numerator s.denominator g
+pub divided_is_lowest : (s : GridStep) (g : ℕ) → IsStep s → IsGcd s.numerator s.denominator g
     → IsInLowestTerms s (record { numerator = s.numerator / g; denominator = s.denominator / g })
 divided_is_lowest s g is gcd =
     let positive = divisor_positive s g is gcd in

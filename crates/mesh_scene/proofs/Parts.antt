@@ -10,7 +10,7 @@ use Rattle.std.proofs.lemmas.Slice.Eq.{bytes_eq-Decides}
 use Rattle.std.proofs.lemmas.Str.Parse.{digit_at}
 use Rattle.serde_json.specs.Data.{Data}
 use Rattle.serde_json.specs.Read.{read}
-use Rattle.mesh_grid.specs.declared.snap.steps.Step.{Step}
+use Rattle.mesh_grid.specs.declared.snap.steps.GridStep.{GridStep}
 use Rattle.mesh_grid.specs.Snap.Steps.{IsStep}
 use Rattle.mesh_grid.specs.declared.grid.grid.Grid.{Grid}
 use Rattle.mesh_scene.specs.SceneFile.Scenes.{IsGridIn}
@@ -38,10 +38,10 @@ same_text text shown m n same is spells differ =
     not_from_Decides _ (bytes_eq-Decides shown text) differ e
 
 -- ---- both parts
-pub numerator_is_part : (text : List ℕ) (s : Step) → IsStep s → text ≡ decimal s.numerator → IsPart text s.numerator
+pub numerator_is_part : (text : List ℕ) (s : GridStep) → IsStep s → text ≡ decimal s.numerator → IsPart text s.numerator
 numerator_is_part text s is e = record { positive = is.numerator_positive; small = is.numerator_small; spells = e }
 
-pub denominator_is_part : (text : List ℕ) (s : Step) → IsStep s → text ≡ decimal s.denominator → IsPart text s.denominator
+pub denominator_is_part : (text : List ℕ) (s : GridStep) → IsStep s → text ≡ decimal s.denominator → IsPart text s.denominator
 denominator_is_part text s is e = record { positive = is.denominator_positive; small = is.denominator_small; spells = e }
 
 -- no digit is a slash (47)
@@ -61,7 +61,7 @@ split_once (x ∷ xs) (y ∷ ys) us vs h k e =
     let rest = split_once xs ys us vs (λ i l. h (suc i) (omega arith)) (λ i l. k (suc i) (omega arith)) (cc) in
     (cc, rest.1)
 
-pub one_step : (text : List ℕ) (s t : Step) → IsStepText text s → IsStepText text t → s ≡ t
+pub one_step : (text : List ℕ) (s t : GridStep) → IsStepText text s → IsStepText text t → s ≡ t
 one_step text s t is it =
     let parts = split_once (decimal s.numerator) (decimal t.numerator) (decimal s.denominator) (decimal t.denominator)
     (no_slash s.numerator is.step.numerator_small) (no_slash t.numerator it.step.numerator_small) (sym is.spells ∙ it.spells) in

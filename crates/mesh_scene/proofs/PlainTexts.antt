@@ -12,7 +12,7 @@ use Rattle.json.proofs.Printed.Strings.{escape_byte_plain}
 use Rattle.mesh_number.specs.Round.Decimals.{fraction_digits, fraction_text}
 use Rattle.mesh_number.proofs.Digits.{power_of_10_positive}
 use Rattle.mesh_grid.specs.declared.moves.length.Length.{Length}
-use Rattle.mesh_grid.specs.declared.snap.steps.Step.{Step}
+use Rattle.mesh_grid.specs.declared.snap.steps.GridStep.{GridStep}
 use Rattle.mesh_grid.specs.Snap.Steps.{IsStep}
 use Rattle.mesh_scene.specs.SceneFile.Fractions.{fraction_text as step_text}
 use Rattle.mesh_scene.specs.SceneFile.Texts.{move_text}
@@ -77,7 +77,7 @@ move_plain l =
     let positive = power_of_10_positive l.places in
     All-append IsPlain _ _ (decimal_plain _ (quotient_small l.size (10 ^ l.places) l.small)) (point_plain l.places _ (mod-lt l.size positive))
 
-pub step_plain : (s : Step) → IsStep s → All IsPlain (step_text s)
+pub step_plain : (s : GridStep) → IsStep s → All IsPlain (step_text s)
 step_plain s h =
     All-append IsPlain _ _ (decimal_plain _ (below h.numerator_small))
     (All-append IsPlain (codes "/") _ (All-cons IsPlain 47 [] (record { low = omega arith; high = omega arith })

@@ -19,7 +19,7 @@ use Rattle.mesh_grid.specs.declared.grid.grid.Grid.{Grid}
 use Rattle.mesh_grid.specs.declared.moves.length.Length.{Length}
 use Rattle.mesh_scene.specs.declared.scene.counts.Counts.{Counts}
 use Rattle.mesh_grid.specs.declared.snap.offsets.Offset.{Offset}
-use Rattle.mesh_grid.specs.declared.snap.steps.Step.{Step}
+use Rattle.mesh_grid.specs.declared.snap.steps.GridStep.{GridStep}
 use Rattle.mesh_grid.specs.Snap.Steps.{IsStep}
 use Rattle.mesh_scene.specs.SceneFile.Fractions.{fraction_text}
 use Rattle.mesh_scene.specs.SceneFile.Scenes.{offset_of, step_text_in, offset_in, IsSceneOf}
@@ -53,7 +53,7 @@ files_tokens : (fs : List File) → tree.items_tokens (files_json fs) ++ end_obj
 files_tokens [] = refl
 files_tokens (f ∷ fs) = ap (λ (l : List Token). map (λ p. p.1) (file_pieces f) ++ l) (files_tokens fs)
 
-scene_tokens : (step : Step) (o : Offset) (fs : List File)
+scene_tokens : (step : GridStep) (o : Offset) (fs : List File)
     → tree.json_tokens (scene_json (fraction_text step) (signed_decimal o.x) (signed_decimal o.y) (signed_decimal o.z) (files_json fs))
     ≡ map (λ p. p.1) (scene_pieces step o fs)
 scene_tokens step o fs = ap (λ (l : List Token). map (λ p. p.1) (grid_pieces step o) ++ l) (files_tokens fs)
@@ -117,13 +117,13 @@ read_from j d text same shallow is =
     (ap (json.value max_depth) (same ∙ sym (append-nil (tree.json_tokens j))) ∙ value-json_tokens j max_depth [] shallow)
     ∙ is
 
-pub record IsRead (step : Step) (o : Offset) (text : List ℕ) : Type 0 where
+pub record IsRead (step : GridStep) (o : Offset) (text : List ℕ) : Type 0 where
   pub value : Data
   pub json : read text ≡ Some value
   pub step_there : step_text_in value ≡ Some (fraction_text step)
   pub offset_there : offset_in value ≡ Some o
 
-pub text_is_read : (step : Step) (o : Offset) (fs : List File) → IsStep step → IsShort o → All IsFile fs → IsRead step o (text_of step o fs)
+pub text_is_read : (step : GridStep) (o : Offset) (fs : List File) → IsStep step → IsShort o → All IsFile fs → IsRead step o (text_of step o fs)
 text_is_read step o fs is short h =
     let files = files_shallow fs in
     let x = signed_decimal o.x in

@@ -17,7 +17,7 @@ use Rattle.json.proofs.Printed.Decimals.{IsNumber-decimal, IsNumber-signed_decim
 use Rattle.mesh_grid.specs.declared.moves.length.Length.{Length}
 use Rattle.mesh_scene.specs.declared.scene.counts.Counts.{Counts}
 use Rattle.mesh_grid.specs.declared.snap.offsets.Offset.{Offset}
-use Rattle.mesh_grid.specs.declared.snap.steps.Step.{Step}
+use Rattle.mesh_grid.specs.declared.snap.steps.GridStep.{GridStep}
 use Rattle.mesh_grid.specs.Snap.Steps.{IsStep}
 use Rattle.mesh_scene.specs.SceneFile.Fractions.{fraction_text}
 use Rattle.mesh_scene.specs.SceneFile.Texts.{File, move_text, count_text, counts_text, name_text, next_text, file_text}
@@ -44,7 +44,7 @@ abbrev pub files_pieces : List File → Pieces
 files_pieces [] = (codes "\n  ", end_array) ∷ (codes "\n", end_object) ∷ []
 files_pieces (f ∷ fs) = file_pieces f ++ files_pieces fs
 
-abbrev pub grid_pieces : Step → Offset → Pieces
+abbrev pub grid_pieces : GridStep → Offset → Pieces
 grid_pieces step o =
     ([], begin_object) ∷
     (codes "\n  ", key (codes "step")) ∷ (codes " ", string (fraction_text step)) ∷
@@ -53,7 +53,7 @@ grid_pieces step o =
     ([], end_array) ∷
     (codes "\n  ", key (codes "files")) ∷ (codes " ", begin_array) ∷ []
 
-abbrev pub scene_pieces : Step → Offset → List File → Pieces
+abbrev pub scene_pieces : GridStep → Offset → List File → Pieces
 scene_pieces step o fs = grid_pieces step o ++ files_pieces fs
 
 -- ---- their text
@@ -144,13 +144,13 @@ grid_then step x y z r =
     codes "{\n  \"step\": " ++ (step ++ (codes ",\n  \"offset\": [" ++ (x ++ (codes ", " ++ (y ++ (codes ", " ++ (z ++
     (codes "],\n  \"files\": [" ++ r))))))))
 
-grid_spaced : (step : Step) (o : Offset) (rest : Pieces)
+grid_spaced : (step : GridStep) (o : Offset) (rest : Pieces)
     → print_spaced false (grid_pieces step o ++ rest)
     ≡ grid_then (quoted (fraction_text step)) (signed_decimal o.x) (signed_decimal o.y) (signed_decimal o.z) (print_spaced false rest)
 unfolding print_spaced escape_byte
 grid_spaced step o rest = refl
 
-grid_regrouped : (step : Step) (o : Offset) (r : List ℕ) → IsStep step
+grid_regrouped : (step : GridStep) (o : Offset) (r : List ℕ) → IsStep step
     → grid_then (quoted (fraction_text step)) (signed_decimal o.x) (signed_decimal o.y) (signed_decimal o.z) r ≡ grid_text step o ++ r
 unfolding grid_text offset_text next_text
 grid_regrouped step o r is =
@@ -167,7 +167,7 @@ grid_regrouped step o r is =
     ∙ ap (λ (l : List ℕ). codes ", " ++ (signed_decimal o.y ++ l))
     (append_assoc (codes ", ") (signed_decimal o.z) _))))
 
-pub pieces_are_text : (step : Step) (o : Offset) (fs : List File) → IsStep step
+pub pieces_are_text : (step : GridStep) (o : Offset) (fs : List File) → IsStep step
     → print_spaced false (scene_pieces step o fs) ++ 10 ∷ [] ≡ text_of step o fs
 pieces_are_text step o fs is =
     ap (λ (l : List ℕ). l ++ 10 ∷ [])
@@ -234,7 +234,7 @@ files_printable (f ∷ fs) h =
       ),
     )
 
-scene_printable : (step : Step) (o : Offset) (fs : List File) → IsShort o → All IsFile fs → ArePrintable (map (λ p. p.1) (scene_pieces step o fs))
+scene_printable : (step : GridStep) (o : Offset) (fs : List File) → IsShort o → All IsFile fs → ArePrintable (map (λ p. p.1) (scene_pieces step o fs))
 unfolding ArePrintable
 scene_printable step o fs short h = (
   tt,
@@ -260,7 +260,7 @@ scene_printable step o fs short h = (
 )
 
 -- the tokens of a scene's text
-pub text_tokens : (step : Step) (o : Offset) (fs : List File) → IsStep step → IsShort o → All IsFile fs
+pub text_tokens : (step : GridStep) (o : Offset) (fs : List File) → IsStep step → IsShort o → All IsFile fs
     → tokens (text_of step o fs) ≡ map (λ p. p.1) (scene_pieces step o fs)
 text_tokens step o fs is short h =
     ap tokens (sym (pieces_are_text step o fs is))
@@ -323,7 +323,7 @@ files_utf8 (f ∷ fs) h =
       ),
     )
 
-scene_utf8 : (step : Step) (o : Offset) (fs : List File) → IsStep step → IsShort o → All IsFile fs → AreUtf8 (scene_pieces step o fs)
+scene_utf8 : (step : GridStep) (o : Offset) (fs : List File) → IsStep step → IsShort o → All IsFile fs → AreUtf8 (scene_pieces step o fs)
 unfolding escape_byte
 scene_utf8 step o fs is short h = (
   IsUtf8-are_ascii _ refl,
@@ -351,7 +351,7 @@ scene_utf8 step o fs is short h = (
   ),
 )
 
-pub text_utf8 : (step : Step) (o : Offset) (fs : List File) → IsStep step → IsShort o → All IsFile fs → IsUtf8 (text_of step o fs)
+pub text_utf8 : (step : GridStep) (o : Offset) (fs : List File) → IsStep step → IsShort o → All IsFile fs → IsUtf8 (text_of step o fs)
 text_utf8 step o fs is short h =
     subst IsUtf8 (pieces_are_text step o fs is)
     (IsUtf8-append _ (10 ∷ []) (spaced_utf8 false _ (gaps_sound (scene_pieces step o fs) (files_gaps fs))

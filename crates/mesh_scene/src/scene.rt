@@ -11,4 +11,4 @@ mod surface;
 pub use counts::Counts;
 pub use fault::{Open, SceneFault};
 pub use laws::closed_surfaces_are_never_open;
-pub use scene::{Placed, scene_of};
+pub use scene::{PlacedScene, scene_of};

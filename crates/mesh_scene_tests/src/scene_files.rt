@@ -1,12 +1,12 @@
 // Scenes as JSON.
 use ember_words::Text;
-use mesh_grid::{Grid, Length, Offset, Step};
+use mesh_grid::{Grid, GridStep, Length, Offset};
 use mesh_scene::{Counts, SceneFileFault, read_scene, scene_text};
 use std::alloc::Global;
 use std::test::Fail;
 
 const GRID: Grid = Grid {
-    step: Step {
+    step: GridStep {
         numerator: 2,
         denominator: 10,
     },
@@ -58,7 +58,7 @@ fn a_scene_is_written_and_read_again(rt: HostRuntime) -> Result<(), Fail> {
     let written = scene_text(alloc, &GRID, &names, &COUNTS, &MOVES)?;
     assert_eq!(rt; written.as_slice(), SCENE);
     let grid = Grid {
-        step: Step {
+        step: GridStep {
             numerator: 1,
             denominator: 5,
         },
@@ -78,7 +78,7 @@ fn other_members_are_passed_over(rt: HostRuntime) -> Result<(), Fail> {
     let bytes =
         b"{\"offset\":[0,7,-9223372036854775808],\"more\":[1.5],\"step\":\"2/1099511627775\"}";
     let grid = Grid {
-        step: Step {
+        step: GridStep {
             numerator: 2,
             denominator: 1_099_511_627_775,
         },

@@ -10,7 +10,7 @@ use Rattle.ember_model.specs.declared.face.Face.{Face}
 use Rattle.mesh_solid.specs.declared.tables.face_edge.FaceEdge.{FaceEdge}
 use Rattle.mesh_solid.specs.declared.tables.fault.TableFault.{TableFault}
 use Rattle.mesh_solid.specs.declared.tables.fault.TableFault.TheVariants.{NoLine, NoCorner, TooMany, OutOfMemory}
-use Rattle.mesh_solid.specs.declared.tables.draft.Draft.{Draft}
+use Rattle.mesh_solid.specs.declared.tables.draft.TableBuilder.{TableBuilder}
 use Rattle.mesh_solid.specs.Tables.Edges.{first_or, last_or, edges_behind, edges_round, face_edges_of}
 use Rattle.mesh_solid.specs.Tables.Tables.{IsSegmentOf, IsEdgeFault, IsFault}
 use Rattle.mesh_solid.specs.Tables.Drafts.{planes_in, IsDraft, IsDraftBefore}
@@ -21,7 +21,7 @@ passed_on P (Ok x) e i h = tt
 passed_on P (Err f) e i h = subst P (sym i) h
 
 -- ---- the edge that comes next
-module _ (all rest : List FaceEdge) (edge : FaceEdge) (d : Draft) where
+module _ (all rest : List FaceEdge) (edge : FaceEdge) (d : TableBuilder) where
   next_is_one : IsDraftBefore all (edge ∷ rest) d → Contains all edge
   next_is_one h =
       subst (λ (es : List FaceEdge). Contains es edge) h.split (Contains-append_right h.done (edge ∷ rest) edge (0, omega arith, refl))
@@ -40,7 +40,7 @@ module _ (all rest : List FaceEdge) (edge : FaceEdge) (d : Draft) where
       omega (arith, many, long, length-append h.done (edge ∷ rest), ap length h.split)
 
 -- ---- one face
-module _ (all more : List FaceEdge) (face : ℕ) (n : Plane) (d : Draft) where
+module _ (all more : List FaceEdge) (face : ℕ) (n : Plane) (d : TableBuilder) where
   -- its edges are those from its first one on
   pub round_begins : (xs : List Plane) (e : Plane) (es : List Plane) (before : Plane) → xs ≡ e ∷ es →
       before ≡ last_or e es → IsDraftBefore all (edges_round face n xs ++ more) d →
@@ -81,7 +81,7 @@ module _ (all more : List FaceEdge) (face : ℕ) (n : Plane) (d : Draft) where
       (subst (λ (ys : List Plane). IsDraftBefore all (edges_behind face n first before ys ++ more) d) x h)
 
 -- ---- all faces
-module _ (all : List FaceEdge) (fs : List Face) (i : ℕ) (d : Draft) where
+module _ (all : List FaceEdge) (fs : List Face) (i : ℕ) (d : TableBuilder) where
   pub face_begins : (f : Face) (ps : List Plane) → i < length fs → f ≡ get_or fs i f → ps ≡ f.edges →
       IsDraftBefore all (face_edges_of i (drop i fs)) d →
       IsDraftBefore all (edges_round i f.support ps ++ face_edges_of (i + 1) (drop (i + 1) fs)) d

@@ -10,7 +10,7 @@ use Rattle.mesh_certificate.specs.declared.certificate.segment.Segment.{Segment}
 use Rattle.mesh_certificate.specs.declared.certificate.space_point.SpacePoint.{SpacePoint}
 use Rattle.mesh_certificate.specs.Certificate.Facing.{spot_of}
 use Rattle.mesh_solid.specs.declared.tables.face_edge.FaceEdge.{FaceEdge}
-use Rattle.mesh_solid.specs.declared.tables.draft.Draft.{Draft}
+use Rattle.mesh_solid.specs.declared.tables.draft.TableBuilder.{TableBuilder}
 use Rattle.mesh_solid.specs.Tables.Numberings.{same_entry, same_line, same_corner}
 use Rattle.mesh_solid.specs.Tables.Tables.{IsCorner, IsSegmentOf}
 use Rattle.mesh_solid.specs.Tables.Drafts.{planes_in, IsDraftBefore}
@@ -28,7 +28,7 @@ stays ps qs ls ms cs ds p l c edge s h =
     }
 
 -- a draft stays one as its tables grow
-pub grown : (all rest : List FaceEdge) (d e : Draft) → IsDistinct same_entry e.planes.keys →
+pub grown : (all rest : List FaceEdge) (d e : TableBuilder) → IsDistinct same_entry e.planes.keys →
     IsDistinct same_line e.lines.keys → IsDistinct same_corner e.corners.keys → All IsValidPlane (planes_in e) →
     Extends (planes_in d) (planes_in e) → Extends d.lines.keys e.lines.keys → Extends d.corners.keys e.corners.keys →
     e.segments.items ≡ d.segments.items → IsDraftBefore all rest d → IsDraftBefore all rest e
@@ -50,10 +50,10 @@ grown all rest d e i j k v p l c s h =
     }
 
 -- with a segment more it is that of an edge more
-pub edge_put : (all rest : List FaceEdge) (edge : FaceEdge) (d e : Draft) (s : Segment) →
+pub edge_put : (all rest : List FaceEdge) (edge : FaceEdge) (d e : TableBuilder) (s : Segment) →
     e ≡ record d { segments = e.segments } → IsSegmentOf (planes_in d) d.lines.keys d.corners.keys edge s →
     e.segments.items ≡ d.segments.items ++ s ∷ [] → IsDraftBefore all (edge ∷ rest) d → IsDraftBefore all rest e
-edge_put all rest edge d e s only is t h = subst (λ (x : Draft). IsDraftBefore all rest x) (sym only) put
+edge_put all rest edge d e s only is t h = subst (λ (x : TableBuilder). IsDraftBefore all rest x) (sym only) put
   where
     put : IsDraftBefore all rest (record d { segments = e.segments })
     put =

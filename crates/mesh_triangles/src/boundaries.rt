@@ -8,7 +8,7 @@ use crate::corner_order::CornerOrder;
 use crate::fault::TrianglesFault;
 use crate::marks::{Mark, put_marks};
 use crate::split::{Split, splits_on};
-use crate::tables::Tables;
+use crate::tables::TablesView;
 use crate::walk::{Boundaries, Walk};
 use mesh_certificate::{Segment, segment_key};
 use std::alloc::Global;
@@ -68,7 +68,7 @@ fn pass_all(
 // at which no plane's chain changes.
 fn walk_along(
     desk: &mut Desk,
-    tables: &Tables,
+    tables: &TablesView,
     line: u32,
     segments: &[Segment],
     splits: &[Split],
@@ -92,7 +92,7 @@ fn walk_along(
 
 fn push_line(
     desk: &mut Desk,
-    tables: &Tables,
+    tables: &TablesView,
     line: u32,
     segments: &[Segment],
     splits: &[Split],
@@ -125,7 +125,7 @@ fn count_on(segments: &[Segment], line: u32) -> usize
 /// the line is split.
 pub fn boundaries_of(
     alloc: Global,
-    tables: &Tables,
+    tables: &TablesView,
     by_line: &[Segment],
     splits: &[Split],
 ) -> Result<Boundaries, TrianglesFault>

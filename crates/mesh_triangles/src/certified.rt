@@ -8,7 +8,7 @@ use crate::boundaries::in_order_of_planes;
 use crate::fault::TrianglesFault;
 use crate::query::{PlaneAnswer, PlaneQuery, query_boundaries, query_certificate};
 use crate::rounds::{found_triangles, in_order_of_lines};
-use crate::tables::Tables;
+use crate::tables::TablesView;
 use crate::walk::Boundaries;
 use ember_model::Plane;
 use mesh_certificate::{LineKey, Segment, SpacePoint, Triangle, are_triangles_closed};
@@ -30,7 +30,7 @@ pub fn certified_triangles<C: Fn(&PlaneQuery) -> Result<PlaneAnswer, TrianglesFa
     requires executor { IsPlaneExecutor C.pre C.post executor.now }
     ensures { IfOk result (λ ts. IsCertified planes.now lines.now corners.now segments.now ts.items) }
 {
-    let tables = Tables {
+    let tables = TablesView {
         planes,
         lines,
         corners,

@@ -1,15 +1,15 @@
 // The parts of planes, one after another, as triangles.
 use crate::fault::TrianglesFault;
 use crate::split::Split;
-use crate::tables::Tables;
+use crate::tables::TablesView;
 use ember_model::OutOfMemory;
 use mesh_certificate::{Segment, Triangle};
-use mesh_triangulate::{Cut, Touch, triangles_of, with_lines};
+use mesh_triangulate::{Touch, Triangulation, triangles_of, with_lines};
 use std::alloc::Global;
 
 /// A part of a plane: the plane's number, and the part's boundary.
 #[derive(Clone, Copy)]
-pub struct Part<'a> {
+pub struct PlanePart<'a> {
     pub plane: u32,
     pub boundary: &'a [Segment],
 }
@@ -52,7 +52,7 @@ impl CutParts {
     fn push_triangles(
         &mut self,
         alloc: Global,
-        part: &Part,
+        part: &PlanePart,
         corners: &[[u32; 3]],
         first_free_line: u32,
     ) -> Result<(), TrianglesFault> {
@@ -69,22 +69,22 @@ impl CutParts {
     fn cut(
         &mut self,
         alloc: Global,
-        tables: &Tables,
-        part: &Part,
+        tables: &TablesView,
+        part: &PlanePart,
         first_free_line: u32,
     ) -> Result<(), TrianglesFault> {
         let Some(plane) = tables.planes.get(part.plane as usize) else {
             return Err(TrianglesFault::UnknownPlane(part.plane));
         };
         match triangles_of(alloc, plane, tables.corners, part.boundary)? {
-            Cut::Triangles(corners) => {
+            Triangulation::Triangles(corners) => {
                 self.push_triangles(alloc, part, &corners, first_free_line)
             }
-            Cut::Touches(touches) => {
+            Triangulation::Touches(touches) => {
                 self.push_touches(&touches)?;
                 Ok(())
             }
-            Cut::NotFound => Err(TrianglesFault::NoTriangles(part.plane)),
+            Triangulation::NotFound => Err(TrianglesFault::NoTriangles(part.plane)),
         }
     }
 
@@ -100,8 +100,8 @@ impl CutParts {
 /// Cuts the parts. The lines of diagonals begin with the first free one, in each part anew.
 pub fn cut_parts(
     alloc: Global,
-    tables: &Tables,
-    parts: &[Part],
+    tables: &TablesView,
+    parts: &[PlanePart],
     first_free_line: u32,
 ) -> Result<CutParts, TrianglesFault> {
     let mut found = CutParts::none(alloc);

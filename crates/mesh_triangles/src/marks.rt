@@ -6,7 +6,7 @@ ghost use Rattle.mesh_triangles.specs.Marks.{AreMarks};
 use crate::corner_order::CornerOrder;
 use crate::fault::TrianglesFault;
 use crate::split::Split;
-use crate::tables::Tables;
+use crate::tables::TablesView;
 use mesh_certificate::Segment;
 
 /// What a mark is.
@@ -71,7 +71,7 @@ fn push_splits(
 pub fn put_marks(
     marks: &mut Vec<Mark>,
     order: &mut CornerOrder,
-    tables: &Tables,
+    tables: &TablesView,
     line: u32,
     segments: &[Segment],
     splits: &[Split],

@@ -2,11 +2,11 @@
 ghost use Rattle.std.specs.Prelude.{◌≤◌, length};
 ghost use Rattle.mesh_triangles.specs.PlaneQueries.{IsPlaneExecutor};
 
-use crate::cutting::{CutParts, Part};
+use crate::cutting::{CutParts, PlanePart};
 use crate::fault::TrianglesFault;
 use crate::query::{PlaneAnswer, PlaneQuery, query_cuts};
 use crate::split::Split;
-use crate::tables::Tables;
+use crate::tables::TablesView;
 use ember_model::OutOfMemory;
 use mesh_certificate::{Segment, Triangle, segment_key};
 use std::alloc::Global;
@@ -24,7 +24,7 @@ struct PlaneCut {
 /// The parts of all planes, in order of planes: their boundaries, and the triangles of those parts
 /// that are cut.
 #[derive(Drop)]
-pub struct Parts {
+pub struct PlaneParts {
     boundary: Vec<Segment>,
     cuts: Vec<PlaneCut>,
     triangles: Vec<Triangle>,
@@ -84,10 +84,10 @@ fn triangles_in<'a>(all: &'a [Triangle], cut: &PlaneCut) -> &'a [Triangle] {
     all.get(cut.first..cut.behind).unwrap_or(&[])
 }
 
-impl Parts {
+impl PlaneParts {
     /// The parts inside a boundary in order of planes. None is cut yet.
-    pub fn inside(alloc: Global, boundary: &[Segment]) -> Result<Parts, OutOfMemory> {
-        Ok(Parts {
+    pub fn inside(alloc: Global, boundary: &[Segment]) -> Result<PlaneParts, OutOfMemory> {
+        Ok(PlaneParts {
             boundary: Vec::from_slice(alloc, boundary)?,
             cuts: due_cuts(alloc, boundary)?,
             triangles: Vec::new(alloc),
@@ -128,14 +128,14 @@ impl Parts {
     }
 
     // The parts that are to be cut.
-    fn due_parts(&self, alloc: Global) -> Result<Vec<Part>, OutOfMemory> {
+    fn due_parts(&self, alloc: Global) -> Result<Vec<PlanePart>, OutOfMemory> {
         let mut due = Vec::new(alloc);
         let mut rest = self.boundary.as_slice();
         for cut in &self.cuts {
             let (boundary, behind) = rest.split_at(count_in(rest, cut.plane));
             rest = behind;
             if cut.is_due {
-                due.push(Part {
+                due.push(PlanePart {
                     plane: cut.plane,
                     boundary,
                 })?;
@@ -174,7 +174,7 @@ impl Parts {
     pub fn cut<C: Fn(&PlaneQuery) -> Result<PlaneAnswer, TrianglesFault>>(
         &mut self,
         alloc: Global,
-        tables: &Tables,
+        tables: &TablesView,
         first_free_line: u32,
         executor: &C,
     ) -> Result<Vec<Split>, TrianglesFault>

@@ -11,9 +11,9 @@ ghost use Rattle.mesh_certificate.specs.Certificate.Certificate.{ArePartsCertifi
 ghost use Rattle.mesh_certificate.specs.Certificate.Chains.{HaveSameChains};
 ghost use Rattle.mesh_triangles.specs.PlaneQueries.{IsPlaneExecutor};
 
-use crate::cutting::{CutParts, Part};
+use crate::cutting::{CutParts, PlanePart};
 use crate::fault::TrianglesFault;
-use crate::tables::Tables;
+use crate::tables::TablesView;
 use crate::walk::Boundaries;
 use mesh_certificate::{Segment, Triangle};
 
@@ -21,12 +21,12 @@ use mesh_certificate::{Segment, Triangle};
 #[derive(Clone, Copy)]
 pub enum PlaneQuery<'a> {
     /// The boundaries of the planes' parts on some lines, by the segments on them in order of lines.
-    Boundaries(Tables<'a>, &'a [Segment]),
+    Boundaries(TablesView<'a>, &'a [Segment]),
     /// The triangles of parts. The lines of diagonals begin with this free one.
-    Cuts(Tables<'a>, &'a [Part<'a>], u32),
+    Cuts(TablesView<'a>, &'a [PlanePart<'a>], u32),
     /// Whether the triangles cut up the faces with this boundary, plane by plane. Both are in order
     /// of planes.
-    Certificate(Tables<'a>, &'a [Segment], &'a [Triangle]),
+    Certificate(TablesView<'a>, &'a [Segment], &'a [Triangle]),
 }
 
 /// The answer to a query, of the same kind.
@@ -39,7 +39,7 @@ pub enum PlaneAnswer {
 
 /// Asks for the boundaries of the planes' parts, by segments in order of lines.
 pub fn query_boundaries<C: Fn(&PlaneQuery) -> Result<PlaneAnswer, TrianglesFault>>(
-    tables: &Tables,
+    tables: &TablesView,
     by_line: &[Segment],
     executor: &C,
 ) -> Result<Boundaries, TrianglesFault>
@@ -54,8 +54,8 @@ pub fn query_boundaries<C: Fn(&PlaneQuery) -> Result<PlaneAnswer, TrianglesFault
 
 /// Asks for the triangles of parts.
 pub fn query_cuts<C: Fn(&PlaneQuery) -> Result<PlaneAnswer, TrianglesFault>>(
-    tables: &Tables,
-    parts: &[Part],
+    tables: &TablesView,
+    parts: &[PlanePart],
     first_free_line: u32,
     executor: &C,
 ) -> Result<CutParts, TrianglesFault>
@@ -70,7 +70,7 @@ pub fn query_cuts<C: Fn(&PlaneQuery) -> Result<PlaneAnswer, TrianglesFault>>(
 
 /// Asks whether triangles cut up the faces with this boundary, plane by plane.
 pub fn query_certificate<C: Fn(&PlaneQuery) -> Result<PlaneAnswer, TrianglesFault>>(
-    tables: &Tables,
+    tables: &TablesView,
     boundary: &[Segment],
     triangles: &[Triangle],
     executor: &C,

@@ -5,10 +5,10 @@ ghost use Rattle.mesh_triangles.specs.PlaneQueries.{IsPlaneExecutor};
 
 use crate::boundaries::{boundaries_of, in_order_of_planes};
 use crate::fault::TrianglesFault;
-use crate::parts::Parts;
+use crate::parts::PlaneParts;
 use crate::query::{PlaneAnswer, PlaneQuery};
 use crate::split::{Split, add_splits, lines_of};
-use crate::tables::Tables;
+use crate::tables::TablesView;
 use crate::through::{Through, crossings};
 use crate::walk::Boundaries;
 use mesh_certificate::{LineKey, Segment, Triangle};
@@ -64,11 +64,11 @@ fn segments_on(
 // Finds the boundaries on the lines of the new splits anew.
 fn split_lines(
     alloc: Global,
-    tables: &Tables,
+    tables: &TablesView,
     by_line: &[Segment],
     splits: &[Split],
     new: &[Split],
-    parts: &mut Parts,
+    parts: &mut PlaneParts,
 ) -> Result<(), TrianglesFault> {
     let lines = lines_of(alloc, new)?;
     let changed = segments_on(alloc, by_line, &lines)?;
@@ -82,7 +82,7 @@ fn split_lines(
 /// crossings once.
 pub fn found_triangles<C: Fn(&PlaneQuery) -> Result<PlaneAnswer, TrianglesFault>>(
     alloc: Global,
-    tables: &Tables,
+    tables: &TablesView,
     by_line: &[Segment],
     boundary: &[Segment],
     through: Vec<Through>,
@@ -93,7 +93,7 @@ pub fn found_triangles<C: Fn(&PlaneQuery) -> Result<PlaneAnswer, TrianglesFault>
     let free = first_free_line(tables.lines, by_line)?;
     let mut needed = crossings(alloc, through)?;
     let mut splits = Vec::new(alloc);
-    let mut parts = Parts::inside(alloc, boundary)?;
+    let mut parts = PlaneParts::inside(alloc, boundary)?;
     for _ in 0..by_line.len().saturating_add(1) {
         if !needed.is_empty() {
             if !add_splits(&mut splits, &needed)? {

@@ -8,9 +8,9 @@ ghost use Rattle.mesh_certificate.specs.Certificate.Certificate.{ArePartsCertifi
 ghost use Rattle.mesh_certificate.specs.Certificate.Chains.{HaveSameChains};
 
 use crate::boundaries::boundaries_of;
-use crate::cutting::{CutParts, Part, cut_parts};
+use crate::cutting::{CutParts, PlanePart, cut_parts};
 use crate::fault::TrianglesFault;
-use crate::tables::Tables;
+use crate::tables::TablesView;
 use crate::walk::Boundaries;
 use ember_model::OutOfMemory;
 use mesh_certificate::{Segment, Triangle, are_parts_certified};
@@ -46,7 +46,7 @@ pub fn boundaries_by<R: Threads + Sync>(
     rt: &R,
     alloc: Global,
     workers: u32,
-    tables: &Tables,
+    tables: &TablesView,
     by_line: &[Segment],
 ) -> Result<Boundaries, TrianglesFault>
     ensures { IfOk result (λ boundaries. HaveSameChains by_line.now boundaries.segments.items) }
@@ -72,8 +72,8 @@ pub fn cut_by<R: Threads + Sync>(
     rt: &R,
     alloc: Global,
     workers: u32,
-    tables: &Tables,
-    parts: &[Part],
+    tables: &TablesView,
+    parts: &[PlanePart],
     first_free_line: u32,
 ) -> Result<CutParts, TrianglesFault> {
     if workers < 2 || parts.len() < FEW {
@@ -115,7 +115,7 @@ pub fn certified_by<R: Threads + Sync>(
     rt: &R,
     alloc: Global,
     workers: u32,
-    tables: &Tables,
+    tables: &TablesView,
     boundary: &[Segment],
     triangles: &[Triangle],
 ) -> Result<bool, OutOfMemory>

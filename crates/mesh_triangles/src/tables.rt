@@ -4,7 +4,7 @@ use mesh_certificate::{LineKey, SpacePoint};
 
 /// What the numbers of planes, lines and corners denote.
 #[derive(Clone, Copy)]
-pub struct Tables<'a> {
+pub struct TablesView<'a> {
     pub planes: &'a [Plane],
     pub lines: &'a [LineKey],
     pub corners: &'a [SpacePoint],

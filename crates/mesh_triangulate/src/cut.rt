@@ -4,7 +4,7 @@ ghost use Rattle.mesh_triangulate.specs.Corners.{IsCornerOf, HasCornersOf};
 ghost use Rattle.mesh_triangulate.specs.Cuts.{IsCutOf, IsTouchOf};
 
 use crate::ring::ring_triangles;
-use crate::sorted_boundary::{Place, SortedBoundary};
+use crate::sorted_boundary::{BoundaryCorner, SortedBoundary};
 use crate::stop::Stop;
 use crate::sweep::swept;
 use crate::touches::{Inside, corners_inside};
@@ -21,7 +21,7 @@ pub struct Touch {
 
 /// What becomes of the part of a plane inside a boundary.
 #[derive(Drop)]
-pub enum Cut {
+pub enum Triangulation {
     /// The corners of triangles.
     Triangles(Vec<[u32; 3]>),
     /// All touches of the boundary, of which there is one.
@@ -46,13 +46,17 @@ fn start_of(boundary: &[Segment], segment: usize) -> Option<u32>
     Some(s.start)
 }
 
-fn corner_at(boundary: &[Segment], places: &[Place], place: usize) -> Option<u32>
+fn corner_at(boundary: &[Segment], places: &[BoundaryCorner], place: usize) -> Option<u32>
     ensures { IfSome result (λ corner. IsCornerOf boundary.now corner) }
 {
     start_of(boundary, places.get(place)?.segment)
 }
 
-fn corners_at(boundary: &[Segment], places: &[Place], triangle: &[usize; 3]) -> Option<[u32; 3]>
+fn corners_at(
+    boundary: &[Segment],
+    places: &[BoundaryCorner],
+    triangle: &[usize; 3],
+) -> Option<[u32; 3]>
     ensures { IfSome result (λ triangle. HasCornersOf boundary.now triangle) }
 {
     let [a, b, c] = *triangle;
@@ -65,7 +69,7 @@ fn corners_at(boundary: &[Segment], places: &[Place], triangle: &[usize; 3]) -> 
 fn named(
     alloc: Global,
     boundary: &[Segment],
-    places: &[Place],
+    places: &[BoundaryCorner],
     triangles: &[[usize; 3]],
 ) -> Result<Vec<[u32; 3]>, Stop>
     ensures { IfOk result (λ named. All (HasCornersOf boundary.now) named.items) }
@@ -121,15 +125,20 @@ fn sweep_cut(
     plane: &Plane,
     corners: &[SpacePoint],
     boundary: &[Segment],
-) -> Result<Cut, Stop>
+) -> Result<Triangulation, Stop>
     ensures { IfOk result (IsCutOf boundary.now) }
 {
     let sorted = SortedBoundary::of(alloc, plane, corners, boundary)?;
     match swept(alloc, &sorted) {
-        Ok(triangles) => Ok(Cut::Triangles(named(alloc, boundary, &sorted.places, &triangles)?)),
+        Ok(triangles) => Ok(Triangulation::Triangles(named(
+            alloc,
+            boundary,
+            &sorted.places,
+            &triangles,
+        )?)),
         Err(Stop::Touch) => {
             let inside = corners_inside(alloc, &sorted)?;
-            Ok(Cut::Touches(touches_of(alloc, boundary, &inside)?))
+            Ok(Triangulation::Touches(touches_of(alloc, boundary, &inside)?))
         }
         Err(stop) => Err(stop),
     }
@@ -144,15 +153,15 @@ pub fn triangles_of(
     plane: &Plane,
     corners: &[SpacePoint],
     boundary: &[Segment],
-) -> Result<Cut, OutOfMemory>
+) -> Result<Triangulation, OutOfMemory>
     ensures { IfOk result (λ cut. IsCutOf boundary.now cut) }
 {
     if let Some(triangles) = ring_triangles(alloc, plane, corners, boundary)? {
-        return Ok(Cut::Triangles(triangles));
+        return Ok(Triangulation::Triangles(triangles));
     }
     match sweep_cut(alloc, plane, corners, boundary) {
         Ok(cut) => Ok(cut),
         Err(Stop::OutOfMemory) => Err(AllocError),
-        Err(Stop::NotFound) | Err(Stop::Touch) => Ok(Cut::NotFound),
+        Err(Stop::NotFound) | Err(Stop::Touch) => Ok(Triangulation::NotFound),
     }
 }

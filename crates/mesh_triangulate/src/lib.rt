@@ -14,5 +14,5 @@ mod touches;
 mod view;
 mod whole;
 
-pub use cut::{Cut, Touch, triangles_of};
+pub use cut::{Touch, Triangulation, triangles_of};
 pub use lines::with_lines;

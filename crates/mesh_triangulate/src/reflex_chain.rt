@@ -1,5 +1,5 @@
 // Chains of corners that the sweep has passed.
-use crate::sorted_boundary::{Place, turns_left};
+use crate::sorted_boundary::{BoundaryCorner, turns_left};
 use crate::stop::Stop;
 use std::alloc::Global;
 use std::collections::VecDeque;
@@ -35,7 +35,7 @@ impl ReflexChain {
     /// Appends the right end of the ceiling, and cuts off the triangles that it sees from above.
     pub fn append(
         &mut self,
-        places: &[Place],
+        places: &[BoundaryCorner],
         triangles: &mut Vec<[usize; 3]>,
         place: usize,
     ) -> Result<(), Stop> {
@@ -56,7 +56,7 @@ impl ReflexChain {
     /// Prepends the right end of the floor, and cuts off the triangles that it sees from below.
     pub fn prepend(
         &mut self,
-        places: &[Place],
+        places: &[BoundaryCorner],
         triangles: &mut Vec<[usize; 3]>,
         place: usize,
     ) -> Result<(), Stop> {

@@ -11,7 +11,7 @@ use std::collections::{HashMap, HashSet};
 
 /// A corner of the boundary: its point, and a segment that starts there.
 #[derive(Clone, Copy)]
-pub struct Place {
+pub struct BoundaryCorner {
     pub point: PlanePoint,
     pub segment: usize,
 }
@@ -19,7 +19,7 @@ pub struct Place {
 /// A segment of the boundary between the places of its ends. Above a floor is the plane's part,
 /// below a ceiling.
 #[derive(Clone, Copy)]
-pub struct Edge {
+pub struct BoundaryEdge {
     pub left: usize,
     pub right: usize,
     pub is_floor: bool,
@@ -30,8 +30,8 @@ pub struct Edge {
 /// left end from below.
 #[derive(Drop)]
 pub struct SortedBoundary {
-    pub places: Vec<Place>,
-    pub edges: Vec<Edge>,
+    pub places: Vec<BoundaryCorner>,
+    pub edges: Vec<BoundaryEdge>,
 }
 
 impl SortedBoundary {
@@ -59,13 +59,13 @@ impl SortedBoundary {
     }
 
     /// Whether the edge passes below the place.
-    pub fn is_below(&self, edge: &Edge, place: usize) -> bool {
+    pub fn is_below(&self, edge: &BoundaryEdge, place: usize) -> bool {
         edge.right != place && turns_left(&self.places, edge.left, edge.right, place)
     }
 }
 
 /// The turn of the points of three places.
-pub fn turn_at(places: &[Place], a: usize, b: usize, c: usize) -> Sign {
+pub fn turn_at(places: &[BoundaryCorner], a: usize, b: usize, c: usize) -> Sign {
     let (Some(a), Some(b), Some(c)) = (places.get(a), places.get(b), places.get(c)) else {
         return Sign::Zero;
     };
@@ -74,7 +74,7 @@ pub fn turn_at(places: &[Place], a: usize, b: usize, c: usize) -> Sign {
 
 /// Whether the places with these indices turn left. They don't if they lie on one line, or if an
 /// index is out of range.
-pub fn turns_left(places: &[Place], a: usize, b: usize, c: usize) -> bool {
+pub fn turns_left(places: &[BoundaryCorner], a: usize, b: usize, c: usize) -> bool {
     match turn_at(places, a, b, c) {
         Sign::Pos => true,
         Sign::Neg | Sign::Zero => false,
@@ -86,14 +86,14 @@ fn places_of(
     view: &View,
     corners: &[SpacePoint],
     boundary: &[Segment],
-) -> Result<Vec<Place>, Stop> {
+) -> Result<Vec<BoundaryCorner>, Stop> {
     let mut seen = HashSet::new(alloc);
     let mut places = Vec::new(alloc);
     for (segment, s) in boundary.iter().enumerate() {
         if seen.insert(s.start)? {
             let corner = corners.get(s.start as usize).ok_or(Stop::NotFound)?;
             let point = view.seen(corner);
-            places.push(Place { point, segment })?;
+            places.push(BoundaryCorner { point, segment })?;
         }
     }
     places.sort_unstable_by(|p, q| sweep_order(&p.point, &q.point));
@@ -103,7 +103,7 @@ fn places_of(
 fn ranks_of(
     alloc: Global,
     boundary: &[Segment],
-    places: &[Place],
+    places: &[BoundaryCorner],
 ) -> Result<HashMap<u32, usize>, Stop> {
     let mut ranks = HashMap::new(alloc);
     for (rank, place) in places.iter().enumerate() {
@@ -116,14 +116,14 @@ fn ranks_of(
 fn edges_of(
     alloc: Global,
     boundary: &[Segment],
-    places: &[Place],
+    places: &[BoundaryCorner],
     ranks: &HashMap<u32, usize>,
-) -> Result<Vec<Edge>, Stop> {
+) -> Result<Vec<BoundaryEdge>, Stop> {
     let mut edges = Vec::with_capacity(alloc, boundary.len())?;
     for (segment, s) in boundary.iter().enumerate() {
         let start = *ranks.get(&s.start).ok_or(Stop::NotFound)?;
         let end = *ranks.get(&s.end).ok_or(Stop::NotFound)?;
-        edges.push(Edge {
+        edges.push(BoundaryEdge {
             left: start.min(end),
             right: start.max(end),
             is_floor: start < end,
@@ -135,7 +135,11 @@ fn edges_of(
 }
 
 /// The order of edges by their left ends, and of those with one left end from below.
-pub fn edge_order(places: &[Place], first: &Edge, second: &Edge) -> Ordering {
+pub fn edge_order(
+    places: &[BoundaryCorner],
+    first: &BoundaryEdge,
+    second: &BoundaryEdge,
+) -> Ordering {
     match first.left.cmp(&second.left) {
         Ordering::Equal => match turn_at(places, first.left, first.right, second.right) {
             Sign::Pos => Ordering::Less,

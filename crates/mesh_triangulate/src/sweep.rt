@@ -2,7 +2,7 @@
 ghost use Rattle.std.specs.Prelude.{◌<◌};
 
 use crate::reflex_chain::ReflexChain;
-use crate::sorted_boundary::{Edge, SortedBoundary, turn_at};
+use crate::sorted_boundary::{BoundaryEdge, SortedBoundary, turn_at};
 use crate::stop::Stop;
 use ember_algebra::Sign;
 use std::alloc::Global;
@@ -38,7 +38,7 @@ pub fn swept(alloc: Global, boundary: &SortedBoundary) -> Result<Vec<[usize; 3]>
 }
 
 impl Sweep<'_> {
-    fn edge(&self, number: usize) -> Result<Edge, Stop> {
+    fn edge(&self, number: usize) -> Result<BoundaryEdge, Stop> {
         self.boundary
             .edges
             .get(number)
@@ -89,7 +89,7 @@ impl Sweep<'_> {
         Ok(behind)
     }
 
-    fn refuse_touch(&self, edge: &Edge, place: usize) -> Result<(), Stop> {
+    fn refuse_touch(&self, edge: &BoundaryEdge, place: usize) -> Result<(), Stop> {
         match turn_at(&self.boundary.places, edge.left, edge.right, place) {
             Sign::Zero => Err(Stop::Touch),
             Sign::Neg | Sign::Pos => Ok(()),

@@ -1,5 +1,5 @@
 // The corners of a boundary that lie inside its segments.
-use crate::sorted_boundary::{Edge, SortedBoundary, edge_order, turn_at};
+use crate::sorted_boundary::{BoundaryEdge, SortedBoundary, edge_order, turn_at};
 use crate::stop::Stop;
 use ember_algebra::Sign;
 use std::alloc::Global;
@@ -18,7 +18,7 @@ pub struct Inside {
 struct Search<'a> {
     alloc: Global,
     boundary: &'a SortedBoundary,
-    status: Vec<Edge>,
+    status: Vec<BoundaryEdge>,
     found: Vec<Inside>,
 }
 
@@ -38,7 +38,7 @@ pub fn corners_inside(alloc: Global, boundary: &SortedBoundary) -> Result<Vec<In
 
 impl Search<'_> {
     // Whether the edge ends at the place or runs through it.
-    fn is_at(&self, edge: &Edge, place: usize) -> bool {
+    fn is_at(&self, edge: &BoundaryEdge, place: usize) -> bool {
         edge.right == place
             || match turn_at(&self.boundary.places, edge.left, edge.right, place) {
                 Sign::Zero => true,
@@ -76,7 +76,12 @@ impl Search<'_> {
     }
 
     // Cuts the edge with this index in the status at the place, unless it ends there.
-    fn cut(&mut self, index: usize, place: usize, starting: &mut Vec<Edge>) -> Result<(), Stop> {
+    fn cut(
+        &mut self,
+        index: usize,
+        place: usize,
+        starting: &mut Vec<BoundaryEdge>,
+    ) -> Result<(), Stop> {
         let edge = *self.status.get(index).ok_or(Stop::NotFound)?;
         if edge.right == place {
             return Ok(());
@@ -86,7 +91,7 @@ impl Search<'_> {
             corner: corner.segment,
             edge: edge.segment,
         })?;
-        starting.push(Edge {
+        starting.push(BoundaryEdge {
             left: place,
             right: edge.right,
             is_floor: edge.is_floor,
@@ -96,7 +101,12 @@ impl Search<'_> {
     }
 
     // Replaces the edges at the place by those that start there.
-    fn exchange(&mut self, first: usize, behind: usize, starting: Vec<Edge>) -> Result<(), Stop> {
+    fn exchange(
+        &mut self,
+        first: usize,
+        behind: usize,
+        starting: Vec<BoundaryEdge>,
+    ) -> Result<(), Stop> {
         if behind < first || self.status.len() < behind {
             return Err(Stop::NotFound);
         }

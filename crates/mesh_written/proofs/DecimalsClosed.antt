@@ -2,12 +2,12 @@
 -- vertices
 use Rattle.std.proofs.Common.{◌≡◌, ◌⊎◌, inl, inr, ℕ, Bool, true, ◌||◌, nat_eq, List, [], ◌∷◌, map, refl, sym, ap, subst}
 use Rattle.std.proofs.lemmas.Bool.{or_cases, or_left, or_right, eqb-true, eq-eqb}
-use Rattle.mesh_grid.specs.declared.snap.steps.Step.{Step}
+use Rattle.mesh_grid.specs.declared.snap.steps.GridStep.{GridStep}
 use Rattle.mesh_grid.specs.declared.snap.offsets.Offset.{Offset}
 use Rattle.mesh_write.specs.declared.vertices.point.DecimalPoint.{DecimalPoint}
 use Rattle.mesh_write.specs.declared.vertices.point.DecimalTriangle.{DecimalTriangle}
 use Rattle.mesh_write.specs.Vertices.Vertices.{same_point, vertices_of, index_of, indexed, point_at}
-use Rattle.mesh_write.proofs.Vertices.{same_point_decides}
+use Rattle.mesh_write.proofs.VertexLists.{same_point_decides}
 use Rattle.mesh_certificate.specs.declared.certificate.space_point.SpacePoint.{SpacePoint}
 use Rattle.mesh_certificate.specs.declared.certificate.triangle.Triangle.{Triangle}
 use Rattle.mesh_written.specs.Decimals.{decimal_point}
@@ -66,11 +66,11 @@ module _ (ps : List DecimalPoint) where
       (λ t v. vanishes_by_index vs (triangle_at ps t) v) ts h)
 
 -- ---- triangles of a table of corners
-pub decimals_are_closed : (places : ℕ) (s : Step) (o : Offset) (cs : List SpacePoint) (ts : List Triangle) →
+pub decimals_are_closed : (places : ℕ) (s : GridStep) (o : Offset) (cs : List SpacePoint) (ts : List Triangle) →
     AreRoundAndClosed ts → AreDecimalsClosed (decimal_triangles places s o cs ts)
 decimals_are_closed places s o cs ts h = points_are_closed (map (decimal_point places s o) cs) ts h
 
-pub indices_are_closed : (places : ℕ) (s : Step) (o : Offset) (cs : List SpacePoint) (ts : List Triangle) →
+pub indices_are_closed : (places : ℕ) (s : GridStep) (o : Offset) (cs : List SpacePoint) (ts : List Triangle) →
     AreRoundAndClosed ts → AreIndicesClosed (map (indexed (vertices_of (decimal_triangles places s o cs ts)))
     (decimal_triangles places s o cs ts))
 indices_are_closed places s o cs ts h =

@@ -2,7 +2,7 @@
 use Rattle.std.proofs.Common.{◌≡◌, Bool, true, false, cond, not, List, [], ◌∷◌, map, filter, get_or, refl, sym, ap, subst, ◌∙◌}
 use Rattle.std.proofs.lemmas.Bool.{and_parts, eqb-true}
 use Rattle.ember_model.specs.declared.plane.Plane.{Plane}
-use Rattle.mesh_grid.specs.declared.snap.steps.Step.{Step}
+use Rattle.mesh_grid.specs.declared.snap.steps.GridStep.{GridStep}
 use Rattle.mesh_grid.specs.declared.snap.offsets.Offset.{Offset}
 use Rattle.mesh_write.specs.declared.stl.triangle.FloatPoint.{FloatPoint}
 use Rattle.mesh_write.specs.declared.stl.triangle.WrittenTriangle.{WrittenTriangle}
@@ -66,6 +66,6 @@ module _ (planes : List Plane) (points : List FloatPoint) where
       (map_keeps_closed same_point (point_at points) one_point gone (λ t v. v) ts h)
 
 -- the same, by the definition of written triangles
-pub written_are_closed : (s : Step) (o : Offset) (planes : List Plane) (cs : List SpacePoint) (ts : List Triangle)
+pub written_are_closed : (s : GridStep) (o : Offset) (planes : List Plane) (cs : List SpacePoint) (ts : List Triangle)
     (ws : List WrittenTriangle) → AreWritten s o planes cs ts ws → AreRoundAndClosed ts → AreWrittenClosed ws
 written_are_closed s o planes cs ts ws h closed = kept_are_closed planes h.points ts ws h.written closed

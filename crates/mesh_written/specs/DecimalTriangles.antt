@@ -1,6 +1,6 @@
 -- Triangles of decimals
 use Rattle.std.specs.Prelude.{◌≡◌, ℕ, Bool, not, ◌||◌, List, map, filter}
-use Rattle.mesh_grid.specs.declared.snap.steps.Step.{Step}
+use Rattle.mesh_grid.specs.declared.snap.steps.GridStep.{GridStep}
 use Rattle.mesh_grid.specs.declared.snap.offsets.Offset.{Offset}
 use Rattle.mesh_write.specs.declared.vertices.point.DecimalPoint.{DecimalPoint}
 use Rattle.mesh_write.specs.declared.vertices.point.DecimalTriangle.{DecimalTriangle}
@@ -30,12 +30,12 @@ abbrev pub plane_of : Triangle → ℕ
 plane_of t = t.first.plane
 
 -- the triangles that are kept, with their corners rounded
-abbrev pub decimal_triangles : ℕ → Step → Offset → List SpacePoint → List Triangle → List DecimalTriangle
+abbrev pub decimal_triangles : ℕ → GridStep → Offset → List SpacePoint → List Triangle → List DecimalTriangle
 decimal_triangles places s o cs ts =
     let ps = map (decimal_point places s o) cs in map (triangle_at ps) (kept ps ts)
 
 -- and the numbers of their planes
-abbrev pub decimal_planes : ℕ → Step → Offset → List SpacePoint → List Triangle → List ℕ
+abbrev pub decimal_planes : ℕ → GridStep → Offset → List SpacePoint → List Triangle → List ℕ
 decimal_planes places s o cs ts = map plane_of (kept (map (decimal_point places s o) cs) ts)
 
 -- the mesh of triangles over these points

@@ -6,7 +6,7 @@ use Rattle.ember_model.specs.declared.point.Axis.TheVariants.{X, Y, Z}
 use Rattle.mesh_number.specs.Number.Fractions.{Fraction, signed_whole}
 use Rattle.mesh_number.specs.Round.Nearest.{nearest_whole}
 use Rattle.mesh_number.specs.Round.Decimals.{decimal_text}
-use Rattle.mesh_grid.specs.declared.snap.steps.Step.{Step}
+use Rattle.mesh_grid.specs.declared.snap.steps.GridStep.{GridStep}
 use Rattle.mesh_grid.specs.declared.snap.offsets.Offset.{Offset}
 use Rattle.mesh_write.specs.declared.vertices.point.DecimalPoint.{DecimalPoint}
 use Rattle.mesh_certificate.specs.declared.certificate.space_point.SpacePoint.{SpacePoint}
@@ -31,7 +31,7 @@ units_of places v =
     signed_whole (int_lt v.numerator (pos 0)) (nearest_whole (unsigned_abs v.numerator * 10 ^ places) v.denominator)
 
 -- the corner in the user's unit, rounded along each axis
-abbrev pub decimal_point : ℕ → Step → Offset → SpacePoint → DecimalPoint
+abbrev pub decimal_point : ℕ → GridStep → Offset → SpacePoint → DecimalPoint
 decimal_point places s o c = record {
   x = units_of places (place_of s o X c);
   y = units_of places (place_of s o Y c);
@@ -39,10 +39,10 @@ decimal_point places s o c = record {
 }
 
 -- along some axis the corner is 10^21 or more from zero
-pub record IsFarPoint (s : Step) (o : Offset) (c : SpacePoint) : Type 0 where
+pub record IsFarPoint (s : GridStep) (o : Offset) (c : SpacePoint) : Type 0 where
   pub axis : Axis
   pub long : IsTooLong (place_of s o axis c)
 
-abbrev pub IsDecimalFault : Step → Offset → List SpacePoint → PlaceFault → Type 0
+abbrev pub IsDecimalFault : GridStep → Offset → List SpacePoint → PlaceFault → Type 0
 IsDecimalFault s o cs TooFar = Any (IsFarPoint s o) cs
 IsDecimalFault s o cs OutOfMemory = ⊤

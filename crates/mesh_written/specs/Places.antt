@@ -4,7 +4,7 @@ use Rattle.ember_model.specs.declared.point.Axis.{Axis}
 use Rattle.ember_model.specs.declared.point.Axis.TheVariants.{X, Y, Z}
 use Rattle.mesh_number.specs.Number.Fractions.{Fraction}
 use Rattle.mesh_number.specs.Wide.Whole.{value_of}
-use Rattle.mesh_grid.specs.declared.snap.steps.Step.{Step}
+use Rattle.mesh_grid.specs.declared.snap.steps.GridStep.{GridStep}
 use Rattle.mesh_grid.specs.declared.snap.offsets.Offset.{Offset}
 use Rattle.mesh_certificate.specs.declared.certificate.space_point.SpacePoint.{SpacePoint}
 use Rattle.mesh_written.specs.declared.ratio.Ratio.{Ratio}
@@ -21,7 +21,7 @@ offset_along Y o = o.y
 offset_along Z o = o.z
 
 -- (coordinate / weight + offset) steps, on one denominator
-abbrev pub place_of : Step → Offset → Axis → SpacePoint → Fraction
+abbrev pub place_of : GridStep → Offset → Axis → SpacePoint → Fraction
 place_of s o k c = record {
   numerator = (coordinate_along k c +ℤ offset_along k o *ℤ c.w) *ℤ pos s.numerator;
   denominator = s.denominator * unsigned_abs c.w;

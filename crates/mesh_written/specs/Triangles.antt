@@ -1,7 +1,7 @@
 -- Triangles of floats
 use Rattle.std.specs.Prelude.{◌≡◌, ℕ, nat_eq, nat_lt, Bool, not, ◌&&◌, ◌||◌, List, map, filter, slice_index_or}
 use Rattle.ember_model.specs.declared.plane.Plane.{Plane}
-use Rattle.mesh_grid.specs.declared.snap.steps.Step.{Step}
+use Rattle.mesh_grid.specs.declared.snap.steps.GridStep.{GridStep}
 use Rattle.mesh_grid.specs.declared.snap.offsets.Offset.{Offset}
 use Rattle.mesh_write.specs.declared.stl.triangle.FloatPoint.{FloatPoint}
 use Rattle.mesh_write.specs.declared.stl.triangle.WrittenTriangle.{WrittenTriangle}
@@ -39,7 +39,7 @@ abbrev pub kept : List WrittenTriangle → List WrittenTriangle
 kept ts = filter (λ t. not (vanishes t)) ts
 
 -- the triangles with their corners rounded, in order, without those with two corners that became equal
-pub record AreWritten (s : Step) (o : Offset) (planes : List Plane) (cs : List SpacePoint) (ts : List Triangle)
+pub record AreWritten (s : GridStep) (o : Offset) (planes : List Plane) (cs : List SpacePoint) (ts : List Triangle)
     (ws : List WrittenTriangle) : Type 0 where
   pub points : List FloatPoint
   pub rounded : AreFloatPoints s o cs points

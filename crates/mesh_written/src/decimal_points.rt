@@ -12,7 +12,7 @@ use crate::places::exact_place;
 use crate::ratio::Ratio;
 use ember_model::Axis;
 use mesh_certificate::SpacePoint;
-use mesh_grid::{Offset, Step};
+use mesh_grid::{GridStep, Offset};
 use mesh_number::{Magnitude, nearest};
 use mesh_write::DecimalPoint;
 use std::alloc::Global;
@@ -46,7 +46,7 @@ fn units_of(number: &Ratio, places: u32) -> i128
 pub fn decimal_place(
     corner: &SpacePoint,
     axis: Axis,
-    step: &Step,
+    step: &GridStep,
     offset: &Offset,
     places: u32,
 ) -> Option<i128>
@@ -67,7 +67,7 @@ pub fn decimal_place(
 // The corner with its coordinates rounded, if none of them is too long.
 fn decimal_point(
     corner: &SpacePoint,
-    step: &Step,
+    step: &GridStep,
     offset: &Offset,
     places: u32,
 ) -> Option<DecimalPoint>
@@ -86,7 +86,7 @@ fn decimal_point(
 pub(crate) fn decimal_points(
     alloc: Global,
     corners: &[SpacePoint],
-    step: &Step,
+    step: &GridStep,
     offset: &Offset,
     places: u32,
 ) -> Result<Vec<DecimalPoint>, PlaceFault>

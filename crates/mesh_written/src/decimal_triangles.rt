@@ -11,7 +11,7 @@ ghost use Rattle.mesh_written.specs.Triangles.{has_corners};
 use crate::decimal_points::decimal_points;
 use crate::fault::PlaceFault;
 use mesh_certificate::{SpacePoint, Triangle};
-use mesh_grid::{Offset, Step};
+use mesh_grid::{GridStep, Offset};
 use mesh_write::{DecimalPoint, DecimalTriangle, IndexedMesh};
 use std::alloc::{AllocError, Global};
 
@@ -103,7 +103,7 @@ pub fn decimal_mesh(
     alloc: Global,
     corners: &[SpacePoint],
     triangles: &[Triangle],
-    step: &Step,
+    step: &GridStep,
     offset: &Offset,
     places: u32,
 ) -> Result<DecimalMesh, PlaceFault>

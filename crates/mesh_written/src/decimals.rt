@@ -9,7 +9,7 @@ use crate::fault::PlaceFault;
 use crate::places::exact_place;
 use ember_model::Axis;
 use mesh_certificate::SpacePoint;
-use mesh_grid::{Offset, Step};
+use mesh_grid::{GridStep, Offset};
 use mesh_number::{Magnitude, put_decimal};
 use std::cmp::Ordering;
 
@@ -24,7 +24,7 @@ pub(crate) const LIMIT: u128 = 1_000_000_000_000_000_000_000;
 pub fn put_place(
     corner: &SpacePoint,
     axis: Axis,
-    step: &Step,
+    step: &GridStep,
     offset: &Offset,
     places: u32,
     out: &mut Vec<u8>,

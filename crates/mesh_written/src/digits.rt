@@ -3,7 +3,7 @@ ghost use Rattle.std.specs.Prelude.{◌≡◌, ◌≤◌, IfSome};
 ghost use Rattle.mesh_grid.specs.Snap.Steps.{IsStep};
 ghost use Rattle.mesh_written.specs.Digits.{step_places, written_places};
 
-use mesh_grid::Step;
+use mesh_grid::GridStep;
 
 // A step with more places than this counts as one with so many.
 const MOST_STEP_PLACES: u32 = 11;
@@ -12,7 +12,7 @@ const MOST_STEP_PLACES: u32 = 11;
 const FINER: u32 = 6;
 
 // The decimal places of the step, digit by digit of a long division.
-fn step_places(step: &Step) -> u32
+fn step_places(step: &GridStep) -> u32
     requires { IsStep step.now }
     ensures value { result ≡ step_places step.now }
     ensures few { result ≤ MOST_STEP_PLACES }
@@ -29,7 +29,7 @@ fn step_places(step: &Step) -> u32
 
 /// How many decimal places are written: `digits`, which are at most 17, or six more than the step
 /// has, which counts as one of 11 places if it has more.
-pub fn written_places(digits: Option<u32>, step: &Step) -> u32
+pub fn written_places(digits: Option<u32>, step: &GridStep) -> u32
     requires step { IsStep step.now }
     requires digits { IfSome digits (λ n. n ≤ 17) }
     ensures value { result ≡ written_places digits step.now }

@@ -8,7 +8,7 @@ use crate::fault::PlaceFault;
 use crate::places::exact_place;
 use ember_model::Axis;
 use mesh_certificate::SpacePoint;
-use mesh_grid::{Offset, Step};
+use mesh_grid::{GridStep, Offset};
 use mesh_number::nearest_binary32;
 use mesh_write::FloatPoint;
 use std::alloc::Global;
@@ -16,7 +16,7 @@ use std::alloc::Global;
 /// The bits of the binary32 that is nearest to where the corner lies along the axis, in the user's
 /// unit; of two equally near, the one with the even significand. It is never -0. None if this place
 /// is 2^128 - 2^103 or more from zero, which rounds to infinity.
-pub fn float_place(corner: &SpacePoint, axis: Axis, step: &Step, offset: &Offset) -> Option<u32>
+pub fn float_place(corner: &SpacePoint, axis: Axis, step: &GridStep, offset: &Offset) -> Option<u32>
     requires { IsStep step.now }
     ensures infinite { result ≡ None ↔ IsInfinite (place_of step.now offset.now axis corner.now) }
     ensures nearest { IfSome result (IsFloatOf (place_of step.now offset.now axis corner.now)) }
@@ -26,7 +26,7 @@ pub fn float_place(corner: &SpacePoint, axis: Axis, step: &Step, offset: &Offset
 }
 
 // The corner with its coordinates rounded, if none of them is infinite.
-fn float_point(corner: &SpacePoint, step: &Step, offset: &Offset) -> Option<FloatPoint>
+fn float_point(corner: &SpacePoint, step: &GridStep, offset: &Offset) -> Option<FloatPoint>
     requires { IsStep step.now }
     ensures { MatchOption result (IsTooFar step.now offset.now corner.now)
         (IsFloatPoint step.now offset.now corner.now) }
@@ -43,7 +43,7 @@ fn float_point(corner: &SpacePoint, step: &Step, offset: &Offset) -> Option<Floa
 pub fn float_points(
     alloc: Global,
     corners: &[SpacePoint],
-    step: &Step,
+    step: &GridStep,
     offset: &Offset,
 ) -> Result<Vec<FloatPoint>, PlaceFault>
     requires { IsStep step.now }

@@ -9,7 +9,7 @@ ghost use Rattle.mesh_certificate.specs.declared.certificate.triangle.Triangle.{
 ghost use Rattle.mesh_certificate.specs.Certificate.Certificate.{IsProper, IsCertified};
 ghost use Rattle.mesh_number.specs.Number.Fractions.{Fraction};
 ghost use Rattle.mesh_number.specs.Round.Decimals.{decimal_text};
-ghost use Rattle.mesh_grid.specs.declared.snap.steps.Step.{Step};
+ghost use Rattle.mesh_grid.specs.declared.snap.steps.GridStep.{GridStep};
 ghost use Rattle.mesh_grid.specs.declared.snap.offsets.Offset.{Offset};
 ghost use Rattle.mesh_write.specs.Vertices.Vertices.{vertices_of, indexed};
 ghost use Rattle.mesh_written.specs.Decimals.{decimal_of, units_of};
@@ -35,10 +35,10 @@ pub fn certified_triangles_are_closed()
 /// Triangles that are closed before their corners are rounded to decimals stay closed, by their
 /// points and by the vertices of [`decimal_mesh`](crate::decimal_mesh).
 pub fn decimal_triangles_are_closed()
-    ensures by_points { (places : ℕ) (step : Step) (offset : Offset) (corners : List SpacePoint)
+    ensures by_points { (places : ℕ) (step : GridStep) (offset : Offset) (corners : List SpacePoint)
         (ts : List Triangle) → AreRoundAndClosed ts →
         AreDecimalsClosed (decimal_triangles places step offset corners ts) }
-    ensures by_vertices { (places : ℕ) (step : Step) (offset : Offset) (corners : List SpacePoint)
+    ensures by_vertices { (places : ℕ) (step : GridStep) (offset : Offset) (corners : List SpacePoint)
         (ts : List Triangle) → AreRoundAndClosed ts →
         AreIndicesClosed (map (indexed (vertices_of (decimal_triangles places step offset corners ts)))
         (decimal_triangles places step offset corners ts)) }

@@ -8,7 +8,7 @@ ghost use Rattle.mesh_written.specs.Places.{coordinate_along, offset_along, frac
 use crate::ratio::Ratio;
 use ember_model::Axis;
 use mesh_certificate::SpacePoint;
-use mesh_grid::{Offset, Step};
+use mesh_grid::{GridStep, Offset};
 use mesh_number::Wide;
 
 // The coordinate of the corner along the axis, times its weight.
@@ -47,7 +47,7 @@ fn numerator_of(coordinate: i128, weight: i128, offset: i128, step: u64) -> Wide
 
 /// Where the corner lies along the axis, in the user's unit: `step * (coordinate / weight +
 /// offset)`, exactly. Every corner of every grid has a place: the numerator is below 2^243 in size.
-pub fn exact_place(corner: &SpacePoint, axis: Axis, step: &Step, offset: &Offset) -> Ratio
+pub fn exact_place(corner: &SpacePoint, axis: Axis, step: &GridStep, offset: &Offset) -> Ratio
     requires { IsStep step.now }
     ensures { fraction_of result ≡ place_of step.now offset.now axis corner.now }
 {

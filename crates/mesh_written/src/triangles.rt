@@ -11,7 +11,7 @@ use crate::floats::float_points;
 use crate::normals::normal_at;
 use ember_model::Plane;
 use mesh_certificate::{SpacePoint, Triangle};
-use mesh_grid::{Offset, Step};
+use mesh_grid::{GridStep, Offset};
 use mesh_write::{FloatPoint, WrittenTriangle};
 use std::alloc::{AllocError, Global};
 
@@ -105,7 +105,7 @@ pub fn float_triangles(
     planes: &[Plane],
     corners: &[SpacePoint],
     triangles: &[Triangle],
-    step: &Step,
+    step: &GridStep,
     offset: &Offset,
 ) -> Result<Vec<WrittenTriangle>, PlaceFault>
     requires step { IsStep step.now }

@@ -6,7 +6,7 @@ ghost use Rattle.mesh_certificate.specs.Certificate.Keys.{segment_key};
 use crate::certificate::keys::segment_key;
 use crate::certificate::order::{BELOW_PLANE_OF_SEGMENT, are_rearranged, sort_by_stretches};
 use crate::certificate::segment::Segment;
-use crate::certificate::unmatched::{Ends, unmatched_ends};
+use crate::certificate::unmatched::{SegmentEnds, unmatched_ends};
 use ember_model::OutOfMemory;
 use std::alloc::Global;
 
@@ -34,6 +34,6 @@ pub fn same_chains(
     let mut of_triangles = segment_keys(alloc, triangles)?;
     of_faces.sort_unstable();
     sort_by_stretches(&mut of_triangles, BELOW_PLANE_OF_SEGMENT);
-    let Ends { starts, ends } = unmatched_ends(alloc, &of_faces, &of_triangles)?;
+    let SegmentEnds { starts, ends } = unmatched_ends(alloc, &of_faces, &of_triangles)?;
     Ok(are_rearranged(starts, ends))
 }

@@ -8,12 +8,12 @@ use std::alloc::Global;
 
 /// The keys of the starts and of the ends of segments.
 #[derive(Drop)]
-pub struct Ends {
+pub struct SegmentEnds {
     pub starts: Vec<u128>,
     pub ends: Vec<u128>,
 }
 
-impl Ends {
+impl SegmentEnds {
     fn push(&mut self, key: u128) -> Result<(), OutOfMemory>
         ensures starts { OnOk result (self.new.starts.items ≡ self.old.starts.items ++ start_in key ∷ []) }
         ensures ends { OnOk result (self.new.ends.items ≡ self.old.ends.items ++ end_in key ∷ []) }
@@ -79,11 +79,15 @@ impl Ends {
 
 /// The ends of the segments of the first list and of the reverses of those of the second, by their
 /// keys. Where the lists are sorted, a segment that both have isn't among them.
-pub fn unmatched_ends(alloc: Global, first: &[u128], second: &[u128]) -> Result<Ends, OutOfMemory>
+pub fn unmatched_ends(
+    alloc: Global,
+    first: &[u128],
+    second: &[u128],
+) -> Result<SegmentEnds, OutOfMemory>
     ensures { IfOk result (λ left. (n : ℕ) → excess n left.starts.items left.ends.items ≡
         excess_of n first.now -ℤ excess_of n second.now) }
 {
-    let mut left = Ends {
+    let mut left = SegmentEnds {
         starts: Vec::new(alloc),
         ends: Vec::new(alloc),
     };

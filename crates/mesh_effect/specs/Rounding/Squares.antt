@@ -2,7 +2,7 @@
 use Rattle.std.specs.Prelude.{ℕ, ◌+◌, ◌*◌, ◌^◌, max, List, [], ◌∷◌, slice_index}
 use Rattle.ember_model.specs.declared.point.Axis.TheVariants.{X, Y, Z}
 use Rattle.mesh_number.specs.Number.Fractions.{Fraction}
-use Rattle.mesh_grid.specs.declared.snap.steps.Step.{Step}
+use Rattle.mesh_grid.specs.declared.snap.steps.GridStep.{GridStep}
 use Rattle.mesh_grid.specs.declared.snap.offsets.Offset.{Offset}
 use Rattle.mesh_write.specs.declared.stl.triangle.FloatPoint.{FloatPoint}
 use Rattle.mesh_certificate.specs.declared.certificate.space_point.SpacePoint.{SpacePoint}
@@ -18,7 +18,7 @@ square n = n * n
 
 -- ---- one corner, where each axis is rounded up to whole ticks
 -- its move to a point of floats
-abbrev pub float_square : Tick → Step → Offset → SpacePoint → FloatPoint → ℕ
+abbrev pub float_square : Tick → GridStep → Offset → SpacePoint → FloatPoint → ℕ
 float_square tick s o c p =
     square (ticks_between tick (place_of s o X c) (float_number p.x)) +
     (square (ticks_between tick (place_of s o Y c) (float_number p.y)) +
@@ -32,13 +32,13 @@ abbrev pub decimal_ticks : ℕ → Fraction → ℕ
 decimal_ticks places v = ticks_between (decimal_tick places) v (decimal_number places v)
 
 -- its move to its decimals
-abbrev pub decimal_square : ℕ → Step → Offset → SpacePoint → ℕ
+abbrev pub decimal_square : ℕ → GridStep → Offset → SpacePoint → ℕ
 decimal_square places s o c =
     square (decimal_ticks places (place_of s o X c)) +
     (square (decimal_ticks places (place_of s o Y c)) + square (decimal_ticks places (place_of s o Z c)))
 
 -- ---- each corner of a table
-abbrev pub float_squares : Tick → Step → Offset → List SpacePoint → List FloatPoint → List ℕ
+abbrev pub float_squares : Tick → GridStep → Offset → List SpacePoint → List FloatPoint → List ℕ
 float_squares tick s o [] ps = []
 float_squares tick s o (c ∷ cs) [] = []
 float_squares tick s o (c ∷ cs) (p ∷ ps) = float_square tick s o c p ∷ float_squares tick s o cs ps

@@ -3,7 +3,7 @@ ghost use Rattle.std.specs.Prelude.{◌≤◌, ◌<◌};
 
 /// A whole number: `significand * 2^place`, with a sign.
 #[derive(Clone, Copy, Debug)]
-pub(crate) struct Parts {
+pub(crate) struct FloatParts {
     pub negative: bool,
     pub significand: u32,
     pub place: u32,

@@ -3,12 +3,12 @@ ghost use Rattle.std.specs.Prelude.{◌≡◌, ◌*◌, ◌^◌, nat_lt};
 ghost use Rattle.mesh_grid.specs.Snap.Steps.{IsStep};
 
 use crate::rounding::length::Move;
-use mesh_grid::Step;
+use mesh_grid::GridStep;
 use mesh_number::Magnitude;
 use std::cmp::Ordering;
 
 /// Whether the move is more than a hundredth of the step.
-pub fn is_above_hundredth(moved: &Move, step: &Step) -> bool
+pub fn is_above_hundredth(moved: &Move, step: &GridStep) -> bool
     requires { IsStep step.now }
     ensures { result ≡ nat_lt (step.now.numerator * 10 ^ moved.now.places)
         (100 * moved.now.size * step.now.denominator) }

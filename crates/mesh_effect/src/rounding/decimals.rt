@@ -12,7 +12,7 @@ use crate::rounding::squares::sum_of_squares;
 use crate::rounding::ticks::ticks;
 use ember_model::Axis;
 use mesh_certificate::SpacePoint;
-use mesh_grid::{Offset, Step};
+use mesh_grid::{GridStep, Offset};
 use mesh_number::{Magnitude, divide};
 use mesh_written::{PlaceFault, Ratio, exact_place};
 use std::alloc::Global;
@@ -41,7 +41,7 @@ fn error_of(number: &Ratio, places: u32) -> u128
 fn decimal_ticks(
     corner: &SpacePoint,
     axis: Axis,
-    step: &Step,
+    step: &GridStep,
     offset: &Offset,
     places: u32,
 ) -> Option<u128>
@@ -62,7 +62,12 @@ fn decimal_ticks(
 }
 
 // The square of the corner's move to its decimals, in ticks, where each axis is rounded up.
-fn decimal_square(corner: &SpacePoint, step: &Step, offset: &Offset, places: u32) -> Option<u128>
+fn decimal_square(
+    corner: &SpacePoint,
+    step: &GridStep,
+    offset: &Offset,
+    places: u32,
+) -> Option<u128>
     requires step { IsStep step.now }
     requires places { places ≤ 17 }
     ensures { MatchOption result (IsFarPoint step.now offset.now corner.now)
@@ -78,7 +83,7 @@ fn decimal_square(corner: &SpacePoint, step: &Step, offset: &Offset, places: u32
 pub(crate) fn decimal_squares(
     alloc: Global,
     corners: &[SpacePoint],
-    step: &Step,
+    step: &GridStep,
     offset: &Offset,
     places: u32,
 ) -> Result<Vec<u128>, PlaceFault>

@@ -15,7 +15,7 @@ use crate::rounding::squares::sum_of_squares;
 use crate::rounding::ticks::moved_ticks;
 use ember_model::Axis;
 use mesh_certificate::SpacePoint;
-use mesh_grid::{Offset, Step};
+use mesh_grid::{GridStep, Offset};
 use mesh_number::{Magnitude, Wide};
 use mesh_write::FloatPoint;
 use mesh_written::{PlaceFault, Ratio, exact_place};
@@ -135,7 +135,7 @@ fn float_ticks(
     corner: &SpacePoint,
     axis: Axis,
     bits: u32,
-    step: &Step,
+    step: &GridStep,
     offset: &Offset,
     top: u32,
 ) -> Option<u128>
@@ -161,7 +161,7 @@ fn float_ticks(
 fn float_square(
     corner: &SpacePoint,
     point: &FloatPoint,
-    step: &Step,
+    step: &GridStep,
     offset: &Offset,
     top: u32,
 ) -> Option<u128>
@@ -183,7 +183,7 @@ pub(crate) fn float_squares(
     alloc: Global,
     corners: &[SpacePoint],
     points: &[FloatPoint],
-    step: &Step,
+    step: &GridStep,
     offset: &Offset,
     top: u32,
 ) -> Result<Vec<u128>, PlaceFault>

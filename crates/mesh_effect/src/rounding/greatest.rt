@@ -13,7 +13,7 @@ use crate::rounding::shown::move_from;
 use crate::rounding::squares::greatest_square;
 use crate::rounding::tick::{decimal_tick, power_tick};
 use mesh_certificate::{SpacePoint, Triangle};
-use mesh_grid::{Offset, Step};
+use mesh_grid::{GridStep, Offset};
 use mesh_write::FloatPoint;
 use mesh_written::PlaceFault;
 use std::alloc::Global;
@@ -28,7 +28,7 @@ pub fn greatest_float_move(
     corners: &[SpacePoint],
     points: &[FloatPoint],
     triangles: &[Triangle],
-    step: &Step,
+    step: &GridStep,
     offset: &Offset,
 ) -> Result<Move, PlaceFault>
     requires step { IsStep step.now }
@@ -51,7 +51,7 @@ pub fn greatest_decimal_move(
     alloc: Global,
     corners: &[SpacePoint],
     triangles: &[Triangle],
-    step: &Step,
+    step: &GridStep,
     offset: &Offset,
     places: u32,
 ) -> Result<Move, PlaceFault>

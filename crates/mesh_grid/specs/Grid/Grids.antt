@@ -1,7 +1,7 @@
 -- The grid of a scene, and why there is none
 use Rattle.std.specs.Prelude.{◌≡◌, List, [], None, ⊤}
 use Rattle.std.specs.List.{find}
-use Rattle.mesh_grid.specs.declared.snap.steps.Step.{Step}
+use Rattle.mesh_grid.specs.declared.snap.steps.GridStep.{GridStep}
 use Rattle.mesh_grid.specs.declared.snap.spans.Coordinates.{Coordinates}
 use Rattle.mesh_grid.specs.Snap.Steps.{IsStep, nice_of, fine_of}
 use Rattle.mesh_grid.specs.Snap.Spans.{FitsAll, IsLeast}
@@ -11,7 +11,7 @@ use Rattle.mesh_read.specs.Surface.Surfaces.{is_facet_too_large}
 use Rattle.mesh_grid.specs.declared.grid.grid.Grid.{Grid}
 use Rattle.mesh_grid.specs.declared.grid.choice.Wanted.{Wanted}
 use Rattle.mesh_grid.specs.declared.grid.choice.Wanted.TheVariants.{Nice, Finest, Given}
-use Rattle.mesh_grid.specs.declared.grid.extent.Extent.{Extent}
+use Rattle.mesh_grid.specs.declared.grid.extent.SceneExtent.{SceneExtent}
 use Rattle.mesh_grid.specs.declared.grid.fault.GridFault.{GridFault}
 use Rattle.mesh_grid.specs.declared.grid.fault.GridFault.TheVariants.{NoTriangles, StepTooSmall, OutOfMemory}
 use Rattle.mesh_grid.specs.Grid.Corners.{corners_in, HasCoordinates}
@@ -28,7 +28,7 @@ IsChoice Finest = ⊤
 IsChoice (Given step) = IsStep step
 
 -- the least nice step at which the coordinates fit, the finest one, or the given one
-abbrev pub IsWantedStep : Wanted → Coordinates → Step → Type 0
+abbrev pub IsWantedStep : Wanted → Coordinates → GridStep → Type 0
 IsWantedStep Nice c step = IsLeast nice_of c step
 IsWantedStep Finest c step = IsLeast fine_of c step
 IsWantedStep (Given given) c step = step ≡ given
@@ -41,13 +41,13 @@ pub record IsGrid (surfaces : List Surface) (wanted : Wanted) (g : Grid) : Type 
   pub offset : IsOffset g.step coordinates g.offset
 
 -- how long the coordinates are, and the finest step at which they fit
-pub record IsExtent (c : Coordinates) (e : Extent) : Type 0 where
+pub record IsExtent (c : Coordinates) (e : SceneExtent) : Type 0 where
   pub is_length : IsLength c e.trillionths
   pub least : IsLeast fine_of c e.finest
 
 -- the coordinates don't fit at the given step, and this is their extent
-pub record IsTooSmall (c : Coordinates) (wanted : Wanted) (e : Extent) : Type 0 where
-  pub given : Step
+pub record IsTooSmall (c : Coordinates) (wanted : Wanted) (e : SceneExtent) : Type 0 where
+  pub given : GridStep
   pub is_given : wanted ≡ Given given
   pub too_small : FitsAll given c → ⊥
   pub is_extent : IsExtent c e

@@ -1,7 +1,7 @@
 -- How long surfaces are
 use Rattle.std.specs.Prelude.{◌≡◌, ◌⊎◌, ℕ, nat_lt, ℤ, ◌-ℤ◌, ◌≤ℤ◌, unsigned_abs, if◌then◌else◌, List, All, Any}
 use Rattle.mesh_number.specs.declared.number.values.Number.{Number}
-use Rattle.mesh_grid.specs.declared.snap.steps.Step.{Step}
+use Rattle.mesh_grid.specs.declared.snap.steps.GridStep.{GridStep}
 use Rattle.mesh_grid.specs.declared.snap.spans.Coordinates.{Coordinates}
 use Rattle.mesh_grid.specs.Snap.Cells.{cell_at, IsBetween}
 use Rattle.mesh_grid.specs.declared.grid.lengths.Bounds.{Bounds}
@@ -11,11 +11,11 @@ abbrev pub trillion : ℕ
 trillion = 1000000000000
 
 -- so the cell of a number is the nearest whole number of them
-abbrev pub trillionth : Step
+abbrev pub trillionth : GridStep
 trillionth = record { numerator = 1; denominator = trillion }
 
 -- the least and the greatest cell of numbers
-pub record AreBounds (s : Step) (xs : List Number) (b : Bounds) : Type 0 where
+pub record AreBounds (s : GridStep) (xs : List Number) (b : Bounds) : Type 0 where
   pub within : All (λ x. IsBetween b.least (cell_at s x) b.greatest) xs
   pub least_met : Any (λ x. cell_at s x ≡ b.least) xs
   pub greatest_met : Any (λ x. cell_at s x ≡ b.greatest) xs

@@ -1,7 +1,7 @@
 -- The length of a move in few digits
 use Rattle.std.specs.Prelude.{◌≡◌, ℕ, zero, suc, ◌*◌, ◌^◌, true, nat_le, nat_lt, if◌then◌else◌, List, map}
 use Rattle.mesh_number.specs.Number.Quotients.{quotient}
-use Rattle.mesh_grid.specs.declared.snap.steps.Step.{Step}
+use Rattle.mesh_grid.specs.declared.snap.steps.GridStep.{GridStep}
 use Rattle.mesh_read.specs.declared.surface.surface.Surface.{Surface}
 use Rattle.mesh_grid.specs.declared.grid.grid.Grid.{Grid}
 use Rattle.mesh_grid.specs.declared.moves.length.Length.{Length}
@@ -28,7 +28,7 @@ places_up_to root under (suc most) =
     if nat_lt (rounded_up root under (suc most)) (10 ^ 9) then suc most else places_up_to root under most
 
 -- how many ticks the user's unit has
-abbrev pub ticks_in_unit : Step → ℕ → ℕ
+abbrev pub ticks_in_unit : GridStep → ℕ → ℕ
 ticks_in_unit s fineness = 2 * (s.denominator * fineness)
 
 -- size / 10 ^ places
@@ -47,7 +47,7 @@ length_from root under = record {
 }
 
 -- a length in the user's unit, from its square in ticks
-abbrev pub length_of : Step → ℕ → ℕ → Rounded
+abbrev pub length_of : GridStep → ℕ → ℕ → Rounded
 length_of s fineness square = length_from (root_above square) (ticks_in_unit s fineness)
 
 -- how far a corner of the surface's triangles moves to the grid at most

@@ -7,11 +7,11 @@ ghost use Rattle.mesh_grid.specs.Grid.Corners.{Lands};
 ghost use Rattle.mesh_grid.specs.Grid.Grids.{IsWithinLimit, IsChoice, IsWantedStep, IsExtent, IsGrid, IsGridFault, IsStepFault};
 
 use crate::grid::coordinates::{CornerLists, corner_lists};
-use crate::grid::extent::Extent;
+use crate::grid::extent::SceneExtent;
 use crate::grid::fault::GridFault;
 use crate::grid::grid::Grid;
 use crate::grid::lengths::length_of;
-use crate::snap::{Coordinates, Step, finest_step, nice_step, offset_at};
+use crate::snap::{Coordinates, GridStep, finest_step, nice_step, offset_at};
 use mesh_read::Surface;
 use std::alloc::Global;
 
@@ -23,10 +23,10 @@ pub enum Wanted {
     /// The least number of at most four digits times a power of ten at which they do.
     Finest,
     /// This one.
-    Given(Step),
+    Given(GridStep),
 }
 
-fn least_nice_step(coordinates: &Coordinates) -> Step
+fn least_nice_step(coordinates: &Coordinates) -> GridStep
     requires { AreCoordinates coordinates.now }
     ensures step { IsStep result }
     ensures least { IsLeast nice_of coordinates.now result }
@@ -37,7 +37,7 @@ fn least_nice_step(coordinates: &Coordinates) -> Step
     }
 }
 
-fn least_fine_step(coordinates: &Coordinates) -> Step
+fn least_fine_step(coordinates: &Coordinates) -> GridStep
     requires { AreCoordinates coordinates.now }
     ensures step { IsStep result }
     ensures least { IsLeast fine_of coordinates.now result }
@@ -49,17 +49,17 @@ fn least_fine_step(coordinates: &Coordinates) -> Step
 }
 
 // How long the coordinates are, and the finest step at which they fit.
-fn extent_of(coordinates: &Coordinates) -> Extent
+fn extent_of(coordinates: &Coordinates) -> SceneExtent
     requires { AreCoordinates coordinates.now }
     ensures { IsExtent coordinates.now result }
 {
-    Extent {
+    SceneExtent {
         trillionths: length_of(coordinates),
         finest: least_fine_step(coordinates),
     }
 }
 
-fn wanted_step(coordinates: &Coordinates, wanted: Wanted) -> Step
+fn wanted_step(coordinates: &Coordinates, wanted: Wanted) -> GridStep
     requires coordinates { AreCoordinates coordinates.now }
     requires choice { IsChoice wanted }
     ensures step { IsStep result }

@@ -2,7 +2,7 @@
 ghost use Rattle.std.specs.Prelude.{◌≡◌};
 ghost use Rattle.mesh_grid.specs.declared.grid.fault.SnapFault.TheVariants.{OutOfMemory};
 
-use crate::grid::extent::Extent;
+use crate::grid::extent::SceneExtent;
 use std::alloc::AllocError;
 use thiserror::Error;
 
@@ -14,7 +14,7 @@ pub enum GridFault {
     /// The surfaces don't fit on a grid with the given step. They are so long, and the finest step
     /// at which they fit is this one.
     #[error("the step is too small")]
-    StepTooSmall(Extent),
+    StepTooSmall(SceneExtent),
     #[error("out of memory")]
     OutOfMemory,
 }

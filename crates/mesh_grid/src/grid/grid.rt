@@ -1,9 +1,9 @@
 // A grid.
-use crate::snap::{Offset, Step};
+use crate::snap::{GridStep, Offset};
 
 /// A grid of whole numbers: along each axis the number g means g + offset steps.
 #[derive(Clone, Copy, Debug, PartialEq, Eq)]
 pub struct Grid {
-    pub step: Step,
+    pub step: GridStep,
     pub offset: Offset,
 }

@@ -4,7 +4,7 @@ ghost use Rattle.mesh_grid.specs.Snap.Steps.{IsStep};
 ghost use Rattle.mesh_grid.specs.Snap.Spans.{AreNumbers, AreCoordinates};
 ghost use Rattle.mesh_grid.specs.Grid.Lengths.{AreBounds, AreWidened, IsLengthAlong, IsLength, greater_of};
 
-use crate::snap::{Coordinates, Step, cell};
+use crate::snap::{Coordinates, GridStep, cell};
 use mesh_number::Number;
 
 // The least and the greatest of cells.
@@ -34,7 +34,7 @@ fn widened(bounds: Bounds, cell: i128) -> Bounds
 }
 
 // The least and the greatest cell of the numbers.
-fn bounds_of(numbers: &[Number], step: &Step) -> Bounds
+fn bounds_of(numbers: &[Number], step: &GridStep) -> Bounds
     requires step { IsStep step.now }
     requires numbers { AreNumbers numbers.now }
     ensures bounds { AreBounds step.now numbers.now result }
@@ -58,7 +58,7 @@ fn length_along(numbers: &[Number]) -> u128
     ensures length { IsLengthAlong numbers.now result }
     ensures small { result < 2 ^ 108 }
 {
-    let trillionth = Step {
+    let trillionth = GridStep {
         numerator: 1,
         denominator: 1_000_000_000_000,
     };

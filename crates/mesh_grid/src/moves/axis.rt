@@ -7,7 +7,7 @@ ghost use Rattle.mesh_grid.specs.Snap.Decimals.{negated};
 ghost use Rattle.mesh_grid.specs.Snap.Steps.{IsStep};
 ghost use Rattle.mesh_grid.specs.Moves.Moves.{ceiling_of_multiple, ticks_of, IsFineness};
 
-use crate::snap::{Step, remainder};
+use crate::snap::{GridStep, remainder};
 use mesh_number::{Binary, Decimal, Number, floor_times};
 
 // The number with the other sign.
@@ -82,7 +82,7 @@ fn distance(low: i128, high: i128, rest: i128, half: u64) -> u128
 }
 
 // How many ticks the number is from its cell, rounded up.
-pub(crate) fn ticks_of(number: &Number, step: &Step, fineness: u64) -> u128
+pub(crate) fn ticks_of(number: &Number, step: &GridStep, fineness: u64) -> u128
     requires step { IsStep step.now }
     requires below { is_below_limit (value_of number.now) ≡ true }
     requires fineness { IsFineness step.now fineness }

@@ -5,7 +5,7 @@ ghost use Rattle.mesh_grid.specs.Moves.Moves.{IsFineness};
 ghost use Rattle.mesh_grid.specs.Moves.Shown.{root_above, rounded_up, places_up_to, rounded_of, length_of};
 
 use crate::moves::length::Length;
-use crate::snap::Step;
+use crate::snap::GridStep;
 
 // A length has at most this many places.
 const PLACES: u32 = 12;
@@ -66,7 +66,7 @@ fn places_of(root: u128, under: u128) -> u32
 }
 
 // A length from its square in ticks, rounded up to nine digits. It has at most 12 places.
-pub(crate) fn length_of(square: u128, step: &Step, fineness: u64) -> Length
+pub(crate) fn length_of(square: u128, step: &GridStep, fineness: u64) -> Length
     requires step { IsStep step.now }
     requires fineness { IsFineness step.now fineness }
     ensures { rounded_of result ≡ length_of step.now fineness square }

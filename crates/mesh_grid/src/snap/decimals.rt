@@ -4,7 +4,7 @@ ghost use Rattle.mesh_number.specs.Number.Fractions.{is_below_limit};
 ghost use Rattle.mesh_number.specs.Number.Values.{value_of};
 ghost use Rattle.mesh_grid.specs.Snap.Decimals.{negated, IsMultiple, IsReduced, IsStepOfTrillionths, IsStepOf, IsLeastStepOf};
 
-use crate::snap::steps::Step;
+use crate::snap::steps::GridStep;
 use mesh_number::{Binary, Decimal, Number, floor_times, read_decimal};
 
 // Decimals are counted in trillionths.
@@ -65,18 +65,18 @@ fn reduced(trillionths: u128) -> (u128, u32)
 }
 
 // The step of so many trillionths, if its numerator isn't too large.
-fn step_of_trillionths(trillionths: u128) -> Option<Step>
+fn step_of_trillionths(trillionths: u128) -> Option<GridStep>
     requires { 0 < trillionths }
     ensures some { IfSome result (IsStepOfTrillionths trillionths) }
-    ensures least { IfSome result (λ step. (other : Step) → IsStepOfTrillionths trillionths other →
+    ensures least { IfSome result (λ step. (other : GridStep) → IsStepOfTrillionths trillionths other →
         step.numerator ≤ other.numerator) }
-    ensures none { IfNone result ((step : Step) → IsStepOfTrillionths trillionths step → ⊥) }
+    ensures none { IfNone result ((step : GridStep) → IsStepOfTrillionths trillionths step → ⊥) }
 {
     let (number, places) = reduced(trillionths);
     if number >= LIMIT {
         return None;
     }
-    Some(Step {
+    Some(GridStep {
         numerator: number as u64,
         denominator: 10u64.pow(places),
     })
@@ -85,9 +85,9 @@ fn step_of_trillionths(trillionths: u128) -> Option<Step>
 /// The step that a text spells: a decimal above 0 that is a whole number below 2^40 over a power of
 /// ten up to 10^12. Of all such fractions it is the one with the least numerator. None for any other
 /// text.
-pub fn step_of(text: &[u8]) -> Option<Step>
+pub fn step_of(text: &[u8]) -> Option<GridStep>
     ensures some { IfSome result (IsLeastStepOf text.now) }
-    ensures none { IfNone result ((step : Step) → IsStepOf text.now step → ⊥) }
+    ensures none { IfNone result ((step : GridStep) → IsStepOf text.now step → ⊥) }
 {
     let number = read_decimal(text)?;
     let trillionths = trillionths_of(&number)?;

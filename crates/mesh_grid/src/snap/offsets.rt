@@ -4,8 +4,8 @@ ghost use Rattle.mesh_grid.specs.Snap.Steps.{IsStep};
 ghost use Rattle.mesh_grid.specs.Snap.Spans.{FitsAll, AreCoordinates, IsNarrow, AreNarrow};
 ghost use Rattle.mesh_grid.specs.Snap.Offsets.{middle_of, is_central, offset_of, IsOffset, LandsOnGrid};
 
-use crate::snap::spans::{Coordinates, Span, Spans, fitting_spans};
-use crate::snap::steps::Step;
+use crate::snap::spans::{CellRange, CellRanges, Coordinates, fitting_spans};
+use crate::snap::steps::GridStep;
 
 /// The cells at a grid's zero: along x the number g on the grid is the cell g + `x`.
 #[derive(Clone, Copy, Debug, PartialEq, Eq)]
@@ -16,20 +16,20 @@ pub struct Offset {
 }
 
 // Whether the cells are from -2047 to 2047.
-fn is_central(span: &Span) -> bool
+fn is_central(span: &CellRange) -> bool
     ensures { result ≡ is_central span.now }
 {
     span.least >= -2047 && span.greatest <= 2047
 }
 
-fn middle(span: &Span) -> i128
+fn middle(span: &CellRange) -> i128
     requires { IsNarrow span.now }
     ensures { result ≡ middle_of span.now }
 {
     span.least + (span.greatest - span.least).div_euclid(2)
 }
 
-fn offset_of(spans: &Spans) -> Offset
+fn offset_of(spans: &CellRanges) -> Offset
     requires { AreNarrow spans.now }
     ensures { result ≡ offset_of spans.now }
 {
@@ -50,7 +50,7 @@ fn offset_of(spans: &Spans) -> Offset
 ///
 /// There are coordinates along each axis, and each is below 10^15 in size. All of them land on the
 /// grid, at most 2047 from its zero.
-pub fn offset_at(coordinates: &Coordinates, step: &Step) -> Option<Offset>
+pub fn offset_at(coordinates: &Coordinates, step: &GridStep) -> Option<Offset>
     requires step { IsStep step.now }
     requires coordinates { AreCoordinates coordinates.now }
     ensures found { IfSome result (IsOffset step.now coordinates.now) }

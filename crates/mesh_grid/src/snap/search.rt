@@ -5,33 +5,33 @@ ghost use Rattle.mesh_grid.specs.Snap.Spans.{Fits, FitsAll, AreNumbers, AreCoord
 
 use crate::snap::cells::cell;
 use crate::snap::spans::{Coordinates, MOST, fitting_spans};
-use crate::snap::steps::{FINE_STEPS, FINEST, NICE_STEPS, Step, fine, nice};
+use crate::snap::steps::{FINE_STEPS, FINEST, GridStep, NICE_STEPS, fine, nice};
 use mesh_number::Number;
 
 // The indices of two numbers of a list that are far apart: a step at which these don't fit is
 // refused without a look at the others.
 #[derive(Clone, Copy)]
-pub(crate) struct Ends {
+pub(crate) struct FarPair {
     pub low: usize,
     pub high: usize,
 }
 
 #[derive(Clone, Copy)]
-pub(crate) struct AllEnds {
-    pub x: Ends,
-    pub y: Ends,
-    pub z: Ends,
+pub(crate) struct FarPairs {
+    pub x: FarPair,
+    pub y: FarPair,
+    pub z: FarPair,
 }
 
 // The least and the greatest number, as far as the finest grid shows.
-fn ends_of(numbers: &[Number]) -> Ends
+fn ends_of(numbers: &[Number]) -> FarPair
     requires { AreNumbers numbers.now }
     ensures { AreEnds numbers.now result }
 {
     let first = cell(&numbers[0], &FINEST);
     let mut least = first;
     let mut greatest = first;
-    let mut ends = Ends { low: 0, high: 0 };
+    let mut ends = FarPair { low: 0, high: 0 };
     for (place, number) in numbers.iter().enumerate() {
         let cell = cell(number, &FINEST);
         if cell < least {
@@ -48,7 +48,7 @@ fn ends_of(numbers: &[Number]) -> Ends
 
 // `true` only if the numbers don't fit on the grid, as the cells of two of them show; `false` shows
 // nothing.
-fn are_far_apart(numbers: &[Number], ends: &Ends, step: &Step) -> bool
+fn are_far_apart(numbers: &[Number], ends: &FarPair, step: &GridStep) -> bool
     requires step { IsStep step.now }
     requires numbers { AreNumbers numbers.now }
     requires ends { AreEnds numbers.now ends.now }
@@ -58,7 +58,7 @@ fn are_far_apart(numbers: &[Number], ends: &Ends, step: &Step) -> bool
 }
 
 // Whether the coordinates fit on the grid along all axes.
-fn fits(coordinates: &Coordinates, ends: &AllEnds, step: &Step) -> bool
+fn fits(coordinates: &Coordinates, ends: &FarPairs, step: &GridStep) -> bool
     requires step { IsStep step.now }
     requires coordinates { AreCoordinates coordinates.now }
     requires ends { AreAllEnds coordinates.now ends.now }
@@ -79,11 +79,11 @@ fn fits(coordinates: &Coordinates, ends: &AllEnds, step: &Step) -> bool
     }
 }
 
-fn all_ends(coordinates: &Coordinates) -> AllEnds
+fn all_ends(coordinates: &Coordinates) -> FarPairs
     requires { AreCoordinates coordinates.now }
     ensures { AreAllEnds coordinates.now result }
 {
-    AllEnds {
+    FarPairs {
         x: ends_of(coordinates.x),
         y: ends_of(coordinates.y),
         z: ends_of(coordinates.z),
@@ -94,7 +94,7 @@ fn all_ends(coordinates: &Coordinates) -> AllEnds
 /// 5 times a power of ten, from 10^-12 to 5 * 10^11.
 ///
 /// There are coordinates along each axis, and each is below 10^15 in size.
-pub fn nice_step(coordinates: &Coordinates) -> Option<Step>
+pub fn nice_step(coordinates: &Coordinates) -> Option<GridStep>
     requires { AreCoordinates coordinates.now }
     ensures found { IfSome result (IsLeast nice_of coordinates.now) }
     ensures step { IfSome result IsStep }
@@ -114,7 +114,7 @@ pub fn nice_step(coordinates: &Coordinates) -> Option<Step>
 /// at most four digits times a power of ten, from 10^-12 to 9.999 * 10^11.
 ///
 /// There are coordinates along each axis, and each is below 10^15 in size.
-pub fn finest_step(coordinates: &Coordinates) -> Option<Step>
+pub fn finest_step(coordinates: &Coordinates) -> Option<GridStep>
     requires { AreCoordinates coordinates.now }
     ensures found { IfSome result (IsLeast fine_of coordinates.now) }
     ensures step { IfSome result IsStep }

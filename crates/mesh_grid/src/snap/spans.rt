@@ -6,7 +6,7 @@ ghost use Rattle.mesh_grid.specs.Snap.Steps.{IsStep};
 ghost use Rattle.mesh_grid.specs.Snap.Spans.{Fits, FitsAll, IsSpan, AreSpans, AreNumbers, AreCoordinates, IsWidened};
 
 use crate::snap::cells::cell;
-use crate::snap::steps::Step;
+use crate::snap::steps::GridStep;
 use mesh_number::{Number, is_below_limit};
 
 /// The coordinates of all corners: along x, along y and along z.
@@ -18,16 +18,16 @@ pub struct Coordinates<'a> {
 }
 
 #[derive(Clone, Copy, Debug, PartialEq, Eq)]
-pub(crate) struct Span {
+pub(crate) struct CellRange {
     pub least: i128,
     pub greatest: i128,
 }
 
 #[derive(Clone, Copy, Debug, PartialEq, Eq)]
-pub(crate) struct Spans {
-    pub x: Span,
-    pub y: Span,
-    pub z: Span,
+pub(crate) struct CellRanges {
+    pub x: CellRange,
+    pub y: CellRange,
+    pub z: CellRange,
 }
 
 // Whether all numbers are below 10^15 in size.
@@ -54,17 +54,17 @@ pub fn are_coordinates(coordinates: &Coordinates) -> bool
 // The most cells from the least to the greatest that a grid has.
 pub(crate) const MOST: i128 = 4094;
 
-fn widened(span: Span, cell: i128) -> Span
+fn widened(span: CellRange, cell: i128) -> CellRange
     requires { span.least ≤ℤ span.greatest }
     ensures { IsWidened span cell result }
 {
     if cell < span.least {
-        Span {
+        CellRange {
             least: cell,
             greatest: span.greatest,
         }
     } else if span.greatest < cell {
-        Span {
+        CellRange {
             least: span.least,
             greatest: cell,
         }
@@ -74,14 +74,14 @@ fn widened(span: Span, cell: i128) -> Span
 }
 
 // The least and the greatest cell, if the cells fit on a grid.
-pub(crate) fn fitting_span(numbers: &[Number], step: &Step) -> Option<Span>
+pub(crate) fn fitting_span(numbers: &[Number], step: &GridStep) -> Option<CellRange>
     requires step { IsStep step.now }
     requires numbers { AreNumbers numbers.now }
     ensures found { IfSome result (IsSpan step.now numbers.now) }
     ensures none { IfNone result (Fits step.now numbers.now → ⊥) }
 {
     let first = cell(&numbers[0], step);
-    let mut span = Span {
+    let mut span = CellRange {
         least: first,
         greatest: first,
     };
@@ -95,7 +95,7 @@ pub(crate) fn fitting_span(numbers: &[Number], step: &Step) -> Option<Span>
 }
 
 // The least and the greatest cell along each axis, if the cells fit on a grid along all of them.
-pub(crate) fn fitting_spans(coordinates: &Coordinates, step: &Step) -> Option<Spans>
+pub(crate) fn fitting_spans(coordinates: &Coordinates, step: &GridStep) -> Option<CellRanges>
     requires step { IsStep step.now }
     requires coordinates { AreCoordinates coordinates.now }
     ensures found { IfSome result (AreSpans step.now coordinates.now) }
@@ -104,7 +104,7 @@ pub(crate) fn fitting_spans(coordinates: &Coordinates, step: &Step) -> Option<Sp
     match fitting_span(coordinates.x, step) {
         Some(x) => match fitting_span(coordinates.y, step) {
             Some(y) => match fitting_span(coordinates.z, step) {
-                Some(z) => Some(Spans { x, y, z }),
+                Some(z) => Some(CellRanges { x, y, z }),
                 None => None,
             },
             None => None,

@@ -4,13 +4,13 @@ ghost use Rattle.mesh_grid.specs.Snap.Steps.{IsStep, nice_of, fine_number, fine_
 
 /// The length of a grid's step: a numerator and a denominator from 1 to 2^40 - 1.
 #[derive(Clone, Copy, Debug, PartialEq, Eq)]
-pub struct Step {
+pub struct GridStep {
     pub numerator: u64,
     pub denominator: u64,
 }
 
 // The least step of all.
-pub(crate) const FINEST: Step = Step {
+pub(crate) const FINEST: GridStep = GridStep {
     numerator: 1,
     denominator: 1_000_000_000_000,
 };
@@ -19,7 +19,7 @@ pub(crate) const FINEST: Step = Step {
 pub(crate) const NICE_STEPS: u32 = 72;
 
 // 1, 2 or 5 times a power of ten.
-pub(crate) fn nice(rank: u32) -> Step
+pub(crate) fn nice(rank: u32) -> GridStep
     requires { rank < NICE_STEPS }
     ensures value { result ≡ nice_of rank }
     ensures step { IsStep result }
@@ -30,7 +30,7 @@ pub(crate) fn nice(rank: u32) -> Step
         _ => 5,
     };
     let decade = rank / 3;
-    Step {
+    GridStep {
         numerator: digit * 10u64.pow(decade.saturating_sub(12)),
         denominator: 10u64.pow(12u32.saturating_sub(decade)),
     }
@@ -60,14 +60,14 @@ fn fine_decade(rank: u32) -> u32
 }
 
 // A number from 1 to 9999 times a power of ten.
-pub(crate) fn fine(rank: u32) -> Step
+pub(crate) fn fine(rank: u32) -> GridStep
     requires { rank < FINE_STEPS }
     ensures value { result ≡ fine_of rank }
     ensures step { IsStep result }
 {
     let number = u64::from(fine_number(rank));
     let decade = fine_decade(rank);
-    Step {
+    GridStep {
         numerator: number * 10u64.pow(decade.saturating_sub(12)),
         denominator: 10u64.pow(12u32.saturating_sub(decade)),
     }

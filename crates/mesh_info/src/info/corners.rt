@@ -3,7 +3,7 @@ ghost use Rattle.std.specs.Prelude.{◌≡◌, map, IfOk};
 ghost use Rattle.mesh_write.specs.Vertices.Vertices.{point_at, IsMeshOf};
 ghost use Rattle.mesh_info.specs.Info.Corners.{trillionths, place_of, places_of, triangle_over, triangles_of};
 
-use mesh_grid::{Step, cell};
+use mesh_grid::{GridStep, cell};
 use mesh_number::{Number, is_below_limit};
 use mesh_read::{Facet, Surface, Vertex};
 use mesh_write::{DecimalPoint, DecimalTriangle, IndexedMesh};
@@ -16,7 +16,7 @@ fn trillionths(number: &Number) -> i128
     if !is_below_limit(number) {
         return 0;
     }
-    let trillionth = Step {
+    let trillionth = GridStep {
         numerator: 1,
         denominator: 1_000_000_000_000,
     };

@@ -4,7 +4,7 @@ use Rattle.std.specs.Str.{IsUtf8}
 use Rattle.serde_json.specs.Data.{Data, Items, no_items, item}
 use Rattle.serde_json.specs.Read.{read}
 use Rattle.serde_json.specs.Find.{get, as_number, as_str, as_array, as_i64}
-use Rattle.mesh_grid.specs.declared.snap.steps.Step.{Step}
+use Rattle.mesh_grid.specs.declared.snap.steps.GridStep.{GridStep}
 use Rattle.mesh_grid.specs.declared.snap.offsets.Offset.{Offset}
 use Rattle.mesh_grid.specs.declared.grid.grid.Grid.{Grid}
 use Rattle.mesh_scene.specs.declared.scene_file.fault.SceneFileFault.{SceneFileFault}
@@ -17,7 +17,7 @@ abbrev pub step_text_in : Data → Option (List ℕ)
 step_text_in value = option_and_then as_str (get (codes "step") value)
 
 -- it spells this step
-pub record IsStepIn (value : Data) (s : Step) : Type 0 where
+pub record IsStepIn (value : Data) (s : GridStep) : Type 0 where
   pub text : List ℕ
   pub is_member : step_text_in value ≡ Some text
   pub is_text : IsStepText text s

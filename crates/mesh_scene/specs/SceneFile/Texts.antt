@@ -4,7 +4,7 @@ use Rattle.std.specs.Fmt.{signed_decimal}
 use Rattle.std.specs.List.{zip, join_with_byte}
 use Rattle.json.specs.Print.{quoted}
 use Rattle.mesh_number.specs.Round.Decimals.{decimal_text}
-use Rattle.mesh_grid.specs.declared.snap.steps.Step.{Step}
+use Rattle.mesh_grid.specs.declared.snap.steps.GridStep.{GridStep}
 use Rattle.mesh_grid.specs.declared.snap.offsets.Offset.{Offset}
 use Rattle.mesh_grid.specs.declared.grid.grid.Grid.{Grid}
 use Rattle.mesh_grid.specs.declared.moves.length.Length.{Length}
@@ -62,18 +62,18 @@ unfoldable pub offset_text : Offset → List ℕ
 offset_text o = codes "[" ++ (signed_decimal o.x ++ (next_text o.y ++ (next_text o.z ++ codes "]")))
 
 -- what stands before the files
-unfoldable pub grid_text : Step → Offset → List ℕ
+unfoldable pub grid_text : GridStep → Offset → List ℕ
 grid_text step offset =
     codes "{\n  \"step\": \"" ++ (fraction_text step ++
     (codes "\",\n  \"offset\": " ++ (offset_text offset ++ codes ",\n  \"files\": [")))
 
 -- ---- all of it
-abbrev pub text_of : Step → Offset → List File → List ℕ
+abbrev pub text_of : GridStep → Offset → List File → List ℕ
 text_of step offset fs = grid_text step offset ++ (files_text fs ++ codes "\n  ]\n}\n")
 
 -- the text of the scene with this grid, which has the step in lowest terms
 pub record IsSceneText (g : Grid) (names : List (List ℕ)) (counts : List Counts) (moves : List Length)
     (text : List ℕ) : Type 0 where
-  pub lowest : Step
+  pub lowest : GridStep
   pub is_lowest : IsInLowestTerms g.step lowest
   pub is_text : text ≡ text_of lowest g.offset (files_of names counts moves)

@@ -5,7 +5,7 @@ ghost use Rattle.mesh_scene.specs.Scene.Faults.{of_grid_fault, of_join_fault};
 
 use ember_balance::Loose;
 use ember_mesh::JoinFault;
-use mesh_grid::{Extent, Grid, GridFault};
+use mesh_grid::{Grid, GridFault, SceneExtent};
 use std::alloc::AllocError;
 use thiserror::Error;
 
@@ -33,7 +33,7 @@ pub enum SceneFault {
     /// The surfaces don't fit on a grid with the given step. They are so long, and the finest step
     /// at which they fit is this one.
     #[error("the step is too small")]
-    StepTooSmall(Extent),
+    StepTooSmall(SceneExtent),
     /// This surface is the first that isn't closed on the grid.
     #[error("a surface is open")]
     Open(Open),

@@ -21,7 +21,7 @@ use std::alloc::Global;
 
 /// Surfaces on one grid.
 #[derive(Drop)]
-pub struct Placed {
+pub struct PlacedScene {
     pub grid: Grid,
     /// The triangles of the surface with the index `i` have the mesh number `i + 1`.
     pub scene: Scene,
@@ -98,7 +98,11 @@ fn meshes_of(alloc: Global, surfaces: &[Surface], grid: &Grid) -> Result<Meshes,
 /// 2. A surface that isn't closed on the grid, of those before the first that has more than 262,144
 ///    triangles there. The first such surface is reported.
 /// 3. More than 262,144 triangles of all surfaces together, with their number.
-pub fn scene_of(alloc: Global, surfaces: &[Surface], wanted: Wanted) -> Result<Placed, SceneFault>
+pub fn scene_of(
+    alloc: Global,
+    surfaces: &[Surface],
+    wanted: Wanted,
+) -> Result<PlacedScene, SceneFault>
     requires few { length surfaces.now ≤ 64 }
     requires within { All IsWithinLimit surfaces.now }
     requires choice { IsChoice wanted }
@@ -116,7 +120,7 @@ pub fn scene_of(alloc: Global, surfaces: &[Surface], wanted: Wanted) -> Result<P
     let meshes = meshes_of(alloc, surfaces, &grid)?;
     let scene = join(alloc, Parts::of(meshes.parts))?;
     let moves = greatest_moves(alloc, surfaces, &grid)?;
-    Ok(Placed {
+    Ok(PlacedScene {
         grid,
         scene,
         counts: meshes.counts,

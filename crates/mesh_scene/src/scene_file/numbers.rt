@@ -1,13 +1,13 @@
 // Steps as fractions.
 ghost use Rattle.std.specs.Prelude.{◌≡◌, ◌<◌, ◌^◌, ◌++◌, ℕ, IfSome, IfNone, OnOk, decimal};
-ghost use Rattle.mesh_grid.specs.declared.snap.steps.Step.{Step};
+ghost use Rattle.mesh_grid.specs.declared.snap.steps.GridStep.{GridStep};
 ghost use Rattle.mesh_grid.specs.Snap.Steps.{IsStep};
 ghost use Rattle.mesh_scene.specs.SceneFile.Fractions.{fraction_text, IsPart, IsStepText, IsInLowestTerms};
 
 use ember_model::OutOfMemory;
 use itoa::Buffer;
 use mesh_certificate::gcd;
-use mesh_grid::Step;
+use mesh_grid::GridStep;
 
 // The least number that is too large for a part of a step.
 const LIMIT: u64 = 1 << 40;
@@ -33,24 +33,24 @@ fn part_in(text: &str) -> Option<u64>
 }
 
 /// The step that the text spells as `n/d`, if it is in range.
-pub fn step_in(text: &str) -> Option<Step>
+pub fn step_in(text: &str) -> Option<GridStep>
     ensures some { IfSome result (IsStepText text.now) }
-    ensures none { IfNone result ((s : Step) → IsStepText text.now s → ⊥) }
+    ensures none { IfNone result ((s : GridStep) → IsStepText text.now s → ⊥) }
 {
     let (numerator, denominator) = text.split_once('/')?;
-    Some(Step {
+    Some(GridStep {
         numerator: part_in(numerator)?,
         denominator: part_in(denominator)?,
     })
 }
 
 /// The same step in lowest terms.
-pub fn lowest(step: &Step) -> Step
+pub fn lowest(step: &GridStep) -> GridStep
     requires { IsStep step.now }
     ensures { IsInLowestTerms step.now result }
 {
     let divisor = gcd(step.numerator, step.denominator);
-    Step {
+    GridStep {
         numerator: step.numerator / divisor,
         denominator: step.denominator / divisor,
     }
@@ -64,7 +64,7 @@ fn put_part(part: u64, text: &mut Vec<u8>) -> Result<(), OutOfMemory>
 }
 
 /// Appends the step as `n/d`.
-pub fn put_fraction(step: &Step, text: &mut Vec<u8>) -> Result<(), OutOfMemory>
+pub fn put_fraction(step: &GridStep, text: &mut Vec<u8>) -> Result<(), OutOfMemory>
     ensures { OnOk result (text.new.items ≡ text.old.items ++ fraction_text step.now) }
 {
     put_part(step.numerator, text)?;

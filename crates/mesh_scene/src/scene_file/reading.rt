@@ -1,20 +1,20 @@
 // The grid of a scene file.
 ghost use Rattle.std.specs.Prelude.{◌≡◌, IfSome, IfNone, IfOk, IfErr};
 ghost use Rattle.mesh_grid.specs.declared.grid.grid.Grid.{Grid};
-ghost use Rattle.mesh_grid.specs.declared.snap.steps.Step.{Step};
+ghost use Rattle.mesh_grid.specs.declared.snap.steps.GridStep.{GridStep};
 ghost use Rattle.serde_json.specs.View.{view, items_view};
 ghost use Rattle.mesh_scene.specs.SceneFile.Scenes.{whole_in, offset_of, offset_in, IsStepIn, IsGridIn, IsSceneOf, IsFault};
 
 use crate::scene_file::fault::SceneFileFault;
 use crate::scene_file::numbers::step_in;
-use mesh_grid::{Grid, Offset, Step};
+use mesh_grid::{Grid, GridStep, Offset};
 use serde_json::Value;
 use std::alloc::Global;
 
 // The member `step`, if it spells a step.
-fn step_of(value: &Value) -> Option<Step>
+fn step_of(value: &Value) -> Option<GridStep>
     ensures some { IfSome result (IsStepIn (view value.now)) }
-    ensures none { IfNone result ((s : Step) → IsStepIn (view value.now) s → ⊥) }
+    ensures none { IfNone result ((s : GridStep) → IsStepIn (view value.now) s → ⊥) }
 {
     let text = value.get("step")?.as_str()?;
     step_in(text)

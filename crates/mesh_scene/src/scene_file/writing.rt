@@ -10,7 +10,7 @@ use crate::scene_file::numbers::{lowest, put_fraction};
 use ember_model::OutOfMemory;
 use ember_words::Text;
 use itoa::Buffer;
-use mesh_grid::{Grid, Length, Offset, Step};
+use mesh_grid::{Grid, GridStep, Length, Offset};
 use mesh_number::put_shifted;
 use serde_json::Value;
 use std::alloc::Global;
@@ -131,7 +131,7 @@ fn put_files(
 }
 
 // Appends the members before the files. The step is in lowest terms.
-fn put_grid(step: &Step, offset: &Offset, text: &mut Vec<u8>) -> Result<(), OutOfMemory>
+fn put_grid(step: &GridStep, offset: &Offset, text: &mut Vec<u8>) -> Result<(), OutOfMemory>
     ensures { OnOk result (text.new.items ≡ text.old.items ++ grid_text step.now offset.now) }
 {
     text.extend_from_slice(b"{\n  \"step\": \"")?;

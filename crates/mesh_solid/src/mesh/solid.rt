@@ -13,7 +13,7 @@ use crate::mesh::fault::SolidFault;
 use crate::mesh::mesh::{SolidMesh, mesh_of_faces};
 use ember_expr::Expr;
 use ember_model::{Face, OutOfMemory, Scene};
-use ember_query::{Answer, Query, Solid, SolidFaces, solid_faces, solid_of};
+use ember_query::{Answer, Query, SolidDocument, SolidFaces, solid_faces, solid_of};
 use ember_report::Report;
 use ember_reread::{RereadFault, read_faces};
 use mesh_triangles::{PlaneAnswer, PlaneQuery, TrianglesFault};
@@ -57,7 +57,7 @@ fn mesh_with_document<
     ensures solid { IfOk result (IsMeshedSolid scene.now.tris (formula_of expr.now) true) }
     ensures fault { IfErr result (IsSolidFault scene.now.tris (formula_of expr.now)) }
 {
-    let Solid { text, report } = solid_of(alloc, scene, expr, executor)?;
+    let SolidDocument { text, report } = solid_of(alloc, scene, expr, executor)?;
     let faces = faces_in(alloc, &text)?;
     let mesh = mesh_of_faces(alloc, faces, plane_executor)?;
     Ok(MeshedSolid {

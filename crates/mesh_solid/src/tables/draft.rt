@@ -23,20 +23,20 @@ const MOST_EDGES: usize = 2_147_483_647;
 
 /// Tables of some edges. The number of an entry is its place in its set.
 #[derive(Drop)]
-pub struct Draft {
+pub struct TableBuilder {
     pub planes: IndexSet<PlaneEntry>,
     pub lines: IndexSet<LineKey>,
     pub corners: IndexSet<SpacePoint>,
     pub segments: Vec<Segment>,
 }
 
-impl Draft {
+impl TableBuilder {
     /// The tables of no edges.
-    pub fn new(alloc: Global) -> Draft
+    pub fn new(alloc: Global) -> TableBuilder
         ensures draft { IsDraft [] result }
         ensures few { HasFew result }
     {
-        Draft {
+        TableBuilder {
             planes: IndexSet::new(alloc),
             lines: IndexSet::new(alloc),
             corners: IndexSet::new(alloc),

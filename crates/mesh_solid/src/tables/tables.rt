@@ -5,7 +5,7 @@ ghost use Rattle.mesh_solid.specs.Tables.Edges.{face_edges_of};
 ghost use Rattle.mesh_solid.specs.Tables.Tables.{IsFault, AreTables};
 ghost use Rattle.mesh_solid.specs.Tables.Drafts.{IsDraft};
 
-use crate::tables::draft::Draft;
+use crate::tables::draft::TableBuilder;
 use crate::tables::fault::TableFault;
 use crate::tables::plane_entry::planes_of;
 use ember_model::{Face, Plane};
@@ -23,12 +23,12 @@ pub struct Tables {
 }
 
 // The draft of all edges of the faces.
-fn draft_of(alloc: Global, faces: &[Face]) -> Result<Draft, TableFault>
+fn draft_of(alloc: Global, faces: &[Face]) -> Result<TableBuilder, TableFault>
     requires { All IsValidFace faces.now }
     ensures ok { IfOk result (λ d. IsDraft (face_edges_of 0 faces.now) d) }
     ensures fault { IfErr result (λ e. IsFault (face_edges_of 0 faces.now) e) }
 {
-    let mut draft = Draft::new(alloc);
+    let mut draft = TableBuilder::new(alloc);
     for (number, face) in faces.iter().enumerate() {
         draft.push_face(number, &face.support, face.edges.items())?;
     }
@@ -43,7 +43,7 @@ pub fn tables_of(alloc: Global, faces: &[Face]) -> Result<Tables, TableFault>
     ensures tables { IfOk result (λ t. AreTables (face_edges_of 0 faces.now) t) }
     ensures fault { IfErr result (λ e. IsFault (face_edges_of 0 faces.now) e) }
 {
-    let Draft {
+    let TableBuilder {
         planes,
         lines,
         corners,

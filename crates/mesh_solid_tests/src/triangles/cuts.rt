@@ -3,7 +3,7 @@ ghost use Rattle.ember_model.specs.Valid.{IsValidPlane};
 
 use ember_model::Plane;
 use mesh_certificate::{LineKey, Segment, SpacePoint, Triangle, is_certified};
-use mesh_triangulate::{Cut, Touch, triangles_of, with_lines};
+use mesh_triangulate::{Touch, Triangulation, triangles_of, with_lines};
 use std::alloc::Global;
 use std::test::Fail;
 
@@ -146,12 +146,12 @@ fn push_side(
     triangles: &mut Vec<Triangle>,
 ) -> Result<Option<Outcome>, Fail> {
     let cut = match triangles_of(alloc, plane, corners, boundary)? {
-        Cut::Triangles(cut) => cut,
-        Cut::Touches(touches) => {
+        Triangulation::Triangles(cut) => cut,
+        Triangulation::Touches(touches) => {
             let first = *touches.first().ok_or("no touch")?;
             return Ok(Some(Outcome::Touches(touches.len(), first)));
         }
-        Cut::NotFound => return Ok(Some(Outcome::NotFound)),
+        Triangulation::NotFound => return Ok(Some(Outcome::NotFound)),
     };
     let number = boundary.first().map_or(0, |s| s.plane);
     let first_free_line = u32::try_from(boundary.len())?;

@@ -2,7 +2,7 @@
 use crate::written::written::{AT_ZERO, TENTH, THIRDS, UNIT, triangle};
 use mesh_certificate::{SpacePoint, Triangle};
 use mesh_effect::{Move, greatest_decimal_move, greatest_float_move, is_above_hundredth, put_move};
-use mesh_grid::Step;
+use mesh_grid::GridStep;
 use mesh_written::float_points;
 use std::test::Fail;
 
@@ -28,7 +28,7 @@ fn of_one_corner() -> [Triangle; 1] {
 #[test]
 fn moves_to_decimals(rt: HostRuntime) -> Result<(), Fail> {
     let alloc = rt.alloc();
-    let rows: [(SpacePoint, Step, u32, &[u8]); 6] = [
+    let rows: [(SpacePoint, GridStep, u32, &[u8]); 6] = [
         (THIRD, UNIT, 6, b"3.33333334e-07"),
         (THIRD, UNIT, 0, b"0.333333334"),
         (THIRD, TENTH, 3, b"0.000333333334"),
@@ -65,7 +65,7 @@ const ONE: SpacePoint = SpacePoint {
 #[test]
 fn moves_to_floats(rt: HostRuntime) -> Result<(), Fail> {
     let alloc = rt.alloc();
-    let rows: [(SpacePoint, Step, &[u8]); 3] = [
+    let rows: [(SpacePoint, GridStep, &[u8]); 3] = [
         (ONE, TENTH, b"1.49011612e-09"),
         (THIRDS, UNIT, b"2.22133396e-08"),
         (WHOLE, UNIT, b"0"),

@@ -2,7 +2,7 @@
 use crate::written::texts::point;
 use ember_model::{Axis, Plane};
 use mesh_certificate::{Segment, SpacePoint, Triangle};
-use mesh_grid::{Offset, Step};
+use mesh_grid::{GridStep, Offset};
 use mesh_write::{FloatPoint, IndexedTriangle, WrittenTriangle};
 use mesh_written::{
     DecimalMesh, PlaceFault, decimal_mesh, decimal_place, float_place, float_triangles,
@@ -11,13 +11,13 @@ use mesh_written::{
 use std::test::Fail;
 
 /// A step of the user's unit.
-pub const UNIT: Step = Step {
+pub const UNIT: GridStep = GridStep {
     numerator: 1,
     denominator: 1,
 };
 
 /// A step of a tenth.
-pub const TENTH: Step = Step {
+pub const TENTH: GridStep = GridStep {
     numerator: 1,
     denominator: 10,
 };
@@ -49,7 +49,7 @@ pub const THIRDS: SpacePoint = SpacePoint {
 
 #[test]
 fn corners_are_rounded(rt: HostRuntime) -> Result<(), Fail> {
-    let rows: [(SpacePoint, Axis, Step, Offset, u32, &[u8]); 6] = [
+    let rows: [(SpacePoint, Axis, GridStep, Offset, u32, &[u8]); 6] = [
         (TENTHS, Axis::X, TENTH, AT_ZERO, 0x3f00_0000, b"0.5"),
         (TENTHS, Axis::Y, TENTH, AT_ZERO, 0xbe99_999a, b"-0.3"),
         (TENTHS, Axis::Z, TENTH, AT_ZERO, 0, b"0"),
@@ -70,7 +70,7 @@ fn corners_are_rounded(rt: HostRuntime) -> Result<(), Fail> {
 
 #[test]
 fn a_corner_too_far_out(rt: HostRuntime) {
-    let step = Step {
+    let step = GridStep {
         numerator: 1_000_000_000_000,
         denominator: 1,
     };
@@ -284,7 +284,7 @@ fn places_of_steps(rt: HostRuntime) {
         (1, 1_000_000_000_000, 17),
     ];
     for (numerator, denominator, places) in rows {
-        let step = Step {
+        let step = GridStep {
             numerator,
             denominator,
         };

@@ -8,7 +8,7 @@ use std::num::f32_from_bits_with_nan;
 
 /// The coordinates of a point.
 #[derive(Clone, Copy)]
-pub struct Coordinates {
+pub struct FloatCoordinates {
     pub x: f32,
     pub y: f32,
     pub z: f32,
@@ -17,14 +17,14 @@ pub struct Coordinates {
 /// The least and the greatest coordinates of some points.
 #[derive(Clone, Copy)]
 pub struct Bounds {
-    pub low: Coordinates,
-    pub high: Coordinates,
+    pub low: FloatCoordinates,
+    pub high: FloatCoordinates,
 }
 
-fn coordinates_of(point: &FloatPoint) -> Coordinates
+fn coordinates_of(point: &FloatPoint) -> FloatCoordinates
     ensures { result ≡ coordinates_of point.now }
 {
-    Coordinates {
+    FloatCoordinates {
         x: f32_from_bits_with_nan(point.x),
         y: f32_from_bits_with_nan(point.y),
         z: f32_from_bits_with_nan(point.z),
@@ -43,20 +43,20 @@ fn greater(a: f32, b: f32) -> f32
     if a < b { b } else { a }
 }
 
-fn lower(p: Coordinates, q: Coordinates) -> Coordinates
+fn lower(p: FloatCoordinates, q: FloatCoordinates) -> FloatCoordinates
     ensures { result ≡ lower p q }
 {
-    Coordinates {
+    FloatCoordinates {
         x: lesser(p.x, q.x),
         y: lesser(p.y, q.y),
         z: lesser(p.z, q.z),
     }
 }
 
-fn higher(p: Coordinates, q: Coordinates) -> Coordinates
+fn higher(p: FloatCoordinates, q: FloatCoordinates) -> FloatCoordinates
     ensures { result ≡ higher p q }
 {
-    Coordinates {
+    FloatCoordinates {
         x: greater(p.x, q.x),
         y: greater(p.y, q.y),
         z: greater(p.z, q.z),

@@ -2,7 +2,7 @@
 ghost use Rattle.std.specs.Prelude.{IfOk};
 ghost use Rattle.mesh_write.specs.Glb.Texts.{IsFloatText, IsVectorText};
 
-use crate::glb::bounds::Coordinates;
+use crate::glb::bounds::FloatCoordinates;
 use ryu::Buffer;
 use std::alloc::{AllocError, Global};
 use std::num::f32_to_f64_with_nan;
@@ -16,7 +16,7 @@ fn float_text(alloc: Global, number: f32) -> Result<Vec<u8>, AllocError>
 }
 
 /// The texts of three numbers with commas between them, in brackets.
-pub fn vector_text(alloc: Global, numbers: &Coordinates) -> Result<Vec<u8>, AllocError>
+pub fn vector_text(alloc: Global, numbers: &FloatCoordinates) -> Result<Vec<u8>, AllocError>
     ensures { IfOk result (λ text. IsVectorText numbers.now text.items) }
 {
     let x = float_text(alloc, numbers.x)?;
