@@ -1,4 +1,5 @@
-//! The program `ember-mesh`.
+//! The program `ember-mesh`: it hands `run_mesh` the words of the command line, the file system, the
+//! standard streams and a line of progress, and ends with the status that comes back.
 #![tactic(auto)]
 
 use ember_io::{FileShelf, StdSink};
