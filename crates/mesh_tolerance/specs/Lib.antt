@@ -1,0 +1,2 @@
+pub mod Triangles
+pub mod Distances
