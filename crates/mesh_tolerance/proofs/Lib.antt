@@ -6,3 +6,5 @@ pub mod MovedCorners
 pub mod SeenFaces
 pub mod SeenTriangles
 pub mod MovedTriangles
+pub mod ClosedTriangles
+pub mod MovedSurfaces

@@ -1,2 +1,4 @@
+pub mod Positions
 pub mod Triangles
 pub mod Distances
+pub mod Moves

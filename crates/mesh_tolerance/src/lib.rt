@@ -1,2 +1,7 @@
-//! How far the triangles of a written file may be from the exact result.
+//! How far the triangles of a file may be from the exact ones: a closed surface whose corners move by
+//! at most a distance winds as before around each point that is farther from it than that.
 #![tactic(auto)]
+
+mod law;
+
+pub use law::moved_surfaces_wind_as_before;
