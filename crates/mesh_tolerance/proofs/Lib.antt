@@ -8,3 +8,4 @@ pub mod SeenTriangles
 pub mod MovedTriangles
 pub mod ClosedTriangles
 pub mod MovedSurfaces
+pub mod MeanPoints

@@ -1,5 +1,5 @@
 -- Triangles by numbers of their corners, closed, whose corners move
-use Rattle.std.specs.Prelude.{◌≡◌, ℕ, ◌<◌, nat_eq, pos, ◌<ℤ◌, List, map}
+use Rattle.std.specs.Prelude.{◌≡◌, ℕ, nat_eq, pos, ◌+ℤ◌, ◌*ℤ◌, ◌<ℤ◌, List, map}
 use Rattle.std.specs.List.{AllByRecursion}
 use Rattle.ember_model.specs.declared.point.Axis.{Axis}
 use Rattle.ember_model.specs.declared.point.Spot.{Spot}
@@ -34,3 +34,21 @@ WindAsBefore size unit from to ts =
     AreClear (faces_of_triangles (map (with_points from) ts)) p →
     AreClear (faces_of_triangles (map (with_points to) ts)) p →
     wind a (faces_of_triangles (map (with_points to) ts)) p ≡ wind a (faces_of_triangles (map (with_points from) ts)) p
+
+-- ---- the points of a triangle
+-- the point with these barycentric coordinates: the mean of the corners, weighted by i, j and k
+abbrev pub mean_of : ℕ → ℕ → ℕ → Positions Spot → Spot
+mean_of i j k t =
+    let i = pos i *ℤ (t.b.w *ℤ t.c.w) in let j = pos j *ℤ (t.c.w *ℤ t.a.w) in let k = pos k *ℤ (t.a.w *ℤ t.b.w) in
+    record {
+      x = i *ℤ t.a.x +ℤ j *ℤ t.b.x +ℤ k *ℤ t.c.x;
+      y = i *ℤ t.a.y +ℤ j *ℤ t.b.y +ℤ k *ℤ t.c.y;
+      z = i *ℤ t.a.z +ℤ j *ℤ t.b.z +ℤ k *ℤ t.c.z;
+      w = i *ℤ t.a.w +ℤ j *ℤ t.b.w +ℤ k *ℤ t.c.w;
+    }
+
+-- no point of a triangle moves farther than size / unit from where it was, if it keeps its barycentric coordinates
+abbrev pub PointsMoveWithin : ℕ → ℕ → (ℕ → Spot) → (ℕ → Spot) → List (Positions ℕ) → Type 0
+PointsMoveWithin size unit from to ts =
+    AllByRecursion (λ t. (i j k : ℕ) → IsWithin size unit (mean_of i j k (with_points from t))
+    (mean_of i j k (with_points to t))) ts
