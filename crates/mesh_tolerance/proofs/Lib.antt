@@ -9,3 +9,5 @@ pub mod MovedTriangles
 pub mod ClosedTriangles
 pub mod MovedSurfaces
 pub mod MeanPoints
+pub mod BoundedMoves
+pub mod Similar

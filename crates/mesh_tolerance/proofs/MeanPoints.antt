@@ -162,9 +162,11 @@ module _ (i j k : ℤ) (u v w u' v' w' : Spot) where
 pub points_move_within : (size unit : ℕ) (from to : ℕ → Spot) (ts : List (Positions ℕ)) →
     AllByRecursion (CornersMoveWithin size unit from to) ts → PointsMoveWithin size unit from to ts
 points_move_within size unit from to [] h = tt
-points_move_within size unit from to (t ∷ ts) h =
-    ((λ i j k. mean_is_within (pos i) (pos j) (pos k) (from t.a) (from t.b) (from t.c) (to t.a) (to t.b) (to t.c) size
-    unit (natural i) (natural j) (natural k) h.0.a.within h.0.b.within h.0.c.within), points_move_within size unit from to ts h.1)
+points_move_within size unit from to (t ∷ ts) h = (
+  (λ i j k. mean_is_within (pos i) (pos j) (pos k) (from t.a) (from t.b) (from t.c) (to t.a) (to t.b) (to t.c) size
+      unit (natural i) (natural j) (natural k) h.0.a.within h.0.b.within h.0.c.within),
+  points_move_within size unit from to ts h.1,
+)
   where
     natural : (n : ℕ) → pos 0 ≤ℤ pos n
     natural n = omega (arith, ints)

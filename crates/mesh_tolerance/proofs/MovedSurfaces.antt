@@ -15,10 +15,13 @@ module _ (size unit : ℕ) (from to : ℕ → Spot) where
       AllByRecursion (HasBothWeights from to) ts
   weights [] h = tt
   weights (t ∷ ts) h =
-      let m = h.0 in (record {
-        before = record { a = m.a.weight; b = m.b.weight; c = m.c.weight };
-        after = record { a = m.a.weight_after; b = m.b.weight_after; c = m.c.weight_after };
-      }, weights ts h.1)
+      let m = h.0 in (
+        record {
+          before = record { a = m.a.weight; b = m.b.weight; c = m.c.weight };
+          after = record { a = m.a.weight_after; b = m.b.weight_after; c = m.c.weight_after };
+        },
+        weights ts h.1,
+      )
 
   -- a triangle that is far away stays ahead in the same direction
   stays_ahead : (p : Spot) (t : Positions ℕ) → CornersMoveWithin size unit from to t →

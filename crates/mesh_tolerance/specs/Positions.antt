@@ -6,7 +6,6 @@ pub record Positions (P : Type 0) : Type 0 where
   pub b : P
   pub c : P
 
-
 abbrev pub one_if_edge : {P : Type 0} → (P → P → Bool) → P → P → P → P → ℕ
 one_if_edge same p q u v = if same p u && same q v then 1 else 0
 
