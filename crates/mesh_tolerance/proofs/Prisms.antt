@@ -35,10 +35,10 @@ wall_back a u u' v v' h = record {
 }
 
 -- ---- by numbers
-wall_sum : (b : Bool) (f g p q r s t k p' r' k' : ℤ) → f ≡ pick b (p +ℤ q +ℤ r') → g ≡ pick b (r +ℤ s +ℤ k') →
+wall_sum : (b : Bool) (f g p q r s t k r' k' : ℤ) → f ≡ pick b (p +ℤ q +ℤ r') → g ≡ pick b (r +ℤ s +ℤ k') →
     r' ≡ neg_ℤ r → s ≡ neg_ℤ t → k' ≡ neg_ℤ k → f +ℤ g ≡ pick b ((p -ℤ t) +ℤ (q -ℤ k))
-wall_sum true f g p q r s t k p' r' k' ef eg er es ek = omega (arith, linear, ef, eg, er, es, ek)
-wall_sum false f g p q r s t k p' r' k' ef eg er es ek = omega (arith, linear, ef, eg)
+wall_sum true f g p q r s t k r' k' ef eg er es ek = omega (arith, linear, ef, eg, er, es, ek)
+wall_sum false f g p q r s t k r' k' ef eg er es ek = omega (arith, linear, ef, eg)
 
 opposite_walls : (b : Bool) (f g p q p' q' k k' : ℤ) → f ≡ pick b ((p -ℤ q) +ℤ (k' -ℤ k)) →
     g ≡ pick b ((p' -ℤ q') +ℤ (k -ℤ k')) → p' ≡ neg_ℤ p → q' ≡ neg_ℤ q → g ≡ neg_ℤ f
@@ -69,7 +69,7 @@ module _ (a : Axis) (d : Vector) where
       (side_passing a v v' -ℤ side_passing a u u'))
   wall_is u u' v v' pu pu' pv pv' g =
       wall_sum leads (seen_crossing a u v v') (seen_crossing a u v' u') (side_passing a u v) (side_passing a v v')
-      (side_passing a u v') (side_passing a v' u') (side_passing a u' v') (side_passing a u u') (pos 0)
+      (side_passing a u v') (side_passing a v' u') (side_passing a u' v') (side_passing a u u')
       (side_passing a v' u) (side_passing a u' u)
       (faced u v v' pu pv pv' g.before g.end (side_back a u v' g.there))
       (faced u v' u' pu pv' pu' g.there (side_back a u' v' g.after) (side_back a u u' g.start))

@@ -1,5 +1,5 @@
 -- The winding number of triangles of points, by how their corners are seen.
-use Rattle.std.proofs.Common.{◌≡◌, refl, sym, ap, ◌∙◌, arith, Bool, true, false, not, cond, List, [], ◌∷◌, map, filter, [], ℤ, pos, ◌+ℤ◌, ◌*ℤ◌, ◌<ℤ◌}
+use Rattle.std.proofs.Common.{◌≡◌, refl, sym, ap, ◌∙◌, arith, Bool, true, false, not, cond, List, [], ◌∷◌, map, filter, ℤ, pos, ◌+ℤ◌, ◌*ℤ◌, ◌<ℤ◌}
 use Rattle.std.specs.List.{AllByRecursion}
 use Rattle.ember_algebra.specs.Sums.{total}
 use Rattle.ember_algebra.specs.Vector.{Vector, zero_v, dot}
