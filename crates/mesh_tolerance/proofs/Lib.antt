@@ -11,3 +11,5 @@ pub mod MovedSurfaces
 pub mod MeanPoints
 pub mod BoundedMoves
 pub mod Similar
+pub mod SeenMeshes
+pub mod MovedMeshes

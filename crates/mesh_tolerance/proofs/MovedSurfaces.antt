@@ -11,7 +11,7 @@ use Rattle.mesh_tolerance.proofs.MovedCorners.{moved_stays_ahead}
 use Rattle.mesh_tolerance.proofs.MovedTriangles.{HasBothWeights, StaysAhead, wind_alike}
 
 module _ (size unit : ℕ) (from to : ℕ → Spot) where
-  weights : (ts : List (Positions ℕ)) → AllByRecursion (CornersMoveWithin size unit from to) ts →
+  pub weights : (ts : List (Positions ℕ)) → AllByRecursion (CornersMoveWithin size unit from to) ts →
       AllByRecursion (HasBothWeights from to) ts
   weights [] h = tt
   weights (t ∷ ts) h =
@@ -36,7 +36,7 @@ module _ (size unit : ℕ) (from to : ℕ → Spot) where
     c' = moved_stays_ahead size unit far.direction p (from t.c) (to t.c) m.c.weight m.c.weight_after far.c m.c.within;
   }
 
-  all_stay_ahead : (p : Spot) (ts : List (Positions ℕ)) → AllByRecursion (CornersMoveWithin size unit from to) ts →
+  pub all_stay_ahead : (p : Spot) (ts : List (Positions ℕ)) → AllByRecursion (CornersMoveWithin size unit from to) ts →
       AllByRecursion (IsFar size unit p) (map (with_points from) ts) → AllByRecursion (StaysAhead from to p) ts
   all_stay_ahead p [] m far = tt
   all_stay_ahead p (t ∷ ts) m far = (stays_ahead p t m.0 far.0, all_stay_ahead p ts m.1 far.1)

@@ -119,7 +119,7 @@ module _ {P : Type 0} (from to : P → Spot) where
       half v w e = omega (arith, linear, e)
 
   -- ---- near a point
-  weights_before : (ts : List (Positions P)) → AllByRecursion HasBothWeights ts → AllByRecursion HasWeights (map (with_points from) ts)
+  pub weights_before : (ts : List (Positions P)) → AllByRecursion HasBothWeights ts → AllByRecursion HasWeights (map (with_points from) ts)
   weights_before [] h = tt
   weights_before (t ∷ ts) h = (h.0.before, weights_before ts h.1)
 

@@ -2,3 +2,4 @@ pub mod Positions
 pub mod Triangles
 pub mod Distances
 pub mod Moves
+pub mod Meshes

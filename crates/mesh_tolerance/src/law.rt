@@ -1,6 +1,13 @@
 // The laws of surfaces whose corners move.
 ghost use Rattle.std.specs.Prelude.{ℕ, List};
+ghost use Rattle.ember_model.specs.declared.plane.Plane.{Plane};
 ghost use Rattle.ember_model.specs.declared.point.Spot.{Spot};
+ghost use Rattle.mesh_certificate.specs.declared.certificate.segment.Segment.{Segment};
+ghost use Rattle.mesh_certificate.specs.declared.certificate.space_point.SpacePoint.{SpacePoint};
+ghost use Rattle.mesh_certificate.specs.declared.certificate.triangle.Triangle.{Triangle};
+ghost use Rattle.mesh_certificate.specs.declared.key.lines.LineKey.{LineKey};
+ghost use Rattle.mesh_certificate.specs.Certificate.Certificate.{IsCertified};
+ghost use Rattle.mesh_tolerance.specs.Meshes.{MoveWithin, MeshWindsAsBefore};
 ghost use Rattle.mesh_tolerance.specs.Positions.{Positions};
 ghost use Rattle.mesh_tolerance.specs.Moves.{IsMovedSurface, WindAsBefore, PointsMoveWithin};
 
@@ -18,4 +25,12 @@ pub fn moved_surfaces_wind_as_before()
 pub fn moved_surfaces_stay_near()
     ensures { (size unit : ℕ) (from to : ℕ → Spot) (ts : List (Positions ℕ)) →
         IsMovedSurface size unit from to ts → PointsMoveWithin size unit from to ts }
+{}
+
+/// The same of certified triangles, over the planes of their table before the move, and over planes
+/// of their own after it.
+pub fn moved_meshes_wind_as_before()
+    ensures { (ps : List Plane) (ls : List LineKey) (cs : List SpacePoint) (faces : List Segment)
+        (ts : List Triangle) (size unit : ℕ) (to : ℕ → Spot) → IsCertified ps ls cs faces ts →
+        MoveWithin size unit cs to ts → MeshWindsAsBefore size unit ps cs to ts }
 {}

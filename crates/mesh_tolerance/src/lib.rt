@@ -4,4 +4,6 @@
 
 mod law;
 
-pub use law::{moved_surfaces_stay_near, moved_surfaces_wind_as_before};
+pub use law::{
+    moved_meshes_wind_as_before, moved_surfaces_stay_near, moved_surfaces_wind_as_before,
+};
