@@ -78,12 +78,12 @@ module _ (i j k : ℤ) (u v w u' v' w' : Spot) where
   -- the point of which mean_of makes a point of a triangle
   abbrev point : Spot → Spot → Spot → Spot
   point u v w =
-      let i = i *ℤ (v.w *ℤ w.w) in let j = j *ℤ (w.w *ℤ u.w) in let k = k *ℤ (u.w *ℤ v.w) in
+      let l = i *ℤ (v.w *ℤ w.w) in let m = j *ℤ (w.w *ℤ u.w) in let n = k *ℤ (u.w *ℤ v.w) in
       record {
-        x = i *ℤ u.x +ℤ j *ℤ v.x +ℤ k *ℤ w.x;
-        y = i *ℤ u.y +ℤ j *ℤ v.y +ℤ k *ℤ w.y;
-        z = i *ℤ u.z +ℤ j *ℤ v.z +ℤ k *ℤ w.z;
-        w = i *ℤ u.w +ℤ j *ℤ v.w +ℤ k *ℤ w.w;
+        x = l *ℤ u.x +ℤ m *ℤ v.x +ℤ n *ℤ w.x;
+        y = l *ℤ u.y +ℤ m *ℤ v.y +ℤ n *ℤ w.y;
+        z = l *ℤ u.z +ℤ m *ℤ v.z +ℤ n *ℤ w.z;
+        w = l *ℤ u.w +ℤ m *ℤ v.w +ℤ n *ℤ w.w;
       }
 
   point_moves : displacement (point u v w) (point u' v' w') ≡ scale_v (i +ℤ j +ℤ k) move

@@ -39,12 +39,12 @@ WindAsBefore size unit from to ts =
 -- the point with these barycentric coordinates: the mean of the corners, weighted by i, j and k
 abbrev pub mean_of : ℕ → ℕ → ℕ → Positions Spot → Spot
 mean_of i j k t =
-    let i = pos i *ℤ (t.b.w *ℤ t.c.w) in let j = pos j *ℤ (t.c.w *ℤ t.a.w) in let k = pos k *ℤ (t.a.w *ℤ t.b.w) in
+    let l = pos i *ℤ (t.b.w *ℤ t.c.w) in let m = pos j *ℤ (t.c.w *ℤ t.a.w) in let n = pos k *ℤ (t.a.w *ℤ t.b.w) in
     record {
-      x = i *ℤ t.a.x +ℤ j *ℤ t.b.x +ℤ k *ℤ t.c.x;
-      y = i *ℤ t.a.y +ℤ j *ℤ t.b.y +ℤ k *ℤ t.c.y;
-      z = i *ℤ t.a.z +ℤ j *ℤ t.b.z +ℤ k *ℤ t.c.z;
-      w = i *ℤ t.a.w +ℤ j *ℤ t.b.w +ℤ k *ℤ t.c.w;
+      x = l *ℤ t.a.x +ℤ m *ℤ t.b.x +ℤ n *ℤ t.c.x;
+      y = l *ℤ t.a.y +ℤ m *ℤ t.b.y +ℤ n *ℤ t.c.y;
+      z = l *ℤ t.a.z +ℤ m *ℤ t.b.z +ℤ n *ℤ t.c.z;
+      w = l *ℤ t.a.w +ℤ m *ℤ t.b.w +ℤ n *ℤ t.c.w;
     }
 
 -- no point of a triangle moves farther than size / unit from where it was, if it keeps its barycentric coordinates
