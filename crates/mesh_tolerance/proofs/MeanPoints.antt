@@ -89,7 +89,7 @@ module _ (i j k : ℤ) (u v w u' v' w' : Spot) where
   point_moves : displacement (point u v w) (point u' v' w') ≡ scale_v (i +ℤ j +ℤ k) move
   point_moves =
       vector_identity (scalar ∷ scalar ∷ scalar ∷ tuple ∷ tuple ∷ tuple ∷ tuple ∷ tuple ∷ tuple ∷ [])
-      (λ i j k u v w u' v' w'. let point = λ (u v w : TupleE). let a = i ⊗ (v.w ⊗ w.w) in let b = j ⊗ (w.w ⊗ u.w) in
+      (λ i j k u v w u' v' w'. let point : TupleE → TupleE → TupleE → TupleE = λ u v w. let a = i ⊗ (v.w ⊗ w.w) in let b = j ⊗ (w.w ⊗ u.w) in
       let c = k ⊗ (u.w ⊗ v.w) in record {
         x = a ⊗ u.x ⊕ b ⊗ v.x ⊕ c ⊗ w.x;
         y = a ⊗ u.y ⊕ b ⊗ v.y ⊕ c ⊗ w.y;

@@ -10,7 +10,7 @@ use Rattle.ember_algebra.proofs.Laws.{linear}
 use Rattle.ember_algebra.proofs.Order.{by_sign, pos_mul}
 use Rattle.ember_algebra.proofs.Ring.{◌⊕◌, ◌⊖◌, ◌⊗◌, ◌≈◌, num, cancels}
 use Rattle.ember_algebra.proofs.Signs.{◌⇒◌, use_if, signs, sgn-mul, sgn-neg, not_null, sum3, sum3_from}
-use Rattle.ember_algebra.proofs.Vectors.{scalar, vector, tuple, identity, dotE, crossE, detE}
+use Rattle.ember_algebra.proofs.Vectors.{scalar, vector, tuple, identity, VectorE, TupleE, dotE, crossE, detE}
 use Rattle.ember_model.specs.declared.plane.Plane.{Plane}
 use Rattle.ember_model.specs.declared.point.Axis.{Axis}
 use Rattle.ember_model.specs.declared.point.Axis.TheVariants.{X, Y, Z}
@@ -42,20 +42,20 @@ turn_along_ray : (a : Axis) (m t : ℤ) (p u v : Spot) →
     (displacement p u) (displacement p v)
 turn_along_ray X m t p u v =
     identity (scalar ∷ scalar ∷ tuple ∷ tuple ∷ tuple ∷ [])
-    (λ m t p u v. let q = record { x = m ⊗ p.x ⊕ t; y = m ⊗ p.y; z = m ⊗ p.z; w = m ⊗ p.w } in
-    let e = record { x = num (pos 1); y = num (pos 0); z = num (pos 0) } in
+    (λ m t p u v. let q : TupleE = record { x = m ⊗ p.x ⊕ t; y = m ⊗ p.y; z = m ⊗ p.z; w = m ⊗ p.w } in
+    let e : VectorE = record { x = num (pos 1); y = num (pos 0); z = num (pos 0) } in
     dotE e (crossE (displacementE q u) (displacementE q v)) ≈ (m ⊗ m) ⊗ dotE e
     (crossE (displacementE p u) (displacementE p v))) cancels m t (spot_tuple p) (spot_tuple u) (spot_tuple v)
 turn_along_ray Y m t p u v =
     identity (scalar ∷ scalar ∷ tuple ∷ tuple ∷ tuple ∷ [])
-    (λ m t p u v. let q = record { x = m ⊗ p.x; y = m ⊗ p.y ⊕ t; z = m ⊗ p.z; w = m ⊗ p.w } in
-    let e = record { x = num (pos 0); y = num (pos 1); z = num (pos 0) } in
+    (λ m t p u v. let q : TupleE = record { x = m ⊗ p.x; y = m ⊗ p.y ⊕ t; z = m ⊗ p.z; w = m ⊗ p.w } in
+    let e : VectorE = record { x = num (pos 0); y = num (pos 1); z = num (pos 0) } in
     dotE e (crossE (displacementE q u) (displacementE q v)) ≈ (m ⊗ m) ⊗ dotE e
     (crossE (displacementE p u) (displacementE p v))) cancels m t (spot_tuple p) (spot_tuple u) (spot_tuple v)
 turn_along_ray Z m t p u v =
     identity (scalar ∷ scalar ∷ tuple ∷ tuple ∷ tuple ∷ [])
-    (λ m t p u v. let q = record { x = m ⊗ p.x; y = m ⊗ p.y; z = m ⊗ p.z ⊕ t; w = m ⊗ p.w } in
-    let e = record { x = num (pos 0); y = num (pos 0); z = num (pos 1) } in
+    (λ m t p u v. let q : TupleE = record { x = m ⊗ p.x; y = m ⊗ p.y; z = m ⊗ p.z ⊕ t; w = m ⊗ p.w } in
+    let e : VectorE = record { x = num (pos 0); y = num (pos 0); z = num (pos 1) } in
     dotE e (crossE (displacementE q u) (displacementE q v)) ≈ (m ⊗ m) ⊗ dotE e
     (crossE (displacementE p u) (displacementE p v))) cancels m t (spot_tuple p) (spot_tuple u) (spot_tuple v)
 

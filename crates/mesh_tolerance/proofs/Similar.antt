@@ -58,7 +58,7 @@ module _ (n m : ℤ) (o : Vector) (pn : pos 0 <ℤ n) (pm : pos 0 <ℤ m) where
 
   pub placed_displacement : (u v : Spot) → displacement (placed u) (placed v) ≡ scale_v k (displacement u v)
   placed_displacement u v =
-      vector_identity (scalar ∷ scalar ∷ vector ∷ tuple ∷ tuple ∷ []) (λ n m o u v. let placed = λ (v : TupleE). record {
+      vector_identity (scalar ∷ scalar ∷ vector ∷ tuple ∷ tuple ∷ []) (λ n m o u v. let placed : TupleE → TupleE = λ v. record {
         x = m ⊗ v.x ⊖ o.x ⊗ (n ⊗ v.w);
         y = m ⊗ v.y ⊖ o.y ⊗ (n ⊗ v.w);
         z = m ⊗ v.z ⊖ o.z ⊗ (n ⊗ v.w);
