@@ -4,7 +4,7 @@ use Rattle.ember_algebra.specs.Sums.{total, occurrences}
 use Rattle.ember_algebra.proofs.Laws.{linear}
 use Rattle.ember_algebra.proofs.Sums.{IsEquality, total_odd}
 use Rattle.ember_model.proofs.SignTests.{and_parts}
-use Rattle.mesh_tolerance.specs.Positions.{Positions, one_if_edge, edges_between, AreTrianglesClosed}
+use Rattle.mesh_written.specs.Closed.{Positions, one_if_edge, edges_between, AreTrianglesClosed}
 use Rattle.mesh_tolerance.proofs.MovedTriangles.{around, HaveNoOddSum}
 
 -- ---- the ways along the sides

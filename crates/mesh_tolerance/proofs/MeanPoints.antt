@@ -11,7 +11,7 @@ use Rattle.ember_model.specs.declared.point.Spot.{Spot}
 use Rattle.ember_model.proofs.Tuples.{spot_tuple}
 use Rattle.ember_meaning.specs.Closed.Chains.{displacement}
 use Rattle.ember_meaning.proofs.Displacements.{displacementE}
-use Rattle.mesh_tolerance.specs.Positions.{Positions}
+use Rattle.mesh_written.specs.Closed.{Positions}
 use Rattle.mesh_tolerance.specs.Distances.{square, IsWithin}
 use Rattle.mesh_tolerance.specs.Moves.{mean_of, CornersMoveWithin, PointsMoveWithin}
 use Rattle.mesh_tolerance.specs.Triangles.{with_points}

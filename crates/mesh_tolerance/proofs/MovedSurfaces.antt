@@ -2,7 +2,7 @@
 use Rattle.std.proofs.Common.{◌≡◌, ℕ, List, [], ◌∷◌, map, pos, ◌<ℤ◌}
 use Rattle.std.specs.List.{AllByRecursion}
 use Rattle.ember_model.specs.declared.point.Spot.{Spot}
-use Rattle.mesh_tolerance.specs.Positions.{Positions}
+use Rattle.mesh_written.specs.Closed.{Positions}
 use Rattle.mesh_tolerance.specs.Distances.{IsFar}
 use Rattle.mesh_tolerance.specs.Moves.{CornersMoveWithin, IsMovedSurface, WindAsBefore}
 use Rattle.mesh_tolerance.specs.Triangles.{with_points}

@@ -16,7 +16,7 @@ use Rattle.ember_model.proofs.Tuples.{spot_tuple}
 use Rattle.ember_meaning.specs.Closed.Chains.{displacement, is_zero_vector}
 use Rattle.ember_meaning.proofs.Displacements.{displacementE, zero_vector_out, zero_not, square_positive}
 use Rattle.mesh_certificate.specs.Certificate.Facing.{triangle_normal, FacesFront}
-use Rattle.mesh_tolerance.specs.Positions.{Positions}
+use Rattle.mesh_written.specs.Closed.{Positions}
 use Rattle.mesh_tolerance.specs.Triangles.{plane_of_points, has_no_area, face_of_corners, faces_of_triangles}
 use Rattle.mesh_tolerance.proofs.SeenFaces.{flat_is_not_crossed, face_is_seen}
 use Rattle.mesh_tolerance.proofs.Sides.{seen_crossing}

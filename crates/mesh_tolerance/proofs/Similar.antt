@@ -21,7 +21,7 @@ use Rattle.ember_model.proofs.Tuples.{spot_tuple, same_spot}
 use Rattle.ember_meaning.specs.Closed.Chains.{displacement}
 use Rattle.ember_meaning.proofs.Displacements.{displacementE}
 use Rattle.mesh_solid.specs.Winding.TriangleFaces.{side_plane}
-use Rattle.mesh_tolerance.specs.Positions.{Positions}
+use Rattle.mesh_written.specs.Closed.{Positions}
 use Rattle.mesh_tolerance.specs.Triangles.{plane_of_points, face_of_corners}
 use Rattle.mesh_tolerance.proofs.Rays.{ray_crossing}
 use Rattle.mesh_tolerance.proofs.Sides.{turn_of, seen_crossing}

@@ -1,4 +1,3 @@
-pub mod Positions
 pub mod Triangles
 pub mod Distances
 pub mod Moves

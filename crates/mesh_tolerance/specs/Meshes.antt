@@ -12,7 +12,7 @@ use Rattle.mesh_certificate.specs.declared.certificate.triangle.Triangle.{Triang
 use Rattle.mesh_solid.specs.Winding.TriangleFaces.{triangle_faces}
 use Rattle.mesh_tolerance.specs.Distances.{IsFar}
 use Rattle.mesh_tolerance.specs.Moves.{CornersMoveWithin}
-use Rattle.mesh_tolerance.specs.Positions.{Positions}
+use Rattle.mesh_written.specs.Closed.{Positions}
 use Rattle.mesh_tolerance.specs.Triangles.{faces_of_triangles, with_points}
 
 -- the numbers of a triangle's corners

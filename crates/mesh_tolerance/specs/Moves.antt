@@ -5,7 +5,7 @@ use Rattle.ember_model.specs.declared.point.Axis.{Axis}
 use Rattle.ember_model.specs.declared.point.Spot.{Spot}
 use Rattle.ember_model.specs.Clear.{AreClear}
 use Rattle.ember_model.specs.Meshes.{wind}
-use Rattle.mesh_tolerance.specs.Positions.{Positions, AreTrianglesClosed}
+use Rattle.mesh_written.specs.Closed.{Positions, AreTrianglesClosed}
 use Rattle.mesh_tolerance.specs.Distances.{IsWithin, IsFar}
 use Rattle.mesh_tolerance.specs.Triangles.{faces_of_triangles, with_points}
 

@@ -8,7 +8,7 @@ use Rattle.ember_meaning.specs.Closed.Chains.{is_zero_vector}
 use Rattle.mesh_certificate.specs.Certificate.Facing.{triangle_normal}
 use Rattle.mesh_certificate.specs.Key.LineKeys.{numerators}
 use Rattle.mesh_solid.specs.Winding.TriangleFaces.{face_of_points}
-use Rattle.mesh_tolerance.specs.Positions.{Positions}
+use Rattle.mesh_written.specs.Closed.{Positions}
 
 -- the plane through u, v and w, which go round counter-clockwise as seen from its front
 abbrev pub plane_of_points : Spot → Spot → Spot → Plane

@@ -8,7 +8,7 @@ ghost use Rattle.mesh_certificate.specs.declared.certificate.triangle.Triangle.{
 ghost use Rattle.mesh_certificate.specs.declared.key.lines.LineKey.{LineKey};
 ghost use Rattle.mesh_certificate.specs.Certificate.Certificate.{IsCertified};
 ghost use Rattle.mesh_tolerance.specs.Meshes.{MoveWithin, MeshWindsAsBefore};
-ghost use Rattle.mesh_tolerance.specs.Positions.{Positions};
+ghost use Rattle.mesh_written.specs.Closed.{Positions};
 ghost use Rattle.mesh_tolerance.specs.Moves.{IsMovedSurface, WindAsBefore, PointsMoveWithin};
 
 /// Let the corners of closed triangles move by at most a distance. Around each point that is clear
