@@ -17,6 +17,14 @@ struct PlaneEdges {
 }
 
 impl PlaneEdges {
+    fn none(plane: u32) -> PlaneEdges {
+        PlaneEdges {
+            plane,
+            over: 0,
+            back: 0,
+        }
+    }
+
     fn add(&mut self, is_over: bool) {
         if is_over {
             self.over = self.over.saturating_add(1);
@@ -32,9 +40,17 @@ impl PlaneEdges {
             self.back = self.back.saturating_sub(1);
         }
     }
+
+    fn are_some(&self) -> bool {
+        self.over > 0 || self.back > 0
+    }
+
+    fn cancel(&self) -> bool {
+        self.over == self.back
+    }
 }
 
-/// The edges of faces over a stretch, counted for each plane that has some, in order of planes.
+/// The edges of faces over a stretch, counted for each plane, in order of planes.
 #[derive(Drop)]
 pub struct FaceEdges {
     alloc: Global,
@@ -67,58 +83,52 @@ impl FaceEdges {
 
     // Adds an edge of the plane, or removes one.
     fn change(&mut self, plane: u32, is_over: bool, is_added: bool) -> Result<(), TrianglesFault> {
-        let place = self.planes.partition_point(|p| p.plane < plane);
         if is_added {
-            self.add(place, plane, is_over)
+            self.add(plane, is_over)
         } else {
-            self.remove(place, plane, is_over);
+            self.remove(plane, is_over);
             Ok(())
         }
     }
 
-    // Adds an edge of the plane, whose place is given.
-    fn add(&mut self, place: usize, plane: u32, is_over: bool) -> Result<(), TrianglesFault> {
+    fn add(&mut self, plane: u32, is_over: bool) -> Result<(), TrianglesFault> {
+        let place = self.planes.partition_point(|p| p.plane < plane);
         if let Some(edges) = self.planes.get_mut(place)
             && edges.plane == plane
         {
             edges.add(is_over);
             return Ok(());
         }
-        let mut edges = PlaneEdges {
-            plane,
-            over: 0,
-            back: 0,
-        };
+        let mut edges = PlaneEdges::none(plane);
         edges.add(is_over);
-        if place <= self.planes.len() {
-            self.planes.insert(place, edges)?;
-        }
+        self.planes.insert(place, edges)?;
         Ok(())
     }
 
-    // Removes an edge of the plane, whose place is given, and the plane with its last edge.
-    fn remove(&mut self, place: usize, plane: u32, is_over: bool) {
-        let mut is_last = false;
+    fn remove(&mut self, plane: u32, is_over: bool) {
+        let place = self.planes.partition_point(|p| p.plane < plane);
         if let Some(edges) = self.planes.get_mut(place)
             && edges.plane == plane
         {
             edges.remove(is_over);
-            is_last = edges.over == 0 && edges.back == 0;
         }
-        if is_last && place < self.planes.len() {
-            self.planes.remove(place);
-        }
+    }
+
+    /// Drops the counts of planes that have no edge any more.
+    pub fn tidy(&mut self) {
+        self.planes.retain(|edges| edges.are_some());
     }
 
     /// The planes that keep a pair of opposite edges over the stretch: those whose edges cancel,
     /// if three or more planes have edges there.
     pub fn pairs(&self) -> Result<Vec<u32>, TrianglesFault> {
         let mut pairs = Vec::new(self.alloc);
-        if self.planes.len() < 3 {
+        let count = self.planes.iter().filter(|edges| edges.are_some()).count();
+        if count < 3 {
             return Ok(pairs);
         }
         for edges in &self.planes {
-            if edges.over == edges.back {
+            if edges.are_some() && edges.cancel() {
                 pairs.push(edges.plane)?;
             }
         }

@@ -135,6 +135,7 @@ impl Walk {
         self.end_stretch(&mut boundaries.segments)?;
         move_strands(&mut self.changes, &mut self.stretch)?;
         self.pairs = pairs;
+        self.edges.tidy();
         self.last = self.here;
         self.is_split = false;
         Ok(())
