@@ -145,17 +145,18 @@ fn is_cut_up(
     Ok(is_certified(alloc, &planes, lines, &CORNERS, &faces, &triangles)?)
 }
 
-// The triangles of one diagonal.
+// Both sides of the square, cut by the same diagonal.
 const DIAGONAL: [[u32; 4]; 4] = [[0, 0, 1, 2], [0, 0, 2, 3], [1, 0, 2, 1], [1, 0, 3, 2]];
 
-// The same with the triangles of one diagonal, and others.
+// Whether those triangles and the others cut up the square.
 fn is_diagonal_cut(alloc: Global, lines: &[LineKey], others: &[Triangle]) -> Result<bool, Fail> {
     is_cut_up(alloc, lines, &DIAGONAL, others)
 }
 
-// By one diagonal on each side, and with the middle of a side as a corner on both sides.
+// Each side cut by another diagonal.
 const CROSSED: [[u32; 4]; 4] = [[0, 0, 1, 3], [0, 1, 2, 3], [1, 0, 2, 1], [1, 0, 3, 2]];
 
+// The middle of the first side as a corner of triangles on both sides.
 const IN_SIX: [[u32; 4]; 6] = [
     [0, 0, 4, 2],
     [0, 4, 1, 2],
