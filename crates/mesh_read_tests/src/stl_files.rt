@@ -1,7 +1,7 @@
 // STL files that are read, and their first faults.
 use mesh_number::{Number, floor_times};
 use mesh_read::{
-    Facet, StlFault, Surface, Vertex, WordPlace, is_ascii_stl, is_binary_stl, read_stl,
+    Facet, StlFault, Surface, Vertex, Span, is_ascii_stl, is_binary_stl, read_stl,
 };
 use std::alloc::{AllocError, Global};
 use std::process::Abort;
@@ -62,7 +62,7 @@ fn ascii_files(rt: HostRuntime) {
         ),
         (
             b"solid\nfacet\nvertex 0 nan 0x1\n",
-            Err(StlFault::NotANumber(3, WordPlace { start: 21, end: 24 })),
+            Err(StlFault::NotANumber(3, Span { start: 21, end: 24 })),
         ),
         (
             b"solid\nfacet\nendfacet\nvertex",
@@ -76,7 +76,7 @@ fn ascii_files(rt: HostRuntime) {
         (b"solid\nfacet\nvertex 0 0 0", Err(StlFault::EndsInFacet(2))),
         (
             b"solid\nfacet\n normal 0 0 1\nvertex",
-            Err(StlFault::UnknownWord(3, WordPlace { start: 13, end: 19 })),
+            Err(StlFault::UnknownWord(3, Span { start: 13, end: 19 })),
         ),
         (b"solid\nendsolid", Err(StlFault::NoTriangles)),
         (
