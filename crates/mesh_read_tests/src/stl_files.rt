@@ -1,8 +1,6 @@
 // STL files that are read, and their first faults.
 use mesh_number::{Number, floor_times};
-use mesh_read::{
-    Facet, StlFault, Surface, Vertex, WordPlace, is_ascii_stl, is_binary_stl, read_stl,
-};
+use mesh_read::{Facet, Span, StlFault, Surface, Vertex, is_ascii_stl, is_binary_stl, read_stl};
 use std::alloc::{AllocError, Global};
 use std::process::Abort;
 use std::test::Fail;
@@ -72,7 +70,7 @@ fn ascii_files_that_are_refused(rt: HostRuntime) {
         (b"solid\nfacet\nvertex x 0\n", StlFault::FewCoordinates(3)),
         (
             b"solid\nfacet\nvertex 0 nan 0x1\n",
-            StlFault::NotANumber(3, WordPlace { start: 21, end: 24 }),
+            StlFault::NotANumber(3, Span { start: 21, end: 24 }),
         ),
         (
             b"solid\nfacet\nendfacet\nvertex",
@@ -86,7 +84,7 @@ fn ascii_files_that_are_refused(rt: HostRuntime) {
         (b"solid\nfacet\nvertex 0 0 0", StlFault::EndsInFacet(2)),
         (
             b"solid\nfacet\n normal 0 0 1\nvertex",
-            StlFault::UnknownWord(3, WordPlace { start: 13, end: 19 }),
+            StlFault::UnknownWord(3, Span { start: 13, end: 19 }),
         ),
         (b"solid\nendsolid", StlFault::NoTriangles),
         (
