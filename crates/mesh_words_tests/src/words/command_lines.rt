@@ -204,13 +204,13 @@ const PAGES_AND_FOLDERS: [(&[&str], Option<&str>, Option<&str>); 4] = [
             "a",
             "-o=x.stl",
             "--view",
-            "--keep",
+            "--keep.htm",
         ],
-        Some("--keep"),
+        Some("--keep.htm"),
         Some("a=b"),
     ),
     (
-        &["difference", "--keep=c", "a", "b", "--keep=", "-o", "x.glb"],
+        &["difference", "a", "b", "--keep=", "-o", "x.glb"],
         None,
         Some(""),
     ),
@@ -382,10 +382,8 @@ fn info_and_views_of_files(rt: HostRuntime) -> Result<(), Fail> {
     let words = ["info", "a.stl", "b=1.obj"];
     let texts = [(Setting::Output, None)];
     check(&rt, rt.alloc(), &words, none, &texts, &["a.stl", "b=1.obj"])?;
-    let words = [
-        "view", "-o", "x.html", "a.stl", "--quiet", "-o=page", "b.obj", "a.stl",
-    ];
-    let texts = [(Setting::Output, Some("page"))];
+    let words = ["view", "a.stl", "--quiet", "-o=PAGE.HTML", "b.obj", "a.stl"];
+    let texts = [(Setting::Output, Some("PAGE.HTML"))];
     check(
         &rt,
         rt.alloc(),

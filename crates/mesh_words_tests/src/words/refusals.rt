@@ -4,7 +4,8 @@ use mesh_words::{Refusal, Setting, WordsFault, output_given, step_given};
 use std::alloc::Global;
 use std::test::Fail;
 
-fn refusal(alloc: Global, words: &[&str]) -> Result<Option<Refusal>, Fail> {
+/// Why the words are refused, if they are.
+pub fn refusal(alloc: Global, words: &[&str]) -> Result<Option<Refusal>, Fail> {
     match read(alloc, words)?.err() {
         Some(WordsFault::Refused(why)) => Ok(Some(why)),
         _ => Ok(None),
