@@ -12,8 +12,9 @@ doc = $(share)/doc/ember
 mesh_doc = $(share)/doc/ember-mesh
 bash = $(share)/bash-completion/completions
 zsh = $(share)/zsh/site-functions
-documents = DEFINITIONS.md FORMATS.md LIMITS.md REFUSALS.md TRUST.md
-mesh_documents = FORMATS.md MESHES.md TRUST.md
+# Pages keep the folders that they have in docs, so that their links to each other lead somewhere.
+documents = trust/DEFINITIONS.md trust/TRUST.md use/FORMATS.md use/LIMITS.md use/REFUSALS.md
+mesh_documents = trust/TRUST.md use/FORMATS.md use/MESHES.md
 examples = cube.obj tetra.obj tetra.txt wedge.obj
 mesh_examples = export.obj label.stl plate.stl
 
@@ -24,31 +25,31 @@ mesh:
 	tools/build --program mesh_program
 
 install: build
-	install -d $(bin) $(man) $(doc)/examples $(bash) $(zsh)
+	install -d $(bin) $(man) $(doc)/examples $(doc)/trust $(doc)/use $(bash) $(zsh)
 	install crates/ember/out/ember $(bin)/ember
-	install -m 644 docs/man/ember.1 $(man)/ember.1
-	install -m 644 $(documents:%=docs/%) $(doc)
+	install -m 644 docs/use/man/ember.1 $(man)/ember.1
+	$(foreach it,$(documents),install -m 644 docs/$(it) $(doc)/$(it) &&) true
 	install -m 644 $(examples:%=examples/%) $(doc)/examples
 	install -m 644 completions/ember.bash $(bash)/ember
 	install -m 644 completions/_ember $(zsh)/_ember
 
 install-mesh: mesh
-	install -d $(bin) $(man) $(mesh_doc)/examples $(bash) $(zsh)
+	install -d $(bin) $(man) $(mesh_doc)/examples $(mesh_doc)/trust $(mesh_doc)/use $(bash) $(zsh)
 	install crates/mesh_program/out/mesh_program $(bin)/ember-mesh
-	install -m 644 docs/man/ember-mesh.1 $(man)/ember-mesh.1
-	install -m 644 $(mesh_documents:%=docs/%) $(mesh_doc)
+	install -m 644 docs/use/man/ember-mesh.1 $(man)/ember-mesh.1
+	$(foreach it,$(mesh_documents),install -m 644 docs/$(it) $(mesh_doc)/$(it) &&) true
 	install -m 644 $(mesh_examples:%=examples/%) $(mesh_doc)/examples
 	install -m 644 completions/ember-mesh.bash $(bash)/ember-mesh
 	install -m 644 completions/_ember-mesh $(zsh)/_ember-mesh
 
 uninstall:
 	rm -f $(bin)/ember $(man)/ember.1 $(documents:%=$(doc)/%) $(examples:%=$(doc)/examples/%) $(bash)/ember $(zsh)/_ember
-	rmdir $(doc)/examples $(doc) 2>/dev/null || true
+	rmdir $(doc)/examples $(doc)/trust $(doc)/use $(doc) 2>/dev/null || true
 
 uninstall-mesh:
 	rm -f $(bin)/ember-mesh $(man)/ember-mesh.1 $(mesh_documents:%=$(mesh_doc)/%) $(mesh_examples:%=$(mesh_doc)/examples/%)
 	rm -f $(bash)/ember-mesh $(zsh)/_ember-mesh
-	rmdir $(mesh_doc)/examples $(mesh_doc) 2>/dev/null || true
+	rmdir $(mesh_doc)/examples $(mesh_doc)/trust $(mesh_doc)/use $(mesh_doc) 2>/dev/null || true
 
 deb:
 	tools/deb "$(OUT)"

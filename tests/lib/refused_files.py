@@ -1,4 +1,4 @@
-"""Mesh files that ember-mesh refuses: name, bytes, and why, as docs/MESHES.md lists the reasons."""
+"""Mesh files that ember-mesh refuses: name, bytes, and why, as docs/use/MESHES.md lists the reasons."""
 
 # A binary STL of one facet, all of whose coordinates are 0.
 _FACET = bytes(80) + b"\x01" + bytes(53)

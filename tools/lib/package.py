@@ -37,7 +37,7 @@ def output_of(*words):
 
 def version():
     """Returns the version of both programs: the one that `ember-mesh --version` writes."""
-    text = (TOP / "crates/mesh_run/src/messages.rt").read_text(encoding="utf-8")
+    text = (TOP / "crates/mesh_report/src/messages.rt").read_text(encoding="utf-8")
     return re.search(r'const VERSION: &str = "ember-mesh ([\d.]+)\\n";', text)[1]
 
 

@@ -1,4 +1,5 @@
-//! The program `ember`.
+//! The program `ember`: it hands `run` the words of the command line, the file system and the
+//! standard streams, and ends with the status that comes back.
 #![tactic(auto)]
 
 use ember_io::{FileShelf, StdSink};

@@ -14,7 +14,7 @@ pub mod Pieces
 pub mod ClearRectangle
 pub mod ShiftedPoints
 pub mod Loops
-pub mod Closed
+pub mod ClosedSurfaces
 pub mod Lines
 pub mod CountedPoints
 pub mod Listed

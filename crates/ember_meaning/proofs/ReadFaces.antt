@@ -12,7 +12,7 @@ use Rattle.ember_poly.specs.Cuts.{HasInside}
 use Rattle.ember_poly.proofs.OutlinePoints.{outline_has_its_points}
 use Rattle.ember_poly.proofs.OwnOutline.{outline_is_its_own}
 use Rattle.ember_meaning.specs.Closed.Chains.{face_from, AxesAgreeOffScene, IsOutlined}
-use Rattle.ember_meaning.proofs.Closed.{closed_faces}
+use Rattle.ember_meaning.proofs.ClosedSurfaces.{closed_faces}
 use Rattle.ember_expr.specs.Formula.{Formula}
 use Rattle.ember_expr.specs.Truth.{truth}
 use Rattle.ember_box.specs.Boxes.{Cell, root}

@@ -1,7 +1,7 @@
 -- The faces of a closed mesh are a closed surface.
 use Rattle.std.proofs.Common.{subst, ℕ, List}
 use Rattle.ember_meaning.specs.Closed.Chains.{AxesAgreeOffScene, IsClosedSurface, IsOutlined}
-use Rattle.ember_meaning.proofs.Closed.{closed_faces}
+use Rattle.ember_meaning.proofs.ClosedSurfaces.{closed_faces}
 use Rattle.ember_law.proofs.Axes.{axes_agree}
 use Rattle.ember_model.specs.declared.face.Face.{Face}
 use Rattle.ember_model.specs.declared.tri.Tri.{Tri}

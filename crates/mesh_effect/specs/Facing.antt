@@ -3,7 +3,7 @@ pub mod Decimals
 pub mod Digits
 pub mod Facings
 pub mod Floats
-pub mod FloatParts
+pub mod Parts
 pub mod Short
 pub mod Sizes
 pub mod Sums

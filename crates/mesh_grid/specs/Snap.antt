@@ -1,5 +1,5 @@
 pub mod Steps
 pub mod Cells
-pub mod CellRanges
+pub mod Spans
 pub mod Offsets
 pub mod Decimals

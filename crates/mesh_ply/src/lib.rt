@@ -1,4 +1,5 @@
-//! Reads the vertices and triangles of a PLY file.
+//! Reads the vertices and triangles of a PLY file, ASCII or binary, exactly. Whatever else the file
+//! holds is passed over.
 #![tactic(auto)]
 
 mod cursor;

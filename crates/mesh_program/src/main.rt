@@ -1,4 +1,5 @@
-//! The program `ember-mesh`.
+//! The program `ember-mesh`: it hands `run_mesh` the words of the command line, the file system, the
+//! standard streams and a line of progress, and ends with the status that comes back.
 #![tactic(auto)]
 
 use ember_io::{FileShelf, StdSink};
@@ -9,7 +10,7 @@ use std::process::ExitCode;
 use std::{env, io};
 
 // The exit status if a word of the command line isn't text. All others are those of
-// `Status::number` in mesh_run.
+// `Status::number` in mesh_report.
 const WORDS_ARE_NO_TEXT: u8 = 13;
 
 // The exit status of `Status::OutOfMemory`, for the time before `run_mesh`.

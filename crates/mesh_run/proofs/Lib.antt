@@ -8,9 +8,6 @@ pub mod ErrTexts
 pub mod KeptNames
 pub mod UnmetRequests
 pub mod Outcomes
-pub mod ShownSteps
-pub mod Appended
-pub mod CountLines
 pub mod InfoOutcomes
 pub mod OutputMeaning
 pub mod OutputParts

@@ -6,11 +6,11 @@ use Rattle.mesh_words.specs.declared.command.Command.TheVariants.{Boole, Snap, E
 use Rattle.mesh_words.specs.declared.faults.Refusal.{Refusal}
 use Rattle.mesh_words.specs.Commands.{command_of}
 use Rattle.mesh_run.specs.Calls.{ShelfCall, TargetCall, SinkCall, HoldsAll, KeepsContents, TakesUntilFault}
-use Rattle.mesh_run.specs.Lines.{line}
+use Rattle.mesh_report.specs.Lines.{line}
 use Rattle.mesh_run.specs.Memory.{hides_memory}
 use Rattle.mesh_run.specs.Serves.{IsOutcome, MeshServes}
-use Rattle.mesh_run.specs.declared.status.Status.{Status}
-use Rattle.mesh_run.specs.declared.status.Status.TheVariants.{OutOfMemory}
+use Rattle.mesh_report.specs.declared.status.Status.{Status}
+use Rattle.mesh_report.specs.declared.status.Status.TheVariants.{OutOfMemory}
 
 -- want of memory for the words themselves
 pub words_without_memory : (words : List (List ℕ)) (command : Result Command Refusal) (shelf : ShelfCall)

@@ -1,5 +1,5 @@
 -- The mesh of a document, and why there is none
-use Rattle.std.specs.Prelude.{◌≡◌, ⊤, ℕ, ◌-◌, List, [], ◌∷◌, Some, None, All, MatchOption, is_some, pos, take}
+use Rattle.std.specs.Prelude.{◌≡◌, ⊤, ℕ, ◌-◌, List, Some, None, All, MatchOption, is_some, pos, take}
 use Rattle.std.specs.declared.option.Option.{Option}
 use Rattle.mesh_boolean.specs.declared.document.DocumentFileFault.{DocumentFileFault}
 use Rattle.mesh_boolean.specs.declared.document.DocumentFileFault.TheVariants as document
@@ -12,11 +12,12 @@ use Rattle.mesh_scene.specs.SceneFile.Scenes.{IsSceneOf}
 use Rattle.mesh_run.specs.Asked.{format_asked}
 use Rattle.mesh_run.specs.Calls.{ShelfCall, HasShelfFailed}
 use Rattle.mesh_run.specs.Files.{AreBytes, IsFileIn}
-use Rattle.mesh_run.specs.Lines.{name_of}
-use Rattle.mesh_run.specs.declared.status.Status.{Status}
-use Rattle.mesh_run.specs.declared.status.Status.TheVariants.{ReadFault, LongFile, NotAScene}
-use Rattle.mesh_run.specs.declared.status.Status.TheVariants.{TooManyWritten, TooFar, OutOfMemory}
-use Rattle.mesh_run.specs.declared.status.Status.TheVariants.{DocumentRefused}
+use Rattle.mesh_report.specs.ExportLines.{names_read}
+use Rattle.mesh_report.specs.Lines.{name_of}
+use Rattle.mesh_report.specs.declared.status.Status.{Status}
+use Rattle.mesh_report.specs.declared.status.Status.TheVariants.{ReadFault, LongFile, NotAScene}
+use Rattle.mesh_report.specs.declared.status.Status.TheVariants.{TooManyWritten, TooFar, OutOfMemory}
+use Rattle.mesh_report.specs.declared.status.Status.TheVariants.{DocumentRefused}
 
 -- ---- the grid
 -- the file of this name is a scene with this grid
@@ -46,15 +47,6 @@ pub record IsExport (request : ExportRequest) (told : List ℕ → Option (List 
   pub of_document : IsDocumentOutput bytes grid (format_asked request.format request.digits) (is_some request.view) mesh
 
 -- ---- a file that isn't read
--- the names of the scene, if one is named, and of the document, behind each other
-abbrev pub with_document : Option (List ℕ) → List ℕ → List (List ℕ)
-with_document None document = document ∷ []
-with_document (Some scene) document = scene ∷ document ∷ []
-
--- the files in the order in which they are read
-abbrev pub names_read : ExportRequest → List (List ℕ)
-names_read request = with_document request.scene request.document
-
 -- the file of this name is a scene
 abbrev pub IsScene : (List ℕ → Option (List ℕ)) → List ℕ → Type 0
 IsScene told name = (grid : Grid) × IsSceneFile told name grid
@@ -110,6 +102,13 @@ pub record HasDocumentFault (request : ExportRequest) (told : List ℕ → Optio
   pub bytes : List ℕ
   pub are_bytes : AreBytes told request.document bytes
   pub is_fault : IsDocumentFileFault bytes grid (format_asked request.format request.digits) fault
+
+-- the status of a document with this fault
+abbrev pub status_of_document : DocumentFileFault → Status
+status_of_document (document.Document fault) = DocumentRefused fault
+status_of_document document.TooFar = TooFar
+status_of_document document.TooManyTriangles = TooManyWritten
+status_of_document document.OutOfMemory = OutOfMemory
 
 -- why a document isn't exported: a file, or the document itself; of want of memory nothing is said
 abbrev pub IsExportStop : ExportRequest → ShelfCall → Status → Type 0

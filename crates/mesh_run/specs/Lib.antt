@@ -1,16 +1,9 @@
 pub mod Calls
-pub mod Numbers
-pub mod Lines
-pub mod WordLines
-pub mod ExportLines
-pub mod Reports
-pub mod Messages
 pub mod Memory
 pub mod Asked
 pub mod Files
 pub mod Infos
 pub mod Pages
-pub mod Statuses
 pub mod Outputs
 pub mod Exports
 pub mod Causes

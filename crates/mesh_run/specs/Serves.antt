@@ -17,20 +17,20 @@ use Rattle.mesh_outside.specs.Target.Targets.{Puts}
 use Rattle.mesh_run.specs.Calls.{ShelfCall, TargetCall, SinkCall, KeepsContents, HoldsAll}
 use Rattle.mesh_run.specs.Calls.{TakesAll, TakesSome, TakesUntilFault}
 use Rattle.mesh_run.specs.Causes.{IsReadingCause, IsSnapStop, IsStop}
-use Rattle.mesh_run.specs.ExportLines.{export_why}
+use Rattle.mesh_report.specs.ExportLines.{export_why}
 use Rattle.mesh_run.specs.Exports.{IsExport, IsExportStop}
 use Rattle.mesh_run.specs.Infos.{AreInfoLines}
-use Rattle.mesh_run.specs.Lines.{line, reading_why, snap_why, why_of}
+use Rattle.mesh_report.specs.Lines.{line, reading_why, snap_why, why_of}
 use Rattle.mesh_run.specs.Memory.{hides_memory}
-use Rattle.mesh_run.specs.Messages.{usage_text, version_text}
+use Rattle.mesh_report.specs.Messages.{usage_text, version_text}
 use Rattle.mesh_run.specs.Outputs.{IsOutputFor, IsPlacedFor}
 use Rattle.mesh_run.specs.Pages.{IsPageOf}
-use Rattle.mesh_run.specs.Reports.{export_report, report_of, snap_report}
+use Rattle.mesh_report.specs.Reports.{export_report, report_of, snap_report}
 use Rattle.mesh_run.specs.Unmet.{EndsAs, IsUnmet}
-use Rattle.mesh_run.specs.WordLines.{refusal_text}
+use Rattle.mesh_report.specs.WordLines.{refusal_text}
 use Rattle.mesh_run.specs.Writes.{AreMeshFiles, AreSceneFiles, AreSolidFiles}
-use Rattle.mesh_run.specs.declared.status.Status.{Status}
-use Rattle.mesh_run.specs.declared.status.Status.TheVariants.{Done, Words, WriteFault, OutOfMemory}
+use Rattle.mesh_report.specs.declared.status.Status.{Status}
+use Rattle.mesh_report.specs.declared.status.Status.TheVariants.{Done, Words, WriteFault, OutOfMemory}
 
 -- ---- a Boolean
 -- the output is that of the request, and its files are put, each in its turn; err takes the report

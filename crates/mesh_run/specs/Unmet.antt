@@ -4,10 +4,10 @@ use Rattle.mesh_outside.specs.Target.Several.{NamedBytes, PutsBefore}
 use Rattle.mesh_outside.specs.declared.target.target.WriteEnd.{WriteEnd}
 use Rattle.mesh_outside.specs.declared.target.target.WriteEnd.TheVariants as write
 use Rattle.mesh_run.specs.Calls.{TargetCall, HoldsAll}
-use Rattle.mesh_run.specs.Lines.{line}
+use Rattle.mesh_report.specs.Lines.{line}
 use Rattle.mesh_run.specs.Memory.{hides_memory}
-use Rattle.mesh_run.specs.declared.status.Status.{Status}
-use Rattle.mesh_run.specs.declared.status.Status.TheVariants.{Done, NotWritten, OutOfMemory}
+use Rattle.mesh_report.specs.declared.status.Status.{Status}
+use Rattle.mesh_report.specs.declared.status.Status.TheVariants.{Done, NotWritten, OutOfMemory}
 
 -- ---- writing
 -- the status of a file of this name that isn't written for this reason: want of memory is its own status, and may come

@@ -6,11 +6,11 @@ ghost use Rattle.mesh_grid.specs.Grid.Grids.{IsChoice};
 ghost use Rattle.mesh_words.specs.Commands.{IsWithinLimits};
 ghost use Rattle.mesh_run.specs.Asked.{Asks, AsksFile, IsExpression, IsExpressionCause, IsStepOfNoGrid, IsWanted, IsWordsCause, format_asked};
 
-use crate::status::Status;
 use ember_expr::{Expr, ExprFault, bounded, parse};
 use ember_words::Text;
 use mesh_boolean::{FloatFormat, MeshFormat, WantedFile};
 use mesh_grid::{Wanted, step_of};
+use mesh_report::Status;
 use mesh_words::{OutputFormat, Request, WantedStep};
 use mesh_write::TextFormat;
 use std::alloc::Global;

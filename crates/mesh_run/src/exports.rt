@@ -3,24 +3,21 @@ ghost use Rattle.std.specs.Prelude.{◌≡◌, ◌≤◌, ℕ, List, false, None
 ghost use Rattle.mesh_scene.specs.SceneFile.Scenes.{IsSceneOf};
 ghost use Rattle.mesh_grid.specs.Snap.Steps.{IsStep};
 ghost use Rattle.mesh_run.specs.Calls.{KeepsContents, TakesUntilFault, shelf_call, sink_call, target_call};
-ghost use Rattle.mesh_run.specs.Exports.{IsExport, IsExportStop, IsGridGiven, IsNoGrid, IsUnreadFile, document_index, unit_grid};
+ghost use Rattle.mesh_run.specs.Exports.{IsExport, IsExportStop, IsGridGiven, IsNoGrid, IsUnreadFile, document_index, status_of_document, unit_grid};
 ghost use Rattle.mesh_run.specs.Files.{AreBytes};
 ghost use Rattle.mesh_run.specs.Memory.{hides_memory};
 ghost use Rattle.mesh_run.specs.Serves.{IsExportOutcome, IsExportUnmet, WritesExport};
-ghost use Rattle.mesh_run.specs.Statuses.{status_of_document};
 
 use crate::asked::format_asked;
-use crate::export_lines::export_line;
 use crate::files::written_files;
 use crate::reading::MOST_BYTES;
-use crate::report::export_report;
-use crate::status::Status;
 use crate::writing::{say, say_why, write_files};
 use ember_io::{ReadEnd, Shelf, Sink, read_all};
 use ember_words::Text;
 use mesh_boolean::{DocumentFileFault, Written, document_file};
 use mesh_grid::{Grid, GridStep, Offset};
 use mesh_outside::Target;
+use mesh_report::{Status, export_line, export_report};
 use mesh_scene::{SceneFileFault, read_scene};
 use mesh_words::ExportRequest;
 use std::alloc::Global;

@@ -10,10 +10,7 @@ ghost use Rattle.mesh_run.specs.Infos.{AreInfoLines, IsFileLine};
 ghost use Rattle.mesh_run.specs.Memory.{hides_memory};
 ghost use Rattle.mesh_run.specs.Serves.{IsInfoOutcome};
 
-use crate::lines::reading_line;
 use crate::reading::{mesh_files, read_contents};
-use crate::refusals::status_of;
-use crate::status::Status;
 use crate::writing::{say, say_out_of_memory, write_bytes};
 use ember_io::{Shelf, Sink};
 use ember_model::OutOfMemory;
@@ -21,6 +18,7 @@ use ember_words::{Text, Texts};
 use mesh_boolean::{MeshFile, surfaces_in};
 use mesh_info::put_info;
 use mesh_read::Surface;
+use mesh_report::{Status, reading_line, status_of};
 use std::alloc::Global;
 use steal_pool::OpenGate;
 

@@ -5,13 +5,12 @@ ghost use Rattle.mesh_run.specs.Calls.{shelf_call};
 ghost use Rattle.mesh_run.specs.Causes.{IsEndAt, IsReadingCause, IsRefusalCause};
 ghost use Rattle.mesh_run.specs.Files.{AreContents, AreReadAs};
 
-use crate::refusals::status_of;
-use crate::status::Status;
 use ember_io::{ReadEnd, Shelf, read_all};
 use ember_model::OutOfMemory;
 use ember_words::Text;
 use mesh_boolean::{MeshFile, surfaces_in};
 use mesh_read::Surface;
+use mesh_report::{Status, status_of};
 use std::alloc::Global;
 use steal_pool::OpenGate;
 

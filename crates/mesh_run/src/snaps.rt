@@ -12,17 +12,14 @@ ghost use Rattle.mesh_run.specs.Serves.{IsSnapOutcome, IsSnapUnmet, WritesScene}
 
 use crate::asked::wanted_of;
 use crate::files::scene_files;
-use crate::lines::snap_line;
 use crate::reading::{mesh_files, read_contents};
-use crate::refusals::status_of;
-use crate::report::snap_report;
-use crate::status::Status;
 use crate::writing::{say, say_why, write_files};
 use ember_io::{Shelf, Sink};
 use ember_words::Text;
 use mesh_boolean::placed_files;
 use mesh_grid::Wanted;
 use mesh_outside::{Stages, Target};
+use mesh_report::{Status, snap_line, snap_report, status_of};
 use mesh_scene::PlacedScene;
 use mesh_words::SnapRequest;
 use std::alloc::Global;

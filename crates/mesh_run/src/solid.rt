@@ -16,11 +16,7 @@ ghost use Rattle.mesh_run.specs.Serves.{IsSolidOutcome, IsSolidUnmet, WritesSoli
 
 use crate::asked::{Asked, asked_by};
 use crate::files::solid_files;
-use crate::lines::line_of;
 use crate::reading::{mesh_files, read_contents};
-use crate::refusals::status_of;
-use crate::report::report_of;
-use crate::status::Status;
 use crate::writing::{say, say_why, write_files};
 use ember_io::{Shelf, Sink};
 use ember_model::OutOfMemory;
@@ -28,6 +24,7 @@ use ember_query::{Answer, Query};
 use ember_words::Text;
 use mesh_boolean::{SolidFile, solid_file};
 use mesh_outside::{Stages, Target};
+use mesh_report::{Status, line_of, report_of, status_of};
 use mesh_triangles::{PlaneAnswer, PlaneQuery, TrianglesFault};
 use mesh_words::Request;
 use std::alloc::Global;

@@ -10,17 +10,15 @@ ghost use Rattle.mesh_run.specs.Serves.{IsWordsOutcome, MeshServes};
 
 use crate::exports::serve_export;
 use crate::infos::serve_infos;
-use crate::messages::{USAGE, VERSION};
 use crate::snaps::serve_snap;
 use crate::solid::serve_solid;
-use crate::status::Status;
 use crate::views::serve_view;
-use crate::word_lines::refusal_line;
 use crate::writing::{say, say_out_of_memory, write_bytes};
 use ember_io::{Shelf, Sink};
 use ember_model::OutOfMemory;
 use ember_query::{Answer, Query, answer_alone, answer_by_workers};
 use mesh_outside::{Stage, Stages, Target};
+use mesh_report::{Status, USAGE, VERSION, refusal_line};
 use mesh_triangles::{
     PlaneAnswer, PlaneQuery, TrianglesFault, answer_planes_alone, answer_planes_by_workers,
 };

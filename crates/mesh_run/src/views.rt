@@ -9,9 +9,7 @@ ghost use Rattle.mesh_run.specs.Memory.{hides_memory};
 ghost use Rattle.mesh_run.specs.Pages.{IsPageOf, title_of};
 ghost use Rattle.mesh_run.specs.Serves.{IsPageUnmet, IsViewOutcome, WritesPage};
 
-use crate::lines::reading_line;
 use crate::reading::{read_contents, surfaces_of};
-use crate::status::Status;
 use crate::writing::{say, say_why, write_files};
 use ember_io::{Shelf, Sink};
 use ember_model::OutOfMemory;
@@ -19,6 +17,7 @@ use ember_words::Text;
 use mesh_info::view_of;
 use mesh_outside::{NamedFile, Target};
 use mesh_read::Surface;
+use mesh_report::{Status, reading_line};
 use mesh_words::ViewRequest;
 use std::alloc::Global;
 

@@ -2,16 +2,16 @@
 ghost use Rattle.std.specs.Prelude.{◌≡◌, ◌≤◌, ℕ, List, codes, false, None, IfOk, IfErr, OnOk, OnErr};
 ghost use Rattle.mesh_outside.specs.Target.Several.{PutsEach, names_and_bytes};
 ghost use Rattle.mesh_run.specs.Calls.{HoldsAll, TakesUntilFault, sink_call, target_call};
-ghost use Rattle.mesh_run.specs.Lines.{line};
+ghost use Rattle.mesh_report.specs.Lines.{line};
 ghost use Rattle.mesh_run.specs.Memory.{hides_memory};
 ghost use Rattle.mesh_run.specs.Serves.{IsMessageOutcome};
 ghost use Rattle.mesh_run.specs.Unmet.{IsUnwrittenStatus, IsWriteStop};
 
-use crate::status::Status;
 use ember_io::{Sink, write_all};
 use ember_model::OutOfMemory;
 use ember_words::Text;
 use mesh_outside::{NamedFile, Target, WriteEnd, write_each};
+use mesh_report::Status;
 use std::alloc::Global;
 
 const MEMORY_LINE: &[u8] = b"ember-mesh: out of memory\n";

@@ -12,7 +12,7 @@ use Rattle.mesh_solid.specs.declared.tables.tables.Tables.{Tables}
 use Rattle.mesh_solid.specs.Tables.Edges.{face_edges_of}
 use Rattle.mesh_solid.specs.Tables.Tables.{AreTables}
 use Rattle.mesh_solid.specs.Winding.TriangleFaces.{triangle_faces, WindAlike, WindAlikeNearby}
-use Rattle.mesh_solid.proofs.Winding.{wind_alike, wind_alike_nearby}
+use Rattle.mesh_solid.proofs.WindingLaw.{wind_alike, wind_alike_nearby}
 use Rattle.mesh_solid.specs.declared.mesh.mesh.SolidMesh.{SolidMesh}
 use Rattle.mesh_solid.specs.Mesh.MeshFaces.{faces_of_mesh}
 use Rattle.mesh_solid.specs.Mesh.Meshes.{IsDocumentMesh}

@@ -21,7 +21,7 @@ pub mod Crossings
 pub mod TriangleSums
 pub mod FaceSums
 pub mod CertifiedSums
-pub mod Winding
+pub mod WindingLaw
 pub mod ReadBack
 pub mod Passing
 pub mod SolidSteps

@@ -1,4 +1,4 @@
-pub mod Vertices
+pub mod VertexLists
 pub mod Meshes
 pub mod Appended
 pub mod Positions
@@ -15,7 +15,7 @@ pub mod FractionDigits
 pub mod PlainTexts
 pub mod DecimalTexts
 pub mod Sizes
-pub mod FloatCoordinates
+pub mod Coordinates
 pub mod Lines
 pub mod WordTexts
 pub mod Contents

@@ -7,8 +7,8 @@ use Rattle.mesh_write.specs.declared.vertices.point.DecimalPoint.{DecimalPoint}
 use Rattle.mesh_write.specs.declared.vertices.point.DecimalTriangle.{DecimalTriangle}
 use Rattle.mesh_write.specs.declared.vertices.point.IndexedTriangle.{IndexedTriangle}
 use Rattle.mesh_write.specs.Vertices.Vertices.{same_point, with_point, corners_of, vertices_of, index_of, indexed, over}
-use Rattle.mesh_write.proofs.Vertices.{IsAmong, among_stays, new_is_among, index_stays, new_index, fold_more}
-use Rattle.mesh_write.proofs.Vertices.{among_stays_behind, points_distinct, index_leads_back}
+use Rattle.mesh_write.proofs.VertexLists.{IsAmong, among_stays, new_is_among, index_stays, new_index, fold_more}
+use Rattle.mesh_write.proofs.VertexLists.{among_stays_behind, points_distinct, index_leads_back}
 
 -- ---- triangles whose corners are among the points
 record AreAmong (ps : List DecimalPoint) (t : DecimalTriangle) : Type 0 where

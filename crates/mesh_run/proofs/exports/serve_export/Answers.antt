@@ -1,7 +1,7 @@
 use Rattle.std.proofs.Common.{List, ℕ, refl, subst}
 use Rattle.mesh_run.specs.Calls.{TakesUntilFault, shelf_call, sink_call, target_call}
 use Rattle.mesh_run.specs.Exports.{IsExportStop}
-use Rattle.mesh_run.specs.ExportLines.{export_why}
+use Rattle.mesh_report.specs.ExportLines.{export_why}
 use Rattle.mesh_run.specs.Serves.{AreExportFilesFor, WritesExport}
 use Rattle.mesh_run.proofs.UnmetRequests.{said_status_ends, said_status_tells_memory}
 use Rattle.mesh_run.proofs.exports.serve_export.Goals as goal

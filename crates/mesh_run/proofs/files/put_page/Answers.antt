@@ -1,7 +1,7 @@
 use Rattle.std.proofs.Common.{ℕ, List, ap, subst, ◌∙◌}
 use Rattle.mesh_write.specs.Page.Pages.{page_of}
 use Rattle.mesh_write.specs.Page.ReadBack.{IsReadBack}
-use Rattle.mesh_run.proofs.Appended.{on_ok_anyway}
+use Rattle.mesh_report.proofs.Appended.{on_ok_anyway}
 use Rattle.mesh_run.proofs.files.put_page.Goals as goal
 
 pub returns-clause-read_back : goal.returns-clause-read_back

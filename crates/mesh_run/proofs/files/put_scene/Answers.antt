@@ -5,7 +5,7 @@ use Rattle.mesh_scene.specs.declared.scene.counts.Counts.{Counts}
 use Rattle.mesh_scene.specs.SceneFile.Texts.{IsSceneText}
 use Rattle.mesh_outside.specs.Target.Several.{NamedBytes, names_and_bytes}
 use Rattle.mesh_run.specs.Writes.{in_folder, mesh_files}
-use Rattle.mesh_run.proofs.Appended.{on_ok_both}
+use Rattle.mesh_report.proofs.Appended.{on_ok_both}
 use Rattle.mesh_run.proofs.files.put_scene.Goals as goal
 
 pub returns : goal.returns

@@ -3,7 +3,7 @@ use Rattle.std.specs.Prelude.{codes}
 use Rattle.mesh_run.specs.Calls.{TakesUntilFault, shelf_call, sink_call}
 use Rattle.mesh_run.specs.Causes.{IsReadingCause}
 use Rattle.mesh_run.specs.Infos.{AreInfoLines}
-use Rattle.mesh_run.specs.Lines.{line}
+use Rattle.mesh_report.specs.Lines.{line}
 use Rattle.mesh_run.specs.Serves.{IsMessageOutcome}
 use Rattle.mesh_run.proofs.InfoOutcomes.{lines_outcome, reading_tells_memory, unread_outcome}
 use Rattle.mesh_run.proofs.infos.serve_infos.Goals as goal

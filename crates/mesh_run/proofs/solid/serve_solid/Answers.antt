@@ -1,7 +1,7 @@
 use Rattle.std.proofs.Common.{List, ℕ, refl, subst, arith}
 use Rattle.mesh_run.specs.Calls.{TakesUntilFault, shelf_call, sink_call, target_call}
 use Rattle.mesh_run.specs.Causes.{IsStop}
-use Rattle.mesh_run.specs.Lines.{why_of}
+use Rattle.mesh_report.specs.Lines.{why_of}
 use Rattle.mesh_run.specs.Serves.{AreFilesFor, WritesSolid}
 use Rattle.mesh_run.proofs.Shown.{stop_is_shown}
 use Rattle.mesh_run.proofs.UnmetRequests.{said_status_ends, said_status_tells_memory, unmet_is_shown}

@@ -1,6 +1,6 @@
 use Rattle.std.proofs.Common.{[], refl}
 use Rattle.std.specs.Prelude.{codes}
-use Rattle.mesh_run.specs.Lines.{line}
+use Rattle.mesh_report.specs.Lines.{line}
 use Rattle.mesh_run.proofs.writing.write_bytes.Goals as goal
 
 pub returns-in-Ok-clause-outcome : goal.returns-in-Ok-clause-outcome

@@ -1,4 +1,4 @@
-use Rattle.ember_meaning.proofs.Closed.{paired_faces}
+use Rattle.ember_meaning.proofs.ClosedSurfaces.{paired_faces}
 use Rattle.ember_meaning.proofs.closed.law.agreeing_faces_have_paired_pieces.Goals as goal
 
 pub returns : goal.returns

@@ -1,4 +1,4 @@
-use Rattle.mesh_solid.proofs.Winding.{wind_alike, wind_alike_nearby}
+use Rattle.mesh_solid.proofs.WindingLaw.{wind_alike, wind_alike_nearby}
 use Rattle.mesh_solid.proofs.winding.law.certified_triangles_wind_as_faces.Goals as goal
 
 pub returns-clause-alike : goal.returns-clause-alike

@@ -1,0 +1,3 @@
+pub mod ShownSteps
+pub mod Appended
+pub mod CountLines

@@ -1,0 +1,293 @@
+// The reports.
+ghost use Rattle.std.specs.Prelude.{◌≡◌, ◌++◌, ◌<◌, drop, IfOk, OnOk};
+ghost use Rattle.mesh_report.specs.Lines.{line};
+ghost use Rattle.mesh_grid.specs.Moves.Shown.{rounded_of};
+ghost use Rattle.mesh_report.specs.Reports.{counts_line, counts_lines, empty_line, export_report, first_move, grid_line, losses_text, mesh_line, mesh_lines, mesh_text, name_of_format, report_of, scene_lines, snap_report, warning_line};
+
+use crate::texts::{line, put_count, put_move, put_signed, put_step};
+use ember_model::OutOfMemory;
+use ember_words::Text;
+use mesh_boolean::{SolidFile, Written};
+use mesh_effect::put_move as put_rounding_move;
+use mesh_grid::{Grid, Length};
+use mesh_scene::{Counts, PlacedScene};
+use mesh_words::{ExportRequest, OutputFormat, Request, SnapRequest};
+use std::alloc::Global;
+
+// What a warning ends with.
+const ADVICE: &[u8] =
+    b", more than a hundredth of the step; write OBJ, PLY or OFF, or move the parts to the origin";
+
+// Appends a line with this text.
+fn put_line(alloc: Global, said: &[u8], text: &mut Vec<u8>) -> Result<(), OutOfMemory>
+    ensures { OnOk result (text.new.items ≡ text.old.items ++ line said.now) }
+{
+    let line = line(alloc, said)?;
+    text.extend_from_slice(&line)
+}
+
+// Appends the line of the grid.
+fn put_grid(alloc: Global, grid: &Grid, text: &mut Vec<u8>) -> Result<(), OutOfMemory>
+    requires { 0 < grid.now.step.denominator }
+    ensures { OnOk result (text.new.items ≡ text.old.items ++ grid_line grid.now) }
+{
+    let mut said = Vec::from_slice(alloc, b"step ")?;
+    put_step(&grid.step, &mut said)?;
+    said.extend_from_slice(b", grid offset ")?;
+    put_signed(grid.offset.x, &mut said)?;
+    said.extend_from_slice(b" ")?;
+    put_signed(grid.offset.y, &mut said)?;
+    said.extend_from_slice(b" ")?;
+    put_signed(grid.offset.z, &mut said)?;
+    put_line(alloc, &said, text)
+}
+
+// Appends the line of a file.
+fn put_counts(
+    alloc: Global,
+    name: &[u8],
+    counts: &Counts,
+    moved: &Length,
+    text: &mut Vec<u8>,
+) -> Result<(), OutOfMemory>
+    ensures { OnOk result (text.new.items ≡
+        text.old.items ++ counts_line name.now counts.now (rounded_of moved.now)) }
+{
+    let mut said = Vec::from_slice(alloc, name)?;
+    said.extend_from_slice(b": ")?;
+    put_count(counts.triangles, &mut said)?;
+    said.extend_from_slice(b" triangles, ")?;
+    put_count(counts.vanished, &mut said)?;
+    said.extend_from_slice(b" vanished, ")?;
+    put_count(counts.flat, &mut said)?;
+    said.extend_from_slice(b" without area; greatest move ")?;
+    put_move(moved, &mut said)?;
+    said.extend_from_slice(b"; closed")?;
+    put_line(alloc, &said, text)
+}
+
+// The move with this index, or 0 if there is none.
+fn move_at(moves: &[Length], index: usize) -> Length
+    ensures { rounded_of result ≡ first_move (drop index moves.now) }
+{
+    let Some(moved) = moves.get(index) else {
+        return Length { size: 0, places: 0 };
+    };
+    *moved
+}
+
+// Appends the line of each file.
+fn put_all_counts(
+    alloc: Global,
+    names: &[Text],
+    counts: &[Counts],
+    moves: &[Length],
+    text: &mut Vec<u8>,
+) -> Result<(), OutOfMemory>
+    ensures { OnOk result (text.new.items ≡
+        text.old.items ++ counts_lines names.now counts.now moves.now) }
+{
+    let mut file = 0;
+    for name in names {
+        let Some(counts) = counts.get(file) else {
+            return Ok(());
+        };
+        let moved = move_at(moves, file);
+        put_counts(alloc, name.as_str().as_bytes(), counts, &moved, text)?;
+        file += 1;
+    }
+    Ok(())
+}
+
+// Appends that the result is empty, if it is.
+fn put_empty(alloc: Global, mesh: &Written, text: &mut Vec<u8>) -> Result<(), OutOfMemory>
+    ensures { OnOk result (text.new.items ≡ text.old.items ++ empty_line mesh.now) }
+{
+    if mesh.triangles != mesh.vanished {
+        return Ok(());
+    }
+    put_line(alloc, b"the result is empty", text)
+}
+
+fn name_of_format(format: OutputFormat) -> &'static [u8]
+    ensures { result.now ≡ name_of_format format }
+{
+    match format {
+        OutputFormat::Stl => b"STL",
+        OutputFormat::Obj => b"OBJ",
+        OutputFormat::Ply => b"PLY",
+        OutputFormat::Off => b"OFF",
+        OutputFormat::Glb => b"GLB",
+    }
+}
+
+// Appends that rounding moves corners far, if it does.
+fn put_warning(
+    alloc: Global,
+    format: OutputFormat,
+    mesh: &Written,
+    text: &mut Vec<u8>,
+) -> Result<(), OutOfMemory>
+    ensures { OnOk result (text.new.items ≡ text.old.items ++ warning_line format mesh.now) }
+{
+    if !mesh.effect.is_coarse {
+        return Ok(());
+    }
+    let mut said = Vec::from_slice(alloc, b"warning: rounding for ")?;
+    said.extend_from_slice(name_of_format(format))?;
+    said.extend_from_slice(b" moves corners by up to ")?;
+    put_rounding_move(&mesh.effect.greatest, &mut said)?;
+    said.extend_from_slice(ADVICE)?;
+    put_line(alloc, &said, text)
+}
+
+// Appends how large the mesh of so many faces is, and how far rounding moved its corners.
+fn put_mesh_text(faces: u64, mesh: &Written, text: &mut Vec<u8>) -> Result<(), OutOfMemory>
+    ensures { OnOk result (text.new.items ≡ text.old.items ++ mesh_text faces mesh.now) }
+{
+    put_count(faces, text)?;
+    text.extend_from_slice(b" faces -> ")?;
+    put_count(mesh.written, text)?;
+    text.extend_from_slice(b" triangles in ")?;
+    put_count(mesh.planes, text)?;
+    text.extend_from_slice(b" planes; greatest rounding move ")?;
+    put_rounding_move(&mesh.effect.greatest, text)
+}
+
+// Appends what rounding did to the triangles, and how many edges more than two of them have.
+fn put_losses(mesh: &Written, text: &mut Vec<u8>) -> Result<(), OutOfMemory>
+    ensures { OnOk result (text.new.items ≡ text.old.items ++ losses_text mesh.now) }
+{
+    put_count(mesh.vanished, text)?;
+    text.extend_from_slice(b" vanished, ")?;
+    put_count(mesh.effect.facings.without_area, text)?;
+    text.extend_from_slice(b" without area, ")?;
+    put_count(mesh.effect.facings.turned_over, text)?;
+    text.extend_from_slice(b" turned over; ")?;
+    put_count(mesh.shared, text)?;
+    text.extend_from_slice(b" edges of more than two triangles")
+}
+
+// Appends the line of the mesh of so many faces.
+fn put_mesh(
+    alloc: Global,
+    faces: u64,
+    mesh: &Written,
+    text: &mut Vec<u8>,
+) -> Result<(), OutOfMemory>
+    ensures { OnOk result (text.new.items ≡ text.old.items ++ mesh_line faces mesh.now) }
+{
+    let mut said = Vec::new(alloc);
+    put_mesh_text(faces, mesh, &mut said)?;
+    said.extend_from_slice(b"; ")?;
+    put_losses(mesh, &mut said)?;
+    put_line(alloc, &said, text)
+}
+
+// Appends the lines of a mesh of so many faces.
+fn put_mesh_lines(
+    alloc: Global,
+    format: OutputFormat,
+    faces: u64,
+    mesh: &Written,
+    text: &mut Vec<u8>,
+) -> Result<(), OutOfMemory>
+    ensures { OnOk result (text.new.items ≡ text.old.items ++ mesh_lines format faces mesh.now) }
+{
+    put_empty(alloc, mesh, text)?;
+    put_warning(alloc, format, mesh, text)?;
+    put_mesh(alloc, faces, mesh, text)
+}
+
+// Appends the lines of the grid and of the files.
+fn put_scene(
+    alloc: Global,
+    names: &[Text],
+    grid: &Grid,
+    counts: &[Counts],
+    moves: &[Length],
+    text: &mut Vec<u8>,
+) -> Result<(), OutOfMemory>
+    requires { 0 < grid.now.step.denominator }
+    ensures { OnOk result (text.new.items ≡
+        text.old.items ++ scene_lines names.now grid.now counts.now moves.now) }
+{
+    put_grid(alloc, grid, text)?;
+    put_all_counts(alloc, names, counts, moves, text)
+}
+
+/// The report of an output; empty if the request wants none. It has a line for the grid, a line for
+/// each file, one that the result is empty, if it is, and one with the numbers of the result.
+pub fn report_of(
+    alloc: Global,
+    request: &Request,
+    output: &SolidFile,
+) -> Result<Vec<u8>, OutOfMemory>
+    requires { 0 < output.now.grid.step.denominator }
+    ensures { IfOk result (λ text. text.items ≡ report_of request.now output.now) }
+{
+    let mut text = Vec::new(alloc);
+    if request.quiet {
+        return Ok(text);
+    }
+    let names = request.files.items();
+    put_scene(
+        alloc,
+        names,
+        &output.grid,
+        &output.counts,
+        &output.moves,
+        &mut text,
+    )?;
+    put_mesh_lines(
+        alloc,
+        request.format,
+        output.report.faces,
+        &output.written,
+        &mut text,
+    )?;
+    Ok(text)
+}
+
+/// The report of placed files, unless the request wants none: a line for the grid and a line for
+/// each file.
+pub fn snap_report(
+    alloc: Global,
+    request: &SnapRequest,
+    placed: &PlacedScene,
+) -> Result<Vec<u8>, OutOfMemory>
+    requires { 0 < placed.now.grid.step.denominator }
+    ensures { IfOk result (λ text. text.items ≡ snap_report request.now placed.now) }
+{
+    let mut text = Vec::new(alloc);
+    if request.quiet {
+        return Ok(text);
+    }
+    let names = request.files.items();
+    put_scene(
+        alloc,
+        names,
+        &placed.grid,
+        &placed.counts,
+        &placed.moves,
+        &mut text,
+    )?;
+    Ok(text)
+}
+
+/// The report of a document's mesh, unless the request wants none: that it is empty, if it is, and
+/// its numbers.
+pub fn export_report(
+    alloc: Global,
+    request: &ExportRequest,
+    mesh: &Written,
+) -> Result<Vec<u8>, OutOfMemory>
+    ensures { IfOk result (λ text. text.items ≡ export_report request.now mesh.now) }
+{
+    let mut text = Vec::new(alloc);
+    if request.quiet {
+        return Ok(text);
+    }
+    put_mesh_lines(alloc, request.format, mesh.faces, mesh, &mut text)?;
+    Ok(text)
+}
