@@ -214,6 +214,9 @@ fn all_triangles_of_two_cubes_are_near_the_last_leaf(rt: HostRuntime) -> Result<
     let scene = scene_of_files(alloc, &[C, D])?;
     let seen = see_all(alloc, &scene, b"m1|m2")?;
     assert_eq!(rt; (seen.regions, seen.differing, seen.near), (26, 0, 24));
-    assert_eq!(rt; (seen.corner, seen.sides), ([0, 0, 0], [8, 8, 8]));
+    let corner = seen.corner;
+    assert_eq!(rt; corner, [0, 0, 0]);
+    let sides = seen.sides;
+    assert_eq!(rt; sides, [8, 8, 8]);
     Ok(())
 }
