@@ -11,5 +11,5 @@ returns c =
     (c.as_bytes-2.ensures.value ∙ c.as_str.ensures ∙ c.in_ok-value.ensures)
     ∙ after3 (option_of c.args.option) (codes " ") (value_given c.args.option (map string_bytes c.args.words.now)) _ _ _
     (c.in_ok-extend_from_slice.ensures.items
-    ∙ ap (λ (xs : List ℕ). c.args.text.now.items ++ xs) (c.as_bytes.ensures.value ∙ c.name.ensures))
+    ∙ ap (λ (xs : List ℕ). c.args.text.now.items ++ xs) (c.as_bytes.ensures.value ∙ c.name-name.ensures))
     c.in_ok-extend_from_slice-2.ensures.items)
