@@ -35,7 +35,7 @@ _ember_mesh() {
         mapfile -t COMPREPLY < <(compgen -W "$options" -- "$word")
     elif [[ -z $option || $option == -[od] || $option == --scene || $option == --view || $option == --keep ]]; then
         case ${COMP_WORDS[1]}$option in
-            view-o | *--view) files=('*.[hH][tT][mM][lL]') ;;
+            view-o | *--view) files=('*.[hH][tT][mM]' '*.[hH][tT][mM][lL]') ;;
             *-o) files=("${files[@]}" '*.[gG][lL][bB]') ;;
             *--scene) files=('*.[jJ][sS][oO][nN]') ;;
             *-d | *--keep) files=() ;; # folders alone

@@ -3,7 +3,6 @@ ghost use Rattle.std.specs.Prelude.{◌<◌, All, length};
 ghost use Rattle.ember_model.specs.Valid.{IsValidTri};
 ghost use Rattle.ember_coplanar.specs.TrianglePlane.{LiesOn};
 
-use crate::scenes::soup_of;
 use crate::shapes::triangle;
 use ember_coplanar::{contains, is_owner, same_plane};
 use ember_model::{OutOfMemory, Tri};
@@ -60,16 +59,18 @@ fn holds_and_owns_face(
     }
 }
 
-// The triangle in the plane z = 0, with a triangle of another plane and one of another place before it, and the same
-// turned behind it.
-const NEAR: &[u8] = b"\
-v 0 0 0\nv 1 0 0\nv 0 1 0\nv 0 1 1\nv 4 4 0\nf 1 2 4\nf 1 5 3\nf 1 2 3\nf 3 2 1\n";
-
 #[test]
 fn the_first_that_contains_a_region_owns_it(rt: HostRuntime) -> Result<(), Fail> {
-    let soup = soup_of(rt.alloc(), NEAR, 1)?;
-    let near = soup.tris.items();
-    assert_eq!(rt; near.len(), 4);
+    // A triangle in the plane z = 0, with a triangle of another plane and one of another place before it, and the same
+    // turned behind it.
+    let [o, x, y] = [[0, 0, 0], [1, 0, 0], [0, 1, 0]];
+    let own = triangle([o, x, y]);
+    let near = [
+        triangle([o, x, [0, 1, 1]]),
+        triangle([o, [4, 4, 0], y]),
+        own,
+        triangle([y, x, o]),
+    ];
     // Nothing before the second triangle contains the third, but neither does it itself.
     let rows = [
         None,
@@ -78,7 +79,7 @@ fn the_first_that_contains_a_region_owns_it(rt: HostRuntime) -> Result<(), Fail>
         Some((true, false)),
     ];
     for i in 0..4u32 {
-        let found = holds_and_owns_face(rt.alloc(), near, i, &near[2])?;
+        let found = holds_and_owns_face(rt.alloc(), &near, i, &own)?;
         assert_eq!(rt; found, rows[i as usize], "triangle {i}");
     }
     Ok(())

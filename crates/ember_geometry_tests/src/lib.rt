@@ -1,51 +1,15 @@
-//! Tests of the crates from signs to steps: each subject by calls from outside, over small scenes.
+//! Tests of signs, planes, points, triangles and polygons: each subject by calls from outside.
 #![tactic(auto)]
 
-#[cfg(test)]
-mod balance;
-#[cfg(test)]
-mod boxes;
-#[cfg(test)]
-mod certificates;
 #[cfg(test)]
 mod coplanar;
 #[cfg(test)]
 mod faces;
 #[cfg(test)]
-mod generated;
-#[cfg(test)]
-mod keys;
-#[cfg(test)]
-mod known;
-#[cfg(test)]
-mod lattice;
-#[cfg(test)]
-mod leaves;
-#[cfg(test)]
-mod meshes;
-#[cfg(test)]
-mod pairs;
-#[cfg(test)]
 mod points;
 #[cfg(test)]
 mod polygons;
 #[cfg(test)]
-mod references;
-#[cfg(test)]
-mod scenes;
-#[cfg(test)]
 mod shapes;
 #[cfg(test)]
-mod sides;
-#[cfg(test)]
 mod signs;
-#[cfg(test)]
-mod steps;
-#[cfg(test)]
-mod texts;
-#[cfg(test)]
-mod tree;
-#[cfg(test)]
-mod visits;
-#[cfg(test)]
-mod windings;

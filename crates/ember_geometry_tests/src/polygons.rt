@@ -3,14 +3,12 @@ ghost use Rattle.std.specs.Prelude.{◌≡◌, false};
 ghost use Rattle.ember_model.specs.Faces.{is_flat};
 ghost use Rattle.ember_model.specs.Valid.{IsValidPlane, IsValidTri};
 
-use crate::shapes::{is_at, plane, tetra, triangle};
-use crate::texts::TETRA_TEXT;
-use ember_model::{Face, OutOfMemory, Plane, Tri, support_of};
+use crate::shapes::{is_at, plane, triangle};
+use ember_model::{OutOfMemory, Plane, Tri, support_of};
 use ember_poly::{
     Cut, Draft, Reach, Ring, above, clip, copy, corners, cut, edges, main_edges, meets, meets_face,
     of_tri, outline, parts, planes, reach, support,
 };
-use ember_reread::read_faces;
 use std::alloc::Global;
 use std::process::Abort;
 use std::test::Fail;
@@ -46,28 +44,6 @@ fn the_ring_of_a_triangle(rt: HostRuntime) -> Result<(), Fail> {
     for ring in [&ring, &same] {
         assert_eq!(rt; support(ring), plane([1, 1, 1, 1]));
         check(&rt, ring, &planes, &starts);
-    }
-    Ok(())
-}
-
-fn has_planes_of(ring: &Ring, face: &Face) -> bool {
-    support(ring) == face.support && edges(ring) == face.edges.items()
-}
-
-#[test]
-fn the_rings_of_a_tetrahedron_have_the_planes_of_its_face_file(
-    rt: HostRuntime,
-) -> Result<(), Fail> {
-    let Ok(faces) = read_faces(rt.alloc(), TETRA_TEXT) else {
-        return Err(Fail::from("no face file"));
-    };
-    let faces = faces.items();
-    assert_eq!(rt; faces.len(), 4);
-    for i in 0..4 {
-        let Some(ring) = of_tri(rt.alloc(), &tetra(i))? else {
-            return Err(Fail::from("no ring"));
-        };
-        assert!(rt; has_planes_of(&ring, &faces[i]), "triangle {i}");
     }
     Ok(())
 }

@@ -5,7 +5,7 @@ ghost use Rattle.ember_model.specs.declared.point.Axis.TheVariants.{X};
 ghost use Rattle.ember_model.specs.Points.{DifferAlong};
 ghost use Rattle.ember_model.specs.Valid.{IsValidCorner, IsValidPlane, IsValidSpot, IsValidTri};
 
-use ember_model::{Corner, Plane, Spot, Tri, Vector};
+use ember_model::{Corner, Plane, Spot, Tri};
 use ember_point::{Meet, reduce};
 
 // The coordinate, or 0 in place of one that no corner has.
@@ -96,9 +96,4 @@ pub fn slid(p: &Spot, x: i32) -> Spot
 pub fn is_at(m: &Meet, at: [i128; 4]) -> bool {
     let m = reduce(m);
     [m.x, m.y, m.z, m.w] == at
-}
-
-/// The counts of the first three meshes.
-pub fn first_counts(v: &Vector) -> [i32; 3] {
-    [v.counts[0], v.counts[1], v.counts[2]]
 }

@@ -9,5 +9,3 @@ mod jobs;
 mod parts;
 #[cfg(test)]
 mod pool;
-#[cfg(test)]
-mod progress;

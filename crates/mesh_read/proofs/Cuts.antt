@@ -1,10 +1,10 @@
 -- A text that is cut at the first byte of a kind
-use Rattle.std.proofs.Common.{◌≡◌, ℕ, true, false, ◌<◌, ◌+◌, ◌-◌, List, [], ◌∷◌, ◌++◌, length, refl, sym, ap, ap₂, ◌∙◌}
+use Rattle.std.proofs.Common.{◌≡◌, ℕ, Bool, true, false, ◌<◌, ◌+◌, ◌-◌, List, [], ◌∷◌, ◌++◌, length, refl, sym, ap, ap₂, ◌∙◌}
 use Rattle.std.proofs.Common.{append_assoc, arith, slice_index, inl, inr, drop}
 use Rattle.std.specs.Prelude.{◌==◌, if◌then◌else◌}
 use Rattle.std.proofs.lemmas.Bool.{cases_Bool}
 use Rattle.std.proofs.lemmas.List.{append-nil}
-use Rattle.mesh_read.specs.Scan.Parts.{Piece, before, onward, is_separator, with_word_ending, words_from, before_lines, lines_from}
+use Rattle.mesh_read.specs.Scan.Parts.{Piece, before, onward, with_word_ending, words_by, before_lines, lines_from}
 
 abbrev piece : ℕ → List ℕ → Piece
 piece s text = record { start = s; text = text }
@@ -61,18 +61,18 @@ first_cut s t n m text line (r ∷ rs) after some is l same next more a =
     first_line s text rs r (sym is) ∙ ap₂ (λ p x. p ∷ x) (ap₂ (λ p x. piece p x) (sym same) (sym l)) (ap₂ (λ p x. lines_from p x) place (sym a))
 
 -- the words of a text in which a word is open
-word_then_rest : (p : ℕ) (text begun : List ℕ) →
-    words_from p text begun ≡ with_word_ending (p + length (before is_separator text)) (begun ++ before is_separator text)
-    (words_from (p + length (before is_separator text)) (onward is_separator text) [])
-word_then_rest p [] begun = ap₂ (λ x n. with_word_ending n x []) (sym (append-nil begun)) (omega arith)
-word_then_rest p (b ∷ bs) begun =
-    elim (cases_Bool (is_separator b)) [
+word_then_rest : (blank : ℕ → Bool) (p : ℕ) (text begun : List ℕ) →
+    words_by blank p text begun ≡ with_word_ending (p + length (before blank text)) (begun ++ before blank text)
+    (words_by blank (p + length (before blank text)) (onward blank text) [])
+word_then_rest blank p [] begun = ap₂ (λ x n. with_word_ending n x []) (sym (append-nil begun)) (omega arith)
+word_then_rest blank p (b ∷ bs) begun =
+    elim (cases_Bool (blank b)) [
       | inl h ↦
           let place : p + 0 ≡ p = omega arith in
           simp (h, append-nil begun, place)
       | inr h ↦
-          let place : p + 1 + length (before is_separator bs) ≡ p + length (b ∷ before is_separator bs) = omega arith in
-          simp (h, word_then_rest (p + 1) bs (begun ++ b ∷ []), append_assoc, place)
+          let place : p + 1 + length (before blank bs) ≡ p + length (b ∷ before blank bs) = omega arith in
+          simp (h, word_then_rest blank (p + 1) bs (begun ++ b ∷ []), append_assoc, place)
     ]
 
 -- a word that begins the text
@@ -82,22 +82,22 @@ one_word_ending p (b ∷ bs) words some =
     let place : p + length (b ∷ bs) - length (b ∷ bs) ≡ p = omega arith in
     ap (λ n. piece n (b ∷ bs) ∷ words) place
 
-word_has_byte : (text : List ℕ) → 0 < length text → is_separator (slice_index text 0) ≡ false → 0 < length (before is_separator text)
-word_has_byte [] some first = absurd (omega arith)
-word_has_byte (b ∷ bs) some first = simp first (omega arith)
+word_has_byte : (blank : ℕ → Bool) (text : List ℕ) → 0 < length text → blank (slice_index text 0) ≡ false → 0 < length (before blank text)
+word_has_byte blank [] some first = absurd (omega arith)
+word_has_byte blank (b ∷ bs) some first = simp first (omega arith)
 
 -- a text that begins with a word
-first_word : (p : ℕ) (text : List ℕ) → 0 < length text → is_separator (slice_index text 0) ≡ false →
-    words_from p text [] ≡ piece p (before is_separator text)
-    ∷ words_from (p + length (before is_separator text)) (onward is_separator text) []
-first_word p text some first = word_then_rest p text []
-    ∙ one_word_ending p (before is_separator text)
-    (words_from (p + length (before is_separator text)) (onward is_separator text) []) (word_has_byte text some first)
+first_word : (blank : ℕ → Bool) (p : ℕ) (text : List ℕ) → 0 < length text → blank (slice_index text 0) ≡ false →
+    words_by blank p text [] ≡ piece p (before blank text)
+    ∷ words_by blank (p + length (before blank text)) (onward blank text) []
+first_word blank p text some first = word_then_rest blank p text []
+    ∙ one_word_ending p (before blank text)
+    (words_by blank (p + length (before blank text)) (onward blank text) []) (word_has_byte blank text some first)
 
 -- a word that begins the text is cut off
-pub word_cut : (p t n : ℕ) (text word rest : List ℕ) → 0 < length text → is_separator (slice_index text 0) ≡ false →
-    word ≡ before is_separator text → rest ≡ onward is_separator text → t ≡ p → n ≡ t + length word →
-    words_from p text [] ≡ piece t word ∷ words_from n rest []
-word_cut p t n text word rest some first w r same next =
-    let place : p + length (before is_separator text) ≡ n = omega (arith, same, next, ap length w) in
-    first_word p text some first ∙ ap₂ (λ x y. x ∷ y) (ap₂ (λ a b. piece a b) (sym same) (sym w)) (ap₂ (λ a b. words_from a b []) place (sym r))
+pub word_cut : (blank : ℕ → Bool) (p t n : ℕ) (text word rest : List ℕ) → 0 < length text → blank (slice_index text 0) ≡ false →
+    word ≡ before blank text → rest ≡ onward blank text → t ≡ p → n ≡ t + length word →
+    words_by blank p text [] ≡ piece t word ∷ words_by blank n rest []
+word_cut blank p t n text word rest some first w r same next =
+    let place : p + length (before blank text) ≡ n = omega (arith, same, next, ap length w) in
+    first_word blank p text some first ∙ ap₂ (λ x y. x ∷ y) (ap₂ (λ a b. piece a b) (sym same) (sym w)) (ap₂ (λ a b. words_by blank a b []) place (sym r))

@@ -1,7 +1,6 @@
 pub mod Cuts
 pub mod FarPoints
 pub mod Fans
-pub mod StlCuts
 pub mod Triangles
 pub mod Lines
 pub mod Joins

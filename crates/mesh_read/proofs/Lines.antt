@@ -4,8 +4,8 @@ use Rattle.mesh_read.specs.declared.surface.surface.Vertex.{Vertex}
 use Rattle.mesh_read.specs.Surface.Surfaces.{point_of}
 use Rattle.mesh_read.specs.declared.stl.fault.StlFault.{StlFault}
 use Rattle.mesh_read.specs.declared.stl.fault.StlFault.TheVariants.{NotThreeVertices}
-use Rattle.mesh_read.specs.Stl.Scan.{Line, words_from, ended_lines, numbered}
-use Rattle.mesh_read.specs.Stl.Ascii.{State, with_corners, after_words, after_lines}
+use Rattle.mesh_read.specs.Scan.Parts.{Piece, is_space, words_by}
+use Rattle.mesh_read.specs.Stl.Ascii.{State, with_corners, after_words, Line, numbered, after_lines}
 
 -- a facet of fewer or more corners than three is refused
 pub not_three_corners : (line : ℕ) (state : State) (place : ℕ) (corners : List Vertex) → length corners ≢ 3 →
@@ -22,8 +22,7 @@ after_fault fault [] = refl
 after_fault fault (line ∷ lines) = refl
 
 -- the first line is read, and those behind it are left
-pub line_read : (number start behind : ℕ) (bytes line after : List ℕ) (state : State) →
-    ended_lines bytes ≡ line ∷ ended_lines after → behind ≡ start + length line + 1 →
-    after_lines (Ok state) (numbered number start (ended_lines bytes)) ≡ after_lines
-    (after_words number state (words_from start line)) (numbered (number + 1) behind (ended_lines after))
-line_read number start behind bytes line after state is e = rw (is, e) refl
+pub line_read : (number : ℕ) (lines more : List Piece) (line : Piece) (state : State) → lines ≡ line ∷ more →
+    after_lines (Ok state) (numbered number lines) ≡ after_lines
+    (after_words number state (words_by is_space line.start line.text [])) (numbered (number + 1) more)
+line_read number lines more line state is = rw is refl

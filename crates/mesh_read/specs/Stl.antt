@@ -1,4 +1,3 @@
-pub mod Scan
 pub mod Facets
 pub mod Ascii
 pub mod Binary

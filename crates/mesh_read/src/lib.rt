@@ -8,7 +8,10 @@ mod surface;
 mod wavefront;
 
 pub use off::{OffFault, read_off};
-pub use scan::{Part, Span, cut_before, next_line, next_word, three_words, without_comment};
-pub use stl::{StlFault, WordPlace, begins_with_word, is_ascii_stl, is_binary_stl, read_stl};
+pub use scan::{
+    Blanks, Part, Span, cut_before, next_line, next_word, next_word_between, three_words,
+    without_comment,
+};
+pub use stl::{StlFault, begins_with_word, is_ascii_stl, is_binary_stl, read_stl};
 pub use surface::{Facet, Surface, Vertex, first_too_large, push_fan};
 pub use wavefront::{WavefrontFault, read_wavefront};

@@ -7,8 +7,7 @@ mod fault;
 mod keyword;
 mod kind;
 mod reading;
-mod scan;
 
-pub use fault::{StlFault, WordPlace};
+pub use fault::StlFault;
 pub use kind::{begins_with_word, is_ascii_stl, is_binary_stl};
 pub use reading::read_stl;

@@ -65,8 +65,8 @@ fn ply_files_that_are_read(rt: HostRuntime) {
 }
 
 #[test]
-fn ply_files_that_are_refused(rt: HostRuntime) {
-    let rows: [(&[u8], PlyFault); 17] = [
+fn ply_headers_that_are_refused(rt: HostRuntime) {
+    let rows: [(&[u8], PlyFault); 11] = [
         (b"", PlyFault::NoEnd),
         (b"ply\nformat ascii 1.0\n", PlyFault::NoEnd),
         (b"ply\nend\n", PlyFault::NotUnderstood(2)),
@@ -80,6 +80,23 @@ fn ply_files_that_are_refused(rt: HostRuntime) {
         (b"format binary 1.0\nend_header\n", PlyFault::NoFormat),
         (b"format ascii 1.0\nend_header\n", PlyFault::NoTriangles),
         (
+            b"format ascii 1.0\nelement vertex 1\nproperty float x\nproperty float y\nend_header\n1 2 3\n",
+            PlyFault::NoCoordinates,
+        ),
+        (
+            b"format ascii 1.0\nelement face 1\nproperty list int int strips\nend_header\n0\n",
+            PlyFault::NoCorners,
+        ),
+    ];
+    for (bytes, want) in rows {
+        assert_eq!(rt; count(rt.alloc(), bytes), Err(want));
+    }
+}
+
+#[test]
+fn ply_rows_that_are_refused(rt: HostRuntime) {
+    let rows: [(&[u8], PlyFault); 6] = [
+        (
             b"format ascii 1.0\nelement edge 2\nproperty int a\nend_header\n1\n",
             PlyFault::ShortRow(Span { start: 25, end: 29 }, 2),
         ),
@@ -92,14 +109,6 @@ fn ply_files_that_are_refused(rt: HostRuntime) {
             b"format binary_little_endian 1.0\nelement vertex 1\nproperty char x\nproperty char y\nproperty float z\n\
             end_header\n\x00\x00\x00\x00\x80\x7f",
             PlyFault::NotFinite(1),
-        ),
-        (
-            b"format ascii 1.0\nelement vertex 1\nproperty float x\nproperty float y\nend_header\n1 2 3\n",
-            PlyFault::NoCoordinates,
-        ),
-        (
-            b"format ascii 1.0\nelement face 1\nproperty list int int strips\nend_header\n0\n",
-            PlyFault::NoCorners,
         ),
         (
             b"format ascii 1.0\nelement face 1\nproperty list int int vertex_index\nend_header\n1 0\n",

@@ -48,8 +48,8 @@ fn wavefront_files_that_are_read(rt: HostRuntime) {
 }
 
 #[test]
-fn wavefront_files_that_are_refused(rt: HostRuntime) {
-    let rows: [(&[u8], WavefrontFault); 16] = [
+fn wavefront_vertices_that_are_refused(rt: HostRuntime) {
+    let rows: [(&[u8], WavefrontFault); 7] = [
         (b"", WavefrontFault::NoTriangles),
         (b"v 0 0 0\n", WavefrontFault::NoTriangles),
         (b"\nv 0 0\n", WavefrontFault::FewCoordinates(2)),
@@ -62,6 +62,19 @@ fn wavefront_files_that_are_refused(rt: HostRuntime) {
             b"v 0 0 0\n\nv \\\n0 \\\n0x1 0\n",
             WavefrontFault::NotANumber(3, b"0x1"),
         ),
+        (
+            b"v 0 0 0\nv 0 -1e15 0\nf 1 1 1\nf 1 \\\n1 2\n",
+            WavefrontFault::TooLarge(4),
+        ),
+    ];
+    for (bytes, want) in rows {
+        assert_eq!(rt; count(rt.alloc(), bytes), Err(want));
+    }
+}
+
+#[test]
+fn wavefront_faces_that_are_refused(rt: HostRuntime) {
+    let rows: [(&[u8], WavefrontFault); 9] = [
         (
             b"f 1 1 1\nv 0 0 0\n",
             WavefrontFault::UnknownVertex(1, b"1"),
@@ -92,10 +105,6 @@ fn wavefront_files_that_are_refused(rt: HostRuntime) {
         ),
         (b"v 0 0 0\nf 1 1\n", WavefrontFault::FewCorners(2)),
         (b"v 0 0 0\nf\nv x\n", WavefrontFault::FewCorners(2)),
-        (
-            b"v 0 0 0\nv 0 -1e15 0\nf 1 1 1\nf 1 \\\n1 2\n",
-            WavefrontFault::TooLarge(4),
-        ),
     ];
     for (bytes, want) in rows {
         assert_eq!(rt; count(rt.alloc(), bytes), Err(want));

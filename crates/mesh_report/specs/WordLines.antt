@@ -3,7 +3,7 @@ use Rattle.std.specs.Prelude.{ℕ, ◌-◌, List, [], ◌++◌, length, codes, g
 use Rattle.mesh_words.specs.declared.faults.Refusal.{Refusal}
 use Rattle.mesh_words.specs.declared.faults.Refusal.TheVariants as refusal
 use Rattle.mesh_words.specs.declared.names.Setting.{Setting}
-use Rattle.mesh_words.specs.Given.{output_given, step_given}
+use Rattle.mesh_words.specs.Given.{input_given, output_given, step_given, value_given}
 use Rattle.mesh_words.specs.Spelling.{option_of}
 
 -- the word with this number, from 0
@@ -19,6 +19,10 @@ abbrev pub foreign_text : Setting → List ℕ → List ℕ
 foreign_text option command =
     option_of option ++ (codes ": not an option of " ++ (command ++ codes "; see ember-mesh help"))
 
+-- `OPTION VALUE`
+abbrev pub value_text : Setting → List (List ℕ) → List ℕ
+value_text option words = option_of option ++ (codes " " ++ value_given option words)
+
 -- why words are refused; word 0 is the name of the command
 abbrev pub refusal_text : List (List ℕ) → Refusal → List ℕ
 refusal_text words refusal.NoCommand = codes "no command; see ember-mesh help"
@@ -30,6 +34,11 @@ refusal_text words refusal.TooManyFiles = codes "more than 64 files; see ember-m
 refusal_text words refusal.NoExpression = word_text (codes "--expr") (codes "is missing")
 refusal_text words refusal.NeedlessExpression = word_text (codes "--expr") (codes "is for bool alone")
 refusal_text words (refusal.NotFor s) = foreign_text s (word_at words 0)
+refusal_text words (refusal.Twice s) = word_text (option_of s) (codes "is given twice")
+refusal_text words (refusal.PageEnding s) = value_text s words ++ codes ": the name must end in .html or .htm"
+refusal_text words (refusal.OverInput s i) =
+    value_text s words ++
+    (codes ": would write over the input " ++ (input_given i words ++ codes "; give another name"))
 refusal_text words refusal.NotOneDocument = codes "export takes one document; see ember-mesh help"
 refusal_text words refusal.NoFolder = word_text (codes "-d") (codes "is missing")
 refusal_text words refusal.NoOutput = word_text (codes "-o") (codes "is missing")

@@ -1,17 +1,19 @@
 // The line on standard error of words that are refused.
 ghost use Rattle.std.specs.Prelude.{◌≡◌, ◌++◌, codes, map, IfOk, OnOk, string_bytes};
-ghost use Rattle.mesh_words.specs.Given.{output_given, step_given};
+ghost use Rattle.mesh_words.specs.Given.{input_given, output_given, step_given};
 ghost use Rattle.mesh_report.specs.Lines.{line};
-ghost use Rattle.mesh_report.specs.WordLines.{foreign_text, refusal_text, word_text, word_at};
+ghost use Rattle.mesh_report.specs.WordLines.{foreign_text, refusal_text, value_text, word_text, word_at};
 
 use crate::texts::{line, put_value};
 use ember_model::OutOfMemory;
-use mesh_words::{Refusal, Setting, output_given, step_given};
+use mesh_words::{Refusal, Setting, input_given, output_given, step_given, value_given};
 use std::alloc::Global;
 
 const OUTPUT_ENDING: &[u8] = b": the name must end in .stl, .obj, .ply, .off or .glb";
 
 const NOT_A_STEP: &[u8] = b": not a number above 0";
+
+const PAGE_ENDING: &[u8] = b": the name must end in .html or .htm";
 
 // Appends why a word is refused.
 fn put_word(word: &[u8], why: &[u8], text: &mut Vec<u8>) -> Result<(), OutOfMemory>
@@ -61,6 +63,59 @@ fn put_foreign(option: Setting, command: &[u8], text: &mut Vec<u8>) -> Result<()
     text.extend_from_slice(b"; see ember-mesh help")
 }
 
+// Appends an option and its value.
+fn put_given(
+    alloc: Global,
+    words: &[String],
+    option: Setting,
+    text: &mut Vec<u8>,
+) -> Result<(), OutOfMemory>
+    ensures { OnOk result (text.new.items ≡
+        text.old.items ++ value_text option (map string_bytes words.now)) }
+{
+    let value = value_given(alloc, words, option)?;
+    let name = option.name();
+    text.extend_from_slice(name.as_bytes())?;
+    text.extend_from_slice(b" ")?;
+    text.extend_from_slice(value.as_str().as_bytes())
+}
+
+// Appends that the name of a page has another ending.
+fn put_page_ending(
+    alloc: Global,
+    words: &[String],
+    option: Setting,
+    text: &mut Vec<u8>,
+) -> Result<(), OutOfMemory>
+    ensures { OnOk result (text.new.items ≡ text.old.items ++
+        (value_text option (map string_bytes words.now) ++ PAGE_ENDING.now)) }
+{
+    put_given(alloc, words, option, text)?;
+    text.extend_from_slice(PAGE_ENDING)
+}
+
+// Appends that an input would be written over.
+fn put_over_input(
+    alloc: Global,
+    words: &[String],
+    option: Setting,
+    number: usize,
+    text: &mut Vec<u8>,
+) -> Result<(), OutOfMemory>
+    ensures { OnOk result (text.new.items ≡ text.old.items ++
+        (value_text option (map string_bytes words.now) ++ (codes ": would write over the input " ++
+        (input_given number (map string_bytes words.now) ++ codes "; give another name")))) }
+{
+    let input = input_given(alloc, words, number)?;
+    put_given(alloc, words, option, text)?;
+    put_value(
+        b": would write over the input ",
+        input.as_str().as_bytes(),
+        b"; give another name",
+        text,
+    )
+}
+
 // Appends why the words are refused.
 fn put_refusal(
     alloc: Global,
@@ -84,6 +139,9 @@ fn put_refusal(
         Refusal::NoExpression => put_word(b"--expr", b"is missing", text),
         Refusal::NeedlessExpression => put_word(b"--expr", b"is for bool alone", text),
         Refusal::NotFor(option) => put_foreign(option, word_at(words, 0), text),
+        Refusal::Twice(option) => put_word(option.name().as_bytes(), b"is given twice", text),
+        Refusal::PageEnding(option) => put_page_ending(alloc, words, option, text),
+        Refusal::OverInput(option, number) => put_over_input(alloc, words, option, number, text),
         Refusal::NotOneDocument => {
             text.extend_from_slice(b"export takes one document; see ember-mesh help")
         }

@@ -1,11 +1,15 @@
-// Tests of the crates that make triangles of a document's faces: each subject by calls from outside.
+// Tests of the crates that make triangles of a document's faces, and of their checker: each subject by calls from outside.
 
+#[cfg(test)]
+mod certificates;
 #[cfg(test)]
 mod cuts;
 #[cfg(test)]
 mod documents;
 #[cfg(test)]
 mod faces;
+#[cfg(test)]
+mod keys;
 #[cfg(test)]
 mod solids;
 #[cfg(test)]

@@ -11,7 +11,7 @@ use steal_pool::OpenGate;
 /// Files by their names.
 pub type Named<'a> = &'a [(&'a str, &'a [u8])];
 
-/// What the name of the output holds before each call.
+/// What the names of the output and of a page hold before each call.
 pub const BEFORE: &[u8] = b"before";
 
 /// What a call gave.
@@ -57,12 +57,13 @@ pub fn none(alloc: Global) -> Calls {
     Calls::of(Vec::new(alloc))
 }
 
-// A target in which out.stl holds something, and whose calls of these numbers fail.
+// A target in which out.stl and out.html hold something, and whose calls of these numbers fail.
 fn target_of(alloc: Global, failing: Calls) -> Result<MemoryTarget, Fail>
     ensures { IfOk result (λ target. target.begun ≡ None) }
 {
     let mut target = MemoryTarget::new(alloc, 4096, failing);
     target.put("out.stl", BEFORE)?;
+    target.put("out.html", BEFORE)?;
     Ok(target)
 }
 

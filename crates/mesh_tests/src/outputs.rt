@@ -48,9 +48,9 @@ fn files_before_one_that_cannot_be_written_are_there(rt: HostRuntime) -> Result<
     Ok(())
 }
 
-// A page over what out.stl holds, if these calls of the target fail.
+// A page over what out.html holds, if these calls of the target fail.
 fn give_page(alloc: Global, target_calls: Calls) -> Result<Given, Fail> {
-    let line = "view -o out.stl a.obj";
+    let line = "view -o out.html a.obj";
     give(alloc, line, ALONE, none(alloc), target_calls, 10_000)
 }
 
@@ -63,17 +63,17 @@ fn a_page_that_cannot_be_written(rt: HostRuntime) -> Result<(), Fail> {
         assert_eq!(rt; given.status.number(), 4, "call {call}");
         assert_eq!(rt;
             given.err.bytes(),
-            b"ember-mesh: cannot write out.stl\n".as_slice(),
+            b"ember-mesh: cannot write out.html\n".as_slice(),
             "call {call}"
         );
-        assert_eq!(rt; given.bytes(), BEFORE, "call {call}");
+        assert_eq!(rt; given.held("out.html"), BEFORE, "call {call}");
         assert!(rt;
-            given.target.bytes_of("out.stl.new-0").is_none(),
+            given.target.bytes_of("out.html.new-0").is_none(),
             "call {call}"
         );
     }
     let given = give_page(alloc, none(alloc))?;
     assert_eq!(rt; given.status.number(), 0);
-    assert!(rt; given.bytes().starts_with(b"<!doctype html>\n"));
+    assert!(rt; given.held("out.html").starts_with(b"<!doctype html>\n"));
     Ok(())
 }

@@ -140,3 +140,40 @@ module _ (w : Walk) where
   -- equal strands have the same segment
   pub strand_stretch : (s t : Strand) (before after : List Segment) → s ≡ t → AddsStretch w (s ∷ []) before after → AddsStretch w (t ∷ []) before after
   strand_stretch s t before after e h = subst (λ (x : Strand). AddsStretch w (x ∷ []) before after) e h
+
+  -- two opposite segments of a plane over the stretch
+  pub pair_stretch : (p : ℕ) (strands : List Strand) (before middle one after : List Segment) →
+      AddsStretch w strands before middle → AddsStretch w (Over p ∷ []) middle one →
+      AddsStretch w (Back p ∷ []) one after → AddsStretch w strands before after
+  pair_stretch p strands before middle one after h k l =
+      record {
+        corners = corners;
+        others = λ plane line corner e. l.others plane line corner e ∙ k.others plane line corner e
+            ∙ h.others plane line corner e;
+      }
+    where
+      opposite : (z : ℤ) → (z +ℤ pos 0) +ℤ ((pos 0 -ℤ z) +ℤ pos 0) ≡ pos 0
+      opposite z = omega (arith, linear)
+
+      cancel : (plane corner n : ℕ) → only_at corner n (coefficient plane (Over p ∷ [])) +ℤ only_at corner n
+          (coefficient plane (Back p ∷ [])) ≡ pos 0
+      cancel plane corner n =
+          sym (only_at-add corner n (coefficient plane (Over p ∷ [])) (coefficient plane (Back p ∷ [])))
+          ∙ ap (only_at corner n) (opposite (one_at plane p)) ∙ only_at-zero corner n
+
+      joined : (a o m b x u s t v z : ℤ) → m +ℤ x ≡ b +ℤ u → o +ℤ s ≡ m +ℤ t → a +ℤ v ≡ o +ℤ z →
+          s +ℤ v ≡ pos 0 → t +ℤ z ≡ pos 0 → a +ℤ x ≡ b +ℤ u
+      joined a o m b x u s t v z e f g i j = omega (arith, linear, e, f, g, i, j)
+
+      corners : (plane corner : ℕ) → boundary plane w.line corner after +ℤ only_at corner w.last
+          (coefficient plane strands) ≡ boundary plane w.line corner before +ℤ only_at corner w.here
+          (coefficient plane strands)
+      corners plane corner =
+          joined (boundary plane w.line corner after) (boundary plane w.line corner one)
+          (boundary plane w.line corner middle) (boundary plane w.line corner before)
+          (only_at corner w.last (coefficient plane strands)) (only_at corner w.here (coefficient plane strands))
+          (only_at corner w.last (coefficient plane (Over p ∷ [])))
+          (only_at corner w.here (coefficient plane (Over p ∷ [])))
+          (only_at corner w.last (coefficient plane (Back p ∷ [])))
+          (only_at corner w.here (coefficient plane (Back p ∷ []))) (h.corners plane corner) (k.corners plane corner)
+          (l.corners plane corner) (cancel plane corner w.last) (cancel plane corner w.here)

@@ -9,6 +9,7 @@ mod certified;
 mod corner_order;
 mod cutting;
 mod executor;
+mod face_edges;
 mod fault;
 mod marks;
 mod parts;

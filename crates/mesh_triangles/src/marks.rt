@@ -25,16 +25,19 @@ pub enum What {
 pub struct Mark {
     pub corner: u32,
     pub what: What,
+    /// Whether the segment that starts or ends runs along the line, and not back.
+    pub is_over: bool,
     place: usize,
 }
 
-fn mark_at(order: &CornerOrder, corner: u32, what: What) -> Mark
+fn mark_at(order: &CornerOrder, corner: u32, what: What, is_over: bool) -> Mark
     ensures corner { result.corner ≡ corner }
     ensures what { result.what ≡ what }
 {
     Mark {
         corner,
         what,
+        is_over,
         place: order.place_of(corner),
     }
 }
@@ -47,8 +50,9 @@ fn push_ends(
     ensures { (line : ℕ) (done : List Segment) → segment.now.line ≡ line → AreMarks line done marks.old.items →
         OnOk result (AreMarks line (done ++ segment.now ∷ []) marks.new.items) }
 {
-    marks.push(mark_at(order, segment.start, What::Start(segment.plane)))?;
-    marks.push(mark_at(order, segment.end, What::End(segment.plane)))?;
+    let is_over = order.place_of(segment.start) < order.place_of(segment.end);
+    marks.push(mark_at(order, segment.start, What::Start(segment.plane), is_over))?;
+    marks.push(mark_at(order, segment.end, What::End(segment.plane), is_over))?;
     Ok(())
 }
 
@@ -61,7 +65,7 @@ fn push_splits(
         OnOk result (AreMarks line done marks.new.items) }
 {
     for s in splits {
-        marks.push(mark_at(order, s.corner, What::Split))?;
+        marks.push(mark_at(order, s.corner, What::Split, false))?;
     }
     Ok(())
 }

@@ -2,8 +2,10 @@
 ghost use Rattle.std.specs.Prelude.{◌≡◌, ℕ, List, [], ◌∷◌, ◌++◌, OnOk};
 ghost use Rattle.mesh_certificate.specs.declared.certificate.segment.Segment.{Segment};
 ghost use Rattle.mesh_triangles.specs.declared.marks.Mark.{Mark};
+ghost use Rattle.mesh_triangles.specs.declared.strand.Strand.{Strand};
 ghost use Rattle.mesh_triangles.specs.Walks.{IsWalked, AddsStretch};
 
+use crate::face_edges::FaceEdges;
 use crate::fault::TrianglesFault;
 use crate::marks::{Mark, What};
 use crate::strand::{Strand, add_strand, are_balanced, doubled, move_strands};
@@ -20,7 +22,8 @@ pub struct Boundaries {
 
 /// A walk along a line: the corner at which it is, what changes there so far, and the strands of
 /// the stretch that ends there, with the corner at which they start. Strands are in order of
-/// planes.
+/// planes. `edges` are those of faces over the next stretch so far, and `pairs` are the planes that
+/// keep a pair of opposite edges over the stretch that ends.
 #[derive(Drop)]
 pub struct Walk {
     line: u32,
@@ -29,6 +32,8 @@ pub struct Walk {
     here: u32,
     changes: Vec<Strand>,
     is_split: bool,
+    edges: FaceEdges,
+    pairs: Vec<u32>,
 }
 
 fn segment_on(line: u32, plane: u32, start: u32, end: u32) -> Segment
@@ -55,6 +60,8 @@ impl Walk {
             here: 0,
             changes: Vec::new(alloc),
             is_split: false,
+            edges: FaceEdges::none(alloc),
+            pairs: Vec::new(alloc),
         }
     }
 
@@ -68,6 +75,8 @@ impl Walk {
         self.here = 0;
         self.changes.clear();
         self.is_split = false;
+        self.edges.clear();
+        self.pairs.clear();
     }
 
     /// Goes on to the corner of the next mark.
@@ -77,7 +86,7 @@ impl Walk {
             OnOk result (IsWalked line (done ++ mark.now ∷ []) before self.new boundaries.new.segments.items) }
     {
         self.go_to(mark.corner, boundaries)?;
-        self.change(mark.what)
+        self.change(mark.what, mark.is_over)
     }
 
     fn go_to(&mut self, corner: u32, boundaries: &mut Boundaries) -> Result<(), TrianglesFault>
@@ -95,11 +104,12 @@ impl Walk {
     }
 
     // Adds what is at the corner.
-    fn change(&mut self, what: What) -> Result<(), TrianglesFault>
+    fn change(&mut self, what: What, is_over: bool) -> Result<(), TrianglesFault>
         ensures { (line : ℕ) (done : List Mark) (before after : List Segment) (m : Mark) →
             IsWalked line done before self.old after → m.corner ≡ self.old.here → m.what ≡ what →
             OnOk result (IsWalked line (done ++ m ∷ []) before self.new after) }
     {
+        self.edges.pass(what, is_over)?;
         match what {
             What::Start(plane) => add_strand(&mut self.changes, Strand::Over(plane)),
             What::End(plane) => add_strand(&mut self.changes, Strand::Back(plane)),
@@ -110,19 +120,22 @@ impl Walk {
         }
     }
 
-    /// Leaves the corner. It is run through if no coefficient changes and the line isn't split
-    /// there; otherwise a stretch ends there and another one begins.
+    /// Leaves the corner. It is run through if neither a coefficient nor a pair changes and the line
+    /// isn't split there; otherwise a stretch ends there and another one begins.
     pub fn settle(&mut self, boundaries: &mut Boundaries) -> Result<(), TrianglesFault>
         ensures walked { (line : ℕ) (done : List Mark) (before : List Segment) →
             IsWalked line done before self.old boundaries.old.segments.items →
             OnOk result (IsWalked line done before self.new boundaries.new.segments.items) }
         ensures settled { OnOk result (self.new.changes.items ≡ []) }
     {
-        if self.changes.is_empty() && !self.is_split {
+        let pairs = self.edges.pairs()?;
+        if self.changes.is_empty() && !self.is_split && pairs == self.pairs {
             return self.run_through(&mut boundaries.through);
         }
         self.end_stretch(&mut boundaries.segments)?;
         move_strands(&mut self.changes, &mut self.stretch)?;
+        self.pairs = pairs;
+        self.edges.tidy();
         self.last = self.here;
         self.is_split = false;
         Ok(())
@@ -130,13 +143,20 @@ impl Walk {
 
     fn run_through(&self, through: &mut Vec<Through>) -> Result<(), TrianglesFault> {
         for s in &self.stretch {
-            through.push(Through {
-                plane: s.plane(),
-                corner: self.here,
-                line: self.line,
-            })?;
+            through.push(self.through_in(s.plane()))?;
+        }
+        for plane in &self.pairs {
+            through.push(self.through_in(*plane))?;
         }
         Ok(())
+    }
+
+    fn through_in(&self, plane: u32) -> Through {
+        Through {
+            plane,
+            corner: self.here,
+            line: self.line,
+        }
     }
 
     fn end_stretch(&self, segments: &mut Vec<Segment>) -> Result<(), TrianglesFault>
@@ -151,6 +171,18 @@ impl Walk {
         }
         for s in &self.stretch {
             segments.push(self.segment(s))?;
+        }
+        self.push_pairs(segments)
+    }
+
+    // Adds the edges that stay though they cancel.
+    fn push_pairs(&self, segments: &mut Vec<Segment>) -> Result<(), TrianglesFault>
+        ensures { (strands : List Strand) (before : List Segment) → AddsStretch self.now strands before segments.old.items →
+            OnOk result (AddsStretch self.now strands before segments.new.items) }
+    {
+        for plane in &self.pairs {
+            segments.push(self.segment(&Strand::Over(*plane)))?;
+            segments.push(self.segment(&Strand::Back(*plane)))?;
         }
         Ok(())
     }

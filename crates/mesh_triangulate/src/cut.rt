@@ -146,8 +146,8 @@ fn sweep_cut(
 
 /// Cuts the part of the plane to the left of its boundary, seen from its front, into triangles that
 /// go round counter-clockwise. The boundary is any number of closed rings of segments, which share
-/// no more than corners; no corner is added. No segment may run through a corner: if some do, the
-/// result is all of these touches.
+/// no more than corners, and of slits: two opposite segments with the part on both sides. No corner
+/// is added. No segment may run through a corner: if some do, the result is all of these touches.
 pub fn triangles_of(
     alloc: Global,
     plane: &Plane,

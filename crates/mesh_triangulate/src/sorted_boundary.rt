@@ -134,7 +134,8 @@ fn edges_of(
     Ok(edges)
 }
 
-/// The order of edges by their left ends, and of those with one left end from below.
+/// The order of edges by their left ends, and of those with one left end from below. Two opposite
+/// edges bound a slit: the part below it has the ceiling, and the part above it the floor.
 pub fn edge_order(
     places: &[BoundaryCorner],
     first: &BoundaryEdge,
@@ -143,7 +144,7 @@ pub fn edge_order(
     match first.left.cmp(&second.left) {
         Ordering::Equal => match turn_at(places, first.left, first.right, second.right) {
             Sign::Pos => Ordering::Less,
-            Sign::Zero => Ordering::Equal,
+            Sign::Zero => first.is_floor.cmp(&second.is_floor),
             Sign::Neg => Ordering::Greater,
         },
         order => order,

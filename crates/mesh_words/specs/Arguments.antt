@@ -7,6 +7,7 @@ use Rattle.ember_dec.specs.Decimal.{is_minus}
 use Rattle.mesh_words.specs.declared.faults.Refusal.{Refusal}
 use Rattle.mesh_words.specs.declared.faults.Refusal.TheVariants.{UnknownOption, NoValue}
 use Rattle.mesh_words.specs.declared.names.Setting.{Setting}
+use Rattle.mesh_words.specs.declared.names.Setting.TheVariants as setting
 use Rattle.mesh_words.specs.declared.arguments.Argument.{Argument}
 use Rattle.mesh_words.specs.declared.arguments.Argument.TheVariants.{File, Value, Quiet, Help}
 use Rattle.mesh_words.specs.declared.arguments.WordMeaning.{WordMeaning}
@@ -100,6 +101,15 @@ name_in Help = []
 abbrev pub names_in : List Argument → List Text
 names_in [] = []
 names_in (i ∷ more) = name_in i ++ names_in more
+
+-- a list of the text, if there is one
+abbrev pub in_list : Option Text → List Text
+in_list None = []
+in_list (Some text) = text ∷ []
+
+-- the names of what the command reads: the files, and the grid of a document
+abbrev pub inputs_in : List Argument → List Text
+inputs_in arguments = names_in arguments ++ in_list (value_in setting.Scene arguments)
 
 abbrev pub is_quiet : Argument → Bool
 is_quiet Quiet = true

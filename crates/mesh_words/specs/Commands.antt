@@ -14,18 +14,17 @@ use Rattle.mesh_words.specs.declared.command.OutputFormat.{OutputFormat}
 use Rattle.mesh_words.specs.declared.command.WantedStep.{WantedStep}
 use Rattle.mesh_words.specs.declared.command.WantedStep.TheVariants as step
 use Rattle.mesh_words.specs.declared.faults.Refusal.{Refusal}
-use Rattle.mesh_words.specs.declared.faults.Refusal.TheVariants.{NoCommand, UnknownCommand, UnknownOption, NotFor}
+use Rattle.mesh_words.specs.declared.faults.Refusal.TheVariants.{NoCommand, UnknownCommand, UnknownOption}
 use Rattle.mesh_words.specs.declared.faults.WordsFault.{WordsFault}
 use Rattle.mesh_words.specs.declared.faults.WordsFault.TheVariants.{Refused, OutOfMemory}
 use Rattle.mesh_words.specs.declared.arguments.Argument.{Argument}
 use Rattle.mesh_words.specs.declared.names.Operation.{Operation}
-use Rattle.mesh_words.specs.declared.names.Setting.{Setting}
 use Rattle.mesh_words.specs.declared.names.Setting.TheVariants as setting
 use Rattle.mesh_words.specs.declared.names.Verb.{Verb}
 use Rattle.mesh_words.specs.declared.names.Verb.TheVariants as verb
 use Rattle.mesh_words.specs.Names.{Text, operator_of, verb_of}
 use Rattle.mesh_words.specs.Arguments.{asks_help, is_help, is_quiet, arguments_from, names_in, value_in}
-use Rattle.mesh_words.specs.Allowed.{first_beside, boolean_settings}
+use Rattle.mesh_words.specs.Targets.{boolean_fault}
 use Rattle.mesh_words.specs.Plain.{first_option, plain_names}
 use Rattle.mesh_words.specs.Values.{digits_of, expression_of, files_of, format_from, is_above_zero}
 use Rattle.mesh_words.specs.Values.{output_of, step_of, workers_of}
@@ -65,11 +64,11 @@ request_of_values files quiet view keep (Ok e) (Ok o) (Ok m) (Ok s) (Ok w) (Ok d
       keep = keep;
     })
 
--- an option that isn't for a Boolean is refused before the other options are read
-abbrev pub request_with : Operation → List Argument → Result (List Text) Refusal → Option Setting →
+-- options and targets are refused before the other values are read
+abbrev pub request_with : Operation → List Argument → Result (List Text) Refusal → Option Refusal →
     Result Request Refusal
-request_with operation arguments (Err why) beside = Err why
-request_with operation arguments (Ok files) (Some s) = Err (NotFor s)
+request_with operation arguments (Err why) fault = Err why
+request_with operation arguments (Ok files) (Some why) = Err why
 request_with operation arguments (Ok files) None =
     request_of_values files (list_any is_quiet arguments)
     (value_in setting.Page arguments) (value_in setting.Keep arguments)
@@ -81,7 +80,7 @@ request_with operation arguments (Ok files) None =
 -- the Boolean that the arguments ask for, or the first refusal
 abbrev pub request_of : Operation → List Argument → Result Request Refusal
 request_of operation arguments =
-    request_with operation arguments (files_of (names_in arguments)) (first_beside boolean_settings arguments)
+    request_with operation arguments (files_of (names_in arguments)) (boolean_fault arguments)
 
 -- ---- a command
 abbrev pub as_command : Result Request Refusal → Result Command Refusal

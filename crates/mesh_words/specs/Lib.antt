@@ -2,6 +2,8 @@ pub mod Names
 pub mod Arguments
 pub mod Allowed
 pub mod Values
+pub mod Paths
+pub mod Targets
 pub mod Plain
 pub mod Views
 pub mod Snaps

@@ -4,21 +4,18 @@ use Rattle.std.specs.List.{list_any}
 use Rattle.mesh_words.specs.declared.command.SnapRequest.{SnapRequest}
 use Rattle.mesh_words.specs.declared.command.WantedStep.{WantedStep}
 use Rattle.mesh_words.specs.declared.faults.Refusal.{Refusal}
-use Rattle.mesh_words.specs.declared.faults.Refusal.TheVariants.{NotFor}
-use Rattle.mesh_words.specs.declared.names.Setting.{Setting}
 use Rattle.mesh_words.specs.declared.names.Setting.TheVariants as setting
 use Rattle.mesh_words.specs.declared.arguments.Argument.{Argument}
 use Rattle.mesh_words.specs.Names.{Text}
 use Rattle.mesh_words.specs.Arguments.{is_quiet, names_in, value_in}
-use Rattle.mesh_words.specs.Allowed.{first_beside, snap_settings}
+use Rattle.mesh_words.specs.Targets.{snap_fault}
 use Rattle.mesh_words.specs.Values.{files_of, folder_of, step_of}
 
--- the request of these values, or the first refusal: of the files, of an option that isn't for it, of the folder, of
--- the step
-abbrev pub snap_with : Result (List Text) Refusal → Option Setting → Result Text Refusal →
+-- the request of these values, or the first refusal: of the files, of options and targets, of the folder, of the step
+abbrev pub snap_with : Result (List Text) Refusal → Option Refusal → Result Text Refusal →
     Result WantedStep Refusal → Bool → Result SnapRequest Refusal
-snap_with (Err why) beside folder step quiet = Err why
-snap_with (Ok files) (Some s) folder step quiet = Err (NotFor s)
+snap_with (Err why) fault folder step quiet = Err why
+snap_with (Ok files) (Some why) folder step quiet = Err why
 snap_with (Ok files) None (Err why) step quiet = Err why
 snap_with (Ok files) None (Ok folder) (Err why) quiet = Err why
 snap_with (Ok files) None (Ok folder) (Ok step) quiet =
@@ -27,6 +24,6 @@ snap_with (Ok files) None (Ok folder) (Ok step) quiet =
 -- what the arguments ask for, or the first refusal
 abbrev pub snap_of : List Argument → Result SnapRequest Refusal
 snap_of arguments =
-    snap_with (files_of (names_in arguments)) (first_beside snap_settings arguments)
+    snap_with (files_of (names_in arguments)) (snap_fault arguments)
     (folder_of (value_in setting.Folder arguments)) (step_of (value_in setting.Step arguments))
     (list_any is_quiet arguments)

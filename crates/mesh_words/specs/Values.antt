@@ -43,9 +43,9 @@ abbrev pub output_of : Option Text → Result Text Refusal
 output_of None = Err NoOutput
 output_of (Some name) = Ok name
 
--- the name ends with these four bytes, in any case
+-- the name ends so, in any case
 abbrev pub ends_in : Text → Text → Bool
-ends_in ending name = str_eq_ignore_ascii_case (drop (length name - 4) name) ending
+ends_in ending name = str_eq_ignore_ascii_case (drop (length name - length ending) name) ending
 
 -- the format that a name ends as, in any case
 abbrev pub format_of : Text → Result OutputFormat Refusal

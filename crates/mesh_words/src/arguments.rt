@@ -3,7 +3,7 @@ ghost use Rattle.std.specs.Prelude.{◌≡◌, IfOk, None, map, option_map, stri
 ghost use Rattle.std.specs.Result.{result_map_both};
 ghost use Rattle.std.specs.List.{list_any};
 ghost use Rattle.mesh_words.specs.Names.{setting_of};
-ghost use Rattle.mesh_words.specs.Arguments.{attached_in, said_by, said_alone, said, is_help, arguments_from, value_for, value_in, names_in, is_quiet, asks_help};
+ghost use Rattle.mesh_words.specs.Arguments.{attached_in, said_by, said_alone, said, is_help, arguments_from, value_for, value_in, names_in, inputs_in, is_quiet, asks_help};
 ghost use Rattle.mesh_words.specs.Commands.{Reads};
 
 use crate::faults::{Refusal, WordsFault};
@@ -115,7 +115,8 @@ pub fn arguments_of(alloc: Global, words: &[String]) -> Result<Vec<Argument>, Wo
 }
 
 impl Argument {
-    fn value_for(&self, setting: Setting) -> Option<&Text>
+    /// The value of the option, if this is the option.
+    pub fn value_for(&self, setting: Setting) -> Option<&Text>
         ensures { option_map (λ text. text.now) result ≡ value_for setting self.now }
     {
         match self {
@@ -174,6 +175,17 @@ pub fn names_in(alloc: Global, arguments: &[Argument]) -> Result<Texts, AllocErr
         if let Argument::File(name) = argument {
             names.push(copied(alloc, name.as_str())?)?;
         }
+    }
+    Ok(Texts::of(names))
+}
+
+/// Copies of the names of what the command reads: the files, and the grid of a document.
+pub fn inputs_in(alloc: Global, arguments: &[Argument]) -> Result<Texts, AllocError>
+    ensures { IfOk result (λ names. names ≡ inputs_in arguments.now) }
+{
+    let mut names = names_in(alloc, arguments)?.into_vec();
+    if let Some(scene) = value_in(arguments, Setting::Scene) {
+        names.push(copied(alloc, scene.as_str())?)?;
     }
     Ok(Texts::of(names))
 }

@@ -77,7 +77,7 @@ pub struct ExportRequest {
 /// A page that shows meshes. There are 1 to 64 files.
 #[derive(Drop)]
 pub struct ViewRequest {
-    /// The name of the page, with any ending.
+    /// The name of the page, which ends in `.html` or `.htm`.
     pub output: Text,
     /// The names of the mesh files.
     pub files: Texts,

@@ -3,11 +3,11 @@ ghost use Rattle.std.specs.Prelude.{◌≡◌, ◌≤◌, IfOk, IfSome};
 ghost use Rattle.mesh_words.specs.Commands.{Reads};
 ghost use Rattle.mesh_words.specs.Exports.{document_of, export_of};
 
-use crate::allowed::{EXPORT_SETTINGS, first_beside};
 use crate::arguments::{Argument, are_quiet, names_in, value_in};
 use crate::command::ExportRequest;
 use crate::faults::{Refusal, WordsFault};
 use crate::names::Setting;
+use crate::targets::export_fault;
 use crate::texts::copied;
 use crate::values::{digits, format_of, optional, output};
 use ember_words::{Text, Texts};
@@ -23,15 +23,15 @@ fn document(alloc: Global, names: &Texts) -> Result<Text, WordsFault>
     }
 }
 
-/// The request that the arguments of `export` make. Refuses any number of file names but one, an
-/// option that `export` doesn't take, a missing or wrong output and wrong digits, in this order.
+/// The request that the arguments of `export` make. Refuses any number of file names but one, wrong
+/// options, a wrong page, a missing or wrong output and wrong digits, in this order.
 pub fn export_of(alloc: Global, arguments: &[Argument]) -> Result<ExportRequest, WordsFault>
     ensures value { Reads (export_of arguments.now) result }
     ensures digits { IfOk result (λ request. IfSome request.digits (λ n. n ≤ 17)) }
 {
     let document = document(alloc, &names_in(alloc, arguments)?)?;
-    if let Some(setting) = first_beside(&EXPORT_SETTINGS, arguments) {
-        return Err(WordsFault::Refused(Refusal::NotFor(setting)));
+    if let Some(why) = export_fault(alloc, arguments)? {
+        return Err(WordsFault::Refused(why));
     }
     let output = output(alloc, value_in(arguments, Setting::Output))?;
     let format = format_of(output.as_str())?;

@@ -37,6 +37,16 @@ pub enum Refusal {
     /// The command doesn't take this option.
     #[error("the option is not for this command; see ember-mesh help")]
     NotFor(Setting),
+    /// An option that names what is written has two values.
+    #[error("the option is given twice; see ember-mesh help")]
+    Twice(Setting),
+    /// The page that the option names ends neither in `.html` nor in `.htm`.
+    #[error("the name of the page must end in .html or .htm")]
+    PageEnding(Setting),
+    /// The page that the option names, or a file in its folder, is the input with this number, from
+    /// 0. The file that `--scene` names counts behind the others.
+    #[error("a file that is read would be written over; give another name")]
+    OverInput(Setting, usize),
     /// `export` has no file name, or more than one.
     #[error("export takes one document; see ember-mesh help")]
     NotOneDocument,

@@ -10,9 +10,11 @@ mod faults;
 mod given;
 mod names;
 mod numbers;
+mod paths;
 mod plain;
 mod reading;
 mod snaps;
+mod targets;
 mod texts;
 mod values;
 mod views;
@@ -21,6 +23,6 @@ pub use command::{
     Command, ExportRequest, OutputFormat, Request, SnapRequest, ViewRequest, WantedStep,
 };
 pub use faults::{Refusal, WordsFault};
-pub use given::{output_given, step_given};
+pub use given::{input_given, output_given, step_given, value_given};
 pub use names::Setting;
 pub use reading::read_words;

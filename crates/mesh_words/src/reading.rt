@@ -4,7 +4,6 @@ ghost use Rattle.mesh_words.specs.Commands.{Reads, request_of, command_with, sna
 ghost use Rattle.mesh_words.specs.Arguments.{arguments_from};
 ghost use Rattle.mesh_words.specs.Spelling.{name_of, spelling_of, AreSpelled};
 
-use crate::allowed::{BOOLEAN_SETTINGS, first_beside};
 use crate::arguments::{Argument, are_quiet, arguments_of, ask_help, names_in, value_in};
 use crate::command::{Command, Request};
 use crate::exports::export_of;
@@ -12,6 +11,7 @@ use crate::faults::{Refusal, WordsFault};
 use crate::names::{Operation, Setting, Verb};
 use crate::plain::{are_for_help, first_option, plain_names};
 use crate::snaps::snap_of;
+use crate::targets::boolean_fault;
 use crate::values::{counted, digits, expression, format_of, optional, output, step, workers};
 use crate::views::view_of;
 use std::alloc::Global;
@@ -26,8 +26,8 @@ fn request_of(
     ensures limits { IfOk result IsWithinLimits }
 {
     let files = counted(names_in(alloc, arguments)?)?;
-    if let Some(setting) = first_beside(&BOOLEAN_SETTINGS, arguments) {
-        return Err(WordsFault::Refused(Refusal::NotFor(setting)));
+    if let Some(why) = boolean_fault(alloc, arguments)? {
+        return Err(WordsFault::Refused(why));
     }
     let given = value_in(arguments, Setting::Expression);
     let expression = expression(alloc, operation, files.items().len(), given)?;
@@ -147,9 +147,13 @@ fn read(alloc: Global, words: &[String]) -> Result<Command, WordsFault>
 /// The command that the words after the program's name give.
 ///
 /// The first word names the command. Options and file names follow it in any order. An option's
-/// value is the next word, whatever this is, or follows an equals sign, as in `--step=0.02`; of
-/// several values of one option the last one counts. Any other word that begins with a hyphen is
-/// refused.
+/// value is the next word, whatever this is, or follows an equals sign, as in `--step=0.02`. A second
+/// value of an option that names what is written (`-o`, `-d`, `--view`, `--keep`) is refused; of
+/// several values of another option the last one counts. Any other word that begins with a hyphen
+/// is refused.
+///
+/// A page has a name that ends in `.html` or `.htm`. No page, and no file that `snap` and `--keep`
+/// write into their folder, may have the same path as a file that the command reads.
 ///
 /// A Boolean takes `--expr`, `-o`, `--step`, `--workers`, `--digits`, `--view` and `--keep`; `snap`
 /// takes `-d` and `--step`; `export` takes `--scene`, `-o`, `--digits` and `--view`; `view` takes
@@ -160,7 +164,8 @@ fn read(alloc: Global, words: &[String]) -> Result<Command, WordsFault>
 /// `--version` is a first word alone. The words after these first words aren't read.
 ///
 /// The first refusal counts: of the first word; of the words in their order; and then of the files,
-/// of the first option that the command doesn't take, of the expression, the output or the folder,
+/// of the first option that the command doesn't take, of a second name of what is written, of the
+/// page, of inputs in the folder, of the expression, the missing or wrong output or missing folder,
 /// the step, the workers and the digits.
 ///
 /// Arguments that are spelled as words, with each value in a word of its own and no hyphen at the

@@ -79,11 +79,11 @@ pub fn output(alloc: Global, given: Option<&Text>) -> Result<Text, WordsFault>
     }
 }
 
-// Whether a name ends in these four bytes, in any case.
-fn ends_in(ending: &[u8], name: &[u8]) -> bool
+/// Whether the name ends so, in any case.
+pub fn ends_in(ending: &[u8], name: &[u8]) -> bool
     ensures { result ≡ ends_in ending.now name.now }
 {
-    let end = name.split_at(name.len().saturating_sub(4)).1;
+    let end = name.split_at(name.len().saturating_sub(ending.len())).1;
     end.eq_ignore_ascii_case(ending)
 }
 

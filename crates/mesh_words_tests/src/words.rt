@@ -4,3 +4,5 @@
 mod command_lines;
 #[cfg(test)]
 mod refusals;
+#[cfg(test)]
+mod written_over;

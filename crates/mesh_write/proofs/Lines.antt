@@ -121,7 +121,7 @@ word_step : (p : ℕ) (w rest : List ℕ) → IsWord w → before is_separator r
     words_from p (w ++ rest) [] ≡ piece p w ∷ words_from (p + length w) rest []
 word_step p w rest h none all =
     let clear = All-weaker IsInWord (λ b. is_separator b ≡ false) no_separator w h.bytes in
-    word_cut p p (p + length w) (w ++ rest) w rest (front_some w rest h.some) (first_byte w rest h)
+    word_cut is_separator p p (p + length w) (w ++ rest) w rest (front_some w rest h.some) (first_byte w rest h)
     (sym (before_all is_separator w rest clear none)) (sym (onward_run is_separator w rest clear ∙ all)) refl refl
 
 pub joined_words : (p : ℕ) (w : List ℕ) (ws : List (List ℕ)) → IsWord w → All IsWord ws → texts (words_from p (joined w ws) []) ≡ w ∷ ws

@@ -3,7 +3,7 @@ use Rattle.std.specs.Prelude.{ℕ, ◌-◌, Bool, true, ◌&&◌, ◌||◌, List
 use Rattle.std.specs.Prelude.{length, drop, codes}
 use Rattle.std.specs.List.{starts_with}
 use Rattle.std.specs.Str.{str_eq_ignore_ascii_case}
-use Rattle.mesh_read.specs.Stl.Scan.{words_from}
+use Rattle.mesh_read.specs.Scan.Parts.{is_space, words_by}
 use Rattle.mesh_read.specs.Stl.ReadStl.{is_binary, is_ascii, begins_with}
 use Rattle.mesh_file.specs.declared.format.format.Format.{Format}
 use Rattle.mesh_file.specs.declared.format.format.Format.TheVariants.{Ply, BinaryStl, AsciiStl, Off, CutOffStl, Obj}
@@ -20,9 +20,9 @@ is_ply bytes = starts_with nat_eq bytes (codes "ply") && ends_line (drop 3 bytes
 -- the first word is OFF, COFF or NOFF, in any case
 abbrev pub is_off : List ℕ → Bool
 is_off bytes =
-    begins_with (codes "OFF") (words_from 0 bytes)
-    || begins_with (codes "COFF") (words_from 0 bytes)
-    || begins_with (codes "NOFF") (words_from 0 bytes)
+    begins_with (codes "OFF") (words_by is_space 0 bytes [])
+    || begins_with (codes "COFF") (words_by is_space 0 bytes [])
+    || begins_with (codes "NOFF") (words_by is_space 0 bytes [])
 
 -- the name ends in .stl, in any case
 abbrev pub has_stl_name : List ℕ → Bool

@@ -43,10 +43,12 @@ fn put_stl_reason(bytes: &[u8], fault: &StlFault, text: &mut String) -> Result<(
         StlFault::NotThreeVertices(line) => put_at("line", *line, NOT_THREE_VERTICES, text),
         StlFault::EndsInFacet(_) => text.push_str(ENDS_IN_FACET),
         StlFault::UnknownWord(line, word) => {
-            put_unknown_word(*line, between(bytes, word.start, word.end), text)
+            let word = between(bytes, word.start as usize, word.end as usize);
+            put_unknown_word(*line, word, text)
         }
         StlFault::NotANumber(line, word) => {
-            put_not_a_number(*line, between(bytes, word.start, word.end), text)
+            let word = between(bytes, word.start as usize, word.end as usize);
+            put_not_a_number(*line, word, text)
         }
         StlFault::FewCoordinates(line) => put_at("line", *line, FEW_COORDINATES, text),
         StlFault::NoTriangles => text.push_str(NO_TRIANGLES),

@@ -1,6 +1,8 @@
 -- Parts of a file: its lines and their words, each with its place
-use Rattle.std.specs.Prelude.{ℕ, ◌+◌, ◌-◌, Bool, ◌||◌, List, [], ◌∷◌, ◌++◌, if◌then◌else◌, ◌==◌, length}
-use Rattle.std.specs.Prelude.{drop, zero, suc, Option, None, Some}
+use Rattle.std.specs.Prelude.{ℕ, ◌+◌, ◌-◌, Bool, ◌||◌, ◌&&◌, List, [], ◌∷◌, ◌++◌, if◌then◌else◌, ◌==◌, nat_le}
+use Rattle.std.specs.Prelude.{length, drop, zero, suc, Option, None, Some}
+use Rattle.mesh_read.specs.declared.scan.blanks.Blanks.{Blanks}
+use Rattle.mesh_read.specs.declared.scan.blanks.Blanks.TheVariants.{InLine, Any}
 use Rattle.mesh_read.specs.declared.scan.part.Part.{Part}
 use Rattle.mesh_read.specs.declared.scan.part.Span.{Span}
 
@@ -66,24 +68,41 @@ uncommented line = record line { text = before is_hash line.text }
 abbrev pub is_separator : ℕ → Bool
 is_separator b = b == 32 || b == 9 || b == 13
 
+-- a space, or one of tab, line feed, vertical tab, form feed and carriage return
+abbrev pub is_space : ℕ → Bool
+is_space b = b == 32 || nat_le 9 b && nat_le b 13
+
+-- a byte that separates words
+abbrev pub is_blank : Blanks → ℕ → Bool
+is_blank InLine = is_separator
+is_blank Any = is_space
+
 -- the words with this one in front of them, which ends at this place, if it has a byte
 abbrev pub with_word_ending : ℕ → List ℕ → List Piece → List Piece
 with_word_ending end [] words = words
 with_word_ending end (b ∷ bs) words = record { start = end - length (b ∷ bs); text = b ∷ bs } ∷ words
 
--- the words of a text that starts at this place, where `begun` is the word that is open
+-- the words that these bytes separate, of a text that starts at this place, where `begun` is the word that is open
+abbrev pub words_by : (ℕ → Bool) → ℕ → List ℕ → List ℕ → List Piece
+words_by blank place [] begun = with_word_ending place begun []
+words_by blank place (b ∷ bs) begun =
+    if blank b
+    then with_word_ending place begun (words_by blank (place + 1) bs [])
+    else words_by blank (place + 1) bs (begun ++ b ∷ [])
+
+-- the words of a part
+abbrev pub words_between : Blanks → Part → List Piece
+words_between blanks p = words_by (is_blank blanks) p.start p.bytes.now []
+
+-- the same in a line
 abbrev pub words_from : ℕ → List ℕ → List ℕ → List Piece
-words_from place [] begun = with_word_ending place begun []
-words_from place (b ∷ bs) begun =
-    if is_separator b
-    then with_word_ending place begun (words_from (place + 1) bs [])
-    else words_from (place + 1) bs (begun ++ b ∷ [])
+words_from place text begun = words_by is_separator place text begun
 
 -- the words of a line
 abbrev pub words_of : Piece → List Piece
 words_of line = words_from line.start line.text []
 
--- the words of a part
+-- the words of a part of a line
 abbrev pub words_in : Part → List Piece
 words_in p = words_of (piece_of p)
 

@@ -5,6 +5,7 @@ use Rattle.std.specs.Option.{option_map}
 use Rattle.std.specs.Str.{str_eq_ignore_ascii_case}
 use Rattle.mesh_number.specs.Number.Fractions.{Fraction}
 use Rattle.mesh_number.specs.Number.Texts.{value_of_text}
+use Rattle.mesh_read.specs.Scan.Parts.{Piece, span_of, lines_from, is_space, words_by, first_three}
 use Rattle.mesh_read.specs.Surface.Surfaces.{Point, Content, point_of, content_of}
 use Rattle.mesh_read.specs.declared.stl.fault.StlFault.{StlFault}
 use Rattle.mesh_read.specs.declared.stl.fault.StlFault.TheVariants.{VertexOutside, NotThreeVertices}
@@ -13,7 +14,6 @@ use Rattle.mesh_read.specs.declared.stl.fault.StlFault.TheVariants.{FewCoordinat
 use Rattle.mesh_read.specs.declared.stl.keyword.Keyword.{Keyword}
 use Rattle.mesh_read.specs.declared.stl.keyword.Keyword.TheVariants as keyword
 use Rattle.mesh_read.specs.declared.stl.ascii.Reader.{Reader}
-use Rattle.mesh_read.specs.Stl.Scan.{Word, span_of, first_three, Line, lines_of}
 use Rattle.mesh_read.specs.Stl.Facets.{nothing, with_triangle}
 
 -- ---- words
@@ -34,12 +34,12 @@ keyword_of word =
     else (if is_passed word then keyword.Passed else keyword.Unknown)))
 
 -- ---- coordinates
-abbrev pub value_or_fault : ℕ → Word → Option Fraction → Result Fraction StlFault
+abbrev pub value_or_fault : ℕ → Piece → Option Fraction → Result Fraction StlFault
 value_or_fault line word None = Err (NotANumber line (span_of word))
 value_or_fault line word (Some value) = Ok value
 
 -- the value of a word, or its fault
-abbrev pub coordinate_of : ℕ → Word → Result Fraction StlFault
+abbrev pub coordinate_of : ℕ → Piece → Result Fraction StlFault
 coordinate_of line word = value_or_fault line word (value_of_text word.text)
 
 -- the point of three coordinates, or the fault of the first that has one
@@ -51,7 +51,7 @@ point_of_three (Ok x) (Err fault) z = Err fault
 point_of_three (Err fault) y z = Err fault
 
 -- the point of three words, if there are that many
-abbrev pub vertex_in : ℕ → Option (Word × Word × Word) → Result Point StlFault
+abbrev pub vertex_in : ℕ → Option (Piece × Piece × Piece) → Result Point StlFault
 vertex_in line None = Err (FewCoordinates line)
 vertex_in line (Some t) =
     point_of_three (coordinate_of line t.0) (coordinate_of line t.1) (coordinate_of line t.2)
@@ -87,11 +87,11 @@ with_corner state opened (Err fault) = Err fault
 with_corner state opened (Ok p) =
     Ok (record state { opened = Some (record { line = opened.line; corners = opened.corners ++ p ∷ [] }) })
 
-abbrev pub with_vertex_in : ℕ → List Word → State → Option Opened → Result State StlFault
+abbrev pub with_vertex_in : ℕ → List Piece → State → Option Opened → Result State StlFault
 with_vertex_in line words state None = Err (VertexOutside line)
 with_vertex_in line words state (Some opened) = with_corner state opened (vertex_in line (first_three words))
 
-abbrev pub with_vertex : ℕ → List Word → State → Result State StlFault
+abbrev pub with_vertex : ℕ → List Piece → State → Result State StlFault
 with_vertex line words state = with_vertex_in line words state state.opened
 
 abbrev pub with_corners : ℕ → State → ℕ → List Point → Result State StlFault
@@ -107,7 +107,7 @@ abbrev pub with_end : ℕ → State → Result State StlFault
 with_end line state = with_end_of line state state.opened
 
 -- what is read after a line with this keyword
-abbrev pub after_keyword : ℕ → Word → List Word → State → Keyword → Result State StlFault
+abbrev pub after_keyword : ℕ → Piece → List Piece → State → Keyword → Result State StlFault
 after_keyword line word words state keyword.Facet = Ok (with_facet line state)
 after_keyword line word words state keyword.Vertex = with_vertex line words state
 after_keyword line word words state keyword.EndFacet = with_end line state
@@ -115,9 +115,24 @@ after_keyword line word words state keyword.Passed = Ok state
 after_keyword line word words state keyword.Unknown = Err (UnknownWord line (span_of word))
 
 -- what is read after a line with these words
-abbrev pub after_words : ℕ → State → List Word → Result State StlFault
+abbrev pub after_words : ℕ → State → List Piece → Result State StlFault
 after_words line state [] = Ok state
 after_words line state (word ∷ words) = after_keyword line word words state (keyword_of word.text)
+
+-- a line with its number from 1 and the words on it
+pub record Line : Type 0 where
+  pub number : ℕ
+  pub words : List Piece
+
+-- these lines; the first has this number
+abbrev pub numbered : ℕ → List Piece → List Line
+numbered number [] = []
+numbered number (line ∷ lines) =
+    record { number = number; words = words_by is_space line.start line.text [] } ∷ numbered (number + 1) lines
+
+-- the lines of a file
+abbrev pub lines_of : List ℕ → List Line
+lines_of bytes = numbered 1 (lines_from 0 bytes)
 
 -- what is read after all these lines: a fault stays the file's fault
 abbrev pub after_lines : Result State StlFault → List Line → Result State StlFault

@@ -3,10 +3,10 @@ use Rattle.std.specs.Prelude.{ℕ, ◌+◌, ◌*◌, Bool, true, false, ◌&&◌
 use Rattle.std.specs.Prelude.{Some, Result, Ok, Err, if◌then◌else◌, ◌==◌, nat_le, length, take, codes}
 use Rattle.std.specs.Str.{str_eq_ignore_ascii_case}
 use Rattle.mesh_read.specs.declared.surface.surface.Facet.{Facet}
+use Rattle.mesh_read.specs.Scan.Parts.{Piece, is_space, words_by}
 use Rattle.mesh_read.specs.Surface.Surfaces.{Content}
 use Rattle.mesh_read.specs.declared.stl.fault.StlFault.{StlFault}
 use Rattle.mesh_read.specs.declared.stl.fault.StlFault.TheVariants.{CutOff, NoTriangles, LargeInFacet, LargeInLine}
-use Rattle.mesh_read.specs.Stl.Scan.{Word, words_from}
 use Rattle.mesh_read.specs.Stl.Facets.{first_far}
 use Rattle.mesh_read.specs.Stl.Ascii.{ascii_of}
 use Rattle.mesh_read.specs.Stl.Binary.{number_at, binary_of}
@@ -16,7 +16,7 @@ abbrev pub is_binary : List ℕ → Bool
 is_binary bytes = nat_le 84 (length bytes) && length bytes == 84 + 50 * number_at bytes 80
 
 -- the first word is this one, in any case
-abbrev pub begins_with : List ℕ → List Word → Bool
+abbrev pub begins_with : List ℕ → List Piece → Bool
 begins_with name [] = false
 begins_with name (word ∷ words) = str_eq_ignore_ascii_case word.text name
 
@@ -28,7 +28,7 @@ has_name name (b ∷ bs) = str_eq_ignore_ascii_case (take (length name) (b ∷ b
 -- the first word is `solid`, and `facet` or `endsolid` occurs in the first 4,096 bytes
 abbrev pub is_ascii : List ℕ → Bool
 is_ascii bytes =
-    begins_with (codes "solid") (words_from 0 bytes)
+    begins_with (codes "solid") (words_by is_space 0 bytes [])
     && (has_name (codes "facet") (take 4096 bytes) || has_name (codes "endsolid") (take 4096 bytes))
 
 -- how many facets the file says that it has, if it is long enough to say so

@@ -1,10 +1,19 @@
-// The range of a part, and its two parts.
-ghost use Rattle.std.specs.Prelude.{◌≡◌, ◌+◌, ◌≤◌, length, take, drop};
+// A file as a part, the range of a part, and its two parts.
+ghost use Rattle.std.specs.Prelude.{◌≡◌, ◌+◌, ◌<◌, ◌≤◌, ◌^◌, length, take, drop};
 ghost use Rattle.mesh_read.specs.Scan.Parts.{span_of, piece_of};
 
 use crate::scan::part::{Part, Span};
 
 impl<'a> Part<'a> {
+    /// All bytes of a file.
+    pub fn of_file(bytes: &'a [u8]) -> Part<'a>
+        requires { length bytes.now < 2 ^ 31 }
+        ensures start { result.start ≡ 0 }
+        ensures bytes { result.bytes.now ≡ bytes.now }
+    {
+        Part { start: 0, bytes }
+    }
+
     /// The range of these bytes.
     pub fn span(&self) -> Span
         ensures { result ≡ span_of (piece_of self.now) }

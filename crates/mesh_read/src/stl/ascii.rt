@@ -1,38 +1,37 @@
 // The lines of an ASCII STL.
 ghost use Rattle.std.specs.Prelude.{◌≡◌, ◌≢◌, ◌+◌, ◌^◌, ◌<◌, ◌≤◌, [], ◌∷◌, length, Ok, Err, OnOk, IfOk, IfErr, MatchOption};
 ghost use Rattle.mesh_number.specs.Number.Values.{value_of};
+ghost use Rattle.mesh_read.specs.Scan.Parts.{piece_of, words_between, first_three};
+ghost use Rattle.mesh_read.specs.declared.scan.blanks.Blanks.TheVariants.{Any};
 ghost use Rattle.mesh_read.specs.Surface.Surfaces.{point_of, content_of, IsSurface};
-ghost use Rattle.mesh_read.specs.Stl.Scan.{EndsWithinFile, word_of, words_in, first_three};
 ghost use Rattle.mesh_read.specs.Stl.Facets.{IsErrorOf};
 ghost use Rattle.mesh_read.specs.Stl.Ascii.{state_of, coordinate_of, vertex_in, with_vertex, with_end};
 ghost use Rattle.mesh_read.specs.Stl.Ascii.{after_words, state_ended, vertex_count, ascii_of};
 
+use crate::scan::{Blanks, Part, next_line, next_word_between, three_words};
 use crate::stl::facets::push_triangle;
 use crate::stl::fault::StlFault;
 use crate::stl::keyword::{Keyword, keyword_in};
-use crate::stl::scan::{Text, next_line, next_word, span, three_words};
 use crate::surface::{Surface, Vertex};
 use mesh_number::{Number, read_decimal};
 use std::alloc::Global;
 
-fn read_coordinate<'a>(line: u32, word: Text<'a>) -> Result<Number<'a>, StlFault>
-    requires { EndsWithinFile word }
-    ensures ok { IfOk result (λ n. coordinate_of line (word_of word.entry) ≡ Ok (value_of n)) }
-    ensures fault { IfErr result (λ e. coordinate_of line (word_of word.entry) ≡ Err e) }
+fn read_coordinate<'a>(line: u32, word: Part<'a>) -> Result<Number<'a>, StlFault>
+    ensures ok { IfOk result (λ n. coordinate_of line (piece_of word.entry) ≡ Ok (value_of n)) }
+    ensures fault { IfErr result (λ e. coordinate_of line (piece_of word.entry) ≡ Err e) }
 {
     match read_decimal(word.bytes) {
         Some(number) => Ok(number),
-        None => Err(StlFault::NotANumber(line, span(word))),
+        None => Err(StlFault::NotANumber(line, word.span())),
     }
 }
 
 // The vertex that the words of a text give.
-fn read_vertex<'a>(line: u32, words: Text<'a>) -> Result<Vertex<'a>, StlFault>
-    requires { EndsWithinFile words }
-    ensures ok { IfOk result (λ v. vertex_in line (first_three (words_in words.entry)) ≡ Ok (point_of v)) }
-    ensures fault { IfErr result (λ e. vertex_in line (first_three (words_in words.entry)) ≡ Err e) }
+fn read_vertex<'a>(line: u32, words: Part<'a>) -> Result<Vertex<'a>, StlFault>
+    ensures ok { IfOk result (λ v. vertex_in line (first_three (words_between Any words.entry)) ≡ Ok (point_of v)) }
+    ensures fault { IfErr result (λ e. vertex_in line (first_three (words_between Any words.entry)) ≡ Err e) }
 {
-    let Some((x, y, z)) = three_words(words) else {
+    let Some((x, y, z)) = three_words(words, Blanks::Any) else {
         return Err(StlFault::FewCoordinates(line));
     };
     let x = read_coordinate(line, x)?;
@@ -65,11 +64,10 @@ struct Reader<'a> {
 }
 
 impl<'a> Reader<'a> {
-    fn add_vertex(&mut self, line: u32, words: Text<'a>) -> Result<(), StlFault>
-        requires text { EndsWithinFile words }
-        ensures ok { OnOk result (with_vertex line (words_in words.entry) (state_of self.old) ≡
+    fn add_vertex(&mut self, line: u32, words: Part<'a>) -> Result<(), StlFault>
+        ensures ok { OnOk result (with_vertex line (words_between Any words.entry) (state_of self.old) ≡
             Ok (state_of self.new)) }
-        ensures fault { IfErr result (IsErrorOf (with_vertex line (words_in words.entry) (state_of self.old))) }
+        ensures fault { IfErr result (IsErrorOf (with_vertex line (words_between Any words.entry) (state_of self.old))) }
         ensures surface { self.new.surface ≡ self.old.surface }
         ensures count { OnOk result (length self.new.corners.items ≡ length self.old.corners.items + 1) }
     {
@@ -108,16 +106,15 @@ impl<'a> Reader<'a> {
 
     // Reads one line.
     #[tactic(none)]
-    fn add_line(&mut self, line: u32, text: Text<'a>) -> Result<(), StlFault>
-        requires text { EndsWithinFile text }
+    fn add_line(&mut self, line: u32, text: Part<'a>) -> Result<(), StlFault>
         requires few { vertex_count self.old + 4 < 2 ^ 32 }
         requires surface { IsSurface self.old.surface }
-        ensures ok { OnOk result (after_words line (state_of self.old) (words_in text.entry) ≡ Ok (state_of self.new)) }
-        ensures fault { IfErr result (IsErrorOf (after_words line (state_of self.old) (words_in text.entry))) }
+        ensures ok { OnOk result (after_words line (state_of self.old) (words_between Any text.entry) ≡ Ok (state_of self.new)) }
+        ensures fault { IfErr result (IsErrorOf (after_words line (state_of self.old) (words_between Any text.entry))) }
         ensures surface { OnOk result (IsSurface self.new.surface) }
         ensures count { OnOk result (vertex_count self.new ≤ vertex_count self.old + 1) }
     {
-        let Some((word, words)) = next_word(text) else {
+        let Some((word, words)) = next_word_between(text, Blanks::Any) else {
             return Ok(());
         };
         match keyword_in(word.bytes) {
@@ -129,7 +126,7 @@ impl<'a> Reader<'a> {
             Keyword::Vertex => self.add_vertex(line, words),
             Keyword::EndFacet => self.close_facet(line),
             Keyword::Passed => Ok(()),
-            Keyword::Unknown => Err(StlFault::UnknownWord(line, span(word))),
+            Keyword::Unknown => Err(StlFault::UnknownWord(line, word.span())),
         }
     }
 
@@ -163,7 +160,7 @@ pub(crate) fn read_ascii(alloc: Global, bytes: &[u8]) -> Result<Surface<'_>, Stl
         opened: None,
         corners: Vec::new(alloc),
     };
-    let mut rest = Text { start: 0, bytes };
+    let mut rest = Part::of_file(bytes);
     let mut number = 1;
     while let Some((line, after)) = next_line(rest) {
         reader.add_line(number, line)?;

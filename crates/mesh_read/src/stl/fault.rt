@@ -1,12 +1,6 @@
 // What makes a file no mesh.
+use crate::scan::Span;
 use thiserror::Error;
-
-/// The range of bytes of a word in the file: from `start` on, up to and without `end`.
-#[derive(Clone, Copy, Debug, PartialEq, Eq)]
-pub struct WordPlace {
-    pub start: usize,
-    pub end: usize,
-}
 
 /// The first fault of a file, with its line or facet from 1, or out-of-memory.
 #[derive(Clone, Copy, Debug, PartialEq, Eq, Error)]
@@ -28,10 +22,10 @@ pub enum StlFault {
     EndsInFacet(u32),
     /// This word begins a line, and isn't a word of STL.
     #[error("line {0}: word is none of STL")]
-    UnknownWord(u32, WordPlace),
+    UnknownWord(u32, Span),
     /// This word is in the place of a coordinate, and isn't one.
     #[error("line {0}: coordinate is not a number")]
-    NotANumber(u32, WordPlace),
+    NotANumber(u32, Span),
     #[error("line {0}: fewer than three coordinates")]
     FewCoordinates(u32),
     #[error("no triangles in it")]

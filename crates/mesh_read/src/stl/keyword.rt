@@ -1,8 +1,7 @@
 // The words that lines of an ASCII STL begin with.
 ghost use Rattle.std.specs.Prelude.{◌≡◌};
+ghost use Rattle.std.specs.Str.{str_eq_ignore_ascii_case};
 ghost use Rattle.mesh_read.specs.Stl.Ascii.{is_passed, keyword_of};
-
-use crate::stl::scan::is_same_word;
 
 #[derive(Clone, Copy)]
 pub(crate) enum Keyword {
@@ -11,6 +10,13 @@ pub(crate) enum Keyword {
     EndFacet,
     Passed,
     Unknown,
+}
+
+// Whether the texts differ at most in case.
+pub(crate) fn is_same_word(one: &[u8], other: &[u8]) -> bool
+    ensures { result ≡ str_eq_ignore_ascii_case one.now other.now }
+{
+    one.eq_ignore_ascii_case(other)
 }
 
 // Whether a line that begins with the word is passed over.

@@ -1,12 +1,13 @@
 // Which form of STL a file has.
-ghost use Rattle.std.specs.Prelude.{◌≡◌, ◌+◌, ◌*◌, ◌≤◌, length, take};
+ghost use Rattle.std.specs.Prelude.{◌≡◌, ◌+◌, ◌*◌, ◌≤◌, [], length, take};
 ghost use Rattle.std.specs.Bool.{OnTrue};
 ghost use Rattle.std.specs.Str.{str_eq_ignore_ascii_case};
-ghost use Rattle.mesh_read.specs.Stl.Scan.{words_from};
+ghost use Rattle.mesh_read.specs.Scan.Parts.{is_space, words_by};
 ghost use Rattle.mesh_read.specs.Stl.Binary.{number_at};
 ghost use Rattle.mesh_read.specs.Stl.ReadStl.{is_binary, is_ascii, begins_with, has_name, facets_said};
 
-use crate::stl::scan::{Text, is_same_word, next_word};
+use crate::scan::{Blanks, Part, next_word_between};
+use crate::stl::keyword::is_same_word;
 
 // The bytes of a binary STL before its first facet.
 pub(crate) const HEADER: usize = 84;
@@ -86,9 +87,9 @@ fn has(text: &[u8], name: &[u8]) -> bool
 /// tab to carriage return.
 pub fn begins_with_word(bytes: &[u8], name: &[u8]) -> bool
     requires { length bytes.now ≤ 268435456 }
-    ensures { result ≡ begins_with name.now (words_from 0 bytes.now) }
+    ensures { result ≡ begins_with name.now (words_by is_space 0 bytes.now []) }
 {
-    match next_word(Text { start: 0, bytes }) {
+    match next_word_between(Part::of_file(bytes), Blanks::Any) {
         Some((word, _)) => is_same_word(word.bytes, name),
         None => false,
     }

@@ -20,7 +20,7 @@ pub(crate) fn plane(numbers: [i16; 4]) -> Plane
 }
 
 // What becomes of a part.
-#[derive(Clone, Copy, Debug, PartialEq, Eq)]
+#[derive(Clone, Copy, PartialEq, Eq)]
 enum Outcome {
     Certified,
     Refused,
@@ -54,11 +54,6 @@ fn coordinates_at(sheet: usize, place: (i16, i16)) -> [i32; 3] {
         1 => [y, 0, x],
         _ => [x.wrapping_add(y).wrapping_neg(), x, y],
     }
-}
-
-fn corner_at(sheet: usize, place: (i16, i16)) -> SpacePoint {
-    let [x, y, z] = coordinates_at(sheet, place);
-    thirds(x, y, z)
 }
 
 fn moment(y: i64, dz: i64, z: i64, dy: i64) -> i128 {
@@ -164,7 +159,8 @@ fn push_side(
 fn corners_of(alloc: Global, sheet: usize, places: &[(i16, i16)]) -> Result<Vec<SpacePoint>, Fail> {
     let mut corners = Vec::new(alloc);
     for place in places {
-        corners.push(corner_at(sheet, *place))?;
+        let [x, y, z] = coordinates_at(sheet, *place);
+        corners.push(thirds(x, y, z))?;
     }
     Ok(corners)
 }
@@ -246,8 +242,35 @@ fn outcome_of_rings(alloc: Global, sheet: usize, rings: &[&[u32]]) -> Result<Out
     outcome_of(alloc, sheet, &SQUARES, &boundary)
 }
 
+// Parts that are cut into triangles.
+const PARTS: [&[&[u32]]; 9] = [
+    &[&[0, 1, 2]],
+    &[&[0, 1, 2, 3]],
+    // A quadrangle that is cut by only one of its diagonals.
+    &[&[0, 9, 2, 7]],
+    &[&[0, 9, 1, 2]],
+    // A hole, an island in it, and a part with three holes.
+    &[&[0, 1, 2, 3], &[7, 6, 5, 4]],
+    &[&[0, 1, 2, 3], &[7, 6, 5, 4], &[8, 9, 10, 11]],
+    // Two squares and two holes that have a corner in common.
+    &[&[4, 9, 10, 11], &[10, 1, 2]],
+    &[&[0, 1, 2, 3], &[4, 7, 8], &[8, 6, 5]],
+    &[&[0, 12, 1, 2, 3], &[12, 4, 8]],
+];
+
 #[test]
 fn parts_of_squares(rt: HostRuntime) -> Result<(), Fail> {
+    for sheet in 0..3 {
+        for rings in PARTS {
+            let outcome = outcome_of_rings(rt.alloc(), sheet, rings)?;
+            assert!(rt; outcome == Outcome::Certified, "{rings:?} of sheet {sheet}");
+        }
+    }
+    Ok(())
+}
+
+#[test]
+fn parts_that_are_not_cut(rt: HostRuntime) -> Result<(), Fail> {
     let touch = Touch {
         corner: 12,
         line: 1,
@@ -256,22 +279,7 @@ fn parts_of_squares(rt: HostRuntime) -> Result<(), Fail> {
         corner: 14,
         line: 0,
     };
-    let rows: [(&[&[u32]], Outcome); 14] = [
-        (&[&[0, 1, 2]], Outcome::Certified),
-        (&[&[0, 1, 2, 3]], Outcome::Certified),
-        // A quadrangle that is cut by only one of its diagonals.
-        (&[&[0, 9, 2, 7]], Outcome::Certified),
-        (&[&[0, 9, 1, 2]], Outcome::Certified),
-        // A hole, an island in it, and a part with three holes.
-        (&[&[0, 1, 2, 3], &[7, 6, 5, 4]], Outcome::Certified),
-        (
-            &[&[0, 1, 2, 3], &[7, 6, 5, 4], &[8, 9, 10, 11]],
-            Outcome::Certified,
-        ),
-        // Two squares and two holes that have a corner in common.
-        (&[&[4, 9, 10, 11], &[10, 1, 2]], Outcome::Certified),
-        (&[&[0, 1, 2, 3], &[4, 7, 8], &[8, 6, 5]], Outcome::Certified),
-        (&[&[0, 12, 1, 2, 3], &[12, 4, 8]], Outcome::Certified),
+    let rows: [(&[&[u32]], Outcome); 5] = [
         (&[&[0, 1, 2, 3], &[12, 4, 8]], Outcome::Touches(1, touch)),
         // Two corners inside one side, and two inside different ones.
         (
@@ -288,7 +296,8 @@ fn parts_of_squares(rt: HostRuntime) -> Result<(), Fail> {
     ];
     for sheet in 0..3 {
         for (rings, want) in rows {
-            assert_eq!(rt; outcome_of_rings(rt.alloc(), sheet, rings)?, want);
+            let outcome = outcome_of_rings(rt.alloc(), sheet, rings)?;
+            assert!(rt; outcome == want, "{rings:?} of sheet {sheet}");
         }
     }
     Ok(())
@@ -346,7 +355,7 @@ fn stars_with_a_hole(rt: HostRuntime) -> Result<(), Fail> {
     for seed in 0u32..12 {
         for has_hole in [false, true] {
             let outcome = outcome_of_star(rt.alloc(), seed, has_hole)?;
-            assert_eq!(rt; outcome, Outcome::Certified, "{seed}");
+            assert!(rt; outcome == Outcome::Certified, "{seed}");
         }
     }
     Ok(())
@@ -386,7 +395,7 @@ fn outcome_of_comb(alloc: Global, turns: u8) -> Result<Outcome, Fail> {
 fn combs_in_four_directions(rt: HostRuntime) -> Result<(), Fail> {
     for turns in 0u8..4 {
         let outcome = outcome_of_comb(rt.alloc(), turns)?;
-        assert_eq!(rt; outcome, Outcome::Certified, "{turns}");
+        assert!(rt; outcome == Outcome::Certified, "{turns}");
     }
     Ok(())
 }

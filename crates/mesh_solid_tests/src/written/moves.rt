@@ -92,7 +92,7 @@ fn moves_to_floats(rt: HostRuntime) -> Result<(), Fail> {
 
 #[test]
 fn moves_are_written(rt: HostRuntime) -> Result<(), Fail> {
-    let rows: [(Move, &[u8]); 7] = [
+    let rows: [(Move, &[u8]); 3] = [
         (
             Move {
                 size: 0,
@@ -109,6 +109,25 @@ fn moves_are_written(rt: HostRuntime) -> Result<(), Fail> {
         ),
         (
             Move {
+                size: 100_000_000,
+                places: 12,
+            },
+            b"0.0001",
+        ),
+    ];
+    for (moved, want) in rows {
+        let mut text = Vec::new(rt.alloc());
+        put_move(&moved, &mut text)?;
+        assert_eq!(rt; text.as_slice(), want);
+    }
+    Ok(())
+}
+
+#[test]
+fn moves_below_a_ten_thousandth_have_an_exponent(rt: HostRuntime) -> Result<(), Fail> {
+    let rows: [(Move, &[u8]); 4] = [
+        (
+            Move {
                 size: 149_011_612,
                 places: 17,
             },
@@ -120,13 +139,6 @@ fn moves_are_written(rt: HostRuntime) -> Result<(), Fail> {
                 places: 13,
             },
             b"2e-05",
-        ),
-        (
-            Move {
-                size: 100_000_000,
-                places: 12,
-            },
-            b"0.0001",
         ),
         (
             Move {

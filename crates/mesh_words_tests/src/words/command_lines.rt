@@ -177,46 +177,48 @@ fn options_between_and_behind_files(rt: HostRuntime) -> Result<(), Fail> {
     )
 }
 
+// Command lines of a Boolean, with the page and the folder that each names.
+const PAGES_AND_FOLDERS: [(&[&str], Option<&str>, Option<&str>); 4] = [
+    (
+        &["union", "-o", "x.stl", "a", "--view", "p.html"],
+        Some("p.html"),
+        None,
+    ),
+    (
+        &[
+            "bool",
+            "--view=p.html",
+            "-o=x.stl",
+            "--expr=m1",
+            "--keep",
+            "d",
+            "a",
+        ],
+        Some("p.html"),
+        Some("d"),
+    ),
+    (
+        &[
+            "intersection",
+            "--keep=a=b",
+            "a",
+            "-o=x.stl",
+            "--view",
+            "--keep.htm",
+        ],
+        Some("--keep.htm"),
+        Some("a=b"),
+    ),
+    (
+        &["difference", "a", "b", "--keep=", "-o", "x.glb"],
+        None,
+        Some(""),
+    ),
+];
+
 #[test]
 fn pages_and_folders_of_a_boolean(rt: HostRuntime) -> Result<(), Fail> {
-    let rows: [(&[&str], Option<&str>, Option<&str>); 4] = [
-        (
-            &["union", "-o", "x.stl", "a", "--view", "p.html"],
-            Some("p.html"),
-            None,
-        ),
-        (
-            &[
-                "bool",
-                "--view=p.html",
-                "-o=x.stl",
-                "--expr=m1",
-                "--keep",
-                "d",
-                "a",
-            ],
-            Some("p.html"),
-            Some("d"),
-        ),
-        (
-            &[
-                "intersection",
-                "--keep=a=b",
-                "a",
-                "-o=x.stl",
-                "--view",
-                "--keep",
-            ],
-            Some("--keep"),
-            Some("a=b"),
-        ),
-        (
-            &["difference", "--keep=c", "a", "b", "--keep=", "-o", "x.glb"],
-            None,
-            Some(""),
-        ),
-    ];
-    for (words, view, keep) in rows {
+    for (words, view, keep) in PAGES_AND_FOLDERS {
         let command = command_of(rt.alloc(), words)?;
         assert_eq!(rt; text_of(&command, Setting::Page), view);
         assert_eq!(rt; text_of(&command, Setting::Keep), keep);
@@ -380,10 +382,8 @@ fn info_and_views_of_files(rt: HostRuntime) -> Result<(), Fail> {
     let words = ["info", "a.stl", "b=1.obj"];
     let texts = [(Setting::Output, None)];
     check(&rt, rt.alloc(), &words, none, &texts, &["a.stl", "b=1.obj"])?;
-    let words = [
-        "view", "-o", "x.html", "a.stl", "--quiet", "-o=page", "b.obj", "a.stl",
-    ];
-    let texts = [(Setting::Output, Some("page"))];
+    let words = ["view", "a.stl", "--quiet", "-o=PAGE.HTML", "b.obj", "a.stl"];
+    let texts = [(Setting::Output, Some("PAGE.HTML"))];
     check(
         &rt,
         rt.alloc(),

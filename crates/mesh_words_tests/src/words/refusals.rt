@@ -4,7 +4,8 @@ use mesh_words::{Refusal, Setting, WordsFault, output_given, step_given};
 use std::alloc::Global;
 use std::test::Fail;
 
-fn refusal(alloc: Global, words: &[&str]) -> Result<Option<Refusal>, Fail> {
+/// Why the words are refused, if they are.
+pub fn refusal(alloc: Global, words: &[&str]) -> Result<Option<Refusal>, Fail> {
     match read(alloc, words)?.err() {
         Some(WordsFault::Refused(why)) => Ok(Some(why)),
         _ => Ok(None),
@@ -13,7 +14,7 @@ fn refusal(alloc: Global, words: &[&str]) -> Result<Option<Refusal>, Fail> {
 
 #[test]
 fn words_that_are_refused(rt: HostRuntime) -> Result<(), Fail> {
-    let rows: [(&[&str], Refusal); 29] = [
+    let rows: [(&[&str], Refusal); 19] = [
         (&[], Refusal::NoCommand),
         (&["snaps", "a.stl"], Refusal::UnknownCommand),
         (&["Union"], Refusal::UnknownCommand),
@@ -33,6 +34,19 @@ fn words_that_are_refused(rt: HostRuntime) -> Result<(), Fail> {
         (&["union", "a"], Refusal::NoOutput),
         (&["union", "-o", "x.gltf", "a"], Refusal::OutputEnding),
         (&["union", "-o", "stl", "a"], Refusal::OutputEnding),
+        (&["info"], Refusal::NoFiles),
+        (&["info", "a", "--quiet"], Refusal::UnknownOption(2)),
+        (&["info", "--help", "-o=x.stl"], Refusal::UnknownOption(2)),
+    ];
+    for (words, want) in rows {
+        assert_eq!(rt; refusal(rt.alloc(), words)?, Some(want));
+    }
+    Ok(())
+}
+
+#[test]
+fn steps_workers_and_digits_that_are_refused(rt: HostRuntime) -> Result<(), Fail> {
+    let rows: [(&[&str], Refusal); 10] = [
         (
             &["union", "-o", "x.stl", "--step", "0.00e3", "a"],
             Refusal::NotAStep,
@@ -67,9 +81,6 @@ fn words_that_are_refused(rt: HostRuntime) -> Result<(), Fail> {
             Refusal::Digits,
         ),
         (&["union", "-o", "x.stl", "--digits=", "a"], Refusal::Digits),
-        (&["info"], Refusal::NoFiles),
-        (&["info", "a", "--quiet"], Refusal::UnknownOption(2)),
-        (&["info", "--help", "-o=x.stl"], Refusal::UnknownOption(2)),
     ];
     for (words, want) in rows {
         assert_eq!(rt; refusal(rt.alloc(), words)?, Some(want));

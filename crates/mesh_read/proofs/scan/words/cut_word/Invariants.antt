@@ -1,12 +1,12 @@
 use Rattle.std.proofs.Common.{◌≡◌, ◌≤◌, ◌++◌, ◌-◌, length, take, drop}
-use Rattle.mesh_read.specs.Scan.Parts.{before, onward, is_separator}
+use Rattle.mesh_read.specs.Scan.Parts.{before, onward, is_blank}
 use Rattle.mesh_read.proofs.scan.words.cut_word.Given as goal
 
 abbrev pub invariant-loop-end : goal.invariant-loop-end
 invariant-loop-end l = record {
   within : l.end ≤ length l.part.bytes.now;
-  before : before is_separator l.part.bytes.now ≡ take l.end l.part.bytes.now ++ before is_separator (drop l.end l.part.bytes.now);
-  onward : onward is_separator l.part.bytes.now ≡ onward is_separator (drop l.end l.part.bytes.now);
+  before : before (is_blank l.blanks) l.part.bytes.now ≡ take l.end l.part.bytes.now ++ before (is_blank l.blanks) (drop l.end l.part.bytes.now);
+  onward : onward (is_blank l.blanks) l.part.bytes.now ≡ onward (is_blank l.blanks) (drop l.end l.part.bytes.now);
 }
 
 abbrev pub decreases-loop-end : goal.decreases-loop-end

@@ -1,6 +1,5 @@
 use Rattle.std.proofs.Common.{rules, arith}
 use Rattle.std.proofs.lemmas.Grind.{common_steps}
-use Rattle.mesh_read.specs.Stl.ReadStl as spec
 use Rattle.mesh_read.proofs.Triangles.{same_first_far}
 use Rattle.mesh_read.proofs.stl.reading.checked.Goals as goal
 

@@ -2,9 +2,6 @@ use Rattle.std.proofs.Common.{rules, arith}
 use Rattle.std.proofs.lemmas.Grind.{common_steps}
 use Rattle.mesh_read.proofs.stl.ascii.Reader.add_line.Goals as goal
 
-pub next_word-requires : goal.next_word-requires
-next_word-requires c = first_of (search rules, grind (arith, common_steps))
-
 pub returns-in_default-clause-ok : goal.returns-in_default-clause-ok
 returns-in_default-clause-ok c = first_of (search rules, grind (arith, common_steps))
 
@@ -14,17 +11,11 @@ returns-in_default-clause-surface c = first_of (search rules, grind (arith, comm
 pub returns-in_default-clause-count : goal.returns-in_default-clause-count
 returns-in_default-clause-count c = first_of (search rules, grind (arith, common_steps))
 
-pub add_vertex-requires : goal.add_vertex-requires
-add_vertex-requires c = first_of (search rules, grind (arith, common_steps))
-
 pub close_facet-requires-clause-few : goal.close_facet-requires-clause-few
 close_facet-requires-clause-few c = first_of (search rules, grind (arith, common_steps))
 
 pub close_facet-requires-clause-surface : goal.close_facet-requires-clause-surface
 close_facet-requires-clause-surface c = first_of (search rules, grind (arith, common_steps))
-
-pub span-requires : goal.span-requires
-span-requires c = first_of (search rules, grind (arith, common_steps))
 
 pub returns-in-Facet-clause-ok : goal.returns-in-Facet-clause-ok
 returns-in-Facet-clause-ok c = first_of (search rules, grind (arith, common_steps))

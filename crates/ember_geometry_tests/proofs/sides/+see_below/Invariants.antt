@@ -1,4 +1,0 @@
-use Rattle.ember_geometry_tests.proofs.sides.+see_below.Given as goal
-
-abbrev pub decreases-see_below : goal.decreases-see_below
-decreases-see_below l = l.left

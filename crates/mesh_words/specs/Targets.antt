@@ -1,0 +1,105 @@
+-- Why what a command writes is refused
+use Rattle.std.specs.Prelude.{ℕ, zero, suc, ◌+◌, ◌||◌, Bool, false, true, List, [], ◌∷◌, ◌++◌, length, codes}
+use Rattle.std.specs.Prelude.{decimal, Option, Some, None, is_some, option_map, if◌then◌else◌}
+use Rattle.std.specs.Option.{option_or}
+use Rattle.mesh_words.specs.declared.faults.Refusal.{Refusal}
+use Rattle.mesh_words.specs.declared.faults.Refusal.TheVariants.{NotFor, Twice, PageEnding, OverInput}
+use Rattle.mesh_words.specs.declared.names.Setting.{Setting}
+use Rattle.mesh_words.specs.declared.names.Setting.TheVariants as setting
+use Rattle.mesh_words.specs.declared.arguments.Argument.{Argument}
+use Rattle.mesh_words.specs.Names.{Text}
+use Rattle.mesh_words.specs.Arguments.{inputs_in, value_for, value_in}
+use Rattle.mesh_words.specs.Allowed.{first_beside, boolean_settings, snap_settings, export_settings, view_settings}
+use Rattle.mesh_words.specs.Paths.{is_same_path}
+use Rattle.mesh_words.specs.Values.{ends_in}
+
+-- ---- a second name
+-- the options that name what is written
+abbrev pub target_settings : List Setting
+target_settings = setting.Output ∷ setting.Folder ∷ setting.Page ∷ setting.Keep ∷ []
+
+-- the option has a value here, and one before
+abbrev pub has_second : Setting → Bool → List Argument → Bool
+has_second s before [] = false
+has_second s before (i ∷ more) =
+    if is_some (value_for s i) then before || has_second s true more else has_second s before more
+
+-- the first of these options that has two values
+abbrev pub first_twice : List Setting → List Argument → Option Setting
+first_twice [] arguments = None
+first_twice (s ∷ settings) arguments =
+    if has_second s false arguments then Some s else first_twice settings arguments
+
+-- the first option that isn't among these, or the first that names twice what is written
+abbrev pub option_fault : List Setting → List Argument → Option Refusal
+option_fault settings arguments =
+    option_or (option_map NotFor (first_beside settings arguments))
+    (option_map Twice (first_twice target_settings arguments))
+
+-- ---- inputs that would be written over
+-- the number of the first input of the same path; the first input has number n
+abbrev pub first_same : Text → ℕ → List Text → Option ℕ
+first_same target n [] = None
+first_same target n (input ∷ inputs) =
+    if is_same_path target input then Some n else first_same target (n + 1) inputs
+
+-- the same of the first of several paths that has such an input
+abbrev pub first_over : List Text → List Text → Option ℕ
+first_over [] inputs = None
+first_over (target ∷ targets) inputs = option_or (first_same target 0 inputs) (first_over targets inputs)
+
+-- ---- pages
+abbrev pub is_page_name : Text → Bool
+is_page_name name = ends_in (codes ".html") name || ends_in (codes ".htm") name
+
+-- why a page of this name is refused
+abbrev pub page_with : Setting → List Text → Option Text → Option Refusal
+page_with s inputs None = None
+page_with s inputs (Some name) =
+    if is_page_name name then option_map (OverInput s) (first_same name 0 inputs) else Some (PageEnding s)
+
+abbrev pub page_fault : Setting → List Argument → Option Refusal
+page_fault s arguments = page_with s (inputs_in arguments) (value_in s arguments)
+
+-- ---- folders
+abbrev pub in_folder : Text → Text → Text
+in_folder folder name = folder ++ (codes "/" ++ name)
+
+-- the meshes 1 to n
+abbrev pub mesh_names : Text → ℕ → List Text
+mesh_names folder zero = []
+mesh_names folder (suc n) = mesh_names folder n ++ in_folder folder (decimal (n + 1) ++ codes ".obj") ∷ []
+
+-- the files of n meshes on their grid
+abbrev pub scene_names : Text → ℕ → List Text
+scene_names folder n = mesh_names folder n ++ in_folder folder (codes "scene.json") ∷ []
+
+-- and the document
+abbrev pub kept_names : Text → ℕ → List Text
+kept_names folder n = scene_names folder n ++ in_folder folder (codes "doc.txt") ∷ []
+
+-- why a folder is refused, into which files of these names are written for each number of inputs
+abbrev pub folder_with : Setting → (Text → ℕ → List Text) → List Text → Option Text → Option Refusal
+folder_with s names inputs None = None
+folder_with s names inputs (Some folder) =
+    option_map (OverInput s) (first_over (names folder (length inputs)) inputs)
+
+abbrev pub folder_fault : Setting → (Text → ℕ → List Text) → List Argument → Option Refusal
+folder_fault s names arguments = folder_with s names (inputs_in arguments) (value_in s arguments)
+
+-- ---- the commands
+abbrev pub boolean_fault : List Argument → Option Refusal
+boolean_fault arguments =
+    option_or (option_fault boolean_settings arguments)
+    (option_or (page_fault setting.Page arguments) (folder_fault setting.Keep kept_names arguments))
+
+abbrev pub snap_fault : List Argument → Option Refusal
+snap_fault arguments =
+    option_or (option_fault snap_settings arguments) (folder_fault setting.Folder scene_names arguments)
+
+abbrev pub export_fault : List Argument → Option Refusal
+export_fault arguments =
+    option_or (option_fault export_settings arguments) (page_fault setting.Page arguments)
+
+abbrev pub view_fault : List Argument → Option Refusal
+view_fault arguments = option_or (option_fault view_settings arguments) (page_fault setting.Output arguments)

@@ -1,0 +1,125 @@
+// Words of the second program's command line that would write over what they read, or that name twice
+// what they write.
+use crate::words::command_lines::{read, strings};
+use crate::words::refusals::refusal;
+use mesh_words::{Refusal, Setting, input_given, value_given};
+use std::alloc::Global;
+use std::test::Fail;
+
+fn is_read(alloc: Global, words: &[&str]) -> Result<bool, Fail> {
+    Ok(read(alloc, words)?.is_ok())
+}
+
+#[test]
+fn second_names(rt: HostRuntime) -> Result<(), Fail> {
+    let rows: [(&[&str], Setting); 5] = [
+        (&["union", "-o", "x.stl", "a", "-o=x.stl"], Setting::Output),
+        (&["snap", "-d=d", "a", "-d", "e"], Setting::Folder),
+        (
+            &["union", "--keep=d", "a", "--keep=e", "--workers=x"],
+            Setting::Keep,
+        ),
+        (
+            &["export", "--view=p", "a", "-o=x.stl", "--view", "q.html"],
+            Setting::Page,
+        ),
+        (
+            &["view", "-o", "x.html", "a", "-o", "b.html"],
+            Setting::Output,
+        ),
+    ];
+    for (words, option) in rows {
+        assert_eq!(rt; refusal(rt.alloc(), words)?, Some(Refusal::Twice(option)));
+    }
+    Ok(())
+}
+
+#[test]
+fn pages_of_other_names(rt: HostRuntime) -> Result<(), Fail> {
+    let rows: [(&[&str], Setting); 4] = [
+        (&["view", "-o", "b.stl", "a.stl"], Setting::Output),
+        (&["view", "-o", "html", "a.stl"], Setting::Output),
+        (
+            &["union", "-o", "x.stl", "--view=b.stl", "a.stl"],
+            Setting::Page,
+        ),
+        (&["export", "-o=x.stl", "--view=", "a"], Setting::Page),
+    ];
+    for (words, option) in rows {
+        assert_eq!(rt;
+            refusal(rt.alloc(), words)?,
+            Some(Refusal::PageEnding(option))
+        );
+    }
+    for name in ["-o=A.HTML", "-o=a.Htm", "-o=a.stl.htm", "-o=b/../a.html"] {
+        assert!(rt; is_read(rt.alloc(), &["view", "a.stl", "a.html", name])?);
+    }
+    Ok(())
+}
+
+#[test]
+fn inputs_that_would_be_written_over(rt: HostRuntime) -> Result<(), Fail> {
+    let rows: [(&[&str], Setting, usize); 9] = [
+        (
+            &["view", "-o", "./a.html", "b", "a.html"],
+            Setting::Output,
+            1,
+        ),
+        (&["view", "-o", "d//a.htm", "d/./a.htm"], Setting::Output, 0),
+        (
+            &["union", "-o=x.stl", "--view=/p.html", "//p.html"],
+            Setting::Page,
+            0,
+        ),
+        (
+            &["export", "--scene=s.html", "-o=x.stl", "--view=s.html", "d"],
+            Setting::Page,
+            1,
+        ),
+        (&["snap", "-d", ".", "b.obj", "1.obj"], Setting::Folder, 1),
+        (&["snap", "-d", "d/", "a", "d/2.obj"], Setting::Folder, 1),
+        (&["snap", "-d", "..", "../scene.json"], Setting::Folder, 0),
+        (&["snap", "-d=", "/1.obj"], Setting::Folder, 0),
+        (
+            &["bool", "-o=x.stl", "--keep=d", "./d/doc.txt"],
+            Setting::Keep,
+            0,
+        ),
+    ];
+    for (words, option, number) in rows {
+        let want = Refusal::OverInput(option, number);
+        assert_eq!(rt; refusal(rt.alloc(), words)?, Some(want));
+    }
+    Ok(())
+}
+
+#[test]
+fn inputs_that_stay(rt: HostRuntime) -> Result<(), Fail> {
+    let rows: [&[&str]; 7] = [
+        &["union", "-o", "a.stl", "./a.stl"],
+        &["snap", "-d", ".", "2.obj"],
+        &["snap", "-d", ".", "doc.txt"],
+        &["snap", "-d", "d", "1.obj", "scene.json"],
+        &["snap", "-d", "d", "e/../d/1.obj"],
+        &["snap", "-d", "d", "/d/1.obj"],
+        &["union", "-o", "1.obj", "--keep", "d", "1.obj"],
+    ];
+    for words in rows {
+        assert!(rt; is_read(rt.alloc(), words)?);
+    }
+    Ok(())
+}
+
+#[test]
+fn names_of_inputs_and_targets(rt: HostRuntime) -> Result<(), Fail> {
+    let words = ["export", "d", "--view=p", "--scene=s", "-o", "x.stl"];
+    let words = strings(rt.alloc(), &words)?;
+    for (number, want) in [(0, "d"), (1, "s"), (2, "")] {
+        assert_eq!(rt; input_given(rt.alloc(), &words, number)?.as_str(), want);
+    }
+    for (setting, want) in [(Setting::Page, "p"), (Setting::Keep, "")] {
+        assert_eq!(rt; value_given(rt.alloc(), &words, setting)?.as_str(), want);
+    }
+    assert_eq!(rt; input_given(rt.alloc(), &[], 0)?.as_str(), "");
+    Ok(())
+}
