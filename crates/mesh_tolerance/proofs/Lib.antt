@@ -13,3 +13,4 @@ pub mod BoundedMoves
 pub mod Similar
 pub mod SeenMeshes
 pub mod MovedMeshes
+pub mod SimilarTriangles

@@ -15,10 +15,11 @@ use Rattle.ember_law.proofs.Generic.{wind_shifted}
 use Rattle.ember_law.proofs.Shifted.{weight_shifted, eventually_true}
 use Rattle.ember_meaning.specs.Closed.Chains.{displacement}
 use Rattle.mesh_written.specs.Closed.{Positions}
+use Rattle.mesh_tolerance.specs.Similar.{HasWeights}
 use Rattle.mesh_tolerance.specs.Triangles.{faces_of_triangles, with_points}
 use Rattle.mesh_tolerance.proofs.GeneralSides.{ahead_shifted, wall_shifted}
 use Rattle.mesh_tolerance.proofs.Prisms.{wall_crossing, IsGeneralWall, wall_is_odd, prism_is_closed}
-use Rattle.mesh_tolerance.proofs.SeenTriangles.{HasWeights, crossing_from, wind_is_seen}
+use Rattle.mesh_tolerance.proofs.SeenTriangles.{crossing_from, wind_is_seen}
 
 -- ---- closed triangles
 -- a quantity of directed edges, round a triangle

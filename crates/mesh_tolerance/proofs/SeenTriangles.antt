@@ -17,6 +17,7 @@ use Rattle.ember_meaning.specs.Closed.Chains.{displacement, is_zero_vector}
 use Rattle.ember_meaning.proofs.Displacements.{displacementE, zero_vector_out, zero_not, square_positive}
 use Rattle.mesh_certificate.specs.Certificate.Facing.{triangle_normal, FacesFront}
 use Rattle.mesh_written.specs.Closed.{Positions}
+use Rattle.mesh_tolerance.specs.Similar.{HasWeights}
 use Rattle.mesh_tolerance.specs.Triangles.{plane_of_points, has_no_area, face_of_corners, faces_of_triangles}
 use Rattle.mesh_tolerance.proofs.SeenFaces.{flat_is_not_crossed, face_is_seen}
 use Rattle.mesh_tolerance.proofs.Sides.{seen_crossing}
@@ -59,12 +60,6 @@ faces_own_front u v w wu e =
         omega (arith, linear, q, e)
 
 -- ---- winding numbers
--- all corners have weights above 0
-pub record HasWeights (t : Positions Spot) : Type 0 where
-  pub a : pos 0 <ℤ t.a.w
-  pub b : pos 0 <ℤ t.b.w
-  pub c : pos 0 <ℤ t.c.w
-
 -- the crossing of a triangle as it is seen from p
 abbrev pub crossing_from : Axis → Spot → Positions Spot → ℤ
 crossing_from a p t = seen_crossing a (displacement p t.a) (displacement p t.b) (displacement p t.c)

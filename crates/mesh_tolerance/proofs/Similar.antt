@@ -22,6 +22,7 @@ use Rattle.ember_meaning.specs.Closed.Chains.{displacement}
 use Rattle.ember_meaning.proofs.Displacements.{displacementE}
 use Rattle.mesh_solid.specs.Winding.TriangleFaces.{side_plane}
 use Rattle.mesh_written.specs.Closed.{Positions}
+use Rattle.mesh_tolerance.specs.Similar.{placed_by, triangle_placed_by}
 use Rattle.mesh_tolerance.specs.Triangles.{plane_of_points, face_of_corners}
 use Rattle.mesh_tolerance.proofs.Rays.{ray_crossing}
 use Rattle.mesh_tolerance.proofs.Sides.{turn_of, seen_crossing}
@@ -42,13 +43,8 @@ scaled_is_seen_alike a k u v w p =
 
 -- ---- points in a unit of n / m of the first, from another origin
 module _ (n m : ℤ) (o : Vector) (pn : pos 0 <ℤ n) (pm : pos 0 <ℤ m) where
-  abbrev pub placed : Spot → Spot
-  placed v = record {
-    x = m *ℤ v.x -ℤ o.x *ℤ (n *ℤ v.w);
-    y = m *ℤ v.y -ℤ o.y *ℤ (n *ℤ v.w);
-    z = m *ℤ v.z -ℤ o.z *ℤ (n *ℤ v.w);
-    w = n *ℤ v.w;
-  }
+  abbrev placed : Spot → Spot
+  placed v = placed_by n m o v
 
   abbrev k : ℤ
   k = n *ℤ m
@@ -117,8 +113,8 @@ module _ (n m : ℤ) (o : Vector) (pn : pos 0 <ℤ n) (pm : pos 0 <ℤ m) where
       ∙ sgn_scaled (value_at (side_plane (plane_of_points u v w) s t) x) (pos_mul pn (pos_mul (pos_mul pk pk) (pos_mul pk pk)))
 
   -- ---- faces
-  abbrev pub placed_triangle : Positions Spot → Positions Spot
-  placed_triangle t = record { a = placed t.a; b = placed t.b; c = placed t.c }
+  abbrev placed_triangle : Positions Spot → Positions Spot
+  placed_triangle t = triangle_placed_by n m o t
 
   module _ (t : Positions Spot) where
     abbrev f : Face

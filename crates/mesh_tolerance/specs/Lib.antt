@@ -1,4 +1,5 @@
 pub mod Triangles
 pub mod Distances
+pub mod Similar
 pub mod Moves
 pub mod Meshes

@@ -6,4 +6,5 @@ mod law;
 
 pub use law::{
     moved_meshes_wind_as_before, moved_surfaces_stay_near, moved_surfaces_wind_as_before,
+    similar_triangles_wind_alike,
 };

@@ -1,0 +1,8 @@
+use Rattle.mesh_tolerance.proofs.SimilarTriangles.{winds_as_placed, clear_as_placed}
+use Rattle.mesh_tolerance.proofs.law.similar_triangles_wind_alike.Goals as goal
+
+pub returns-clause-alike : goal.returns-clause-alike
+returns-clause-alike c = λ n m o ts pn pm weights. winds_as_placed n m o pn pm ts weights
+
+pub returns-clause-clear : goal.returns-clause-clear
+returns-clause-clear c = λ n m o ts pn pm. clear_as_placed n m o pn pm ts
