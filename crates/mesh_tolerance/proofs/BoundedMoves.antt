@@ -1,6 +1,6 @@
 -- A corner whose coordinates are each within some ticks of others, as the report counts them, is within the reported
 -- length.
-use Rattle.std.proofs.Common.{◌≡◌, sym, ap, ◌∙◌, arith, ℕ, zero, suc, ◌*◌, ◌+◌, ◌≤◌, ℤ, pos, negsuc, ◌+ℤ◌, ◌-ℤ◌, ◌*ℤ◌, ◌<ℤ◌, ◌≤ℤ◌, unsigned_abs, refl, mul-le-mul}
+use Rattle.std.proofs.Common.{◌≡◌, ap, arith, ℕ, ◌*◌, ◌≤◌, ℤ, pos, negsuc, ◌+ℤ◌, ◌*ℤ◌, ◌<ℤ◌, ◌≤ℤ◌, unsigned_abs, refl, mul-le-mul}
 use borrow.Author.Differences.{ints}
 use Rattle.ember_algebra.proofs.Laws.{linear}
 use Rattle.ember_algebra.proofs.Order.{pos_mul, mul_le, cancel_le, square_nonneg}

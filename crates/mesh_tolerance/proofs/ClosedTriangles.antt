@@ -1,5 +1,5 @@
 -- Over closed triangles, what changes its sign with the direction of an edge cancels.
-use Rattle.std.proofs.Common.{◌≡◌, refl, sym, ap, ◌∙◌, arith, ℕ, ◌+◌, Bool, true, false, ◌&&◌, eqb, eqb-true, eq-eqb, List, [], ◌∷◌, ℤ, pos, ◌+ℤ◌, neg_ℤ}
+use Rattle.std.proofs.Common.{◌≡◌, refl, sym, ap, ◌∙◌, arith, ℕ, ◌+◌, Bool, true, false, ◌&&◌, eqb, eqb-true, eq-eqb, List, [], ◌∷◌, ℤ, ◌+ℤ◌}
 use Rattle.ember_algebra.specs.Sums.{total, occurrences}
 use Rattle.ember_algebra.proofs.Laws.{linear}
 use Rattle.ember_algebra.proofs.Sums.{IsEquality, total_odd}

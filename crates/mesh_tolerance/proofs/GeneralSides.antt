@@ -1,6 +1,6 @@
 -- Near each point there are points from which the ways between given corners are general, and corners that lie ahead
 -- stay ahead.
-use Rattle.std.proofs.Common.{◌≡◌, ◌≢◌, sym, ap, ◌∙◌, arith, [], ◌∷◌, ℤ, pos, ◌-ℤ◌, ◌*ℤ◌, neg_ℤ, ◌<ℤ◌}
+use Rattle.std.proofs.Common.{◌≡◌, ◌≢◌, sym, ap, ◌∙◌, arith, [], ◌∷◌, pos, ◌-ℤ◌, ◌*ℤ◌, neg_ℤ, ◌<ℤ◌}
 use Rattle.ember_algebra.specs.Large.{Eventually}
 use Rattle.ember_algebra.specs.Sign.{sgn}
 use Rattle.ember_algebra.specs.Vector.{Vector, dot, cross}
@@ -22,7 +22,7 @@ use Rattle.ember_law.proofs.Shifted.{NoNormal, follows_shifted, off_shifted, wei
 use Rattle.ember_meaning.specs.Closed.Chains.{displacement}
 use Rattle.ember_meaning.proofs.Displacements.{displacementE}
 use Rattle.mesh_certificate.specs.Key.LineKeys.{numerators}
-use Rattle.mesh_tolerance.proofs.Sides.{next, upward, height_of, turn_of, IsGeneralSide}
+use Rattle.mesh_tolerance.proofs.Sides.{next, upward, height_of, IsGeneralSide}
 use Rattle.mesh_tolerance.proofs.Prisms.{IsGeneralWall}
 
 -- ---- the plane through a corner at right angles to a direction

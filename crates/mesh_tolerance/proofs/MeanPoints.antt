@@ -1,5 +1,5 @@
 -- If no corner of a triangle moves by more than a distance, none of its points does.
-use Rattle.std.proofs.Common.{◌≡◌, sym, ap, subst, ◌∙◌, arith, List, [], ◌∷◌, ℕ, ℤ, pos, ◌+ℤ◌, ◌-ℤ◌, ◌*ℤ◌, ◌≤ℤ◌}
+use Rattle.std.proofs.Common.{◌≡◌, sym, subst, arith, List, [], ◌∷◌, ℕ, ℤ, pos, ◌+ℤ◌, ◌*ℤ◌, ◌≤ℤ◌}
 use borrow.Author.Differences.{ints}
 use Rattle.std.specs.List.{AllByRecursion}
 use Rattle.ember_algebra.specs.Vector.{Vector, plus_v, minus_v, scale_v, dot}
@@ -13,8 +13,7 @@ use Rattle.ember_meaning.specs.Closed.Chains.{displacement}
 use Rattle.ember_meaning.proofs.Displacements.{displacementE}
 use Rattle.mesh_written.specs.Closed.{Positions}
 use Rattle.mesh_tolerance.specs.Distances.{square, IsWithin}
-use Rattle.mesh_tolerance.specs.Moves.{mean_of, CornersMoveWithin, PointsMoveWithin}
-use Rattle.mesh_tolerance.specs.Triangles.{with_points}
+use Rattle.mesh_tolerance.specs.Moves.{CornersMoveWithin, PointsMoveWithin}
 
 dot_nonneg : (d : Vector) → pos 0 ≤ℤ dot d d
 dot_nonneg d =

@@ -1,5 +1,5 @@
 -- A corner that moves by less than its distance from a point stays ahead.
-use Rattle.std.proofs.Common.{◌≡◌, arith, [], ◌∷◌, ℕ, ℤ, pos, ◌+ℤ◌, ◌-ℤ◌, ◌*ℤ◌, neg_ℤ, ◌<ℤ◌, ◌≤ℤ◌}
+use Rattle.std.proofs.Common.{◌≡◌, arith, [], ◌∷◌, ℕ, ℤ, pos, ◌-ℤ◌, ◌*ℤ◌, neg_ℤ, ◌<ℤ◌, ◌≤ℤ◌}
 use Rattle.ember_algebra.specs.Vector.{Vector, dot, cross}
 use Rattle.ember_algebra.proofs.Laws.{linear}
 use Rattle.ember_algebra.proofs.Order.{by_sign, pos_mul, nonneg_mul, mul_lt, mul_le, square_nonneg}

@@ -1,5 +1,5 @@
 -- A closed surface whose corners move by at most a distance winds as before around what is farther from it than that.
-use Rattle.std.proofs.Common.{◌≡◌, ℕ, List, [], ◌∷◌, map, pos, ◌<ℤ◌}
+use Rattle.std.proofs.Common.{ℕ, List, [], ◌∷◌, map}
 use Rattle.std.specs.List.{AllByRecursion}
 use Rattle.ember_model.specs.declared.point.Spot.{Spot}
 use Rattle.mesh_written.specs.Closed.{Positions}

@@ -1,14 +1,14 @@
 -- The crossing of a face by how its corners are seen from the start of the ray.
-use Rattle.std.proofs.Common.{◌≡◌, ◌≢◌, refl, sym, ap, subst, ◌∙◌, arith, Bool, T, not, true, ◌&&◌, cond, [], ◌∷◌, ℤ, pos, ◌+ℤ◌, ◌*ℤ◌, neg_ℤ, ◌<ℤ◌}
+use Rattle.std.proofs.Common.{◌≡◌, ◌≢◌, sym, ap, subst, ◌∙◌, arith, Bool, T, not, true, ◌&&◌, cond, [], ◌∷◌, ℤ, pos, ◌+ℤ◌, ◌*ℤ◌, neg_ℤ, ◌<ℤ◌}
 use lib.IntN.{*ℤ_comm}
 use Rattle.ember_algebra.specs.declared.Sign.{Sign}
 use Rattle.ember_algebra.specs.declared.Sign.TheVariants.{Zero}
-use Rattle.ember_algebra.specs.Sign.{sign, sgn, flip, times, number, is_neg, is_nil, same_sgn, is_negative}
+use Rattle.ember_algebra.specs.Sign.{sign, sgn, flip, times, is_neg, is_nil, same_sgn}
 use Rattle.ember_algebra.specs.Vector.{Vector, zero_v, dot, cross, det}
 use Rattle.ember_algebra.proofs.Identities.{orthogonal_parallel, parallel_products}
 use Rattle.ember_algebra.proofs.Laws.{linear}
 use Rattle.ember_algebra.proofs.Order.{by_sign, pos_mul}
-use Rattle.ember_algebra.proofs.Ring.{◌⊕◌, ◌⊖◌, ◌⊗◌, ◌≈◌, num, cancels}
+use Rattle.ember_algebra.proofs.Ring.{◌⊕◌, ◌⊗◌, ◌≈◌, num, cancels}
 use Rattle.ember_algebra.proofs.Signs.{◌⇒◌, use_if, signs, sgn-mul, sgn-neg, not_null, sum3, sum3_from}
 use Rattle.ember_algebra.proofs.Vectors.{scalar, vector, tuple, identity, VectorE, TupleE, dotE, crossE, detE}
 use Rattle.ember_model.specs.declared.plane.Plane.{Plane}

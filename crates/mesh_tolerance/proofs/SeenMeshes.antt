@@ -1,6 +1,6 @@
 -- The winding number of certified triangles, by how their corners are seen; and what changes its sign with the direction
 -- of an edge cancels over them.
-use Rattle.std.proofs.Common.{◌≡◌, refl, sym, ap, ◌∙◌, arith, true, Option, Some, None, List, [], ◌∷◌, map, slice_get, nat_eq, ◌&&◌, ℕ, ℤ, pos, ◌+ℤ◌, neg_ℤ, ◌<ℤ◌}
+use Rattle.std.proofs.Common.{◌≡◌, refl, sym, ◌∙◌, arith, true, Option, Some, None, List, [], ◌∷◌, map, slice_get, nat_eq, ◌&&◌, ℕ, ℤ, pos, ◌+ℤ◌, ◌<ℤ◌}
 use Rattle.std.specs.List.{All}
 use Rattle.std.proofs.lemmas.Bool.{eqb-true}
 use Rattle.std.proofs.lemmas.List.Elements.{All-head, All-tail}
@@ -20,8 +20,7 @@ use Rattle.mesh_certificate.specs.Certificate.Closed.{AreSegmentsClosed}
 use Rattle.mesh_certificate.specs.Certificate.Facing.{spot_of}
 use Rattle.mesh_certificate.proofs.Cancels.{closed_cancels}
 use Rattle.mesh_solid.specs.Winding.TriangleFaces.{face_if_found, faces_of_triangle, triangle_faces}
-use Rattle.mesh_tolerance.specs.Meshes.{numbers_of, corner_from, corner_at, exact_triangles}
-use Rattle.mesh_tolerance.specs.Triangles.{with_points}
+use Rattle.mesh_tolerance.specs.Meshes.{numbers_of, corner_from, exact_triangles}
 use Rattle.mesh_tolerance.proofs.MovedTriangles.{around, HaveNoOddSum}
 use Rattle.mesh_tolerance.proofs.SeenFaces.{face_is_seen}
 use Rattle.mesh_tolerance.proofs.SeenTriangles.{crossing_from}

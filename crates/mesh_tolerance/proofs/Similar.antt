@@ -1,13 +1,11 @@
 -- Triangles of points in another unit and from another origin: they are seen alike, and what is clear stays clear.
-use Rattle.std.proofs.Common.{◌≡◌, sym, ap, subst, ◌∙◌, arith, Bool, true, false, not, ◌&&◌, List, [], ◌∷◌, ℤ, pos, ◌+ℤ◌, ◌-ℤ◌, ◌*ℤ◌, ◌<ℤ◌, ◌≤ℤ◌}
-use Rattle.ember_algebra.specs.Sign.{sgn, is_neg, is_nil, is_pos, is_negative, is_positive, is_zero}
+use Rattle.std.proofs.Common.{◌≡◌, sym, ap, ◌∙◌, true, not, ◌&&◌, [], ◌∷◌, ℤ, pos, ◌+ℤ◌, ◌-ℤ◌, ◌*ℤ◌, ◌<ℤ◌}
+use Rattle.ember_algebra.specs.Sign.{sgn, is_neg, is_nil, is_pos}
 use Rattle.ember_algebra.specs.Vector.{Vector, scale_v, dot, cross, det}
-use Rattle.ember_algebra.proofs.Laws.{linear}
 use Rattle.ember_algebra.proofs.Order.{pos_mul}
 use Rattle.ember_algebra.proofs.Ring.{◌⊕◌, ◌⊖◌, ◌⊗◌, ◌≈◌, solve, cancels}
 use Rattle.ember_algebra.proofs.Vectors.{scalar, vector, tuple, identity, vector_identity, ◌≈v◌, cancels_v, TupleE, dotE, crossE, detE, scaleE, valueE, vector_partE}
 use Rattle.ember_model.specs.declared.face.Face.{Face}
-use Rattle.ember_model.specs.declared.plane.Plane.{Plane}
 use Rattle.ember_model.specs.declared.point.Axis.{Axis}
 use Rattle.ember_model.specs.declared.point.Axis.TheVariants.{X, Y, Z}
 use Rattle.ember_model.specs.declared.point.Spot.{Spot}

@@ -16,7 +16,7 @@ use Rattle.ember_meaning.specs.Closed.Chains.{displacement, is_zero_vector}
 use Rattle.mesh_certificate.specs.Certificate.Facing.{triangle_normal}
 use Rattle.mesh_written.specs.Closed.{Positions}
 use Rattle.mesh_tolerance.specs.Similar.{placed_by, triangle_placed_by, HasWeights, WindAsPlaced, AreClearAsPlaced}
-use Rattle.mesh_tolerance.specs.Triangles.{has_no_area, face_of_corners, faces_of_triangles}
+use Rattle.mesh_tolerance.specs.Triangles.{has_no_area, face_of_corners}
 use Rattle.mesh_tolerance.proofs.SeenTriangles.{crossing_from, wind_is_seen}
 use Rattle.mesh_tolerance.proofs.Similar.{placed_displacement, placed_is_seen_alike, placed_is_clear}
 

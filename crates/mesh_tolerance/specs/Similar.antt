@@ -1,6 +1,5 @@
 -- Points in another unit and from another origin
 use Rattle.std.specs.Prelude.{◌≡◌, ℤ, pos, ◌-ℤ◌, ◌*ℤ◌, ◌<ℤ◌, List, map}
-use Rattle.std.specs.List.{AllByRecursion}
 use Rattle.ember_algebra.specs.Vector.{Vector}
 use Rattle.ember_model.specs.declared.point.Axis.{Axis}
 use Rattle.ember_model.specs.declared.point.Spot.{Spot}
