@@ -3,3 +3,4 @@ pub mod Distances
 pub mod Similar
 pub mod Moves
 pub mod Meshes
+pub mod Files
