@@ -5,7 +5,9 @@ use borrow.Author.Differences.{ints}
 use Rattle.ember_algebra.proofs.Laws.{linear}
 use Rattle.ember_algebra.proofs.Order.{pos_mul, mul_le, cancel_le, square_nonneg}
 use Rattle.ember_algebra.proofs.Ring.{◌⊕◌, ◌⊗◌, ◌≈◌, solve, cancels}
-use Rattle.mesh_tolerance.specs.Distances.{square}
+use Rattle.ember_model.specs.declared.point.Spot.{Spot}
+use Rattle.ember_meaning.specs.Closed.Chains.{displacement}
+use Rattle.mesh_tolerance.specs.Distances.{square, IsWithin}
 
 -- ---- whole numbers by their sizes
 size_square : (x : ℤ) → pos (unsigned_abs x * unsigned_abs x) ≡ square x
@@ -52,3 +54,20 @@ module _ (m n size unit : ℕ) (u v x y z : ℤ) (r s t : ℕ) (pm : pos 0 <ℤ 
         solve 4 (λ m u v s. ((u ⊗ v) ⊗ (u ⊗ v)) ⊗ ((m ⊗ s) ⊗ (m ⊗ s)) ≈ (m ⊗ m) ⊗ ((u ⊗ v ⊗ s) ⊗ (u ⊗ v ⊗ s))) cancels
             (pos m) u v (pos size),
       ))
+
+-- ---- corners
+-- the square of how far v is from u along an axis, x times both weights, is at most that of r ticks
+abbrev pub IsWithinTicks : ℕ → ℕ → Spot → Spot → ℕ → ℤ → Type 0
+IsWithinTicks m n u v r x = (square (pos m) *ℤ square x) ≤ℤ (square (u.w *ℤ v.w *ℤ pos n) *ℤ square (pos r))
+
+-- a corner that moves by at most so many ticks along each axis is within the length that is shown
+pub corner_is_within : (m n size unit : ℕ) (u v : Spot) (r s t : ℕ) → pos 0 <ℤ pos m →
+    IsWithinTicks m n u v r (displacement u v).x → IsWithinTicks m n u v s (displacement u v).y →
+    IsWithinTicks m n u v t (displacement u v).z →
+    ((square (pos r) +ℤ square (pos s) +ℤ square (pos t)) *ℤ square (pos n *ℤ pos unit)) ≤ℤ
+    square (pos m *ℤ pos size) → IsWithin size unit u v
+corner_is_within m n size unit u v r s t pm x y z shown = record {
+  within =
+      move_is_within m n size unit u.w v.w (displacement u v).x (displacement u v).y (displacement u v).z r s t pm x y z
+      shown;
+}
