@@ -1,5 +1,5 @@
 -- Files before and after a Boolean, in the user's unit, and what the written one means
-use Rattle.std.specs.Prelude.{◌≡◌, ℕ, ◌^◌, ℤ, pos, ◌+ℤ◌, ◌*ℤ◌, ◌<ℤ◌, Option, Some, None, List, map, slice_get, slice_index}
+use Rattle.std.specs.Prelude.{◌≡◌, ◌^◌, ℤ, pos, ◌+ℤ◌, ◌*ℤ◌, ◌<ℤ◌, Option, Some, None, List, map, slice_get, slice_index}
 use Rattle.std.specs.List.{AllByRecursion}
 use Rattle.ember_expr.specs.Formula.{Formula}
 use Rattle.ember_expr.specs.Truth.{truth}
