@@ -78,7 +78,8 @@ both_out : (a b : Bool) → T (both a b) → T a × T b
 both_out true b t = (tt, t)
 both_out false b t = absurd t
 
-small_zero : (m : ℕ) → Small m (pos 0)
+-- 0 is small
+pub small_zero : (m : ℕ) → Small m (pos 0)
 small_zero m = record { small = omega arith }
 
 small_at : {ms : List ℕ} {env : List ℤ} → Inputs ms env → (i : ℕ) → Small (limit ms i) (at env i)

@@ -93,7 +93,8 @@ normal_turned : (u v w a : Vector) → dot a (normal u v w) ≡ dot a (normal v 
 normal_turned =
     identity (vector ∷ vector ∷ vector ∷ vector ∷ []) (λ u v w a. dotE a (normalE u v w) ≈ dotE a (normalE v w u)) cancels
 
-both_out : (a b : Bool) → T (a and b) → T a × T b
+-- both parts of a true conjunction are true
+pub both_out : (a b : Bool) → T (a and b) → T a × T b
 both_out true b t = (tt, t)
 both_out false b t = absurd t
 

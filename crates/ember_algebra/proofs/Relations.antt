@@ -56,6 +56,22 @@ pub every_append : {X : Type 0} (P : X → Type 0) (xs ys : List X) → Every P 
 every_append P [] ys h k = k
 every_append P (x ∷ xs) ys h k = (h.0, every_append P xs ys h.1 k)
 
+-- what follows for each member follows for all
+pub every_map : {X : Type 0} (P Q : X → Type 0) → ((x : X) → P x → Q x) → (xs : List X) → Every P xs → Every Q xs
+every_map P Q f [] h = tt
+every_map P Q f (x ∷ xs) h = (f x h.0, every_map P Q f xs h.1)
+
+-- nothing is asked of any member
+pub every_unit : {X : Type 0} (xs : List X) → Every (λ x. Unit {0}) xs
+every_unit [] = tt
+every_unit (x ∷ xs) = (tt, every_unit xs)
+
+-- what each member gives by one relation, it gives by another
+pub each_map : {X Y : Type 0} {R S : X → List Y → Type 0} → ((x : X) (ys : List Y) → R x ys → S x ys) →
+    {xs : List X} {ys : List Y} → Each R xs ys → Each S xs ys
+each_map f none = none
+each_map f (more {x = x} {ys = ys} r e) = more (f x ys r) (each_map f e)
+
 -- ---- sums
 -- if each member of xs gives g of it to the count, the list made has the sum
 pub each_count : {X Y : Type 0} {R : X → List Y → Type 0} (p : Y → Bool) (g : X → ℕ) (Q : X → Type 0) (P : Y → Type 0) →

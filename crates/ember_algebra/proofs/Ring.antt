@@ -4,6 +4,7 @@ use Prim.Native.Nat.{compare, Ordering}
 use lib.Dec.{compare_is_eq}
 use lib.IntN.{*ℤ_comm, +ℤ_idl, +ℤ_idr, zero-*ℤ, *ℤ-zero}
 use Rattle.ember_algebra.proofs.Laws.{*ℤ-+ℤ, +ℤ-*ℤ, *ℤ_assoc, neg-*ℤ, one-*ℤ, linear, same_from_difference}
+use Rattle.ember_algebra.proofs.Laws.{*ℤ_left_comm}
 
 infixl 6 ◌⊕◌ ◌⊖◌
 infixl 7 ◌⊗◌
@@ -134,9 +135,6 @@ same_mono (i ∷ m) (j ∷ n) e = by (compare i j) refl (same_mono m n) e
         let a : i ≡ j = eqb→eq i j (subst (λ (o : Ordering). T (compare_is_eq o)) (sym p) tt) in let b : m ≡ n = r q in cc
     by Ordering.gt p r q = let e : Ordering.gt ≡ Ordering.eq = same_length m n Ordering.gt q in cc
 
-left_comm : (a b c : ℤ) → a *ℤ (b *ℤ c) ≡ b *ℤ (a *ℤ c)
-left_comm a b c = sym (*ℤ_assoc a b c) ∙ ap (λ (z : ℤ). z *ℤ c) (*ℤ_comm a b) ∙ *ℤ_assoc b a c
-
 mono_slide : (env : List ℤ) (i : ℕ) (k : List ℕ → List ℕ) (x : ℤ) → ((n : List ℕ) → mono env (k n) ≡ x *ℤ mono env n) →
     (n : List ℕ) → mono env (slide i k n) ≡ (at env i *ℤ x) *ℤ mono env n
 mono_slide env i k x h [] = ap (λ (z : ℤ). at env i *ℤ z) (h []) ∙ sym (*ℤ_assoc (at env i) x (pos 1))
@@ -147,7 +145,7 @@ mono_slide env i k x h (j ∷ n) = by (compare i j) (mono_slide env i k x h n)
         ≡ (at env i *ℤ x) *ℤ mono env (j ∷ n)
     by Ordering.lt r = ap (λ (z : ℤ). at env i *ℤ z) (h (j ∷ n)) ∙ sym (*ℤ_assoc (at env i) x (mono env (j ∷ n)))
     by Ordering.eq r = ap (λ (z : ℤ). at env i *ℤ z) (h (j ∷ n)) ∙ sym (*ℤ_assoc (at env i) x (mono env (j ∷ n)))
-    by Ordering.gt r = ap (λ (z : ℤ). at env j *ℤ z) r ∙ left_comm (at env j) (at env i *ℤ x) (mono env n)
+    by Ordering.gt r = ap (λ (z : ℤ). at env j *ℤ z) r ∙ *ℤ_left_comm (at env j) (at env i *ℤ x) (mono env n)
 
 mono_mul : (env : List ℤ) (m n : List ℕ) → mono env (mulM m n) ≡ mono env m *ℤ mono env n
 mono_mul env [] n = sym (one-*ℤ (mono env n))
@@ -182,7 +180,7 @@ value_add env (term c m p) q = value_place env c m (addS p) (value env p) (value
 
 swap_inner : (c m d n : ℤ) → (c *ℤ d) *ℤ (m *ℤ n) ≡ (c *ℤ m) *ℤ (d *ℤ n)
 swap_inner c m d n =
-    *ℤ_assoc c d (m *ℤ n) ∙ ap (λ (z : ℤ). c *ℤ z) (left_comm d m n) ∙ sym (*ℤ_assoc c m (d *ℤ n))
+    *ℤ_assoc c d (m *ℤ n) ∙ ap (λ (z : ℤ). c *ℤ z) (*ℤ_left_comm d m n) ∙ sym (*ℤ_assoc c m (d *ℤ n))
 
 value_scale : (env : List ℤ) (c : ℤ) (m : List ℕ) (s : Sum) → value env (scale c m s) ≡ (c *ℤ mono env m) *ℤ value env s
 value_scale env c m none = sym (*ℤ-zero (c *ℤ mono env m))

@@ -150,6 +150,24 @@ signs (suc n) f t =
     let p = all_out (every n (f Neg)) (every n (f Zero)) (every n (f Pos)) t in
     λ s. each (λ s. AtAll n (f s)) (signs n (f Neg) p.0) (signs n (f Zero) p.1) (signs n (f Pos) p.2) s
 
+-- the opposite sign is Neg if the sign is Pos
+pub is_neg-flip : (s : Sign) → is_neg (flip s) ≡ is_pos s
+is_neg-flip Neg = refl
+is_neg-flip Zero = refl
+is_neg-flip Pos = refl
+
+-- the opposite sign is Pos if the sign is Neg
+pub is_pos-flip : (s : Sign) → is_pos (flip s) ≡ is_neg s
+is_pos-flip Neg = refl
+is_pos-flip Zero = refl
+is_pos-flip Pos = refl
+
+-- a sign whose opposite is Zero is Zero
+pub flip_zero : (t : Sign) → flip t ≡ Zero → t ≡ Zero
+flip_zero Neg e = cc
+flip_zero Zero e = refl
+flip_zero Pos e = cc
+
 -- ---- words of tests
 infixr 6 ◌and◌
 abbrev pub ◌and◌ : Bool → Bool → Bool

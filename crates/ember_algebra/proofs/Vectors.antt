@@ -1,8 +1,10 @@
 -- Identities of vectors and tuples: `identity (vector ∷ vector ∷ []) (λ u v. dotE u v ≈ dotE v u) cancels`.
-use Rattle.std.proofs.Common.{◌≡◌, ℕ, ◌+◌, List, [], ◌∷◌, reverse, ℤ}
-use Rattle.ember_algebra.specs.Vector.{Vector, Tuple}
+use Rattle.std.proofs.Common.{◌≡◌, ℕ, ◌+◌, List, [], ◌∷◌, reverse, ℤ, ◌≢◌, arith, pos, ◌*ℤ◌, ◌<ℤ◌}
+use Rattle.ember_algebra.specs.Vector.{Vector, Tuple, zero_v, dot}
 use Rattle.ember_algebra.proofs.Ring.{Expr, var, ◌⊕◌, ◌⊖◌, ◌⊗◌, Equation, Meaning, cancelled_equation_holds, difference}
 use Rattle.ember_algebra.proofs.Ring.{Cancels, cancels, Sum, none, norm, eval, ring}
+use Rattle.ember_algebra.proofs.Laws.{linear}
+use Rattle.ember_algebra.proofs.Order.{by_sign, square_nonneg, pos_mul, mul_neg_neg}
 
 pub data Shape : Type 0 where
   scalar : Shape
@@ -143,3 +145,22 @@ for_all_v (s ∷ ss) env q t = λ x. for_all_v ss (push s x env) q t
 -- the same for an identity whose two sides are vectors
 pub vector_identity : (ss : List Shape) (f : OfV ss) → VectorCancels (at_args_v ss 0 f) → ForAllV ss [] (at_args_v ss 0 f)
 vector_identity ss f t = for_all_v ss [] (at_args_v ss 0 f) t
+
+-- the square of a vector that isn't 0
+pub square_positive : (v : Vector) → v ≢ zero_v → pos 0 <ℤ dot v v
+square_positive v n =
+    by_sign v.x
+    (λ l. one (pos_mul l l))
+    (λ x. by_sign v.y (λ l. two (pos_mul l l))
+    (λ y. by_sign v.z (λ l. three (pos_mul l l)) (λ z. absurd (n (same_v x y z)))
+    (λ l. three (mul_neg_neg l l))) (λ l. two (mul_neg_neg l l)))
+    (λ l. one (mul_neg_neg l l))
+  where
+    one : pos 0 <ℤ (v.x *ℤ v.x) → pos 0 <ℤ dot v v
+    one l = omega (arith, linear, l, square_nonneg v.y, square_nonneg v.z)
+
+    two : pos 0 <ℤ (v.y *ℤ v.y) → pos 0 <ℤ dot v v
+    two l = omega (arith, linear, l, square_nonneg v.x, square_nonneg v.z)
+
+    three : pos 0 <ℤ (v.z *ℤ v.z) → pos 0 <ℤ dot v v
+    three l = omega (arith, linear, l, square_nonneg v.x, square_nonneg v.y)

@@ -1,7 +1,7 @@
 -- The numbers of edges: they are one only for one edge, and rise as edges do
 use Rattle.std.proofs.Common.{◌≡◌, ◌⊎◌, inl, inr, ℕ, ◌+◌, ◌*◌, ◌/◌, ◌%◌, ◌^◌, ◌<◌, Bool, true, false, ◌&&◌, ◌||◌, List}
-use Rattle.std.proofs.Common.{[], ◌∷◌, length, get_or, refl, sym, ap, subst, ◌∙◌, arith, SFits, to_z, of_z, zero, suc}
-use Rattle.std.proofs.Common.{ℤ, pos, negsuc, ◌-ℤ◌, ◌<ℤ◌, ◌≤ℤ◌}
+use Rattle.std.proofs.Common.{[], ◌∷◌, length, get_or, refl, sym, ap, subst, ◌∙◌, arith, SFits, to_z, of_z}
+use Rattle.std.proofs.Common.{ℤ, pos, ◌-ℤ◌, ◌<ℤ◌, ◌≤ℤ◌}
 use borrow.Author.Differences.{ints}
 use mir.Syntax.{w32}
 use Rattle.std.proofs.lemmas.Nat.{same_from_place, div-mul-add, mod-mul-add}
@@ -14,7 +14,7 @@ use Rattle.ember_algebra.proofs.Size.{fits_small}
 use Rattle.ember_model.specs.declared.point.Corner.{Corner}
 use Rattle.ember_model.specs.Valid.{IsValidCorner}
 use Rattle.ember_model.specs.Meshes.{Edge}
-use Rattle.ember_model.proofs.SignTests.{negative_out, zero_out, clash}
+use Rattle.ember_model.proofs.SignTests.{negative_out, zero_out, clash, negative_not_out}
 use Rattle.ember_balance.specs.Numbers.{digit, corner_number, edge_number, IsValidEdge}
 use Rattle.ember_balance.specs.Loose.{precedes, coordinates, comes_before}
 
@@ -104,15 +104,10 @@ edges_rise e f v w h = by (corners_rise e.from f.from (corner_precedes e.to f.to
     by (inl l) = let s = corner_small v.to in omega (arith, l, s)
     by (inr t) = by_end t.0 (corners_rise e.to f.to false v.to w.to t.1)
 
--- one of two different lists precedes the other
-negative_not_out : (z : ℤ) → is_negative z ≡ false → pos 0 ≤ℤ z
-negative_not_out (pos zero) e = omega (arith, ints)
-negative_not_out (pos (suc n)) e = omega (arith, ints)
-negative_not_out (negsuc n) e = absurd (clash refl e)
-
 not_less : (x y : ℤ) → is_negative (x -ℤ y) ≡ false → y ≤ℤ x
 not_less x y e = let l = negative_not_out (x -ℤ y) e in omega (arith, linear, l)
 
+-- one of two different lists precedes the other
 same_lists : (xs ys : List ℤ) → length xs ≡ length ys → precedes xs ys ≡ false → precedes ys xs ≡ false → xs ≡ ys
 same_lists [] [] l p q = refl
 same_lists [] (y ∷ ys) l p q = absurd (omega (arith, l))

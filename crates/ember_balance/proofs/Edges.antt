@@ -1,64 +1,24 @@
 -- Edges that are equal, how often they occur, and lists of them
-use Rattle.std.proofs.Common.{◌≡◌, ◌⊎◌, inl, inr, ℕ, ◌+◌, ◌*◌, ◌<◌, Bool, true, false, cond, ◌&&◌, List, [], ◌∷◌, ◌++◌}
-use Rattle.std.proofs.Common.{map, length, take, get_or, refl, sym, ap, subst, ◌∙◌, arith, eqb, ℤ, pos, ◌-ℤ◌}
+use Rattle.std.proofs.Common.{◌≡◌, ◌⊎◌, inl, inr, ℕ, ◌+◌, ◌*◌, ◌<◌, Bool, true, false, cond, List, [], ◌∷◌, ◌++◌}
+use Rattle.std.proofs.Common.{map, length, take, get_or, refl, sym, ap, subst, ◌∙◌, arith, eqb}
 use Rattle.std.specs.List.{All, AllByRecursion}
 use Rattle.std.proofs.lemmas.List.{take_more, map-append}
-use Rattle.std.proofs.lemmas.Bool.{and_parts, and_from, eq-eqb, eqb-true, ne_eqb}
+use Rattle.std.proofs.lemmas.Bool.{eq-eqb, eqb-true, ne_eqb}
 use Rattle.std.proofs.lemmas.List.Elements.{All-head, All-tail}
-use Rattle.ember_algebra.specs.Sign.{is_zero}
-use Rattle.ember_algebra.proofs.Laws.{linear}
-use Rattle.ember_algebra.proofs.Sums.{IsEquality, occurrences-map}
-use Rattle.ember_model.specs.declared.point.Corner.{Corner}
+use Rattle.ember_algebra.proofs.Sums.{occurrences-map}
 use Rattle.ember_model.specs.declared.tri.Tri.{Tri}
 use Rattle.ember_model.specs.Valid.{IsValidTri}
-use Rattle.ember_model.specs.Meshes.{Edge, reversed, edges_in, same_corner, same_edge, edge_count}
-use Rattle.ember_model.proofs.SignTests.{zero_out, clash, In}
+use Rattle.ember_model.specs.Meshes.{Edge, reversed, edges_in, same_edge, edge_count}
+use Rattle.ember_model.proofs.SignTests.{clash, In, is_zero-self}
+use Rattle.ember_model.proofs.SameEdges.{same_corner_out, same_edge_out, same_edge-refl}
+use Rattle.ember_model.proofs.SameEdges.{same_edge_reversed}
 use Rattle.ember_balance.specs.Counts.{count}
 use Rattle.ember_balance.specs.Numbers.{edge_number, two_way_number, IsValidEdge}
 
 -- ---- equal edges
-same_corners_out : (u v : Corner) → same_corner u v ≡ true → u ≡ v
-same_corners_out u v e =
-    let p = and_parts (is_zero (u.x -ℤ v.x)) (is_zero (u.y -ℤ v.y) && is_zero (u.z -ℤ v.z)) e in
-    let q = and_parts (is_zero (u.y -ℤ v.y)) (is_zero (u.z -ℤ v.z)) p.1 in
-    let a = zero_out (u.x -ℤ v.x) p.0 in let b = zero_out (u.y -ℤ v.y) q.0 in let c = zero_out (u.z -ℤ v.z) q.1 in
-    let x : u.x ≡ v.x = omega (arith, linear, a) in
-    let y : u.y ≡ v.y = omega (arith, linear, b) in
-    let z : u.z ≡ v.z = omega (arith, linear, c) in
-    λ i. record { x = x i; y = y i; z = z i }
-
-no_difference : (z : ℤ) → is_zero (z -ℤ z) ≡ true
-no_difference z = let e : z -ℤ z ≡ pos 0 = omega (arith, linear) in ap is_zero e
-
-same_corner-refl : (u : Corner) → same_corner u u ≡ true
-same_corner-refl u =
-    and_from _ _ (no_difference u.x) (and_from _ _ (no_difference u.y) (no_difference u.z))
-
-same_edge_out : (e f : Edge) → same_edge e f ≡ true → e ≡ f
-same_edge_out e f h =
-    let p = and_parts (same_corner e.from f.from) (same_corner e.to f.to) h in
-    let from = same_corners_out e.from f.from p.0 in let to = same_corners_out e.to f.to p.1 in
-    λ i. record { from = from i; to = to i }
-
-same_edge-refl : (e : Edge) → same_edge e e ≡ true
-same_edge-refl e = and_from _ _ (same_corner-refl e.from) (same_corner-refl e.to)
-
--- the test of two edges is their equality
-pub edges_are_equal : IsEquality Edge same_edge
-edges_are_equal = record { sound = same_edge_out; reflexive = same_edge-refl }
-
-and_swapped : (a b : Bool) → a && b ≡ b && a
-and_swapped true true = refl
-and_swapped true false = refl
-and_swapped false true = refl
-and_swapped false false = refl
-
-same_reversed : (e f : Edge) → same_edge e (reversed f) ≡ same_edge (reversed e) f
-same_reversed e f = and_swapped (same_corner e.from f.to) (same_corner e.to f.from)
-
 -- an edge is as often a reverse as its own reverse is an edge
 pub times_reversed : (e : Edge) (es : List Edge) → edge_count e (map reversed es) ≡ edge_count (reversed e) es
-times_reversed = occurrences-map same_edge reversed reversed same_reversed
+times_reversed = occurrences-map same_edge reversed reversed same_edge_reversed
 
 -- ---- by their numbers
 module _ (number : Edge → ℕ) (one : (e f : Edge) → IsValidEdge e → IsValidEdge f → number e ≡ number f → e ≡ f) where

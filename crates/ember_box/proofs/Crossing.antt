@@ -10,6 +10,7 @@ use Rattle.ember_algebra.specs.Sign.{is_negative, is_positive}
 use Rattle.ember_algebra.proofs.Laws.{linear}
 use Rattle.ember_algebra.proofs.Order.{mul_le}
 use Rattle.ember_algebra.proofs.Ring.{◌⊗◌, ◌≈◌, neg, solve, cancels}
+use Rattle.ember_algebra.proofs.Numbers.{int_le_in, int_le_out}
 use Rattle.ember_model.specs.declared.plane.Plane.{Plane}
 use Rattle.ember_model.specs.declared.point.Spot.{Spot}
 use Rattle.ember_model.specs.declared.point.Axis.TheVariants.{X, Y, Z}
@@ -21,7 +22,6 @@ use Rattle.ember_box.specs.declared.aabb.Aabb.{Aabb}
 use Rattle.ember_box.specs.Boxes.{Cell, low, high, side}
 use Rattle.ember_box.specs.Near.{spot_of_vector, corners}
 use Rattle.ember_box.specs.Aabbs.{aabb_of_cell, least_end, greatest_end, least_value, greatest_value, crosses}
-use Rattle.ember_box.proofs.Orders.{le_in, le_out}
 
 -- ---- one axis
 pub record IsBetween (s : Interval) (x : ℤ) : Type 0 where
@@ -81,8 +81,8 @@ pub crosses_at : (p : Plane) (b : Aabb) (x y z : ℤ) → IsIn b x y z → p.a *
 unfolding crosses
 crosses_at p b x y z i e =
     and_from (int_le (least_value p b) p.d) (int_le p.d (greatest_value p b))
-    (le_in (least_value p b) p.d (omega (arith, linear, least_at p b x y z i, e)))
-    (le_in p.d (greatest_value p b) (omega (arith, linear, greatest_at p b x y z i, e)))
+    (int_le_in (least_value p b) p.d (omega (arith, linear, least_at p b x y z i, e)))
+    (int_le_in p.d (greatest_value p b) (omega (arith, linear, greatest_at p b x y z i, e)))
 
 -- ---- the eight corners
 abbrev corner : ℤ → ℤ → ℤ → Spot
@@ -210,10 +210,10 @@ crosses_is c p =
     opposite false t f g = sym (g refl)
 
     not_above : list_all (λ v. is_positive (value_at p v)) (corners c) ≡ true → int_le (least_value p (aabb_of_cell c)) p.d ≡ true → ⊥
-    not_above e d = omega (arith, linear, least_above c p e, le_out (least_value p (aabb_of_cell c)) p.d d)
+    not_above e d = omega (arith, linear, least_above c p e, int_le_out (least_value p (aabb_of_cell c)) p.d d)
 
     not_under : list_all (λ v. is_negative (value_at p v)) (corners c) ≡ true → int_le p.d (greatest_value p (aabb_of_cell c)) ≡ true → ⊥
-    not_under e d = omega (arith, linear, greatest_under c p e, le_out p.d (greatest_value p (aabb_of_cell c)) d)
+    not_under e d = omega (arith, linear, greatest_under c p e, int_le_out p.d (greatest_value p (aabb_of_cell c)) d)
 
     clash : (s : Bool) → s ≡ true → s ≡ false → ⊥
     clash s p q = cc
@@ -222,13 +222,13 @@ crosses_is c p =
     not_both e =
         by_lt_z p.d (least_value p (aabb_of_cell c))
         (λ h. absurd (clash (list_all (λ v. is_positive (value_at p v)) (corners c)) (all_positive c p h) e))
-        (λ h. le_in (least_value p (aabb_of_cell c)) p.d h)
+        (λ h. int_le_in (least_value p (aabb_of_cell c)) p.d h)
 
     not_two : list_all (λ v. is_negative (value_at p v)) (corners c) ≡ false → int_le p.d (greatest_value p (aabb_of_cell c)) ≡ true
     not_two e =
         by_lt_z (greatest_value p (aabb_of_cell c)) p.d
         (λ h. absurd (clash (list_all (λ v. is_negative (value_at p v)) (corners c)) (all_negative c p h) e))
-        (λ h. le_in p.d (greatest_value p (aabb_of_cell c)) h)
+        (λ h. int_le_in p.d (greatest_value p (aabb_of_cell c)) h)
 
 -- ---- a box in another
 pub record IsWithin (b h : Aabb) : Type 0 where
@@ -269,5 +269,5 @@ crosses_more p b h w e =
           start_within (is_negative p.c) b.z h.z w.z_low w.z_high;
     }) in
     and_from (int_le (least_value p b) p.d) (int_le p.d (greatest_value p b))
-    (le_in (least_value p b) p.d (omega (arith, linear, l, le_out (least_value p h) p.d parts.0)))
-    (le_in p.d (greatest_value p b) (omega (arith, linear, g, le_out p.d (greatest_value p h) parts.1)))
+    (int_le_in (least_value p b) p.d (omega (arith, linear, l, int_le_out (least_value p h) p.d parts.0)))
+    (int_le_in p.d (greatest_value p b) (omega (arith, linear, g, int_le_out p.d (greatest_value p h) parts.1)))

@@ -5,13 +5,14 @@ use Rattle.std.proofs.lemmas.Int.{clamps}
 use Rattle.std.proofs.lemmas.Bool.{and_parts}
 use borrow.Author.Differences.{ints}
 use Rattle.ember_algebra.proofs.Ring.{◌⊕◌, ◌⊖◌, ◌⊗◌, ◌≈◌, solve, cancels}
+use Rattle.ember_algebra.proofs.Numbers.{int_le_out}
 use Rattle.ember_model.specs.declared.tri.Tri.{Tri}
 use Rattle.ember_model.specs.declared.point.Axis.TheVariants.{X, Y, Z}
 use Rattle.ember_model.specs.Planes.{support_of}
 use Rattle.ember_box.specs.declared.aabb.Interval.{Interval}
 use Rattle.ember_box.specs.Boxes.{Cell, low}
 use Rattle.ember_box.specs.Aabbs.{aabb_of_cell, interval_over, aabb_of_tri, intervals_meet, aabbs_meet, is_point, is_level, crosses}
-use Rattle.ember_box.proofs.Orders.{le_out, all3}
+use Rattle.ember_box.proofs.Orders.{all3}
 use Rattle.ember_box.proofs.Crossing.{IsBetween, corner_in, crosses_at}
 
 -- ---- the plane
@@ -93,8 +94,8 @@ record IsAt (x y z : ℤ) (s : Interval) : Type 0 where
 is_at : (x y z : ℤ) (s : Interval) → is_point (interval_over x y z) ≡ true → intervals_meet (interval_over x y z) s ≡ true → IsAt x y z s
 is_at x y z s p r =
     let q = and_parts (int_le (int_min (int_min x y) z) s.high) (int_le s.low (int_max (int_max x y) z)) r in
-    let l = le_out (int_min (int_min x y) z) s.high q.0 in let h = le_out s.low (int_max (int_max x y) z) q.1 in
-    let k = le_out (int_max (int_max x y) z) (int_min (int_min x y) z) p in
+    let l = int_le_out (int_min (int_min x y) z) s.high q.0 in let h = int_le_out s.low (int_max (int_max x y) z) q.1 in
+    let k = int_le_out (int_max (int_max x y) z) (int_min (int_min x y) z) p in
     record {
       between = record { from = omega (arith, ints, clamps, h, k); to = omega (arith, ints, clamps, l, k) };
       second = omega (arith, ints, clamps, k);

@@ -89,14 +89,15 @@ is_upper (x ∷ y ∷ z ∷ []) log path Z e l = ap₂ (λ n f. record {
 is_upper (x ∷ y ∷ z ∷ w ∷ lo) log path k e l = absurd (omega arith)
 
 -- twice as many of half the size
-double : (p m : ℕ) → p * 2 ^ suc m ≡ 2 * (p * 2 ^ m)
-double p m = ap (λ x. p * x) (pow-succ' 2 m) ∙ omega arith
+pub times_next_power : (p m : ℕ) → p * 2 ^ suc m ≡ 2 * (p * 2 ^ m)
+times_next_power p m = ap (λ x. p * x) (pow-succ' 2 m) ∙ omega arith
 
 even : (p x : ℕ) → 2 * p * x ≡ 2 * (p * x)
 even p x = omega arith
 
-next : (p x : ℕ) → (p + 1) * x ≡ p * x + x
-next p x = omega arith
+-- one time more
+pub times_one_more : (p x : ℕ) → (p + 1) * x ≡ p * x + x
+times_one_more p x = omega arith
 
 turn : (l a b : ℤ) → l +ℤ a +ℤ b ≡ l +ℤ b +ℤ a
 turn = solve 3 (λ l a b. l ⊕ a ⊕ b ≈ l ⊕ b ⊕ a) cancels
@@ -106,8 +107,15 @@ lower_sits l zero above s = absurd (omega arith)
 lower_sits l (suc m) above s = record {
   small = omega (arith, s.small);
   index = 2 * s.index;
-  at = s.at ∙ ap pos (double s.index m ∙ sym (even s.index (2 ^ m)));
-  within = omega (arith, s.within, double (s.index + 1) m, even s.index (2 ^ m), next s.index (2 ^ m), next (2 * s.index) (2 ^ m));
+  at = s.at ∙ ap pos (times_next_power s.index m ∙ sym (even s.index (2 ^ m)));
+  within = omega (
+    arith,
+    s.within,
+    times_next_power (s.index + 1) m,
+    even s.index (2 ^ m),
+    times_one_more s.index (2 ^ m),
+    times_one_more (2 * s.index) (2 ^ m),
+  );
 }
 
 upper_sits : (l : ℤ) (n : ℕ) → 0 < n → IsOnGrid l n → IsOnGrid (l +ℤ pos (2 ^ pred n)) (pred n)
@@ -116,15 +124,15 @@ upper_sits l (suc m) above s = record {
   small = omega (arith, s.small);
   index = 2 * s.index + 1;
   at = turn l (pos (2 ^ m)) (pos 2048) ∙ ap (λ x. x +ℤ pos (2 ^ m)) s.at
-      ∙ ap pos (omega (arith, double s.index m, even s.index (2 ^ m), next (2 * s.index) (2 ^ m)));
+      ∙ ap pos (omega (arith, times_next_power s.index m, even s.index (2 ^ m), times_one_more (2 * s.index) (2 ^ m)));
   within = omega (
     arith,
     s.within,
-    double (s.index + 1) m,
+    times_next_power (s.index + 1) m,
     even s.index (2 ^ m),
-    next s.index (2 ^ m),
-    next (2 * s.index) (2 ^ m),
-    next (2 * s.index + 1) (2 ^ m),
+    times_one_more s.index (2 ^ m),
+    times_one_more (2 * s.index) (2 ^ m),
+    times_one_more (2 * s.index + 1) (2 ^ m),
   );
 }
 
@@ -142,7 +150,7 @@ path_from : (p l m : ℕ) → m + 1 ≡ l → 2 ^ 36 ≤ p * 2 ^ l → (p + 1) *
 path_from p zero m e low high = absurd (omega arith)
 path_from p (suc l) m e low high =
     let same : m ≡ l = omega (arith, e) in
-    rw same (omega (arith, low, double p l), omega (arith, high, double (p + 1) l, next p (2 ^ l)))
+    rw same (omega (arith, low, times_next_power p l), omega (arith, high, times_next_power (p + 1) l, times_one_more p (2 ^ l)))
 
 -- the left half of a box is a box
 pub left_is_cell : (c : Cell) (k : Axis) → 0 < c.log k → IsCell c → IsCell (left_half c k)
@@ -151,7 +159,7 @@ left_is_cell c k above s =
     let r = path_from c.path (halvings_left c) m (left_less c k above) s.from s.below in record {
       sits = at k above;
       from = omega (arith, r.0, even c.path (2 ^ m));
-      below = omega (arith, r.1, even c.path (2 ^ m), next (2 * c.path) (2 ^ m));
+      below = omega (arith, r.1, even c.path (2 ^ m), times_one_more (2 * c.path) (2 ^ m));
     }
   where
     at : (k : Axis) → 0 < c.log k → (i : Axis) → IsOnGrid (low (left_half c k) i) ((left_half c k).log i)
@@ -171,8 +179,8 @@ right_is_cell c k above s =
     let m : ℕ = halvings_left (left_half c k) in
     let r = path_from c.path (halvings_left c) m (left_less c k above) s.from s.below in record {
       sits = at k above;
-      from = omega (arith, r.0, even c.path (2 ^ m), next (2 * c.path) (2 ^ m));
-      below = omega (arith, r.1, even c.path (2 ^ m), next (2 * c.path) (2 ^ m), next (2 * c.path + 1) (2 ^ m));
+      from = omega (arith, r.0, even c.path (2 ^ m), times_one_more (2 * c.path) (2 ^ m));
+      below = omega (arith, r.1, even c.path (2 ^ m), times_one_more (2 * c.path) (2 ^ m), times_one_more (2 * c.path + 1) (2 ^ m));
     }
   where
     at : (k : Axis) → 0 < c.log k → (i : Axis) → IsOnGrid (low (right_half c k) i) ((right_half c k).log i)
@@ -192,7 +200,7 @@ between (pos k) n l e = record { small = omega (arith, l, ap unsigned_abs e) }
 between (negsuc k) n l e = record { small = omega (arith, linear, e) }
 
 within : (x : ℤ) (n : ℕ) → IsOnGrid x n → Small 2048 x
-within x n s = between x (s.index * 2 ^ n) (omega (arith, s.within, next s.index (2 ^ n))) s.at
+within x n s = between x (s.index * 2 ^ n) (omega (arith, s.within, times_one_more s.index (2 ^ n))) s.at
 
 -- the least coordinate and the side of a box are small
 pub cell_side_is_small : (lo : List ℤ) (log : List ℕ) (path : ℕ) (k : Axis) → IsCell (cell_of lo log path) →

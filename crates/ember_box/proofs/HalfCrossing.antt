@@ -1,10 +1,12 @@
 -- A plane that crosses a box crosses a half of it if its constant lies far enough from the plane's least
 -- or greatest value over the box.
-use Rattle.std.proofs.Common.{◌≡◌, refl, sym, ap, ◌∙◌, arith, ◌^◌, ◌<◌, pred, Bool, true, false, ◌&&◌, if◌then◌else◌, ℤ, pos, ◌+ℤ◌, ◌-ℤ◌, ◌*ℤ◌, neg_ℤ, int_le}
+use Rattle.std.proofs.Common.{◌≡◌, sym, ap, ◌∙◌, arith, ◌^◌, ◌<◌, pred, Bool, true, false, ◌&&◌, if◌then◌else◌, ℤ, pos, ◌+ℤ◌, ◌-ℤ◌, ◌*ℤ◌, neg_ℤ, int_le}
 use Rattle.std.proofs.lemmas.Bool.{and_parts}
 use Rattle.ember_algebra.specs.Sign.{is_negative}
 use Rattle.ember_algebra.proofs.Laws.{linear}
 use Rattle.ember_algebra.proofs.Ring.{◌⊕◌, ◌⊗◌, ◌≈◌, solve, cancels}
+use Rattle.ember_algebra.proofs.Booleans.{and_with_true, same_test}
+use Rattle.ember_algebra.proofs.Numbers.{int_le_in, int_le_out}
 use Rattle.ember_model.specs.declared.plane.Plane.{Plane}
 use Rattle.ember_model.specs.declared.point.Axis.{Axis}
 use Rattle.ember_model.specs.declared.point.Axis.TheVariants.{X, Y, Z}
@@ -15,7 +17,6 @@ use Rattle.ember_box.specs.declared.near_parts.Middle.{Middle}
 use Rattle.ember_box.specs.Boxes.{Cell, low, high, left_half, right_half}
 use Rattle.ember_box.specs.Aabbs.{aabb_of_cell, least_value, greatest_value, crosses}
 use Rattle.ember_box.specs.NearParts.{IsMiddle, AreMargins, change_size, margin_of_left, margin_of_right}
-use Rattle.ember_box.proofs.Orders.{le_in, le_out, same_test}
 use Rattle.ember_box.proofs.NearByAabbs.{halves_end}
 
 -- ---- tests
@@ -24,14 +25,10 @@ same_le : (a b x y : ℤ) → b -ℤ a ≡ y -ℤ x → int_le a b ≡ int_le x 
 same_le a b x y e = same_test (int_le a b) (int_le x y) onward backward
   where
     onward : int_le a b ≡ true → int_le x y ≡ true
-    onward t = let l = le_out a b t in le_in x y (omega (arith, linear, e, l))
+    onward t = let l = int_le_out a b t in int_le_in x y (omega (arith, linear, e, l))
 
     backward : int_le x y ≡ true → int_le a b ≡ true
-    backward t = let l = le_out x y t in le_in a b (omega (arith, linear, e, l))
-
-with_true : (b t : Bool) → t ≡ true → b ≡ b && t
-with_true true t e = sym e
-with_true false t e = refl
+    backward t = let l = int_le_out x y t in int_le_in a b (omega (arith, linear, e, l))
 
 true_with : (b t : Bool) → t ≡ true → b ≡ t && b
 true_with b t e = sym (ap (λ (s : Bool). s && b) e)
@@ -49,7 +46,7 @@ low_test : (s : Bool) (l g d q above below l' g' : ℤ) → above ≡ d -ℤ l �
     l' ≡ l -ℤ (if s then q else pos 0) → g' ≡ g -ℤ (if s then pos 0 else q) → int_le l d ≡ true → int_le d g ≡ true →
     int_le (if s then neg_ℤ q else q) (if s then above else below) ≡ int_le l' d && int_le d g'
 low_test true l g d q above below l' g' a b e f m n =
-    same_le (neg_ℤ q) above l' d (omega (arith, linear, a, e)) ∙ with_true (int_le l' d) (int_le d g') (same_le d g' d g (omega (arith, linear, f)) ∙ n)
+    same_le (neg_ℤ q) above l' d (omega (arith, linear, a, e)) ∙ and_with_true (int_le l' d) (int_le d g') (same_le d g' d g (omega (arith, linear, f)) ∙ n)
 low_test false l g d q above below l' g' a b e f m n =
     same_le q below d g' (omega (arith, linear, b, f)) ∙ true_with (int_le d g') (int_le l' d) (same_le l' d l d (omega (arith, linear, e)) ∙ m)
 
@@ -59,7 +56,7 @@ high_test : (s : Bool) (l g d q above below l' g' : ℤ) → above ≡ d -ℤ l 
 high_test true l g d q above below l' g' a b e f m n =
     same_le (neg_ℤ q) below d g' (omega (arith, linear, b, f)) ∙ true_with (int_le d g') (int_le l' d) (same_le l' d l d (omega (arith, linear, e)) ∙ m)
 high_test false l g d q above below l' g' a b e f m n =
-    same_le q above l' d (omega (arith, linear, a, e)) ∙ with_true (int_le l' d) (int_le d g') (same_le d g' d g (omega (arith, linear, f)) ∙ n)
+    same_le q above l' d (omega (arith, linear, a, e)) ∙ and_with_true (int_le l' d) (int_le d g') (same_le d g' d g (omega (arith, linear, f)) ∙ n)
 
 -- ---- one axis: from l to h, each half as long as m
 module _ (n l m h q : ℤ) (e : h ≡ l +ℤ m +ℤ m) (f : q ≡ n *ℤ m) where

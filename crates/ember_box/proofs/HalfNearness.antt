@@ -2,10 +2,12 @@
 use Rattle.std.proofs.Common.{◌≡◌, refl, sym, ap, ◌∙◌, Bool, true, false, ◌&&◌, ◌||◌, if◌then◌else◌, ℕ, ◌+◌, ◌<◌}
 use Rattle.std.proofs.Common.{int_le, List, [], ◌∷◌, ◌++◌, filter, length, take, get_or, None, Some, Option}
 use Rattle.std.proofs.lemmas.List.Elements.{filter_more}
+use Rattle.ember_algebra.proofs.Booleans.{and_implied}
 use Rattle.ember_model.specs.declared.tri.Tri.{Tri}
 use Rattle.ember_model.specs.declared.plane.Plane.{Plane}
 use Rattle.ember_model.specs.declared.point.Axis.{Axis}
 use Rattle.ember_model.specs.Planes.{support_of}
+use Rattle.ember_model.proofs.SignTests.{and_true}
 use Rattle.ember_box.specs.declared.aabb.Aabb.{Aabb}
 use Rattle.ember_box.specs.declared.half_boxes.HalfBoxes.{HalfBoxes}
 use Rattle.ember_box.specs.Boxes.{Cell, low, left_half, right_half}
@@ -13,13 +15,8 @@ use Rattle.ember_box.specs.Near.{is_near}
 use Rattle.ember_box.specs.Aabbs.{interval_along, aabb_of_cell, aabb_of_tri, aabbs_meet, contains_aabb, is_level, crosses}
 use Rattle.ember_box.specs.Sums.{IsPlaneOf, may_cross, AreHalves, meets_left, meets_right}
 use Rattle.ember_box.proofs.FlatAlongAxis.{level_crossed}
-use Rattle.ember_box.proofs.Orders.{and_implied}
 use Rattle.ember_box.proofs.NearByAabbs.{near_is, AreInside, are_inside, inside_crossed, left_crossed, right_crossed}
 use Rattle.ember_box.proofs.HalvesMet.{left_meets, right_meets}
-
-always : (b : Bool) → b && true ≡ b
-always true = refl
-always false = refl
 
 -- where a triangle without a plane is crossed by what its bounding box meets
 crossed_by : (whole : Aabb) (c : Cell) (t : Tri) (p : Option Plane) → IsPlaneOf whole t p →
@@ -33,7 +30,7 @@ crossed_by whole c t p plane crossed = by p plane ∙ sym (near_is c t)
         && may_cross (aabb_of_cell c) p ≡ aabbs_meet (aabb_of_tri t) (aabb_of_cell c)
         && crosses (support_of t) (aabb_of_cell c)
     by None e =
-        always (aabbs_meet (aabb_of_tri t) (aabb_of_cell c))
+        and_true (aabbs_meet (aabb_of_tri t) (aabb_of_cell c))
         ∙ and_implied (aabbs_meet (aabb_of_tri t) (aabb_of_cell c)) (crosses (support_of t) (aabb_of_cell c))
         (λ o. or_either (is_level (aabb_of_tri t)) (contains_aabb whole (aabb_of_tri t)) e
         (λ l. level_crossed c t l o) (λ i. crossed (are_inside whole t i) o))
@@ -56,7 +53,7 @@ module _ (c : Cell) (t : Tri) (p : Option Plane) (o : aabbs_meet (aabb_of_tri t)
     where
       parts : (p : Option Plane) → meets_left h (interval_along (aabb_of_tri t) k) p ≡ int_le
           (interval_along (aabb_of_tri t) k).low h.middle && may_cross h.left p
-      parts None = sym (always (int_le (interval_along (aabb_of_tri t) k).low h.middle))
+      parts None = sym (and_true (int_le (interval_along (aabb_of_tri t) k).low h.middle))
       parts (Some p) = refl
 
       meets : int_le (interval_along (aabb_of_tri t) k).low h.middle ≡ aabbs_meet (aabb_of_tri t) (aabb_of_cell (left_half c k))
@@ -70,7 +67,7 @@ module _ (c : Cell) (t : Tri) (p : Option Plane) (o : aabbs_meet (aabb_of_tri t)
     where
       parts : (p : Option Plane) → meets_right h (interval_along (aabb_of_tri t) k) p ≡ int_le h.middle
           (interval_along (aabb_of_tri t) k).high && may_cross h.right p
-      parts None = sym (always (int_le h.middle (interval_along (aabb_of_tri t) k).high))
+      parts None = sym (and_true (int_le h.middle (interval_along (aabb_of_tri t) k).high))
       parts (Some p) = refl
 
       meets : int_le h.middle (interval_along (aabb_of_tri t) k).high ≡ aabbs_meet (aabb_of_tri t) (aabb_of_cell (right_half c k))

@@ -6,9 +6,7 @@ use Rattle.ember_model.specs.declared.point.Axis.TheVariants.{X, Y, Z}
 use Rattle.ember_box.specs.Boxes.{Cell}
 use Rattle.ember_box.specs.Near.{near}
 use Rattle.ember_box.specs.Halving.{half_sum, halving_axis, is_leaf}
-
-positive : (n : ℕ) → nat_lt 0 n ≡ true → 0 < n
-positive n e = grind arith
+use Rattle.ember_box.proofs.Lists.{positive}
 
 not_zero : (n : ℕ) → 0 < n → nat_lt 0 n ≡ false → ⊥
 not_zero n p e = grind arith

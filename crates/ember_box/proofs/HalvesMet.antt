@@ -1,13 +1,14 @@
 -- What meets a box meets a half of it if it reaches the middle.
 use Rattle.std.proofs.Common.{◌≡◌, refl, sym, ap, ◌∙◌, arith, ◌<◌, Bool, true, false, ◌&&◌, ℤ, ◌≤ℤ◌, int_le}
 use borrow.Author.Differences.{ints}
+use Rattle.ember_algebra.proofs.Numbers.{int_le_in, int_le_out}
 use Rattle.ember_model.specs.declared.point.Axis.{Axis}
 use Rattle.ember_model.specs.declared.point.Axis.TheVariants.{X, Y, Z}
 use Rattle.ember_box.specs.declared.aabb.Interval.{Interval}
 use Rattle.ember_box.specs.declared.aabb.Aabb.{Aabb}
 use Rattle.ember_box.specs.Boxes.{Cell, low, high, left_half, right_half}
 use Rattle.ember_box.specs.Aabbs.{interval_between, interval_along, aabb_of_cell, intervals_meet, aabbs_meet}
-use Rattle.ember_box.proofs.Orders.{le_in, le_out, and_assoc}
+use Rattle.ember_box.proofs.Orders.{and_assoc}
 use Rattle.ember_box.proofs.NearByAabbs.{halves_end}
 
 -- ---- one axis
@@ -27,11 +28,12 @@ third_tells_second true false false f = refl
 
 lower_part : (a w : Interval) (m : ℤ) → m ≤ℤ w.high → intervals_meet a w && int_le a.low m ≡ intervals_meet a (interval_between w.low m)
 lower_part a w m h =
-    third_tells_first (int_le a.low w.high) (int_le w.low a.high) (int_le a.low m) (λ e. le_in a.low w.high (omega (arith, ints, h, le_out a.low m e)))
+    third_tells_first (int_le a.low w.high) (int_le w.low a.high) (int_le a.low m) (λ e. int_le_in a.low w.high (omega (arith, ints, h, int_le_out a.low m e)))
 
 upper_part : (a w : Interval) (m : ℤ) → w.low ≤ℤ m → intervals_meet a w && int_le m a.high ≡ intervals_meet a (interval_between m w.high)
 upper_part a w m h =
-    third_tells_second (int_le a.low w.high) (int_le w.low a.high) (int_le m a.high) (λ e. le_in w.low a.high (omega (arith, ints, h, le_out m a.high e)))
+    third_tells_second (int_le a.low w.high) (int_le w.low a.high) (int_le m a.high)
+    (λ e. int_le_in w.low a.high (omega (arith, ints, h, int_le_out m a.high e)))
 
 -- ---- a fourth test beside that of one axis
 beside_x : (x y z t : Bool) → x && y && z && t ≡ x && t && y && z

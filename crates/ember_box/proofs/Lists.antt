@@ -3,7 +3,8 @@
 use Rattle.std.proofs.Common.{◌≡◌, ℕ, suc, ◌+◌, ◌*◌, ◌<◌, refl, sym, ap, ◌∙◌, arith, Bool, true, false, not, ◌&&◌, ◌||◌}
 use Rattle.std.proofs.Common.{cond, if◌then◌else◌, nat_lt, nat_le, List, [], ◌∷◌, filter, map, length, All}
 use Rattle.std.specs.List.{range_with_len}
-use Rattle.std.proofs.lemmas.List.Elements.{All-filter}
+use Rattle.std.proofs.lemmas.List.Elements.{All-filter, All-from_get_or}
+use Rattle.std.proofs.lemmas.List.FromFn.{length-range_with_len, get_or-range_with_len}
 use Rattle.ember_model.specs.declared.tri.Tri.{Tri}
 use Rattle.ember_model.specs.declared.point.Axis.{Axis}
 use Rattle.ember_model.specs.declared.point.Axis.TheVariants.{X, Y, Z}
@@ -66,7 +67,8 @@ half_sum_near : (ts : List Tri) (c : Cell) (k : Axis) → 0 < c.log k → half_s
 unfolding half_sum
 half_sum_near ts c k p = λ i. length (left_list ts c k p i) + length (right_list ts c k p i)
 
-positive : (n : ℕ) → nat_lt 0 n ≡ true → 0 < n
+-- a number that passes the test is positive
+pub positive : (n : ℕ) → nat_lt 0 n ≡ true → 0 < n
 positive n e = grind arith
 
 -- the near triangles alone decide along which axis a box is halved, and whether it is a leaf
@@ -137,3 +139,10 @@ is_leaf_listed ts c = ap (λ us. is_leaf us c) (listed_near_all ts c) ∙ is_lea
 -- near indices are indices of the list
 pub near_in_range : (ts : List Tri) (c : Cell) (is : List ℕ) → All (λ i. i < length ts) is → All (λ i. i < length ts) (near_indices ts c is)
 near_in_range ts c is a = All-filter (λ i. is_near c (tri_at ts i)) (λ i. i < length ts) is a
+
+-- all indices of a list are in range
+pub all_indices_below : (ts : List Tri) → All (λ i. i < length ts) (all_indices ts)
+all_indices_below ts =
+    All-from_get_or (λ i. i < length ts) (all_indices ts) 0 (λ i l. let b : i < length ts =
+    omega (arith, l, length-range_with_len 0 (length ts)) in let e = get_or-range_with_len 0 (length ts) i 0 b in
+    rw e (omega arith))

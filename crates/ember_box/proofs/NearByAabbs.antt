@@ -8,6 +8,7 @@ use Rattle.std.proofs.lemmas.Bool.{and_parts, and_from}
 use borrow.Author.Differences.{ints}
 use Rattle.ember_algebra.proofs.Laws.{linear}
 use Rattle.ember_algebra.proofs.Ring.{◌⊕◌, ◌⊖◌, ◌⊗◌, ◌≈◌, solve, cancels}
+use Rattle.ember_algebra.proofs.Numbers.{int_le_in, int_le_out}
 use Rattle.ember_model.specs.declared.tri.Tri.{Tri}
 use Rattle.ember_model.specs.declared.point.Corner.{Corner}
 use Rattle.ember_model.specs.declared.point.Axis.{Axis}
@@ -19,7 +20,7 @@ use Rattle.ember_box.specs.Boxes.{Cell, entry_along, low, high, left_half, right
 use Rattle.ember_box.specs.Near.{spans_meet, is_near}
 use Rattle.ember_box.specs.Aabbs.{aabb_of_cell, interval_over, aabb_of_tri, intervals_meet, aabbs_meet, covers}
 use Rattle.ember_box.specs.Aabbs.{contains_aabb, contains_coordinate, contains_corner, crosses}
-use Rattle.ember_box.proofs.Orders.{le_in, le_out, and_assoc, one_of_three, least_of, greatest_of, reaches_is, All3, all3, from3}
+use Rattle.ember_box.proofs.Orders.{and_assoc, one_of_three, least_of, greatest_of, reaches_is, All3, all3, from3}
 use Rattle.ember_box.proofs.Crossing.{IsBetween, IsIn, IsWithin, crosses_at, crosses_is, crosses_more}
 
 -- a triangle is near a box if their bounding boxes meet and its plane crosses the box
@@ -68,7 +69,7 @@ crossed_c t b i = crosses_at (support_of t) b t.c.x t.c.y t.c.z i (on_plane_c t)
 between_out : (s : Interval) (x : ℤ) → contains_coordinate s x ≡ true → IsBetween s x
 between_out s x e =
     let r = and_parts (int_le s.low x) (int_le x s.high) e in
-    record { from = le_out s.low x r.0; to = le_out x s.high r.1 }
+    record { from = int_le_out s.low x r.0; to = int_le_out x s.high r.1 }
 
 -- a corner that passes the test lies in the bounding box
 pub inside_out : (b : Aabb) (u : Corner) → contains_corner b u ≡ true → IsInside b u
@@ -113,7 +114,7 @@ inside_crossed t b i = crossed_a t b i.of_a
 covered : (x y z : ℤ) (s : Interval) → covers s (interval_over x y z) ≡ true → IsBetween s x × (IsBetween s y × IsBetween s z)
 covered x y z s e =
     let r = and_parts (int_le s.low (int_min (int_min x y) z)) (int_le (int_max (int_max x y) z) s.high) e in
-    let l = le_out s.low (int_min (int_min x y) z) r.0 in let h = le_out (int_max (int_max x y) z) s.high r.1 in (
+    let l = int_le_out s.low (int_min (int_min x y) z) r.0 in let h = int_le_out (int_max (int_max x y) z) s.high r.1 in (
       record { from = omega (arith, ints, clamps, l); to = omega (arith, ints, clamps, h) },
       (
         record { from = omega (arith, ints, clamps, l); to = omega (arith, ints, clamps, h) },
@@ -140,11 +141,11 @@ some_left : (c : Cell) (k : Axis) (t : Tri) → AreInside (aabb_of_cell c) t →
     crosses (support_of t) (aabb_of_cell (left_half c k)) ≡ true
 some_left c k t i e =
     let h = high (left_half c k) k in
-    ⊎_elim (λ p. crossed_a t (aabb_of_cell (left_half c k)) (left_in c k t.a i.of_a (le_out (entry_along k (vector_of t.a)) h p)))
+    ⊎_elim (λ p. crossed_a t (aabb_of_cell (left_half c k)) (left_in c k t.a i.of_a (int_le_out (entry_along k (vector_of t.a)) h p)))
     (λ q. ⊎_elim (λ p. crossed_b t (aabb_of_cell (left_half c k))
-    (left_in c k t.b i.of_b (le_out (entry_along k (vector_of t.b)) h p)))
+    (left_in c k t.b i.of_b (int_le_out (entry_along k (vector_of t.b)) h p)))
     (λ p. crossed_c t (aabb_of_cell (left_half c k))
-    (left_in c k t.c i.of_c (le_out (entry_along k (vector_of t.c)) h p))) q)
+    (left_in c k t.c i.of_c (int_le_out (entry_along k (vector_of t.c)) h p))) q)
     (one_of_three (int_le (entry_along k (vector_of t.a)) h) (int_le (entry_along k (vector_of t.b)) h) (int_le (entry_along k (vector_of t.c)) h) e)
 
 some_right : (c : Cell) (k : Axis) (t : Tri) → 0 < c.log k → AreInside (aabb_of_cell c) t →
@@ -154,11 +155,11 @@ some_right : (c : Cell) (k : Axis) (t : Tri) → 0 < c.log k → AreInside (aabb
     crosses (support_of t) (aabb_of_cell (right_half c k)) ≡ true
 some_right c k t p i e =
     let l = low (right_half c k) k in
-    ⊎_elim (λ h. crossed_a t (aabb_of_cell (right_half c k)) (right_in c k t.a p i.of_a (le_out l (entry_along k (vector_of t.a)) h)))
+    ⊎_elim (λ h. crossed_a t (aabb_of_cell (right_half c k)) (right_in c k t.a p i.of_a (int_le_out l (entry_along k (vector_of t.a)) h)))
     (λ q. ⊎_elim (λ h. crossed_b t (aabb_of_cell (right_half c k))
-    (right_in c k t.b p i.of_b (le_out l (entry_along k (vector_of t.b)) h)))
+    (right_in c k t.b p i.of_b (int_le_out l (entry_along k (vector_of t.b)) h)))
     (λ h. crossed_c t (aabb_of_cell (right_half c k))
-    (right_in c k t.c p i.of_c (le_out l (entry_along k (vector_of t.c)) h))) q)
+    (right_in c k t.c p i.of_c (int_le_out l (entry_along k (vector_of t.c)) h))) q)
     (one_of_three (int_le l (entry_along k (vector_of t.a))) (int_le l (entry_along k (vector_of t.b))) (int_le l (entry_along k (vector_of t.c))) e)
 
 overlaps : (a b : Aabb) → aabbs_meet a b ≡ true → All3 (intervals_meet a.x b.x) (intervals_meet a.y b.y) (intervals_meet a.z b.z)
@@ -199,8 +200,8 @@ reaches_more : (a b h : Interval) → IsBetween b h.low → IsBetween b h.high �
 reaches_more a b h l k e =
     let r = and_parts (int_le a.low h.high) (int_le h.low a.high) e in
     and_from (int_le a.low b.high) (int_le b.low a.high)
-    (le_in a.low b.high (omega (arith, linear, k.to, le_out a.low h.high r.0)))
-    (le_in b.low a.high (omega (arith, linear, l.from, le_out h.low a.high r.1)))
+    (int_le_in a.low b.high (omega (arith, linear, k.to, int_le_out a.low h.high r.0)))
+    (int_le_in b.low a.high (omega (arith, linear, l.from, int_le_out h.low a.high r.1)))
 
 near_more : (c h : Cell) (t : Tri) → IsWithin (aabb_of_cell c) (aabb_of_cell h) → is_near h t ≡ true → is_near c t ≡ true
 near_more c h t w e =

@@ -1,29 +1,10 @@
 -- Tests of order, and what the least and the greatest of three numbers say.
-use Rattle.std.proofs.Common.{◌≡◌, ◌⊎◌, inl, inr, refl, sym, ap, ◌∙◌, arith, Bool, true, false, ◌&&◌, ◌||◌, cond, ℤ, ◌≤ℤ◌, int_le, int_lt}
+use Rattle.std.proofs.Common.{◌≡◌, ◌⊎◌, inl, inr, refl, ap, ◌∙◌, arith, Bool, true, false, ◌&&◌, ◌||◌, cond, ℤ, int_le, int_lt}
 use Rattle.std.specs.Int.{int_min, int_max}
 use Rattle.std.proofs.lemmas.Bool.{and_parts, and_from}
 use borrow.Author.Differences.{ints}
 use Rattle.ember_box.specs.declared.aabb.Interval.{Interval}
 use Rattle.ember_box.specs.Aabbs.{interval_over, intervals_meet}
-
--- the test answers true of numbers in order
-pub le_in : (a b : ℤ) → a ≤ℤ b → int_le a b ≡ true
-le_in a b h = grind (arith, ints)
-
--- numbers that pass the test are in order
-pub le_out : (a b : ℤ) → int_le a b ≡ true → a ≤ℤ b
-le_out a b e = grind (arith, ints)
-
--- two tests that follow from each other are one
-pub same_test : (s t : Bool) → (s ≡ true → t ≡ true) → (t ≡ true → s ≡ true) → s ≡ t
-same_test true t f g = sym (f refl)
-same_test false true f g = g refl
-same_test false false f g = refl
-
--- a test that follows from another adds nothing to it
-pub and_implied : (s t : Bool) → (s ≡ true → t ≡ true) → s ≡ s && t
-and_implied true t f = sym (f refl)
-and_implied false t f = refl
 
 -- `&&` is associative
 pub and_assoc : (s t u : Bool) → s && t && u ≡ s && (t && u)

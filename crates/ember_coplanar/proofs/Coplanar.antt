@@ -8,6 +8,7 @@ use Rattle.ember_algebra.proofs.Laws.{linear}
 use Rattle.ember_algebra.proofs.Order.{square_nonneg, zero_product}
 use Rattle.ember_algebra.proofs.Ring.{◌⊕◌, ◌⊖◌, ◌⊗◌, num, ◌≈◌, solve, cancels}
 use Rattle.ember_algebra.proofs.Vectors.{vector, tuple, identity, VectorE, TupleE, minusE, scaleE, dotE, crossE, valueE, vector_partE}
+use Rattle.ember_algebra.proofs.Numbers.{square_zero}
 use Rattle.ember_model.specs.declared.point.Corner.{Corner}
 use Rattle.ember_model.specs.declared.point.Spot.{Spot}
 use Rattle.ember_model.specs.declared.plane.Plane.{Plane}
@@ -55,19 +56,12 @@ through_away n c v =
     (record { x = n.x; y = n.y; z = n.z; w = dotE n c }) v) cancels n (vector_of c) (spot_tuple v)
 
 -- ---- planes
-zero_square : (x : ℤ) → x *ℤ x ≡ pos 0 → x ≡ pos 0
-zero_square x e = by (zero_product e)
-  where
-    by : (x ≡ pos 0) ⊎ (x ≡ pos 0) → x ≡ pos 0
-    by (inl q) = q
-    by (inr q) = q
-
 square_not_zero : (n : Vector) → is_zero n.x && (is_zero n.y && is_zero n.z) ≡ false → dot n n ≡ pos 0 → ⊥
 square_not_zero n h e =
     let a = square_nonneg n.x in let b = square_nonneg n.y in let c = square_nonneg n.z in
-    let x = zero_square n.x (omega (arith, linear, a, b, c, e)) in
-    let y = zero_square n.y (omega (arith, linear, a, b, c, e)) in
-    let z = zero_square n.z (omega (arith, linear, a, b, c, e)) in
+    let x = square_zero n.x (omega (arith, linear, a, b, c, e)) in
+    let y = square_zero n.y (omega (arith, linear, a, b, c, e)) in
+    let z = square_zero n.z (omega (arith, linear, a, b, c, e)) in
     clash ((λ i. is_zero (x i) && (is_zero (y i) && is_zero (z i)))) h
 
 module _ (p : Plane) (u : Tri) (a : value_at p (spot_of_corner u.a) ≡ pos 0)

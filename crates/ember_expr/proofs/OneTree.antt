@@ -2,6 +2,7 @@
 use Rattle.std.proofs.Common.{◌≡◌, ℕ, ◌≤◌, max, Bool, true, false, if◌then◌else◌, nat_le, List, [], ◌∷◌, map, length}
 use Rattle.std.proofs.Common.{refl, ap, sym, subst, ◌∙◌, arith, rules, Ok, Err, Result, inl, inr}
 use Rattle.ember_algebra.specs.Relations.{Every}
+use Rattle.ember_algebra.proofs.Relations.{every_map}
 use Rattle.ember_expr.specs.declared.fault.ExprFault.{ExprFault}
 use Rattle.ember_expr.specs.declared.fault.ExprFault.TheVariants.{Syntax, NoMesh, Long}
 use Rattle.ember_expr.specs.declared.fault.ExprFault.TheVariants as fault
@@ -22,10 +23,6 @@ use Rattle.ember_expr.proofs.CompleteTrees.{text_accepts}
 
 abbrev Never : ExprFault → Type 0
 Never fault = ⊥
-
-every_of : {X : Type 0} (P Q : X → Type 0) → ((x : X) → P x → Q x) → (xs : List X) → Every P xs → Every Q xs
-every_of P Q h [] e = tt
-every_of P Q h (x ∷ xs) e = (h x e.0, every_of P Q h xs e.1)
 
 every_one : {X : Type 0} (P : X → Type 0) → ((x : X) → P x) → (xs : List X) → Every P xs
 every_one P h [] = tt
@@ -64,7 +61,7 @@ unfolding whole
 whole_of scope left ts f d shallow fit =
     ends_with f (or (not scope left) ts) (subst (λ rule. Accepts Never f [] (or rule ts)) (sym (not_same scope left))
     (text_accepts Never (limits scope) scope left (words ts) f d (inl shallow)
-    (every_of (IsFitWord scope.meshes) (Passes Never (limits scope)) (fit_passes scope) (words ts) fit) ts refl))
+    (every_map (IsFitWord scope.meshes) (Passes Never (limits scope)) (fit_passes scope) (words ts) fit) ts refl))
 
 -- a text of the grammar within the limits is parsed as its tree
 pub text_is_parsed : (text : List ℕ) (meshes : ℕ) (f : Formula) → HasTree text meshes f → expr_of text meshes ≡ Ok f

@@ -1,11 +1,12 @@
 -- Boxes one after another are a scene of two meshes
-use Rattle.std.proofs.Common.{◌≡◌, ℕ, ◌+◌, ◌*◌, ◌≤◌, Bool, true, false, not, cond, List, [], ◌∷◌, ◌++◌, map, length}
+use Rattle.std.proofs.Common.{◌≡◌, ℕ, ◌+◌, ◌*◌, ◌≤◌, Bool, true, false, not, cond, List, [], ◌∷◌, ◌++◌, length}
 use Rattle.std.proofs.Common.{length-append, append-nil, refl, sym, ap, subst, ◌∙◌, arith, eqb}
 use Rattle.std.specs.List.{All, filter, range_with_len}
 use Rattle.std.proofs.lemmas.List.Elements.{All-nil, All-append, filter-append}
 use Rattle.std.proofs.lemmas.List.Filters.{length-filter_both}
-use Rattle.std.proofs.lemmas.List.FromFn.{length-range_with_len, map-range_with_len_more}
+use Rattle.std.proofs.lemmas.List.FromFn.{length-range_with_len}
 use Rattle.std.proofs.lemmas.Grind.{flat_map-append}
+use Rattle.ember_algebra.proofs.Lists.{range_more}
 use Rattle.ember_model.specs.declared.tri.Tri.{Tri}
 use Rattle.ember_model.specs.Valid.{IsValidTri}
 use Rattle.ember_model.specs.Meshes.{of_mesh, IsBalanced, HasMesh, IsScene}
@@ -69,14 +70,6 @@ is_scene n l = record {
 }
 
 -- ---- one box more
-range_more : (n : ℕ) → range_with_len 0 (n + 1) ≡ range_with_len 0 n ++ n ∷ []
-range_more n =
-    sym (map_same (range_with_len 0 (n + 1))) ∙ map-range_with_len_more (λ i. i) 0 n n (omega arith) ∙ ap (λ is. is ++ n ∷ []) (map_same (range_with_len 0 n))
-  where
-    map_same : (is : List ℕ) → map (λ i. i) is ≡ is
-    map_same [] = refl
-    map_same (i ∷ is) = ap (λ js. i ∷ js) (map_same is)
-
 mesh_more : (m : ℕ) (p : ℕ → Bool) (n : ℕ) → mesh_of m (filter p (range_with_len 0 (n + 1))) ≡ mesh_of m
     (filter p (range_with_len 0 n)) ++ cond (p n) (triangles_of m (block_of n)) []
 mesh_more m p n =

@@ -3,6 +3,7 @@ use Rattle.std.proofs.Common.{◌≡◌, ℕ, suc, ◌≤◌, ◌==◌, ℤ, pos
 use Rattle.std.proofs.Common.{inl, inr, List, [], ◌∷◌, All, Option, Some, None, IfSome, refl, sym, ap, ap₂, ◌∙◌, subst}
 use Rattle.std.proofs.Common.{arith}
 use Rattle.std.proofs.lemmas.Bool.Decides.{eqb_tells}
+use Rattle.std.proofs.lemmas.Bool.{or_parts}
 use Rattle.ember_expr.specs.declared.trees.Term.{Term}
 use Rattle.ember_expr.specs.Formula.{Formula, Or, Xor, And, Not, Mesh, Odd, Compare, IsFit, IsFitTerm, IsMeshNumber}
 use Rattle.ember_expr.specs.Truth.{mesh_factor, signed, term_value, sum_from, is_odd, holds_between, differ, truth}
@@ -43,10 +44,6 @@ plain_tells : (u x t : Bool) → (u ≡ false → t ≡ x) → Tells (truth_unle
 plain_tells true x t same = tt
 plain_tells false x t same = same refl
 
-neither : (a b : Bool) → (a || b) ≡ false → (a ≡ false) × (b ≡ false)
-neither true b e = (e, absurd (let f : true ≡ false = e in grind arith))
-neither false b e = (refl, e)
-
 module _ (undecided : ℕ → Bool) (counts others : List ℤ) (agree : AgreeOutside undecided counts others) where
   counted_same : (n : ℕ) → n ≤ 64 → (not (n == 0) && undecided n) ≡ false → mesh_factor others n ≡ mesh_factor counts n
   counted_same n last e = elim (eqb_tells n 0) [
@@ -59,7 +56,7 @@ module _ (undecided : ℕ → Bool) (counts others : List ℤ) (agree : AgreeOut
   sum_same : (start : ℤ) (ts : List Term) → All (IsFitTerm 64) ts → mentions undecided ts ≡ false → sum_from start others ts ≡ sum_from start counts ts
   sum_same start [] fit none = refl
   sum_same start (t ∷ ts) fit none =
-      let both = neither (not (t.mesh == 0) && undecided t.mesh) (mentions undecided ts) none in
+      let both = or_parts (not (t.mesh == 0) && undecided t.mesh) (mentions undecided ts) none in
       let here : term_value others t ≡ term_value counts t =
       ap (λ z. signed t.minus (pos t.factor *ℤ z)) (counted_same t.mesh (fit 0 t (omega arith)).mesh both.0) in
       ap (λ z. sum_from (start +ℤ z) others ts) here ∙ sum_same (start +ℤ term_value counts t) ts (λ i d l. fit (suc i) d (omega (arith, l))) both.1
@@ -74,7 +71,7 @@ module _ (undecided : ℕ → Bool) (counts others : List ℤ) (agree : AgreeOut
       (λ e. ap is_odd (sum_same (pos 0) sum fit.terms e))
   tells (Compare left rel right) fit = plain_tells (mentions undecided left || mentions undecided right)
       (truth counts (Compare left rel right)) (truth others (Compare left rel right)) (λ e.
-      let both = neither (mentions undecided left) (mentions undecided right) e in
+      let both = or_parts (mentions undecided left) (mentions undecided right) e in
       ap₂ (holds_between rel) (sum_same (pos 0) left fit.0.terms both.0) (sum_same (pos 0) right fit.1.terms both.1))
 
   -- a decided value holds whatever the undecided meshes are

@@ -1,6 +1,7 @@
 -- A point of a triangle's closed face lies on each side of a plane on which all three corners lie.
 use Rattle.std.proofs.Common.{◌≡◌, ◌≢◌, sym, ap, ◌∙◌, arith, true, false, not, [], ◌∷◌, ℤ, pos, ◌+ℤ◌, ◌*ℤ◌, neg_ℤ, ◌<ℤ◌, ◌≤ℤ◌}
 use Rattle.std.proofs.lemmas.Int.{by_lt_z}
+use Rattle.std.proofs.lemmas.Bool.{and_parts}
 use Rattle.ember_algebra.specs.Sign.{sign, is_positive}
 use Rattle.ember_algebra.proofs.Laws.{linear}
 use Rattle.ember_algebra.proofs.Order.{pos_mul, nonneg_mul}
@@ -15,7 +16,7 @@ use Rattle.ember_model.specs.Planes.{vector_of, unit, value_at, along, main_axis
 use Rattle.ember_model.specs.Faces.{is_flat, face_of, is_in_closed}
 use Rattle.ember_model.specs.ClearTest.{none_positive}
 use Rattle.ember_model.specs.Owners.{spot_of_corner}
-use Rattle.ember_model.proofs.SignTests.{and_parts, not_positive_out, size_positive, clash, zero_scaled}
+use Rattle.ember_model.proofs.SignTests.{not_positive_out, size_positive, clash, zero_scaled}
 use Rattle.ember_model.proofs.PlaneValues.{value_times, size-is, along_dot, tuple_of, supportE, edgeE}
 use Rattle.ember_model.proofs.SeenCrossings.{main_zero}
 use Rattle.ember_model.proofs.Hits.{closed_parts}

@@ -1,6 +1,7 @@
 -- Flat triangles: their support plane is 0 everywhere, and nothing crosses them. So sums over the
 -- faces of triangles are sums over all triangles.
 use Rattle.std.proofs.Common.{◌≡◌, ◌⊎◌, inl, inr, refl, sym, ap, ◌∙◌, arith, Bool, true, false, not, cond, ◌&&◌, List, [], ◌∷◌, ℤ, pos, ◌+ℤ◌, ◌-ℤ◌, ◌*ℤ◌}
+use Rattle.std.proofs.lemmas.Bool.{and_parts}
 use Rattle.ember_algebra.specs.Vector.{Vector, dot, cross, det, normal}
 use Rattle.ember_algebra.specs.declared.Sign.{Sign}
 use Rattle.ember_algebra.specs.Sign.{sgn, is_zero}
@@ -20,7 +21,7 @@ use Rattle.ember_model.specs.declared.face.Face.{Face}
 use Rattle.ember_model.specs.Planes.{vector_of, value_at, along, support_of}
 use Rattle.ember_model.specs.Faces.{is_flat, face_of, crossing, leg}
 use Rattle.ember_model.specs.Meshes.{faces_of}
-use Rattle.ember_model.proofs.SignTests.{and_parts, zero_out, zero_scaled, zero_times, negative_not}
+use Rattle.ember_model.proofs.SignTests.{zero_out, zero_scaled, zero_times, negative_not}
 use Rattle.ember_model.proofs.PlaneValues.{seen, tuple_of, seenE, supportE}
 use Rattle.ember_model.proofs.Hits.{crossing_off}
 use Rattle.ember_model.proofs.Legs.{leg_off}

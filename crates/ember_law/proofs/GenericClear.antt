@@ -4,6 +4,7 @@ use Rattle.std.proofs.Common.{List, [], ◌∷◌, map, filter, ℤ, pos, negsuc
 use Rattle.std.specs.List.{AllByRecursion}
 use borrow.Author.Differences.{ints}
 use lib.IntN.{*ℤ_comm}
+use Rattle.std.proofs.lemmas.Bool.{and_parts}
 use Rattle.ember_algebra.specs.Vector.{dot, cross}
 use Rattle.ember_algebra.specs.Sign.{sign, is_negative, is_positive, is_pos}
 use Rattle.ember_algebra.specs.Large.{Eventually}
@@ -24,7 +25,7 @@ use Rattle.ember_model.specs.Faces.{size, hit, is_in_closed, is_inside, edges_of
 use Rattle.ember_model.specs.Clear.{IsClear, IsClearOf, AreClear}
 use Rattle.ember_model.specs.Meshes.{faces_of}
 use Rattle.ember_model.specs.ClearTest.{none_positive, all_negative}
-use Rattle.ember_model.proofs.SignTests.{clash, and_parts, zero_scaled, size_positive}
+use Rattle.ember_model.proofs.SignTests.{clash, zero_scaled, size_positive}
 use Rattle.ember_model.proofs.PlaneValues.{along_dot, value_scaled, value_times, seen}
 use Rattle.ember_model.proofs.SeenCrossings.{edge_sign, first_edge, second_edge, third_edge, main_zero}
 use Rattle.ember_model.proofs.Hits.{same_all_negative, same_none_positive, value_ray, ray_weight, inside_on, closed_parts}

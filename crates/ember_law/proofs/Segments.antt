@@ -18,7 +18,7 @@ use Rattle.ember_algebra.proofs.Ring.{◌⊕◌, ◌⊖◌, ◌⊗◌, ◌≈◌
 use Rattle.ember_algebra.proofs.Vectors.{VectorE, TupleE, vector, tuple, identity, dotE, crossE, detE, vector_partE, valueE}
 use Rattle.ember_algebra.proofs.Signs.{◌and◌, ◌⇒◌, use_if, signs, same_z, same_z_out, sum3, sum3_from, sgn_pos, sgn_neg, sgn-neg, pos_from_sgn, neg_from_sgn}
 use Rattle.ember_algebra.proofs.Quadrant.{crossing}
-use Rattle.ember_algebra.proofs.QuadrantLaw.{Generic}
+use Rattle.ember_algebra.proofs.QuadrantLaw.{Generic, both_out}
 use Rattle.ember_algebra.proofs.Identities.{dot_zero}
 use Rattle.ember_model.specs.declared.point.Corner.{Corner}
 use Rattle.ember_model.specs.declared.tri.Tri.{Tri}
@@ -312,10 +312,6 @@ split : (b : Bool) → T b ⊎ T (not b)
 split true = inl tt
 split false = inr tt
 
-and_out : (a b : Bool) → T (a and b) → T a × T b
-and_out true b t = (tt, t)
-and_out false b t = absurd t
-
 tri_along : (p q : Spot) (t : Tri) → pos 0 <ℤ p.w → pos 0 <ℤ q.w → value_at (support_of t) p ≢ pos 0 →
     value_at (support_of t) q ≢ pos 0 → Separates (face_of t) p q →
     seen_crossing (toward p q) p t ≡ seen_crossing (toward p q) q t
@@ -360,7 +356,7 @@ tri_along p q t lp lq np nq s =
         let n1 = mul_pos_neg lq a in let n2 = pos_mul lp b in let v = value_toward (support_of t) p q in
         let e : sgn nf ≡ Pos = sgn_pos (omega (arith, linear, n1, n2, v)) in
         ⊎_elim
-        (λ w. absurd (let x = and_out _ _ w in let y = and_out _ _ x.1 in
+        (λ w. absurd (let x = both_out _ _ w in let y = both_out _ _ x.1 in
         apart t p q s (inl (a, b)) (between_closed p q t lp lq (inl (a, b))
         (inl (pos_from_sgn (number_of p q t.a t.b) x.0, a, b)) (inl (pos_from_sgn (number_of p q t.b t.c) y.0, a, b))
         (inl (pos_from_sgn (number_of p q t.c t.a) y.1, a, b)))))
@@ -375,7 +371,7 @@ tri_along p q t lp lq np nq s =
         let n1 = pos_mul lq a in let n2 = mul_pos_neg lp b in let v = value_toward (support_of t) p q in
         let e : sgn nf ≡ Neg = sgn_neg (omega (arith, linear, n1, n2, v)) in
         ⊎_elim
-        (λ w. absurd (let x = and_out _ _ w in let y = and_out _ _ x.1 in
+        (λ w. absurd (let x = both_out _ _ w in let y = both_out _ _ x.1 in
         apart t p q s (inr (a, b)) (between_closed p q t lp lq (inr (a, b))
         (inr (neg_from_sgn (number_of p q t.a t.b) x.0, a, b)) (inr (neg_from_sgn (number_of p q t.b t.c) y.0, a, b))
         (inr (neg_from_sgn (number_of p q t.c t.a) y.1, a, b)))))

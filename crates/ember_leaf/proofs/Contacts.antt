@@ -4,6 +4,7 @@ use Rattle.std.proofs.Common.{false, ◌&&◌, ◌<ℤ◌, List, [], ◌∷◌, 
 use Rattle.std.specs.List.{AllByRecursion}
 use Rattle.std.proofs.lemmas.List.{take_more}
 use borrow.Author.Differences.{ints}
+use Rattle.std.proofs.lemmas.Bool.{and_parts}
 use Rattle.ember_algebra.specs.Sign.{sign, is_negative}
 use Rattle.ember_model.specs.declared.plane.Plane.{Plane}
 use Rattle.ember_model.specs.declared.point.Corner.{Corner}
@@ -13,7 +14,7 @@ use Rattle.ember_model.specs.Planes.{value_at, along, unit, main_axis, support_o
 use Rattle.ember_model.specs.Faces.{is_flat, face_of, is_in_closed, Meets}
 use Rattle.ember_model.specs.Edges.{IsOutline}
 use Rattle.ember_model.specs.Owners.{spot_of_corner}
-use Rattle.ember_model.proofs.SignTests.{and_parts, negative_out}
+use Rattle.ember_model.proofs.SignTests.{negative_out}
 use Rattle.ember_point.specs.declared.meet_point.Meet.{Meet}
 use Rattle.ember_poly.specs.Cuts.{HasInside}
 use Rattle.ember_poly.specs.Outlines.{SamePoints}

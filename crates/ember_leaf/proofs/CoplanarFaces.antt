@@ -14,16 +14,16 @@ use Rattle.ember_model.specs.Planes.{value_at, support_of}
 use Rattle.ember_model.specs.ClearTest.{none_positive}
 use Rattle.ember_model.specs.Faces.{is_flat, face_of, edges_of, is_inside, is_in_closed, Somewhere, Meets}
 use Rattle.ember_model.specs.Owners.{is_coplanar}
-use Rattle.ember_model.proofs.SignTests.{clash}
+use Rattle.ember_model.proofs.SignTests.{clash, zero_in}
 use Rattle.ember_poly.specs.Rings.{IsBelow, InFace}
 use Rattle.ember_poly.specs.Chords.{combination}
 use Rattle.ember_poly.specs.Cuts.{HasInside, IsWhole}
 use Rattle.ember_poly.proofs.Chains.{each_map}
-use Rattle.ember_poly.proofs.FaceTests.{zero_in, inside_in, inside_out}
+use Rattle.ember_poly.proofs.FaceTests.{inside_in, inside_out}
 use Rattle.ember_poly.proofs.InsideNotAbove.{met_on, met_free}
 use Rattle.ember_poly.proofs.InsidePoints.{inside_sum}
 use Rattle.ember_poly.proofs.InsideSigns.{combination_value, eventually_each}
-use Rattle.ember_poly.proofs.TriangleRing.{tri_sides}
+use Rattle.ember_poly.proofs.TriangleRing.{tri_sides, inside_ring}
 use Rattle.ember_coplanar.proofs.Coplanar.{lies_on_both}
 use Rattle.ember_coplanar.proofs.Owning.{lies_by_support}
 use Rattle.ember_ref.proofs.FarTriangles.{inside_closed}
@@ -34,7 +34,7 @@ use Rattle.ember_leaf.specs.Cutters.{AreDisjoint, ShareAPlane}
 use Rattle.ember_leaf.proofs.RegionCuts.{cutting_plane_face}
 use Rattle.ember_leaf.proofs.TriRelations.{coplanar_flats}
 use Rattle.ember_leaf.proofs.RegionOrder.{face_support}
-use Rattle.ember_leaf.proofs.TriFaces.{has_inside, inside_ring, closed_ring, ring_inside}
+use Rattle.ember_leaf.proofs.TriFaces.{has_inside, closed_ring, ring_inside}
 
 -- ---- the other way round
 pub coplanar_turned : (t u : Tri) → is_coplanar u t ≡ true → is_coplanar t u ≡ true

@@ -13,10 +13,10 @@ use Rattle.ember_model.specs.declared.face.Face.{Face}
 use Rattle.ember_model.specs.Planes.{value_at, opposite}
 use Rattle.ember_model.specs.Faces.{Somewhere, Cuts, Meets, is_inside, is_in_closed, below, above}
 use Rattle.ember_model.proofs.SignTests.{positive_in, positive_out, negative_in, negative_out}
+use Rattle.ember_model.proofs.PlaneValues.{value-opposite}
 use Rattle.ember_box.specs.Regions.{CuttingPlane, AreLeftByCuttingPlane, splits, whole}
 use Rattle.ember_poly.specs.Rings.{IsBelow, IsNotAbove, InFace}
 use Rattle.ember_poly.proofs.FaceTests.{inside_in, inside_out, closed_in, closed_out}
-use Rattle.ember_poly.proofs.InsideSigns.{opposite_plane}
 use Rattle.ember_poly.proofs.ReachBySigns.{over_opposite, over_from_opposite, most_opposite, least_from_opposite}
 use Rattle.ember_trace.proofs.FilledFaces.{inside_below}
 use Rattle.ember_leaf.proofs.WallClips.{inside_in_below}
@@ -93,7 +93,7 @@ module _ (n : Plane) (gs hs : List Plane) where
 
   fits_in : (v : Spot) → Fits v → Every (λ b. Solves 4 b (point v)) system
   fits_in v f =
-      let z = f.inside.flat in let o = opposite_plane n v in let w = f.inside.weight in let e = weight_value v in
+      let z = f.inside.flat in let o = value-opposite n v in let w = f.inside.weight in let e = weight_value v in
       every_append (λ b. Solves 4 b (point v)) (map under (weight ∷ gs)) (map at_most (n ∷ opposite n ∷ hs))
       (unders_in (weight ∷ gs) v (record { under = omega (arith, linear, w, e) }, f.inside.within))
       (mosts_in (n ∷ opposite n ∷ hs) v (
@@ -105,7 +105,7 @@ module _ (n : Plane) (gs hs : List Plane) where
   fits_out v h =
       let k = every_parts (λ b. Solves 4 b (point v)) (map under (weight ∷ gs)) (map at_most (n ∷ opposite n ∷ hs)) h in
       let u = unders_out (weight ∷ gs) v k.0 in let m = mosts_out (n ∷ opposite n ∷ hs) v k.1 in
-      let a = m.0.at_most in let b = m.1.0.at_most in let o = opposite_plane n v in let w = u.0.under in let e = weight_value v in
+      let a = m.0.at_most in let b = m.1.0.at_most in let o = value-opposite n v in let w = u.0.under in let e = weight_value v in
       record { inside = record { flat = omega (arith, linear, a, b, o); weight = omega (arith, linear, w, e); within = u.1 }; loose = m.1.1 }
 
   fits_decided : ((v : Spot) × Fits v) ⊎ ((v : Spot) → Fits v → ⊥)

@@ -2,7 +2,7 @@
 -- and each of them is the list that is written.
 use Rattle.std.proofs.Common.{◌≡◌, ◌≢◌, ◌⊎◌, inl, inr, sym, subst, ℕ, List, [], length, All, pos}
 use Rattle.std.specs.List.{range_with_len}
-use Rattle.ember_algebra.specs.Relations.{Each, none, more}
+use Rattle.ember_algebra.proofs.Relations.{each_map}
 use Rattle.ember_model.specs.declared.plane.Plane.{Plane}
 use Rattle.ember_model.specs.declared.face.Face.{Face}
 use Rattle.ember_model.specs.declared.tri.Tri.{Tri}
@@ -63,16 +63,12 @@ module _ (scene : List Tri) (f : Formula) (valid : All IsValidTri scene) where
   some_of_scene n = some_each some_of_leaf (leaves scene root) n
 
 -- ---- they are the written ones
-each_as : {X Y : Type 0} {R S : X → List Y → Type 0} → ((x : X) (ys : List Y) → R x ys → S x ys) → {xs : List X} {ys : List Y} → Each R xs ys → Each S xs ys
-each_as f none = none
-each_as f (more {x = x} {ys = ys} r e) = more (f x ys r) (each_as f e)
-
 in_leaf : (scene : List Tri) (f : Formula) (c : Cell) {ks : List Kept} → IsLiterallyWrittenIn scene f c ks → IsWrittenIn scene f c (near scene c) ks
-in_leaf scene f c w = each_as (λ i us r. regional r) w
+in_leaf scene f c w = each_map (λ i us r. regional r) w
 
 -- a list that is literally written is written
 pub literal_written : (scene : List Tri) (f : Formula) (ks : List Kept) → IsLiterallyWritten scene f ks → IsWritten scene f ks
-literal_written scene f ks w = each_as (λ c us r. regions (in_leaf scene f c r)) w
+literal_written scene f ks w = each_map (λ c us r. regions (in_leaf scene f c r)) w
 
 -- a covered triangle writes nothing
 pub covered_nothing : (scene : List Tri) (f : Formula) (c : Cell) (i : ℕ) → IsCovered (near scene c) i →

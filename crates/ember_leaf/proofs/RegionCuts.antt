@@ -4,7 +4,7 @@ use Rattle.std.proofs.Common.{Bool, true, false, List, [], ◌∷◌, ◌++◌, 
 use Rattle.std.proofs.lemmas.List.{take_more, take-append-drop}
 use Rattle.std.proofs.lemmas.List.Elements.{All-nil, All-cons}
 use Rattle.ember_algebra.specs.Relations.{Each, Chain, done, step, Every}
-use Rattle.ember_algebra.specs.Sign.{is_negative, is_zero, is_positive}
+use Rattle.ember_algebra.specs.Sign.{is_negative, is_positive}
 use Rattle.ember_algebra.proofs.Laws.{linear}
 use Rattle.ember_algebra.proofs.Relations.{each_push}
 use Rattle.ember_model.specs.declared.plane.Plane.{Plane}
@@ -13,7 +13,7 @@ use Rattle.ember_model.specs.declared.face.Face.{Face}
 use Rattle.ember_model.specs.Planes.{support_of, opposite, value_at}
 use Rattle.ember_model.specs.Faces.{face_of, edges_of, Meets, Cuts}
 use Rattle.ember_model.specs.ClearTest.{face_with}
-use Rattle.ember_model.proofs.SignTests.{negative_in, negative_out, positive_out, zero_out}
+use Rattle.ember_model.proofs.SignTests.{negative_in, negative_out, positive_out, zero_not_negative}
 use Rattle.ember_box.specs.Regions.{CuttingPlane, AreLeftByCuttingPlane, splits, whole}
 use Rattle.ember_poly.specs.Cuts.{AreParts, IsReach}
 use Rattle.ember_poly.specs.declared.reach_and_cut.Reach.{Reach}
@@ -67,15 +67,12 @@ region_parts b f x y m p =
 negative_positive : (z : ℤ) → is_negative z ≡ true → is_positive z ≡ true → ⊥
 negative_positive z e q = let a = negative_out z e in let b = positive_out z q in omega (arith, linear, a, b)
 
-zero_negative : (z : ℤ) → is_zero z ≡ true → is_negative z ≡ true → ⊥
-zero_negative z e q = let a = zero_out z e in let b = negative_out z q in omega (arith, linear, a, b)
-
 -- a plane doesn't cut a face unless the face reaches to both sides of it
 pub not_cut : (f : Face) (p : Plane) (k : Reach) → IsReach f p k → (k ≡ Both → ⊥) → Cuts f p → ⊥
 not_cut f p Below k n c =
     negative_positive _ (k.everywhere.holds c.some_above.at c.some_above.inside) c.some_above.holds
 not_cut f p Above k n c = negative_positive _ c.some_below.holds (k.everywhere.holds c.some_below.at c.some_below.inside)
-not_cut f p On k n c = zero_negative _ (k.everywhere.holds c.some_below.at c.some_below.inside) c.some_below.holds
+not_cut f p On k n c = zero_not_negative _ (k.everywhere.holds c.some_below.at c.some_below.inside) c.some_below.holds
 not_cut f p Both k n c = n refl
 
 -- a cutting plane leaves a face as it is that it doesn't cut

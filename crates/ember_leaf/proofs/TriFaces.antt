@@ -12,7 +12,7 @@ use Rattle.ember_poly.specs.Rings.{IsBelow, IsAbove, IsNotAbove, IsNotBelow, IsO
 use Rattle.ember_poly.proofs.Hull.{corners_at_most}
 use Rattle.ember_poly.proofs.ReachBySigns.{all_below, all_above, all_on, most_opposite, least_from_opposite, some_inside}
 use Rattle.ember_poly.proofs.TriangleRing.{tri_sides, stands}
-use Rattle.ember_poly.proofs.FaceTests.{inside_in, inside_out, closed_in, closed_out}
+use Rattle.ember_poly.proofs.FaceTests.{inside_in, closed_in, closed_out}
 
 -- what holds at the three corners, and what at one of them
 abbrev pub AtCorners : (Spot → Type 0) → Tri → Type 0
@@ -22,11 +22,6 @@ abbrev pub AtCorner : (Spot → Type 0) → Tri → Type 0
 AtCorner Q t = Q (spot_of_corner t.a) ⊎ (Q (spot_of_corner t.b) ⊎ (Q (spot_of_corner t.c) ⊎ ⊥))
 
 -- ---- the points of the face as those of a ring
-pub inside_ring : (t : Tri) (v : Spot) → is_inside (face_of t) v ≡ true → IsInsideRing (support_of t) (tri_sides t) v
-unfolding face_of
-inside_ring t v e =
-    let k = inside_out (face_of t) v e in record { flat = k.flat; weight = k.weight; within = k.within }
-
 -- a point of a triangle's closed face is in its closed ring
 pub closed_ring : (t : Tri) (v : Spot) → is_in_closed (face_of t) v ≡ true → IsInClosedRing (support_of t) (tri_sides t) v
 unfolding face_of

@@ -1,9 +1,9 @@
 -- When two triangles have no common point, and when one lies in the other.
 use Rattle.std.proofs.Common.{◌≡◌, ◌⊎◌, inl, inr, refl, ap, subst, ◌∙◌, arith, ℕ, ◌<◌, zero, suc, List, length, get_or}
-use Rattle.std.proofs.Common.{Bool, true, false, not, ◌&&◌, Some, None, slice_get, ℤ, pos, negsuc, neg_ℤ, ◌*ℤ◌, ◌<ℤ◌}
+use Rattle.std.proofs.Common.{Bool, true, false, not, ◌&&◌, Some, None, slice_get, ℤ, pos, neg_ℤ, ◌*ℤ◌, ◌<ℤ◌}
 use Rattle.std.proofs.Common.{◌≤ℤ◌, int_le, sym}
 use Rattle.std.proofs.lemmas.Int.{clamps}
-use Rattle.std.proofs.lemmas.Bool.{and_from}
+use Rattle.std.proofs.lemmas.Bool.{and_from, and_parts}
 use borrow.Author.Differences.{ints}
 use Rattle.ember_algebra.specs.Sign.{is_negative, is_zero, is_positive}
 use Rattle.ember_algebra.proofs.Laws.{linear}
@@ -12,97 +12,65 @@ use Rattle.ember_algebra.proofs.Ring.{◌⊗◌, neg, ◌≈◌, solve, cancels}
 use Rattle.ember_model.specs.declared.plane.Plane.{Plane}
 use Rattle.ember_model.specs.declared.point.Spot.{Spot}
 use Rattle.std.proofs.lemmas.Option.{slice_get-get_or}
+use Rattle.ember_algebra.proofs.Numbers.{int_le_in}
+use Rattle.ember_algebra.proofs.Booleans.{and_three}
 use Rattle.ember_model.specs.declared.point.Axis.{Axis}
 use Rattle.ember_model.specs.declared.point.Axis.TheVariants.{X, Y, Z}
 use Rattle.ember_model.specs.declared.tri.Tri.{Tri}
 use Rattle.ember_model.specs.Planes.{vector_of, value_at, support_of, opposite}
 use Rattle.ember_model.specs.Faces.{is_flat, face_of, edges_of, is_in_closed, Everywhere, Contains, is_inside}
 use Rattle.ember_model.specs.Owners.{is_coplanar}
-use Rattle.ember_model.proofs.SignTests.{negative_out, positive_out, not_positive_out, zero_out, and_parts, not_true, clash, negative_in}
+use Rattle.ember_model.proofs.SignTests.{negative_out, positive_out, not_positive_out, zero_out, not_true, negative_in}
+use Rattle.ember_model.proofs.SignTests.{not_negative_out, some_positive, some_negative}
+use Rattle.ember_model.proofs.Tuples.{same_some}
+use Rattle.ember_model.proofs.PlaneValues.{value-opposite}
 use Rattle.ember_box.specs.declared.aabb.Interval.{Interval}
 use Rattle.ember_box.specs.Boxes.{entry_along}
 use Rattle.ember_box.specs.Aabbs.{aabb_of_tri, intervals_meet}
-use Rattle.ember_box.proofs.Orders.{le_in}
 use Rattle.ember_ref.proofs.NearPoints.{past_corners, coordinate}
 use Rattle.ember_poly.specs.Rings.{IsBelow, IsAbove, IsNotAbove, IsNotBelow, IsOnPlane, IsInsideRing, IsInClosedRing}
-use Rattle.ember_poly.proofs.InsideSigns.{opposite_plane}
 use Rattle.ember_poly.proofs.ReachBySigns.{under_opposite, closed_from_inside}
-use Rattle.ember_poly.proofs.TriangleRing.{tri_sides}
+use Rattle.ember_poly.proofs.TriangleRing.{tri_sides, inside_ring}
 use Rattle.ember_leaf.specs.Contact.{no_plane}
 use Rattle.ember_leaf.specs.declared.heights.Heights.{Heights}
 use Rattle.ember_leaf.specs.TriRelations.{IsBehindEdge, heights_of, none_behind, none_in_front, all_behind, all_in_front, all_on, MissesClosedFace}
 use Rattle.ember_leaf.specs.Cutters.{IsWithinInterval}
-use Rattle.ember_leaf.proofs.TriFaces.{AtCorners, AtCorner, inside_ring, closed_ring, inside_under, inside_over}
+use Rattle.ember_leaf.proofs.TriFaces.{AtCorners, AtCorner, closed_ring, inside_under, inside_over}
 use Rattle.ember_leaf.proofs.TriFaces.{closed_over, closed_at_least, ring_inside, closed_on}
 
 -- ---- from tests of heights to facts at the corners
-not_negative_out : (a : ℤ) → not (is_negative a) ≡ true → pos 0 ≤ℤ a
-not_negative_out (pos n) e = omega (arith, ints)
-not_negative_out (negsuc n) e = absurd (by e)
-  where
-    by : false ≡ true → ⊥
-    by h = cc
-
-record Three (A B C : Type 0) : Type 0 where
-  a : A
-  b : B
-  c : C
-
-three : (x y z : Bool) → x && (y && z) ≡ true → Three (x ≡ true) (y ≡ true) (z ≡ true)
-three x y z e =
-    let p = and_parts x (y && z) e in let q = and_parts y z p.1 in record { a = p.0; b = q.0; c = q.1 }
-
 module _ (p : Plane) (t : Tri) where
   -- if no corner is behind the plane, each corner is on it or in front of it
   pub front_at_least : none_behind (heights_of p t) ≡ true → AtCorners (λ s. IsNotBelow p s) t
   front_at_least e =
-      let h = heights_of p t in let k = three (not (is_negative h.a)) (not (is_negative h.b)) (not (is_negative h.c)) e in
+      let h = heights_of p t in let k = and_three (not (is_negative h.a)) (not (is_negative h.b)) (not (is_negative h.c)) e in
       (record { at_least = not_negative_out h.a k.a }, (record { at_least = not_negative_out h.b k.b }, (record { at_least = not_negative_out h.c k.c }, tt)))
 
   behind_at_most : none_in_front (heights_of p t) ≡ true → AtCorners (λ s. IsNotAbove p s) t
   behind_at_most e =
-      let h = heights_of p t in let k = three (not (is_positive h.a)) (not (is_positive h.b)) (not (is_positive h.c)) e in
+      let h = heights_of p t in let k = and_three (not (is_positive h.a)) (not (is_positive h.b)) (not (is_positive h.c)) e in
       (record { at_most = not_positive_out h.a k.a }, (record { at_most = not_positive_out h.b k.b }, (record { at_most = not_positive_out h.c k.c }, tt)))
 
   front_over : all_in_front (heights_of p t) ≡ true → AtCorners (λ s. IsAbove p s) t
   front_over e =
-      let h = heights_of p t in let k = three (is_positive h.a) (is_positive h.b) (is_positive h.c) e in
+      let h = heights_of p t in let k = and_three (is_positive h.a) (is_positive h.b) (is_positive h.c) e in
       (record { over = positive_out h.a k.a }, (record { over = positive_out h.b k.b }, (record { over = positive_out h.c k.c }, tt)))
 
   behind_under : all_behind (heights_of p t) ≡ true → AtCorners (λ s. IsBelow p s) t
   behind_under e =
-      let h = heights_of p t in let k = three (is_negative h.a) (is_negative h.b) (is_negative h.c) e in
+      let h = heights_of p t in let k = and_three (is_negative h.a) (is_negative h.b) (is_negative h.c) e in
       (record { under = negative_out h.a k.a }, (record { under = negative_out h.b k.b }, (record { under = negative_out h.c k.c }, tt)))
 
   -- if all corners are on the plane, each is
   pub on_on : all_on (heights_of p t) ≡ true → AtCorners (λ s. IsOnPlane p s) t
   on_on e =
-      let h = heights_of p t in let k = three (is_zero h.a) (is_zero h.b) (is_zero h.c) e in
+      let h = heights_of p t in let k = and_three (is_zero h.a) (is_zero h.b) (is_zero h.c) e in
       (record { on_plane = zero_out h.a k.a }, (record { on_plane = zero_out h.b k.b }, (record { on_plane = zero_out h.c k.c }, tt)))
-
--- some height is not 0
-some_over : (x y z : ℤ) → pos 0 ≤ℤ x → pos 0 ≤ℤ y → pos 0 ≤ℤ z → is_zero x && (is_zero y && is_zero z) ≡ false → (pos 0 <ℤ x) ⊎ ((pos 0 <ℤ y) ⊎ (pos 0 <ℤ z))
-some_over (pos (suc n)) y z a b c e = inl (omega (arith, ints))
-some_over (negsuc n) y z a b c e = absurd (omega (arith, ints, a))
-some_over (pos zero) (pos (suc n)) z a b c e = inr (inl (omega (arith, ints)))
-some_over (pos zero) (negsuc n) z a b c e = absurd (omega (arith, ints, b))
-some_over (pos zero) (pos zero) (pos (suc n)) a b c e = inr (inr (omega (arith, ints)))
-some_over (pos zero) (pos zero) (negsuc n) a b c e = absurd (omega (arith, ints, c))
-some_over (pos zero) (pos zero) (pos zero) a b c e = absurd (clash refl e)
-
-some_under : (x y z : ℤ) → x ≤ℤ pos 0 → y ≤ℤ pos 0 → z ≤ℤ pos 0 → is_zero x && (is_zero y && is_zero z) ≡ false → (x <ℤ pos 0) ⊎ ((y <ℤ pos 0) ⊎ (z <ℤ pos 0))
-some_under (pos (suc n)) y z a b c e = absurd (omega (arith, ints, a))
-some_under (negsuc n) y z a b c e = inl (omega (arith, ints))
-some_under (pos zero) (pos (suc n)) z a b c e = absurd (omega (arith, ints, b))
-some_under (pos zero) (negsuc n) z a b c e = inr (inl (omega (arith, ints)))
-some_under (pos zero) (pos zero) (pos (suc n)) a b c e = absurd (omega (arith, ints, c))
-some_under (pos zero) (pos zero) (negsuc n) a b c e = inr (inr (omega (arith, ints)))
-some_under (pos zero) (pos zero) (pos zero) a b c e = absurd (clash refl e)
 
 -- if no corner is behind the plane and not all are on it, some corner is above it
 pub corner_over : (p : Plane) (t : Tri) → AtCorners (λ s. IsNotBelow p s) t → all_on (heights_of p t) ≡ false → AtCorner (λ s. IsAbove p s) t
 corner_over p t h e =
-    let k = heights_of p t in pick (some_over k.a k.b k.c h.0.at_least h.1.0.at_least h.1.1.0.at_least e)
+    let k = heights_of p t in pick (some_positive k.a k.b k.c h.0.at_least h.1.0.at_least h.1.1.0.at_least e)
   where
     pick : (pos 0 <ℤ (heights_of p t).a) ⊎ ((pos 0 <ℤ (heights_of p t).b) ⊎ (pos 0 <ℤ (heights_of p t).c)) → AtCorner (λ s. IsAbove p s) t
     pick (inl o) = inl (record { over = o })
@@ -111,7 +79,7 @@ corner_over p t h e =
 
 corner_under : (p : Plane) (t : Tri) → AtCorners (λ s. IsNotAbove p s) t → all_on (heights_of p t) ≡ false → AtCorner (λ s. IsBelow p s) t
 corner_under p t h e =
-    let k = heights_of p t in pick (some_under k.a k.b k.c h.0.at_most h.1.0.at_most h.1.1.0.at_most e)
+    let k = heights_of p t in pick (some_negative k.a k.b k.c h.0.at_most h.1.0.at_most h.1.1.0.at_most e)
   where
     pick : ((heights_of p t).a <ℤ pos 0) ⊎ (((heights_of p t).b <ℤ pos 0) ⊎ ((heights_of p t).c <ℤ pos 0)) → AtCorner (λ s. IsBelow p s) t
     pick (inl o) = inl (record { under = o })
@@ -143,7 +111,7 @@ module _ (t u : Tri) (nt : is_flat t ≡ false) (nu : is_flat u ≡ false) where
   pub apart_behind : all_behind (heights_of (support_of t) u) ≡ true → MissesClosedFace t u
   apart_behind e =
       let s = support_of t in let h = behind_under s u e in
-      apart t u (λ v i k. zero_over (opposite_plane s v ∙ ap neg_ℤ i.flat)
+      apart t u (λ v i k. zero_over (value-opposite s v ∙ ap neg_ℤ i.flat)
       (closed_over u nu (opposite s) v (
         under_opposite s _ h.0,
         (under_opposite s _ h.1.0, (under_opposite s _ h.1.1.0, tt)),
@@ -163,8 +131,8 @@ module _ (t u : Tri) (nt : is_flat t ≡ false) (nu : is_flat u ≡ false) where
 pub intervals_with_point_meet : (a b : Interval) (x w : ℤ) → pos 0 <ℤ w → IsWithinInterval a x w → IsWithinInterval b x w → intervals_meet a b ≡ true
 intervals_with_point_meet a b x w p h k =
     and_from (int_le a.low b.high) (int_le b.low a.high)
-    (le_in a.low b.high (order a.low b.high (omega (arith, linear, h.low, k.high))))
-    (le_in b.low a.high (order b.low a.high (omega (arith, linear, k.low, h.high))))
+    (int_le_in a.low b.high (order a.low b.high (omega (arith, linear, h.low, k.high))))
+    (int_le_in b.low a.high (order b.low a.high (omega (arith, linear, k.low, h.high))))
   where
     order : (l h : ℤ) → (l *ℤ w) ≤ℤ (h *ℤ w) → l ≤ℤ h
     order l h q =
@@ -234,22 +202,19 @@ bounds Z t v n e =
     ) e
 
 -- ---- edge planes
-no_some : {p q : Plane} → Some p ≡ Some q → p ≡ q
-no_some e = cc
-
 none_some : {p : Plane} → None ≡ Some p → ⊥
 none_some e = cc
 
 edge_under : (t : Tri) (i : ℕ) (p : Plane) (v : Spot) → slice_get (edges_of t) i ≡ Some p → IsInsideRing (support_of t) (tri_sides t) v → IsBelow p v
-edge_under t zero p v e k = subst (λ (q : Plane). IsBelow q v) (no_some e) k.within.0
-edge_under t (suc zero) p v e k = subst (λ (q : Plane). IsBelow q v) (no_some e) k.within.1.0
-edge_under t (suc (suc zero)) p v e k = subst (λ (q : Plane). IsBelow q v) (no_some e) k.within.1.1.0
+edge_under t zero p v e k = subst (λ (q : Plane). IsBelow q v) (same_some e) k.within.0
+edge_under t (suc zero) p v e k = subst (λ (q : Plane). IsBelow q v) (same_some e) k.within.1.0
+edge_under t (suc (suc zero)) p v e k = subst (λ (q : Plane). IsBelow q v) (same_some e) k.within.1.1.0
 edge_under t (suc (suc (suc i))) p v e k = absurd (none_some e)
 
 edge_at_most : (t : Tri) (i : ℕ) (p : Plane) (v : Spot) → slice_get (edges_of t) i ≡ Some p → IsInClosedRing (support_of t) (tri_sides t) v → IsNotAbove p v
-edge_at_most t zero p v e k = subst (λ (q : Plane). IsNotAbove q v) (no_some e) k.within.0
-edge_at_most t (suc zero) p v e k = subst (λ (q : Plane). IsNotAbove q v) (no_some e) k.within.1.0
-edge_at_most t (suc (suc zero)) p v e k = subst (λ (q : Plane). IsNotAbove q v) (no_some e) k.within.1.1.0
+edge_at_most t zero p v e k = subst (λ (q : Plane). IsNotAbove q v) (same_some e) k.within.0
+edge_at_most t (suc zero) p v e k = subst (λ (q : Plane). IsNotAbove q v) (same_some e) k.within.1.0
+edge_at_most t (suc (suc zero)) p v e k = subst (λ (q : Plane). IsNotAbove q v) (same_some e) k.within.1.1.0
 edge_at_most t (suc (suc (suc i))) p v e k = absurd (none_some e)
 
 -- no point is both below a plane and not below it
@@ -356,7 +321,7 @@ behind_by t u es i {h} m e l q r z =
     let x = and_parts (none_in_front (heights_of p u)) (not (all_on (heights_of p u)))
     (heights_test_moved (λ h. none_in_front h && not (all_on h)) u {p = p} refl q r z) in
     let w = behind_edge u p m x.0 (not_true (all_on (heights_of p u)) x.1) in
-    λ g' h'. subst (λ (q : Plane). Everywhere (face_of u) (λ v. is_negative (value_at q v) ≡ true)) (no_some (sym (edge_here t es i e l) ∙ h')) w
+    λ g' h'. subst (λ (q : Plane). Everywhere (face_of u) (λ v. is_negative (value_at q v) ≡ true)) (same_some (sym (edge_here t es i e l) ∙ h')) w
 
 -- a coplanar triangle u that is behind all three edge planes of t is contained in t
 pub covered_by : (t u : Tri) → is_coplanar t u ≡ true → IsBehindEdge t u 0 → IsBehindEdge t u 1 → IsBehindEdge t u 2 → Contains (face_of t) (face_of u)

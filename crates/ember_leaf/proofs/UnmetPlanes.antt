@@ -21,6 +21,7 @@ use Rattle.ember_box.specs.Near.{tri_at}
 use Rattle.ember_box.specs.Regions as regions
 use Rattle.ember_model.specs.declared.point.Axis.TheVariants.{X, Y, Z}
 use Rattle.std.proofs.lemmas.Bool.{and_from}
+use Rattle.ember_algebra.proofs.Lists.{range_more}
 use Rattle.ember_leaf.specs.declared.cutter.Cutter.{Cutter}
 use Rattle.ember_leaf.specs.declared.cutter.Role.{Role}
 use Rattle.ember_leaf.specs.TriRelations.{MissesClosedFace}
@@ -185,12 +186,6 @@ range_push : (a n : ℕ) → range_with_len a (suc n) ≡ range_with_len a n ++ 
 range_push a zero = ap (λ (k : ℕ). k ∷ []) (omega arith)
 range_push a (suc n) =
     ap (λ (l : List ℕ). a ∷ l) (range_push (a + 1) n) ∙ ap (λ (k : ℕ). a ∷ range_with_len (a + 1) n ++ k ∷ []) (omega arith)
-
--- the first n + 1 numbers are the first n, and n
-pub range_more : (n : ℕ) → range_with_len 0 (n + 1) ≡ range_with_len 0 n ++ n ∷ []
-range_more n =
-    let e : n + 1 ≡ suc n = omega arith in let z : 0 + n ≡ n = omega arith in
-    ap (range_with_len 0) e ∙ range_push 0 n ∙ ap (λ (k : ℕ). range_with_len 0 n ++ k ∷ []) z
 
 cutting_planes_more : (ts : List Tri) (i j : ℕ) →
     flat_map (cutting_planes_at ts i) (range_with_len 0 (j + 1)) ≡ flat_map (cutting_planes_at ts i) (range_with_len 0 j)

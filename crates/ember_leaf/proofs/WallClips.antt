@@ -23,7 +23,7 @@ use Rattle.ember_model.specs.Planes.{value_at, opposite, support_of, vector_of}
 use Rattle.ember_model.specs.Faces.{is_flat, face_of, is_inside, below, Somewhere}
 use Rattle.ember_model.specs.Owners.{spot_of_corner}
 use Rattle.ember_model.proofs.Hits.{inside_on, inside_parts}
-use Rattle.ember_model.proofs.SignTests.{negative_out, positive_out, positive_in, zero_out, clash}
+use Rattle.ember_model.proofs.SignTests.{negative_out, positive_out, positive_in, zero_out, clash, zero_in}
 use Rattle.ember_box.specs.declared.aabb.Interval.{Interval}
 use Rattle.ember_box.specs.Boxes.{entry_along}
 use Rattle.ember_box.specs.Aabbs.{aabb_of_tri, interval_along, interval_over}
@@ -32,8 +32,8 @@ use Rattle.ember_poly.specs.Cuts.{HasInside, IsReach}
 use Rattle.ember_poly.specs.declared.reach_and_cut.Reach.TheVariants.{Below, Above, On, Both}
 use Rattle.ember_poly.specs.Rings.{IsBelow, IsNotAbove, IsNotBelow, IsInsideRing}
 use Rattle.ember_poly.proofs.ReachBySigns.{closed_from_inside, most_opposite, under_opposite}
-use Rattle.ember_poly.proofs.FaceTests.{zero_in}
-use Rattle.ember_poly.proofs.TriangleRing.{tri_sides}
+use Rattle.ember_poly.proofs.TriangleRing.{tri_sides, inside_ring}
+use Rattle.ember_poly.proofs.InsidePoints.{below_is_not_above}
 use Rattle.ember_trace.proofs.FilledFaces.{inside_below}
 use Rattle.ember_leaf.specs.TriRelations.{heights_of, all_on}
 use Rattle.ember_leaf.specs.declared.clip.Remainder.{Remainder}
@@ -41,7 +41,7 @@ use Rattle.ember_leaf.specs.declared.clip.Remainder.TheVariants.{Whole, Nothing,
 use Rattle.ember_leaf.specs.declared.wall.Wall as leaf
 use Rattle.ember_leaf.specs.Walls.{wall_of, IsPartOf, IsLowRemainder, IsHighRemainder, IsRemainder, IsClippedBy}
 use Rattle.ember_leaf.proofs.RegionOrder.{face_support}
-use Rattle.ember_leaf.proofs.TriFaces.{AtCorners, AtCorner, has_inside, inside_ring, inside_under, inside_over, closed_at_least, closed_on}
+use Rattle.ember_leaf.proofs.TriFaces.{AtCorners, AtCorner, has_inside, inside_under, inside_over, closed_at_least, closed_on}
 use Rattle.ember_leaf.proofs.TriRelations.{corner_over, on_on}
 
 -- ---- chains of walls
@@ -152,9 +152,6 @@ over_not {p} {v} m e = let q = positive_out (value_at p v) e in let l = m.at_mos
 zero_not : {p : Plane} {v : Spot} → IsBelow p v → is_zero (value_at p v) ≡ true → ⊥
 zero_not {p} {v} u e = let q = zero_out (value_at p v) e in let l = u.under in omega (arith, linear, q, l)
 
-weak_under : {p : Plane} {v : Spot} → IsBelow p v → IsNotAbove p v
-weak_under {p} {v} u = let l = u.under in record { at_most = omega (arith, linear, l) }
-
 -- nothing of f is past a low wall
 stays_low : (p : Plane) (f : Face) → HasInside f → ((v : Spot) → is_inside f v ≡ true → IsNotAbove p v) →
     AreLeftByWall (record { plane = p; is_high = false }) f (f ∷ [])
@@ -167,8 +164,8 @@ stays_low p f s m =
 
 stays_below : (w : Wall) (f : Face) → HasInside f → ((v : Spot) → is_inside f v ≡ true → IsBelow w.plane v) → AreLeftByWall w f (f ∷ [])
 stays_below w f s m =
-    stays (λ c. over_not (weak_under (m c.some_above.at c.some_above.inside)) c.some_above.holds)
-    (λ a. over_not (weak_under (m s.at s.inside)) (a.holds s.at s.inside))
+    stays (λ c. over_not (below_is_not_above (m c.some_above.at c.some_above.inside)) c.some_above.holds)
+    (λ a. over_not (below_is_not_above (m s.at s.inside)) (a.holds s.at s.inside))
     (λ e o. zero_not (m s.at s.inside) (o.holds s.at s.inside))
 
 module _ (k : Axis) (h : ℤ) (t : Tri) (f : Face) (part : IsPartOf t f) where

@@ -6,6 +6,7 @@ use Rattle.std.proofs.lemmas.List.{append-nil}
 use Rattle.std.proofs.lemmas.Option.{slice_get-get_or}
 use Rattle.ember_algebra.specs.Relations.{Each, Chain, none, more, done, step}
 use Rattle.ember_algebra.proofs.Relations.{each_push}
+use Rattle.ember_algebra.proofs.Lists.{range_more}
 use Rattle.ember_model.specs.declared.tri.Tri.{Tri}
 use Rattle.ember_model.specs.declared.face.Face.{Face}
 use Rattle.ember_model.specs.Faces.{is_flat, face_of}
@@ -21,7 +22,6 @@ use Rattle.ember_trace.proofs.BoxedRegions.{regions_lie_in}
 use Rattle.ember_leaf.specs.declared.kept.Kept.{Kept}
 use Rattle.ember_leaf.specs.Cutters.{Without, ended, left, dropped}
 use Rattle.ember_leaf.specs.Written.{IsWrittenOfRegion, unowned, same_value, written, AreOwned, IsWrittenOf, regional, IsWrittenIn, IsFlip, WhereFits, HasGrown}
-use Rattle.ember_leaf.proofs.UnmetPlanes.{range_more}
 
 -- ---- one region
 module _ (scene : List Tri) (f : Formula) (near : List Tri) (i : ℕ) (face : Face) (before after : List ℤ) (s : IsSides scene face before after) where

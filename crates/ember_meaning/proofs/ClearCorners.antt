@@ -3,6 +3,7 @@ use Rattle.std.proofs.Common.{◌≡◌, ◌≢◌, refl, sym, ap, subst, ◌∙
 use Rattle.std.proofs.Common.{map, ℤ, pos, ◌+ℤ◌, ◌*ℤ◌, neg_ℤ, ◌<ℤ◌, ◌≤ℤ◌}
 use Rattle.std.specs.List.{AllByRecursion}
 use lib.IntN.{*ℤ_comm}
+use Rattle.std.proofs.lemmas.Bool.{and_parts}
 use Rattle.ember_algebra.specs.Vector.{Vector, zero_v, scale_v, cross}
 use Rattle.ember_algebra.specs.Sign.{is_positive, sign}
 use Rattle.ember_algebra.proofs.Laws.{linear}
@@ -19,7 +20,7 @@ use Rattle.ember_model.specs.Clear.{IsClear}
 use Rattle.ember_model.specs.ClearTest.{none_positive, all_negative}
 use Rattle.ember_model.specs.Edges.{normal, RingEdge}
 use Rattle.ember_model.specs.FaceFiles.{WrittenFace}
-use Rattle.ember_model.proofs.SignTests.{and_parts, zero_scaled, size_positive}
+use Rattle.ember_model.proofs.SignTests.{zero_scaled, size_positive}
 use Rattle.ember_model.proofs.PlaneValues.{value_scaled}
 use Rattle.ember_model.proofs.Hits.{same_all_negative, same_none_positive, value_ray, ray_weight, inside_on, closed_parts}
 use Rattle.ember_model.proofs.ClearPoints.{hit_is_one_point, nonzero_product}

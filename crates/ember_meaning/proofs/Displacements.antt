@@ -1,18 +1,19 @@
 -- Displacements between points, and parallel vectors.
 use Rattle.std.proofs.Common.{◌≡◌, ◌≢◌, ⊎_elim, refl, ap, ◌∙◌, arith, Bool, true, false, ◌&&◌, [], ◌∷◌, ℤ, pos, ◌-ℤ◌, ◌*ℤ◌, ◌<ℤ◌}
+use Rattle.std.proofs.lemmas.Bool.{and_parts}
 use Rattle.ember_algebra.specs.Vector.{Vector, zero_v, plus_v, minus_v, scale_v, dot, cross}
 use Rattle.ember_algebra.specs.Sign.{is_zero}
 use Rattle.ember_algebra.proofs.Laws.{linear}
-use Rattle.ember_algebra.proofs.Order.{by_sign, square_nonneg, square_pos, zero_product}
+use Rattle.ember_algebra.proofs.Order.{zero_product, pos_mul, mul_neg_neg}
 use Rattle.ember_algebra.proofs.Ring.{◌⊖◌, ◌⊗◌, ◌≈◌, num, cancels}
 use Rattle.ember_algebra.proofs.Vectors.{vector, tuple, scalar, identity, vector_identity, same_v, TupleE, VectorE}
-use Rattle.ember_algebra.proofs.Vectors.{dotE, crossE, valueE, scaleE, plusE, minusE, ◌≈v◌, cancels_v}
+use Rattle.ember_algebra.proofs.Vectors.{dotE, crossE, valueE, scaleE, plusE, minusE, ◌≈v◌, cancels_v, square_positive}
 use Rattle.ember_algebra.proofs.Identities.{dot_zero, parallel_products}
 use Rattle.ember_model.specs.declared.plane.Plane.{Plane}
 use Rattle.ember_model.specs.declared.point.Spot.{Spot}
 use Rattle.ember_model.specs.Planes.{value_at}
 use Rattle.ember_model.specs.Edges.{normal}
-use Rattle.ember_model.proofs.SignTests.{and_parts, clash, zero_out, positive_nonzero, negative_nonzero, zero_scaled, zero_times}
+use Rattle.ember_model.proofs.SignTests.{clash, zero_out, positive_nonzero, zero_scaled, zero_times}
 use Rattle.ember_model.proofs.Tuples.{plane_tuple, spot_tuple, normalE}
 use Rattle.ember_law.proofs.Generic.{cancel_zero}
 use Rattle.ember_meaning.specs.Closed.Chains.{displacement, is_zero_vector}
@@ -77,25 +78,6 @@ pub parallel_swap : (u v : Vector) → Parallel u v → Parallel v u
 parallel_swap u v e =
     vector_identity (vector ∷ vector ∷ []) (λ u v. crossE v u ≈v minusE (minusE (crossE u v) (crossE u v)) (crossE u v))
     cancels_v u v ∙ ap (λ (k : Vector). minus_v (minus_v k k) k) e
-
--- the square of a vector that isn't 0
-pub square_positive : (v : Vector) → v ≢ zero_v → pos 0 <ℤ dot v v
-square_positive v n =
-    by_sign v.x
-    (λ l. one (square_pos (positive_nonzero l)))
-    (λ x. by_sign v.y (λ l. two (square_pos (positive_nonzero l)))
-    (λ y. by_sign v.z (λ l. three (square_pos (positive_nonzero l))) (λ z. absurd (n (same_v x y z)))
-    (λ l. three (square_pos (negative_nonzero l)))) (λ l. two (square_pos (negative_nonzero l))))
-    (λ l. one (square_pos (negative_nonzero l)))
-  where
-    one : pos 0 <ℤ (v.x *ℤ v.x) → pos 0 <ℤ dot v v
-    one l = omega (arith, linear, l, square_nonneg v.y, square_nonneg v.z)
-
-    two : pos 0 <ℤ (v.y *ℤ v.y) → pos 0 <ℤ dot v v
-    two l = omega (arith, linear, l, square_nonneg v.x, square_nonneg v.z)
-
-    three : pos 0 <ℤ (v.z *ℤ v.z) → pos 0 <ℤ dot v v
-    three l = omega (arith, linear, l, square_nonneg v.x, square_nonneg v.y)
 
 -- what is orthogonal to a vector is orthogonal to its parallels
 pub parallel_orthogonal : (h x d : Vector) → d ≢ zero_v → Parallel x d → dot h d ≡ pos 0 → dot h x ≡ pos 0

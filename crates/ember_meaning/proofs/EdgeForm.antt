@@ -4,13 +4,14 @@ use Rattle.std.proofs.Common.{cond, ◌&&◌, List, [], ◌∷◌, ℤ, pos, ◌
 use Rattle.std.proofs.lemmas.Int.{by_lt_z}
 use Rattle.std.specs.List.{AllByRecursion}
 use lib.IntN.{*ℤ_comm}
+use Rattle.std.proofs.lemmas.Bool.{and_parts}
 use Rattle.ember_algebra.specs.Vector.{Vector, zero_v, dot, cross}
 use Rattle.ember_algebra.specs.Sign.{sign, is_negative}
 use Rattle.ember_algebra.specs.Sums.{total}
 use Rattle.ember_algebra.proofs.Laws.{linear, neg-*ℤ, *ℤ-neg}
 use Rattle.ember_algebra.proofs.Order.{by_sign, pos_mul, nonneg_mul, mul_pos_neg, mul_neg_pos, sign_pos, sign_neg, cancel_eq}
 use Rattle.ember_algebra.proofs.Ring.{◌⊖◌, ◌⊗◌, ◌≈◌, solve, cancels}
-use Rattle.ember_algebra.proofs.Vectors.{vector, tuple, identity, dotE, same_v}
+use Rattle.ember_algebra.proofs.Vectors.{vector, tuple, identity, dotE, same_v, square_positive}
 use Rattle.ember_algebra.proofs.Identities.{parallel_products, orthogonal_parallel}
 use Rattle.ember_model.specs.declared.plane.Plane.{Plane}
 use Rattle.ember_model.specs.declared.point.Spot.{Spot}
@@ -18,7 +19,7 @@ use Rattle.ember_model.specs.declared.face.Face.{Face}
 use Rattle.ember_model.specs.Planes.{value_at}
 use Rattle.ember_model.specs.Edges.{RingEdge, IsEdge, normal, is_on_edge, IsEdgeChain, IsOutline}
 use Rattle.ember_model.specs.FaceFiles.{WrittenFace}
-use Rattle.ember_model.proofs.SignTests.{and_parts, clash, negative_in, negative_not, positive_nonzero, zero_scaled, zero_times}
+use Rattle.ember_model.proofs.SignTests.{clash, negative_in, negative_not, positive_nonzero, zero_scaled, zero_times}
 use Rattle.ember_model.proofs.Tuples.{spot_tuple, normalE}
 use Rattle.ember_poly.specs.Rings.{IsNotAbove}
 use Rattle.ember_poly.proofs.Planar.{both_zero}
@@ -32,7 +33,7 @@ use Rattle.ember_meaning.specs.Closed.Chains.{coverage, edges_to, directed_edges
 use Rattle.ember_meaning.proofs.RectangleRound.{IsGeneral, IsGeneralFace, IsOffEnds, edge_turn}
 use Rattle.ember_meaning.proofs.Displacements.{displacementE, none_parallel, displacement_value, zero_carried}
 use Rattle.ember_meaning.proofs.Displacements.{parallel_onward, Parallel, parallel_swap, parallel_orthogonal}
-use Rattle.ember_meaning.proofs.Displacements.{parallel_both, square_positive, dot_swap, zero_vector_in, zero_vector_out}
+use Rattle.ember_meaning.proofs.Displacements.{parallel_both, dot_swap, zero_vector_in, zero_vector_out}
 use Rattle.ember_meaning.proofs.Displacements.{zero_not, orthogonal_to_none}
 
 -- ---- numbers

@@ -6,7 +6,7 @@ use Rattle.std.specs.List.{sum_by, count_by, list_any, range_with_len}
 use Rattle.std.proofs.lemmas.List.Sums.{sum_by-cons}
 use Rattle.std.proofs.lemmas.Bool.{cases_Bool, eq-eqb, ne_eqb, lt-ltb, le-ltb, cases_order, cases_lt}
 use Rattle.ember_algebra.specs.Relations.{Each, none, more, Chain, done, step, Every}
-use Rattle.ember_algebra.proofs.Relations.{each_count, each_append}
+use Rattle.ember_algebra.proofs.Relations.{each_count, each_append, every_unit}
 use Rattle.ember_model.specs.declared.tri.Tri.{Tri}
 use Rattle.ember_model.specs.declared.point.Spot.{Spot}
 use Rattle.ember_model.specs.declared.face.Face.{Face}
@@ -108,10 +108,6 @@ sum_at g t a (suc n) b e =
         let z = h ∙ ap (λ c. cond (not c && ltb t b) (g t) 0) (lt-ltb t (a + 1) l) in
         rw (ne_eqb a t (λ u. omega arith), lt-ltb t a q, z) (omega arith)
 
-units : {X : Type 0} (xs : List X) → Every (λ x. Unit {0}) xs
-units [] = tt
-units (x ∷ xs) = (tt, units xs)
-
 -- the regions of place t in one leaf that hold x: one if the leaf holds x and the triangle's
 -- face has it inside, otherwise none
 regions_count : (scene : List Tri) (x : Spot) (t : ℕ) (c : Cell) (es : List Entry) → IsFairAt scene x c →
@@ -120,8 +116,8 @@ regions_count scene x t c es fair r =
     let ts = near scene c in
     let k = each_count (is_entry_at x t) (λ i. cond (eqb i t)
     (number (is_in_box c x && (not (is_flat (tri_at ts i)) && is_inside (face_of (tri_at ts i)) x))) 0)
-    (λ i. Unit {0}) (λ r. Unit {0}) (λ i zs u q. (units zs, place_count scene c x t i zs (fair i) q)) r
-    (units (range_with_len 0 (length ts))) in
+    (λ i. Unit {0}) (λ r. Unit {0}) (λ i zs u q. (every_unit zs, place_count scene c x t i zs (fair i) q)) r
+    (every_unit (range_with_len 0 (length ts))) in
     k.1 ∙ sum_at (λ i. number (is_in_box c x && (not (is_flat (tri_at ts i)) && is_inside (face_of (tri_at ts i)) x))) t
     0 (length ts) (length ts) (omega arith) ∙ last (ltb t (length ts)) (is_in_box c x)
     (not (is_flat (tri_at ts t)) && is_inside (face_of (tri_at ts t)) x)
@@ -140,7 +136,7 @@ entries_sum : (scene : List Tri) (x : Spot) (t : ℕ) (cs : List Cell) (es : Lis
     (λ c. number (is_in_box c x && has_inside (near scene c) t x)) cs
 entries_sum scene x t cs es fair r =
     (each_count (is_entry_at x t) (λ c. number (is_in_box c x && has_inside (near scene c) t x)) (IsFairAt scene x)
-    (λ e. Unit {0}) (λ c zs u q. (units zs, regions_count scene x t c zs u q)) r fair).1
+    (λ e. Unit {0}) (λ c zs u q. (every_unit zs, regions_count scene x t c zs u q)) r fair).1
 
 le_sum : {X : Type 0} (p q : X → Bool) (xs : List X) → sum_by (λ x. number (p x && q x)) xs ≤ count_by p xs
 le_sum p q [] = omega arith

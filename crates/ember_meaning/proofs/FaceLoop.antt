@@ -13,6 +13,7 @@ use Rattle.ember_algebra.proofs.Order.{pos_mul, sign-mul, sign_scaled}
 use Rattle.ember_algebra.proofs.Large.{eventually_both, eventually_map}
 use Rattle.ember_algebra.proofs.Ring.{◌⊕◌, ◌⊖◌, ◌⊗◌, ◌≈◌, neg, num, solve, cancels}
 use Rattle.ember_algebra.proofs.Identities.{parallel_products, orthogonal_parallel}
+use Rattle.ember_algebra.proofs.Vectors.{square_positive}
 use Rattle.ember_model.specs.declared.plane.Plane.{Plane}
 use Rattle.ember_model.specs.declared.point.Spot.{Spot}
 use Rattle.ember_model.specs.declared.point.Axis.{Axis}
@@ -34,7 +35,7 @@ use Rattle.ember_meaning.specs.Closed.Chains.{face_from, IsOutlined}
 use Rattle.ember_meaning.proofs.RectangleRound.{IsGeneral, IsGeneralFace, component, next, corner, loop, edge_turn}
 use Rattle.ember_meaning.proofs.Rectangle.{value_corner, follows_corner, off_corner, weight_corner}
 use Rattle.ember_meaning.proofs.RectangleCrossings.{cut, passed, quad_turns, quad_passes}
-use Rattle.ember_meaning.proofs.Displacements.{Parallel, dot_swap, square_positive}
+use Rattle.ember_meaning.proofs.Displacements.{Parallel, dot_swap}
 use Rattle.ember_meaning.proofs.EdgeForm.{has_normal}
 use Rattle.ember_meaning.proofs.OneEdge.{EdgeAt, IsOnlyMet, OneMet, edges_met}
 use Rattle.ember_meaning.proofs.NearLegs.{IsBeside, middle_follows, leg_off_plane, leg_beyond, leg_below, leg_on_edge, under_negative, only_met_decides}

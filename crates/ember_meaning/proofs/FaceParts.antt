@@ -1,38 +1,22 @@
 -- Tests of a sign, and the insides of the two parts of a face.
-use Rattle.std.proofs.Common.{◌≡◌, zero, suc, refl, ap, ◌∙◌, [], ◌∷◌, Bool, true, false, ◌&&◌, ℤ, pos, negsuc, neg_ℤ}
+use Rattle.std.proofs.Common.{◌≡◌, zero, suc, refl, ap, ◌∙◌, [], ◌∷◌, Bool, true, false, ◌&&◌, ℤ, pos, negsuc}
 use Rattle.std.specs.List.{list_all}
 use Rattle.std.proofs.lemmas.List.Folds.{list_all-append}
-use Rattle.std.proofs.lemmas.Bool.{false≢true}
+use Rattle.std.proofs.lemmas.Bool.{and_parts}
 use Rattle.ember_algebra.specs.Sign.{is_positive, is_zero, is_negative}
-use Rattle.ember_algebra.proofs.Ring.{◌⊕◌, ◌⊖◌, ◌⊗◌, ◌≈◌, neg, solve, cancels}
 use Rattle.ember_model.specs.declared.plane.Plane.{Plane}
 use Rattle.ember_model.specs.declared.point.Spot.{Spot}
 use Rattle.ember_model.specs.declared.face.Face.{Face}
 use Rattle.ember_model.specs.Planes.{value_at, opposite}
 use Rattle.ember_model.specs.Faces.{is_inside, below, above}
-use Rattle.ember_model.proofs.SignTests.{and_parts}
+use Rattle.ember_model.proofs.SignTests.{is_negative-neg}
+use Rattle.ember_model.proofs.PlaneValues.{value-opposite}
 
 -- ---- one of three
 pub by_tests : {P : Type 0} (z : ℤ) → (is_positive z ≡ true → P) → (is_zero z ≡ true → P) → (is_negative z ≡ true → P) → P
 by_tests (pos zero) f g h = g refl
 by_tests (pos (suc n)) f g h = f refl
 by_tests (negsuc n) f g h = h refl
-
--- no number is both zero and negative
-pub not_zero_negative : (z : ℤ) → is_zero z ≡ true → is_negative z ≡ true → ⊥
-not_zero_negative (pos zero) e h = false≢true h
-not_zero_negative (pos (suc n)) e h = false≢true h
-not_zero_negative (negsuc n) e h = false≢true e
-
-negative-neg : (z : ℤ) → is_negative (neg_ℤ z) ≡ is_positive z
-negative-neg (pos zero) = refl
-negative-neg (pos (suc n)) = refl
-negative-neg (negsuc n) = refl
-
--- the opposite plane has the opposite value
-pub value-opposite : (p : Plane) (v : Spot) → value_at (opposite p) v ≡ neg_ℤ (value_at p v)
-value-opposite p v =
-    solve 8 (λ a b c d x y z w. neg a ⊗ x ⊕ neg b ⊗ y ⊕ neg c ⊗ z ⊖ neg d ⊗ w ≈ neg (a ⊗ x ⊕ b ⊗ y ⊕ c ⊗ z ⊖ d ⊗ w)) cancels p.a p.b p.c p.d v.x v.y v.z v.w
 
 -- ---- a plane appended
 and_end : (a b c d : Bool) → (a && (b && (c && (d && true)))) ≡ ((a && (b && c)) && d)
@@ -52,7 +36,7 @@ is_inside-below f p v =
 -- a point is inside the part above a plane exactly if it is inside the face and above the plane
 pub is_inside-above : (f : Face) (p : Plane) (v : Spot) → is_inside (above f p) v ≡ (is_inside f v && is_positive (value_at p v))
 is_inside-above f p v =
-    is_inside-below f (opposite p) v ∙ ap (λ b. is_inside f v && b) (ap is_negative (value-opposite p v) ∙ negative-neg (value_at p v))
+    is_inside-below f (opposite p) v ∙ ap (λ b. is_inside f v && b) (ap is_negative (value-opposite p v) ∙ is_negative-neg (value_at p v))
 
 -- an inside point lies on the support plane
 pub on_support : (f : Face) (v : Spot) → is_inside f v ≡ true → is_zero (value_at f.support v) ≡ true

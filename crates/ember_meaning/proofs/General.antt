@@ -47,10 +47,11 @@ use Rattle.ember_meaning.specs.Regions.Meaning.{IsFalseOutside, HasMeaning}
 use Rattle.ember_meaning.proofs.HitConditions.{hit_point, SomeHit, IsGeneralAt, IsRegular, HaveMeaningOnLines}
 use Rattle.ember_meaning.proofs.Entries.{one_holds, Listed, leaf_list_exists}
 use Rattle.ember_law.proofs.Vectors.{axes_law}
+use Rattle.ember_leaf.proofs.RegionOrder.{face_support}
 use Rattle.ember_meaning.proofs.Fractions.{fractions_order}
 use Rattle.ember_meaning.proofs.Meaning.{meaning_along, first}
 use Rattle.ember_meaning.proofs.Members.{in_map, map_member_has_source, in_filter, of_filter, every_in, giver, member_splits_list, any_in, any_has_member}
-use Rattle.ember_meaning.proofs.Owners.{IsOf, entry_of, support_is, inside_tri, owned}
+use Rattle.ember_meaning.proofs.Owners.{IsOf, entry_of, inside_tri, owned}
 use Rattle.ember_meaning.proofs.Owners.{first as first_only}
 use Rattle.ember_meaning.proofs.Tree.{leaves_count}
 use Rattle.ember_meaning.proofs.HitsBeyond.{before_place, after_place}
@@ -90,7 +91,7 @@ module _ (scene : List Tri) (cs : List Cell) (e : Entry) (o : IsOf scene cs e) w
   cut_out = region_cut e.cell (near scene e.cell) e.tri o.index o.faces e.face o.are_regions o.here
 
   same_support : e.face.support ≡ (face_of tri_of).support
-  same_support = cut_out.support ∙ sym (support_is tri_of)
+  same_support = cut_out.support ∙ sym (face_support tri_of)
 
   same_key : (k : Axis) (p : Spot) → key k p e.face ≡ tri_key k p tri_of
   same_key k p =

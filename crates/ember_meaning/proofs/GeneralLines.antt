@@ -1,7 +1,7 @@
 -- Beside every point there are general lines: a line meets two planes at one place only where one
 -- is a multiple of the other.
 use Rattle.std.proofs.Common.{◌≡◌, ◌≢◌, ℕ, zero, suc, ◌<◌, refl, ap, ◌∙◌, sym, List, [], ◌∷◌, length, Bool, true, false}
-use Rattle.std.proofs.Common.{not, ◌⊎◌, inl, inr, arith, ℤ, pos, negsuc, neg_ℤ, ◌+ℤ◌, ◌-ℤ◌, ◌*ℤ◌, ◌<ℤ◌}
+use Rattle.std.proofs.Common.{not, ◌⊎◌, inl, inr, arith, ℤ, pos, negsuc, neg_ℤ, ◌+ℤ◌, ◌*ℤ◌, ◌<ℤ◌}
 use borrow.Author.Differences.{ints}
 use lib.IntN.{*ℤ_comm}
 use Rattle.std.specs.List.{AllByRecursion}
@@ -10,7 +10,7 @@ use Rattle.ember_algebra.specs.Large.{Eventually}
 use Rattle.ember_algebra.specs.Relations.{Every}
 use Rattle.ember_algebra.specs.Sign.{sign, is_zero}
 use Rattle.ember_algebra.proofs.Large.{eventually_both, eventually_map, eventually_pos}
-use Rattle.ember_algebra.proofs.Laws.{linear}
+use Rattle.ember_algebra.proofs.Laws.{linear, same_from_difference}
 use Rattle.ember_algebra.proofs.Order.{by_sign, zero_product, zero_from_sign}
 use Rattle.ember_algebra.proofs.Ring.{◌⊕◌, ◌⊖◌, ◌⊗◌, ◌≈◌, neg, num, solve, cancels}
 use Rattle.ember_model.specs.declared.tri.Tri.{Tri}
@@ -28,7 +28,7 @@ use Rattle.ember_model.proofs.PlaneValues.{value_hit}
 use Rattle.ember_model.proofs.SignTests.{clash, zero_out, nonzero_out, zero_scaled, zero_times, size_positive, positive_out}
 use Rattle.ember_law.proofs.FlatTriangles.{flat_in}
 use Rattle.ember_law.proofs.Generic.{cancel_zero, at_hit_of}
-use Rattle.ember_law.proofs.Generic.{IsOff as IsOffEdges}
+use Rattle.ember_law.proofs.Generic.{IsOff as IsOffEdges, value_at_hit}
 use Rattle.ember_law.proofs.GenericClear.{off_clear, clear_faces}
 use Rattle.ember_law.proofs.Shifted.{NoNormal, off_shifted, weight_shifted}
 use Rattle.ember_box.specs.Boxes.{Cell, root}
@@ -67,13 +67,10 @@ record IsMultiple (a : Axis) (n g : Plane) : Type 0 where
 abbrev IsGeneralTo : Axis → Spot → Plane → Plane → Type 0
 IsGeneralTo a q n g = value_at g (hit n a q) ≡ pos 0 → IsMultiple a n g
 
-equal : (x y : ℤ) → x -ℤ y ≡ pos 0 → x ≡ y
-equal x y e = omega (arith, linear, e)
-
 module _ (a : Axis) (n g : Plane) (m : IsMultiple a n g) (crosses : along n a ≢ pos 0) where
   told : (v : Spot) → size (along n a) *ℤ value_at g v ≡ sign (along n a) *ℤ value_at n v *ℤ along g a
   told v =
-      equal (size (along n a) *ℤ value_at g v) (sign (along n a) *ℤ value_at n v *ℤ along g a) (sym (value_hit g n a v) ∙ m.zero v)
+      same_from_difference (size (along n a) *ℤ value_at g v) (sign (along n a) *ℤ value_at n v *ℤ along g a) (sym (value_hit g n a v) ∙ m.zero v)
 
   none : (v : Spot) → sign (along n a) *ℤ value_at n v *ℤ along g a ≡ pos 0 → value_at g v ≡ pos 0
   none v z =
@@ -120,15 +117,6 @@ all_zero h q w n e v =
   where
     none : (x : ℤ) → neg_ℤ x ≡ pos 0 → x ≡ pos 0
     none x e = omega (arith, linear, e)
-
--- a value at the hit is that of a plane at the point
-value_at_hit : (g n : Plane) (a : Axis) (p : Spot) → value_at (at_hit_of g n a) p ≡ value_at g (hit n a p)
-value_at_hit g n a p =
-    solve 14 (λ m k ga gb gc gd na nb nc nd x y z w. (m ⊗ ga ⊕ k ⊗ na) ⊗ x ⊕ (m ⊗ gb ⊕ k ⊗ nb) ⊗ y ⊕ (m ⊗ gc ⊕ k ⊗ nc) ⊗
-    z ⊖ (m ⊗ gd ⊕ k ⊗ nd) ⊗ w ≈ m ⊗ (ga ⊗ x ⊕ gb ⊗ y ⊕ gc ⊗ z ⊖ gd ⊗ w) ⊕ k ⊗ (na ⊗ x ⊕ nb ⊗ y ⊕ nc ⊗ z ⊖ nd ⊗ w))
-    cancels (size (along n a)) (neg_ℤ (sign (along n a)) *ℤ along g a) g.a g.b g.c g.d n.a n.b n.c n.d p.x p.y p.z p.w
-    ∙ solve 5 (λ m s k v u. m ⊗ v ⊕ neg s ⊗ k ⊗ u ≈ m ⊗ v ⊖ s ⊗ u ⊗ k) cancels (size (along n a)) (sign (along n a))
-    (along g a) (value_at g p) (value_at n p) ∙ sym (value_hit g n a p)
 
 -- the lines through points directly beside p are general to any two planes
 general_to : (a : Axis) (p : Spot) → pos 0 <ℤ p.w → (n g : Plane) → Eventually (λ m. IsGeneralTo a (offset_by p (pos m)) n g)

@@ -1,6 +1,6 @@
 -- Directly before and directly after a hit the winding numbers are those of the hits from it on,
 -- and of the hits beyond it.
-use Rattle.std.proofs.Common.{◌≡◌, ℕ, zero, suc, pred, refl, ap, ◌∙◌, sym, List, [], ◌∷◌, Bool, true, false, not, cond}
+use Rattle.std.proofs.Common.{◌≡◌, ℕ, zero, suc, pred, refl, ap, ◌∙◌, sym, List, [], ◌∷◌, Bool, false, not, cond}
 use Rattle.std.proofs.Common.{ℤ, pos, negsuc, ◌+ℤ◌, ◌-ℤ◌, ◌*ℤ◌, ◌<ℤ◌, ◌≤ℤ◌, unsigned_abs, arith}
 use borrow.Author.Differences.{ints}
 use Rattle.std.specs.Prelude.{int_lt}
@@ -12,6 +12,7 @@ use Rattle.ember_algebra.proofs.Laws.{linear}
 use Rattle.ember_algebra.proofs.Large.{eventually_both, eventually_map}
 use Rattle.ember_algebra.proofs.Order.{mul_le, pos_mul}
 use Rattle.ember_algebra.proofs.Ring.{◌⊕◌, ◌⊖◌, ◌⊗◌, ◌≈◌, num, solve, cancels}
+use Rattle.ember_algebra.proofs.Numbers.{int_lt_in, int_lt_not, suc_positive}
 use Rattle.ember_model.specs.declared.tri.Tri.{Tri}
 use Rattle.ember_model.specs.declared.point.Spot.{Spot}
 use Rattle.ember_model.specs.declared.point.Axis.{Axis}
@@ -26,12 +27,6 @@ use Rattle.ember_meaning.proofs.Lines.{Fraction, is_below, on_line, key, beyond,
 use Rattle.ember_meaning.proofs.AlongLine.{vector-on_line}
 use Rattle.ember_meaning.proofs.OnLine.{size_up}
 
-lt_yes : (a b : ℤ) → a <ℤ b → int_lt a b ≡ true
-lt_yes a b h = grind (arith, ints)
-
-lt_no : (a b : ℤ) → b ≤ℤ a → int_lt a b ≡ false
-lt_no a b h = grind (arith, ints)
-
 -- ---- one hit: c / d is the place, a / b its key, and m is larger than b
 -- m (a d - c b) is at least m, or it is at most 0, or at most - m
 product : (m : ℕ) (x y : ℤ) → x <ℤ y → pos m ≤ℤ (pos m *ℤ (y -ℤ x))
@@ -43,11 +38,11 @@ beyond_one : (a b c d : ℤ) (m : ℕ) → pos 0 <ℤ b → b <ℤ pos m → int
 beyond_one a b c d m pb l =
     let e = solve 5 (λ m a b c d. a ⊗ (m ⊗ d) ⊖ (m ⊗ c ⊕ num (pos 1)) ⊗ b ≈ m ⊗ (a ⊗ d ⊖ c ⊗ b) ⊖ b) cancels (pos m) a b c d in
     by_lt_z (c *ℤ b) (a *ℤ d) (λ h. let p = product m (c *ℤ b) (a *ℤ d) h in
-    lt_yes ((pos m *ℤ c +ℤ pos 1) *ℤ b) (a *ℤ (pos m *ℤ d))
+    int_lt_in ((pos m *ℤ c +ℤ pos 1) *ℤ b) (a *ℤ (pos m *ℤ d))
     (above (a *ℤ (pos m *ℤ d)) ((pos m *ℤ c +ℤ pos 1) *ℤ b) (pos m *ℤ (a *ℤ d -ℤ c *ℤ b)) b e p l)
-    ∙ sym (lt_yes (c *ℤ b) (a *ℤ d) h)) (λ h. lt_no ((pos m *ℤ c +ℤ pos 1) *ℤ b) (a *ℤ (pos m *ℤ d))
+    ∙ sym (int_lt_in (c *ℤ b) (a *ℤ d) h)) (λ h. int_lt_not ((pos m *ℤ c +ℤ pos 1) *ℤ b) (a *ℤ (pos m *ℤ d))
     (under (a *ℤ (pos m *ℤ d)) ((pos m *ℤ c +ℤ pos 1) *ℤ b) (pos m *ℤ (a *ℤ d -ℤ c *ℤ b)) b e
-    (at_most m (a *ℤ d) (c *ℤ b) h) pb) ∙ sym (lt_no (c *ℤ b) (a *ℤ d) h))
+    (at_most m (a *ℤ d) (c *ℤ b) h) pb) ∙ sym (int_lt_not (c *ℤ b) (a *ℤ d) h))
   where
     above : (x y z b : ℤ) → x -ℤ y ≡ z -ℤ b → pos m ≤ℤ z → b <ℤ pos m → y <ℤ x
     above x y z b e p l = omega (arith, linear, e, p, l)
@@ -64,12 +59,12 @@ onward_one : (a b c d : ℤ) (m : ℕ) → pos 0 <ℤ b → b <ℤ pos m → int
 onward_one a b c d m pb l =
     let e = solve 5 (λ m a b c d. a ⊗ (m ⊗ d) ⊖ (m ⊗ c ⊕ num (negsuc 0)) ⊗ b ≈ b ⊖ m ⊗ (c ⊗ b ⊖ a ⊗ d)) cancels (pos m) a b c d in
     by_lt_z (a *ℤ d) (c *ℤ b) (λ h. let p = product m (a *ℤ d) (c *ℤ b) h in
-    lt_no ((pos m *ℤ c +ℤ negsuc 0) *ℤ b) (a *ℤ (pos m *ℤ d))
+    int_lt_not ((pos m *ℤ c +ℤ negsuc 0) *ℤ b) (a *ℤ (pos m *ℤ d))
     (under (a *ℤ (pos m *ℤ d)) ((pos m *ℤ c +ℤ negsuc 0) *ℤ b) (pos m *ℤ (c *ℤ b -ℤ a *ℤ d)) b e p l)
-    ∙ sym (ap not (lt_yes (a *ℤ d) (c *ℤ b) h)))
-    (λ h. lt_yes ((pos m *ℤ c +ℤ negsuc 0) *ℤ b) (a *ℤ (pos m *ℤ d))
+    ∙ sym (ap not (int_lt_in (a *ℤ d) (c *ℤ b) h)))
+    (λ h. int_lt_in ((pos m *ℤ c +ℤ negsuc 0) *ℤ b) (a *ℤ (pos m *ℤ d))
     (above (a *ℤ (pos m *ℤ d)) ((pos m *ℤ c +ℤ negsuc 0) *ℤ b) (pos m *ℤ (c *ℤ b -ℤ a *ℤ d)) b e
-    (at_most m (c *ℤ b) (a *ℤ d) h) pb) ∙ sym (ap not (lt_no (a *ℤ d) (c *ℤ b) h)))
+    (at_most m (c *ℤ b) (a *ℤ d) h) pb) ∙ sym (ap not (int_lt_not (a *ℤ d) (c *ℤ b) h)))
   where
     under : (x y z b : ℤ) → x -ℤ y ≡ b -ℤ z → pos m ≤ℤ z → b <ℤ pos m → x ≤ℤ y
     under x y z b e p l = omega (arith, linear, e, p, l)
@@ -87,29 +82,26 @@ abbrev pub step : ℕ → ℤ → Fraction → Fraction
 step m e f =
     record { num = pos m *ℤ f.num +ℤ e; den = pred (unsigned_abs (pos m *ℤ pos (suc f.den))) }
 
-one_up : (n : ℕ) → pos 0 <ℤ pos (suc n)
-one_up n = omega (arith, ints)
-
 up_pred : (z : ℤ) → pos 0 <ℤ z → pos (suc (pred (unsigned_abs z))) ≡ z
 up_pred (pos zero) h = absurd (omega (arith, ints))
 up_pred (pos (suc n)) h = refl
 up_pred (negsuc n) h = absurd (omega (arith, ints))
 
 large : (b m : ℕ) → pos (suc b) <ℤ pos m → pos 0 <ℤ pos m
-large b m l = let o = one_up b in omega (arith, linear, l, o)
+large b m l = let o = suc_positive b in omega (arith, linear, l, o)
 
 den_is : (m : ℕ) (f : Fraction) (b : ℕ) → pos (suc b) <ℤ pos m → pos (suc (pred (unsigned_abs (pos m *ℤ pos (suc f.den))))) ≡ pos m *ℤ pos (suc f.den)
-den_is m f b l = up_pred (pos m *ℤ pos (suc f.den)) (pos_mul (large b m l) (one_up f.den))
+den_is m f b l = up_pred (pos m *ℤ pos (suc f.den)) (pos_mul (large b m l) (suc_positive f.den))
 
 step_beyond : (m : ℕ) (f g : Fraction) → pos (suc g.den) <ℤ pos m → is_below (step m (pos 1) f) g ≡ is_below f g
 step_beyond m f g l =
     ap (λ (z : ℤ). int_lt ((pos m *ℤ f.num +ℤ pos 1) *ℤ pos (suc g.den)) (g.num *ℤ z)) (den_is m f g.den l)
-    ∙ beyond_one g.num (pos (suc g.den)) f.num (pos (suc f.den)) m (one_up g.den) l
+    ∙ beyond_one g.num (pos (suc g.den)) f.num (pos (suc f.den)) m (suc_positive g.den) l
 
 step_onward : (m : ℕ) (f g : Fraction) → pos (suc g.den) <ℤ pos m → is_below (step m (negsuc 0) f) g ≡ not (is_below g f)
 step_onward m f g l =
     ap (λ (z : ℤ). int_lt ((pos m *ℤ f.num +ℤ negsuc 0) *ℤ pos (suc g.den)) (g.num *ℤ z)) (den_is m f g.den l)
-    ∙ onward_one g.num (pos (suc g.den)) f.num (pos (suc f.den)) m (one_up g.den) l
+    ∙ onward_one g.num (pos (suc g.den)) f.num (pos (suc f.den)) m (suc_positive g.den) l
 
 far : (b : ℕ) → Eventually (λ m. pos (suc b) <ℤ pos m)
 far b = record { from = suc (suc b); holds = λ m l. omega (arith, ints, l) }
@@ -148,7 +140,7 @@ module _ (scene : List Tri) (k : Axis) (p : Spot) (f : Face) (crosses : is_zero 
   at_is m e l =
       stepped k p (pos m) (size (along f.support k)) z.num e
       (pos (suc (pred (unsigned_abs (pos m *ℤ pos (suc z.den))))))
-      (up_pred (pos m *ℤ pos (suc z.den)) (pos_mul l (one_up z.den))
+      (up_pred (pos m *ℤ pos (suc z.den)) (pos_mul l (suc_positive z.den))
       ∙ ap (λ (n : ℤ). pos m *ℤ n) (size_up (along f.support k) crosses))
 
   vector_at : (m : ℕ) (e : ℤ) → pos 0 <ℤ pos m → vector k scene (at m e) ≡ seen k (beyond is_below (tri_key k p) (step m e z) (tri_hits k p scene))

@@ -10,6 +10,7 @@ use Rattle.ember_algebra.specs.Relations.{Each, Chain}
 use Rattle.ember_algebra.specs.Sign.{is_zero, is_negative}
 use Rattle.ember_algebra.proofs.Laws.{linear}
 use Rattle.ember_algebra.proofs.Ring.{◌⊕◌, ◌⊖◌, ◌⊗◌, ◌≈◌, neg, num, solve, cancels}
+use Rattle.ember_algebra.proofs.Numbers.{int_lt_in, int_lt_not, int_le_in}
 use Rattle.ember_model.specs.declared.tri.Tri.{Tri}
 use Rattle.ember_model.specs.declared.point.Spot.{Spot}
 use Rattle.ember_model.specs.declared.point.Axis.{Axis}
@@ -28,15 +29,6 @@ use Rattle.ember_meaning.proofs.RegionsPartition.{cutting_planes_count, start_co
 -- ---- the walls are the half-open box
 not_le : (l x : ℤ) → x <ℤ l → int_le l x ≡ false
 not_le l x h = grind (arith, ints)
-
-is_le : (l x : ℤ) → l ≤ℤ x → int_le l x ≡ true
-is_le l x h = grind (arith, ints)
-
-not_lt : (x h : ℤ) → h ≤ℤ x → int_lt x h ≡ false
-not_lt x h e = grind (arith, ints)
-
-is_lt : (x h : ℤ) → x <ℤ h → int_lt x h ≡ true
-is_lt x h e = grind (arith, ints)
 
 at_most_test : (v : ℤ) → v ≤ℤ pos 0 → (is_negative v || (true && is_zero v)) ≡ true
 at_most_test (pos zero) h = refl
@@ -59,11 +51,11 @@ at_least_test (negsuc n) h = absurd (omega (arith, ints))
 
 low_test : (v l x : ℤ) → v ≡ l -ℤ x → (is_negative v || (true && is_zero v)) ≡ int_le l x
 low_test v l x e =
-    by_lt_z x l (λ h. above_test v (omega (arith, linear)) ∙ sym (not_le l x h)) (λ h. at_most_test v (omega (arith, linear)) ∙ sym (is_le l x h))
+    by_lt_z x l (λ h. above_test v (omega (arith, linear)) ∙ sym (not_le l x h)) (λ h. at_most_test v (omega (arith, linear)) ∙ sym (int_le_in l x h))
 
 high_test : (v h x : ℤ) → v ≡ x -ℤ h → (is_negative v || (false && is_zero v)) ≡ int_lt x h
 high_test v h x e =
-    by_lt_z x h (λ l. below_test v (omega (arith, linear)) ∙ sym (is_lt x h l)) (λ l. at_least_test v (omega (arith, linear)) ∙ sym (not_lt x h l))
+    by_lt_z x h (λ l. below_test v (omega (arith, linear)) ∙ sym (int_lt_in x h l)) (λ l. at_least_test v (omega (arith, linear)) ∙ sym (int_lt_not x h l))
 
 low_passes : (c : Cell) (k : Axis) (x : Spot) → passes x (low_wall c k) ≡ int_le (low c k *ℤ x.w) (coordinate k x)
 low_passes c X x =

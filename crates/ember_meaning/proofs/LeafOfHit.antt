@@ -1,17 +1,18 @@
 -- The leaf that holds the place of a hit is listed, and the triangle is near it; or the expression
 -- has one value there.
-use Rattle.std.proofs.Common.{◌≡◌, ℕ, ◌+◌, ◌<◌, refl, ap, sym, List, [], ◌∷◌, Bool, true, false, ◌&&◌, ◌||◌, cond, ◌⊎◌}
+use Rattle.std.proofs.Common.{◌≡◌, ℕ, ◌+◌, ◌<◌, refl, ap, List, [], ◌∷◌, Bool, true, false, ◌&&◌, cond, ◌⊎◌}
 use Rattle.std.proofs.Common.{inl, inr, arith, ℤ, pos, negsuc, neg_ℤ, All, ◌*ℤ◌, ◌<ℤ◌, ◌≤ℤ◌}
 use borrow.Author.Differences.{ints}
 use Rattle.std.specs.Prelude.{int_le, int_lt}
 use Rattle.std.specs.List.{count_by, list_any}
-use Rattle.std.proofs.lemmas.Bool.{cases_Bool, false≢true, and_parts, and_from}
+use Rattle.std.proofs.lemmas.Bool.{cases_Bool, and_parts, and_from, or_parts}
 use Rattle.std.proofs.lemmas.List.Sums.{sum_by-cons}
 use Rattle.ember_algebra.proofs.Laws.{linear}
 use Rattle.ember_model.specs.declared.point.Spot.{Spot}
 use Rattle.ember_model.specs.declared.point.Axis.TheVariants.{X, Y, Z}
 use Rattle.std.proofs.lemmas.List.Elements.{All-head, All-tail}
 use Rattle.ember_algebra.specs.Size.{Small}
+use Rattle.ember_algebra.proofs.Numbers.{int_le_out}
 use Rattle.ember_model.specs.declared.tri.Tri.{Tri}
 use Rattle.ember_model.specs.Valid.{IsValidTri}
 use Rattle.ember_model.specs.Faces.{is_in_closed, is_flat, face_of}
@@ -23,9 +24,6 @@ use Rattle.ember_meaning.proofs.Listed.{Without, ends, keeps, drops}
 use Rattle.ember_meaning.proofs.Lines.{In, here, there}
 
 -- ---- the half-open box lies in the closed one
-le_fact : (a b : ℤ) → int_le a b ≡ true → a ≤ℤ b
-le_fact a b h = grind (arith, ints)
-
 lt_fact : (a b : ℤ) → int_lt a b ≡ true → a ≤ℤ b
 lt_fact a b h = grind (arith, ints)
 
@@ -39,9 +37,9 @@ has_point c v w h =
     let z = and_parts (int_le (low c Z *ℤ v.w) v.z) (int_lt v.z (high c Z *ℤ v.w)) q.1 in
     record {
       weight = w;
-      on_x = record { from = le_fact (low c X *ℤ v.w) v.x x.0; to = lt_fact v.x (high c X *ℤ v.w) x.1 };
-      on_y = record { from = le_fact (low c Y *ℤ v.w) v.y y.0; to = lt_fact v.y (high c Y *ℤ v.w) y.1 };
-      on_z = record { from = le_fact (low c Z *ℤ v.w) v.z z.0; to = lt_fact v.z (high c Z *ℤ v.w) z.1 };
+      on_x = record { from = int_le_out (low c X *ℤ v.w) v.x x.0; to = lt_fact v.x (high c X *ℤ v.w) x.1 };
+      on_y = record { from = int_le_out (low c Y *ℤ v.w) v.y y.0; to = lt_fact v.y (high c Y *ℤ v.w) y.1 };
+      on_z = record { from = int_le_out (low c Z *ℤ v.w) v.z z.0; to = lt_fact v.z (high c Z *ℤ v.w) z.1 };
     }
 
 -- ---- the root holds all valid triangles
@@ -90,16 +88,12 @@ pub record Lost {X : Type 0} (P : X → Type 0) (p : X → Bool) : Type 0 where
   pub has : P at
   pub holds : p at ≡ true
 
-parts : (a b : Bool) → (a || b) ≡ false → (a ≡ false) × (b ≡ false)
-parts true b h = absurd (false≢true (sym h))
-parts false b h = (refl, h)
-
 -- if some member passes and none of the listed does, one that passes isn't listed
 pub missing_member_passes : {X : Type 0} {P : X → Type 0} (p : X → Bool) {xs ys : List X} → Without P xs ys →
     0 < count_by p xs → list_any p ys ≡ false → Lost P p
 missing_member_passes p ends l h = absurd (omega arith)
 missing_member_passes p (keeps {x = x} {xs = xs} {ys = ys} w) l h =
-    let q = parts (p x) (list_any p ys) h in
+    let q = or_parts (p x) (list_any p ys) h in
     missing_member_passes p w (less (number (p x)) (sum_by-cons (λ z. cond (p z) 1 0) x xs) l (ap number q.0)) q.1
   where
     less : {m n : ℕ} (q : ℕ) → m ≡ q + n → 0 < m → q ≡ 0 → 0 < n
@@ -118,4 +112,4 @@ missing_member_passes {P = P} p (drops {x = x} {xs = xs} {ys = ys} d w) l h =
 pub none_both : {X : Type 0} (p q : X → Bool) (xs : List X) → list_any p xs ≡ false → list_any (λ x. p x && q x) xs ≡ false
 none_both p q [] h = refl
 none_both p q (x ∷ xs) h =
-    let k = parts (p x) (list_any p xs) h in rw (k.0, none_both p q xs k.1) refl
+    let k = or_parts (p x) (list_any p xs) h in rw (k.0, none_both p q xs k.1) refl

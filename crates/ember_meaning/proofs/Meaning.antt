@@ -7,7 +7,7 @@ use Rattle.std.specs.List.{filter, count_by, list_any, range_with_len}
 use Rattle.std.proofs.lemmas.Bool.{cases_Bool, false≢true, and_parts, or_right, not-true}
 use Rattle.ember_algebra.specs.Relations.{Each}
 use Rattle.ember_algebra.specs.Sign.{is_positive, is_zero}
-use Rattle.ember_algebra.proofs.Laws.{linear}
+use Rattle.ember_algebra.proofs.Laws.{linear, one-*ℤ}
 use Rattle.ember_model.specs.declared.tri.Tri.{Tri}
 use Rattle.ember_model.specs.declared.point.Spot.{Spot}
 use Rattle.ember_model.specs.declared.point.Axis.{Axis}
@@ -265,11 +265,8 @@ meaning_along scene x k p cs es ws n c d o r y =
 zero_more : (z : ℤ) → pos 1 *ℤ z +ℤ pos 0 ≡ z
 zero_more z = omega (arith, ints)
 
-one_time : (z : ℤ) → pos 1 *ℤ z ≡ z
-one_time z = omega (arith, ints)
-
 -- the first point of a line
 pub first : (k : Axis) (p : Spot) → on_line k p (record { num = pos 0; den = 0 }) ≡ p
-first X p = same_spot (zero_more p.x) (one_time p.y) (one_time p.z) (one_time p.w)
-first Y p = same_spot (one_time p.x) (zero_more p.y) (one_time p.z) (one_time p.w)
-first Z p = same_spot (one_time p.x) (one_time p.y) (zero_more p.z) (one_time p.w)
+first X p = same_spot (zero_more p.x) (one-*ℤ p.y) (one-*ℤ p.z) (one-*ℤ p.w)
+first Y p = same_spot (one-*ℤ p.x) (zero_more p.y) (one-*ℤ p.z) (one-*ℤ p.w)
+first Z p = same_spot (one-*ℤ p.x) (one-*ℤ p.y) (zero_more p.z) (one-*ℤ p.w)

@@ -10,6 +10,7 @@ use Rattle.ember_algebra.specs.Sign.{sign, is_zero, is_negative}
 use Rattle.ember_algebra.proofs.Laws.{linear, from_one}
 use Rattle.ember_algebra.proofs.Order.{sign-mul}
 use Rattle.ember_algebra.proofs.Ring.{◌⊕◌, ◌⊖◌, ◌⊗◌, ◌≈◌, neg, solve, cancels}
+use Rattle.ember_algebra.proofs.Numbers.{suc_positive}
 use Rattle.ember_model.specs.declared.plane.Plane.{Plane}
 use Rattle.ember_model.specs.declared.point.Spot.{Spot}
 use Rattle.ember_model.specs.declared.point.Axis.{Axis}
@@ -31,9 +32,6 @@ hit_ahead n a p m s q =
     (solve 8 (λ z g na qa m s vq vn. (z ⊗ (m ⊗ vq ⊕ s ⊗ qa) ⊖ g ⊗ (m ⊗ vn ⊕ s ⊗ na) ⊗ qa) ⊖ m ⊗ (z ⊗ vq ⊖ g ⊗ vn ⊗ qa)
     ≈ s ⊗ qa ⊗ (z ⊖ g ⊗ na)) cancels (size (along n a)) (sign (along n a)) (along n a) (along q a) m s (value_at q p)
     (value_at n p)) ∙ ap (λ (z : ℤ). m *ℤ z) (sym (value_hit q n a p))
-
-one_up : (n : ℕ) → pos 0 <ℤ pos (suc n)
-one_up n = omega (arith, ints)
 
 -- ---- ahead or not
 negative-sign : (z : ℤ) → is_negative (sign z) ≡ is_negative z
@@ -123,7 +121,7 @@ crossing-on_line f a p y = by (cases_Bool (is_zero (along f.support a)))
     by (inr e) =
         ap (λ b. cond (b && is_inside f (hit f.support a (on_line a p y))) (sign (along f.support a)) (pos 0))
         (ahead_test f a p y e) ∙ ap (λ b. cond (is_below y (key a p f) && b) (sign (along f.support a)) (pos 0))
-        (inside_scaled (pos (suc y.den)) (hit f.support a p) (hit f.support a (on_line a p y)) f (one_up y.den)
+        (inside_scaled (pos (suc y.den)) (hit f.support a p) (hit f.support a (on_line a p y)) f (suc_positive y.den)
         (hit_ahead f.support a p (pos (suc y.den)) y.num))
         ∙ nested (is_below y (key a p f)) (is_inside f (hit f.support a p)) (sign (along f.support a))
         ∙ ap (λ b. cond (is_below y (key a p f))

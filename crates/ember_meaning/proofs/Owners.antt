@@ -7,7 +7,6 @@ use Rattle.std.proofs.lemmas.Option.{slice_get-get_or, get_or_from_slice_get}
 use Rattle.ember_model.specs.declared.tri.Tri.{Tri}
 use Rattle.ember_model.specs.declared.point.Spot.{Spot}
 use Rattle.ember_model.specs.declared.face.Face.{Face}
-use Rattle.ember_model.specs.Planes.{support_of}
 use Rattle.ember_model.specs.Faces.{is_inside, is_flat, face_of}
 use Rattle.ember_model.specs.Owners.{is_coplanar, IsOwner}
 use Rattle.ember_model.proofs.SignTests.{clash}
@@ -20,6 +19,7 @@ use Rattle.ember_trace.proofs.BoxedRegions.{region_inside}
 use Rattle.ember_trace.proofs.CutRegions.{IsCutOut, region_cut}
 use Rattle.ember_trace.proofs.FlatPlanes.{lies_flat, shared_face}
 use Rattle.ember_trace.proofs.SharedPlanes.{on_plane}
+use Rattle.ember_leaf.proofs.RegionOrder.{face_support}
 use Rattle.ember_meaning.proofs.CountedPoints.{is_in_box, IsFairAt}
 use Rattle.ember_meaning.proofs.Listed.{Entry, entry, IsEntries, has_inside, is_hit_at}
 use Rattle.ember_meaning.proofs.Lines.{In}
@@ -54,11 +54,6 @@ entry_of scene cs es e r i =
       here = p.is;
       member = s.member;
     })
-
--- the support plane of a triangle's face is the triangle's
-pub support_is : (u : Tri) → (face_of u).support ≡ support_of u
-unfolding face_of
-support_is u = refl
 
 module _ (scene : List Tri) (cs : List Cell) (v : Spot) (e : Entry) (o : IsOf scene cs e) (has : is_inside e.face v ≡ true) where
   abbrev ns : List Tri
@@ -115,7 +110,7 @@ module _ (scene : List Tri) (cs : List Cell) (v : Spot) (e : Entry) (o : IsOf sc
       shared n nf i =
           let u = tri_at ns j in
           let c = ⊎_elim (λ h. h) (λ h. absurd (cut_out.misses j n nf h v has (inside_closed (face_of u) v i))) (cases_Bool (is_coplanar t u)) in
-          let d = lies_flat u t (face_of u) v (support_is u) nf cut_out.normal i
+          let d = lies_flat u t (face_of u) v (face_support u) nf cut_out.normal i
           (record { holds = λ w g. shared_face t u w c (inside_closed (face_of u) w g) }) in
           own.first j t u l (slice_get-get_or ns j no_tri n) (slice_get-get_or ns e.tri no_tri o.below) d
           (record { holds = λ w g. cut_out.shares j n c v w has (inside_closed (face_of u) v i) g })

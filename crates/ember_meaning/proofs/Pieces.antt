@@ -1,10 +1,11 @@
 -- If the points just after each point are covered evenly, each piece of a line is led over as often one way as the other.
-use Rattle.std.proofs.Common.{◌≡◌, refl, sym, ap, ◌∙◌, arith, ℕ, zero, suc, Bool, true, false, cond, not, ◌&&◌, List}
-use Rattle.std.proofs.Common.{[], ◌∷◌, ℤ, pos, negsuc, ◌+ℤ◌, ◌-ℤ◌, ◌*ℤ◌, neg_ℤ, ◌<ℤ◌, ◌≤ℤ◌}
+use Rattle.std.proofs.Common.{◌≡◌, refl, sym, ap, ◌∙◌, arith, ℕ, Bool, true, false, cond, not, ◌&&◌, List}
+use Rattle.std.proofs.Common.{[], ◌∷◌, ℤ, pos, ◌+ℤ◌, ◌-ℤ◌, ◌*ℤ◌, ◌<ℤ◌, ◌≤ℤ◌}
 use Rattle.std.specs.List.{AllByRecursion}
 use Rattle.std.proofs.lemmas.Int.{by_lt_z}
 use borrow.Author.Differences.{ints}
 use lib.IntN.{*ℤ-zero}
+use Rattle.std.proofs.lemmas.Bool.{and_parts}
 use Rattle.ember_algebra.specs.Vector.{Vector, dot, cross}
 use Rattle.ember_algebra.specs.Sign.{is_negative, is_positive}
 use Rattle.ember_algebra.specs.Sums.{total}
@@ -13,23 +14,19 @@ use Rattle.ember_algebra.proofs.Order.{pos_mul, nonneg_mul, cancel_lt}
 use Rattle.ember_algebra.proofs.Ring.{◌⊕◌, ◌⊗◌, ◌≈◌, neg, cancels}
 use Rattle.ember_algebra.proofs.Sums.{total-count_by}
 use Rattle.ember_algebra.proofs.Vectors.{tuple, identity, vector_identity, dotE, crossE, ◌≈v◌, cancels_v}
+use Rattle.ember_algebra.proofs.Vectors.{square_positive}
+use Rattle.ember_algebra.proofs.Booleans.{same_test}
 use Rattle.ember_model.specs.declared.point.Spot.{Spot}
-use Rattle.ember_model.proofs.SignTests.{negative_in, negative_not, positive_in, and_parts, clash}
+use Rattle.ember_model.proofs.SignTests.{negative_in, negative_not, positive_in, clash, is_positive-neg}
 use Rattle.ember_model.proofs.Tuples.{spot_tuple}
-use Rattle.ember_poly.proofs.FaceTests.{same_test}
 use Rattle.ember_meaning.specs.Closed.Chains.{DirectedEdge, displacement, is_zero_vector, is_same_point, is_parallel, is_on_line}
 use Rattle.ember_meaning.specs.Closed.Chains.{reached, coverage, IsEvenlyCovered, is_ahead, is_between, IsUnbroken, leads_over}
 use Rattle.ember_meaning.specs.Closed.Chains.{ArePiecesPaired}
-use Rattle.ember_meaning.proofs.Displacements.{zeroE, displacementE, Parallel, square_positive, parallel_onward}
+use Rattle.ember_meaning.proofs.Displacements.{zeroE, displacementE, Parallel, parallel_onward}
 use Rattle.ember_meaning.proofs.Displacements.{parallel_back, zero_vector_in, zero_vector_out, zero_not}
 use Rattle.ember_meaning.proofs.Starts.{one_if, againstE, parallel_against}
 
 -- ---- tests of a number and its negative
-positive_neg : (a : ℤ) → is_positive (neg_ℤ a) ≡ is_negative a
-positive_neg (pos zero) = refl
-positive_neg (pos (suc n)) = refl
-positive_neg (negsuc n) = refl
-
 module _ (x y : Spot) where
   abbrev d : Vector
   d = displacement x y
@@ -42,14 +39,14 @@ module _ (x y : Spot) where
   ahead_of_x u =
       ap is_positive (identity (tuple ∷ tuple ∷ tuple ∷ [])
       (λ x y u. dotE (displacementE x u) (displacementE x y) ≈ neg (dotE (displacementE u x) (displacementE x y)))
-      cancels (spot_tuple x) (spot_tuple y) (spot_tuple u)) ∙ positive_neg (behind u)
+      cancels (spot_tuple x) (spot_tuple y) (spot_tuple u)) ∙ is_positive-neg (behind u)
 
   -- the same from y back to x
   x_ahead_back : (u : Spot) → is_ahead u (displacement y x) x ≡ is_negative (behind u)
   x_ahead_back u =
       ap is_positive (identity (tuple ∷ tuple ∷ tuple ∷ [])
       (λ x y u. dotE (displacementE u x) (displacementE y x) ≈ neg (dotE (displacementE u x) (displacementE x y)))
-      cancels (spot_tuple x) (spot_tuple y) (spot_tuple u)) ∙ positive_neg (behind u)
+      cancels (spot_tuple x) (spot_tuple y) (spot_tuple u)) ∙ is_positive-neg (behind u)
 
   ahead_back : (u : Spot) → is_ahead y (displacement y x) u ≡ is_ahead u d y
   ahead_back u =

@@ -11,6 +11,7 @@ use Rattle.ember_algebra.proofs.Order.{by_sign, pos_mul}
 use Rattle.ember_algebra.proofs.Large.{eventually_both, eventually_map, horner_pos, horner_neg}
 use Rattle.ember_algebra.proofs.Ring.{Expr, ◌⊕◌, ◌⊗◌, ◌≈◌, solve, cancels}
 use Rattle.ember_algebra.proofs.Vectors.{scalar, vector, tuple, identity, vector_identity, ◌≈v◌, cancels_v, VectorE, TupleE, dotE, crossE, scaleE, valueE}
+use Rattle.ember_algebra.proofs.Vectors.{square_positive}
 use Rattle.ember_model.specs.declared.plane.Plane.{Plane}
 use Rattle.ember_model.specs.declared.point.Spot.{Spot}
 use Rattle.ember_model.specs.declared.point.Axis.{Axis}
@@ -20,7 +21,7 @@ use Rattle.ember_model.specs.Edges.{normal}
 use Rattle.ember_model.proofs.SignTests.{negative_in, negative_not, nonzero_out, positive_nonzero, negative_nonzero, sgn_scaled}
 use Rattle.ember_model.proofs.Tuples.{plane_tuple, spot_tuple, normalE}
 use Rattle.ember_meaning.specs.Closed.Chains.{DirectedEdge, displacement, is_zero_vector, is_on_line, is_parallel, reached, coverage}
-use Rattle.ember_meaning.proofs.Displacements.{displacementE, square_positive, zero_not}
+use Rattle.ember_meaning.proofs.Displacements.{displacementE, zero_not}
 use Rattle.ember_meaning.proofs.RectangleRound.{ahead, IsGeneral, IsOffEnds, component}
 
 -- ---- directions

@@ -4,6 +4,7 @@ use Rattle.std.specs.List.{All, AllByRecursion, range_with_len}
 use Rattle.std.proofs.lemmas.List.Concat.{flat_map-cons}
 use Rattle.std.proofs.lemmas.List.Elements.{All-cons, All-nil}
 use Rattle.ember_algebra.specs.Relations.{Each, none, more, Every}
+use Rattle.ember_algebra.proofs.Relations.{every_unit}
 use Rattle.ember_model.specs.declared.tri.Tri.{Tri}
 use Rattle.ember_model.specs.declared.face.Face.{Face}
 use Rattle.ember_model.specs.FaceFiles.{WrittenFace, IsWrittenFace, face_lines, header, ending}
@@ -33,10 +34,6 @@ use Rattle.ember_meaning.proofs.SameFaces.{HaveSamePoints, same_meaning}
 abbrev pub IsFilled : Kept → Type 0
 IsFilled k = HasInside (written_face k)
 
-every_one : {X : Type 0} (xs : List X) → Every (λ x. Unit {0}) xs
-every_one [] = tt
-every_one (x ∷ xs) = (tt, every_one xs)
-
 of_region : (scene : List Tri) (x : Formula) (near : List Tri) (i : ℕ) (face : Face) (ks : List Kept) →
     IsWrittenOfRegion scene x near i face ks → Every IsFilled ks
 of_region scene x near i face ks (unowned n) = tt
@@ -50,17 +47,17 @@ of_region scene x near i face ks (written {before = a} {after = b} o s n) =
 
 of_place : (scene : List Tri) (x : Formula) (c : Cell) (near : List Tri) (i : ℕ) (ks : List Kept) → IsWrittenOf scene x c near i ks → Every IsFilled ks
 of_place scene x c near i ks (regional r) =
-    each_every (λ f. Unit {0}) IsFilled (λ f us t w. of_region scene x near i f us w) r.are_written (every_one r.faces)
+    each_every (λ f. Unit {0}) IsFilled (λ f us t w. of_region scene x near i f us w) r.are_written (every_unit r.faces)
 of_place scene x c near i ks (hidden h) = tt
 
 of_leaf : (scene : List Tri) (x : Formula) (c : Cell) (ks : List Kept) → LeafGives scene x c ks → Every IsFilled ks
 of_leaf scene x c ks (regions w) =
-    each_every (λ i. Unit {0}) IsFilled (λ i us t w. of_place scene x c (near scene c) i us w) w (every_one (range_with_len 0 (length (near scene c))))
+    each_every (λ i. Unit {0}) IsFilled (λ i us t w. of_place scene x c (near scene c) i us w) w (every_unit (range_with_len 0 (length (near scene c))))
 of_leaf scene x c ks (nothing v) = tt
 
 written_regions_are_filled : (scene : List Tri) (x : Formula) (ks : List Kept) → IsWritten scene x ks → Every IsFilled ks
 written_regions_are_filled scene x ks w =
-    each_every (λ c. Unit {0}) IsFilled (λ c us t g. of_leaf scene x c us g) w (every_one (leaves scene root))
+    each_every (λ c. Unit {0}) IsFilled (λ c us t g. of_leaf scene x c us g) w (every_unit (leaves scene root))
 
 -- ---- the faces of texts
 abbrev lines_of : WrittenFace → List ℕ

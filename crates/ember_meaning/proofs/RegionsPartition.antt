@@ -13,18 +13,18 @@ use Rattle.ember_model.specs.declared.point.Spot.{Spot}
 use Rattle.ember_model.specs.declared.face.Face.{Face}
 use Rattle.ember_model.specs.Planes.{value_at}
 use Rattle.ember_model.specs.Faces.{is_inside, Cuts}
-use Rattle.ember_model.proofs.SignTests.{positive_out, zero_out}
+use Rattle.ember_model.proofs.SignTests.{positive_out, zero_out, zero_not_negative}
 use Rattle.ember_box.specs.Sums.{number}
 use Rattle.ember_box.specs.Regions.{Wall, AreLeftByWall, cut, outside, in_high, stays, CuttingPlane}
 use Rattle.ember_box.specs.Regions.{AreLeftByCuttingPlane, splits, whole, FaceIsAbove, FaceLiesOn}
 use Rattle.ember_trace.proofs.FilledFaces.{plane_at_inside_point_cuts}
 use Rattle.ember_meaning.proofs.CountedPoints.{IsOff, hits, passes}
-use Rattle.ember_meaning.proofs.FaceParts.{by_tests, not_zero_negative, is_inside-below, is_inside-above, on_support}
+use Rattle.ember_meaning.proofs.FaceParts.{by_tests, is_inside-below, is_inside-above, on_support}
 
 -- a plane that cuts a face is no multiple of its support
 off : (x : Spot) (f : Face) (p : Plane) → IsOff x f.support p → Cuts f p → is_inside f x ≡ true → is_zero (value_at p x) ≡ true → ⊥
 off x f p o c i z =
-    ⊎_elim (λ n. n (on_support f x i) z) (λ m. not_zero_negative _
+    ⊎_elim (λ n. n (on_support f x i) z) (λ m. zero_not_negative _
     (m.zero c.some_below.at (on_support f c.some_below.at c.some_below.inside)) c.some_below.holds) o
 
 -- ---- a cutting plane keeps the count

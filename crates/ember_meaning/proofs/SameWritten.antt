@@ -2,10 +2,10 @@
 use Rattle.std.proofs.Common.{◌≡◌, ℕ, ◌+◌, ◌*◌, ◌≤◌, le_refl, sym, subst, ◌∙◌, arith, Bool, true, false, List, [], ◌∷◌, if◌then◌else◌, ℤ, pos, neg_ℤ, ◌<ℤ◌}
 use borrow.Author.Differences.{ints}
 use Rattle.ember_algebra.specs.Large.{Eventually}
-use Rattle.ember_algebra.specs.Relations.{Each, none, more}
 use Rattle.ember_algebra.specs.Sign.{is_positive}
 use Rattle.ember_algebra.proofs.Large.{eventually_both, eventually_map}
 use Rattle.ember_algebra.proofs.Order.{pos_mul}
+use Rattle.ember_algebra.proofs.Relations.{each_map}
 use Rattle.ember_model.specs.declared.tri.Tri.{Tri}
 use Rattle.ember_model.specs.declared.face.Face.{Face}
 use Rattle.ember_model.specs.declared.point.Spot.{Spot}
@@ -22,11 +22,6 @@ use Rattle.ember_leaf.specs.declared.kept.Kept.{Kept}
 use Rattle.ember_leaf.specs.Written.{front, IsWrittenOfRegion, unowned, same_value, written, IsWrittenOf, regional, hidden}
 use Rattle.ember_leaf.specs.Scenes.{IsBeside, LeafGives, regions, nothing, IsWritten}
 use Rattle.ember_meaning.specs.Regions.Nearby.{AgreeOver}
-
--- what each member gives by one relation, it gives by another
-each_as : {X Y : Type 0} {R S : X → List Y → Type 0} → ((x : X) (ys : List Y) → R x ys → S x ys) → {xs : List X} {ys : List Y} → Each R xs ys → Each S xs ys
-each_as f none = none
-each_as f (more {x = x} {ys = ys} r e) = more (f x ys r) (each_as f e)
 
 module _ (scene : List Tri) (x y : Formula) (agree : AgreeOver scene x y) where
   -- a point at a small step from another has a weight
@@ -70,7 +65,7 @@ module _ (scene : List Tri) (x y : Formula) (agree : AgreeOver scene x y) where
 
   same_place : (c : Cell) (near : List Tri) (i : ℕ) (ks : List Kept) → IsWrittenOf scene x c near i ks → IsWrittenOf scene y c near i ks
   same_place c near i ks (regional r) =
-      regional (record { faces = r.faces; are_regions = r.are_regions; are_written = each_as (λ f us w. same_region near i f us w) r.are_written })
+      regional (record { faces = r.faces; are_regions = r.are_regions; are_written = each_map (λ f us w. same_region near i f us w) r.are_written })
   same_place c near i ks (hidden h) = hidden h
 
   same_beside : (v : Spot) (value : Bool) → pos 0 <ℤ v.w → IsBeside scene x v value → IsBeside scene y v value
@@ -84,10 +79,10 @@ module _ (scene : List Tri) (x y : Formula) (agree : AgreeOver scene x y) where
       heavy = record { from = 1; holds = λ m l k by. step_weight k v m by l w }
 
   same_leaf : (c : Cell) (ks : List Kept) → LeafGives scene x c ks → LeafGives scene y c ks
-  same_leaf c ks (regions w) = regions (each_as (λ i us r. same_place c (near scene c) i us r) w)
+  same_leaf c ks (regions w) = regions (each_map (λ i us r. same_place c (near scene c) i us r) w)
   same_leaf c ks (nothing v) =
       nothing (record { value = v.value; beside = λ p has. same_beside p v.value has.weight (v.beside p has) })
 
   -- the written regions of one are those of the other
   pub same_written : (ks : List Kept) → IsWritten scene x ks → IsWritten scene y ks
-  same_written ks w = each_as same_leaf w
+  same_written ks w = each_map same_leaf w

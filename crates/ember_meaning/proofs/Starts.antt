@@ -3,6 +3,7 @@ use Rattle.std.proofs.Common.{◌≡◌, ◌≢◌, refl, sym, ap, ◌∙◌, ar
 use Rattle.std.proofs.Common.{[], ◌∷◌, ℤ, pos, negsuc, ◌+ℤ◌, ◌-ℤ◌, neg_ℤ, ◌<ℤ◌}
 use Rattle.std.specs.List.{AllByRecursion}
 use borrow.Author.Differences.{ints}
+use Rattle.std.proofs.lemmas.Bool.{and_parts}
 use Rattle.ember_algebra.specs.Vector.{Vector, zero_v, dot, cross}
 use Rattle.ember_algebra.specs.Sign.{is_negative, is_zero}
 use Rattle.ember_algebra.specs.Sums.{total}
@@ -10,9 +11,9 @@ use Rattle.ember_algebra.proofs.Laws.{linear}
 use Rattle.ember_algebra.proofs.Ring.{◌≈◌, neg, cancels}
 use Rattle.ember_algebra.proofs.Sums.{total-count_by}
 use Rattle.ember_algebra.proofs.Vectors.{VectorE, vector, identity, vector_identity, dotE, crossE, ◌≈v◌, cancels_v}
+use Rattle.ember_algebra.proofs.Booleans.{same_test}
 use Rattle.ember_model.specs.declared.point.Spot.{Spot}
-use Rattle.ember_model.proofs.SignTests.{and_parts, clash, zero_out, and_true}
-use Rattle.ember_poly.proofs.FaceTests.{same_test}
+use Rattle.ember_model.proofs.SignTests.{clash, zero_out, and_true}
 use Rattle.ember_meaning.specs.Closed.Chains.{DirectedEdge, displacement, is_zero_vector, is_same_point, is_parallel, is_on_line}
 use Rattle.ember_meaning.specs.Closed.Chains.{reached, coverage, IsEvenlyCovered, IsClosed}
 use Rattle.ember_meaning.proofs.Displacements.{Parallel, parallel_none, none_parallel, parallel_back, parallel_onward}

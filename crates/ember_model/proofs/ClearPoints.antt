@@ -3,6 +3,7 @@ use Rattle.std.proofs.Common.{◌≡◌, ◌≢◌, ⊎_elim, refl, sym, ap, sub
 use Rattle.std.proofs.Common.{◌||◌, List, [], ◌∷◌, ℤ, pos, negsuc, ◌+ℤ◌, ◌-ℤ◌, ◌*ℤ◌, neg_ℤ, ◌<ℤ◌, ◌≤ℤ◌}
 use Rattle.std.proofs.lemmas.Int.{by_lt_z}
 use lib.IntN.{*ℤ-zero, zero-*ℤ, *ℤ_comm}
+use Rattle.std.proofs.lemmas.Bool.{and_parts}
 use Rattle.ember_algebra.specs.Sign.{sign, is_negative, is_zero, is_positive}
 use Rattle.ember_algebra.proofs.Laws.{linear, one-*ℤ}
 use Rattle.ember_algebra.proofs.Order.{by_sign, pos_mul, nonneg_mul, mul_neg_neg, zero_product, sign_pos, sign_neg, square_nonneg}
@@ -20,7 +21,7 @@ use Rattle.ember_model.specs.Clear.{IsClear, IsClearOf}
 use Rattle.ember_model.specs.ClearTest.{entry_point, enters, is_ray_clear, is_clear, is_clear_of, none_positive, all_negative}
 use Rattle.ember_model.proofs.SignTests.{negative_in, negative_out, positive_in, positive_out, not_positive_in}
 use Rattle.ember_model.proofs.SignTests.{zero_out, nonzero_out, zero_scaled, zero_times, size_positive, clash, not_true}
-use Rattle.ember_model.proofs.SignTests.{and_parts, any_from, any_out}
+use Rattle.ember_model.proofs.SignTests.{any_from, any_out}
 use Rattle.ember_model.proofs.PlaneValues.{value_scaled, value_hit, size-is}
 use Rattle.ember_model.proofs.Hits.{Scales, scaled_point_scales, same_all_negative, same_none_positive, closed_scaled}
 use Rattle.ember_model.proofs.Hits.{value_ray, ray_weight, closed_on, inside_on, hit_inside, hit_closed, closed_parts}

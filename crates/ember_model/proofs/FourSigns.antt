@@ -7,7 +7,7 @@ use Rattle.ember_algebra.specs.Vector.{dot, cross}
 use Rattle.ember_algebra.specs.Sign.{sign, sgn, flip, times, is_neg, is_pos, is_negative, is_positive, same_sgn}
 use Rattle.ember_algebra.proofs.Laws.{linear, one-*ℤ}
 use Rattle.ember_algebra.proofs.Order.{by_sign, sign_pos, sign_neg}
-use Rattle.ember_algebra.proofs.Signs.{sgn-mul, sgn-neg, sgn_neg, signs}
+use Rattle.ember_algebra.proofs.Signs.{sgn-mul, sgn-neg, sgn_neg, signs, is_neg-flip}
 use Rattle.ember_model.specs.declared.point.Corner.{Corner}
 use Rattle.ember_model.specs.declared.tri.Tri.{Tri}
 use Rattle.ember_model.specs.declared.plane.Plane.{Plane}
@@ -72,11 +72,6 @@ minus_times Neg = refl
 minus_times Zero = refl
 minus_times Pos = refl
 
-minus_flip : (s : Sign) → is_neg (flip s) ≡ is_pos s
-minus_flip Neg = refl
-minus_flip Zero = refl
-minus_flip Pos = refl
-
 -- the planes through the edges along a, without the triangle's sign
 abbrev edge : Corner → Corner → Axis → Spot → ℤ
 edge u v a p = value_at (edge_through u v (unit a)) p
@@ -95,7 +90,7 @@ kept_plane k g p l = ap is_negative (value_times (sign k) g p ∙ ap (λ (s : �
 turned_plane : (k : ℤ) (g : Plane) (p : Spot) → k <ℤ pos 0 → is_negative (value_at (times_plane (sign k) g) p) ≡ is_positive (value_at g p)
 turned_plane k g p l =
     ap is_neg (ap sgn (value_times (sign k) g p ∙ ap (λ (s : ℤ). s *ℤ value_at g p) (sign_neg l))
-    ∙ sgn-mul (negsuc 0) (value_at g p)) ∙ minus_flip (sgn (value_at g p))
+    ∙ sgn-mul (negsuc 0) (value_at g p)) ∙ is_neg-flip (sgn (value_at g p))
 
 -- a triangle whose plane rises along the axis is crossed upward or not at all
 pub rising_plane_crosses_up : (a : Axis) (p : Spot) (t : Tri) → pos 0 <ℤ along (support_of t) a → crossing_by_signs a p t ≡ cond (low a p t) (pos 1) (pos 0)

@@ -1,5 +1,6 @@
 -- Edge planes at two points of one place, and the hit of a ray: it lies on the support plane, so that the edge planes decide.
 use Rattle.std.proofs.Common.{◌≡◌, ◌≢◌, refl, sym, ap, ◌∙◌, Bool, true, false, cond, not, ◌&&◌, List, [], ◌∷◌, ℤ, pos, negsuc, ◌+ℤ◌, ◌*ℤ◌, neg_ℤ, ◌<ℤ◌}
+use Rattle.std.proofs.lemmas.Bool.{and_parts}
 use Rattle.ember_algebra.specs.declared.Sign.{Sign}
 use Rattle.ember_algebra.specs.Sign.{sign, sgn, is_neg, is_nil, is_pos, is_negative, is_zero, is_positive}
 use Rattle.ember_algebra.proofs.Order.{pos_mul}
@@ -13,7 +14,7 @@ use Rattle.ember_model.specs.Planes.{value_at, along}
 use Rattle.ember_model.specs.Points.{scaled, moved}
 use Rattle.ember_model.specs.Faces.{size, is_inside, is_in_closed, hit, crossing}
 use Rattle.ember_model.specs.ClearTest.{none_positive, all_negative}
-use Rattle.ember_model.proofs.SignTests.{sgn_scaled, positive_in, size_positive, clash, zero_scaled, and_parts, positive_out, zero_out}
+use Rattle.ember_model.proofs.SignTests.{sgn_scaled, positive_in, size_positive, clash, zero_scaled, positive_out, zero_out}
 use Rattle.ember_model.proofs.PlaneValues.{value_scaled, value_moved, hit_flat}
 
 -- ---- one place

@@ -1,6 +1,7 @@
 -- On the way from a point off a list of half-spaces to a point in all of them: the last plane that is passed.
 use Rattle.std.proofs.Common.{◌≡◌, inl, inr, refl, sym, ap, subst, ◌∙◌, arith, Bool, true, false, not, ◌&&◌, List, [], ◌∷◌, ℤ, pos, ◌*ℤ◌, neg_ℤ, ◌<ℤ◌, ◌≤ℤ◌}
 use Rattle.std.proofs.lemmas.Int.{by_lt_z}
+use Rattle.std.proofs.lemmas.Bool.{and_parts}
 use Rattle.ember_algebra.specs.Sign.{is_negative, is_positive}
 use Rattle.ember_algebra.proofs.Laws.{linear}
 use Rattle.ember_algebra.proofs.Order.{nonneg_mul, mul_le, cancel_le}
@@ -9,7 +10,7 @@ use Rattle.ember_model.specs.declared.plane.Plane.{Plane}
 use Rattle.ember_model.specs.declared.point.Spot.{Spot}
 use Rattle.ember_model.specs.Planes.{value_at}
 use Rattle.ember_model.specs.ClearTest.{none_positive, all_negative}
-use Rattle.ember_model.proofs.SignTests.{and_parts, negative_out, positive_from_not, not_positive_out, In}
+use Rattle.ember_model.proofs.SignTests.{negative_out, positive_from_not, not_positive_out, In}
 
 -- ---- members
 -- if no plane of a list is positive at a point, none of its members is

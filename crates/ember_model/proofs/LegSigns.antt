@@ -5,6 +5,7 @@ use Rattle.ember_algebra.proofs.Ring.{◌⊗◌, ◌≈◌, solve, cancels}
 use Rattle.ember_algebra.specs.Sign.{sign, sgn, is_neg, is_negative}
 use Rattle.ember_algebra.proofs.Laws.{linear, one-*ℤ}
 use Rattle.ember_algebra.proofs.Order.{by_sign, square_nonneg, pos_mul, sign_scaled}
+use Rattle.ember_algebra.proofs.Booleans.{cond_and_nested}
 use Rattle.ember_model.specs.declared.point.Corner.{Corner}
 use Rattle.ember_model.specs.declared.tri.Tri.{Tri}
 use Rattle.ember_model.specs.declared.plane.Plane.{Plane}
@@ -153,16 +154,10 @@ edges_behind a p t =
     ∙ ap is_negative (value_times s (edge_through t.c t.a (unit a)) p) in
     λ i. x i && (y i && z i)
 
-exchanged : (m b : Bool) (v : ℤ) → cond (m && b) v (pos 0) ≡ cond b (cond m v (pos 0)) (pos 0)
-exchanged true true v = refl
-exchanged true false v = refl
-exchanged false true v = refl
-exchanged false false v = refl
-
 -- the crossing of a segment along an axis, by the triangle's edge planes along that axis
 pub leg_behind : (a : Axis) (p q : Spot) (t : Tri) → pos 0 <ℤ p.w → pos 0 <ℤ q.w → DifferAlong a p q →
     leg (face_of t) p q ≡ cond (behind a p t) (cond (is_negative (value_at (support_of t) p *ℤ value_at (support_of t) q))
     (sign (value_at (support_of t) q)) (pos 0)) (pos 0)
 leg_behind a p q t wp wq d =
     let n = support_of t in let m = is_negative (value_at n p *ℤ value_at n q) in let v = sign (value_at n q) in
-    leg_is a p q t wp wq d ∙ ap (λ (b : Bool). cond (m && b) v (pos 0)) (edges_behind a p t) ∙ exchanged m (behind a p t) v
+    leg_is a p q t wp wq d ∙ ap (λ (b : Bool). cond (m && b) v (pos 0)) (edges_behind a p t) ∙ cond_and_nested m (behind a p t) v

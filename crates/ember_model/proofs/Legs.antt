@@ -17,6 +17,7 @@ use Rattle.ember_model.specs.Clear.{IsClear}
 use Rattle.ember_model.specs.ClearTest.{none_positive, all_negative}
 use Rattle.ember_model.proofs.SignTests.{negative_in, negative_not, negative_out, positive_in, positive_nonzero}
 use Rattle.ember_model.proofs.SignTests.{negative_nonzero, zero_scaled, zero_times, size_positive, clash}
+use Rattle.ember_model.proofs.SignTests.{positive_not_negative}
 use Rattle.ember_model.proofs.PlaneValues.{value_scaled, value_moved, value_plus, value_hit, size-is}
 use Rattle.ember_model.proofs.Hits.{Scales, same_all_negative, inside_on, closed_on, crossing_off, crossing_on, moved_weight}
 use Rattle.ember_model.proofs.NearClearPoints.{StaysUp, hit_stays_above, not_below}
@@ -100,9 +101,6 @@ pub data LegCase (s na s' : ℤ) : Type 0 where
   pass : is_negative (s *ℤ na) ≡ true → is_negative (s' *ℤ na) ≡ false → is_negative (s *ℤ s') ≡ true →
       sign s' ≡ sign na → size s ≡ neg_ℤ (sign na *ℤ s) → LegCase s na s'
 
-product_not : {z : ℤ} → pos 0 <ℤ z → is_negative z ≡ false
-product_not {z} p = negative_not z (omega (arith, linear))
-
 not_zero_l : (s t : ℤ) → s ≡ pos 0 → is_negative (s *ℤ t) ≡ false
 not_zero_l s t z = negative_not (s *ℤ t) (let r = ap (λ (x : ℤ). x *ℤ t) z in omega (arith, linear, r, zero-*ℤ t))
 
@@ -117,27 +115,28 @@ leg_cases s na s' c pc e =
     by_sign na
     (λ p. let up = pos_mul pc p in
     by_sign s
-    (λ q. let r : pos 0 <ℤ s' = omega (arith, linear, up, q, e) in off (product_not (pos_mul q p)) (product_not (pos_mul r p)) (product_not (pos_mul q r)))
-    (λ z. let r : pos 0 <ℤ s' = omega (arith, linear, up, z, e) in off (not_zero_l s na z) (product_not (pos_mul r p)) (not_zero_l s s' z))
+    (λ q. let r : pos 0 <ℤ s' = omega (arith, linear, up, q, e) in
+    off (positive_not_negative (pos_mul q p)) (positive_not_negative (pos_mul r p)) (positive_not_negative (pos_mul q r)))
+    (λ z. let r : pos 0 <ℤ s' = omega (arith, linear, up, z, e) in off (not_zero_l s na z) (positive_not_negative (pos_mul r p)) (not_zero_l s s' z))
     (λ q. by_sign s'
-    (λ r. pass (negative_in (mul_neg_pos q p)) (product_not (pos_mul r p)) (negative_in (mul_neg_pos q r))
+    (λ r. pass (negative_in (mul_neg_pos q p)) (positive_not_negative (pos_mul r p)) (negative_in (mul_neg_pos q r))
     (sign_pos r ∙ sym (sign_pos p)) (size-is s
     ∙ rw (sign_neg q, sign_pos p) (solve 1 (λ s. num (negsuc 0) ⊗ s ≈ neg (num (pos 1) ⊗ s)) cancels s)))
     (λ z. touch (negative_in (mul_neg_pos q p)) (not_zero_l s' na z) (not_zero_r s s' z) z (positive_nonzero p))
-    (λ r. stay (negative_in (mul_neg_pos q p)) (negative_in (mul_neg_pos r p)) (product_not (mul_neg_neg q r)))))
+    (λ r. stay (negative_in (mul_neg_pos q p)) (negative_in (mul_neg_pos r p)) (positive_not_negative (mul_neg_neg q r)))))
     (λ z. let same : s' ≡ s = let r = zero_scaled c na z in omega (arith, linear, r, e) in
     off (not_zero_r s na z) (not_zero_r s' na z) (ap (λ (x : ℤ). is_negative (s *ℤ x)) same ∙ square_not s))
     (λ p. let down = mul_pos_neg pc p in
     by_sign s
     (λ q. by_sign s'
-    (λ r. stay (negative_in (mul_pos_neg q p)) (negative_in (mul_pos_neg r p)) (product_not (pos_mul q r)))
+    (λ r. stay (negative_in (mul_pos_neg q p)) (negative_in (mul_pos_neg r p)) (positive_not_negative (pos_mul q r)))
     (λ z. touch (negative_in (mul_pos_neg q p)) (not_zero_l s' na z) (not_zero_r s s' z) z (negative_nonzero p))
-    (λ r. pass (negative_in (mul_pos_neg q p)) (product_not (mul_neg_neg r p)) (negative_in (mul_pos_neg q r))
+    (λ r. pass (negative_in (mul_pos_neg q p)) (positive_not_negative (mul_neg_neg r p)) (negative_in (mul_pos_neg q r))
     (sign_neg r ∙ sym (sign_neg p)) (size-is s
     ∙ rw (sign_pos q, sign_neg p) (solve 1 (λ s. num (pos 1) ⊗ s ≈ neg (num (negsuc 0) ⊗ s)) cancels s))))
-    (λ z. let r : s' <ℤ pos 0 = omega (arith, linear, down, z, e) in off (not_zero_l s na z) (product_not (mul_neg_neg r p)) (not_zero_l s s' z))
+    (λ z. let r : s' <ℤ pos 0 = omega (arith, linear, down, z, e) in off (not_zero_l s na z) (positive_not_negative (mul_neg_neg r p)) (not_zero_l s s' z))
     (λ q. let r : s' <ℤ pos 0 = omega (arith, linear, down, q, e) in
-    off (product_not (mul_neg_neg q p)) (product_not (mul_neg_neg r p)) (product_not (mul_neg_neg q r))))
+    off (positive_not_negative (mul_neg_neg q p)) (positive_not_negative (mul_neg_neg r p)) (positive_not_negative (mul_neg_neg q r))))
 
 -- ---- one face
 pub between_scales : (n : Plane) (a : Axis) (p : Spot) (c : ℤ) → sign (value_at n (moved p a c)) ≡ sign (along n a) →

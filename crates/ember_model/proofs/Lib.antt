@@ -12,3 +12,4 @@ pub mod Legs
 pub mod ScaledPoints
 pub mod Tuples
 pub mod LegSigns
+pub mod SameEdges

@@ -2,6 +2,7 @@
 use Rattle.std.proofs.Common.{◌≡◌, ◌≢◌, refl, sym, ap, ◌∙◌, arith, Bool, true, false, cond, not, ◌&&◌, List, [], ◌∷◌, ℤ, pos, negsuc, ◌*ℤ◌, neg_ℤ, ◌<ℤ◌, ◌≤ℤ◌}
 use borrow.Author.Differences.{ints}
 use lib.IntN.{*ℤ-zero, zero-*ℤ}
+use Rattle.std.proofs.lemmas.Bool.{and_parts}
 use Rattle.ember_algebra.specs.Sign.{sign, is_negative, is_positive}
 use Rattle.ember_algebra.proofs.Laws.{linear}
 use Rattle.ember_algebra.proofs.Order.{by_sign, pos_mul, mul_pos_neg, mul_neg_pos, mul_neg_neg, sign_pos, sign_neg}
@@ -15,7 +16,7 @@ use Rattle.ember_model.specs.Faces.{size, hit, crossing}
 use Rattle.ember_model.specs.Clear.{IsClear}
 use Rattle.ember_model.specs.ClearTest.{none_positive, all_negative}
 use Rattle.ember_model.proofs.SignTests.{negative_in, negative_not, negative_out, positive_in, positive_from_not}
-use Rattle.ember_model.proofs.SignTests.{and_parts, and_false, size_positive, positive_nonzero, negative_nonzero}
+use Rattle.ember_model.proofs.SignTests.{and_false, size_positive, positive_nonzero, negative_nonzero}
 use Rattle.ember_model.proofs.PlaneValues.{value_hit}
 use Rattle.ember_model.proofs.Hits.{hit_inside, hit_closed, closed_on, crossing_off, crossing_on, crossing_across, slope_nonzero}
 

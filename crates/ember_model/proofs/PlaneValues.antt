@@ -11,7 +11,7 @@ use Rattle.ember_model.specs.declared.plane.Plane.{Plane}
 use Rattle.ember_model.specs.declared.point.Spot.{Spot}
 use Rattle.ember_model.specs.declared.point.Axis.{Axis}
 use Rattle.ember_model.specs.declared.point.Axis.TheVariants.{X, Y, Z}
-use Rattle.ember_model.specs.Planes.{vector_of, unit, value_at, along, times_plane, support_of, edge_through}
+use Rattle.ember_model.specs.Planes.{vector_of, unit, value_at, along, times_plane, support_of, edge_through, opposite}
 use Rattle.ember_model.specs.Points.{scaled, moved, plus_s}
 use Rattle.ember_model.specs.Faces.{size, hit}
 
@@ -128,3 +128,8 @@ normal_value t f p =
     identity (vector ∷ vector ∷ vector ∷ tuple ∷ vector ∷ [])
     (λ a b c p f. dotE f (normalE (seenE p a) (seenE p b) (seenE p c)) ≈ p.w ⊗ p.w ⊗ dotE
     (vector_partE (supportE a b c)) f) cancels (vector_of t.a) (vector_of t.b) (vector_of t.c) (tuple_of p) f
+
+-- the opposite plane has the opposite value
+pub value-opposite : (p : Plane) (v : Spot) → value_at (opposite p) v ≡ neg_ℤ (value_at p v)
+value-opposite p v =
+    solve 8 (λ a b c d x y z w. neg a ⊗ x ⊕ neg b ⊗ y ⊕ neg c ⊗ z ⊖ neg d ⊗ w ≈ neg (a ⊗ x ⊕ b ⊗ y ⊕ c ⊗ z ⊖ d ⊗ w)) cancels p.a p.b p.c p.d v.x v.y v.z v.w

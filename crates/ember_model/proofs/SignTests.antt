@@ -1,6 +1,6 @@
 -- What the tests of signs say, tests of all elements of a list, and members of lists.
 use Rattle.std.proofs.Common.{◌≡◌, ◌≢◌, ◌⊎◌, inl, inr, refl, sym, ap, subst, ◌∙◌, arith, T, Bool, true, false, not}
-use Rattle.std.proofs.Common.{◌&&◌, ◌||◌, List, [], ◌∷◌, ℤ, pos, negsuc, zero, suc, ◌*ℤ◌, ◌<ℤ◌, ◌≤ℤ◌}
+use Rattle.std.proofs.Common.{◌&&◌, ◌||◌, List, [], ◌∷◌, ℤ, pos, negsuc, zero, suc, ◌*ℤ◌, ◌<ℤ◌, ◌≤ℤ◌, ◌-ℤ◌, neg_ℤ}
 use Rattle.std.specs.List.{list_any}
 use borrow.Author.Differences.{ints}
 use lib.Signed.{lt_z}
@@ -8,9 +8,9 @@ use Rattle.std.proofs.lemmas.Int.{by_lt_z}
 use lib.IntN.{*ℤ-zero, zero-*ℤ}
 use Rattle.ember_algebra.specs.declared.Sign.{Sign}
 use Rattle.ember_algebra.specs.declared.Sign.TheVariants.{Neg, Zero, Pos}
-use Rattle.ember_algebra.specs.Sign.{sgn, times, is_negative, is_zero, is_positive, same_sgn}
+use Rattle.ember_algebra.specs.Sign.{sgn, times, is_negative, is_zero, is_positive, same_sgn, is_pos}
 use Rattle.ember_algebra.proofs.Laws.{linear}
-use Rattle.ember_algebra.proofs.Signs.{sgn-mul, sgn_pos}
+use Rattle.ember_algebra.proofs.Signs.{sgn-mul, sgn_pos, sgn-neg, is_pos-flip}
 use Rattle.ember_model.specs.Faces.{size}
 
 -- equal arguments give equal values of a function of two
@@ -65,6 +65,34 @@ not_positive_in (pos zero) p = refl
 not_positive_in (pos (suc n)) p = absurd (omega (arith, ints))
 not_positive_in (negsuc n) p = refl
 
+-- the test answers true of 0
+pub zero_in : {a : ℤ} → a ≡ pos 0 → is_zero a ≡ true
+zero_in e = ap is_zero e
+
+-- a number less itself passes the test for 0
+pub is_zero-self : (z : ℤ) → is_zero (z -ℤ z) ≡ true
+is_zero-self z = let e : z -ℤ z ≡ pos 0 = omega (arith, linear) in ap is_zero e
+
+-- the test for negative numbers answers false of positive ones
+pub positive_not_negative : {z : ℤ} → pos 0 <ℤ z → is_negative z ≡ false
+positive_not_negative {z} p = negative_not z (omega (arith, linear))
+
+-- the opposite is negative if the number is positive
+pub is_negative-neg : (z : ℤ) → is_negative (neg_ℤ z) ≡ is_positive z
+is_negative-neg (pos zero) = refl
+is_negative-neg (pos (suc n)) = refl
+is_negative-neg (negsuc n) = refl
+
+-- the opposite is positive if the number is negative
+pub is_positive-neg : (a : ℤ) → is_positive (neg_ℤ a) ≡ is_negative a
+is_positive-neg a = ap is_pos (sgn-neg a) ∙ is_pos-flip (sgn a)
+
+-- the opposite is 0 if the number is
+pub is_zero-neg : (a : ℤ) → is_zero (neg_ℤ a) ≡ is_zero a
+is_zero-neg (pos zero) = refl
+is_zero-neg (pos (suc n)) = refl
+is_zero-neg (negsuc n) = refl
+
 -- ---- from a test to its fact
 -- an integer that passes the test is below 0
 pub negative_out : (a : ℤ) → is_negative a ≡ true → a <ℤ pos 0
@@ -107,6 +135,43 @@ clash {b} p q = by (sym p ∙ q)
 pub nonzero_out : (a : ℤ) → is_zero a ≡ false → a ≢ pos 0
 nonzero_out a e q = clash (ap is_zero q) e
 
+-- a number that the test doesn't take to be negative is at least 0
+pub negative_not_out : (z : ℤ) → is_negative z ≡ false → pos 0 ≤ℤ z
+negative_not_out (pos zero) e = omega (arith, ints)
+negative_not_out (pos (suc n)) e = omega (arith, ints)
+negative_not_out (negsuc n) e = absurd (clash refl e)
+
+-- a number that passes the test for others than negative ones is at least 0
+pub not_negative_out : (a : ℤ) → not (is_negative a) ≡ true → pos 0 ≤ℤ a
+not_negative_out (pos n) e = omega (arith, ints)
+not_negative_out (negsuc n) e = absurd (cc)
+
+-- no number is both 0 and negative
+pub zero_not_negative : (z : ℤ) → is_zero z ≡ true → is_negative z ≡ true → ⊥
+zero_not_negative z e q = let a = zero_out z e in let b = negative_out z q in omega (arith, linear, a, b)
+
+-- of three numbers none of which is negative, and that aren't all 0, one is positive
+pub some_positive : (x y z : ℤ) → pos 0 ≤ℤ x → pos 0 ≤ℤ y → pos 0 ≤ℤ z → is_zero x && (is_zero y && is_zero z) ≡ false →
+    (pos 0 <ℤ x) ⊎ ((pos 0 <ℤ y) ⊎ (pos 0 <ℤ z))
+some_positive (pos (suc n)) y z a b c e = inl (omega (arith, ints))
+some_positive (negsuc n) y z a b c e = absurd (omega (arith, ints, a))
+some_positive (pos zero) (pos (suc n)) z a b c e = inr (inl (omega (arith, ints)))
+some_positive (pos zero) (negsuc n) z a b c e = absurd (omega (arith, ints, b))
+some_positive (pos zero) (pos zero) (pos (suc n)) a b c e = inr (inr (omega (arith, ints)))
+some_positive (pos zero) (pos zero) (negsuc n) a b c e = absurd (omega (arith, ints, c))
+some_positive (pos zero) (pos zero) (pos zero) a b c e = absurd (clash refl e)
+
+-- of three numbers none of which is positive, and that aren't all 0, one is negative
+pub some_negative : (x y z : ℤ) → x ≤ℤ pos 0 → y ≤ℤ pos 0 → z ≤ℤ pos 0 → is_zero x && (is_zero y && is_zero z) ≡ false →
+    (x <ℤ pos 0) ⊎ ((y <ℤ pos 0) ⊎ (z <ℤ pos 0))
+some_negative (pos (suc n)) y z a b c e = absurd (omega (arith, ints, a))
+some_negative (negsuc n) y z a b c e = inl (omega (arith, ints))
+some_negative (pos zero) (pos (suc n)) z a b c e = absurd (omega (arith, ints, b))
+some_negative (pos zero) (negsuc n) z a b c e = inr (inl (omega (arith, ints)))
+some_negative (pos zero) (pos zero) (pos (suc n)) a b c e = absurd (omega (arith, ints, c))
+some_negative (pos zero) (pos zero) (negsuc n) a b c e = inr (inr (omega (arith, ints)))
+some_negative (pos zero) (pos zero) (pos zero) a b c e = absurd (clash refl e)
+
 -- ---- numbers
 -- a multiple of 0 is 0
 pub zero_scaled : (k a : ℤ) → a ≡ pos 0 → k *ℤ a ≡ pos 0
@@ -130,12 +195,11 @@ size_positive (pos zero) nz = absurd (nz refl)
 size_positive (pos (suc n)) nz = omega (arith, ints)
 size_positive (negsuc n) nz = omega (arith, ints)
 
--- ---- Booleans
--- both parts of a true conjunction are true
-pub and_parts : (a b : Bool) → a && b ≡ true → (a ≡ true) × (b ≡ true)
-and_parts true b e = (refl, e)
-and_parts false b e = cc
+-- a size is at least 0
+pub size_nonnegative : (z : ℤ) → pos 0 ≤ℤ size z
+size_nonnegative z = omega (arith, ints)
 
+-- ---- Booleans
 -- a conjunction with false is false
 pub and_false : (a b : Bool) → b ≡ false → a && b ≡ false
 and_false true b e = e

@@ -1,5 +1,5 @@
 -- Planes and points as tuples, for identities.
-use Rattle.std.proofs.Common.{◌≡◌}
+use Rattle.std.proofs.Common.{◌≡◌, Some}
 use Rattle.ember_algebra.specs.Vector.{Tuple}
 use Rattle.ember_algebra.proofs.Vectors.{VectorE, TupleE}
 use Rattle.ember_model.specs.declared.plane.Plane.{Plane}
@@ -25,3 +25,7 @@ same_plane {p} {q} ea eb ec ed = λ i. record { a = ea i; b = eb i; c = ec i; d 
 -- points with the same four numbers are equal
 pub same_spot : {u v : Spot} → u.x ≡ v.x → u.y ≡ v.y → u.z ≡ v.z → u.w ≡ v.w → u ≡ v
 same_spot {u} {v} ex ey ez ew = λ i. record { x = ex i; y = ey i; z = ez i; w = ew i }
+
+-- planes that options hold are equal if the options are
+pub same_some : {g h : Plane} → Some g ≡ Some h → g ≡ h
+same_some e = cc

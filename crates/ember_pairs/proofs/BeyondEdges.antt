@@ -1,16 +1,17 @@
 -- Triangles that lie beyond an edge plane of another don't meet it.
 use Rattle.std.proofs.Common.{◌≡◌, ◌⊎◌, ⊎_elim, inl, inr, refl, arith, Bool, cond, None, Some, true, false, not, List, [], ◌∷◌, pos, ◌<ℤ◌}
 use Rattle.std.specs.List.{AllByRecursion}
-use Rattle.std.proofs.lemmas.Bool.{or_cases, false≢true}
+use Rattle.std.proofs.lemmas.Bool.{or_cases, false≢true, and_parts}
 use Rattle.ember_algebra.specs.Sign.{is_negative}
 use Rattle.ember_algebra.proofs.Laws.{linear}
+use Rattle.ember_algebra.proofs.Booleans.{and_three}
 use Rattle.ember_model.specs.declared.plane.Plane.{Plane}
 use Rattle.ember_model.specs.declared.point.Spot.{Spot}
 use Rattle.ember_model.specs.declared.tri.Tri.{Tri}
 use Rattle.ember_model.specs.Planes.{support_of, opposite}
 use Rattle.ember_model.specs.Faces.{is_flat, face_of, edges_of, is_inside, is_in_closed}
 use Rattle.ember_model.specs.Owners.{spot_of_corner}
-use Rattle.ember_model.proofs.SignTests.{and_parts, not_true}
+use Rattle.ember_model.proofs.SignTests.{not_true, not_negative_out, some_positive}
 use Rattle.ember_poly.specs.Rings.{IsBelow, IsAbove, IsNotAbove, IsNotBelow, IsInsideRing}
 use Rattle.ember_poly.proofs.Hull.{corners_at_most}
 use Rattle.ember_poly.proofs.Face.{closed_from_face, inside_from_face}
@@ -20,7 +21,6 @@ use Rattle.ember_poly.proofs.TriangleRing.{tri_sides, tri_planes, stands}
 use Rattle.ember_pairs.specs.declared.heights.Heights.{Heights}
 use Rattle.ember_pairs.specs.Heights.{heights_of, none_behind, all_on, heights_over, lie_beyond, lies_beyond_some}
 use Rattle.ember_pairs.specs.Pairs.{AreMeeting}
-use Rattle.ember_pairs.proofs.PartedTriangles.{not_negative_out, three, some_over}
 
 -- ---- one plane
 module _ (t : Tri) (full : is_flat t ≡ false) (p : Plane) where
@@ -34,7 +34,7 @@ module _ (t : Tri) (full : is_flat t ≡ false) (p : Plane) where
 
   corners : none_behind (heights_of p t) ≡ true → Corners
   corners e =
-      let k = three (not (is_negative h.a)) (not (is_negative h.b)) (not (is_negative h.c)) e in
+      let k = and_three (not (is_negative h.a)) (not (is_negative h.b)) (not (is_negative h.c)) e in
       record {
         a = record { at_least = not_negative_out h.a k.a };
         b =
@@ -57,7 +57,7 @@ module _ (t : Tri) (full : is_flat t ≡ false) (p : Plane) where
   unfolding face_of
   inside_beyond e v i =
       let q = and_parts (none_behind (heights_of p t)) (not (all_on (heights_of p t))) e in
-      over (corners q.0) (some_over h.a h.b h.c (corners q.0).a.at_least (corners q.0).b.at_least
+      over (corners q.0) (some_positive h.a h.b h.c (corners q.0).a.at_least (corners q.0).b.at_least
       (corners q.0).c.at_least (not_true (all_on (heights_of p t)) q.1))
     where
       ring : IsInsideRing (support_of t) (tri_sides t) v

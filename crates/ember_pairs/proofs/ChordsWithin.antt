@@ -1,7 +1,7 @@
 -- Triangles meet if an end of a chord, or its middle, is within the edges.
 use Rattle.std.proofs.Common.{◌≡◌, ◌⊎◌, ⊎_elim, inl, inr, sym, ap, subst, ◌∙◌, arith, true, false, not, ◌&&◌, List, [], ◌∷◌, pos, ◌+ℤ◌, neg_ℤ, ◌<ℤ◌, ◌≤ℤ◌}
 use Rattle.std.specs.List.{AllByRecursion}
-use Rattle.std.proofs.lemmas.Bool.{or_cases}
+use Rattle.std.proofs.lemmas.Bool.{or_cases, and_parts}
 use Rattle.ember_algebra.specs.Sign.{is_negative, is_zero, is_positive}
 use Rattle.ember_algebra.proofs.Laws.{linear}
 use Rattle.ember_algebra.proofs.Ring.{◌⊕◌, ◌⊖◌, ◌⊗◌, ◌≈◌, neg, num, solve, cancels}
@@ -10,7 +10,7 @@ use Rattle.ember_model.specs.declared.plane.Plane.{Plane}
 use Rattle.ember_model.specs.declared.tri.Tri.{Tri}
 use Rattle.ember_model.specs.Planes.{value_at, support_of}
 use Rattle.ember_model.specs.Faces.{is_flat, face_of, edges_of, Meets}
-use Rattle.ember_model.proofs.SignTests.{and_parts, not_true, negative_out, not_positive_out}
+use Rattle.ember_model.proofs.SignTests.{not_true, negative_out, not_positive_out, some_negative}
 use Rattle.ember_poly.specs.Rings.{IsBelow, IsNotAbove}
 use Rattle.ember_poly.proofs.Chains.{each_map}
 use Rattle.ember_poly.proofs.FaceTests.{inside_in, closed_in}
@@ -22,7 +22,6 @@ use Rattle.ember_pairs.specs.Samples.{sample_point, sample_height}
 use Rattle.ember_pairs.specs.Chords.{turned, end_height, IsFirstAlone, chord_heights, chord_over, is_first_behind}
 use Rattle.ember_pairs.specs.Chords.{is_second_behind, is_middle_within, is_edge, HasChordWithin}
 use Rattle.ember_pairs.specs.Pairs.{AreMeeting}
-use Rattle.ember_pairs.proofs.PartedTriangles.{some_under}
 use Rattle.ember_pairs.proofs.CornerSums.{AreNotNegative, ArePositive, positive_weights_are_not_negative, HasCornersOf}
 use Rattle.ember_pairs.proofs.CornerSums.{face_has_triangle_corners, turned_triangle_corners, turned_triangle}
 use Rattle.ember_pairs.proofs.CornerSums.{turned_triangle_heights, value_at_sum, sum_has_positive_weight, sum_is_closed}
@@ -90,7 +89,7 @@ second_weights {h} k =
 -- the middle has positive weights unless the chord is an edge
 middle_weights : {h : Heights} → IsFirstAlone h → is_zero h.b && is_zero h.c ≡ false → ArePositive (middle h)
 middle_weights {h} k e =
-    record { a = by (some_under (pos 0) h.b h.c (omega (arith, linear)) k.second k.third e); b = k.first; c = k.first }
+    record { a = by (some_negative (pos 0) h.b h.c (omega (arith, linear)) k.second k.third e); b = k.first; c = k.first }
   where
     by : (pos 0 <ℤ pos 0) ⊎ ((h.b <ℤ pos 0) ⊎ (h.c <ℤ pos 0)) → pos 0 <ℤ neg_ℤ (h.b +ℤ h.c)
     by (inl p) = absurd (omega (arith, linear, p))

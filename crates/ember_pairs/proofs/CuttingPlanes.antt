@@ -6,7 +6,7 @@ use Rattle.ember_model.specs.declared.point.Spot.{Spot}
 use Rattle.ember_model.specs.declared.tri.Tri.{Tri}
 use Rattle.ember_model.specs.Planes.{value_at, opposite}
 use Rattle.ember_model.specs.Owners.{spot_of_corner}
-use Rattle.ember_poly.proofs.InsideSigns.{opposite_plane}
+use Rattle.ember_model.proofs.PlaneValues.{value-opposite}
 use Rattle.ember_pairs.specs.declared.chords.LoneCorner.{LoneCorner}
 use Rattle.ember_pairs.specs.Heights.{heights_of}
 use Rattle.ember_pairs.specs.Chords.{turned, opposite_heights, IsLone}
@@ -15,7 +15,7 @@ use Rattle.ember_pairs.proofs.CornerSums.{turned_triangle, turned_triangle_heigh
 -- the heights over the opposite plane are the opposite heights
 opposite_plane_heights : (p : Plane) (t : Tri) → heights_of (opposite p) t ≡ opposite_heights (heights_of p t)
 opposite_plane_heights p t =
-    λ i. record { a = opposite_plane p (spot_of_corner t.a) i; b = opposite_plane p (spot_of_corner t.b) i; c = opposite_plane p (spot_of_corner t.c) i }
+    λ i. record { a = value-opposite p (spot_of_corner t.a) i; b = value-opposite p (spot_of_corner t.b) i; c = value-opposite p (spot_of_corner t.c) i }
 
 -- a plane with the points of n, over which the triangle has the heights of the lone corner
 pub record Cutting (n : Plane) (u : Tri) (lone : LoneCorner) : Type 0 where
@@ -42,7 +42,7 @@ plane_turned_to_lone_corner n u lone l = by l.over
           plane = opposite n;
           heights = e ∙ (λ i. turned lone.name (sym (opposite_plane_heights n u) i))
               ∙ sym (turned_triangle_heights lone.name (opposite n) u);
-          off = λ v z. opposite_plane n v ∙ zero z;
+          off = λ v z. value-opposite n v ∙ zero z;
           back =
-              λ v z. zero_back (sym (opposite_plane n v) ∙ z);
+              λ v z. zero_back (sym (value-opposite n v) ∙ z);
         }

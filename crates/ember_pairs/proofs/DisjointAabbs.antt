@@ -7,6 +7,7 @@ use borrow.Author.Differences.{ints}
 use Rattle.ember_algebra.proofs.Laws.{linear}
 use Rattle.ember_algebra.proofs.Order.{mul_lt}
 use Rattle.ember_algebra.proofs.Ring.{◌⊗◌, ◌≈◌, neg, solve, cancels}
+use Rattle.ember_algebra.proofs.Numbers.{int_le_not_out}
 use Rattle.ember_model.specs.declared.tri.Tri.{Tri}
 use Rattle.ember_model.specs.declared.point.Spot.{Spot}
 use Rattle.ember_model.specs.declared.point.Axis.{Axis}
@@ -40,9 +41,6 @@ past k t u v nt nu it iu l h g a b c d e f =
     down : (z : ℤ) → z ≤ℤ h → neg_ℤ h ≤ℤ (neg_ℤ (pos 1) *ℤ z)
     down z p = omega (arith, linear)
 
-not_le : (a b : ℤ) → int_le a b ≡ false → b <ℤ a
-not_le a b e = grind (arith, ints)
-
 apart_along : (k : Axis) (t u : Tri) (v : Spot) → is_flat t ≡ false → is_flat u ≡ false →
     is_in_closed (face_of t) v ≡ true → is_in_closed (face_of u) v ≡ true →
     intervals_meet (interval_over (entry_along k (vector_of t.a)) (entry_along k (vector_of t.b))
@@ -52,9 +50,9 @@ apart_along k t u v nt nu it iu e =
     let a = entry_along k (vector_of t.a) in let b = entry_along k (vector_of t.b) in let c = entry_along k (vector_of t.c) in
     let d = entry_along k (vector_of u.a) in let f = entry_along k (vector_of u.b) in let g = entry_along k (vector_of u.c) in
     let l = int_min (int_min a b) c in let h = int_max (int_max a b) c in let m = int_min (int_min d f) g in let n = int_max (int_max d f) g in
-    ⊎_elim (λ q. past k t u v nt nu it iu l n (not_le l n q) (least_a a b c) (least_b a b c) (least_c a b c)
+    ⊎_elim (λ q. past k t u v nt nu it iu l n (int_le_not_out l n q) (least_a a b c) (least_b a b c) (least_c a b c)
     (most_a d f g) (most_b d f g) (most_c d f g))
-    (λ q. past k u t v nu nt iu it m h (not_le m h q) (least_a d f g) (least_b d f g) (least_c d f g) (most_a a b c)
+    (λ q. past k u t v nu nt iu it m h (int_le_not_out m h q) (least_a d f g) (least_b d f g) (least_c d f g) (most_a a b c)
     (most_b a b c) (most_c a b c)) (and_cases (int_le l n) (int_le m h) e)
   where
     least_a : (x y z : ℤ) → int_min (int_min x y) z ≤ℤ x

@@ -3,6 +3,7 @@ use Rattle.std.proofs.Common.{◌≡◌, refl, ℕ, Bool, true, false, not, ◌&
 use Rattle.ember_algebra.specs.Relations.{Each, more}
 use Rattle.ember_algebra.specs.Sign.{is_zero}
 use Rattle.ember_algebra.proofs.Ring.{◌⊕◌, ◌⊖◌, ◌⊗◌, ◌≈◌, num, solve, cancels}
+use Rattle.ember_algebra.proofs.Booleans.{and_three}
 use Rattle.ember_model.specs.declared.point.Spot.{Spot}
 use Rattle.ember_model.specs.declared.tri.Tri.{Tri}
 use Rattle.ember_model.specs.Planes.{value_at, support_of}
@@ -14,14 +15,13 @@ use Rattle.ember_pairs.specs.declared.pair.Pair.{Pair}
 use Rattle.ember_pairs.specs.Heights.{heights_of, all_on}
 use Rattle.ember_pairs.specs.Pairs.{AtPair, apart, pair, row, pairs_of, AreMeetingPairs}
 use Rattle.ember_pairs.specs.Candidates.{with_faces}
-use Rattle.ember_pairs.proofs.PartedTriangles.{three}
 
 -- ---- the plane of a flat triangle
 -- all points are on the plane of a flat triangle
 all_on_flat : (t : Tri) → is_flat t ≡ true → (v : Spot) → value_at (support_of t) v ≡ pos 0
 unfolding is_flat
 all_on_flat t e v =
-    let n = support_of t in let z = three (is_zero n.a) (is_zero n.b) (is_zero n.c) e in
+    let n = support_of t in let z = and_three (is_zero n.a) (is_zero n.b) (is_zero n.c) e in
     zero n.a n.b n.c v.x v.y v.z v.w t.a.x t.a.y t.a.z (zero_out n.a z.a) (zero_out n.b z.b) (zero_out n.c z.c)
   where
     zero : (a b c x y z w p q r : ℤ) → a ≡ pos 0 → b ≡ pos 0 → c ≡ pos 0 → a *ℤ x +ℤ b *ℤ y +ℤ c *ℤ z -ℤ (a *ℤ p +ℤ b *ℤ q +ℤ c *ℤ r) *ℤ w ≡ pos 0

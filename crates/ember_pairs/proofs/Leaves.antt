@@ -23,6 +23,7 @@ use Rattle.ember_box.proofs.NearByAabbs.{halves_end}
 use Rattle.ember_box.proofs.HalfCells.{left_less}
 use Rattle.ember_box.proofs.Halvable.{halvable_unless_leaf}
 use Rattle.ember_ref.proofs.NearPoints.{IsAcross, HasPoint, near_point, past_corners}
+use Rattle.ember_ref.proofs.RootOutside.{at_least}
 use Rattle.ember_job.specs.declared.job.Job.{Job}
 use Rattle.ember_job.specs.Works.{Shape, halved, leafed, passed}
 use Rattle.ember_job.proofs.Leaves.{under, under_leaf, under_halved}
@@ -57,11 +58,6 @@ half_has c Z v p h =
     by_lt_z ((low c Z +ℤ pos (2 ^ pred (c.log Z))) *ℤ v.w) v.z
     (λ l. inr (record { weight = h.weight; on_x = h.on_x; on_y = h.on_y; on_z = right_across (low c Z) (c.log Z) v.z v.w p h.on_z (omega (arith, linear, l)) }))
     (λ l. inl (record { weight = h.weight; on_x = h.on_x; on_y = h.on_y; on_z = left_across (low c Z) (c.log Z) v.z v.w h.on_z l }))
-
--- the root has all points of valid triangles
-least_corner : (z : ℤ) → Small 2047 z → neg_ℤ (pos 2047) ≤ℤ (pos 1 *ℤ z)
-least_corner (pos n) s = omega (arith, ints)
-least_corner (negsuc n) s = omega (arith, ints, s.small)
 
 greatest_corner : (z : ℤ) → Small 2047 z → neg_ℤ (pos 2047) ≤ℤ (neg_ℤ (pos 1) *ℤ z)
 greatest_corner (pos n) s = omega (arith, ints, s.small)
@@ -129,16 +125,17 @@ leaf_under ts v many (suc n) c few h =
         record { cell = r.cell; member = in_append_right (job_at ts r.cell) first second r.member; has = r.has })
         (half_has c (halving_axis ts c) v p h))
 
+-- the root has all points of valid triangles
 root_has : (t : Tri) (v : Spot) → IsValidTri t → is_flat t ≡ false → is_in_closed (face_of t) v ≡ true → HasPoint root v
 root_has t v valid nf h =
     let w = (closed_parts (face_of t) v h).0 in
-    let x = past_corners X (pos 1) (neg_ℤ (pos 2047)) t v nf (least_corner t.a.x valid.a.x) (least_corner t.b.x valid.b.x) (least_corner t.c.x valid.c.x) h in
+    let x = past_corners X (pos 1) (neg_ℤ (pos 2047)) t v nf (at_least t.a.x valid.a.x) (at_least t.b.x valid.b.x) (at_least t.c.x valid.c.x) h in
     let x' = past_corners X (neg_ℤ (pos 1)) (neg_ℤ (pos 2047)) t v nf (greatest_corner t.a.x valid.a.x)
     (greatest_corner t.b.x valid.b.x) (greatest_corner t.c.x valid.c.x) h in
-    let y = past_corners Y (pos 1) (neg_ℤ (pos 2047)) t v nf (least_corner t.a.y valid.a.y) (least_corner t.b.y valid.b.y) (least_corner t.c.y valid.c.y) h in
+    let y = past_corners Y (pos 1) (neg_ℤ (pos 2047)) t v nf (at_least t.a.y valid.a.y) (at_least t.b.y valid.b.y) (at_least t.c.y valid.c.y) h in
     let y' = past_corners Y (neg_ℤ (pos 1)) (neg_ℤ (pos 2047)) t v nf (greatest_corner t.a.y valid.a.y)
     (greatest_corner t.b.y valid.b.y) (greatest_corner t.c.y valid.c.y) h in
-    let z = past_corners Z (pos 1) (neg_ℤ (pos 2047)) t v nf (least_corner t.a.z valid.a.z) (least_corner t.b.z valid.b.z) (least_corner t.c.z valid.c.z) h in
+    let z = past_corners Z (pos 1) (neg_ℤ (pos 2047)) t v nf (at_least t.a.z valid.a.z) (at_least t.b.z valid.b.z) (at_least t.c.z valid.c.z) h in
     let z' = past_corners Z (neg_ℤ (pos 1)) (neg_ℤ (pos 2047)) t v nf (greatest_corner t.a.z valid.a.z)
     (greatest_corner t.b.z valid.b.z) (greatest_corner t.c.z valid.c.z) h in
     record {

@@ -1,62 +1,28 @@
 -- Triangles whose corners show that they don't meet.
-use Rattle.std.proofs.Common.{◌≡◌, ◌⊎◌, ⊎_elim, inl, inr, refl, sym, ap, ◌∙◌, arith, zero, suc, Bool, true, false, not, ◌&&◌, ◌||◌, ℤ, pos, negsuc, ◌<ℤ◌, ◌≤ℤ◌}
-use Rattle.std.proofs.lemmas.Bool.{or_cases}
-use borrow.Author.Differences.{ints}
+use Rattle.std.proofs.Common.{◌≡◌, ◌⊎◌, ⊎_elim, inl, inr, refl, sym, ap, ◌∙◌, arith, zero, suc, Bool, true, false, not, ◌&&◌, ◌||◌, ℤ, pos, negsuc, ◌<ℤ◌}
+use Rattle.std.proofs.lemmas.Bool.{or_cases, and_parts}
 use Rattle.ember_algebra.specs.Sign.{is_negative, is_zero, is_positive}
 use Rattle.ember_algebra.proofs.Laws.{linear}
+use Rattle.ember_algebra.proofs.Booleans.{and_three}
 use Rattle.ember_model.specs.declared.plane.Plane.{Plane}
 use Rattle.ember_model.specs.declared.point.Spot.{Spot}
 use Rattle.ember_model.specs.declared.tri.Tri.{Tri}
 use Rattle.ember_model.specs.Planes.{value_at, support_of}
-use Rattle.ember_model.specs.Faces.{is_flat, face_of, is_inside, Meets}
+use Rattle.ember_model.specs.Faces.{is_flat, face_of, Meets}
 use Rattle.ember_model.specs.Owners.{spot_of_corner}
-use Rattle.ember_model.proofs.SignTests.{and_parts, not_true, clash, negative_out, positive_out, not_positive_out}
+use Rattle.ember_model.proofs.SignTests.{not_true, negative_out, positive_out, not_positive_out}
+use Rattle.ember_model.proofs.SignTests.{not_negative_out, some_positive, some_negative}
 use Rattle.ember_poly.specs.Rings.{IsBelow, IsAbove, IsNotAbove, IsNotBelow, IsInsideRing}
 use Rattle.ember_poly.specs.Chords.{IsOnOneSide}
-use Rattle.ember_poly.proofs.FaceTests.{inside_out, closed_out}
+use Rattle.ember_poly.proofs.FaceTests.{closed_out}
 use Rattle.ember_poly.proofs.OneSide.{one_side_meets_not}
 use Rattle.ember_poly.proofs.ReachBySigns.{all_below, all_above}
-use Rattle.ember_poly.proofs.TriangleRing.{tri_sides, stands}
+use Rattle.ember_poly.proofs.TriangleRing.{tri_sides, stands, inside_ring}
 use Rattle.ember_pairs.specs.declared.heights.Heights.{Heights}
 use Rattle.ember_pairs.specs.Heights.{heights_of, all_in_front, all_behind, none_in_front, none_behind, all_on}
 use Rattle.ember_pairs.specs.Pairs.{AreMeeting}
 
 -- ---- from tests of heights to facts at the corners
-pub not_negative_out : (a : ℤ) → not (is_negative a) ≡ true → pos 0 ≤ℤ a
-not_negative_out (pos n) e = omega (arith, ints)
-not_negative_out (negsuc n) e = absurd (cc)
-
-pub record Three (A B C : Type 0) : Type 0 where
-  pub a : A
-  pub b : B
-  pub c : C
-
-pub three : (x y z : Bool) → x && (y && z) ≡ true → Three (x ≡ true) (y ≡ true) (z ≡ true)
-three x y z e =
-    let p = and_parts x (y && z) e in let q = and_parts y z p.1 in record { a = p.0; b = q.0; c = q.1 }
-
--- of three numbers none of which is negative, and that aren't all 0, one is positive
-pub some_over : (x y z : ℤ) → pos 0 ≤ℤ x → pos 0 ≤ℤ y → pos 0 ≤ℤ z → is_zero x && (is_zero y && is_zero z) ≡ false →
-    (pos 0 <ℤ x) ⊎ ((pos 0 <ℤ y) ⊎ (pos 0 <ℤ z))
-some_over (pos (suc n)) y z a b c e = inl (omega (arith, ints))
-some_over (negsuc n) y z a b c e = absurd (omega (arith, ints, a))
-some_over (pos zero) (pos (suc n)) z a b c e = inr (inl (omega (arith, ints)))
-some_over (pos zero) (negsuc n) z a b c e = absurd (omega (arith, ints, b))
-some_over (pos zero) (pos zero) (pos (suc n)) a b c e = inr (inr (omega (arith, ints)))
-some_over (pos zero) (pos zero) (negsuc n) a b c e = absurd (omega (arith, ints, c))
-some_over (pos zero) (pos zero) (pos zero) a b c e = absurd (clash refl e)
-
--- of three numbers none of which is positive, and that aren't all 0, one is negative
-pub some_under : (x y z : ℤ) → x ≤ℤ pos 0 → y ≤ℤ pos 0 → z ≤ℤ pos 0 → is_zero x && (is_zero y && is_zero z) ≡ false →
-    (x <ℤ pos 0) ⊎ ((y <ℤ pos 0) ⊎ (z <ℤ pos 0))
-some_under (pos (suc n)) y z a b c e = absurd (omega (arith, ints, a))
-some_under (negsuc n) y z a b c e = inl (omega (arith, ints))
-some_under (pos zero) (pos (suc n)) z a b c e = absurd (omega (arith, ints, b))
-some_under (pos zero) (negsuc n) z a b c e = inr (inl (omega (arith, ints)))
-some_under (pos zero) (pos zero) (pos (suc n)) a b c e = absurd (omega (arith, ints, c))
-some_under (pos zero) (pos zero) (negsuc n) a b c e = inr (inr (omega (arith, ints)))
-some_under (pos zero) (pos zero) (pos zero) a b c e = absurd (clash refl e)
-
 module _ (p : Plane) (t : Tri) where
   abbrev h : Heights
   h = heights_of p t
@@ -66,10 +32,10 @@ module _ (p : Plane) (t : Tri) where
     where
       by : (all_in_front (heights_of p t) ≡ true) ⊎ (all_behind (heights_of p t) ≡ true) → IsOnOneSide p t
       by (inl f) =
-          let k = three (is_positive h.a) (is_positive h.b) (is_positive h.c) f in
+          let k = and_three (is_positive h.a) (is_positive h.b) (is_positive h.c) f in
           inl (record { over = positive_out h.a k.a }, record { over = positive_out h.b k.b }, record { over = positive_out h.c k.c })
       by (inr f) =
-          let k = three (is_negative h.a) (is_negative h.b) (is_negative h.c) f in
+          let k = and_three (is_negative h.a) (is_negative h.b) (is_negative h.c) f in
           inr (record { under = negative_out h.a k.a }, record { under = negative_out h.b k.b }, record { under = negative_out h.c k.c })
 
   -- no inside point lies on a plane to one side of which the corners lie
@@ -94,22 +60,17 @@ module _ (p : Plane) (t : Tri) where
 
       by : all_on (heights_of p t) ≡ false → (none_in_front (heights_of p t) ≡ true) ⊎ (none_behind (heights_of p t) ≡ true) → ⊥
       by f (inl e) =
-          let k = three (not (is_positive h.a)) (not (is_positive h.b)) (not (is_positive h.c)) e in
+          let k = and_three (not (is_positive h.a)) (not (is_positive h.b)) (not (is_positive h.c)) e in
           let a = not_positive_out h.a k.a in let b = not_positive_out h.b k.b in let c = not_positive_out h.c k.c in
-          let u = under (some_under h.a h.b h.c a b c f) (record { at_most = a }) (record { at_most = b }) (record { at_most = c }) in
+          let u = under (some_negative h.a h.b h.c a b c f) (record { at_most = a }) (record { at_most = b }) (record { at_most = c }) in
           omega (arith, linear, z, u.under)
       by f (inr e) =
-          let k = three (not (is_negative h.a)) (not (is_negative h.b)) (not (is_negative h.c)) e in
+          let k = and_three (not (is_negative h.a)) (not (is_negative h.b)) (not (is_negative h.c)) e in
           let a = not_negative_out h.a k.a in let b = not_negative_out h.b k.b in let c = not_negative_out h.c k.c in
-          let o = over (some_over h.a h.b h.c a b c f) (record { at_least = a }) (record { at_least = b }) (record { at_least = c }) in
+          let o = over (some_positive h.a h.b h.c a b c f) (record { at_least = a }) (record { at_least = b }) (record { at_least = c }) in
           omega (arith, linear, z, o.over)
 
 -- ---- two triangles
-inside_ring : (t : Tri) (v : Spot) → is_inside (face_of t) v ≡ true → IsInsideRing (support_of t) (tri_sides t) v
-unfolding face_of
-inside_ring t v e =
-    let k = inside_out (face_of t) v e in record { flat = k.flat; weight = k.weight; within = k.within }
-
 -- if the corners of u are strictly on one side of the plane of t
 strictly_apart : (t u : Tri) → is_flat u ≡ false →
     all_in_front (heights_of (support_of t) u) || all_behind (heights_of (support_of t) u) ≡ true →

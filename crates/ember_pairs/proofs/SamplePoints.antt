@@ -1,14 +1,15 @@
 -- A sample point of a triangle is an inside point, so triangles of one plane meet if that of one is within the other.
 use Rattle.std.proofs.Common.{◌≡◌, ⊎_elim, inl, inr, ◌∙◌, true, false, not, List, [], ◌∷◌}
 use Rattle.std.specs.List.{AllByRecursion}
-use Rattle.std.proofs.lemmas.Bool.{or_cases}
+use Rattle.std.proofs.lemmas.Bool.{or_cases, and_parts}
 use Rattle.ember_algebra.specs.Sign.{is_zero, is_positive}
+use Rattle.ember_algebra.proofs.Booleans.{and_three}
 use Rattle.ember_model.specs.declared.plane.Plane.{Plane}
 use Rattle.ember_model.specs.declared.tri.Tri.{Tri}
 use Rattle.ember_model.specs.Planes.{support_of}
 use Rattle.ember_model.specs.Faces.{is_flat, face_of, edges_of, is_inside, Meets}
 use Rattle.ember_model.specs.Owners.{lies_in_plane_of}
-use Rattle.ember_model.proofs.SignTests.{and_parts, zero_out, not_positive_out}
+use Rattle.ember_model.proofs.SignTests.{zero_out, not_positive_out}
 use Rattle.ember_poly.specs.Rings.{IsNotAbove}
 use Rattle.ember_poly.proofs.FaceTests.{closed_in}
 use Rattle.ember_pairs.specs.declared.samples.Weights.{Weights}
@@ -16,7 +17,6 @@ use Rattle.ember_pairs.specs.Heights.{heights_of, heights_over}
 use Rattle.ember_pairs.specs.Samples.{AreWeights, sample_point, sample_height, is_sample_within, HasSampleWithin}
 use Rattle.ember_pairs.specs.ByEdges.{HasInPlane}
 use Rattle.ember_pairs.specs.Pairs.{AreMeeting}
-use Rattle.ember_pairs.proofs.PartedTriangles.{three}
 use Rattle.ember_pairs.proofs.CornerSums.{ArePositive, positive_weights_are_not_negative, value_at_sum, sum_of_zeros}
 use Rattle.ember_pairs.proofs.CornerSums.{face_has_triangle_corners, sum_is_inside, sum_has_positive_weight}
 
@@ -43,7 +43,7 @@ sample_meets : (t u : Tri) → is_flat u ≡ false → lies_in_plane_of t u ≡ 
     is_sample_within (heights_over (edges_of t) u) w ≡ true → Meets (face_of u) (face_of t)
 unfolding face_of
 sample_meets t u full on w k e =
-    let h = heights_of (support_of t) u in let z = three (is_zero h.a) (is_zero h.b) (is_zero h.c) on in
+    let h = heights_of (support_of t) u in let z = and_three (is_zero h.a) (is_zero h.b) (is_zero h.c) on in
     let flat = value_at_sum (support_of t) u w ∙ sum_of_zeros w h (zero_out h.a z.a) (zero_out h.b z.b) (zero_out h.c z.c) in
     record {
       at = sample_point u w;

@@ -3,14 +3,13 @@ use Rattle.std.proofs.Common.{◌≡◌, ℕ, zero, suc, ◌+◌, ◌<◌, ◌�
 use Rattle.std.proofs.Common.{if◌then◌else◌, List, [], ◌∷◌, ◌++◌, length, All, Option, None, Some}
 use Rattle.std.specs.List.{range_with_len}
 use Rattle.std.proofs.lemmas.Bool.{lt-ltb, le-ltb}
-use Rattle.std.proofs.lemmas.List.Elements.{All-from_get_or}
-use Rattle.std.proofs.lemmas.List.FromFn.{length-range_with_len, get_or-range_with_len}
 use Rattle.ember_model.specs.declared.tri.Tri.{Tri}
 use Rattle.ember_model.specs.declared.point.Axis.{Axis}
 use Rattle.ember_box.specs.Boxes.{Cell, root, left_half, right_half}
 use Rattle.ember_box.specs.Near.{listed, near_indices, all_indices}
 use Rattle.ember_box.specs.Halving.{halving_axis, is_leaf}
 use Rattle.ember_box.proofs.Lists.{left_places, right_places, is_leaf_listed, halving_axis_listed, near_in_range}
+use Rattle.ember_box.proofs.Lists.{all_indices_below}
 use Rattle.ember_job.specs.declared.job.Job.{Job}
 use Rattle.ember_job.specs.Works.{halved, leafed, passed}
 use Rattle.ember_pairs.specs.Works.{at_root, no_windings, job_at, IsPairsJob, pairs_shape}
@@ -26,20 +25,13 @@ range_more a (suc n) =
 pub root_is_valid : (ts : List Tri) (job : Job) → job ≡ job_at ts root → IsPairsJob ts job
 root_is_valid ts job e = subst (λ (j : Job). IsPairsJob ts j) (sym e) (record { from_root = at_root; is = refl })
 
--- all indices of a list are in range
-pub places_in_range : (ts : List Tri) → All (λ i. i < length ts) (all_indices ts)
-places_in_range ts =
-    All-from_get_or (λ i. i < length ts) (all_indices ts) 0 (λ i l. let b : i < length ts =
-    omega (arith, l, length-range_with_len 0 (length ts)) in let e = get_or-range_with_len 0 (length ts) i 0 b in
-    rw e (omega arith))
-
 list_is : (ts : List Tri) (job : Job) → IsPairsJob ts job → job.list ≡ near_indices ts job.cell (all_indices ts)
 list_is ts job v = ap (λ (j : Job). j.list) v.is
 
 -- a job of `pairs` lists indices of triangles
 pub list_in_range : (ts : List Tri) (job : Job) (list : List ℕ) → IsPairsJob ts job → list ≡ job.list → All (λ i. i < length ts) list
 list_in_range ts job list v e =
-    subst (λ (is : List ℕ). All (λ i. i < length ts) is) (sym (e ∙ list_is ts job v)) (near_in_range ts job.cell (all_indices ts) (places_in_range ts))
+    subst (λ (is : List ℕ). All (λ i. i < length ts) is) (sym (e ∙ list_is ts job v)) (near_in_range ts job.cell (all_indices ts) (all_indices_below ts))
 
 -- ---- the answers
 abbrev leaf_or : Bool → Axis → Option Axis

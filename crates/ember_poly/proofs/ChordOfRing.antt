@@ -12,6 +12,7 @@ use Rattle.ember_model.specs.Planes.{value_at}
 use Rattle.ember_model.specs.ClearTest.{none_positive, face_with}
 use Rattle.ember_model.specs.declared.face.Face.{Face}
 use Rattle.ember_model.specs.Faces.{Cuts, Meets as MeetsFace}
+use Rattle.ember_model.proofs.SignTests.{positive_nonzero}
 use Rattle.ember_point.specs.Points.{spot_of}
 use Rattle.ember_poly.specs.declared.passage.Passage.{Passage}
 use Rattle.ember_poly.specs.Rings.{with_start, closing_side, Side, IsBelow, IsNotAbove, IsNotBelow, IsInsideRing, IsMeet, IsConvexRing, Represents}
@@ -20,7 +21,7 @@ use Rattle.ember_poly.specs.Chords.{combination, IsOpen, IsLine, IsChord}
 use Rattle.ember_poly.proofs.Chains.{each_map, each_both, each-back, each-front}
 use Rattle.ember_poly.proofs.Rotations.{turned_by, each-turned}
 use Rattle.ember_poly.proofs.Planar.{same_place}
-use Rattle.ember_poly.proofs.RingBelow.{below_some, below_all, not_zero}
+use Rattle.ember_poly.proofs.RingBelow.{below_some, below_all}
 use Rattle.ember_poly.proofs.Hull.{blend, blend_value}
 use Rattle.ember_poly.proofs.InsideSigns.{combination_value}
 use Rattle.ember_poly.proofs.InsidePoints.{head_closed, corner_closed, flat_sum, weight_sum}
@@ -156,7 +157,7 @@ module _ (n p : Plane) (f l : Side) (ks ds : List Side) (y z : Spot) (mz : IsMee
 
     index : (e : Plane) → rest.w *ℤ value_at e z ≡ z.w *ℤ value_at e rest
     index e =
-        same_place n p f.plane (not_zero (turns_of n p f l ks ds s u a q).1) e rest z
+        same_place n p f.plane (positive_nonzero (turns_of n p f l ks ds s u a q).1) e rest z
         (blend_value i j h x y z n ∙ zeros i j h k.flat my.first mz.first)
         (blend_value i j h x y z p ∙ zeros i j h on my.third mz.third) on_f mz.first mz.third mz.second
 
@@ -229,7 +230,7 @@ module _ (n p : Plane) (gs : List Plane) (xs : List Side) (at : Passage) (q : Is
         weight_z = q.entry.weight;
         across = q.head.plane;
         turns =
-            not_zero (turns_of n p q.head q.last q.firsts q.others sound q.under q.enters q.leaves).1;
+            positive_nonzero (turns_of n p q.head q.last q.firsts q.others sound q.under q.enters q.leaves).1;
       }
 
   chord_meets : (hs : List Plane) → IsOpen hs y z → MeetsFace (record { support = n; edges = gs }) (face_with p hs)

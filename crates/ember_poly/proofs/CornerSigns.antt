@@ -8,6 +8,7 @@ use Rattle.ember_algebra.specs.declared.Sign.TheVariants.{Neg, Zero, Pos}
 use Rattle.ember_algebra.specs.Sign.{sgn}
 use Rattle.ember_algebra.proofs.Signs.{zero_from_sgn, pos_from_sgn, neg_from_sgn}
 use Rattle.ember_algebra.proofs.Laws.{linear}
+use Rattle.ember_algebra.proofs.Numbers.{negative_at_most, zero_at_most}
 use Rattle.ember_model.specs.declared.plane.Plane.{Plane}
 use Rattle.ember_model.specs.Planes.{value_at}
 use Rattle.ember_point.specs.declared.meet_point.Meet.{Meet}
@@ -32,15 +33,9 @@ zero_out a e f = zero_from_sgn a (rw (← e, f) tt)
 pub pos_out : (a : ℤ) {s : Sign} → s ≡ sgn a → s ≡ Pos → pos 0 <ℤ a
 pos_out a e f = pos_from_sgn a (rw (← e, f) tt)
 
-below_most : {a : ℤ} → a <ℤ pos 0 → a ≤ℤ pos 0
-below_most p = omega (arith, linear, p)
-
 -- a positive integer is at least 0
 pub above_least : {a : ℤ} → pos 0 <ℤ a → pos 0 ≤ℤ a
 above_least p = omega (arith, linear, p)
-
-zero_most : {a : ℤ} → a ≡ pos 0 → a ≤ℤ pos 0
-zero_most p = omega (arith, linear, p)
 
 -- 0 is at least 0
 pub zero_least : {a : ℤ} → a ≡ pos 0 → pos 0 ≤ℤ a
@@ -73,14 +68,14 @@ module _ (p : Plane) (ms : List Meet) (m : Meet) where
 
   none_most : AllByRecursion (λ m. IsOnPlane p (spot_of m)) ms → AllByRecursion (λ m. IsNotAbove p (spot_of m)) ms
   none_most h =
-      each_map (λ m. IsOnPlane p (spot_of m)) (λ m. IsNotAbove p (spot_of m)) ms (λ m o. record { at_most = zero_most o.on_plane }) h
+      each_map (λ m. IsOnPlane p (spot_of m)) (λ m. IsNotAbove p (spot_of m)) ms (λ m o. record { at_most = zero_at_most o.on_plane }) h
 
   none_least : AllByRecursion (λ m. IsOnPlane p (spot_of m)) ms → AllByRecursion (λ m. IsNotBelow p (spot_of m)) ms
   none_least h =
       each_map (λ m. IsOnPlane p (spot_of m)) (λ m. IsNotBelow p (spot_of m)) ms (λ m o. record { at_least = zero_least o.on_plane }) h
 
   pub seen_zero : (r : Reach) → value ≡ pos 0 → AreSigns p ms r → AreSigns p (ms ++ m ∷ []) r
-  seen_zero Below z s = (push_most (zero_most z) s.0, keep_low s.1)
+  seen_zero Below z s = (push_most (zero_at_most z) s.0, keep_low s.1)
   seen_zero Above z s = (push_least (zero_least z) s.0, keep_high s.1)
   seen_zero On z s = push_on z s
   seen_zero Both z s = (keep_low s.0, keep_high s.1)
@@ -99,9 +94,9 @@ module _ (p : Plane) (ms : List Meet) (m : Meet) where
 
   -- one more corner, below the plane
   pub seen_low : (r : Reach) → value <ℤ pos 0 → AreSigns p ms r → AreSigns p (ms ++ m ∷ []) (lowered r)
-  seen_low Below l s = (push_most (below_most l) s.0, low l)
+  seen_low Below l s = (push_most (negative_at_most l) s.0, low l)
   seen_low Above l s = (low l, keep_high s.1)
-  seen_low On l s = (push_most (below_most l) (none_most s), low l)
+  seen_low On l s = (push_most (negative_at_most l) (none_most s), low l)
   seen_low Both l s = (low l, keep_high s.1)
 
   -- one more corner, above the plane

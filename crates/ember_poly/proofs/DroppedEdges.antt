@@ -1,6 +1,7 @@
 -- A dropped edge is negative at all corners of the part but one.
 use Rattle.std.proofs.Common.{◌⊎◌, ⊎_elim, inl, inr, ℕ, List, [], ◌∷◌, ◌++◌, pos, ◌<ℤ◌, ◌≤ℤ◌}
 use Rattle.std.specs.List.{AllByRecursion}
+use Rattle.ember_algebra.proofs.Numbers.{negative_at_most}
 use Rattle.ember_model.specs.declared.plane.Plane.{Plane}
 use Rattle.ember_model.specs.declared.point.Spot.{Spot}
 use Rattle.ember_model.specs.Planes.{value_at}
@@ -8,7 +9,7 @@ use Rattle.ember_poly.specs.Rings.{with_start, closing_side, Side, IsBelow, IsNo
 use Rattle.ember_poly.specs.Rings.{IsConvexRing, EndsAt, IsBelowAllButOne, IsNotEmpty}
 use Rattle.ember_poly.proofs.Planar.{Crossing, under_past, under_first}
 use Rattle.ember_poly.proofs.Chains.{each_map, each_both, each-back, each-push, chain_ends}
-use Rattle.ember_poly.proofs.RingBelow.{head_of, below_at_most}
+use Rattle.ember_poly.proofs.RingBelow.{head_of}
 use Rattle.ember_poly.proofs.InsideBelow.{ring-closed}
 use Rattle.ember_poly.proofs.OnePoint.{lone-join}
 
@@ -113,7 +114,7 @@ two n p f l d e ks es y z b h exit entry =
     )
   where
     weak' : {p : Plane} {v : Spot} → IsBelow p v → value_at p v ≤ℤ pos 0
-    weak' u = below_at_most u.under
+    weak' u = negative_at_most u.under
 
 -- a dropped edge is negative at one of the two ends of the chord
 pub dropped_side_is_above_one_corner : (n p : Plane) (f l d : Side) (ks ds : List Side) (y z : Spot) (b : ℕ) →

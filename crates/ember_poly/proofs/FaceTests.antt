@@ -1,6 +1,7 @@
 -- The tests of a face's points, and the same as facts on each plane.
-use Rattle.std.proofs.Common.{◌≡◌, refl, sym, ap, Bool, true, false, not, ◌&&◌, List, [], ◌∷◌, ℤ, pos}
+use Rattle.std.proofs.Common.{◌≡◌, refl, Bool, true, not, ◌&&◌, List, [], ◌∷◌, pos}
 use Rattle.std.specs.List.{list_all, AllByRecursion}
+use Rattle.std.proofs.lemmas.Bool.{and_parts}
 use Rattle.ember_algebra.specs.Sign.{is_negative, is_zero, is_positive}
 use Rattle.ember_model.specs.declared.plane.Plane.{Plane}
 use Rattle.ember_model.specs.declared.point.Spot.{Spot}
@@ -8,21 +9,12 @@ use Rattle.ember_model.specs.declared.face.Face.{Face}
 use Rattle.ember_model.specs.Planes.{value_at}
 use Rattle.ember_model.specs.Faces.{is_inside, is_in_closed}
 use Rattle.ember_model.specs.Edges.{is_on_edge}
-use Rattle.ember_model.proofs.SignTests.{negative_in, negative_out, positive_in, positive_out, not_positive_in, not_positive_out, zero_out, and_parts}
+use Rattle.ember_model.proofs.SignTests.{negative_in, negative_out, positive_in, positive_out, not_positive_in, not_positive_out, zero_out}
+use Rattle.ember_model.proofs.SignTests.{zero_in}
 use Rattle.ember_poly.specs.Rings.{IsBelow, IsNotAbove, InFace, InClosedFace}
 
 and_in : {a b : Bool} → a ≡ true → b ≡ true → (a && b) ≡ true
 and_in p q = rw (p, q) refl
-
--- two tests, each passed if the other is
-pub same_test : (a b : Bool) → (a ≡ true → b ≡ true) → (b ≡ true → a ≡ true) → a ≡ b
-same_test true b p q = sym (p refl)
-same_test false true p q = q refl
-same_test false false p q = refl
-
--- the test answers true of 0
-pub zero_in : {a : ℤ} → a ≡ pos 0 → is_zero a ≡ true
-zero_in e = ap is_zero e
 
 -- the test answers true of a point that is above none of the planes
 pub all_in : (gs : List Plane) (v : Spot) → AllByRecursion (λ g. IsNotAbove g v) gs → list_all (λ g. not (is_positive (value_at g v))) gs ≡ true

@@ -10,11 +10,12 @@ use Rattle.ember_algebra.proofs.Ring.{Expr, ◌⊕◌, ◌⊖◌, ◌⊗◌, neg
 use Rattle.ember_algebra.proofs.Vectors.{scalar, tuple, identity, TupleE, valueE}
 use Rattle.ember_algebra.proofs.Order.{nonneg_mul, mul_le, cancel_le, mul_neg_neg}
 use Rattle.ember_model.proofs.Tuples.{plane_tuple, spot_tuple}
+use Rattle.ember_model.proofs.SignTests.{positive_nonzero}
 use Rattle.ember_poly.specs.Rings.{Side, IsBelow, IsNotAbove, IsInClosedRing, IsNotHigher, IsSideChain, IsConvexRing, orientation}
 use Rattle.ember_poly.proofs.Planar.{same_place}
 use Rattle.ember_poly.proofs.Chains.{each_both, each-back}
 use Rattle.ember_poly.proofs.Rotations.{turned_by, each-turned}
-use Rattle.ember_poly.proofs.RingBelow.{Rooted, corner_of_is_rooted, not_zero}
+use Rattle.ember_poly.proofs.RingBelow.{Rooted, corner_of_is_rooted}
 
 -- ---- all corners are corners
 chain-rooted : (n g : Plane) (xs : List Side) → IsSideChain n g xs → AllByRecursion (λ s. Rooted n s) xs
@@ -159,7 +160,7 @@ corner_greatest n p q c y xs x h bq by k =
     let bz : value_at c.plane q.corner <ℤ pos 0 = (each-back (λ r. IsBelow c.plane r.corner) xs (q ∷ []) h.2.1).0.under in
     let ax : value_at q.plane x ≤ℤ pos 0 = k.within.0.at_most in
     let bx : value_at c.plane x ≤ℤ pos 0 = k.within.1.0.at_most in
-    let e = wedge_point_is_below n q.plane c.plane p c.corner x y.corner q.corner (not_zero h.1.0.turns) root.1.0.flat
+    let e = wedge_point_is_below n q.plane c.plane p c.corner x y.corner q.corner (positive_nonzero h.1.0.turns) root.1.0.flat
     k.flat root.1.1.0.flat root.0.flat h.1.0.before root.1.0.after root.0.after h.2.0.before in
     record {
       not_above = greatest (value_at q.plane y.corner *ℤ value_at c.plane q.corner)

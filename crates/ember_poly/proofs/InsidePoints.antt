@@ -7,10 +7,11 @@ use Rattle.ember_model.specs.Planes.{value_at}
 use Rattle.ember_algebra.proofs.Laws.{linear}
 use Rattle.ember_algebra.proofs.Ring.{◌⊕◌, ◌⊗◌, neg, num, ◌≈◌, solve, cancels}
 use Rattle.ember_algebra.proofs.Order.{pos_mul, nonneg_mul, mul_pos_neg}
+use Rattle.ember_algebra.proofs.Numbers.{negative_at_most, zero_at_most}
 use Rattle.ember_poly.specs.Rings.{Side, IsBelow, IsNotAbove, IsInsideRing, IsInClosedRing, IsConvexRing, EndsAt}
 use Rattle.ember_poly.proofs.Chains.{each_both, each-back, chain_ends}
 use Rattle.ember_poly.proofs.Rotations.{turned_by}
-use Rattle.ember_poly.proofs.RingBelow.{at_most, below_at_most, ends_rooted}
+use Rattle.ember_poly.proofs.RingBelow.{ends_rooted}
 use Rattle.ember_poly.proofs.Hull.{closed_turned}
 use Rattle.ember_poly.specs.Chords.{combination}
 use Rattle.ember_poly.proofs.InsideSigns.{combination_value}
@@ -18,11 +19,11 @@ use Rattle.ember_poly.proofs.InsideSigns.{combination_value}
 -- ---- corners are closed
 -- a point below a plane isn't above it
 pub below_is_not_above : {p : Plane} {v : Spot} → IsBelow p v → IsNotAbove p v
-below_is_not_above u = record { at_most = below_at_most u.under }
+below_is_not_above u = record { at_most = negative_at_most u.under }
 
 -- a point on a plane isn't above it
 pub on_is_not_above : {p : Plane} {v : Spot} → value_at p v ≡ pos 0 → IsNotAbove p v
-on_is_not_above e = record { at_most = at_most e }
+on_is_not_above e = record { at_most = zero_at_most e }
 
 ends_closed : (n g : Plane) (xs : List Side) (t : Side) → EndsAt n g xs t → IsNotAbove g t.corner × AllByRecursion (λ r. IsNotAbove r.plane t.corner) xs
 ends_closed n g [] t e = (on_is_not_above e.before, tt)

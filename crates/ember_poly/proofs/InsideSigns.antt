@@ -4,7 +4,7 @@ use Rattle.std.proofs.lemmas.Int.{by_lt_z}
 use Rattle.std.specs.List.{AllByRecursion}
 use Rattle.ember_model.specs.declared.plane.Plane.{Plane}
 use Rattle.ember_model.specs.declared.point.Spot.{Spot}
-use Rattle.ember_model.specs.Planes.{value_at, opposite}
+use Rattle.ember_model.specs.Planes.{value_at}
 use Rattle.ember_algebra.specs.Large.{Eventually}
 use Rattle.ember_algebra.proofs.Large.{eventually_both, eventually_map, eventually_pos}
 use Rattle.ember_algebra.proofs.Laws.{linear}
@@ -46,10 +46,6 @@ negated v = record { x = neg_ℤ v.x; y = neg_ℤ v.y; z = neg_ℤ v.z; w = neg_
 
 negated_value : (e : Plane) (v : Spot) → value_at e (negated v) ≡ neg_ℤ (value_at e v)
 negated_value e v = identity (tuple ∷ tuple ∷ []) (λ e v. valueE e (oppositeE v) ≈ neg (valueE e v)) cancels (plane_tuple e) (spot_tuple v)
-
--- the opposite plane has the opposite value
-pub opposite_plane : (e : Plane) (v : Spot) → value_at (opposite e) v ≡ neg_ℤ (value_at e v)
-opposite_plane e v = identity (tuple ∷ tuple ∷ []) (λ e v. valueE (oppositeE e) v ≈ neg (valueE e v)) cancels (plane_tuple e) (spot_tuple v)
 
 abbrev beyond : Spot → Spot → ℕ → Spot
 beyond x c m = combination (pos m) (pos 1) x (negated c)

@@ -10,9 +10,9 @@ use Rattle.ember_model.specs.declared.face.Face.{Face}
 use Rattle.ember_model.specs.Planes.{value_at}
 use Rattle.ember_model.specs.Edges.{SamePoint, is_on_edge, HasEdge, IsEarliest, SameEdge, position_along, IsBefore}
 use Rattle.ember_model.specs.Edges.{IsNotAfter, RingEdge, IsEdge, IsEdgeChain, HasEdgeOf, HaveDistinctEdges, IsOutline}
+use Rattle.ember_model.proofs.SignTests.{positive_nonzero}
 use Rattle.ember_poly.specs.Rings.{IsNotAbove, edge_direction}
 use Rattle.ember_poly.proofs.Chains.{each_map}
-use Rattle.ember_poly.proofs.RingBelow.{not_zero}
 use Rattle.ember_poly.proofs.EdgeEnds.{position_is_value_along}
 use Rattle.ember_poly.proofs.FaceTests.{edge_in, edge_out}
 use Rattle.ember_poly.proofs.RingOutline.{same_value}
@@ -20,7 +20,7 @@ use Rattle.ember_poly.proofs.RingOutline.{same_value}
 -- ---- numbers
 zero_moved : (u v a b : ℤ) → pos 0 <ℤ u → v *ℤ a ≡ u *ℤ b → a ≡ pos 0 → b ≡ pos 0
 zero_moved u v a b p e z =
-    cancel_eq (not_zero p) (sym e ∙ rw z (solve 2 (λ u v. v ⊗ num (pos 0) ≈ u ⊗ num (pos 0)) cancels u v))
+    cancel_eq (positive_nonzero p) (sym e ∙ rw z (solve 2 (λ u v. v ⊗ num (pos 0) ≈ u ⊗ num (pos 0)) cancels u v))
 
 most_moved : (u v a b : ℤ) → pos 0 <ℤ u → pos 0 <ℤ v → v *ℤ a ≡ u *ℤ b → a ≤ℤ pos 0 → b ≤ℤ pos 0
 most_moved u v a b p q e l =

@@ -7,10 +7,10 @@ use Rattle.ember_model.specs.Planes.{value_at}
 use Rattle.ember_algebra.proofs.Laws.{linear}
 use Rattle.ember_algebra.proofs.Ring.{◌⊕◌, ◌⊖◌, ◌⊗◌, neg, num, ◌≈◌, solve, cancels}
 use Rattle.ember_algebra.proofs.Order.{by_sign, pos_mul, nonneg_mul, mul_pos_neg, mul_neg_pos, cancel_eq, zero_product}
+use Rattle.ember_model.proofs.SignTests.{positive_nonzero}
 use Rattle.ember_poly.specs.Rings.{Side, IsConvexRing, IsInClosedRing, IsBelow, IsNotAbove, IsBelowAllButOne}
 use Rattle.ember_poly.proofs.Chains.{each-front, each-back}
 use Rattle.ember_poly.proofs.Rotations.{turned_by, each-turned, each-join}
-use Rattle.ember_poly.proofs.RingBelow.{not_zero}
 use Rattle.ember_poly.proofs.Planar.{same_place}
 use Rattle.ember_poly.proofs.Hull.{ring-rooted, wedge_point_is_below, find_best, Best, best_above, last_of}
 
@@ -122,13 +122,13 @@ at_corner n h q c y xs s l z x k hx e =
     let root = ring-rooted n (q ∷ c ∷ y ∷ xs) s in let u = lone_next h q c y xs l z in
     let ay : value_at q.plane y.corner <ℤ pos 0 = s.1.1.0.under in
     let bz : value_at c.plane q.corner <ℤ pos 0 = (each-back (λ r. IsBelow c.plane r.corner) xs (q ∷ []) s.2.1).0.under in
-    let w = wedge_point_is_below n q.plane c.plane h c.corner x y.corner q.corner (not_zero s.1.0.turns) root.1.0.flat
+    let w = wedge_point_is_below n q.plane c.plane h c.corner x y.corner q.corner (positive_nonzero s.1.0.turns) root.1.0.flat
     k.flat root.1.1.0.flat root.0.flat s.1.0.before root.1.0.after root.0.after s.2.0.before in
     let p = zeros c.corner.w (value_at q.plane y.corner *ℤ value_at c.plane q.corner)
     (value_at q.plane x *ℤ value_at c.plane q.corner) (value_at q.plane y.corner *ℤ value_at c.plane x) (value_at h x)
     (value_at h y.corner) (value_at h q.corner) (value_at h c.corner) _ root.1.0.weight
     (down k.within.0.at_most (most bz)) (down (most ay) k.within.1.0.at_most) u.1.under u.0.under hx z w in
-    same_place n q.plane c.plane (not_zero s.1.0.turns) e c.corner x root.1.0.flat s.1.0.before root.1.0.after k.flat
+    same_place n q.plane c.plane (positive_nonzero s.1.0.turns) e c.corner x root.1.0.flat s.1.0.before root.1.0.after k.flat
     (⊎_elim (λ a. a) (λ b. absurd (below bz b)) (zero_product p.0))
     (⊎_elim (λ a. absurd (below ay a)) (λ b. b) (zero_product p.1))
   where
@@ -161,7 +161,7 @@ one_place n h (x ∷ xs) s a l u v e ku kv hu hv = by (find_best n h x xs (ring-
 
     join : (cw uw vw eu ev ec : ℤ) → pos 0 <ℤ cw → cw *ℤ eu ≡ uw *ℤ ec → cw *ℤ ev ≡ vw *ℤ ec → uw *ℤ ev ≡ vw *ℤ eu
     join cw uw vw eu ev ec p a b =
-        cancel_eq (not_zero p) (solve 3 (λ cw uw ev. cw ⊗ (uw ⊗ ev) ≈ uw ⊗ (cw ⊗ ev)) cancels cw uw ev
+        cancel_eq (positive_nonzero p) (solve 3 (λ cw uw ev. cw ⊗ (uw ⊗ ev) ≈ uw ⊗ (cw ⊗ ev)) cancels cw uw ev
         ∙ rw b (solve 3 (λ uw vw ec. uw ⊗ (vw ⊗ ec) ≈ vw ⊗ (uw ⊗ ec)) cancels uw vw ec
         ∙ rw (← a) (solve 3 (λ vw cw eu. vw ⊗ (cw ⊗ eu) ≈ cw ⊗ (vw ⊗ eu)) cancels vw cw eu)))
 

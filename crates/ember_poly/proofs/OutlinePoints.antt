@@ -3,6 +3,7 @@ use Rattle.std.proofs.Common.{◌≡◌, ◌≢◌, ◌⊎◌, inl, inr, refl, s
 use Rattle.std.proofs.lemmas.Int.{by_lt_z}
 use Rattle.std.specs.List.{AllByRecursion}
 use Rattle.ember_algebra.proofs.Laws.{linear}
+use Rattle.ember_algebra.proofs.Booleans.{same_test}
 use Rattle.ember_model.specs.declared.plane.Plane.{Plane}
 use Rattle.ember_model.specs.declared.point.Spot.{Spot}
 use Rattle.ember_model.specs.declared.face.Face.{Face}
@@ -14,7 +15,7 @@ use Rattle.ember_poly.specs.Cuts.{HasInside}
 use Rattle.ember_poly.specs.Outlines.{SamePoints, face_of_edges}
 use Rattle.ember_poly.specs.Rings.{IsBelow, IsNotAbove, InFace, InClosedFace, orientation}
 use Rattle.ember_poly.proofs.Chains.{each_map}
-use Rattle.ember_poly.proofs.FaceTests.{closed_in, closed_out, inside_in, inside_out, edge_out, same_test}
+use Rattle.ember_poly.proofs.FaceTests.{closed_in, closed_out, inside_in, inside_out, edge_out}
 use Rattle.ember_poly.proofs.RingOutline.{each_get}
 use Rattle.ember_poly.proofs.RedundantPlanes.{closed_follows, plane_follows}
 use Rattle.ember_poly.proofs.SameSide.{toward, turns_toward, same_side}

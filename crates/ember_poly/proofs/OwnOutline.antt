@@ -8,6 +8,7 @@ use Rattle.ember_model.specs.declared.point.Spot.{Spot}
 use Rattle.ember_model.specs.declared.face.Face.{Face}
 use Rattle.ember_model.specs.Planes.{value_at}
 use Rattle.ember_model.specs.Edges.{is_on_edge, HasEdge, SameEdge, RingEdge, IsEdge, IsEdgeChain, HasEdgeOf, HaveDistinctEdges, IsOutline}
+use Rattle.ember_model.proofs.Tuples.{same_some}
 use Rattle.ember_poly.specs.Cuts.{HasInside}
 use Rattle.ember_poly.specs.Outlines.{face_of_edges}
 use Rattle.ember_poly.proofs.OutlinePoints.{outline_has_its_points}
@@ -19,9 +20,6 @@ planes_of es = map (λ e. e.plane) es
 at_its_place : (us : List RingEdge) (e : RingEdge) (ws : List RingEdge) → slice_get (planes_of (us ++ e ∷ ws)) (length us) ≡ Some e.plane
 at_its_place [] e ws = refl
 at_its_place (u ∷ us) e ws = at_its_place us e ws
-
-same_some : {g h : Plane} → Some g ≡ Some h → g ≡ h
-same_some e = cc
 
 -- no earlier plane gives its edge
 none_earlier : (f : Face) (us : List RingEdge) (e : RingEdge) (ws : List RingEdge) →

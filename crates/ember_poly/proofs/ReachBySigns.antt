@@ -11,7 +11,8 @@ use Rattle.ember_model.specs.declared.point.Spot.{Spot}
 use Rattle.ember_model.specs.declared.face.Face.{Face}
 use Rattle.ember_model.specs.Planes.{value_at, opposite}
 use Rattle.ember_model.specs.Faces.{is_inside, Cuts}
-use Rattle.ember_model.proofs.SignTests.{negative_in, negative_out, positive_in, positive_out}
+use Rattle.ember_model.proofs.SignTests.{negative_in, negative_out, positive_in, positive_out, zero_in}
+use Rattle.ember_model.proofs.PlaneValues.{value-opposite}
 use Rattle.ember_point.specs.declared.meet_point.Meet.{Meet}
 use Rattle.ember_poly.specs.declared.reach_and_cut.Reach.{Reach}
 use Rattle.ember_poly.specs.declared.reach_and_cut.Reach.TheVariants.{Below, Above, On, Both}
@@ -24,24 +25,24 @@ use Rattle.ember_poly.proofs.Chains.{each_map}
 use Rattle.ember_poly.proofs.Members.{has_map, has_pick}
 use Rattle.ember_poly.proofs.RingBelow.{Rooted}
 use Rattle.ember_poly.proofs.Hull.{ring-rooted, corners_at_most}
-use Rattle.ember_poly.proofs.InsideSigns.{combination_value, opposite_plane, corners_under}
+use Rattle.ember_poly.proofs.InsideSigns.{combination_value, corners_under}
 use Rattle.ember_poly.proofs.InsidePoints.{below_is_not_above, inside_sum, corner_sum_is_inside}
 use Rattle.ember_poly.proofs.InsideBelow.{ring-closed}
 use Rattle.ember_poly.proofs.Face.{inside_from_face, face_from_inside}
-use Rattle.ember_poly.proofs.FaceTests.{zero_in, inside_in, inside_out}
+use Rattle.ember_poly.proofs.FaceTests.{inside_in, inside_out}
 use Rattle.ember_poly.proofs.SideLists.{each_corner, has_corner}
 
 -- ---- the opposite plane
 -- a point above a plane is below the opposite one
 pub over_opposite : (p : Plane) (v : Spot) → IsAbove p v → IsBelow (opposite p) v
-over_opposite p v o = record { under = rw (opposite_plane p v) (flip o.over) }
+over_opposite p v o = record { under = rw (value-opposite p v) (flip o.over) }
   where
     flip : {a : ℤ} → pos 0 <ℤ a → neg_ℤ a <ℤ pos 0
     flip q = omega (arith, linear, q)
 
 -- what is below a plane is above the opposite one
 pub under_opposite : (p : Plane) (v : Spot) → IsBelow p v → IsAbove (opposite p) v
-under_opposite p v o = record { over = rw (opposite_plane p v) (flip o.under) }
+under_opposite p v o = record { over = rw (value-opposite p v) (flip o.under) }
   where
     flip : {a : ℤ} → a <ℤ pos 0 → pos 0 <ℤ neg_ℤ a
     flip q = omega (arith, linear, q)
@@ -49,14 +50,14 @@ under_opposite p v o = record { over = rw (opposite_plane p v) (flip o.under) }
 -- what is below the opposite plane is above the plane
 pub over_from_opposite : (p : Plane) (v : Spot) → IsBelow (opposite p) v → IsAbove p v
 over_from_opposite p v u =
-    let h : neg_ℤ (value_at p v) <ℤ pos 0 = rw (← opposite_plane p v) u.under in record { over = flip h }
+    let h : neg_ℤ (value_at p v) <ℤ pos 0 = rw (← value-opposite p v) u.under in record { over = flip h }
   where
     flip : {a : ℤ} → neg_ℤ a <ℤ pos 0 → pos 0 <ℤ a
     flip q = omega (arith, linear, q)
 
 -- what isn't below a plane isn't above the opposite one
 pub most_opposite : (p : Plane) (v : Spot) → IsNotBelow p v → IsNotAbove (opposite p) v
-most_opposite p v o = record { at_most = rw (opposite_plane p v) (flip o.at_least) }
+most_opposite p v o = record { at_most = rw (value-opposite p v) (flip o.at_least) }
   where
     flip : {a : ℤ} → pos 0 ≤ℤ a → neg_ℤ a ≤ℤ pos 0
     flip q = omega (arith, linear, q)
@@ -64,7 +65,7 @@ most_opposite p v o = record { at_most = rw (opposite_plane p v) (flip o.at_leas
 -- what isn't above the opposite plane isn't below the plane
 pub least_from_opposite : (p : Plane) (v : Spot) → IsNotAbove (opposite p) v → IsNotBelow p v
 least_from_opposite p v u =
-    let h : neg_ℤ (value_at p v) ≤ℤ pos 0 = rw (← opposite_plane p v) u.at_most in
+    let h : neg_ℤ (value_at p v) ≤ℤ pos 0 = rw (← value-opposite p v) u.at_most in
     record { at_least = flip h }
   where
     flip : {a : ℤ} → neg_ℤ a ≤ℤ pos 0 → pos 0 ≤ℤ a

@@ -5,6 +5,8 @@ use Rattle.ember_model.specs.declared.plane.Plane.{Plane}
 use Rattle.ember_model.specs.declared.point.Spot.{Spot}
 use Rattle.ember_model.specs.Planes.{value_at}
 use Rattle.ember_algebra.proofs.Laws.{linear}
+use Rattle.ember_algebra.proofs.Numbers.{negative_at_most, zero_at_most}
+use Rattle.ember_model.proofs.SignTests.{positive_nonzero}
 use Rattle.ember_poly.specs.Rings.{IsMeet, with_start, closing_side, Side, IsBelow, IsCornerOf, IsSideChain, IsConvexRing, EndsAt, orientation}
 use Rattle.ember_poly.proofs.Planar.{Crossing, crossing_is_meet, under_past, under_first}
 use Rattle.ember_poly.proofs.Chains.{each_both, each-push, each-front, each-back, chain_ends, chain-front, ends_under, chain_is_closed}
@@ -28,26 +30,14 @@ ends_front : (n g : Plane) (xs : List Side) (t : Side) (ys : List Side) (s : Sid
 ends_front n g [] t ys s e = (e.0, tt)
 ends_front n g (x ∷ xs) t ys s e = let h = ends_front n x.plane xs t ys s e.1 in (e.0, (h.0, h.1))
 
--- 0 is at most 0
-pub at_most : {x : ℤ} → x ≡ pos 0 → x ≤ℤ pos 0
-at_most e = omega (arith, linear)
-
--- a number below 0 is at most 0
-pub below_at_most : {x : ℤ} → x <ℤ pos 0 → x ≤ℤ pos 0
-below_at_most e = omega (arith, linear)
-
--- a positive number isn't 0
-pub not_zero : {x : ℤ} → pos 0 <ℤ x → x ≢ pos 0
-not_zero p e = absurd (omega (arith, linear, p, e))
-
 -- ---- the exit: the last kept edge is that of l, and the ring goes on to the corner b
 exit_under : (n g : Plane) (xs : List Side) (l : Side) (p : Plane) (b y : Spot) → EndsAt n g xs l → IsBelow g b →
     AllByRecursion (λ r. IsBelow r.plane b) xs → Crossing p l.corner b y →
     IsBelow g y × AllByRecursion (λ r. IsBelow r.plane y) xs
-exit_under n g [] l p b y e u h c = (under_past c g (at_most e.before) u, tt)
+exit_under n g [] l p b y e u h c = (under_past c g (zero_at_most e.before) u, tt)
 exit_under n g (x ∷ xs) l p b y e u h c =
     let r = exit_under n x.plane xs l p b y e.1 h.0 h.1 c in
-    (under_past c g (below_at_most e.0.under) u, (r.0, r.1))
+    (under_past c g (negative_at_most e.0.under) u, (r.0, r.1))
 
 exit_turn : (n g : Plane) (xs : List Side) (l : Side) (p : Plane) (b : Spot) → EndsAt n g xs l → IsBelow g b →
     AllByRecursion (λ r. IsBelow r.plane b) xs → value_at n b ≡ pos 0 → value_at l.plane b ≡ pos 0 → pos 0 <ℤ b.w →
@@ -77,7 +67,7 @@ entry_under : (p : Plane) (y : Spot) (f k : Side) (xs : List Side) → Crossing 
     AllByRecursion (λ r. IsBelow r.plane y) xs
 entry_under p y f k xs c h u =
     each_both (λ r. IsBelow r.plane k.corner) (λ r. IsBelow r.plane f.corner) (λ r. IsBelow r.plane y) xs
-    (λ x a b. under_past c x.plane (below_at_most a.under) b) h u
+    (λ x a b. under_past c x.plane (negative_at_most a.under) b) h u
 
 -- the two joints at the new corners
 exit_joint : (n p : Plane) (y : Spot) (l : Side) (b : ℕ) → IsMeet n l.plane p y → pos 0 <ℤ orientation n l.plane p → IsCornerOf n l.plane (closing_side p y b)
@@ -111,7 +101,7 @@ module _ (n p : Plane) (f l d : Side) (ds : List Side) (y z : Spot) (b : ℕ) (p
       let j : IsCornerOf n l.plane d = past.2 in
       let t = exit_turn n f.plane ks l p d.corner own past.0 past.1 j.flat j.before j.weight pl pd in
       let root = ends_rooted n f.plane ks l own in
-      let k = crossing_is_meet n l.plane p l.corner d.corner y (not_zero t) root.flat j.flat root.after j.before
+      let k = crossing_is_meet n l.plane p l.corner d.corner y (positive_nonzero t) root.flat j.flat root.after j.before
       root.weight j.weight pl pd my.first my.second my.third my.weight in
       let u = exit_under n f.plane ks l p d.corner y own past.0 past.1 k in
       (u.0, u.1, t, k)
@@ -129,7 +119,7 @@ module _ (n p : Plane) (f l d : Side) (ds : List Side) (y z : Spot) (b : ℕ) (p
       let k = entry_crossing n p z f l root h.1.0 e.0 pf q.0.under mz in
       record {
         sound = chain_is_closed n (with_start f z) [] l (closing_side p y b) (h.1.0, tt, tt, tt) x.0 tt
-            (exit_joint n p y l b my x.2) (under_past k l.plane (at_most h.1.0.after) e.0, tt) (entry_joint n p z f mz t)
+            (exit_joint n p y l b my x.2) (under_past k l.plane (zero_at_most h.1.0.after) e.0, tt) (entry_joint n p z f mz t)
             q;
         exit = x.3;
         entry = k;
@@ -145,7 +135,7 @@ module _ (n p : Plane) (f l d : Side) (ds : List Side) (y z : Spot) (b : ℕ) (p
       record {
         sound = chain_is_closed n (with_start f z) (m ∷ ks) l (closing_side p y b)
             (chain-front n f.plane (m ∷ (ks ++ l ∷ [])) (d ∷ ds) h.1) x.0 x.1 (exit_joint n p y l b my x.2)
-            (under_past k m.plane (at_most h.1.0.after) back.0, entry_under p z f m (ks ++ l ∷ []) k ahead back.1)
+            (under_past k m.plane (zero_at_most h.1.0.after) back.0, entry_under p z f m (ks ++ l ∷ []) k ahead back.1)
             (entry_joint n p z f mz t) q;
         exit = x.3;
         entry = k;
@@ -168,18 +158,18 @@ module _ (n p : Plane) (f l : Side) (y z : Spot) (b : ℕ) (pf : pos 0 <ℤ valu
       let root = corner_of_is_rooted j in
       let here = ends_rooted n m.plane ks l own in
       let s = exit_turn n m.plane ks l p f.corner own past.0 past.1 j.flat j.before j.weight pl not_below in
-      let c = crossing_is_meet n l.plane p l.corner f.corner y (not_zero s) here.flat j.flat here.after j.before
+      let c = crossing_is_meet n l.plane p l.corner f.corner y (positive_nonzero s) here.flat j.flat here.after j.before
       here.weight j.weight pl not_below my.first my.second my.third my.weight in
       let u = exit_under n m.plane ks l p f.corner y own past.0 past.1 c in
-      let front : IsBelow f.plane y = under_first c f.plane pf (each-back (λ r. IsBelow f.plane r.corner) ks (l ∷ []) h.1.1).0 (at_most j.after) in
+      let front : IsBelow f.plane y = under_first c f.plane pf (each-back (λ r. IsBelow f.plane r.corner) ks (l ∷ []) h.1.1).0 (zero_at_most j.after) in
       let t = entry_turn n p f m root h.1.0 past.0 not_below q.0.under in
       let k = entry_crossing n p z f m root h.1.0 past.0 not_below q.0.under mz in
       let ahead = each-front (λ r. IsBelow r.plane m.corner) ks (l ∷ []) h.1.2 in
-      let last : IsBelow l.plane z = under_first k l.plane pf (each-back (λ r. IsBelow r.plane m.corner) ks (l ∷ []) h.1.2).0 (at_most j.before) in
+      let last : IsBelow l.plane z = under_first k l.plane pf (each-back (λ r. IsBelow r.plane m.corner) ks (l ∷ []) h.1.2).0 (zero_at_most j.before) in
       record {
         sound = chain_is_closed n (with_start f z) (m ∷ ks) l (closing_side p y b) h.1 front (u.0, u.1)
             (exit_joint n p y l b my s) (
-              under_past k m.plane (at_most h.1.0.after) past.0,
+              under_past k m.plane (zero_at_most h.1.0.after) past.0,
               each-push (λ r. IsBelow r.plane z) ks l (entry_under p z f m ks k ahead past.1) last,
             )
             (entry_joint n p z f mz t) q;

@@ -1,15 +1,13 @@
 -- Runs of corners on one side of a plane, and the corner where the plane's negative side is entered.
 use Rattle.std.proofs.Common.{◌≡◌, refl, sym, ap, subst, ◌∙◌, arith, ℕ, zero, suc, ◌<◌, ◌≤◌, ◌+◌, ◌-◌, Bool, true}
-use Rattle.std.proofs.Common.{false, not, List, [], ◌∷◌, ◌++◌, length, take, drop, ℤ, pos, negsuc, ◌≤ℤ◌, length-drop}
+use Rattle.std.proofs.Common.{false, not, List, [], ◌∷◌, ◌++◌, length, take, drop, length-drop}
 use Rattle.std.proofs.Common.{length-append}
 use lib.ListN.{get_or}
-use Rattle.std.proofs.lemmas.Int.{ints}
 use Rattle.std.proofs.lemmas.List.{drop_more, drop_all, take_all, take-append-drop, append_assoc, append-nil, length-take-le}
 use Rattle.std.specs.List.{AllByRecursion}
-use Rattle.ember_algebra.specs.Sign.{is_negative}
 use Rattle.ember_model.specs.declared.plane.Plane.{Plane}
 use Rattle.ember_model.specs.Planes.{value_at}
-use Rattle.ember_model.proofs.SignTests.{negative_out}
+use Rattle.ember_model.proofs.SignTests.{negative_out, negative_not_out}
 use Rattle.ember_point.specs.declared.meet_point.Meet.{Meet}
 use Rattle.ember_point.specs.Points.{spot_of}
 use Rattle.ember_poly.specs.Rings.{IsBelow, IsNotAbove, IsNotBelow}
@@ -23,14 +21,9 @@ use Rattle.ember_poly.proofs.Rotations.{each-join}
 pub under_out : (p : Plane) (m : Meet) → is_under p m ≡ true → IsBelow p (spot_of m)
 under_out p m e = record { under = negative_out (value_at p (spot_of m)) e }
 
-not_negative : (a : ℤ) → is_negative a ≡ false → pos 0 ≤ℤ a
-not_negative (pos zero) e = omega (arith, ints)
-not_negative (pos (suc n)) e = omega (arith, ints)
-not_negative (negsuc n) e = cc
-
 -- a corner that doesn't pass the test isn't below the plane
 pub least_out : (p : Plane) (m : Meet) → is_under p m ≡ false → IsNotBelow p (spot_of m)
-least_out p m e = record { at_least = not_negative (value_at p (spot_of m)) e }
+least_out p m e = record { at_least = negative_not_out (value_at p (spot_of m)) e }
 
 -- no Boolean is both true and false
 pub true_is_not_false : {X : Type 0} {b : Bool} → b ≡ true → b ≡ false → X

@@ -2,7 +2,7 @@
 use Rattle.std.proofs.Common.{◌≡◌, ◌≢◌, inl, refl, sym, ap, subst, ◌∙◌, ℕ, zero, suc, ◌≤◌, Bool, true, false, cond}
 use Rattle.std.proofs.Common.{◌&&◌, leb, None, Some, List, All, [], ◌∷◌, arith, ℤ, pos, ◌*ℤ◌, ◌<ℤ◌, unsigned_abs}
 use Rattle.std.proofs.lemmas.Int.{ints}
-use Rattle.std.proofs.lemmas.Bool.{leb-true}
+use Rattle.std.proofs.lemmas.Bool.{leb-true, and_parts}
 use Rattle.std.proofs.Math.Dec.{leb-zero}
 use Rattle.ember_algebra.specs.Vector.{Vector}
 use Rattle.ember_algebra.specs.Vector.{dot}
@@ -15,15 +15,17 @@ use Rattle.ember_model.specs.declared.point.Axis.TheVariants.{X, Y, Z}
 use Rattle.ember_model.specs.declared.plane.Plane.{Plane}
 use Rattle.ember_model.specs.declared.tri.Tri.{Tri}
 use Rattle.ember_model.specs.Planes.{along, unit, main_axis, support_of, edge_planes}
-use Rattle.ember_model.specs.Faces.{is_flat, face_of}
+use Rattle.ember_model.specs.Faces.{is_flat, face_of, is_inside}
 use Rattle.ember_model.specs.Owners.{spot_of_corner}
 use Rattle.ember_model.specs.Valid.{IsValidTri, IsValidPlane}
+use Rattle.ember_model.specs.declared.point.Spot.{Spot}
 use Rattle.ember_model.proofs.PlaneSizes.{support_sized, support_valid}
 use Rattle.ember_point.specs.declared.meet_point.Meet.{Meet}
 use Rattle.ember_point.specs.Points.{spot_of}
-use Rattle.ember_poly.specs.Rings.{Side, Represents}
+use Rattle.ember_poly.specs.Rings.{Side, Represents, IsInsideRing}
 use Rattle.ember_poly.specs.Sides.{sides_of, OldestFirst, EachHasSideOrNoEdge, IsRing}
 use Rattle.ember_poly.proofs.Triangle.{normal_of, side_along, triangle_stands}
+use Rattle.ember_poly.proofs.FaceTests.{inside_out}
 
 -- ---- the main axis
 not_all_zero : (p : Plane) → (is_zero p.a && (is_zero p.b && is_zero p.c)) ≡ false → p.a ≡ pos 0 → p.b ≡ pos 0 → p.c ≡ pos 0 → ⊥
@@ -35,18 +37,11 @@ not_all_zero p e ea eb ec = by (sym e ∙ ap (λ a. is_zero a && (is_zero p.b &&
 no_size : (a b : ℤ) → unsigned_abs b ≤ unsigned_abs a → a ≡ pos 0 → b ≡ pos 0
 no_size a b l e = omega (arith, l, e, ints)
 
-both_true : (a b : Bool) → (a && b) ≡ true → (a ≡ true) × (b ≡ true)
-both_true true b e = (refl, e)
-both_true false b e = absurd (by e)
-  where
-    by : false ≡ true → ⊥
-    by h = cc
-
 by_tests : (p : Plane) → (p.a ≡ pos 0 → p.b ≡ pos 0 → p.c ≡ pos 0 → ⊥) → (x y : Bool) →
     (leb (unsigned_abs p.b) (unsigned_abs p.a) && leb (unsigned_abs p.c) (unsigned_abs p.a)) ≡ x →
     leb (unsigned_abs p.c) (unsigned_abs p.b) ≡ y → along p (cond x X (cond y Y Z)) ≢ pos 0
 by_tests p n true y e f z =
-    let h = both_true (leb (unsigned_abs p.b) (unsigned_abs p.a)) (leb (unsigned_abs p.c) (unsigned_abs p.a)) e in
+    let h = and_parts (leb (unsigned_abs p.b) (unsigned_abs p.a)) (leb (unsigned_abs p.c) (unsigned_abs p.a)) e in
     n z (no_size p.a p.b (leb-true _ _ h.0) z) (no_size p.a p.c (leb-true _ _ h.1) z)
 by_tests p n false true e f z =
     let c : p.c ≡ pos 0 = no_size p.b p.c (leb-true _ _ f) z in
@@ -168,3 +163,9 @@ tri_face t n gs en eg = λ i. record { support = en i; edges = eg i }
 -- the support plane of a valid triangle is valid
 pub tri_support : {t : Tri} {n : Plane} → n ≡ support_of t → IsValidTri t → IsValidPlane n
 tri_support {t} {n} e v = subst (λ p. IsValidPlane p) (sym e) (support_valid (support_sized t v))
+
+-- a point inside the face is inside the ring
+pub inside_ring : (t : Tri) (v : Spot) → is_inside (face_of t) v ≡ true → IsInsideRing (support_of t) (tri_sides t) v
+unfolding face_of
+inside_ring t v e =
+    let k = inside_out (face_of t) v e in record { flat = k.flat; weight = k.weight; within = k.within }

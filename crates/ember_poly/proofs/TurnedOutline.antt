@@ -1,6 +1,6 @@
 -- The outline of a face seen from the other side.
-use Rattle.std.proofs.Common.{◌≡◌, inl, inr, refl, sym, ap, subst, ◌∙◌, arith, not, ◌&&◌, List, [], ◌∷◌, ◌++◌, zero}
-use Rattle.std.proofs.Common.{suc, ℤ, pos, negsuc, ◌*ℤ◌, neg_ℤ, ◌<ℤ◌, ◌≤ℤ◌}
+use Rattle.std.proofs.Common.{◌≡◌, inl, inr, refl, sym, ap, subst, ◌∙◌, arith, not, ◌&&◌, List, [], ◌∷◌, ◌++◌}
+use Rattle.std.proofs.Common.{ℤ, ◌*ℤ◌, neg_ℤ, ◌<ℤ◌, ◌≤ℤ◌}
 use Rattle.std.specs.List.{AllByRecursion, list_all}
 use Rattle.ember_algebra.specs.Sign.{is_zero, is_positive}
 use Rattle.ember_algebra.proofs.Laws.{linear}
@@ -14,19 +14,15 @@ use Rattle.ember_model.specs.Faces.{flipped_face}
 use Rattle.ember_model.specs.Edges.{is_on_edge, HasEdge, SameEdge, IsEarliest, position_along, IsBefore, IsNotAfter}
 use Rattle.ember_model.specs.Edges.{RingEdge, IsEdge, IsEdgeChain, HasEdgeOf, HaveDistinctEdges, IsOutline}
 use Rattle.ember_model.proofs.Tuples.{plane_tuple, spot_tuple, normalE}
+use Rattle.ember_model.proofs.SignTests.{is_zero-neg}
+use Rattle.ember_model.proofs.PlaneValues.{value-opposite}
 use Rattle.ember_poly.proofs.Chains.{each-push}
-use Rattle.ember_poly.proofs.InsideSigns.{opposite_plane}
 
 -- ---- the same points, the opposite way
-is_zero-neg : (a : ℤ) → is_zero (neg_ℤ a) ≡ is_zero a
-is_zero-neg (pos zero) = refl
-is_zero-neg (pos (suc n)) = refl
-is_zero-neg (negsuc n) = refl
-
 on_turned : (f : Face) (g : Plane) (v : Spot) → is_on_edge (flipped_face f) g v ≡ is_on_edge f g v
 on_turned f g v =
     ap (λ b. (is_positive v.w && (b && list_all (λ e. not (is_positive (value_at e v))) f.edges))
-    && is_zero (value_at g v)) (ap is_zero (opposite_plane f.support v) ∙ is_zero-neg (value_at f.support v))
+    && is_zero (value_at g v)) (ap is_zero (value-opposite f.support v) ∙ is_zero-neg (value_at f.support v))
 
 same_turned : (f : Face) (g h : Plane) → SameEdge f g h → SameEdge (flipped_face f) g h
 same_turned f g h e v = on_turned f g v ∙ e v ∙ sym (on_turned f h v)

@@ -14,6 +14,7 @@ use Rattle.ember_model.specs.declared.plane.Plane.{Plane}
 use Rattle.ember_model.specs.Planes.{value_at}
 use Rattle.ember_model.specs.Points.{offset_by}
 use Rattle.ember_model.specs.Faces.{size, between}
+use Rattle.ember_model.proofs.SignTests.{size_nonnegative}
 use Rattle.ember_law.proofs.Separation.{combination}
 use Rattle.ember_box.specs.declared.aabb.Interval.{Interval}
 use Rattle.ember_box.specs.Boxes.{Cell, low, high, right_half}
@@ -119,10 +120,6 @@ combined s k m x y v w a b f g =
     let e = solve 5 (λ l k m v w. l ⊗ (k ⊗ v ⊕ m ⊗ w) ≈ k ⊗ (l ⊗ v) ⊕ m ⊗ (l ⊗ w)) cancels s.high k m v w in
     record { from = omega (arith, linear, p, q, d); to = omega (arith, linear, r, t, e) }
 
--- a size is at least 0
-pub size_at_least : (z : ℤ) → pos 0 ≤ℤ size z
-size_at_least z = omega (arith, ints)
-
 -- a combination of two points of the closed box is a point of the box
 pub has_combination : (c : Cell) (k m : ℤ) (p q : Spot) → HasPoint c p → HasPoint c q → pos 0 ≤ℤ k → pos 0 ≤ℤ m →
     pos 0 <ℤ (combination k m p q).w → HasPoint c (combination k m p q)
@@ -139,4 +136,4 @@ has_combination c k m p q f g a b w =
 -- so is the point at which the segment from one to the other meets a plane
 pub has_between : (n : Plane) (c : Cell) (p q : Spot) → HasPoint c p → HasPoint c q → pos 0 <ℤ (between n p q).w → HasPoint c (between n p q)
 has_between n c p q f g w =
-    has_combination c (size (value_at n q)) (size (value_at n p)) p q f g (size_at_least (value_at n q)) (size_at_least (value_at n p)) w
+    has_combination c (size (value_at n q)) (size (value_at n p)) p q f g (size_nonnegative (value_at n q)) (size_nonnegative (value_at n p)) w

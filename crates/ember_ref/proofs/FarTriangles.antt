@@ -2,6 +2,7 @@
 use Rattle.std.proofs.Common.{◌≡◌, ◌⊎◌, inl, inr, refl, ap, ◌∙◌, arith, Bool, true, false, not, cond, ◌&&◌, List, [], ◌∷◌, All, map, filter, pos, ◌*ℤ◌}
 use Rattle.std.specs.List.{AllByRecursion}
 use Rattle.std.proofs.lemmas.List.Elements.{All-head, All-tail}
+use Rattle.std.proofs.lemmas.Bool.{and_parts}
 use Rattle.ember_algebra.specs.Sign.{sign, is_negative}
 use Rattle.ember_algebra.proofs.Laws.{linear}
 use Rattle.ember_model.specs.declared.point.Spot.{Spot}
@@ -14,7 +15,7 @@ use Rattle.ember_model.specs.Faces.{is_flat, face_of, is_inside, is_in_closed, b
 use Rattle.ember_model.specs.Clear.{AreClear}
 use Rattle.ember_model.specs.Meshes.{wind, faces_of, IsBalanced}
 use Rattle.ember_model.specs.ClearTest.{none_positive, all_negative}
-use Rattle.ember_model.proofs.SignTests.{clash, and_parts, positive_in, negative_out, not_positive_in}
+use Rattle.ember_model.proofs.SignTests.{clash, positive_in, negative_out, not_positive_in}
 use Rattle.ember_model.proofs.Hits.{inside_parts, closed_on, closed_parts}
 use Rattle.ember_law.specs.Counts.{leg_vector}
 use Rattle.ember_law.specs.Laws.{MissesFace}

@@ -6,6 +6,7 @@ use borrow.Author.Differences.{ints}
 use Rattle.ember_algebra.proofs.Laws.{linear}
 use Rattle.ember_algebra.proofs.Order.{mul_le, cancel_le}
 use Rattle.ember_algebra.proofs.Ring.{◌⊕◌, ◌⊖◌, ◌⊗◌, ◌≈◌, num, neg, solve, cancels}
+use Rattle.ember_algebra.proofs.Numbers.{int_le_in}
 use Rattle.ember_model.specs.declared.plane.Plane.{Plane}
 use Rattle.ember_model.specs.declared.point.Corner.{Corner}
 use Rattle.ember_model.specs.declared.point.Spot.{Spot}
@@ -21,7 +22,6 @@ use Rattle.ember_box.specs.declared.aabb.Interval.{Interval}
 use Rattle.ember_box.specs.Boxes.{Cell, entry_along, low, high}
 use Rattle.ember_box.specs.Near.{spans_meet, is_near}
 use Rattle.ember_box.specs.Aabbs.{aabb_of_cell, least_end, greatest_end, least_value, greatest_value, crosses}
-use Rattle.ember_box.proofs.Orders.{le_in}
 use Rattle.ember_box.proofs.Crossing.{crosses_is}
 
 -- the coordinate of a point, times its weight
@@ -82,7 +82,7 @@ unfolding crosses
 crosses_there p c v h z =
     let b = aabb_of_cell c in
     and_from (int_le (least_value p b) p.d) (int_le p.d (greatest_value p b))
-    (le_in (least_value p b) p.d (cancel_le h.weight
+    (int_le_in (least_value p b) p.d (cancel_le h.weight
     (omega (
       arith,
       linear,
@@ -94,7 +94,7 @@ crosses_there p c v h z =
           (p.a *ℤ least_end p.a b.x) (p.b *ℤ least_end p.b b.y) (p.c *ℤ least_end p.c b.z),
       solve 2 (λ w d. w ⊗ d ≈ d ⊗ w) cancels v.w p.d,
     ))))
-    (le_in p.d (greatest_value p b) (cancel_le h.weight
+    (int_le_in p.d (greatest_value p b) (cancel_le h.weight
     (omega (
       arith,
       linear,
@@ -156,17 +156,17 @@ some_below : (a b c h : ℤ) → (h <ℤ a → h <ℤ b → h <ℤ c → ⊥) �
 some_below a b c h f =
     by_lt_z h a
     (λ la. by_lt_z h b
-    (λ lb. by_lt_z h c (λ lc. absurd (f la lb lc)) (λ l. third (int_le a h) (int_le b h) (int_le c h) (le_in c h l)))
-    (λ l. second (int_le a h) (int_le b h) (int_le c h) (le_in b h l)))
-    (λ l. first (int_le a h) (int_le b h) (int_le c h) (le_in a h l))
+    (λ lb. by_lt_z h c (λ lc. absurd (f la lb lc)) (λ l. third (int_le a h) (int_le b h) (int_le c h) (int_le_in c h l)))
+    (λ l. second (int_le a h) (int_le b h) (int_le c h) (int_le_in b h l)))
+    (λ l. first (int_le a h) (int_le b h) (int_le c h) (int_le_in a h l))
 
 some_above : (a b c h : ℤ) → (a <ℤ h → b <ℤ h → c <ℤ h → ⊥) → int_le h a || (int_le h b || int_le h c) ≡ true
 some_above a b c h f =
     by_lt_z a h
     (λ la. by_lt_z b h
-    (λ lb. by_lt_z c h (λ lc. absurd (f la lb lc)) (λ l. third (int_le h a) (int_le h b) (int_le h c) (le_in h c l)))
-    (λ l. second (int_le h a) (int_le h b) (int_le h c) (le_in h b l)))
-    (λ l. first (int_le h a) (int_le h b) (int_le h c) (le_in h a l))
+    (λ lb. by_lt_z c h (λ lc. absurd (f la lb lc)) (λ l. third (int_le h a) (int_le h b) (int_le h c) (int_le_in h c l)))
+    (λ l. second (int_le h a) (int_le h b) (int_le h c) (int_le_in h b l)))
+    (λ l. first (int_le h a) (int_le h b) (int_le h c) (int_le_in h a l))
 
 meets_along : (c : Cell) (k : Axis) (t : Tri) (v : Spot) → is_flat t ≡ false → pos 0 <ℤ v.w →
     (low c k *ℤ v.w) ≤ℤ coordinate k v → coordinate k v ≤ℤ (high c k *ℤ v.w) → is_in_closed (face_of t) v ≡ true →

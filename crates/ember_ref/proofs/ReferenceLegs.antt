@@ -9,6 +9,7 @@ use Rattle.ember_algebra.specs.Sign.{sgn, number, times, is_neg}
 use Rattle.ember_algebra.proofs.Laws.{linear}
 use Rattle.ember_algebra.proofs.Order.{pos_mul}
 use Rattle.ember_algebra.proofs.Signs.{sgn-mul}
+use Rattle.ember_algebra.proofs.Booleans.{cond_and_nested}
 use Rattle.ember_model.specs.declared.point.Axis.{Axis}
 use Rattle.ember_model.specs.declared.point.Axis.TheVariants.{X, Y, Z}
 use Rattle.ember_model.specs.declared.plane.Plane.{Plane}
@@ -59,12 +60,6 @@ pub halves_differ : (c : Cell) (k : Axis) → DifferAlong k (reference (right_ha
 halves_differ c k = differ_along (pos (2 ^ 27)) k (pos (2 ^ pred (c.log k))) c.lo
 
 -- ---- the crossing
-exchanged : (m b : Bool) (v : ℤ) → cond (m && b) v (pos 0) ≡ cond b (cond m v (pos 0)) (pos 0)
-exchanged true true v = refl
-exchanged true false v = refl
-exchanged false true v = refl
-exchanged false false v = refl
-
 -- where n is the support plane, s and e its signs at the ends, and v what they tell
 pub leg_told : (k : Axis) (p q : List ℤ) (t : Tri) (n : Plane) (s e : Sign) (v : ℤ) →
     DifferAlong k (reference_at_list p) (reference_at_list q) → n ≡ support_of t →
@@ -80,7 +75,7 @@ leg_told k p q t n s e v d en es ee ev =
     let m = ap is_neg (sgn-mul x y) in let f = sign-number y in
     let told = ev ∙ (λ i. cond (is_neg (times (sx i) (sy i))) (number (sy i)) (pos 0)) in
     leg_is k (reference_at_list p) (reference_at_list q) t (weight_of p) (weight_of q) d
-    ∙ (λ i. cond (m i && b) (f i) (pos 0)) ∙ exchanged (is_neg (times (sgn x) (sgn y))) b (number (sgn y))
+    ∙ (λ i. cond (m i && b) (f i) (pos 0)) ∙ cond_and_nested (is_neg (times (sgn x) (sgn y))) b (number (sgn y))
     ∙ ap (λ (v : ℤ). cond b v (pos 0)) (sym told)
 
 -- 0 is what a condition gives if both its branches are 0

@@ -18,12 +18,14 @@ use Rattle.ember_box.specs.Near.{spot_of_vector}
 use Rattle.ember_box.specs.Reference.{reference_at}
 use Rattle.ember_ref.specs.References.{or_sign, HasNoNormal}
 
-or_sign_assoc : (s t r : Sign) → or_sign (or_sign s t) r ≡ or_sign s (or_sign t r)
+-- the sign of three numbers, from either side
+pub or_sign_assoc : (s t r : Sign) → or_sign (or_sign s t) r ≡ or_sign s (or_sign t r)
 or_sign_assoc Neg t r = refl
 or_sign_assoc Zero t r = refl
 or_sign_assoc Pos t r = refl
 
-next_sign : {m : ℕ} (n : ℕ) (v a : ℤ) → Small m a → m < n → sgn (v *ℤ pos n +ℤ a) ≡ or_sign (sgn v) (sgn a)
+-- the sign of a number with a small one behind it
+pub next_sign : {m : ℕ} (n : ℕ) (v a : ℤ) → Small m a → m < n → sgn (v *ℤ pos n +ℤ a) ≡ or_sign (sgn v) (sgn a)
 next_sign n v a s l =
     by_sign v
     (λ p. sgn_pos (large_pos s l p) ∙ sym (ap (λ (s : Sign). or_sign s (sgn a)) (sgn_pos p)))
@@ -52,7 +54,8 @@ pub sign_at_reference : {m : ℕ} (p : Plane) (v : Vector) → m < 2 ^ 27 → Sm
 sign_at_reference p v l a b c = sign_near (2 ^ 27) p v l a b c
 
 -- ---- it is zero only if the normal is
-both_zero : (s t : Sign) → or_sign s t ≡ Zero → (s ≡ Zero) × (t ≡ Zero)
+-- if no sign is found, both are Zero
+pub both_zero : (s t : Sign) → or_sign s t ≡ Zero → (s ≡ Zero) × (t ≡ Zero)
 both_zero Neg t e = absurd (clash e)
   where
     clash : Neg ≡ Zero → ⊥

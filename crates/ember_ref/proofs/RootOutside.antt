@@ -15,14 +15,13 @@ use Rattle.ember_model.specs.Planes.{value_at, along}
 use Rattle.ember_model.specs.Faces.{size, is_flat, face_of, is_inside, hit, crossing}
 use Rattle.ember_model.specs.Valid.{IsValidTri}
 use Rattle.ember_model.specs.Meshes.{meshes, IsScene}
-use Rattle.ember_model.proofs.SignTests.{zero_times}
+use Rattle.ember_model.proofs.SignTests.{zero_times, size_nonnegative}
 use Rattle.ember_model.proofs.Hits.{inside_parts}
 use Rattle.ember_law.proofs.FlatTriangles.{flat_case, flat_out, flat_crossing}
 use Rattle.ember_law.proofs.Tallies.{tally_zero}
 use Rattle.ember_box.specs.Boxes.{root}
 use Rattle.ember_box.specs.Reference.{reference, vector_at}
 use Rattle.ember_ref.proofs.NearPoints.{past_corners}
-use Rattle.ember_ref.proofs.BoxPoints.{size_at_least}
 use Rattle.ember_ref.proofs.FarTriangles.{inside_closed}
 
 -- y lies below -2047 times the weight, so k * y does
@@ -34,7 +33,8 @@ below_all k y w a l h p =
     (λ z. let e = zero_times k w z in omega (arith, linear, e, p))
     (λ q. omega (arith, linear))
 
-at_least : (z : ℤ) → Small 2047 z → neg_ℤ (pos 2047) ≤ℤ (pos 1 *ℤ z)
+-- a small number is not below the root
+pub at_least : (z : ℤ) → Small 2047 z → neg_ℤ (pos 2047) ≤ℤ (pos 1 *ℤ z)
 at_least (pos n) s = omega (arith, ints)
 at_least (negsuc n) s = omega (arith, ints, s.small)
 
@@ -58,7 +58,7 @@ crossing_below t p v l = by (flat_case t)
         let k = size (along (face_of t).support X) in let x = hit (face_of t).support X p in
         let h = past_corners Y (pos 1) (neg_ℤ (pos 2047)) t x nf (at_least t.a.y v.a.y) (at_least t.b.y v.b.y)
         (at_least t.c.y v.c.y) (inside_closed (face_of t) x e) in
-        absurd (below_all k p.y p.w (size_at_least (along (face_of t).support X)) l h (inside_parts (face_of t) x e).0)
+        absurd (below_all k p.y p.w (size_nonnegative (along (face_of t).support X)) l h (inside_parts (face_of t) x e).0)
     outside nf false e = e
 
     by : (is_flat t ≡ true) ⊎ (is_flat t ≡ false) → crossing (face_of t) X p ≡ pos 0

@@ -1,7 +1,7 @@
 -- Face files by their faces, and the last line.
 use Rattle.std.proofs.Common.{◌≡◌, refl, sym, ap, subst, ◌∙◌, arith, ℕ, ◌^◌, ◌<◌, ◌≤◌, List, [], ◌∷◌, ◌++◌, length, map, flat_map, append_assoc, All, ⊎_elim}
 use Rattle.std.proofs.lemmas.Bool.{cases_order}
-use Rattle.std.proofs.lemmas.List.Elements.{All-cons, All-nil}
+use Rattle.std.proofs.lemmas.List.Elements.{All-cons, All-nil, recursion_from_All}
 use Rattle.std.specs.List.{AllByRecursion}
 use Rattle.std.proofs.lemmas.List.{map-append, length-map}
 use Rattle.std.proofs.lemmas.List.Concat.{flat_map-cons}
@@ -13,7 +13,7 @@ use Rattle.ember_model.specs.FaceFiles.{face_lines, header, ending, WrittenFace,
 use Rattle.ember_reread.specs.Lines.{IsFaceLines, face_in, HasFace, HasFaces, IsBody}
 use Rattle.ember_reread.proofs.Chains.{chain_ahead, chain_same_end}
 use Rattle.ember_reread.proofs.NumberTexts.{head_injective, tail_injective}
-use Rattle.ember_reread.proofs.FaceTexts.{face_begins, face_shorter, face_end, all_of, each_of, planes_valid}
+use Rattle.ember_reread.proofs.FaceTexts.{face_begins, face_shorter, face_end, all_of, planes_valid}
 
 abbrev lines_in : WrittenFace → List ℕ
 lines_in w = face_lines w.support w.edges
@@ -110,7 +110,7 @@ no_file {bytes} {s} e f fs h =
         faces = h.written;
         lines =
             subst (λ a. Chain IsFaceLines h.written a (ending (length fs))) (sym rest)
-            (faces_chain h.written (ending (length fs)) (each_of IsWrittenFace h.written h.well_formed));
+            (faces_chain h.written (ending (length fs)) (recursion_from_All IsWrittenFace h.written h.well_formed));
         are = h.faces;
       };
     })
@@ -125,7 +125,7 @@ body_fits e h =
     omega (arith, ap (λ (l : List ℕ). length l) e, count_of h.faces, faces_fit h.faces.lines)
 
 valid_in : (w : WrittenFace) → IsWrittenFace w → IsValidFace (face_in w)
-valid_in w h = record { support = h.support; edges = planes_valid w.edges (each_of IsWrittenEdge w.edges h.edges) }
+valid_in w h = record { support = h.support; edges = planes_valid w.edges (recursion_from_All IsWrittenEdge w.edges h.edges) }
 
 -- faces as a face file has them are valid
 pub faces_valid : (ws : List WrittenFace) → AllByRecursion IsWrittenFace ws → All IsValidFace (map face_in ws)
@@ -141,4 +141,4 @@ body_valid h =
 -- and so are those of a file
 pub file_valid : {fs : List Face} {bytes : List ℕ} → IsFaceFile bytes fs → All IsValidFace fs
 file_valid h =
-    subst (λ l. All IsValidFace l) (sym h.faces) (faces_valid h.written (each_of IsWrittenFace h.written h.well_formed))
+    subst (λ l. All IsValidFace l) (sym h.faces) (faces_valid h.written (recursion_from_All IsWrittenFace h.written h.well_formed))

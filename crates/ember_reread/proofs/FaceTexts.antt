@@ -1,10 +1,10 @@
 -- The lines of faces, line by line.
-use Rattle.std.proofs.Common.{◌≡◌, refl, sym, ap, subst, ◌∙◌, arith, ℕ, suc, ◌+◌, ◌^◌, ◌<◌, ◌≤◌, List, [], ◌∷◌, ◌++◌}
+use Rattle.std.proofs.Common.{◌≡◌, refl, sym, ap, subst, ◌∙◌, arith, ℕ, ◌+◌, ◌^◌, ◌<◌, ◌≤◌, List, [], ◌∷◌, ◌++◌}
 use Rattle.std.proofs.Common.{length, length-append, map, flat_map, append_assoc, All}
 use Rattle.std.specs.List.{AllByRecursion}
 use Rattle.std.proofs.lemmas.List.{map-append}
 use Rattle.std.proofs.lemmas.List.Concat.{flat_map-cons}
-use Rattle.std.proofs.lemmas.List.Elements.{All-cons, All-nil}
+use Rattle.std.proofs.lemmas.List.Elements.{All-cons, All-nil, recursion_from_All}
 use Rattle.ember_algebra.specs.Relations.{Chain, done, step}
 use Rattle.ember_algebra.proofs.Relations.{chain_push}
 use Rattle.ember_model.specs.declared.plane.Plane.{Plane}
@@ -20,11 +20,6 @@ use Rattle.ember_reread.proofs.LineTexts.{same_edge, same_support, support_begin
 pub all_of : {X : Type 0} (P : X → Type 0) (xs : List X) → AllByRecursion P xs → All P xs
 all_of P [] h = All-nil P
 all_of P (x ∷ xs) h = All-cons P x xs h.0 (all_of P xs h.1)
-
--- `All` and `AllByRecursion` say the same of a list
-pub each_of : {X : Type 0} (P : X → Type 0) (xs : List X) → All P xs → AllByRecursion P xs
-each_of P [] h = tt
-each_of P (x ∷ xs) h = (h 0 x (omega arith), each_of P xs (λ k d l. h (suc k) d (omega (arith, l))))
 
 -- ---- edges
 -- no bytes are read for no edges
@@ -103,7 +98,7 @@ module _ {w : WrittenFace} {bytes rest : List ℕ} (h : IsFaceLines w bytes rest
 
   face_edges : HasEdges (length w.edges) (map (λ (e : RingEdge). e.plane) w.edges) behind_support rest
   face_edges =
-      record { edges = w.edges; lines = edges_chain w.edges rest (each_of IsWrittenEdge w.edges h.written.edges); many = refl; planes = refl }
+      record { edges = w.edges; lines = edges_chain w.edges rest (recursion_from_All IsWrittenEdge w.edges h.written.edges); many = refl; planes = refl }
 
   face_fits : length w.edges ≤ length bytes
   face_fits =

@@ -4,7 +4,7 @@ use Rattle.std.proofs.Common.{false, ◌&&◌, cond, eqb, leb, List, [], ◌∷�
 use Rattle.std.specs.List.{list_all}
 use Rattle.std.specs.Char.{is_ascii_digit}
 use Rattle.std.specs.Fmt.{digits, digits_onto, digit_glyph}
-use Rattle.std.proofs.lemmas.Bool.{le-leb, leb-true}
+use Rattle.std.proofs.lemmas.Bool.{le-leb, leb-true, and_parts}
 use Rattle.ember_reread.specs.Numbers.{digits_of, behind_digits, IsEnd, IsSize, IsSizeAt, IsNumberAt}
 use Rattle.ember_reread.proofs.Digits.{decimal_injective_wide}
 
@@ -16,10 +16,6 @@ head_injective e = cc
 pub tail_injective : {X : Type 0} {x y : X} {xs ys : List X} → x ∷ xs ≡ y ∷ ys → xs ≡ ys
 tail_injective e = cc
 
-both : (a b : Bool) → a && b ≡ true → (a ≡ true) × (b ≡ true)
-both true b e = (refl, e)
-both false b e = absurd (cc)
-
 abbrev AreDigits : List ℕ → Type 0
 AreDigits ds = list_all is_ascii_digit ds ≡ true
 
@@ -30,10 +26,6 @@ no_digit b h = by (leb 48 b) refl
     by : (t : Bool) → leb 48 b ≡ t → t && leb b 57 ≡ false
     by true e = absurd (omega (arith, leb-true 48 b e))
     by false e = refl
-
-digit_kept : (b : ℕ) (xs : List ℕ) (t : Bool) → t ≡ true → cond t (b ∷ xs) [] ≡ b ∷ xs
-digit_kept b xs true e = refl
-digit_kept b xs false e = absurd (cc)
 
 digit_passed : (xs ys : List ℕ) (t : Bool) → t ≡ true → cond t xs ys ≡ xs
 digit_passed xs ys true e = refl
@@ -49,7 +41,7 @@ front [] (b ∷ bs) p e =
     let t = no_digit b e in
     (none_passed (b ∷ digits_of bs) [] (is_ascii_digit b) t, none_passed (behind_digits bs) (b ∷ bs) (is_ascii_digit b) t)
 front (d ∷ ds) r p e =
-    let q = both (is_ascii_digit d) (list_all is_ascii_digit ds) p in
+    let q = and_parts (is_ascii_digit d) (list_all is_ascii_digit ds) p in
     let f = front ds r q.1 e in (
       digit_passed (d ∷ digits_of (ds ++ r)) [] (is_ascii_digit d) q.0 ∙ ap (λ l. d ∷ l) f.0,
       digit_passed (behind_digits (ds ++ r)) (d ∷ (ds ++ r)) (is_ascii_digit d) q.0 ∙ f.1,
@@ -126,7 +118,7 @@ no_minus n bs rest e = by (decimal n) (decimal_digits n) (decimal_begins n) e
     by : (ds : List ℕ) → AreDigits ds → 0 < length ds → 45 ∷ bs ≡ ds ++ rest → ⊥
     by [] d l e = omega arith
     by (c ∷ cs) d l e =
-        let q = both (leb 48 c) (leb c 57) (both (is_ascii_digit c) (list_all is_ascii_digit cs) d).0 in
+        let q = and_parts (leb 48 c) (leb c 57) (and_parts (is_ascii_digit c) (list_all is_ascii_digit cs) d).0 in
         omega (arith, leb-true 48 c q.0, head_injective e)
 
 -- ---- sizes at the front

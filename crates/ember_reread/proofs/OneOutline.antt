@@ -3,7 +3,7 @@ use Rattle.std.proofs.Common.{◌≡◌, ⊎_elim, refl, sym, ap, subst, ◌∙�
 use Rattle.std.proofs.Common.{[], ◌∷◌, ◌++◌, length, All, None, Some, zero, suc, slice_get, pos, ◌+ℤ◌, ◌-ℤ◌, ◌*ℤ◌}
 use Rattle.std.proofs.Common.{neg_ℤ, ◌<ℤ◌, ◌≤ℤ◌}
 use Rattle.std.specs.List.{AllByRecursion}
-use Rattle.std.proofs.lemmas.Bool.{ltb-true, ltb-false}
+use Rattle.std.proofs.lemmas.Bool.{ltb-true, ltb-false, and_parts}
 use Rattle.std.proofs.lemmas.List.Elements.{All-head, All-tail}
 use Rattle.ember_algebra.specs.Vector.{Vector}
 use Rattle.ember_algebra.specs.Vector.{dot, cross}
@@ -13,6 +13,7 @@ use Rattle.ember_algebra.proofs.Laws.{linear}
 use Rattle.ember_algebra.proofs.Order.{by_sign, pos_mul, mul_le, zero_product, square_nonneg}
 use Rattle.ember_algebra.proofs.Ring.{◌⊕◌, ◌⊖◌, ◌⊗◌, ◌≈◌, num, neg, solve, cancels}
 use Rattle.ember_algebra.proofs.Vectors.{vector, identity, dotE, crossE}
+use Rattle.ember_algebra.proofs.Booleans.{same_test}
 use Rattle.ember_model.specs.declared.plane.Plane.{Plane}
 use Rattle.ember_model.specs.declared.point.Spot.{Spot}
 use Rattle.ember_model.specs.declared.face.Face.{Face}
@@ -20,7 +21,7 @@ use Rattle.ember_model.specs.Planes.{value_at}
 use Rattle.ember_model.specs.Faces.{is_in_closed}
 use Rattle.ember_model.specs.Edges.{SamePoint, is_on_edge, HasEdge, SameEdge, IsEarliest, normal, RingEdge, IsEdge, IsEdgeChain, HaveDistinctEdges, IsOutline}
 use Rattle.ember_model.specs.FaceFiles.{IsLowest, face_lines, header, ending, IsFaceText, IsFileText}
-use Rattle.ember_model.proofs.SignTests.{and_parts, zero_out, zero_scaled, zero_times, not_positive_out}
+use Rattle.ember_model.proofs.SignTests.{zero_out, zero_scaled, zero_times, not_positive_out}
 use Rattle.ember_model.specs.ClearTest.{none_positive}
 use Rattle.ember_model.proofs.Hits.{closed_parts}
 use Rattle.ember_reread.proofs.Lowest.{same_lowest}
@@ -177,17 +178,12 @@ module _ (f : Face) (g : Plane) (s a : Spot) (e : IsEdge f (side g s) a) where
         (zero_product {a = s.w} {b = value_at k v} (omega (arith, linear, u, c, c0))) in
         let p = (and_parts (is_in_closed f v) (is_zero (value_at g v)) i).0 in let y = ap is_zero x in λ i. p i && y i
 
-both_ways : (s t : Bool) → (s ≡ true → t ≡ true) → (t ≡ true → s ≡ true) → s ≡ t
-both_ways true t f g = sym (f refl)
-both_ways false true f g = g refl
-both_ways false false f g = refl
-
 -- two edges that start at one corner are one edge
 one_edge : (f : Face) (g k : Plane) (s a b : Spot) → IsEdge f (side g s) a → IsEdge f (side k s) b → SameEdge f g k
 one_edge f g k s a b e d v =
     let x = not_outwards f g s a e k b d in let y = not_outwards f k s b d g a e in let t = turned_about (normal f.support) (normal g) (normal k) in
     let z : dot (normal k) (cross (normal f.support) (normal g)) ≡ pos 0 = omega (arith, linear, x, y, t) in
-    both_ways (is_on_edge f g v) (is_on_edge f k v) (zero_too f g s a e k b d z v) (zero_too f k s b d g a e (omega (arith, linear, z, t)) v)
+    same_test (is_on_edge f g v) (is_on_edge f k v) (zero_too f g s a e k b d z v) (zero_too f k s b d g a e (omega (arith, linear, z, t)) v)
 
 -- ---- the earliest plane is one
 earliest_one : (P Q : Plane → Type 0) (gs : List Plane) (g h : Plane) → ((x : Plane) → P x → Q x) →

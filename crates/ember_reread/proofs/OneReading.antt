@@ -1,5 +1,6 @@
 -- A face file is that of one list of written faces, with their start corners.
 use Rattle.std.proofs.Common.{◌≡◌, refl, sym, subst, ◌∙◌, arith, ℕ, List, ◌∷◌, length}
+use Rattle.std.proofs.lemmas.List.Elements.{recursion_from_All}
 use Rattle.ember_algebra.specs.Relations.{Chain, done, step}
 use Rattle.ember_model.specs.declared.face.Face.{Face}
 use Rattle.ember_model.specs.Edges.{RingEdge}
@@ -7,7 +8,7 @@ use Rattle.ember_model.specs.FaceFiles.{ending, WrittenFace, IsWrittenFace, IsWr
 use Rattle.ember_reread.specs.Lines.{IsEdgeLine, IsFaceLines}
 use Rattle.ember_reread.proofs.NumberTexts.{head_injective, tail_injective}
 use Rattle.ember_reread.proofs.LineTexts.{NoEdge, same_edge, edge_begins, support_line_once}
-use Rattle.ember_reread.proofs.FaceTexts.{edges_chain, face_support, face_begins, each_of}
+use Rattle.ember_reread.proofs.FaceTexts.{edges_chain, face_support, face_begins}
 use Rattle.ember_reread.proofs.BodyTexts.{faces_chain, no_face_at_end}
 
 -- ---- edges
@@ -42,8 +43,8 @@ no_edge_behind l (step h k) = no_edge_at_face h
 same_face : {w v : WrittenFace} {bytes r s : List ℕ} → NoEdge r → NoEdge s → IsFaceLines w bytes r → IsFaceLines v bytes s → (w ≡ v) × (r ≡ s)
 same_face {w} {v} {bytes} {r} {s} nr ns h k =
     let p = support_line_once (face_support h) (face_support k) in
-    let e = edges_chain w.edges r (each_of IsWrittenEdge w.edges h.written.edges) in
-    let d = edges_chain v.edges s (each_of IsWrittenEdge v.edges k.written.edges) in
+    let e = edges_chain w.edges r (recursion_from_All IsWrittenEdge w.edges h.written.edges) in
+    let d = edges_chain v.edges s (recursion_from_All IsWrittenEdge v.edges k.written.edges) in
     let t = same_edges nr ns (subst (λ z. Chain IsEdgeLine w.edges z r) p.1 e) d in
     (λ i. record { support = p.0 i; edges = t.0 i }, t.1)
 
@@ -62,5 +63,5 @@ face_file_is_read_once bytes fs gs h k =
     (tail_injective (tail_injective (tail_injective (tail_injective (tail_injective (sym h.is ∙ k.is)))))))) in
     same_faces (ending_is_last (length h.written)) (ending_is_last (length k.written))
     (subst (λ z. Chain IsFaceLines h.written z (ending (length h.written))) e
-    (faces_chain h.written (ending (length h.written)) (each_of IsWrittenFace h.written h.well_formed)))
-    (faces_chain k.written (ending (length k.written)) (each_of IsWrittenFace k.written k.well_formed))
+    (faces_chain h.written (ending (length h.written)) (recursion_from_All IsWrittenFace h.written h.well_formed)))
+    (faces_chain k.written (ending (length k.written)) (recursion_from_All IsWrittenFace k.written k.well_formed))

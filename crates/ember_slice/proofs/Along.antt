@@ -1,16 +1,18 @@
 -- How the values of a plane change along the line of another one at a level.
 use Rattle.std.proofs.Common.{◌≡◌, ◌≢◌, sym, ap, ◌∙◌, arith, ℤ, pos, negsuc, ◌+ℤ◌, ◌-ℤ◌, ◌*ℤ◌, neg_ℤ, ◌<ℤ◌, true, ◌&&◌, [], ◌∷◌}
 use Rattle.std.proofs.lemmas.Int.{ints}
+use Rattle.std.proofs.lemmas.Bool.{and_parts}
 use Rattle.ember_algebra.specs.Sign.{sgn, is_zero, is_positive}
 use Rattle.ember_algebra.proofs.Laws.{linear, from_one, from_two}
 use Rattle.ember_algebra.proofs.Ring.{Expr, num, neg, ◌⊕◌, ◌⊖◌, ◌⊗◌, ◌≈◌, solve, cancels}
 use Rattle.ember_algebra.proofs.Vectors.{scalar, tuple, identity, TupleE, detE}
 use Rattle.ember_algebra.proofs.Order.{by_sign, pos_mul, square_nonneg, square_pos, cancel_eq}
+use Rattle.ember_algebra.proofs.Numbers.{twice_positive}
 use Rattle.ember_model.specs.declared.plane.Plane.{Plane}
 use Rattle.ember_model.specs.declared.point.Spot.{Spot}
 use Rattle.ember_model.specs.Planes.{value_at}
 use Rattle.ember_model.proofs.Tuples.{plane_tuple, spot_tuple, normalE}
-use Rattle.ember_model.proofs.SignTests.{sgn_scaled, positive_in, positive_out, zero_out, and_parts}
+use Rattle.ember_model.proofs.SignTests.{sgn_scaled, positive_in, positive_out, zero_out, zero_in}
 use Rattle.ember_point.specs.Points.{weight}
 use Rattle.ember_slice.specs.Lines.{level, IsFlat, is_on_line, along_line, ahead}
 use Rattle.ember_slice.specs.Intervals.{Enters, Leaves}
@@ -27,9 +29,6 @@ on_line_out n at v e =
     let p = and_parts (is_positive v.w) (is_zero (value_at n v) && is_zero (value_at (level at) v)) e in
     let q = and_parts (is_zero (value_at n v)) (is_zero (value_at (level at) v)) p.1 in
     record { weight = positive_out v.w p.0; support = zero_out (value_at n v) q.0; level = zero_out (value_at (level at) v) q.1 }
-
-zero_in : {a : ℤ} → a ≡ pos 0 → is_zero a ≡ true
-zero_in e = ap is_zero e
 
 -- the test answers true of a point on the line
 pub on_line_in : (n : Plane) (at : ℤ) (v : Spot) → OnLine n at v → is_on_line n at v ≡ true
@@ -115,9 +114,6 @@ pub ahead_turned : (n : Plane) (u v : Spot) → ahead n v u ≡ neg_ℤ (ahead n
 ahead_turned n u v =
     solve 4 (λ a b c d. a ⊗ b ⊖ c ⊗ d ≈ neg (c ⊗ d ⊖ a ⊗ b)) cancels u.w (along_line n v) v.w (along_line n u)
 
-positive_twice : {a : ℤ} → pos 0 <ℤ a → pos 0 <ℤ (pos 2 *ℤ a)
-positive_twice h = omega (arith, linear, h)
-
 same_products : (k w x y z s a : ℤ) → k ≢ pos 0 → k *ℤ (w *ℤ x -ℤ y *ℤ z) ≡ (pos 2 *ℤ s) *ℤ a → s ≡ pos 0 → w *ℤ x ≡ y *ℤ z
 same_products k w x y z s a h e f =
     cancel_eq {c = k} h (from_two (pos 1) (pos 2 *ℤ a) e f
@@ -126,7 +122,7 @@ same_products k w x y z s a h e f =
 
 module _ (n : Plane) (at : ℤ) (p : Plane) (m : Spot) (t : IsFlat n → ⊥) (hm : OnLine n at m) where
   twice_square : pos 0 <ℤ (pos 2 *ℤ square n)
-  twice_square = positive_twice (square_above n t)
+  twice_square = twice_positive (square_above n t)
 
   -- along a line that a plane is parallel to, the plane has one sign
   pub parallel_sign : slope n p ≡ pos 0 → (v : Spot) → OnLine n at v → sgn (value_at p v) ≡ sgn (value_at p m)
@@ -150,7 +146,7 @@ module _ (n : Plane) (at : ℤ) (p : Plane) (m : Spot) (t : IsFlat n → ⊥) (h
     leaves_at h =
         record {
           on = on_line_in n at m hm;
-          signs = λ v f. sym (scaled_value v) ∙ ap sgn (grows v (on_line_out n at v f)) ∙ sgn_scaled (ahead n v m) (positive_twice h);
+          signs = λ v f. sym (scaled_value v) ∙ ap sgn (grows v (on_line_out n at v f)) ∙ sgn_scaled (ahead n v m) (twice_positive h);
         }
 
     pub enters_at : slope n p <ℤ pos 0 → Enters n at p m

@@ -2,6 +2,7 @@
 use Rattle.std.proofs.Common.{◌≡◌, inl, inr, refl, sym, ap, ◌∙◌, arith, ℤ, pos, ◌+ℤ◌, ◌-ℤ◌, ◌*ℤ◌, neg_ℤ, ◌<ℤ◌, ◌≤ℤ◌}
 use Rattle.std.proofs.Common.{Bool, true, false, ◌&&◌, Option, Some, None, Ok}
 use Rattle.std.specs.Prelude.{MatchOption}
+use Rattle.std.proofs.lemmas.Bool.{and_parts}
 use Rattle.ember_algebra.specs.Sign.{sgn, flip, is_neg, is_negative, is_zero, is_positive}
 use Rattle.ember_algebra.proofs.Signs.{sgn-neg}
 use Rattle.ember_algebra.proofs.Laws.{linear, from_one, from_two, from_three}
@@ -12,7 +13,7 @@ use Rattle.ember_model.specs.declared.point.Spot.{Spot}
 use Rattle.ember_model.specs.declared.face.Face.{Face}
 use Rattle.ember_model.specs.Planes.{value_at}
 use Rattle.ember_model.specs.Edges.{SamePoint}
-use Rattle.ember_model.proofs.SignTests.{and_parts, sgn_scaled, negative_in}
+use Rattle.ember_model.proofs.SignTests.{sgn_scaled, negative_in}
 use Rattle.ember_point.specs.Points.{spot_of}
 use Rattle.ember_slice.specs.declared.ends.Segment.{Segment}
 use Rattle.ember_slice.specs.declared.interval.End.{End}

@@ -5,17 +5,18 @@ use Rattle.std.proofs.Common.{drop_of_length-le, Option, Some, None}
 use Rattle.std.specs.Prelude.{MatchOption}
 use Rattle.ember_algebra.specs.Sign.{is_neg, is_pos, is_negative, is_positive}
 use Rattle.ember_algebra.proofs.Laws.{linear}
+use Rattle.ember_algebra.proofs.Booleans.{and_swapped, and_with_true, and_implied}
 use Rattle.ember_model.specs.declared.plane.Plane.{Plane}
 use Rattle.ember_model.specs.declared.point.Spot.{Spot}
 use Rattle.ember_model.specs.Planes.{value_at}
-use Rattle.ember_model.proofs.SignTests.{negative_in, negative_out, positive_out, not_positive_out}
+use Rattle.ember_model.proofs.SignTests.{negative_in, negative_out, positive_out, not_positive_out, and_true}
 use Rattle.ember_point.specs.Points.{spot_of}
 use Rattle.ember_slice.specs.declared.interval.End.{End}
 use Rattle.ember_slice.specs.declared.interval.LineInterval.{LineInterval}
 use Rattle.ember_slice.specs.Lines.{is_on_line, ahead, is_before}
 use Rattle.ember_slice.specs.Intervals.{AllOf, Enters, Leaves, AreEnds, IsNarrowed, IsInterval, is_after, is_until, is_in_interval, is_behind}
 use Rattle.ember_slice.proofs.Along.{on_line_out, ahead_turned}
-use Rattle.ember_slice.proofs.Orders.{not_after_then, then_not_after, absorbs_first, absorbs_second}
+use Rattle.ember_slice.proofs.Orders.{not_after_then, then_not_after, absorbs_first}
 
 -- ---- tests
 join_first : (a b l : Bool) → b ≡ a && b → b && l ≡ (a && l) && b
@@ -39,12 +40,6 @@ join_last false a b e = refl
 keep_last : (f a b : Bool) → a ≡ a && b → f && a ≡ (f && a) && b
 keep_last true a b e = e
 keep_last false a b e = refl
-
-only_first : (b l : Bool) → b && l ≡ l && b
-only_first true true = refl
-only_first true false = refl
-only_first false true = refl
-only_first false false = refl
 
 only_last : (f b : Bool) → f && b ≡ (f && true) && b
 only_last true b = refl
@@ -82,7 +77,7 @@ module _ (n : Plane) (at : ℤ) (new : End) (h : Enters n at new.plane (spot_of 
   narrowed_after None last chosen q ends =
       subst (λ d. IsNarrowed n at new.plane (record { first = None; last = last }) (record { first = Some d; last = last })) (sym q) (record {
         ends = record { first = h; last = ends.last };
-        left = λ v on. only_first (is_before n (spot_of new.point) v) (is_until n last v) ∙ ap (λ b. is_until n last v && b) (sym (behind_after v on));
+        left = λ v on. and_swapped (is_before n (spot_of new.point) v) (is_until n last v) ∙ ap (λ b. is_until n last v && b) (sym (behind_after v on));
       })
   narrowed_after (Some e) last chosen q ends = by (is_positive (value_at new.plane (spot_of e.point))) refl q
     where
@@ -99,7 +94,7 @@ module _ (n : Plane) (at : ℤ) (new : End) (h : Enters n at new.plane (spot_of 
           subst (λ d. IsNarrowed n at new.plane (record { first = Some e; last = last }) (record { first = Some d; last = last })) (sym p) (record {
             ends = record { first = ends.first; last = ends.last };
             left = λ v on. let b = is_before n (spot_of new.point) v in let a = is_before n (spot_of e.point) v in
-                keep_first a b (is_until n last v) (absorbs_second a b (later_old e ends.first v on t))
+                keep_first a b (is_until n last v) (and_implied a b (later_old e ends.first v on t))
                 ∙ ap (λ c. (a && is_until n last v) && c) (sym (behind_after v on));
           })
 
@@ -154,19 +149,15 @@ module _ (n : Plane) (at : ℤ) (new : End) (h : Leaves n at new.plane (spot_of 
           subst (λ d. IsNarrowed n at new.plane (record { first = first; last = Some e }) (record { first = first; last = Some d })) (sym p) (record {
             ends = record { first = ends.first; last = ends.last };
             left = λ v on. let b = is_before n v (spot_of new.point) in let a = is_before n v (spot_of e.point) in
-                keep_last (is_after n first v) a b (absorbs_second a b (sooner_old e ends.last v on t))
+                keep_last (is_after n first v) a b (and_implied a b (sooner_old e ends.last v on t))
                 ∙ ap (λ c. (is_after n first v && a) && c) (sym (behind_until v on));
           })
 
 -- ---- all of the line
-all_true : (b c : Bool) → c ≡ true → b ≡ b && c
-all_true true c e = sym e
-all_true false c e = refl
-
 -- a plane that leaves all of the line changes nothing
 pub narrowed_nowhere : (n : Plane) (at : ℤ) (p : Plane) (s : LineInterval) → AreEnds n at s → AllOf n at p true → IsNarrowed n at p s s
 narrowed_nowhere n at p s ends h =
-    record { ends = ends; left = λ v on. all_true (is_in_interval n s v) (is_negative (value_at p v)) (h v on) }
+    record { ends = ends; left = λ v on. and_with_true (is_in_interval n s v) (is_negative (value_at p v)) (h v on) }
 
 -- ---- plane after plane
 -- what the planes leave is what those from a place on leave of the span
@@ -209,11 +200,7 @@ next_plane {n} {at} {s} ps i l h =
 pub last_plane : {n : Plane} {at : ℤ} {s : LineInterval} (ps : List Plane) (i : ℕ) → length ps ≤ i → LeftOf n at ps (drop i ps) s → LeftOf n at ps [] s
 last_plane {n} {at} {s} ps i l h = subst (λ qs. LeftOf n at ps qs s) (drop_of_length-le ps l) h
 
-always : (b : Bool) → b && true ≡ b
-always true = refl
-always false = refl
-
 -- what is left when no plane is left is the interval
 pub span_left : {n : Plane} {at : ℤ} {ps : List Plane} {s : LineInterval} → LeftOf n at ps [] s → IsInterval n at ps s
 span_left {n} {at} {ps} {s} h =
-    record { ends = h.ends; holds = λ v on. h.left v on ∙ always (is_in_interval n s v) }
+    record { ends = h.ends; holds = λ v on. h.left v on ∙ and_true (is_in_interval n s v) }

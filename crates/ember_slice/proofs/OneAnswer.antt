@@ -1,6 +1,7 @@
 -- A face gives one answer at a level, and faces have one text.
 use Rattle.std.proofs.Common.{◌≡◌, ⊎_elim, refl, sym, ap, subst, ◌∙◌, arith, ℕ, ℤ, pos, negsuc, ◌+ℤ◌, ◌-ℤ◌, ◌*ℤ◌, neg_ℤ}
 use Rattle.std.proofs.Common.{◌<ℤ◌, ◌≤ℤ◌, true, ◌&&◌, List, [], ◌∷◌, ◌++◌, length, flat_map, codes}
+use Rattle.std.proofs.lemmas.Bool.{and_parts}
 use Rattle.ember_algebra.proofs.Laws.{linear, from_one, from_two}
 use Rattle.ember_algebra.proofs.Ring.{num, neg, ◌⊕◌, ◌⊖◌, ◌⊗◌, ◌≈◌, solve, cancels}
 use Rattle.ember_algebra.proofs.Order.{by_sign, cancel_eq}
@@ -12,7 +13,7 @@ use Rattle.ember_model.specs.Planes.{value_at}
 use Rattle.ember_model.specs.Points.{plus_s}
 use Rattle.ember_model.specs.Edges.{SamePoint}
 use Rattle.ember_model.specs.FaceFiles.{line_of, ending}
-use Rattle.ember_model.proofs.SignTests.{negative_in, negative_out, and_parts, clash}
+use Rattle.ember_model.proofs.SignTests.{negative_in, negative_out, clash}
 use Rattle.ember_reread.proofs.Lowest.{same_lowest}
 use Rattle.ember_slice.specs.Lines.{level, IsFlat, ahead, is_before}
 use Rattle.ember_slice.specs.Segments.{is_cut, IsSegment, GivesNone, Directed, GivesSegments, segment_line, IsSliceText}

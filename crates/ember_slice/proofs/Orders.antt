@@ -53,11 +53,6 @@ implied false false f = refl
 pub absorbs_first : (a b : Bool) → (b ≡ true → a ≡ true) → b ≡ a && b
 absorbs_first a b f = sym (implied a b f)
 
--- `a && b` is a if a implies b
-pub absorbs_second : (a b : Bool) → (a ≡ true → b ≡ true) → a ≡ a && b
-absorbs_second true b f = sym (f refl)
-absorbs_second false b f = refl
-
 -- ---- two points
 -- of two points not both are before the other
 pub not_both : (n : Plane) (u v : Spot) → is_before n u v ≡ true → is_before n v u ≡ true → ⊥

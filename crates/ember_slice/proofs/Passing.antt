@@ -1,17 +1,16 @@
 -- A ray at the level crosses a face as often as it crosses the face's segment.
 use Rattle.std.proofs.Common.{◌≡◌, ◌≢◌, ◌⊎◌, ⊎_elim, inl, inr, refl, sym, ap, ◌∙◌, arith, ℤ, pos, negsuc, ◌+ℤ◌, ◌-ℤ◌}
 use Rattle.std.proofs.Common.{◌*ℤ◌, neg_ℤ, ◌<ℤ◌, ◌≤ℤ◌, Bool, true, false, cond, ◌&&◌, List, [], ◌∷◌}
-use Rattle.ember_algebra.specs.Sign.{sign, sgn, flip, is_neg, is_pos, is_negative, is_positive}
-use Rattle.ember_algebra.specs.declared.Sign.{Sign}
-use Rattle.ember_algebra.specs.declared.Sign.TheVariants.{Neg, Zero, Pos}
+use Rattle.ember_algebra.specs.Sign.{sign, sgn, is_neg, is_pos, is_negative, is_positive}
 use Rattle.ember_algebra.specs.Sums.{total}
 use Rattle.ember_algebra.specs.Relations.{Each, none, more}
 use Rattle.ember_algebra.proofs.Laws.{linear, from_one}
 use Rattle.ember_algebra.proofs.Ring.{num, neg, ◌⊕◌, ◌⊖◌, ◌⊗◌, ◌≈◌, solve, cancels}
 use Rattle.ember_algebra.proofs.Vectors.{scalar, tuple, identity}
 use Rattle.ember_algebra.proofs.Order.{by_sign, sign_pos, sign_neg, cancel_eq}
-use Rattle.ember_algebra.proofs.Signs.{sgn-neg}
+use Rattle.ember_algebra.proofs.Signs.{is_neg-flip, is_pos-flip}
 use Rattle.ember_algebra.proofs.Sums.{total-append}
+use Rattle.ember_algebra.proofs.Numbers.{neg_positive, twice_positive}
 use Rattle.ember_model.specs.declared.plane.Plane.{Plane}
 use Rattle.ember_model.specs.declared.point.Spot.{Spot}
 use Rattle.ember_model.specs.declared.point.Axis.{Axis}
@@ -22,6 +21,7 @@ use Rattle.ember_model.specs.Faces.{size, hit, crossing}
 use Rattle.ember_model.specs.Meshes.{wind}
 use Rattle.ember_model.proofs.Tuples.{plane_tuple, spot_tuple}
 use Rattle.ember_model.proofs.SignTests.{sgn_scaled, negative_out, positive_out, clash, size_positive, positive_nonzero, negative_nonzero}
+use Rattle.ember_model.proofs.SignTests.{is_negative-neg, is_positive-neg}
 use Rattle.ember_model.proofs.PlaneValues.{hit_flat}
 use Rattle.ember_model.proofs.Hits.{value_ray, ray_weight, crossing_off, crossing_across}
 use Rattle.ember_slice.specs.Lines.{level, IsFlat, along_line, ahead, is_before}
@@ -85,28 +85,6 @@ module _ (n : Plane) (at : ℤ) (u v : Spot) (hu : OnLine n at u) (hv : OnLine n
       finish a b c h = omega (arith, linear, h)
 
 -- ---- signs
-turned_sign : (s : Sign) → is_pos (flip s) ≡ is_neg s
-turned_sign Neg = refl
-turned_sign Zero = refl
-turned_sign Pos = refl
-
-turned_back : (s : Sign) → is_neg (flip s) ≡ is_pos s
-turned_back Neg = refl
-turned_back Zero = refl
-turned_back Pos = refl
-
-positive_turned : (a : ℤ) → is_positive (neg_ℤ a) ≡ is_negative a
-positive_turned a = ap is_pos (sgn-neg a) ∙ turned_sign (sgn a)
-
-negative_turned : (a : ℤ) → is_negative (neg_ℤ a) ≡ is_positive a
-negative_turned a = ap is_neg (sgn-neg a) ∙ turned_back (sgn a)
-
-twice : {a : ℤ} → pos 0 <ℤ a → pos 0 <ℤ (pos 2 *ℤ a)
-twice h = omega (arith, linear, h)
-
-turned_above : {a : ℤ} → a <ℤ pos 0 → pos 0 <ℤ neg_ℤ a
-turned_above h = omega (arith, linear, h)
-
 -- k * x = m * y, if k and m are positive
 same_sign : (k m x y : ℤ) → pos 0 <ℤ k → pos 0 <ℤ m → k *ℤ x ≡ m *ℤ y → sgn x ≡ sgn y
 same_sign k m x y p q e = sym (sgn_scaled x p) ∙ ap sgn e ∙ sgn_scaled y q
@@ -145,18 +123,18 @@ both_false false b f = refl
 module _ (n : Plane) (at : ℤ) (c : Spot → ℤ) (k : ℤ) (t : IsFlat n → ⊥) (grows : (u v : Spot) → OnLine n at u →
     OnLine n at v → (pos 2 *ℤ k) *ℤ ahead n u v ≡ (pos 2 *ℤ square n) *ℤ gap c u v) where
   twice_square : pos 0 <ℤ (pos 2 *ℤ square n)
-  twice_square = twice (square_above n t)
+  twice_square = twice_positive (square_above n t)
 
   gap_turned : (u v : Spot) → gap c v u ≡ neg_ℤ (gap c u v)
   gap_turned u v = solve 4 (λ a b x y. a ⊗ y ⊖ b ⊗ x ≈ neg (b ⊗ x ⊖ a ⊗ y)) cancels u.w v.w (c u) (c v)
 
   up : pos 0 <ℤ k → (u v : Spot) → OnLine n at u → OnLine n at v → is_before n u v ≡ is_lower c u v
   up h u v hu hv =
-      ap is_neg (same_sign (pos 2 *ℤ k) (pos 2 *ℤ square n) (ahead n u v) (gap c u v) (twice h) twice_square (grows u v hu hv))
+      ap is_neg (same_sign (pos 2 *ℤ k) (pos 2 *ℤ square n) (ahead n u v) (gap c u v) (twice_positive h) twice_square (grows u v hu hv))
 
   down : k <ℤ pos 0 → (u v : Spot) → OnLine n at u → OnLine n at v → is_before n u v ≡ is_lower c v u
   down h u v hu hv =
-      ap is_neg (same_sign (neg_ℤ (pos 2 *ℤ k)) (pos 2 *ℤ square n) (ahead n u v) (gap c v u) (turned_above (below h))
+      ap is_neg (same_sign (neg_ℤ (pos 2 *ℤ k)) (pos 2 *ℤ square n) (ahead n u v) (gap c v u) (neg_positive (below h))
       twice_square (turned_product (pos 2 *ℤ k) (ahead n u v) (pos 2 *ℤ square n) (gap c u v) (grows u v hu hv)
       ∙ ap (λ a. (pos 2 *ℤ square n) *ℤ a) (sym (gap_turned u v))))
     where
@@ -182,7 +160,7 @@ module _ (n : Plane) (at : ℤ) (c : Spot → ℤ) (k : ℤ) (t : IsFlat n → �
     turn_sign : sgn (orientation u v p) ≡ sgn (neg_ℤ (value_at n p))
     turn_sign =
         same_sign (pos 2 *ℤ square n) (neg_ℤ (pos 2 *ℤ ahead n u v)) (orientation u v p) (neg_ℤ (value_at n p))
-        twice_square (turned_above (below before)) (turns n at u v hu hv p hp ∙ moved (value_at n p) (ahead n u v))
+        twice_square (neg_positive (below before)) (turns n at u v hu hv p hp ∙ moved (value_at n p) (ahead n u v))
       where
         below : {a : ℤ} → a <ℤ pos 0 → (pos 2 *ℤ a) <ℤ pos 0
         below h = omega (arith, linear, h)
@@ -191,10 +169,10 @@ module _ (n : Plane) (at : ℤ) (c : Spot → ℤ) (k : ℤ) (t : IsFlat n → �
         moved = solve 2 (λ s a. (num (pos 2) ⊗ s) ⊗ a ≈ neg (num (pos 2) ⊗ a) ⊗ neg s) cancels
 
     turn_left : is_positive (orientation u v p) ≡ is_negative (value_at n p)
-    turn_left = ap is_pos turn_sign ∙ positive_turned (value_at n p)
+    turn_left = ap is_pos turn_sign ∙ is_positive-neg (value_at n p)
 
     turn_right : is_negative (orientation u v p) ≡ is_positive (value_at n p)
-    turn_right = ap is_neg turn_sign ∙ negative_turned (value_at n p)
+    turn_right = ap is_neg turn_sign ∙ is_negative-neg (value_at n p)
 
 -- ---- where the ray meets the face's plane
 hit_on_line : (n : Plane) (at : ℤ) (a : Axis) (p : Spot) → along n a ≢ pos 0 → along (level at) a ≡ pos 0 →
@@ -338,14 +316,14 @@ module _ (a : Axis) (c : Spot → ℤ) (p : Spot) (across : IsAcross a c p) (f :
             commuted = solve 2 (λ x y. x ⊗ y ≈ y ⊗ x) cancels
 
         facing_down : k <ℤ pos 0 → is_negative (s_p *ℤ k) ≡ is_positive s_p
-        facing_down l = ap is_negative (commuted s_p k) ∙ ap is_neg (sgn_scaled (neg_ℤ s_p) (turned_above l)) ∙ negative_turned s_p
+        facing_down l = ap is_negative (commuted s_p k) ∙ ap is_neg (sgn_scaled (neg_ℤ s_p) (neg_positive l)) ∙ is_negative-neg s_p
           where
             commuted : (x y : ℤ) → x *ℤ y ≡ neg_ℤ y *ℤ neg_ℤ x
             commuted = solve 2 (λ x y. x ⊗ y ≈ neg y ⊗ neg x) cancels
 
         level_gap : k ≡ pos 0 → gap c u v ≡ pos 0
         level_gap e =
-            cancel_eq {c = pos 2 *ℤ square n} (λ z. omega (arith, linear, z, twice (square_above n steep)))
+            cancel_eq {c = pos 2 *ℤ square n} (λ z. omega (arith, linear, z, twice_positive (square_above n steep)))
             (sym (across.grows n at u v hu hv) ∙ ap (λ z. (pos 2 *ℤ z) *ℤ ahead n u v) e
             ∙ zeros (ahead n u v) (pos 2 *ℤ square n))
           where

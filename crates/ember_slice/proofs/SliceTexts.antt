@@ -7,6 +7,7 @@ use Rattle.std.proofs.lemmas.List.{take_more}
 use Rattle.std.proofs.lemmas.Option.{slice_get-get_or}
 use Rattle.std.proofs.lemmas.List.Concat.{flat_map-cons}
 use Rattle.std.proofs.lemmas.Grind.{flat_map-append}
+use Rattle.std.proofs.lemmas.Bool.{and_parts}
 use Rattle.ember_algebra.specs.Relations.{Each, none, more}
 use Rattle.ember_algebra.proofs.Relations.{each_push}
 use Rattle.ember_algebra.proofs.Laws.{linear}
@@ -15,7 +16,7 @@ use Rattle.ember_model.specs.declared.plane.Plane.{Plane}
 use Rattle.ember_model.specs.declared.point.Spot.{Spot}
 use Rattle.ember_model.specs.declared.face.Face.{Face}
 use Rattle.ember_model.specs.FaceFiles.{line_of, ending}
-use Rattle.ember_model.proofs.SignTests.{and_parts, clash}
+use Rattle.ember_model.proofs.SignTests.{clash}
 use Rattle.ember_point.specs.Points.{spot_of}
 use Rattle.ember_slice.specs.declared.ends.Segment.{Segment}
 use Rattle.ember_slice.specs.Lines.{IsFlat, is_on_line, is_before}

@@ -1,8 +1,7 @@
 -- What is known of the expression in the box of a job is its truth directly beside the box too.
-use Rattle.std.proofs.Common.{◌≡◌, ℕ, ◌-◌, ◌≤◌, ◌==◌, Bool, true, false, cond, nat_eq, List, [], ◌∷◌, Some, ℤ, pos, ◌*ℤ◌, ◌<ℤ◌, refl, sym, ◌∙◌, subst, arith}
+use Rattle.std.proofs.Common.{◌≡◌, ℕ, ◌≤◌, ◌==◌, Bool, true, false, cond, nat_eq, List, [], ◌∷◌, Some, ℤ, pos, ◌*ℤ◌, ◌<ℤ◌, refl, sym, ◌∙◌, subst, arith}
 use Rattle.std.specs.List.{AllByRecursion}
 use Rattle.std.proofs.lemmas.Bool.{or_parts, eq-eqb, eqb-true}
-use Rattle.std.proofs.lemmas.List.FromFn.{get_or-map-range_with_len}
 use borrow.Author.Differences.{ints}
 use Rattle.ember_algebra.specs.Large.{Eventually}
 use Rattle.ember_algebra.proofs.Laws.{linear}
@@ -16,10 +15,11 @@ use Rattle.ember_model.specs.Planes.{along}
 use Rattle.ember_model.specs.Points.{scaled, moved}
 use Rattle.ember_model.specs.Faces.{is_flat, face_of}
 use Rattle.ember_model.specs.Clear.{IsClear, AreClear}
-use Rattle.ember_model.specs.Meshes.{wind, faces_of, of_mesh, meshes, vector, IsScene}
+use Rattle.ember_model.specs.Meshes.{faces_of, of_mesh, vector, IsScene}
 use Rattle.ember_model.proofs.SignTests.{clash}
-use Rattle.ember_expr.specs.Formula.{Formula, IsFit, IsMeshNumber}
-use Rattle.ember_expr.specs.Truth.{count_of, truth}
+use Rattle.ember_model.proofs.Hits.{moved_weight}
+use Rattle.ember_expr.specs.Formula.{Formula, IsFit}
+use Rattle.ember_expr.specs.Truth.{truth}
 use Rattle.ember_known.specs.Laws.{AgreeOutside}
 use Rattle.ember_known.proofs.Decided.{decided_tells}
 use Rattle.ember_law.specs.Laws.{MissesFace}
@@ -33,19 +33,13 @@ use Rattle.ember_ref.proofs.NearPoints.{HasPoint}
 use Rattle.ember_ref.proofs.BoxPoints.{has_reference}
 use Rattle.ember_ref.proofs.ClearReferences.{clear_references}
 use Rattle.ember_ref.proofs.FarTriangles.{misses_far}
-use Rattle.ember_trace.proofs.PathVertices.{moved_weight}
 use Rattle.ember_trace.proofs.OneSides.{value_beside, held_misses}
 use Rattle.ember_leaf.specs.Scenes.{HasOneValue}
 use Rattle.ember_job.specs.declared.job.Job.{Job}
 use Rattle.ember_visit.specs.Jobs.{near_of, IsJob}
 use Rattle.ember_visit.specs.Values.{has_mesh, box_value}
 use Rattle.ember_visit.proofs.IndexLists.{near_listed}
-
--- the count of a mesh is its winding number
-count_is : (a : Axis) (ts : List Tri) (p : Spot) (m : ℕ) → IsMeshNumber 64 m → count_of (vector a ts p) m ≡ wind a (faces_of (of_mesh m ts)) p
-unfolding meshes
-count_is a ts p m h =
-    get_or-map-range_with_len (λ m. wind a (faces_of (of_mesh m ts)) p) 1 64 (m - 1) m (pos 0) (omega (arith, h.first, h.last)) (omega (arith, h.first))
+use Rattle.ember_visit.proofs.KnownInBox.{count_is}
 
 -- the segment from p to q misses the triangles that aren't near a box
 abbrev MissesFar : Job → Spot → Spot → Tri → Type 0

@@ -2,7 +2,7 @@
 use Rattle.std.proofs.Common.{◌≡◌, ℕ, ◌+◌, ◌<◌, ◌≤◌, refl, sym, ap, subst, ◌∙◌, arith, List, [], ◌∷◌, ◌++◌, length, map, take, drop, reverse, get_or, All}
 use Rattle.std.specs.List.{AllByRecursion}
 use Rattle.std.proofs.lemmas.List.{length-map, map-append, reverse-append, take_more}
-use Rattle.std.proofs.lemmas.List.Elements.{All-from_recursion, AllZip-push}
+use Rattle.std.proofs.lemmas.List.Elements.{All-from_recursion, AllZip-push, recursion_from_All}
 use Rattle.ember_leaf.specs.declared.kept.Kept.{Kept}
 use Rattle.ember_model.specs.declared.plane.Plane.{Plane}
 use Rattle.ember_model.specs.declared.point.Spot.{Spot}
@@ -24,7 +24,6 @@ use Rattle.ember_text.specs.Documents.{written_face}
 use Rattle.ember_text.specs.Texts.{turned}
 use Rattle.ember_text.proofs.LowestCorners.{lowest_terms}
 use Rattle.ember_text.proofs.TurnedEdges.{length-turned, outline_of_turned}
-use Rattle.ember_text.proofs.Written.{each_of}
 
 abbrev planes_of : List RingEdge → List Plane
 planes_of es = map (λ (e : RingEdge). e.plane) es
@@ -105,7 +104,7 @@ module _ (f : Face) (n : Plane) (es : List Plane) (ms : List Meet) (support : n 
     (outline : IsOutline f (ring_edges es ms)) (paired : length ms ≡ length es) (three : 3 ≤ length es)
     (valid : All IsValidPlane es) where
   found : HasWrittenEdges es ms
-  found = written_edges es ms paired (each_of IsValidPlane es valid)
+  found = written_edges es ms paired (recursion_from_All IsValidPlane es valid)
 
   found_outline : IsOutline f found.edges
   found_outline = outline_moved f (ring_edges es ms) found.edges found.moved outline

@@ -1,11 +1,11 @@
 -- Each valid point has lowest terms.
-use Rattle.std.proofs.Common.{◌≡◌, ℕ, zero, suc, ◌%◌, ◌<◌, ◌≤◌, ℤ, pos, ◌*ℤ◌, ◌<ℤ◌, unsigned_abs, int_div, refl, arith}
-use Rattle.std.specs.Int.{IsGcd, ◌∣◌}
-use Rattle.std.proofs.lemmas.Nat.Gcd.{IsGcd-from_zero, IsGcd-from_mod}
+use Rattle.std.proofs.Common.{◌≡◌, ℕ, ◌<◌, ℤ, pos, ◌*ℤ◌, ◌<ℤ◌, unsigned_abs, int_div, refl, arith}
+use Rattle.std.specs.Int.{◌∣◌}
 use mir.Syntax.{w128}
 use mir.Val.{to_z, of_z}
 use Rattle.ember_algebra.specs.Size.{Small}
 use Rattle.ember_algebra.proofs.Size.{small_within}
+use Rattle.ember_algebra.proofs.Divisors.{HasGcd, gcd_within}
 use Rattle.ember_model.specs.declared.point.Spot.{Spot}
 use Rattle.ember_model.specs.Valid.{IsValidMeet}
 use Rattle.ember_model.specs.FaceFiles.{IsWrittenCorner}
@@ -14,17 +14,6 @@ use Rattle.ember_point.proofs.Quotients.{IsQuotient, stored-quotient, quotient_v
 use Rattle.ember_poly.proofs.MovedOutline.{SameWithWeights}
 
 -- ---- the greatest common divisor
-record HasGcd (a b : ℕ) : Type 0 where
-  divisor : ℕ
-  is : IsGcd a b divisor
-
-gcd_within : (n a b : ℕ) → b ≤ n → HasGcd a b
-gcd_within zero a b l = record { divisor = a; is = IsGcd-from_zero a b (omega arith) }
-gcd_within (suc n) a zero l = record { divisor = a; is = IsGcd-from_zero a zero refl }
-gcd_within (suc n) a (suc b) l =
-    let rest = gcd_within n (suc b) (a % suc b) (omega arith) in
-    record { divisor = rest.divisor; is = IsGcd-from_mod a (suc b) rest.divisor rest.is }
-
 gcd_of : (a b : ℕ) → HasGcd a b
 gcd_of a b = gcd_within b a b (omega arith)
 

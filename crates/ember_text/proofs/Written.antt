@@ -1,8 +1,8 @@
 -- The lines that are written are the text of the face, as it is or with the opposite front.
-use Rattle.std.proofs.Common.{◌≡◌, refl, sym, ap, subst, ◌∙◌, ℕ, suc, ◌≤◌, arith, List, [], ◌∷◌, ◌++◌, append_assoc, length, flat_map, All}
+use Rattle.std.proofs.Common.{◌≡◌, refl, sym, ap, subst, ◌∙◌, ℕ, suc, ◌≤◌, arith, List, [], ◌∷◌, ◌++◌, append_assoc, length, flat_map}
 use Rattle.std.specs.List.{AllByRecursion}
 use Rattle.std.proofs.lemmas.List.Concat.{flat_map-cons}
-use Rattle.std.proofs.lemmas.List.Elements.{All-from_recursion, recursion_from_All}
+use Rattle.std.proofs.lemmas.List.Elements.{All-from_recursion}
 use Rattle.ember_algebra.specs.Relations.{Each, none, more}
 use Rattle.ember_leaf.specs.Written.{HasGrown}
 use Rattle.ember_model.specs.declared.plane.Plane.{Plane}
@@ -16,10 +16,6 @@ use Rattle.ember_poly.proofs.Chains.{each_map}
 use Rattle.ember_poly.proofs.MovedOutline.{HaveSameStarts, outline_moved}
 use Rattle.ember_text.specs.Texts.{IsEdgeText, IsTextInRange, Writes, turned}
 use Rattle.ember_text.proofs.TurnedEdges.{length-turned, outline_of_turned}
-
--- two ways to say that all members have a property
-pub each_of : {X : Type 0} (P : X → Type 0) (xs : List X) → All P xs → AllByRecursion P xs
-each_of P xs h = recursion_from_All P xs h
 
 -- the texts of edges are lines of the same edges with corners in lowest terms
 record HasLines (rs : List RingEdge) (texts : List ℕ) : Type 0 where

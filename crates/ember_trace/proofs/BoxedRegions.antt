@@ -2,7 +2,7 @@
 use Rattle.std.proofs.Common.{◌≡◌, refl, subst, arith, ℕ, zero, suc, Bool, true, false, not, ◌&&◌, List, [], ◌∷◌, map, None, Some, slice_get, pos, ◌<ℤ◌}
 use Rattle.ember_algebra.specs.Relations.{Each, Chain, none, more, done, step, Every}
 use Rattle.ember_algebra.specs.Sign.{is_positive}
-use Rattle.ember_algebra.proofs.Relations.{every_append}
+use Rattle.ember_algebra.proofs.Relations.{every_append, every_map}
 use Rattle.ember_algebra.proofs.Laws.{linear}
 use Rattle.ember_algebra.proofs.Order.{by_sign}
 use Rattle.ember_model.specs.declared.plane.Plane.{Plane}
@@ -59,10 +59,6 @@ at_wall w Q f fs h (cut c) = (
 at_wall w Q f fs h (outside a) = tt
 at_wall w Q f fs h (in_high b o) = tt
 at_wall w Q f fs h (stays c a o) = (record { holds = λ v i. (h.holds v i, not_past f w.plane c a v i) }, tt)
-
-every_map : {X : Type 0} (P Q : X → Type 0) → ((x : X) → P x → Q x) → (xs : List X) → Every P xs → Every Q xs
-every_map P Q f [] h = tt
-every_map P Q f (x ∷ xs) h = (f x h.0, every_map P Q f xs h.1)
 
 abbrev PastNone : List Wall → Spot → Type 0
 PastNone ws v = none_positive (map (λ w. w.plane) ws) v ≡ true

@@ -2,6 +2,7 @@
 use Rattle.std.proofs.Common.{◌≡◌, ◌≢◌, ⊎_elim, refl, sym, ap, ◌∙◌, arith, ℕ, zero, suc, Bool, true, false, not, ◌&&◌}
 use Rattle.std.proofs.Common.{List, [], ◌∷◌, length, None, Some, slice_get, subst, ℤ, pos, ◌+ℤ◌, ◌-ℤ◌, ◌*ℤ◌, neg_ℤ}
 use Rattle.std.proofs.Common.{◌<ℤ◌, ◌≤ℤ◌}
+use Rattle.std.proofs.lemmas.Bool.{and_parts}
 use Rattle.ember_algebra.specs.Vector.{cross}
 use Rattle.ember_algebra.specs.Sign.{is_zero, is_positive}
 use Rattle.ember_algebra.proofs.Laws.{linear}
@@ -19,7 +20,7 @@ use Rattle.ember_model.specs.Planes.{value_at, along, main_axis}
 use Rattle.ember_model.specs.Faces.{is_in_closed, is_inside}
 use Rattle.ember_model.specs.ClearTest.{none_positive, all_negative}
 use Rattle.ember_model.specs.Edges.{normal, position_along, RingEdge, IsEdge, IsBefore, IsEdgeChain, HasEdgeOf, IsOutline, SameEdge, SamePoint, is_on_edge}
-use Rattle.ember_model.proofs.SignTests.{and_parts, zero_out, zero_scaled, zero_times, clash, negative_in, not_positive_out, positive_in}
+use Rattle.ember_model.proofs.SignTests.{zero_out, zero_scaled, zero_times, clash, negative_in, not_positive_out, positive_in}
 use Rattle.ember_model.proofs.Hits.{closed_parts, inside_on}
 use Rattle.ember_model.proofs.SeenCrossings.{main_zero}
 use Rattle.ember_model.proofs.Tuples.{plane_tuple, spot_tuple, normalE}

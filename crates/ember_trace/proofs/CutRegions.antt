@@ -15,12 +15,12 @@ use Rattle.ember_model.specs.Faces.{is_inside, is_in_closed, below, is_flat, fac
 use Rattle.ember_model.specs.Owners.{is_coplanar}
 use Rattle.ember_model.proofs.SignTests.{clash, negative_out, positive_out}
 use Rattle.ember_model.proofs.Hits.{closed_parts}
+use Rattle.ember_model.proofs.PlaneValues.{value-opposite}
 use Rattle.ember_box.specs.Boxes.{Cell}
 use Rattle.ember_box.specs.Near.{tri_at}
 use Rattle.ember_box.specs.Regions.{Wall, AreLeftByWall, cut, outside, in_high, stays, CuttingPlane, cutting_planes_at}
 use Rattle.ember_box.specs.Regions.{cutting_planes, AreLeftByCuttingPlane, splits, whole, IsRegions}
 use Rattle.ember_poly.proofs.Chains.{each-front, each-back}
-use Rattle.ember_trace.proofs.PathVertices.{opposite_value}
 use Rattle.ember_trace.proofs.FilledFaces.{inside_below, uncut_flat}
 use Rattle.ember_trace.proofs.FlatPlanes.{lies_flat, self_coplanar}
 use Rattle.ember_trace.proofs.SharedPlanes.{on_plane, shared_inside}
@@ -83,7 +83,7 @@ after_turn b f fs (splits m c) = (
         negative_out (value_at (opposite b.plane) k.some_below.at)
         (inside_below f (opposite b.plane) k.some_below.at k.some_below.inside).1 in let h =
         negative_out (value_at b.plane k.some_below.at) k.some_below.holds in let e =
-        opposite_value b.plane k.some_below.at in absurd (omega (arith, linear, l, h, e)),
+        value-opposite b.plane k.some_below.at in absurd (omega (arith, linear, l, h, e)),
     tt,
   ),
 )

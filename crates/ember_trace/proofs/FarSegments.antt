@@ -17,7 +17,7 @@ use Rattle.ember_model.specs.Valid.{IsValidTri}
 use Rattle.ember_model.specs.Sizes.{IsSupportSized}
 use Rattle.ember_model.specs.Faces.{size, is_flat, face_of, edges_of, hit, between, is_inside, leg}
 use Rattle.ember_model.specs.ClearTest.{all_negative}
-use Rattle.ember_model.proofs.SignTests.{clash, size_positive, positive_in, zero_scaled, zero_times}
+use Rattle.ember_model.proofs.SignTests.{clash, size_positive, positive_in, zero_scaled, zero_times, size_nonnegative}
 use Rattle.ember_model.proofs.PlaneValues.{value_hit}
 use Rattle.ember_model.proofs.PlaneSizes.{support_sized, support_valid}
 use Rattle.ember_model.proofs.Hits.{Scales, same_all_negative, inside_on}
@@ -30,7 +30,6 @@ use Rattle.ember_box.specs.Boxes.{Cell}
 use Rattle.ember_box.specs.Near.{is_near}
 use Rattle.ember_ref.specs.References.{or_sign}
 use Rattle.ember_ref.proofs.NearPoints.{HasPoint, near_point}
-use Rattle.ember_ref.proofs.BoxPoints.{size_at_least}
 use Rattle.ember_ref.proofs.FarTriangles.{inside_closed, misses_far}
 use Rattle.ember_trace.specs.Paths.{inside_side, first_of, second_of}
 use Rattle.ember_trace.proofs.PathVertices.{differ_last}
@@ -51,8 +50,8 @@ leg_far c t p q nf far i j = by (is_negative (value_at (face_of t).support p *�
         inside true h =
             let n = (face_of t).support in let x = between n p q in
             absurd (clash (inside_closed (face_of t) x (between_inside (face_of t) p q i.weight j.weight e ∙ h))
-            (misses_far c t p q nf far i j (size (value_at n q)) (size (value_at n p)) (size_at_least (value_at n q))
-            (size_at_least (value_at n p))))
+            (misses_far c t p q nf far i j (size (value_at n q)) (size (value_at n p)) (size_nonnegative (value_at n q))
+            (size_nonnegative (value_at n p))))
 
 -- a point on the support plane with the edge planes along k behind it is inside the face
 inside_along : (t : Tri) (k : Axis) (q : Spot) → pos 0 <ℤ q.w → along (support_of t) k ≢ pos 0 →

@@ -2,6 +2,7 @@
 -- face.
 use Rattle.std.proofs.Common.{◌≡◌, refl, sym, ◌∙◌, arith, ℕ, le_refl, true, ◌&&◌, List, [], ◌∷◌, pos, ◌+ℤ◌, ◌-ℤ◌, ◌*ℤ◌, neg_ℤ, ◌<ℤ◌}
 use Rattle.std.proofs.lemmas.List.Folds.{list_all-append}
+use Rattle.std.proofs.lemmas.Bool.{and_parts}
 use Rattle.ember_algebra.specs.Large.{Eventually}
 use Rattle.ember_algebra.specs.Sign.{is_negative}
 use Rattle.ember_algebra.proofs.Laws.{linear}
@@ -14,9 +15,9 @@ use Rattle.ember_model.specs.declared.face.Face.{Face}
 use Rattle.ember_model.specs.Planes.{value_at, opposite}
 use Rattle.ember_model.specs.Faces.{is_inside, below, Everywhere, Cuts}
 use Rattle.ember_model.specs.ClearTest.{all_negative}
-use Rattle.ember_model.proofs.SignTests.{and_parts, negative_in, negative_out, positive_in, positive_out, zero_times}
+use Rattle.ember_model.proofs.SignTests.{negative_in, negative_out, positive_in, positive_out, zero_times}
 use Rattle.ember_model.proofs.Hits.{inside_on, inside_parts}
-use Rattle.ember_trace.proofs.PathVertices.{opposite_value}
+use Rattle.ember_model.proofs.PlaneValues.{value-opposite}
 
 -- ---- a plane appended
 pub inside_below : (f : Face) (p : Plane) (v : Spot) → is_inside (below f p) v ≡ true → (is_inside f v ≡ true) × (is_negative (value_at p v) ≡ true)
@@ -81,7 +82,7 @@ uncut_flat f p uncut v i z =
     record {
       holds = λ u j. by_sign (value_at p u) (λ l. absurd (uncut (plane_at_inside_point_cuts f p u v j i l z)))
           (λ e. e) (λ l. absurd (uncut (turned (plane_at_inside_point_cuts f (opposite p) u v j i (let e =
-          opposite_value p u in omega (arith, linear, e, l)) (let e = opposite_value p v in omega (arith, linear, e, z))))));
+          value-opposite p u in omega (arith, linear, e, l)) (let e = value-opposite p v in omega (arith, linear, e, z))))));
     }
   where
     turned : Cuts f (opposite p) → Cuts f p
@@ -92,7 +93,7 @@ uncut_flat f p uncut v i z =
             inside = c.some_above.inside;
             holds =
                 negative_in (let l = positive_out (value_at (opposite p) c.some_above.at) c.some_above.holds in let e =
-                opposite_value p c.some_above.at in omega (arith, linear, l, e));
+                value-opposite p c.some_above.at in omega (arith, linear, l, e));
           };
           some_above =
               record {
@@ -100,6 +101,6 @@ uncut_flat f p uncut v i z =
                 inside = c.some_below.inside;
                 holds =
                     positive_in (let l = negative_out (value_at (opposite p) c.some_below.at) c.some_below.holds in let e =
-                    opposite_value p c.some_below.at in omega (arith, linear, l, e));
+                    value-opposite p c.some_below.at in omega (arith, linear, l, e));
               };
         }

@@ -2,6 +2,7 @@
 -- in it lies in the plane of the face.
 use Rattle.std.proofs.Common.{◌≡◌, ◌≢◌, refl, sym, ap, subst, ◌∙◌, ⊎_elim, arith, ℕ, le_refl, true, false, not, ◌&&◌}
 use Rattle.std.proofs.Common.{List, [], ◌∷◌, ℤ, pos, ◌+ℤ◌, ◌-ℤ◌, ◌*ℤ◌, neg_ℤ, ◌<ℤ◌, ◌≤ℤ◌}
+use Rattle.std.proofs.lemmas.Bool.{and_parts}
 use Rattle.ember_algebra.specs.Vector.{Vector}
 use Rattle.ember_algebra.specs.Large.{Eventually}
 use Rattle.ember_algebra.specs.Sign.{is_negative, is_zero}
@@ -18,12 +19,12 @@ use Rattle.ember_model.specs.Planes.{vector_of, value_at, opposite, support_of}
 use Rattle.ember_model.specs.Faces.{is_inside, is_in_closed, is_flat, face_of, Everywhere}
 use Rattle.ember_model.specs.Owners.{spot_of_corner, lies_in_plane_of, is_coplanar}
 use Rattle.ember_model.specs.ClearTest.{all_negative}
-use Rattle.ember_model.proofs.SignTests.{and_parts, negative_in, negative_out, positive_in, zero_scaled, zero_times, zero_out, not_true, clash}
+use Rattle.ember_model.proofs.SignTests.{negative_in, negative_out, positive_in, zero_scaled, zero_times, zero_out, not_true, clash}
 use Rattle.ember_model.proofs.Hits.{inside_on, inside_parts}
+use Rattle.ember_model.proofs.PlaneValues.{value-opposite}
 use Rattle.ember_law.proofs.Generic.{cancel_zero}
 use Rattle.ember_law.proofs.FlatTriangles.{flat_in}
 use Rattle.ember_law.proofs.CornerSides.{above_corners}
-use Rattle.ember_trace.proofs.PathVertices.{opposite_value}
 use Rattle.ember_trace.proofs.Corners.{Parallel}
 
 -- ---- a little beside a point, along a vector
@@ -186,7 +187,7 @@ shared_face t u x e h =
     let up = above_corners u s x (not_true (is_flat u) q.0) (omega (arith, linear, a)) (omega (arith, linear, b)) (omega (arith, linear, c)) h in
     let down = above_corners u (opposite s) x (not_true (is_flat u) q.0) (turned (spot_of_corner u.a) a)
     (turned (spot_of_corner u.b) b) (turned (spot_of_corner u.c) c) h in
-    let t = opposite_value s x in omega (arith, linear, up, down, t)
+    let t = value-opposite s x in omega (arith, linear, up, down, t)
   where
     turned : (v : Spot) → value_at (support_of t) v ≡ pos 0 → pos 0 ≤ℤ value_at (opposite (support_of t)) v
-    turned v z = let e = opposite_value (support_of t) v in omega (arith, linear, e, z)
+    turned v z = let e = value-opposite (support_of t) v in omega (arith, linear, e, z)

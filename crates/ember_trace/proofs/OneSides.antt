@@ -7,6 +7,7 @@ use Rattle.std.specs.List.{AllByRecursion}
 use Rattle.std.proofs.lemmas.List.{get_or_default}
 use Rattle.std.proofs.lemmas.List.Elements.{All-head, All-tail}
 use borrow.Author.Differences.{ints}
+use Rattle.std.proofs.lemmas.Bool.{and_parts}
 use Rattle.ember_algebra.specs.Large.{Eventually}
 use Rattle.ember_algebra.specs.Sign.{is_negative}
 use Rattle.ember_algebra.proofs.Laws.{linear}
@@ -26,9 +27,9 @@ use Rattle.ember_model.specs.Owners.{is_coplanar}
 use Rattle.ember_model.specs.Meshes.{faces_of, vector, IsScene}
 use Rattle.ember_model.specs.Clear.{AreClear}
 use Rattle.ember_model.specs.Sides.{HasWindings, IsSides}
-use Rattle.ember_model.proofs.SignTests.{and_parts, negative_in, negative_out, positive_in, zero_scaled, zero_times}
-use Rattle.ember_model.proofs.PlaneValues.{value_moved, value_scaled}
-use Rattle.ember_model.proofs.Hits.{inside_on, inside_parts, closed_parts}
+use Rattle.ember_model.proofs.SignTests.{negative_in, negative_out, positive_in, zero_scaled, zero_times}
+use Rattle.ember_model.proofs.PlaneValues.{value_moved, value_scaled, value-opposite}
+use Rattle.ember_model.proofs.Hits.{inside_on, inside_parts, closed_parts, moved_weight}
 use Rattle.ember_law.specs.Laws.{MissesFace}
 use Rattle.ember_law.proofs.Separation.{combination, combination_value, missed_face_has_separating_edge}
 use Rattle.ember_law.proofs.Vectors.{segments_law}
@@ -38,7 +39,6 @@ use Rattle.ember_box.specs.Near.{is_near, near, no_tri, tri_at}
 use Rattle.ember_ref.proofs.NearPoints.{HasPoint}
 use Rattle.ember_ref.proofs.FarTriangles.{misses_far}
 use Rattle.ember_trace.specs.Boxed.{IsRegion}
-use Rattle.ember_trace.proofs.PathVertices.{moved_weight, opposite_value}
 use Rattle.ember_trace.proofs.FlatPlanes.{shared_face}
 use Rattle.ember_trace.proofs.BoxedRegions.{regions_lie_in}
 use Rattle.ember_trace.proofs.CutRegions.{IsCutOut, region_cut}
@@ -115,7 +115,7 @@ held_level t u p q a k e d c zp zq o =
     })
     (λ l. record {
       plane = opposite n;
-      low = λ x h. let z = shared_face t u x c h in let o = opposite_value n x in
+      low = λ x h. let z = shared_face t u x c h in let o = value-opposite n x in
           omega (arith, linear, z, o);
       past = record {
         from = 0;
@@ -133,7 +133,7 @@ held_level t u p q a k e d c zp zq o =
     down : (k : Axis) (e : ℤ) → (e *ℤ along n k) <ℤ pos 0 → (m : ℕ) (v : Spot) → value_at n v ≡ pos 0 →
         pos 0 <ℤ value_at (opposite n) (moved (scaled (pos m) v) k e)
     down k e l m v z =
-        let o = opposite_value n (moved (scaled (pos m) v) k e) in let x = value_beside n m v k e in let y =
+        let o = value-opposite n (moved (scaled (pos m) v) k e) in let x = value_beside n m v k e in let y =
         zero_times (value_at n v) (pos m) z in omega (arith, linear, l, o, x, y)
 
 -- so the segment misses the face

@@ -8,6 +8,7 @@ use Rattle.std.proofs.Math.Logic.{∥∥₁_elim}
 use Rattle.std.proofs.lemmas.Bool.Decides.{Decides-like, Decides-and, Decides-int_eq}
 use Rattle.std.proofs.lemmas.Option.{slice_get-get_or}
 use mathlib.Core.Bool.{Bool-set}
+use Rattle.std.proofs.lemmas.Bool.{and_parts}
 use Rattle.ember_algebra.specs.declared.Sign.{Sign}
 use Rattle.ember_algebra.specs.declared.Sign.TheVariants.{Neg, Zero, Pos}
 use Rattle.ember_algebra.specs.Sign.{sign, sgn, is_nil, is_negative}
@@ -21,12 +22,12 @@ use Rattle.ember_model.specs.Planes.{value_at, along, support_of, edge_planes}
 use Rattle.ember_model.specs.Valid.{IsValidPlane}
 use Rattle.ember_model.specs.Faces.{size, edges_of, hit, Everywhere}
 use Rattle.ember_model.specs.ClearTest.{all_negative}
-use Rattle.ember_model.proofs.SignTests.{and_parts, clash, size_positive, zero_scaled, zero_times}
+use Rattle.ember_model.proofs.SignTests.{clash, size_positive, zero_scaled, zero_times}
 use Rattle.ember_model.proofs.PlaneValues.{value_hit}
 use Rattle.ember_model.proofs.PlaneSizes.{support_valid}
 use Rattle.ember_model.proofs.Hits.{Scales, same_all_negative, inside_parts}
 use Rattle.ember_model.proofs.FourSigns.{hit_edges}
-use Rattle.ember_model.proofs.Tuples.{same_plane}
+use Rattle.ember_model.proofs.Tuples.{same_plane, same_some}
 use Rattle.ember_trace.specs.declared.near_triangle.NearTriangle.{NearTriangle}
 use Rattle.ember_trace.specs.declared.path.Path.{Path}
 use Rattle.ember_trace.specs.FirstCorners.{HasFirstCorners}
@@ -65,9 +66,6 @@ negative_at (g ∷ es) x h (suc i) p e = negative_at es x (and_parts (is_negativ
 -- a face lies behind each of its planes
 pub behind_plane : (f : Face) (i : ℕ) (p : Plane) → slice_get f.edges i ≡ Some p → Everywhere f (λ v. is_negative (value_at p v) ≡ true)
 behind_plane f i p e = record { holds = λ v h. negative_at f.edges v (inside_parts f v h).2 i p e }
-
-same_some : {p q : Plane} → Some p ≡ Some q → p ≡ q
-same_some e = cc
 
 -- and behind the edges of a triangle, if it lies behind each of the three planes
 pub behind_edges : (f : Face) (t : Tri) (es : List Plane) → es ≡ edges_of t →

@@ -1,17 +1,18 @@
 -- The vertices of a path as points, and the values of planes there.
-use Rattle.std.proofs.Common.{◌≡◌, refl, ap, ◌∙◌, arith, ℤ, pos, ◌+ℤ◌, ◌-ℤ◌, ◌*ℤ◌, neg_ℤ, ◌<ℤ◌, List, [], ◌∷◌}
+use Rattle.std.proofs.Common.{◌≡◌, ap, ◌∙◌, arith, ℤ, pos, ◌+ℤ◌, ◌-ℤ◌, ◌*ℤ◌, ◌<ℤ◌, List, [], ◌∷◌}
 use Rattle.ember_algebra.specs.Vector.{Vector}
 use Rattle.ember_algebra.specs.Large.{horner}
 use Rattle.ember_algebra.proofs.Laws.{linear}
 use Rattle.ember_algebra.proofs.Order.{pos_mul}
-use Rattle.ember_algebra.proofs.Ring.{◌⊕◌, ◌⊖◌, ◌⊗◌, ◌≈◌, num, neg, solve, cancels}
+use Rattle.ember_algebra.proofs.Ring.{◌⊕◌, ◌⊖◌, ◌⊗◌, ◌≈◌, num, solve, cancels}
 use Rattle.ember_model.specs.declared.point.Spot.{Spot}
 use Rattle.ember_model.specs.declared.point.Axis.{Axis}
 use Rattle.ember_model.specs.declared.point.Axis.TheVariants.{X, Y, Z}
 use Rattle.ember_model.specs.declared.plane.Plane.{Plane}
-use Rattle.ember_model.specs.Planes.{value_at, along, opposite}
+use Rattle.ember_model.specs.Planes.{value_at, along}
 use Rattle.ember_model.specs.Points.{scaled, moved, plus_s, DifferAlong}
 use Rattle.ember_model.proofs.PlaneValues.{value_scaled, value_moved}
+use Rattle.ember_model.proofs.Hits.{moved_weight}
 use Rattle.ember_point.specs.Points.{slid}
 use Rattle.ember_box.specs.Near.{spot_of_vector}
 use Rattle.ember_ref.proofs.NearPoints.{coordinate as along_point}
@@ -40,12 +41,6 @@ pub value_with : (h : Plane) (a : Axis) (u v : Spot) →
 value_with h a u v =
     let by = u.w *ℤ along_point a v -ℤ v.w *ℤ along_point a u in
     value_moved h (scaled v.w u) a by ∙ ap (λ (z : ℤ). z +ℤ by *ℤ along h a) (value_scaled v.w h u)
-
--- a move along an axis keeps the weight
-pub moved_weight : (s : Spot) (a : Axis) (by : ℤ) → (moved s a by).w ≡ s.w
-moved_weight s X by = refl
-moved_weight s Y by = refl
-moved_weight s Z by = refl
 
 -- a point with a coordinate of another has a positive weight
 pub weight_with : (a : Axis) (u v : Spot) → pos 0 <ℤ u.w → pos 0 <ℤ v.w → pos 0 <ℤ (with_along a u v).w
@@ -138,8 +133,3 @@ differ_last Z r q m s =
     let y = solve 5 (λ m w v i j. m ⊗ w ⊗ (w ⊗ (w ⊗ i ⊕ (v ⊗ j ⊖ w ⊗ i))) ≈ w ⊗ (w ⊗ v) ⊗ (m ⊗ j)) cancels m q.w r.w in
     let z = solve 5 (λ m w v i j. m ⊗ w ⊗ (w ⊗ (w ⊗ i) ⊕ (w ⊗ v ⊗ j ⊖ w ⊗ (w ⊗ i))) ≈ w ⊗ (w ⊗ v) ⊗ (m ⊗ j)) cancels m q.w r.w in
     (y r.x q.x, z r.y q.y)
-
--- ---- the opposite plane
-pub opposite_value : (p : Plane) (v : Spot) → value_at (opposite p) v ≡ neg_ℤ (value_at p v)
-opposite_value p v =
-    solve 8 (λ a b c d x y z w. neg a ⊗ x ⊕ neg b ⊗ y ⊕ neg c ⊗ z ⊖ neg d ⊗ w ≈ neg (a ⊗ x ⊕ b ⊗ y ⊕ c ⊗ z ⊖ d ⊗ w)) cancels p.a p.b p.c p.d v.x v.y v.z v.w

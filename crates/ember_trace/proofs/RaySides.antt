@@ -3,6 +3,7 @@ use Rattle.std.proofs.Common.{◌≡◌, sym, ap, ◌∙◌, cond, ◌&&◌, Lis
 use Rattle.ember_algebra.specs.declared.Sign.{Sign}
 use Rattle.ember_algebra.specs.Sign.{sgn, flip, times, number, is_neg}
 use Rattle.ember_algebra.proofs.Signs.{sgn-mul}
+use Rattle.ember_algebra.proofs.Booleans.{cond_and_nested}
 use Rattle.ember_model.specs.declared.point.Spot.{Spot}
 use Rattle.ember_model.specs.declared.point.Axis.{Axis}
 use Rattle.ember_model.specs.declared.tri.Tri.{Tri}
@@ -23,7 +24,7 @@ use Rattle.ember_trace.specs.Paths.{inside_side}
 use Rattle.ember_trace.specs.Crossings.{signed_crossing, is_pierced, ray_counts, AreRayCounts}
 use Rattle.ember_trace.proofs.VertexSides.{IsClose}
 use Rattle.ember_trace.proofs.Corners.{first_corners}
-use Rattle.ember_trace.proofs.SegmentCrossings.{IsEnd, edges_behind, nested_cond_is_and, or_zero}
+use Rattle.ember_trace.proofs.SegmentCrossings.{IsEnd, edges_behind, or_zero}
 use Rattle.ember_trace.proofs.ClearVertices.{generic_clear, end_generic}
 use Rattle.ember_trace.proofs.RegionEnds.{first_corners_found, before_end, after_end}
 use Rattle.ember_trace.proofs.MeshSums.{ray_counts_rays, added_none}
@@ -45,7 +46,7 @@ module _ (k : Axis) (a b d : Meet) (q : Spot) (close : IsClose k a b d q) (turn 
       (λ h i z. end.side h i ∙ or_zero (inside_side h a b d) (turn (sgn (along h k)))
       (ap turn (ap sgn z) ∙ end.level)) in
       crossing_is k e t end.weight ∙ (λ i. cond (m i && g i) (sign-number (along n k) i) (pos 0))
-      ∙ nested_cond_is_and (is_neg (times (or_sign (inside_side n a b d) (turn s)) s)) (is_pierced t k a b d)
+      ∙ cond_and_nested (is_neg (times (or_sign (inside_side n a b d) (turn s)) s)) (is_pierced t k a b d)
       (number s)
 
   end_sees : (ts : List Tri) → All IsValidTri ts → All (HasMesh 64) ts → HasWindings ts k e (ray_counts ray ts (replicate 64 (pos 0)))

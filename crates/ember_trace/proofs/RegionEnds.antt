@@ -5,10 +5,11 @@ use borrow.Author.Differences.{ints}
 use Rattle.ember_algebra.specs.Vector.{Vector}
 use Rattle.ember_algebra.specs.Size.{Small}
 use Rattle.ember_algebra.specs.declared.Sign.{Sign}
-use Rattle.ember_algebra.specs.declared.Sign.TheVariants.{Neg, Zero, Pos}
+use Rattle.ember_algebra.specs.declared.Sign.TheVariants.{Zero}
 use Rattle.ember_algebra.specs.Sign.{sgn, flip, is_nil}
 use Rattle.ember_algebra.proofs.Laws.{linear}
 use Rattle.ember_algebra.proofs.Order.{pos_mul}
+use Rattle.ember_algebra.proofs.Signs.{flip_zero}
 use Rattle.ember_model.specs.declared.point.Spot.{Spot}
 use Rattle.ember_model.specs.declared.point.Axis.{Axis}
 use Rattle.ember_model.specs.declared.point.Axis.TheVariants.{X, Y, Z}
@@ -19,16 +20,17 @@ use Rattle.ember_model.specs.Points.{scaled, moved}
 use Rattle.ember_model.specs.Sizes.{IsSupportSized}
 use Rattle.ember_model.specs.Faces.{is_inside}
 use Rattle.ember_model.proofs.SignTests.{zero_out}
-use Rattle.ember_model.proofs.Hits.{inside_parts}
+use Rattle.ember_model.proofs.Hits.{inside_parts, moved_weight}
 use Rattle.ember_model.proofs.PlaneSizes.{support_valid}
 use Rattle.ember_law.proofs.Shifted.{NoNormal}
 use Rattle.ember_point.specs.declared.meet_point.Meet.{Meet}
 use Rattle.ember_point.specs.Points.{spot_of}
 use Rattle.ember_ref.specs.References.{or_sign}
+use Rattle.ember_ref.proofs.ReferenceSigns.{both_zero}
 use Rattle.ember_trace.specs.Paths.{coordinate, inside_side, second_of}
 use Rattle.ember_trace.proofs.Slides.{slid_once, slid_twice}
-use Rattle.ember_trace.proofs.PathVertices.{close_to, entries, moved_weight}
-use Rattle.ember_trace.proofs.VertexSides.{IsClose, AreStops, both_zero, value_bound, close_sign, after_sign, before_sign}
+use Rattle.ember_trace.proofs.PathVertices.{close_to, entries}
+use Rattle.ember_trace.proofs.VertexSides.{IsClose, AreStops, value_bound, close_sign, after_sign, before_sign}
 use Rattle.ember_trace.proofs.Corners.{AreFirst}
 use Rattle.ember_trace.proofs.SegmentCrossings.{IsEnd}
 
@@ -86,11 +88,6 @@ stops_from k lo a b d q close small =
     }
 
 -- ---- directly beside it
-pub flip_zero : (t : Sign) → flip t ≡ Zero → t ≡ Zero
-flip_zero Neg e = cc
-flip_zero Zero e = refl
-flip_zero Pos e = cc
-
 -- the entries of a support plane's normal are below 2^25 in size
 pub along_small : (h : Plane) (k : Axis) → IsSupportSized h → Small 33554431 (along h k)
 along_small h X i = i.a

@@ -1,7 +1,7 @@
 -- The crossings of the segments of a path with a triangle, as the code counts them: by the sides of its
 -- planes on which the vertices lie, and only if the bounding box lets a segment cross it.
 use Rattle.std.proofs.Common.{◌≡◌, ◌⊎◌, inl, inr, refl, sym, ap, ◌∙◌, arith, ℕ, ◌^◌, ◌≤◌, Bool, true, false, ◌&&◌, cond}
-use Rattle.std.proofs.Common.{List, ℤ, pos, ◌+ℤ◌, ◌-ℤ◌, ◌*ℤ◌, neg_ℤ, ◌<ℤ◌, ◌≤ℤ◌, int_le, slice_index_or}
+use Rattle.std.proofs.Common.{List, ℤ, pos, ◌+ℤ◌, ◌-ℤ◌, ◌*ℤ◌, neg_ℤ, ◌<ℤ◌, ◌≤ℤ◌, slice_index_or}
 use Rattle.std.specs.Int.{int_div_euclid, int_max}
 use Rattle.std.proofs.lemmas.Int.{clamps}
 use borrow.Author.Differences.{ints}
@@ -31,6 +31,8 @@ use Rattle.ember_model.proofs.PlaneSizes.{support_sized, support_valid, edge_siz
 use Rattle.ember_model.proofs.LegSigns.{leg_is}
 use Rattle.ember_model.proofs.ScaledPoints.{leg_back}
 use Rattle.ember_algebra.proofs.Size.{small_within}
+use Rattle.ember_algebra.proofs.Booleans.{cond_and_nested}
+use Rattle.ember_algebra.proofs.Numbers.{int_le_not_out}
 use Rattle.ember_point.specs.declared.meet_point.Meet.{Meet}
 use Rattle.ember_point.specs.Points.{spot_of, slid}
 use Rattle.ember_box.specs.Boxes.{Cell, axis_index}
@@ -145,19 +147,13 @@ edges_behind side t k p v f =
         f (times_plane s (edge_through u w (unit k))) (edge_support (edge_sized u w k s iu iw (sign_small (along (support_of t) k)))) (edge_level s u w k)
 
 -- ---- a segment by signs
-pub nested_cond_is_and : (m b : Bool) (v : ℤ) → cond (m && b) v (pos 0) ≡ cond b (cond m v (pos 0)) (pos 0)
-nested_cond_is_and true true v = refl
-nested_cond_is_and true false v = refl
-nested_cond_is_and false true v = refl
-nested_cond_is_and false false v = refl
-
 told : (k : Axis) (p q : Spot) (t : Tri) (b : Bool) (s e : Sign) → pos 0 <ℤ p.w → pos 0 <ℤ q.w → DifferAlong k p q →
     sgn (value_at (support_of t) p) ≡ s → sgn (value_at (support_of t) q) ≡ e → all_negative (edge_planes t k) p ≡ b →
     leg (face_of t) p q ≡ cond b (signed_crossing s e) (pos 0)
 told k p q t b s e wp wq d es ee eb =
     let x = value_at (support_of t) p in let y = value_at (support_of t) q in
     let m = ap is_neg (sgn-mul x y) ∙ (λ i. is_neg (times (es i) (ee i))) in let f = sign-number y ∙ ap number ee in
-    leg_is k p q t wp wq d ∙ (λ i. cond (m i && eb i) (f i) (pos 0)) ∙ nested_cond_is_and (is_neg (times s e)) b (number e)
+    leg_is k p q t wp wq d ∙ (λ i. cond (m i && eb i) (f i) (pos 0)) ∙ cond_and_nested (is_neg (times s e)) b (number e)
 
 back : (s e : Sign) → signed_crossing e s ≡ neg_ℤ (signed_crossing s e)
 back Neg Neg = refl
@@ -228,9 +224,6 @@ lines_are : (lo : List ℤ) (t : Tri) (a : Axis) →
     && (contains_above (interval_along (aabb_of_tri t) (second_of a)) (coordinate lo (second_of a))
     && all_behind (λ p. sgn (value_at p (reference_at_list lo))) (edge_planes t a))
 lines_are lo t a = refl
-
-not_at_most : (a b : ℤ) → int_le a b ≡ false → b <ℤ a
-not_at_most a b e = grind (arith, ints)
 
 greatest_below : (a b d : ℤ) → int_max a b <ℤ d → (a <ℤ d) × (b <ℤ d)
 greatest_below a b d l = (omega (arith, ints, clamps), omega (arith, ints, clamps))
@@ -317,7 +310,7 @@ module _ (c : Cell) (k : Axis) (v : Path) (e : v.lo ≡ entries c.lo) (q : Spot)
         (floor_at_end w a <ℤ (interval_along (aabb_of_tri t) a).low) ×
         (coordinate v.lo a <ℤ (interval_along (aabb_of_tri t) a).low)
     both_below a h = greatest_below (floor_at_end w a) (coordinate v.lo a) _
-        (not_at_most _ _ (sym (λ j. begins_by (interval_along (f.bounds j) a) (farthest w a)) ∙ h))
+        (int_le_not_out _ _ (sym (λ j. begins_by (interval_along (f.bounds j) a) (farthest w a)) ∙ h))
 
     beyond_start : (a : Axis) → coordinate v.lo a <ℤ (interval_along (aabb_of_tri t) a).low →
         value_at (across a (pos 1) (interval_along (aabb_of_tri t) a).low) p0 <ℤ pos 0

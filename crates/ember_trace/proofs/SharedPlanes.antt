@@ -2,6 +2,7 @@
 -- them lies inside such a triangle if one of its points lies in the closed face.
 use Rattle.std.proofs.Common.{◌≡◌, ◌≢◌, ⊎_elim, sym, ap, subst, ◌∙◌, arith, true, false, not, ◌&&◌, [], ◌∷◌, ℤ, pos, ◌*ℤ◌, neg_ℤ, ◌<ℤ◌, ◌≤ℤ◌}
 use borrow.Author.Differences.{ints}
+use Rattle.std.proofs.lemmas.Bool.{and_parts}
 use Rattle.ember_algebra.specs.Vector.{Vector, dot, cross}
 use Rattle.ember_algebra.specs.Sign.{sign, is_positive, is_zero}
 use Rattle.ember_algebra.proofs.Laws.{linear}
@@ -19,7 +20,7 @@ use Rattle.ember_model.specs.Planes.{vector_of, unit, value_at, along, main_axis
 use Rattle.ember_model.specs.Faces.{is_inside, is_in_closed, is_flat, face_of, Everywhere, Cuts}
 use Rattle.ember_model.specs.Owners.{spot_of_corner, lies_in_plane_of, is_coplanar}
 use Rattle.ember_model.specs.ClearTest.{none_positive}
-use Rattle.ember_model.proofs.SignTests.{and_parts, clash, negative_in, positive_in, not_positive_out, not_true, zero_out}
+use Rattle.ember_model.proofs.SignTests.{clash, negative_in, positive_in, not_positive_out, not_true, zero_out}
 use Rattle.ember_model.proofs.PlaneValues.{along_dot}
 use Rattle.ember_model.proofs.Hits.{inside_on, inside_parts, closed_parts}
 use Rattle.ember_law.proofs.Shifted.{NoNormal}

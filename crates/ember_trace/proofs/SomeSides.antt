@@ -3,6 +3,7 @@
 use Rattle.std.proofs.Common.{◌≡◌, ◌≢◌, ⊎_elim, le_refl, refl, sym, ap, ◌∙◌, subst, arith, ℕ, ◌+◌, ◌*◌, ◌<◌, ◌≤◌, true}
 use Rattle.std.proofs.Common.{cond, ◌&&◌, List, [], ◌∷◌, All, get_or, ℤ, pos, ◌-ℤ◌, ◌*ℤ◌, neg_ℤ, ◌<ℤ◌, unsigned_abs}
 use borrow.Author.Differences.{ints}
+use Rattle.std.proofs.lemmas.Bool.{and_parts}
 use Rattle.ember_algebra.specs.Large.{Eventually, horner}
 use Rattle.ember_algebra.specs.declared.Sign.{Sign}
 use Rattle.ember_algebra.specs.declared.Sign.TheVariants.{Zero}
@@ -11,7 +12,7 @@ use Rattle.ember_algebra.proofs.Laws.{linear}
 use Rattle.ember_algebra.proofs.Large.{eventually_both, eventually_map, horner_neg}
 use Rattle.ember_algebra.proofs.Order.{pos_mul, zero_product}
 use Rattle.ember_algebra.proofs.Ring.{◌⊕◌, ◌⊖◌, ◌⊗◌, ◌≈◌, num, neg, solve, cancels}
-use Rattle.ember_algebra.proofs.Signs.{sgn-mul}
+use Rattle.ember_algebra.proofs.Signs.{sgn-mul, flip_zero}
 use Rattle.ember_model.specs.declared.plane.Plane.{Plane}
 use Rattle.ember_model.specs.declared.point.Spot.{Spot}
 use Rattle.ember_model.specs.declared.point.Axis.{Axis}
@@ -27,17 +28,18 @@ use Rattle.ember_model.specs.ClearTest.{all_negative}
 use Rattle.ember_model.specs.Meshes.{vector}
 use Rattle.ember_model.specs.Sides.{HasWindings, IsSides}
 use Rattle.ember_model.proofs.FourSigns.{crossing_is}
-use Rattle.ember_model.proofs.Hits.{inside_on, inside_parts}
+use Rattle.ember_model.proofs.Hits.{inside_on, inside_parts, moved_weight}
 use Rattle.ember_model.proofs.PlaneSizes.{support_sized, support_valid}
-use Rattle.ember_model.proofs.SignTests.{and_parts, negative_in, negative_out, positive_in, zero_out, zero_scaled}
+use Rattle.ember_model.proofs.SignTests.{negative_in, negative_out, positive_in, zero_out, zero_scaled}
 use Rattle.ember_law.proofs.FlatTriangles.{flat_crossing}
 use Rattle.ember_law.proofs.Shifted.{NoNormal}
 use Rattle.ember_ref.specs.References.{or_sign}
-use Rattle.ember_trace.proofs.PathVertices.{close_to, value_close, moved_weight}
-use Rattle.ember_trace.proofs.VertexSides.{both_zero, value_bound, close_sign, after_sign, before_sign}
+use Rattle.ember_ref.proofs.ReferenceSigns.{both_zero}
+use Rattle.ember_trace.proofs.PathVertices.{close_to, value_close}
+use Rattle.ember_trace.proofs.VertexSides.{value_bound, close_sign, after_sign, before_sign}
 use Rattle.ember_trace.proofs.SegmentCrossings.{edges_behind}
 use Rattle.ember_trace.proofs.ClearVertices.{generic_clear}
-use Rattle.ember_trace.proofs.RegionEnds.{along_small, flip_zero}
+use Rattle.ember_trace.proofs.RegionEnds.{along_small}
 use Rattle.ember_trace.proofs.MeshSums.{tally_same}
 
 -- ---- points on one side of each plane of a triangle's size

@@ -7,10 +7,8 @@ use Rattle.ember_model.specs.declared.point.Axis.{Axis}
 use Rattle.ember_model.specs.declared.tri.Tri.{Tri}
 use Rattle.ember_model.specs.Planes.{edge_planes}
 use Rattle.ember_model.proofs.SignTests.{and_true}
+use Rattle.ember_model.proofs.Tuples.{same_some}
 use Rattle.ember_trace.specs.Lines.{all_behind}
-
-same_some : {p q : Plane} → Some p ≡ Some q → p ≡ q
-same_some e = cc
 
 -- as the code asks: the last two only if the ones before are behind
 pub all_three : (side : Plane → Sign) (t : Tri) (k : Axis) (p q r : Plane) (x y z : Bool) →

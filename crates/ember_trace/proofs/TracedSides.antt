@@ -19,6 +19,7 @@ use Rattle.ember_model.specs.Clear.{AreClear}
 use Rattle.ember_model.specs.Meshes.{faces_of, vector, IsScene}
 use Rattle.ember_model.specs.Sides.{IsSides}
 use Rattle.ember_model.proofs.Hits.{inside_parts}
+use Rattle.ember_model.proofs.PlaneValues.{value-opposite}
 use Rattle.ember_law.specs.Counts.{added, leg_vector}
 use Rattle.ember_law.proofs.FlatTriangles.{flat_leg}
 use Rattle.ember_law.proofs.Tallies.{tally}
@@ -42,7 +43,7 @@ use Rattle.ember_trace.specs.Paths.{coordinate, first_of, second_of, side_at_end
 use Rattle.ember_trace.specs.Crossings.{taken, segments_above_wall, last_segment, crossing_before, crossing_after, AreTraced}
 use Rattle.ember_trace.specs.Boxed.{LiesIn, AreSides}
 use Rattle.ember_trace.proofs.Coordinates.{coordinate_small}
-use Rattle.ember_trace.proofs.PathVertices.{entries, differ_with, differ_last, opposite_value}
+use Rattle.ember_trace.proofs.PathVertices.{entries, differ_with, differ_last}
 use Rattle.ember_trace.proofs.VertexSides.{AreStops, stop_at_start, stop_after_first, stop_after_second, start_sign}
 use Rattle.ember_trace.proofs.Corners.{AreFirst, first_corners, none_at}
 use Rattle.ember_trace.proofs.SegmentCrossings.{IsEnd, differ_back, start_weight, first_legs, final_leg}
@@ -76,7 +77,7 @@ in_box c f q l i =
     across : (k : Axis) → value_at (opposite (level k (low c k))) q ≤ℤ pos 0 →
         value_at (level k (high c k)) q ≤ℤ pos 0 → IsAcross (interval_between (low c k) (high c k)) (along_point k q) q.w
     across k a b =
-        let x = opposite_value (level k (low c k)) q in let y = level_value k (low c k) q in let z = level_value k (high c k) q in
+        let x = value-opposite (level k (low c k)) q in let y = level_value k (low c k) q in let z = level_value k (high c k) q in
         record { from = omega (arith, linear, a, x, y); to = omega (arith, linear, b, z) }
 
 -- ---- the vector at the start

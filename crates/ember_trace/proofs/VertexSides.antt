@@ -10,11 +10,12 @@ use Rattle.ember_algebra.specs.declared.Sign.{Sign}
 use Rattle.ember_algebra.specs.declared.Sign.TheVariants.{Neg, Zero, Pos}
 use Rattle.ember_algebra.specs.Sign.{sgn, flip}
 use Rattle.ember_algebra.proofs.Laws.{linear}
-use Rattle.ember_algebra.proofs.Order.{by_sign, large_pos, large_neg}
+use Rattle.ember_algebra.proofs.Order.{by_sign}
 use Rattle.ember_algebra.proofs.Large.{horner_pos, horner_neg}
 use Rattle.ember_algebra.proofs.Ring.{◌⊕◌, ◌⊗◌, ◌≈◌, neg, solve, cancels}
 use Rattle.ember_algebra.proofs.Signs.{sgn_pos, sgn_neg, sgn-neg}
 use Rattle.ember_algebra.proofs.Size.{small_within, small_mul, small_add, small_sub, small_neg}
+use Rattle.ember_algebra.proofs.Exact.{small_zero}
 use Rattle.ember_model.specs.declared.point.Spot.{Spot}
 use Rattle.ember_model.specs.declared.point.Axis.{Axis}
 use Rattle.ember_model.specs.declared.point.Axis.TheVariants.{X, Y, Z}
@@ -23,7 +24,7 @@ use Rattle.ember_model.specs.Planes.{value_at, along}
 use Rattle.ember_model.specs.Points.{scaled, moved, offset_by}
 use Rattle.ember_model.specs.Valid.{IsValidPlane}
 use Rattle.ember_model.specs.Sizes.{IsSupportSized}
-use Rattle.ember_model.proofs.SignTests.{sgn_scaled, zero_times}
+use Rattle.ember_model.proofs.SignTests.{sgn_scaled}
 use Rattle.ember_model.proofs.PlaneValues.{value_scaled, value_moved}
 use Rattle.ember_law.proofs.Shifted.{NoNormal, value_shifted}
 use Rattle.ember_point.specs.declared.meet_point.Meet.{Meet}
@@ -31,37 +32,12 @@ use Rattle.ember_point.specs.Points.{slid}
 use Rattle.ember_box.specs.Near.{spot_of_vector}
 use Rattle.ember_box.specs.Reference.{reference_at}
 use Rattle.ember_ref.specs.References.{or_sign}
-use Rattle.ember_ref.proofs.ReferenceSigns.{sign_near}
+use Rattle.ember_ref.proofs.ReferenceSigns.{sign_near, or_sign_assoc, next_sign}
 use Rattle.ember_trace.specs.Paths.{inside_side, first_of, second_of}
 use Rattle.ember_trace.proofs.PathVertices.{close_to, with_along, pinned, slid_once_to, slid_twice_to, value_close}
 use Rattle.ember_trace.proofs.PathVertices.{value_pinned, pinned_once, pinned_twice, level_with}
 
 -- ---- the first that isn't zero
-next_sign : {m : ℕ} (n : ℕ) (v a : ℤ) → Small m a → m < n → sgn (v *ℤ pos n +ℤ a) ≡ or_sign (sgn v) (sgn a)
-next_sign n v a s l =
-    by_sign v
-    (λ p. sgn_pos (large_pos s l p) ∙ sym (ap (λ (s : Sign). or_sign s (sgn a)) (sgn_pos p)))
-    (λ z. let e = zero_times v (pos n) z in let f : v *ℤ pos n +ℤ a ≡ a = omega (arith, linear, e) in
-    ap sgn f ∙ sym (ap (λ (v : ℤ). or_sign (sgn v) (sgn a)) z))
-    (λ p. sgn_neg (large_neg s l p) ∙ sym (ap (λ (s : Sign). or_sign s (sgn a)) (sgn_neg p)))
-
-or_sign_assoc : (s t r : Sign) → or_sign (or_sign s t) r ≡ or_sign s (or_sign t r)
-or_sign_assoc Neg t r = refl
-or_sign_assoc Zero t r = refl
-or_sign_assoc Pos t r = refl
-
--- two signs of which neither decides are both Zero
-pub both_zero : (s t : Sign) → or_sign s t ≡ Zero → (s ≡ Zero) × (t ≡ Zero)
-both_zero Neg t e = absurd (clash e)
-  where
-    clash : Neg ≡ Zero → ⊥
-    clash e = cc
-both_zero Zero t e = (refl, e)
-both_zero Pos t e = absurd (clash e)
-  where
-    clash : Pos ≡ Zero → ⊥
-    clash e = cc
-
 -- how large a valid plane's value at a point can be
 abbrev pub value_bound : Spot → ℕ
 value_bound v = 33554431 * unsigned_abs v.x + 33554431 * unsigned_abs v.y + 33554431 * unsigned_abs v.z + 549755813887 * unsigned_abs v.w
@@ -97,13 +73,10 @@ record NormalWithin (m : ℕ) (g : Plane) : Type 0 where
   b : Small m g.b
   c : Small m g.c
 
-none : (m : ℕ) → Small m (pos 0)
-none m = record { small = omega arith }
-
 pinned_within : {m : ℕ} (h : Plane) (a : Axis) (q : Spot) → NormalWithin m h → NormalWithin (unsigned_abs q.w * m) (pinned h a q)
-pinned_within h X q s = record { a = none _; b = small_mul (own q.w) s.b; c = small_mul (own q.w) s.c }
-pinned_within h Y q s = record { a = small_mul (own q.w) s.a; b = none _; c = small_mul (own q.w) s.c }
-pinned_within h Z q s = record { a = small_mul (own q.w) s.a; b = small_mul (own q.w) s.b; c = none _ }
+pinned_within h X q s = record { a = small_zero _; b = small_mul (own q.w) s.b; c = small_mul (own q.w) s.c }
+pinned_within h Y q s = record { a = small_mul (own q.w) s.a; b = small_zero _; c = small_mul (own q.w) s.c }
+pinned_within h Z q s = record { a = small_mul (own q.w) s.a; b = small_mul (own q.w) s.b; c = small_zero _ }
 
 -- ---- the vertices
 -- q is a point of the face close enough to the first of its corners a, b, c; k is its main axis

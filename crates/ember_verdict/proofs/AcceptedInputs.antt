@@ -51,6 +51,7 @@ use Rattle.ember_verdict.proofs.AcceptedScenes.{AreMeshes, mesh_more, no_meshes}
 use Rattle.ember_verdict.proofs.ClearFaces.{clear_faces}
 use Rattle.ember_verdict.proofs.NoneLoose.{balanced_if_none}
 use Rattle.ember_verdict.proofs.ZeroVector.{zero_same}
+use Rattle.ember_verdict.proofs.SceneFiles.{few_joined}
 
 -- ---- verdicts that are no refusal
 abbrev Answers : Verdict → Type 0
@@ -211,14 +212,11 @@ scene_meshes places contents tris is = record {
   mesh = λ i l. subst (λ (n : ℕ). IsMeshOf places n (get_or contents i None) (get_or is.meshes i [])) (omega arith) (is.mesh i l);
 }
 
-total_from : (tris : List Tri) (next : List Tri → Verdict) → length tris ≤ 262144 → after_total tris next ≡ next tris
-total_from tris next l = rw (le-leb (length tris) 262144 l) refl
-
 scene_from : (places : ℕ) (contents : Contents) (tris : List Tri) (next : List Tri → Verdict) →
     IsSceneOf places contents tris → after_scene places contents next ≡ next tris
 scene_from places contents tris next is =
     files_from places 1 [] contents is.meshes next (scene_meshes places contents tris is)
-    ∙ ap (λ (ts : List Tri). after_total ts next) (sym is.are) ∙ total_from tris next is.few
+    ∙ ap (λ (ts : List Tri). after_total ts next) (sym is.are) ∙ few_joined tris next is.few
 
 -- ---- their triangles are a scene
 abbrev tris_in : Result FileTriangles ObjFault → List Tri

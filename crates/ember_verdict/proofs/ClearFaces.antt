@@ -1,6 +1,7 @@
 -- A point that passes the test at each triangle is clear of all faces.
 use Rattle.std.proofs.Common.{◌≡◌, ℕ, Bool, true, false, not, cond, List, [], ◌∷◌, map, filter, pos, ◌<ℤ◌, refl}
 use Rattle.std.specs.List.{AllByRecursion, list_all}
+use Rattle.std.proofs.lemmas.Bool.{and_parts}
 use Rattle.ember_model.specs.declared.point.Axis.{Axis}
 use Rattle.ember_model.specs.declared.point.Spot.{Spot}
 use Rattle.ember_model.specs.declared.tri.Tri.{Tri}
@@ -9,7 +10,6 @@ use Rattle.ember_model.specs.ClearTest.{is_clear_of}
 use Rattle.ember_model.specs.Faces.{face_of, is_flat}
 use Rattle.ember_model.specs.Meshes.{IsScene, faces_of, vector}
 use Rattle.ember_model.proofs.ClearPoints.{clear_of_from}
-use Rattle.ember_model.proofs.SignTests.{and_parts}
 use Rattle.ember_law.proofs.Vectors.{axes_law}
 
 -- if a point passes the test for all triangles, it is clear of their faces

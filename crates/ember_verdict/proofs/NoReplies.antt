@@ -228,28 +228,6 @@ expression_is_no_reply after next places m names shelf status count no_reply =
       );
     }
 
--- so is one of a command without files
-pub expression_alone_is_no_reply : (verdict : Verdict) (names : List (List ℕ)) (shelf : ShelfCall) (status : Status) →
-    IsNoReplyToExpression verdict status → IsNoReply (λ contents. verdict) names shelf status
-expression_alone_is_no_reply verdict names shelf status no_reply =
-    let kind = no_reply.of_expression in
-    let is : is_refusal status ≡ true → IsRefusalIfTold status verdict =
-    λ r. subst (λ (v : Verdict). IsRefusalIfTold status v) (sym (no_reply.refused r)) refl in
-    record {
-      refused = is;
-      refused_read = λ r. held_always shelf.told names (λ contents. IsRefusalIfTold status verdict) (λ contents l. is r);
-      before_files = λ b. no_reply.refused (before_is_refusal status b);
-      in_file = λ i e. absurd (expression_no_file status i kind e);
-      one_of = λ i e. absurd (expression_no_file status i kind e);
-      read_fault = λ i e. absurd (subst (λ (status : Status). IsOfExpression status) e kind);
-      memory = expression_memory status kind;
-      never = (
-        λ e. subst (λ (status : Status). IsOfExpression status) e kind,
-        λ e. subst (λ (status : Status). IsOfExpression status) e kind,
-        λ e. subst (λ (status : Status). IsOfExpression status) e kind,
-      );
-    }
-
 scene_asked : {T : Type 0} (after : ℕ → (T → Verdict) → Verdict) (next : ℕ → T → List Tri →
     Verdict) (places m : ℕ) (t : T) → ((then : T → Verdict) → after m then ≡ then t) → (contents : Contents) →
     length contents ≡ m → asks after next places contents ≡ after_scene places contents (next m t)

@@ -22,7 +22,7 @@ use Rattle.ember_verdict.specs.Held.{AreContentsOf, MayHold, MayHoldOne}
 use Rattle.ember_verdict.specs.Scenes.{HasParts}
 use Rattle.ember_verdict.specs.NoReplies.{IsAfterFiles, IsFileIn, IsNoScene, with_others}
 use Rattle.ember_verdict.specs.Verdict.{Contents, Verdict, Unknown, after_balance, after_file, after_files, after_mesh, after_scene, after_total, first_told}
-use Rattle.ember_verdict.proofs.HeldContents.{contents_count, contents_joined, held_one_then, held_then, some_contents, told_or_empty}
+use Rattle.ember_verdict.proofs.HeldContents.{contents_count, contents_joined, held_then, some_contents, told_or_empty}
 use Rattle.ember_verdict.proofs.NoReplies.{after_no_reply, before_is_refusal, before_no_file, file_is_refusal, same_number}
 use Rattle.ember_verdict.proofs.Verdicts.{same_self, same_then, refusal_then, untold_then, above}
 
@@ -45,39 +45,6 @@ mesh_refused places i told tris loose next read found =
     (after_balance i (loose_of tris) (next tris)) (read (λ tris. after_balance i (loose_of tris) (next tris)))
     (subst (λ (found : Option Loose). IsRefusalIfTold (MeshRefused i (Unbalanced loose))
     (after_balance i found (next tris))) (sym found) refl)
-
--- the same over contents that the file may have
-pub mesh_held : (places i : ℕ) (told : Option (List ℕ)) (tris : List Tri) →
-    MayHoldOne told (λ content. (next : List Tri → Verdict) →
-    IsSameIfTold (after_file places i content next) (next tris)) → loose_of tris ≡ None →
-    MayHoldOne told (λ content. (next : List Tri → Verdict) → IsSameIfTold (after_mesh places i content next) (next tris))
-mesh_held places i told tris h closed =
-    held_one_then told (λ content. (next : List Tri → Verdict) →
-    IsSameIfTold (after_file places i content next) (next tris)) (λ content. (next : List Tri → Verdict) →
-    IsSameIfTold (after_mesh places i content next) (next tris))
-    (λ content read next. mesh_read places i content tris next read closed) h
-
--- those of a file whose mesh isn't closed
-pub loose_held : (places i : ℕ) (told : Option (List ℕ)) (tris : List Tri) (loose : Loose) →
-    MayHoldOne told (λ content. (next : List Tri → Verdict) →
-    IsSameIfTold (after_file places i content next) (next tris)) → loose_of tris ≡ Some loose →
-    MayHoldOne told (λ content. (next : List Tri → Verdict) →
-    IsRefusalIfTold (MeshRefused i (Unbalanced loose)) (after_mesh places i content next))
-loose_held places i told tris loose h found =
-    held_one_then told (λ content. (next : List Tri → Verdict) →
-    IsSameIfTold (after_file places i content next) (next tris)) (λ content. (next : List Tri → Verdict) →
-    IsRefusalIfTold (MeshRefused i (Unbalanced loose)) (after_mesh places i content next))
-    (λ content read next. mesh_refused places i content tris loose next read found) h
-
--- those of a file that is refused as such
-pub file_refused_held : (places i : ℕ) (told : Option (List ℕ)) (status : Status) →
-    MayHoldOne told (λ content. (next : List Tri → Verdict) → IsRefusalIfTold status (after_file places i content next)) →
-    MayHoldOne told (λ content. (next : List Tri → Verdict) → IsRefusalIfTold status (after_mesh places i content next))
-file_refused_held places i told status h =
-    held_one_then told (λ content. (next : List Tri → Verdict) →
-    IsRefusalIfTold status (after_file places i content next)) (λ content. (next : List Tri → Verdict) →
-    IsRefusalIfTold status (after_mesh places i content next))
-    (λ content refused next. refused (λ tris. after_balance i (loose_of tris) (next tris))) h
 
 -- ---- one mesh more
 numbered_more : (m : ℕ) (parts : List Closed) (part : Closed) → AreNumbered m parts →
@@ -213,15 +180,6 @@ HaveParts places told names parts = MayHold told names (λ contents. HasParts pl
 held_count : (told : List ℕ → Option (List ℕ)) (names contents : List (List ℕ)) → AreContentsOf told names contents → length (map Some contents) ≡ length names
 held_count told names contents are = length-map contents Some ∙ contents_count told names contents are
 
--- no file
-pub no_held_parts : (places : ℕ) (told : List ℕ → Option (List ℕ)) (files : List (List ℕ)) (parts : List Closed) →
-    parts ≡ [] → HaveParts places told (take 0 files) parts
-no_held_parts places told files parts e = subst (λ (parts : List Closed). HaveParts places told (take 0 files) parts) (sym e) (none files)
-  where
-    none : (files : List (List ℕ)) → HaveParts places told (take 0 files) []
-    none [] = ([], tt, record { count = refl; numbered = tt; same = λ more next. same_self (after_scene places more next) })
-    none (file ∷ files) = ([], tt, record { count = refl; numbered = tt; same = λ more next. same_self (after_scene places more next) })
-
 one_more_held : (places : ℕ) (told : List ℕ → Option (List ℕ)) (names : List (List ℕ)) (name : List ℕ)
     (parts : List Closed) (part : Closed) → HaveParts places told names parts →
     All (λ t. t.mesh ≡ length names + 1) part.tris →
@@ -334,6 +292,7 @@ part_is_no_reply places now files k number d name parts shelf status l h p t e n
     }
 
 -- ---- all files
+-- few triangles stay below the limit
 pub few_joined : (tris : List Tri) (next : List Tri → Verdict) → length tris ≤ 262144 → after_total tris next ≡ next tris
 few_joined tris next l = rw (le-leb (length tris) 262144 l) refl
 

@@ -3,18 +3,20 @@ use Rattle.std.proofs.Common.{◌≡◌, ◌⊎◌, inl, inr, ℕ, zero, suc, �
 use Rattle.std.proofs.Common.{◌-ℤ◌, ◌*ℤ◌, refl, sym, ap, subst, ◌∙◌, arith}
 use Rattle.std.specs.Prelude.{slice_get}
 use Rattle.std.specs.declared.option.Option.{Option}
+use Rattle.std.proofs.lemmas.Bool.{and_parts}
 use Rattle.ember_algebra.specs.Relations.{Each, more}
 use Rattle.ember_algebra.proofs.Laws.{linear}
 use Rattle.ember_algebra.proofs.Ring.{num, ◌⊕◌, ◌⊖◌, ◌⊗◌, ◌≈◌, solve, cancels}
 use Rattle.ember_model.specs.declared.face.Face.{Face}
 use Rattle.ember_model.specs.declared.plane.Plane.{Plane}
 use Rattle.ember_model.specs.declared.point.Spot.{Spot}
-use Rattle.ember_model.proofs.SignTests.{and_parts, clash, negative_out}
-use Rattle.ember_slice.specs.Lines.{IsFlat, ahead, is_before, is_on_line}
+use Rattle.ember_model.proofs.SignTests.{clash}
+use Rattle.ember_slice.specs.Lines.{IsFlat, is_before, is_on_line}
 use Rattle.ember_slice.specs.Segments.{Directed, GivesSegments, GivesNone, IsUnboundedBack, IsUnboundedAhead, IsEndless}
 use Rattle.ember_slice.specs.Segments.{IsFirstEndless, IsSegment, IsSliceText, is_cut}
-use Rattle.ember_slice.proofs.Along.{ahead_turned, on_line_in, square, square_above}
+use Rattle.ember_slice.proofs.Along.{on_line_in, square, square_above}
 use Rattle.ember_slice.proofs.Bounds.{cut_line}
+use Rattle.ember_slice.proofs.Orders.{not_both}
 use Rattle.ember_verdict.specs.declared.status.FaceFault.{FaceFault}
 use Rattle.ember_verdict.specs.declared.status.FaceFault.TheVariants.{Form, Endless}
 use Rattle.ember_verdict.specs.Slices.{IsFaceFault, IsSlice, IsSliceable}
@@ -41,10 +43,6 @@ point_on n at t =
 beyond : (f : Face) (at : ℤ) (v : Spot) → is_on_line f.support at v ≡ true → IsUnboundedAhead f at ⊎ IsUnboundedBack f at → (p : Spot) × (is_cut f at p ≡ true)
 beyond f at v on (inl goes) = let p = goes v on in (p.0, p.1)
 beyond f at v on (inr goes) = let p = goes v on in (p.0, p.1)
-
-not_both : (n : Plane) (u v : Spot) → is_before n u v ≡ true → is_before n v u ≡ true → ⊥
-not_both n u v h k =
-    let a = negative_out (ahead n u v) h in let b = negative_out (ahead n v u) k in let e = ahead_turned n u v in omega (arith, linear, a, b, e)
 
 none_ends : (f : Face) (at : ℤ) → IsEndless f at → GivesNone f at → ⊥
 none_ends f at h (inl flat) = h.tilted flat

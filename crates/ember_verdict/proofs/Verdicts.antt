@@ -121,21 +121,6 @@ file_refused places i told bytes fault next read e =
     (sym e) refl)
 
 -- ---- contents that the file may have
-pub file_held : (places i : ℕ) (told : Option (List ℕ)) (bytes : List ℕ) (faces : FileTriangles) → Tells told bytes →
-    length bytes ≤ 268435456 → read_obj_of places i bytes ≡ Ok faces →
-    MayHoldOne told (λ content. (next : List Tri → Verdict) →
-    IsSameIfTold (after_file places i content next) (next faces.tris))
-file_held places i told bytes faces t l e =
-    (bytes, t, λ next. file_read places i (Some bytes) bytes faces next (λ next. bytes_read i (Some bytes) bytes next refl l) e)
-
--- those of a file with a fault
-pub fault_held : (places i : ℕ) (told : Option (List ℕ)) (bytes : List ℕ) (fault : ObjFault) → Tells told bytes →
-    length bytes ≤ 268435456 → read_obj_of places i bytes ≡ Err fault →
-    MayHoldOne told (λ content. (next : List Tri → Verdict) →
-    IsRefusalIfTold (ObjRefused i fault) (after_file places i content next))
-fault_held places i told bytes fault t l e =
-    (bytes, t, λ next. file_refused places i (Some bytes) bytes fault next (λ next. bytes_read i (Some bytes) bytes next refl l) e)
-
 -- those of a file whose bytes are refused
 pub bytes_refused_held : (places i : ℕ) (told : Option (List ℕ)) (status : Status) →
     MayHoldOne told (λ content. (next : List ℕ → Verdict) → IsRefusalIfTold status (after_bytes i content next)) →

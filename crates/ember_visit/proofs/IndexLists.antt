@@ -1,5 +1,5 @@
 -- Lists of places, and the triangles that they list.
-use Rattle.std.proofs.Common.{◌≡◌, ℕ, zero, suc, ◌+◌, ◌<◌, ◌≤◌, Bool, not, nat_eq, List, [], ◌∷◌, ◌++◌, filter, length, get_or, All, sym, ap, ◌∙◌, subst, arith}
+use Rattle.std.proofs.Common.{◌≡◌, ℕ, zero, suc, ◌+◌, ◌<◌, ◌≤◌, Bool, not, nat_eq, List, [], ◌∷◌, filter, length, get_or, All, sym, ap, ◌∙◌, subst, arith}
 use Rattle.std.specs.List.{range_with_len}
 use Rattle.std.proofs.lemmas.List.{length-map}
 use Rattle.std.proofs.lemmas.List.Elements.{All-get_or, All-weaker, All-cons, All-map}
@@ -18,7 +18,7 @@ use Rattle.ember_law.proofs.CountBounds.{crossing_small}
 use Rattle.ember_box.specs.Boxes.{Cell}
 use Rattle.ember_box.specs.Reference.{reference, vector_at}
 use Rattle.ember_box.specs.Near.{is_near, near, no_tri, tri_at, listed, all_indices}
-use Rattle.ember_box.proofs.Lists.{near_in_range, listed_near_all}
+use Rattle.ember_box.proofs.Lists.{near_in_range, listed_near_all, all_indices_below}
 use Rattle.ember_job.specs.declared.job.Job.{Job}
 use Rattle.ember_visit.specs.Jobs.{near_of, IsJob}
 
@@ -40,10 +40,6 @@ of_64 ts n s =
 range_below : (from n most : ℕ) → from + n ≤ most → All (λ i. i < most) (range_with_len from n)
 range_below from zero most le = λ k d l. absurd (omega arith)
 range_below from (suc n) most le = All-cons (λ i. i < most) from (range_with_len (from + 1) n) (omega arith) (range_below (from + 1) n most (omega arith))
-
--- all indices of a list are in range
-pub all_places : (ts : List Tri) → All (λ i. i < length ts) (all_indices ts)
-all_places ts = range_below 0 (length ts) (length ts) (omega arith)
 
 -- ---- winding numbers are small
 wind_small : (a : Axis) (p : Spot) (fs : List Face) → Small (length fs) (wind a fs p)
@@ -72,7 +68,7 @@ vector_small ts c few =
 module _ (ts : List Tri) (j : Job) (h : IsJob ts j) where
   -- a job lists indices of triangles of the scene
   pub job_places : All (λ i. i < length ts) j.list
-  job_places = subst (All (λ i. i < length ts)) (sym h.list) (near_in_range ts j.cell (all_indices ts) (all_places ts))
+  job_places = subst (All (λ i. i < length ts)) (sym h.list) (near_in_range ts j.cell (all_indices ts) (all_indices_below ts))
 
   -- a job lists no more triangles than a scene may have
   pub few_listed : length ts ≤ 262144 → length j.list ≤ 262144
@@ -88,10 +84,3 @@ module _ (ts : List Tri) (j : Job) (h : IsJob ts j) where
   -- the triangles near a job's box are those that it lists
   pub near_listed : near ts j.cell ≡ near_of ts j
   near_listed = sym (ap (listed ts) h.list ∙ listed_near_all ts j.cell)
-
--- one number more
-pub range_more : (n : ℕ) → range_with_len 0 (n + 1) ≡ range_with_len 0 n ++ n ∷ []
-range_more n = let e : n + 1 ≡ suc n = omega arith in ap (range_with_len 0) e ∙ from 0 n n (omega arith) where
-  from : (a k m : ℕ) → a + k ≡ m → range_with_len a (suc k) ≡ range_with_len a k ++ m ∷ []
-  from a zero m e = ap (λ b. b ∷ []) (let f : a ≡ m = omega (arith, e) in f)
-  from a (suc k) m e = ap (λ xs. a ∷ xs) (from (a + 1) k m (omega (arith, e)))

@@ -68,7 +68,7 @@ all_far c m (t ∷ ts) h = by (is_near c t) (nat_eq t.mesh m) refl refl h (all_f
     by false false e d h r = r h
 
 -- the count of a mesh is its winding number
-count_is : (a : Axis) (ts : List Tri) (p : Spot) (m : ℕ) → IsMeshNumber 64 m → count_of (vector a ts p) m ≡ wind a (faces_of (of_mesh m ts)) p
+pub count_is : (a : Axis) (ts : List Tri) (p : Spot) (m : ℕ) → IsMeshNumber 64 m → count_of (vector a ts p) m ≡ wind a (faces_of (of_mesh m ts)) p
 unfolding meshes
 count_is a ts p m h =
     get_or-map-range_with_len (λ m. wind a (faces_of (of_mesh m ts)) p) 1 64 (m - 1) m (pos 0) (omega (arith, h.first, h.last)) (omega (arith, h.first))

@@ -5,11 +5,9 @@ use Rattle.std.proofs.lemmas.Bool.{lt-ltb, ltb-true, ltb-false, le-leb, lt-leb, 
 use Rattle.std.proofs.lemmas.Nat.{le-div}
 use Rattle.std.proofs.lemmas.Int.{ints}
 use Rattle.std.proofs.Math.Nat.{mul-le-mul_right, div-mul-le_self, pow-le-pow_right}
-use Rattle.ember_box.proofs.Orders.{same_test, le_in, le_out}
-
--- (a + 1) b is a b + b
-pub times_more : (a b : ℕ) → (a + 1) * b ≡ a * b + b
-times_more a b = omega arith
+use Rattle.ember_algebra.proofs.Booleans.{same_test}
+use Rattle.ember_algebra.proofs.Numbers.{int_le_in, int_le_out}
+use Rattle.ember_box.proofs.HalfCells.{times_one_more}
 
 module _ (d : ℕ) (some : 0 < d) (x : ℕ) where
   abbrev rounded : ℕ
@@ -22,11 +20,11 @@ module _ (d : ℕ) (some : 0 < d) (x : ℕ) where
     forth e =
         let l : i + 1 ≤ rounded = omega (arith, ltb-true i rounded e) in
         let h : (i + 1) * d ≤ rounded * d = mul-le-mul_right d l in
-        lt-ltb (i * d) x (omega (arith, h, times_more i d, div-mul-le_self (x + (d - 1)) d, some))
+        lt-ltb (i * d) x (omega (arith, h, times_one_more i d, div-mul-le_self (x + (d - 1)) d, some))
 
     back : nat_lt (i * d) x ≡ true → nat_lt i rounded ≡ true
     back e =
-        let h : i + 1 ≤ rounded = le-div (i + 1) (x + (d - 1)) d some (omega (arith, ltb-true (i * d) x e, times_more i d, some)) in
+        let h : i + 1 ≤ rounded = le-div (i + 1) (x + (d - 1)) d some (omega (arith, ltb-true (i * d) x e, times_one_more i d, some)) in
         lt-ltb i rounded (omega (arith, h))
 
   -- and at or above it exactly if i d is at or above x
@@ -47,8 +45,8 @@ few_cells size = pow-le-pow_right (omega arith) (let e : 12 - size ≤ 12 = omeg
 -- along an axis: x and y are where the box box_begins_at and box_ends_at, counted from the root's corner
 pub box_begins_at : (low : ℤ) (x n : ℕ) → pos x ≡ low +ℤ pos 2048 → nat_le x n ≡ int_le low (pos n -ℤ pos 2048)
 box_begins_at low x n e = same_test (nat_le x n) (int_le low (pos n -ℤ pos 2048))
-    (λ p. le_in low (pos n -ℤ pos 2048) (omega (arith, ints, e, leb-true x n p)))
-    (λ p. le-leb x n (omega (arith, ints, e, le_out low (pos n -ℤ pos 2048) p)))
+    (λ p. int_le_in low (pos n -ℤ pos 2048) (omega (arith, ints, e, leb-true x n p)))
+    (λ p. le-leb x n (omega (arith, ints, e, int_le_out low (pos n -ℤ pos 2048) p)))
 
 pub box_ends_at : (low side : ℤ) (y n : ℕ) → pos y ≡ low +ℤ side +ℤ pos 2048 → nat_lt n y ≡ int_lt (pos n -ℤ pos 2048) (low +ℤ side)
 box_ends_at low side y n e = grind (arith, ints)

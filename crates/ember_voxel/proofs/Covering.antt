@@ -7,23 +7,17 @@ use Rattle.std.proofs.lemmas.Nat.{pow_pos}
 use Rattle.std.proofs.Math.Nat.{mul-le-mul_right}
 use borrow.Author.Differences.{ints}
 use Rattle.ember_algebra.proofs.Laws.{linear}
+use Rattle.ember_algebra.proofs.Numbers.{int_lt_in, int_lt_out, int_le_in, int_le_out}
 use Rattle.ember_model.specs.declared.point.Axis.{Axis}
 use Rattle.ember_model.specs.declared.point.Axis.TheVariants.{X, Y, Z}
 use Rattle.ember_box.specs.Boxes.{Cell, entry_along, IsOnGrid, IsCell, low, high, root, left_half, right_half}
-use Rattle.ember_box.proofs.Orders.{le_in, le_out}
 use Rattle.ember_box.proofs.NearByAabbs.{halves_end}
-use Rattle.ember_box.proofs.HalfCells.{left_is_cell, right_is_cell}
+use Rattle.ember_box.proofs.HalfCells.{left_is_cell, right_is_cell, times_one_more}
 use Rattle.ember_visit.specs.Values.{HasCorner}
 use Rattle.ember_voxel.specs.Grid.{corner, contains_along, contains_cell}
 use Rattle.ember_voxel.specs.Lattice.{longest, IsHalvedByLongest, whole, low as low_even, high as high_even, is_lattice_cell}
 use Rattle.ember_voxel.specs.Voxels.{least_corner}
-use Rattle.ember_voxel.proofs.Ceilings.{all_cells, times_more}
-
-lt_in : (a b : ℤ) → a <ℤ b → int_lt a b ≡ true
-lt_in a b h = grind (arith, ints)
-
-lt_out : (a b : ℤ) → int_lt a b ≡ true → a <ℤ b
-lt_out a b e = grind (arith, ints)
+use Rattle.ember_voxel.proofs.Ceilings.{all_cells}
 
 -- ---- halves
 -- the tests of an interval that is cut in two
@@ -81,11 +75,11 @@ root_span : (size i : ℕ) → size ≤ 12 → i < 2 ^ (12 - size) →
     (int_le (neg_ℤ (pos 2048)) (corner size i) && int_lt (corner size i) (neg_ℤ (pos 2048) +ℤ pos (2 ^ 12))) ≡ true
 root_span size i le within =
     let h : (i + 1) * 2 ^ size ≤ 2 ^ (12 - size) * 2 ^ size = mul-le-mul_right (2 ^ size) (let g : i + 1 ≤ 2 ^ (12 - size) = omega (arith, within) in g) in
-    let below : i * 2 ^ size + 2 ^ size ≤ 4096 = omega (arith, h, all_cells size le, times_more i (2 ^ size)) in
+    let below : i * 2 ^ size + 2 ^ size ≤ 4096 = omega (arith, h, all_cells size le, times_one_more i (2 ^ size)) in
     let some : 0 < 2 ^ size = pow_pos size in
     and_from (int_le (neg_ℤ (pos 2048)) (corner size i)) (int_lt (corner size i) (neg_ℤ (pos 2048) +ℤ pos (2 ^ 12)))
-    (le_in (neg_ℤ (pos 2048)) (corner size i) (omega (arith, ints)))
-    (lt_in (corner size i) (neg_ℤ (pos 2048) +ℤ pos (2 ^ 12)) (omega (arith, ints, below, some)))
+    (int_le_in (neg_ℤ (pos 2048)) (corner size i) (omega (arith, ints)))
+    (int_lt_in (corner size i) (neg_ℤ (pos 2048) +ℤ pos (2 ^ 12)) (omega (arith, ints, below, some)))
 
 -- the root has the least corner of every cell
 pub root_covers : (size i j l : ℕ) → size ≤ 12 → i < 2 ^ (12 - size) → j < 2 ^ (12 - size) → l < 2 ^ (12 - size) → contains_cell size root i j l ≡ true
@@ -95,7 +89,7 @@ root_covers size i j l le p q r = λ t. root_span size l le r t && (root_span si
 within : (size : ℕ) (c : Cell) (k : Axis) (i : ℕ) → contains_along size c k i ≡ true → (low c k ≤ℤ corner size i) × (corner size i <ℤ high c k)
 within size c k i e =
     let p = and_parts (int_le (low c k) (corner size i)) (int_lt (corner size i) (high c k)) e in
-    (le_out (low c k) (corner size i) p.0, lt_out (corner size i) (high c k) p.1)
+    (int_le_out (low c k) (corner size i) p.0, int_lt_out (corner size i) (high c k) p.1)
 
 -- a box that covers a lattice cell contains the cell's least corner
 pub covered : (size : ℕ) (c : Cell) (i j l : ℕ) → contains_cell size c i j l ≡ true → HasCorner c (least_corner size i j l)
@@ -134,7 +128,7 @@ same_multiple d p i from until = by (nat_lt p i) refl where
   by : (b : Bool) → nat_lt p i ≡ b → p * d ≡ i * d
   by true e =
       let h : (p + 1) * d ≤ i * d = mul-le-mul_right d (let g : p + 1 ≤ i = omega (arith, ltb-true p i e) in g) in
-      absurd (omega (arith, h, times_more p d, until))
+      absurd (omega (arith, h, times_one_more p d, until))
   by false e =
       let h : i * d ≤ p * d = mul-le-mul_right d (let g : i ≤ p = ltb-false p i e in g) in omega (arith, h, from)
 

@@ -3,9 +3,9 @@ use Rattle.std.proofs.Common.{◌≡◌, ℕ, ◌+◌, ◌-◌, ◌*◌, ◌^◌
 use Rattle.std.proofs.Common.{if◌then◌else◌, count_by, codes, decimal, refl, sym, ap, ◌∙◌, subst, arith}
 use Rattle.std.proofs.lemmas.List.{drop_all, drop_at, take_all, append-nil, length-append, length-take, length-drop}
 use Rattle.std.proofs.Math.Nat.{mul-le-mul_right}
+use Rattle.ember_box.proofs.HalfCells.{times_one_more}
 use Rattle.ember_voxel.specs.declared.fill.Fill.{Fill}
 use Rattle.ember_voxel.specs.Grid.{char_at, is_set, is_one, header_of, IsGrid, IsGridText, KeepsFeeds, AddsRows}
-use Rattle.ember_voxel.proofs.Ceilings.{times_more}
 
 -- the list after its part from b on was written through
 abbrev pub after_write : ℕ → ℕ → List ℕ → List ℕ → List ℕ → List ℕ
@@ -38,7 +38,7 @@ front [] r b e = ap (λ n. take n r) e
 front (x ∷ h) r b e = ap (λ n. take n (x ∷ (h ++ r))) e ∙ ap (λ xs. x ∷ xs) (front h r (length h) refl)
 
 row_within : (n j l : ℕ) → j < n → l < n → l * n + j < n * n
-row_within n j l p q = let h : (l + 1) * n ≤ n * n = mul-le-mul_right n (let g : l + 1 ≤ n = omega (arith, q) in g) in omega (arith, h, p, times_more l n)
+row_within n j l p q = let h : (l + 1) * n ≤ n * n = mul-le-mul_right n (let g : l + 1 ≤ n = omega (arith, q) in g) in omega (arith, h, p, times_one_more l n)
 
 -- the whole text, from what each step of `grid_text` parts_make_text
 pub parts_make_text : (size n b l ones : ℕ) (fills : List Fill) (h t d r c text : List ℕ) → n ≡ 2 ^ (12 - size) →

@@ -9,11 +9,11 @@ use Rattle.std.proofs.lemmas.List.{append-nil, get_or-set_same, get_or-set_other
 use Rattle.std.proofs.lemmas.List.{get_or-replicate, get_or-append-add, get_or_append_left}
 use Rattle.std.proofs.lemmas.List.Folds.{list_any_more}
 use Rattle.std.proofs.Math.Nat.{mul-le-mul_right}
-use Rattle.ember_box.proofs.Orders.{same_test}
+use Rattle.ember_algebra.proofs.Booleans.{same_test}
+use Rattle.ember_box.proofs.HalfCells.{times_one_more}
 use Rattle.ember_voxel.specs.declared.fill.Fill.{Fill}
 use Rattle.ember_voxel.specs.declared.grid.Extent.{Extent}
 use Rattle.ember_voxel.specs.Grid.{char_at, between, sets_cell, is_set, KeepsFeeds, AddsRows}
-use Rattle.ember_voxel.proofs.Ceilings.{times_more}
 
 -- ---- tests
 -- a number more in an interval
@@ -255,7 +255,7 @@ adds_more n count old now new row s is e = record {
   before : (r i : ℕ) → r < count → i < n + 1 → r * (n + 1) + i < length s.rows
   before r i l m = let h : (r + 1) * (n + 1) ≤ count * (n + 1) =
       mul-le-mul_right (n + 1) (let g : r + 1 ≤ count = omega (arith, l) in g) in
-      omega (arith, h, m, s.blank.size, times_more r (n + 1))
+      omega (arith, h, m, s.blank.size, times_one_more r (n + 1))
 
   by_row : (r i : ℕ) {c : ℕ} → r < count + 1 → i < n + 1 → (r < count → char_at n s.rows r i ≡ c) →
       (r ≡ count → get_or row i 0 ≡ c) → char_at n (s.rows ++ row) r i ≡ c

@@ -1,5 +1,5 @@
 -- A command that may name several files names one at least.
-use Rattle.std.proofs.Common.{◌≡◌, ◌∙◌, ◌<◌, ◌≤◌, ℕ, zero, suc, Bool, true, false, not, ◌&&◌, cond, codes, ℤ, List, []}
+use Rattle.std.proofs.Common.{◌≡◌, ◌<◌, ◌≤◌, ℕ, zero, suc, Bool, true, false, not, ◌&&◌, cond, codes, ℤ, List, []}
 use Rattle.std.proofs.Common.{◌∷◌, ◌++◌, length, length-append, refl, sym, subst, Option, Some, None, Result, Ok, Err}
 use Rattle.std.proofs.Common.{arith, fold}
 use Rattle.std.specs.Prelude.{⊤, ◌+◌, ◌||◌, min, IfOk, IfSome, is_some, find, encode_utf8, slice_get, option_and_then, option_map, drop}
@@ -27,7 +27,9 @@ use Rattle.clap.specs.Simple as simple
 use Rattle.clap.specs.declared.parser.matches.ValueSource.{ValueSource}
 use Rattle.clap.specs.declared.parser.matches.ValueSource.TheVariants.{DefaultValue, CommandLine}
 use Rattle.clap.proofs.OnLiterals.{clap_on_literals}
+use Rattle.ember_algebra.proofs.Booleans.{and_first, and_second}
 use Rattle.ember_model.specs.declared.point.Spot.{Spot}
+use Rattle.ember_model.proofs.SignTests.{clash, not_true}
 use Rattle.ember_words.specs.Commands.{at_app, bool_app, pairs_app, voxels_app}
 use Rattle.ember_words.specs.Limits.{are_names, names_in_limits}
 use Rattle.ember_words.specs.WordsCommand.{Reads, app_for, at_with, bool_with, command_of, demo_with, faces_with}
@@ -40,21 +42,6 @@ use Rattle.ember_words.specs.declared.verb.Verb.{Verb}
 use Rattle.ember_words.specs.declared.verb.Verb.TheVariants.{Faces, At, Boole, Demo, Voxels, Pairs, Slice}
 
 -- ---- tests
-clash : {b : Bool} → b ≡ true → b ≡ false → ⊥
-clash t f = let h : true ≡ false = sym t ∙ f in absurd (cc)
-
-first_of_two : (a b : Bool) → a && b ≡ true → a ≡ true
-first_of_two true b e = refl
-first_of_two false b e = e
-
-second_of_two : (a b : Bool) → a && b ≡ true → b ≡ true
-second_of_two true b e = e
-second_of_two false b e = absurd (clash e refl)
-
-not_true : (b : Bool) → not b ≡ true → b ≡ false
-not_true true e = sym e
-not_true false e = refl
-
 -- a row of this id has a value
 module _ (id : Text) where
   abbrev HasValue : Text → List Text → Type 0
@@ -196,7 +183,7 @@ module _ (id : Text) where
     other_if : (test : Rule → Bool) (o : Option Rule) →
         IfSome o (λ a. IsOther a × (not (is_some a.index) && test a ≡ true)) → IfSome o (λ a. bytes_eq a.id id ≡ false)
     other_if test None f = tt
-    other_if test (Some a) f = f.0 (not_true (is_some a.index) (first_of_two (not (is_some a.index)) (test a) f.1))
+    other_if test (Some a) f = f.0 (not_true (is_some a.index) (and_first (not (is_some a.index)) (test a) f.1))
 
     by_long : (name : Text) → IfSome (arg_by_long c name) (λ a. bytes_eq a.id id ≡ false)
     by_long name = other_if (λ a. has_long a name) (arg_by_long c name) (found IsOther (λ a. not (is_some a.index) && has_long a name) c others)
@@ -328,10 +315,10 @@ others_from [] e = tt
 others_from (a ∷ c) e = (one (is_some a.index) (bytes_eq a.id (codes "files")) (left e), others_from c (right e))
   where
     left : is_other a && list_all is_other c ≡ true → is_other a ≡ true
-    left h = first_of_two (is_other a) (list_all is_other c) h
+    left h = and_first (is_other a) (list_all is_other c) h
 
     right : is_other a && list_all is_other c ≡ true → list_all is_other c ≡ true
-    right h = second_of_two (is_other a) (list_all is_other c) h
+    right h = and_second (is_other a) (list_all is_other c) h
 
     one : (b d : Bool) → b || not d ≡ true → b ≡ false → d ≡ false
     one true d h f = absurd (clash refl f)

@@ -1,37 +1,27 @@
 -- Common divisors of lists, and lists in lowest terms that are in proportion.
-use Rattle.std.proofs.Common.{◌≡◌, ◌≢◌, ◌⊎◌, inl, inr, ⊎_elim, ℕ, zero, suc, ◌*◌, ◌/◌, ◌%◌, ◌<◌, ◌≤◌, List, [], ◌∷◌}
+use Rattle.std.proofs.Common.{◌≡◌, ◌≢◌, ◌⊎◌, inl, inr, ⊎_elim, ℕ, zero, suc, ◌*◌, ◌/◌, ◌<◌, ◌≤◌, List, [], ◌∷◌}
 use Rattle.std.proofs.Common.{◌++◌, ℤ, pos, negsuc, ◌*ℤ◌, unsigned_abs, SFits, to_z, of_z, to_z-of_z, refl, sym, ap}
 use Rattle.std.proofs.Common.{subst, ◌∙◌, arith}
 use mir.Syntax.{Width}
 use Rattle.std.specs.Int.{IsGcd, ◌∣◌}
 use Rattle.std.proofs.lemmas.Int.{ints, unsigned_abs-mul}
-use Rattle.std.proofs.lemmas.Nat.Gcd.{IsGcd-from_zero, IsGcd-from_mod, dvd-zero, dvd_antisymm, dvd_trans, le_of_dvd}
+use Rattle.std.proofs.lemmas.Nat.Gcd.{dvd-zero, dvd_antisymm, dvd_trans, le_of_dvd}
 use Rattle.std.proofs.Math.Nat.{mul-dvd-mul_left, dvd_of_mul-dvd-mul_left, dvd-mul_right, mul-div_cancel', eq-zero_of_zero-dvd}
 use Rattle.ember_algebra.specs.Relations.{Every}
 use Rattle.ember_algebra.specs.Size.{Small}
 use Rattle.ember_algebra.proofs.Relations.{every_append}
+use Rattle.ember_algebra.proofs.Divisors.{gcd_within}
 use Rattle.mesh_certificate.specs.Key.Divisors.{Divides, IsGreatestDivisor, AreLowest}
 
 -- ---- each two numbers have a greatest common divisor
-record HasGcd (a b : ℕ) : Type 0 where
-  gcd : ℕ
-  is : IsGcd a b gcd
-
-gcd_within : (n a b : ℕ) → b ≤ n → HasGcd a b
-gcd_within n a zero l = record { gcd = a; is = IsGcd-from_zero a zero refl }
-gcd_within zero a (suc b) l = absurd (omega arith)
-gcd_within (suc n) a (suc b) l =
-    let h = gcd_within n (suc b) (a % suc b) (omega arith) in
-    record { gcd = h.gcd; is = IsGcd-from_mod a (suc b) h.gcd h.is }
-
 -- what divides k times two numbers divides k times their greatest common divisor
 divides_multiple_of_gcd : (k a b g d : ℕ) → IsGcd a b g → d ∣ k * a → d ∣ k * b → d ∣ k * g
 divides_multiple_of_gcd zero a b g d i p q = subst (λ n. d ∣ n) (omega arith) (dvd-zero d)
 divides_multiple_of_gcd (suc k) a b g d i p q =
     let h = gcd_within (suc k * b) (suc k * a) (suc k * b) (omega arith) in
     let s = h.is.2 (suc k) (dvd-mul_right (suc k) a) (dvd-mul_right (suc k) b) in
-    let e : suc k * (h.gcd / suc k) ≡ h.gcd = mul-div_cancel' (suc k) s in
-    let up = by (h.gcd / suc k) (subst (λ n. n ∣ suc k * a) (sym e) h.is.0) (subst (λ n. n ∣ suc k * b) (sym e) h.is.1) in
+    let e : suc k * (h.divisor / suc k) ≡ h.divisor = mul-div_cancel' (suc k) s in
+    let up = by (h.divisor / suc k) (subst (λ n. n ∣ suc k * a) (sym e) h.is.0) (subst (λ n. n ∣ suc k * b) (sym e) h.is.1) in
     dvd_trans d (h.is.2 d p q) (subst (λ n. n ∣ suc k * g) e up)
   where
     by : (t : ℕ) → (suc k * t) ∣ (suc k * a) → (suc k * t) ∣ (suc k * b) → (suc k * t) ∣ (suc k * g)
@@ -53,10 +43,10 @@ content_of [] = record { content = 0; divides = tt; multiples = λ d k p. subst 
 content_of (z ∷ zs) =
     let c = content_of zs in let h = gcd_within c.content (unsigned_abs z) c.content (omega arith) in
     record {
-      content = h.gcd;
-      divides = (h.is.0, divides_all h.gcd c.content zs h.is.1 c.divides);
+      content = h.divisor;
+      divides = (h.is.0, divides_all h.divisor c.content zs h.is.1 c.divides);
       multiples =
-          λ d k p. divides_multiple_of_gcd k (unsigned_abs z) c.content h.gcd d h.is p.0 (c.multiples d k p.1);
+          λ d k p. divides_multiple_of_gcd k (unsigned_abs z) c.content h.divisor d h.is p.0 (c.multiples d k p.1);
     }
 
 -- what divides k times each number of a list in lowest terms divides k

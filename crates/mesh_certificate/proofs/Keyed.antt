@@ -1,12 +1,11 @@
 -- The keys of the ends of segments: a key occurs as often as segments start or end where it says
 use Rattle.std.proofs.Common.{◌≡◌, ◌⊎◌, inl, inr, ℕ, ◌+◌, ◌/◌, ◌%◌, ◌<◌, ◌≤◌, pos, ◌-ℤ◌, Bool, true, false, ◌&&◌, cond}
 use Rattle.std.proofs.Common.{List, [], ◌∷◌, ◌++◌, map, filter, refl, sym, subst, ◌∙◌, arith, eqb}
-use Rattle.std.proofs.lemmas.Bool.{cases_lt, eqb-true, eqb-false, eq-eqb, ne_eqb}
+use Rattle.std.proofs.lemmas.Bool.{cases_lt, eqb-true, eqb-false, eq-eqb, ne_eqb, and_parts}
 use borrow.Author.Differences.{ints}
 use Rattle.ember_algebra.specs.Sums.{total}
 use Rattle.ember_algebra.proofs.Laws.{linear}
 use Rattle.ember_algebra.proofs.Sums.{occurrences-append}
-use Rattle.ember_model.proofs.SignTests.{and_parts}
 use Rattle.ember_balance.specs.Counts.{count}
 use Rattle.mesh_certificate.specs.declared.certificate.segment.Segment.{Segment}
 use Rattle.mesh_certificate.specs.Certificate.Chains.{is_on, HaveSameBoundary}

@@ -12,19 +12,20 @@ use Rattle.ember_algebra.proofs.Laws.{from_one, from_two, from_three}
 use Rattle.ember_algebra.proofs.Order.{by_sign, zero_product}
 use Rattle.ember_algebra.proofs.Ring.{◌⊕◌, ◌⊖◌, ◌⊗◌, ◌≈◌, num, neg, cancels}
 use Rattle.ember_algebra.proofs.Vectors.{scalar, vector, tuple, identity, vector_identity, ◌≈v◌, cancels_v, same_v}
-use Rattle.ember_algebra.proofs.Vectors.{VectorE, TupleE, plusE, minusE, scaleE, dotE, crossE, valueE}
+use Rattle.ember_algebra.proofs.Vectors.{VectorE, TupleE, plusE, minusE, scaleE, dotE, crossE, valueE, square_positive}
 use Rattle.ember_model.specs.declared.plane.Plane.{Plane}
 use Rattle.ember_model.specs.declared.point.Spot.{Spot}
 use Rattle.ember_model.specs.Edges.{normal}
 use Rattle.ember_model.specs.Planes.{value_at}
 use Rattle.ember_model.proofs.Tuples.{plane_tuple, spot_tuple, normalE}
+use Rattle.ember_model.proofs.SignTests.{positive_nonzero, negative_nonzero}
 use Rattle.mesh_certificate.specs.declared.key.lines.LineKey.{LineKey}
 use Rattle.mesh_certificate.specs.Key.Divisors.{Divides, IsGreatestDivisor}
 use Rattle.mesh_certificate.specs.Key.LineKeys.{direction, moment, coordinates, numerators, IsOnLine, IsOnBoth, direction_of}
 use Rattle.mesh_certificate.specs.Key.LineKeys.{moment_of, IsLineKey, IsMultiple, IsLineSized, HaveSameMeet}
 use Rattle.mesh_certificate.proofs.Divisors.{factors_have_one_size, quotients_are_lowest, divides_zero}
 use Rattle.mesh_certificate.proofs.Quotients.{size_positive, quotient_small}
-use Rattle.mesh_certificate.proofs.Vectors.{zeroE, square_positive, positive_nonzero, negative_nonzero, scale_cancel, scale_nonzero, parallel_multiple}
+use Rattle.mesh_certificate.proofs.Vectors.{zeroE, scale_cancel, scale_nonzero, parallel_multiple}
 use Rattle.mesh_certificate.proofs.Signs.{forward_factor, forward_where_same_sign}
 
 -- ---- the points on two planes

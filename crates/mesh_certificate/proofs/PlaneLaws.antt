@@ -10,34 +10,32 @@ use Rattle.ember_algebra.proofs.Laws.{linear, one-*ℤ, from_one, from_two}
 use Rattle.ember_algebra.proofs.Order.{by_sign, pos_mul, cancel_eq}
 use Rattle.ember_algebra.proofs.Ring.{◌⊕◌, ◌⊖◌, ◌⊗◌, ◌≈◌, num, solve, cancels}
 use Rattle.ember_algebra.proofs.Signs.{sgn-mul, sgn_pos, zero_from_sgn, pos_from_sgn}
-use Rattle.ember_algebra.proofs.Vectors.{scalar, tuple, identity, dotE, crossE, valueE}
+use Rattle.ember_algebra.proofs.Vectors.{tuple, identity, dotE, crossE, square_positive}
 use Rattle.ember_model.specs.declared.plane.Plane.{Plane}
 use Rattle.ember_model.specs.declared.point.Spot.{Spot}
 use Rattle.ember_model.specs.Edges.{normal}
 use Rattle.ember_model.specs.Planes.{value_at, times_plane}
-use Rattle.ember_model.proofs.Tuples.{plane_tuple, spot_tuple, normalE, same_plane}
+use Rattle.ember_model.proofs.Tuples.{plane_tuple, normalE, same_plane}
 use Rattle.ember_model.specs.Valid.{IsValidPlane}
 use Rattle.ember_algebra.specs.Size.{Small}
+use Rattle.ember_model.proofs.SignTests.{positive_nonzero}
+use Rattle.ember_model.proofs.PlaneValues.{value_times}
 use Rattle.mesh_certificate.specs.Key.Divisors.{Divides, IsGreatestDivisor, AreLowest}
 use Rattle.mesh_certificate.specs.Key.PlaneKeys.{coefficients, IsSameOriented, zero_plane, IsPlaneKey, HaveSameSides, HasNormal}
 use Rattle.mesh_certificate.proofs.Divisors.{factors_have_one_size, quotients_are_lowest, lowest_where_one, all_zero}
 use Rattle.mesh_certificate.proofs.Quotients.{size_positive, quotient_small}
-use Rattle.mesh_certificate.proofs.Vectors.{no_square_no_vector, square_positive, positive_nonzero, parallel_multiple}
+use Rattle.mesh_certificate.proofs.Vectors.{no_square_no_vector, parallel_multiple}
 
 -- ---- sides
-value-times : (j : ℤ) (p : Plane) (v : Spot) → value_at (times_plane j p) v ≡ j *ℤ value_at p v
-value-times j p v =
-    identity (scalar ∷ tuple ∷ tuple ∷ []) (λ j p v. (j ⊗ p.x) ⊗ v.x ⊕ (j ⊗ p.y) ⊗ v.y ⊕ (j ⊗ p.z) ⊗ v.z ⊖ (j ⊗ p.w) ⊗
-    v.w ≈ j ⊗ valueE p v) cancels j (plane_tuple p) (spot_tuple v)
-
-sgn_times : (j z : ℤ) → pos 0 <ℤ j → sgn (j *ℤ z) ≡ sgn z
+-- a positive factor doesn't change the sign
+pub sgn_times : (j z : ℤ) → pos 0 <ℤ j → sgn (j *ℤ z) ≡ sgn z
 sgn_times j z l = sgn-mul j z ∙ ap (λ (s : Sign). times s (sgn z)) (sgn_pos l)
 
 -- each point is on the same side of a plane and of its multiple
 pub same_oriented_sides : {p q : Plane} → IsSameOriented p q → (v : Spot) → sgn (value_at p v) ≡ sgn (value_at q v)
 same_oriented_sides {p} {q} h v =
     sym (sgn_times h.of_p (value_at p v) h.positive_p)
-    ∙ ap sgn (sym (value-times h.of_p p v) ∙ ap (λ (r : Plane). value_at r v) h.same ∙ value-times h.of_q q v)
+    ∙ ap sgn (sym (value_times h.of_p p v) ∙ ap (λ (r : Plane). value_at r v) h.same ∙ value_times h.of_q q v)
     ∙ sgn_times h.of_q (value_at q v) h.positive_q
 
 -- ---- one oriented plane: an equivalence

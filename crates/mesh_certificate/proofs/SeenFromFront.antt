@@ -1,5 +1,6 @@
 -- Triangles that face the front of their plane: along the main axis their corners turn as they do from the front
 use Rattle.std.proofs.Common.{◌≡◌, ◌≢◌, sym, ap, ◌∙◌, arith, ℤ, pos, ◌-ℤ◌, ◌*ℤ◌, ◌<ℤ◌, true, ◌&&◌, [], ◌∷◌}
+use Rattle.std.proofs.lemmas.Bool.{and_parts}
 use Rattle.ember_algebra.specs.Vector.{Vector, zero_v, dot, cross}
 use Rattle.ember_algebra.specs.Det.{det3}
 use Rattle.ember_algebra.specs.Sign.{sgn, is_pos, is_zero, is_positive}
@@ -16,7 +17,7 @@ use Rattle.ember_model.specs.Planes.{value_at, along, main_axis, unit}
 use Rattle.ember_model.specs.Edges.{normal}
 use Rattle.ember_model.proofs.SeenCrossings.{main_zero}
 use Rattle.ember_model.proofs.SignTests.{sgn_scaled, zero_scaled, zero_times, zero_out, positive_in, positive_out}
-use Rattle.ember_model.proofs.SignTests.{positive_nonzero, negative_nonzero, and_parts}
+use Rattle.ember_model.proofs.SignTests.{positive_nonzero, negative_nonzero}
 use Rattle.ember_model.proofs.Tuples.{plane_tuple, spot_tuple, normalE}
 use Rattle.mesh_certificate.specs.Certificate.Facing.{displacement, triangle_normal, turn_along, FacesFront}
 

@@ -1,39 +1,21 @@
 -- Vectors that are 0, parallel, or multiples of one another.
-use Rattle.std.proofs.Common.{◌≡◌, ◌≢◌, ⊎_elim, [], ◌∷◌, ℤ, pos, ◌*ℤ◌, neg_ℤ, ◌<ℤ◌, ap, ◌∙◌, arith}
+use Rattle.std.proofs.Common.{◌≡◌, ◌≢◌, [], ◌∷◌, ℤ, pos, neg_ℤ, ap, ◌∙◌, arith}
 use Rattle.ember_algebra.specs.Vector.{Vector, zero_v, scale_v, dot, cross}
 use Rattle.ember_algebra.proofs.Laws.{linear, from_two}
-use Rattle.ember_algebra.proofs.Order.{by_sign, square_nonneg, zero_product, cancel_eq}
+use Rattle.ember_algebra.proofs.Order.{square_nonneg, cancel_eq}
 use Rattle.ember_algebra.proofs.Ring.{◌⊕◌, ◌⊖◌, ◌⊗◌, ◌≈◌, num, neg, cancels}
 use Rattle.ember_algebra.proofs.Vectors.{VectorE, scalar, vector, identity, vector_identity, ◌≈v◌, cancels_v, same_v, scaleE, dotE, crossE}
+use Rattle.ember_algebra.proofs.Numbers.{square_zero}
 
 abbrev pub zeroE : VectorE
 zeroE = record { x = num (pos 0); y = num (pos 0); z = num (pos 0) }
 
 -- ---- a vector that is 0
-square_none : (a : ℤ) → a *ℤ a ≡ pos 0 → a ≡ pos 0
-square_none a e = ⊎_elim (λ z. z) (λ z. z) (zero_product e)
-
 -- a vector whose square is 0 is 0
 pub no_square_no_vector : (v : Vector) → dot v v ≡ pos 0 → v ≡ zero_v
 no_square_no_vector v e =
     let x = square_nonneg v.x in let y = square_nonneg v.y in let z = square_nonneg v.z in
-    same_v (square_none v.x (omega (arith, linear))) (square_none v.y (omega (arith, linear))) (square_none v.z (omega (arith, linear)))
-
--- a vector other than 0 has a positive square
-pub square_positive : (v : Vector) → v ≢ zero_v → pos 0 <ℤ dot v v
-square_positive v n =
-    by_sign (dot v v)
-    (λ p. p)
-    (λ z. absurd (n (no_square_no_vector v z)))
-    (λ p. absurd (omega (arith, linear, square_nonneg v.x, square_nonneg v.y, square_nonneg v.z)))
-
--- a positive number isn't 0
-pub positive_nonzero : {a : ℤ} → pos 0 <ℤ a → a ≢ pos 0
-positive_nonzero p e = omega (arith, linear)
-
--- a negative integer isn't 0
-pub negative_nonzero : {a : ℤ} → a <ℤ pos 0 → a ≢ pos 0
-negative_nonzero p e = omega (arith, linear)
+    same_v (square_zero v.x (omega (arith, linear))) (square_zero v.y (omega (arith, linear))) (square_zero v.z (omega (arith, linear)))
 
 -- ---- multiples
 -- equal multiples by a factor that isn't 0 are of equal vectors

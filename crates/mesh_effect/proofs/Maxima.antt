@@ -3,24 +3,9 @@ use Rattle.std.proofs.Common.{◌≡◌, ◌≤◌, ◌<◌, ℕ, zero, suc, ◌
 use Rattle.std.specs.List.{All}
 use Rattle.std.proofs.lemmas.List.{drop_all}
 use Rattle.std.proofs.lemmas.List.Elements.{All-nil, All-cons, All-weaker}
-use Rattle.std.proofs.Math.Nat.{le-max_left, le-max_right, max-le, max-zero, zero-max}
+use Rattle.std.proofs.Math.Nat.{le-max_left, le-max_right, max-zero, zero-max}
+use Rattle.ember_algebra.proofs.Numbers.{max_assoc}
 use Rattle.mesh_effect.specs.Rounding.Maximum.{greatest_of}
-
-max_moves : (m n r : ℕ) → max (max m n) r ≡ max m (max n r)
-max_moves m n r =
-    let all = max m (max n r) in
-    let each = max (max m n) r in
-    let m_all = le-max_left m (max n r) in
-    let nr_all = le-max_right m (max n r) in
-    let n_all : n ≤ all = omega (arith, le-max_left n r, nr_all) in
-    let r_all : r ≤ all = omega (arith, le-max_right n r, nr_all) in
-    let mn_each = le-max_left (max m n) r in
-    let r_each = le-max_right (max m n) r in
-    let m_each : m ≤ each = omega (arith, le-max_left m n, mn_each) in
-    let n_each : n ≤ each = omega (arith, le-max_right m n, mn_each) in
-    let low : each ≤ all = max-le (max-le m_all n_all) r_all in
-    let high : all ≤ each = max-le m_each (max-le n_each r_each) in
-    omega (arith, low, high)
 
 module _ {A : Type 0} (f : A → ℕ) where
   pub greatest_none : (xs : List A) → max 0 (greatest_of f xs) ≡ greatest_of f xs
@@ -36,7 +21,7 @@ module _ {A : Type 0} (f : A → ℕ) where
       let here : drop i xs ≡ x ∷ drop (i + 1) xs =
       drop-cons xs i d less ∙ ap (λ (y : A). y ∷ drop (suc i) xs) (sym is) ∙ ap (λ (k : ℕ). x ∷ drop k xs) next in
       ap (λ (m : ℕ). max m rest) e
-      ∙ max_moves old (f x) rest
+      ∙ max_assoc old (f x) rest
       ∙ ap (λ (ys : List A). max old (greatest_of f ys)) (sym here)
       ∙ before
 

@@ -5,12 +5,9 @@ use Rattle.std.proofs.Math.Nat.{one-le-pow}
 use Rattle.mesh_number.specs.Number.Fractions.{Fraction}
 use Rattle.mesh_number.specs.Number.Quotients.{quotient}
 use Rattle.mesh_number.specs.Float.Binary32.{distance}
+use Rattle.mesh_number.proofs.Powers.{power_split}
 use Rattle.mesh_effect.specs.Rounding.Ticks.{ticks_between, power_tick, decimal_tick}
 use Rattle.mesh_effect.proofs.Above.{same_quotient, quotient_of_quotient, quotient_most}
-
--- a power is a multiple of a smaller one
-power_split : (p q : ℕ) → p ≤ q → 2 ^ q ≡ 2 ^ (q - p) * 2 ^ p
-power_split p q l = let e : q ≡ (q - p) + p = omega arith in ap (λ (n : ℕ). 2 ^ n) e ∙ pow-add 2 (q - p) p
 
 module _ (e d shift : ℕ) (p : 0 < d) (within : e ≤ d * 2 ^ shift) where
   unit_positive : 0 < d * 2 ^ shift

@@ -1,5 +1,5 @@
 -- How far a number is from its cell, in ticks.
-use Rattle.std.proofs.Common.{◌≡◌, ◌≤◌, ◌<◌, ◌⊎◌, ⊎_elim, inl, inr, true, max, ℕ, zero, suc, ◌+◌, ◌-◌, ◌*◌, ◌/◌, ◌%◌}
+use Rattle.std.proofs.Common.{◌≡◌, ◌≤◌, ◌<◌, ◌⊎◌, ⊎_elim, inl, inr, true, max, ℕ, suc, ◌+◌, ◌-◌, ◌*◌, ◌/◌, ◌%◌}
 use Rattle.std.proofs.Common.{refl, sym, ap, ◌∙◌, arith, ℤ, pos, negsuc, neg_ℤ, ◌+ℤ◌, ◌-ℤ◌, ◌*ℤ◌, ◌<ℤ◌, ◌≤ℤ◌, mul-pos}
 use borrow.Author.Differences.{ints}
 use Rattle.std.specs.Int.{int_div_euclid, int_rem_euclid}
@@ -10,6 +10,7 @@ use Rattle.std.proofs.Math.Nat.{le-max_left, le-max_right, max-eq_left, max-eq_r
 use Rattle.ember_algebra.proofs.Laws.{linear, *ℤ-neg}
 use Rattle.ember_algebra.proofs.Order.{mul_le, mul_lt}
 use Rattle.ember_algebra.proofs.Ring.{◌⊕◌, ◌⊖◌, ◌⊗◌, ◌≈◌, num, solve, cancels}
+use Rattle.ember_algebra.proofs.Numbers.{unsigned_abs-neg}
 use Rattle.mesh_number.specs.Number.Fractions.{Fraction, is_below_limit, floor_of_multiple}
 use Rattle.mesh_number.specs.Number.Quotients.{quotient}
 use Rattle.mesh_grid.specs.declared.snap.steps.GridStep.{GridStep}
@@ -20,18 +21,13 @@ use Rattle.mesh_grid.proofs.Nearest.{cell_nearest}
 use Rattle.mesh_grid.specs.Moves.Moves.{scaled_distance, ticks_of, ceiling_of_multiple}
 
 -- ---- sizes
-pub size_of_negative : (z : ℤ) → unsigned_abs (neg_ℤ z) ≡ unsigned_abs z
-size_of_negative (pos zero) = refl
-size_of_negative (pos (suc n)) = refl
-size_of_negative (negsuc n) = refl
-
 size_of_multiple : (k : ℕ) (z : ℤ) → unsigned_abs (pos k *ℤ z) ≡ k * unsigned_abs z
 size_of_multiple k (pos n) = refl
-size_of_multiple k (negsuc n) = size_of_negative (pos (k * suc n))
+size_of_multiple k (negsuc n) = unsigned_abs-neg (pos (k * suc n))
 
 -- a number with the other sign is below the limit if the number is
 pub negated_is_below : (v : Fraction) → is_below_limit v ≡ true → is_below_limit (negated v) ≡ true
-negated_is_below v h = rw (size_of_negative v.numerator) h
+negated_is_below v h = rw (unsigned_abs-neg v.numerator) h
 
 size_is_most : (z : ℤ) (n : ℕ) → z ≤ℤ pos n → neg_ℤ z ≤ℤ pos n → unsigned_abs z ≤ n
 size_is_most (pos m) n low high = omega (arith, ints, low)
@@ -167,7 +163,7 @@ greater_is_move d k z x y m p xl xh yl yh e =
     let enough = size_is_most t (d * m) up down in
     let over_x = rounded_size d x t p xl xh in
     let over_y = rounded_size d y (neg_ℤ t) p yl yh in
-    let turned = size_of_negative t in
+    let turned = unsigned_abs-neg t in
     let least : d * m < k * unsigned_abs z + d =
     ⊎_elim
     (λ (is : max (unsigned_abs x) (unsigned_abs y) ≡ unsigned_abs x). rw (e, is) (omega (arith, over_x, size)))

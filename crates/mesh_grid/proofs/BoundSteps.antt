@@ -1,5 +1,5 @@
 -- Bounds of cells: one number more, and the greater of two lengths.
-use Rattle.std.proofs.Common.{◌≡◌, ◌≤◌, ◌<◌, ◌⊎◌, ⊎_elim, Bool, true, false, cond, ℕ, ◌+◌, ◌^◌, List, length, take, get_or, nat_lt, ◌∙◌, sym, arith, ℤ, ◌≤ℤ◌}
+use Rattle.std.proofs.Common.{◌≡◌, ◌≤◌, ◌<◌, Bool, true, false, cond, ℕ, ◌+◌, ◌^◌, List, length, take, get_or, nat_lt, arith, ℤ, ◌≤ℤ◌}
 use borrow.Author.Differences.{ints}
 use Rattle.std.specs.List.{All, Any}
 use Rattle.std.specs.Int.RustNames.{unsigned_abs}
@@ -8,7 +8,7 @@ use Rattle.std.proofs.lemmas.List.Elements.{All-more}
 use Rattle.mesh_number.specs.declared.number.values.Number.{Number}
 use Rattle.mesh_grid.specs.declared.snap.steps.GridStep.{GridStep}
 use Rattle.mesh_grid.specs.Snap.Cells.{cell_at, IsBetween}
-use Rattle.mesh_grid.proofs.SpanSteps.{cell_is_met}
+use Rattle.mesh_grid.proofs.SpanSteps.{cell_is_met, met_widened, small_widened}
 use Rattle.mesh_grid.specs.declared.grid.lengths.Bounds.{Bounds}
 use Rattle.mesh_grid.specs.Grid.Lengths.{AreBounds, AreWidened, greater_of}
 
@@ -32,14 +32,6 @@ bound_none s xs x z less e f small = record {
   least_small = small;
   greatest_small = small;
 }
-
-met_widened : (s : GridStep) (xs : List Number) (old new z : ℤ) → Any (λ y. cell_at s y ≡ old) xs →
-    Any (λ y. cell_at s y ≡ z) xs → (new ≡ old) ⊎ (new ≡ z) → Any (λ y. cell_at s y ≡ new) xs
-met_widened s xs old new z a b c =
-    ⊎_elim (λ e. (a.0, a.1, a.2, a.3, a.4 ∙ sym e)) (λ e. (b.0, b.1, b.2, b.3, b.4 ∙ sym e)) c
-
-small_widened : (old new z : ℤ) → unsigned_abs old < 2 ^ 107 → unsigned_abs z < 2 ^ 107 → (new ≡ old) ⊎ (new ≡ z) → unsigned_abs new < 2 ^ 107
-small_widened old new z a b c = ⊎_elim (λ e. rw e a) (λ e. rw e b) c
 
 -- one number more
 pub bound_more : (s : GridStep) (xs : List Number) (i : ℕ) (old new : Bounds) (x : Number) (z : ℤ) → BoundFirst s xs i old →

@@ -3,27 +3,12 @@ use Rattle.std.proofs.Common.{◌≡◌, ◌≤◌, ◌<◌, ℕ, suc, ◌+◌, 
 use Rattle.std.specs.List.{All}
 use Rattle.std.proofs.lemmas.List.{drop_all}
 use Rattle.std.proofs.lemmas.List.Elements.{All-nil, All-cons, All-weaker}
-use Rattle.std.proofs.Math.Nat.{le-max_left, le-max_right, max-le, max-zero, zero-max}
+use Rattle.std.proofs.Math.Nat.{le-max_left, le-max_right, max-zero, zero-max}
+use Rattle.ember_algebra.proofs.Numbers.{max_assoc}
 use Rattle.mesh_grid.specs.declared.snap.steps.GridStep.{GridStep}
 use Rattle.mesh_read.specs.declared.surface.surface.Vertex.{Vertex}
 use Rattle.mesh_read.specs.declared.surface.surface.Facet.{Facet}
 use Rattle.mesh_grid.specs.Moves.Greatest.{facet_square, greatest_square}
-
-max_moves : (m n r : ℕ) → max (max m n) r ≡ max m (max n r)
-max_moves m n r =
-    let all = max m (max n r) in
-    let each = max (max m n) r in
-    let m_all = le-max_left m (max n r) in
-    let nr_all = le-max_right m (max n r) in
-    let n_all : n ≤ all = omega (arith, le-max_left n r, nr_all) in
-    let r_all : r ≤ all = omega (arith, le-max_right n r, nr_all) in
-    let mn_each = le-max_left (max m n) r in
-    let r_each = le-max_right (max m n) r in
-    let m_each : m ≤ each = omega (arith, le-max_left m n, mn_each) in
-    let n_each : n ≤ each = omega (arith, le-max_right m n, mn_each) in
-    let low : each ≤ all = max-le (max-le m_all n_all) r_all in
-    let high : all ≤ each = max-le m_each (max-le n_each r_each) in
-    omega (arith, low, high)
 
 module _ (s : GridStep) (fineness : ℕ) (vertices : List Vertex) where
   pub greatest_none : (fs : List Facet) → max 0 (greatest_square s fineness vertices fs) ≡ greatest_square s fineness vertices fs
@@ -40,7 +25,7 @@ module _ (s : GridStep) (fineness : ℕ) (vertices : List Vertex) where
       let here : drop i fs ≡ f ∷ drop (i + 1) fs =
       drop-cons fs i d less ∙ ap (λ (g : Facet). g ∷ drop (suc i) fs) (sym is) ∙ ap (λ (k : ℕ). f ∷ drop k fs) next in
       ap (λ (m : ℕ). max m rest) e
-      ∙ max_moves old (facet_square s fineness vertices f) rest
+      ∙ max_assoc old (facet_square s fineness vertices f) rest
       ∙ ap (λ (gs : List Facet). max old (greatest_square s fineness vertices gs)) (sym here)
       ∙ before
 

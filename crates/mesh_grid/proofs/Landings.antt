@@ -1,9 +1,9 @@
 -- Where cells land on a grid.
 use Rattle.std.proofs.Common.{◌≡◌, Bool, true, false, ◌&&◌, List, refl, arith, ℤ, pos, negsuc, ◌+ℤ◌, ◌-ℤ◌, ◌≤ℤ◌, int_le}
 use borrow.Author.Differences.{ints}
+use Rattle.std.proofs.lemmas.Bool.{and_parts}
 use Rattle.ember_algebra.proofs.Laws.{linear}
 use Rattle.mesh_number.specs.declared.number.values.Number.{Number}
-use Rattle.mesh_number.proofs.DigitNumbers.{both_true}
 use Rattle.mesh_grid.specs.declared.snap.steps.GridStep.{GridStep}
 use Rattle.mesh_grid.specs.declared.snap.spans.Coordinates.{Coordinates}
 use Rattle.mesh_grid.specs.declared.snap.spans.CellRange.{CellRange}
@@ -26,7 +26,7 @@ lands_round_middle s xs span h =
 
 lands_round_zero : (s : GridStep) (xs : List Number) (span : CellRange) → IsSpan s xs span → is_central span ≡ true → LandsAlong s xs (pos 0)
 lands_round_zero s xs span h e =
-    let parts = both_true (int_le (negsuc 2046) span.least) (int_le span.greatest (pos 2047)) e in
+    let parts = and_parts (int_le (negsuc 2046) span.least) (int_le span.greatest (pos 2047)) e in
     lands_between s xs span (pos 0) h (omega (arith, ints, parts.0)) (omega (arith, ints, parts.1))
 
 -- everything lands on the grid with its offset
@@ -35,8 +35,8 @@ spans_land s c spans h = by (is_central spans.x && is_central spans.y && is_cent
   where
     by : (b : Bool) → is_central spans.x && is_central spans.y && is_central spans.z ≡ b → LandsOnGrid s c (offset_of spans)
     by true e =
-        let front = both_true (is_central spans.x && is_central spans.y) (is_central spans.z) e in
-        let parts = both_true (is_central spans.x) (is_central spans.y) front.0 in
+        let front = and_parts (is_central spans.x && is_central spans.y) (is_central spans.z) e in
+        let parts = and_parts (is_central spans.x) (is_central spans.y) front.0 in
         rw e (record {
           x = lands_round_zero s c.x.now spans.x h.x parts.0;
           y =

@@ -1,22 +1,17 @@
 -- Closed triangles stay closed under a map of positions, without those that have two equal corners there
-use Rattle.std.proofs.Common.{◌≡◌, ◌⊎◌, inl, inr, ℕ, ◌+◌, Bool, true, false, cond, eqb, not, ◌&&◌, ◌||◌, List, [], ◌∷◌}
+use Rattle.std.proofs.Common.{◌≡◌, ◌⊎◌, inl, inr, ℕ, ◌+◌, Bool, true, false, cond, eqb, not, ◌||◌, List, [], ◌∷◌}
 use Rattle.std.proofs.Common.{map, refl, sym, ap, subst, ◌∙◌, arith, ℤ, pos, ◌+ℤ◌, ◌-ℤ◌, neg_ℤ}
 use borrow.Author.Differences.{ints}
 use Rattle.std.proofs.lemmas.Bool.{and_parts, and_from, or_cases, cases_eq, eq-eqb, eqb-true}
 use Rattle.ember_algebra.specs.Sums.{total}
 use Rattle.ember_algebra.proofs.Sums.{IsEquality, total-sub, total_odd}
+use Rattle.ember_algebra.proofs.Booleans.{and_swapped}
 use Rattle.mesh_read.specs.declared.surface.surface.Facet.{Facet}
 use Rattle.ember_model.specs.declared.point.Corner.{Corner}
 use Rattle.ember_model.specs.Meshes.{Edge, reversed, edges_in, same_corner, same_edge, edge_count, IsBalanced}
-use Rattle.ember_balance.proofs.Edges.{edges_are_equal}
+use Rattle.ember_model.proofs.SameEdges.{same_corner_out, same_edge_reversed}
 use Rattle.mesh_grid.specs.Grid.Images.{image, vanishes, kept, images}
 use Rattle.mesh_grid.specs.Grid.Closed.{Arc, turned, same_arc, arc_count, arcs_in, AreClosed}
-
-and_swapped : (a b : Bool) → a && b ≡ b && a
-and_swapped true true = refl
-and_swapped true false = refl
-and_swapped false true = refl
-and_swapped false false = refl
 
 -- ---- directed edges between positions
 arcs_are_equal : IsEquality Arc same_arc
@@ -51,9 +46,6 @@ edges_under position to mesh (f ∷ fs) =
     let t = image (λ corner. to (position corner)) mesh f in
     λ i. record { from = t.a; to = t.b } ∷ record { from = t.b; to = t.c } ∷ record { from = t.c; to = t.a } ∷ r i
 
-edge_reversed : (e f : Edge) → same_edge e (reversed f) ≡ same_edge (reversed e) f
-edge_reversed e f = and_swapped (same_corner e.from f.to) (same_corner e.to f.from)
-
 abbrev one_if : Bool → ℤ
 one_if b = cond b (pos 1) (pos 0)
 
@@ -76,8 +68,8 @@ surplus_at to e a =
 surplus_turned : (to : ℕ → Corner) (e : Edge) (a : Arc) → surplus_at to e (turned a) ≡ neg_ℤ (surplus_at to e a)
 surplus_turned to e a =
     ap (λ (b : Bool). one_if b -ℤ one_if (same_edge (reversed e) (edge_under to (turned a))))
-    (edge_reversed e (edge_under to a)) ∙ ap (λ (b : Bool). one_if (same_edge (reversed e) (edge_under to a)) -ℤ
-    one_if b) (edge_reversed (reversed e) (edge_under to a))
+    (same_edge_reversed e (edge_under to a)) ∙ ap (λ (b : Bool). one_if (same_edge (reversed e) (edge_under to a)) -ℤ
+    one_if b) (same_edge_reversed (reversed e) (edge_under to a))
     ∙ by (same_edge e (edge_under to a)) (same_edge (reversed e) (edge_under to a))
   where
     by : (b c : Bool) → one_if c -ℤ one_if b ≡ neg_ℤ (one_if b -ℤ one_if c)
@@ -107,7 +99,7 @@ abbrev one_times : Bool → ℕ
 one_times b = cond b 1 0
 
 weight : (e f : Edge) → one_times (same_edge (reversed e) f) ≡ one_times (same_edge e (reversed f))
-weight e f = ap one_times (sym (edge_reversed e f))
+weight e f = ap one_times (sym (same_edge_reversed e f))
 
 loops_first : (a c : Corner) → Loops a a c
 loops_first a c e =
@@ -130,19 +122,15 @@ loops_third a b e =
     let r = weight e (record { from = a; to = a }) in
     omega (arith, p, q, r)
 
-corner_out : (u v : Corner) → same_corner u v ≡ true → u ≡ v
-corner_out u v h =
-    ap (λ (e : Edge). e.from) (edges_are_equal.sound (record { from = u; to = u }) (record { from = v; to = v }) (and_from _ _ h h))
-
 loops : (a b c : Corner) → (same_corner a b || (same_corner b c || same_corner c a)) ≡ true → Loops a b c
 loops a b c h = first (or_cases (same_corner a b) (same_corner b c || same_corner c a) h)
   where
     second : (same_corner b c ≡ true) ⊎ (same_corner c a ≡ true) → Loops a b c
-    second (inl p) = subst (λ (d : Corner). Loops a b d) (corner_out b c p) (loops_second a b)
-    second (inr p) = subst (λ (d : Corner). Loops a b d) (sym (corner_out c a p)) (loops_third a b)
+    second (inl p) = subst (λ (d : Corner). Loops a b d) (same_corner_out b c p) (loops_second a b)
+    second (inr p) = subst (λ (d : Corner). Loops a b d) (sym (same_corner_out c a p)) (loops_third a b)
 
     first : (same_corner a b ≡ true) ⊎ ((same_corner b c || same_corner c a) ≡ true) → Loops a b c
-    first (inl p) = subst (λ (d : Corner). Loops a d c) (corner_out a b p) (loops_first a c)
+    first (inl p) = subst (λ (d : Corner). Loops a d c) (same_corner_out a b p) (loops_first a c)
     first (inr p) = second (or_cases (same_corner b c) (same_corner c a) p)
 
 -- how often an edge occurs in the images of all these

@@ -64,12 +64,14 @@ covers_none s xs x z less e f small = record {
   greatest_small = small;
 }
 
-met_widened : (s : GridStep) (xs : List Number) (old new z : ℤ) → Any (λ y. cell_at s y ≡ old) xs →
+-- a bound that was met or is widened to a number is met
+pub met_widened : (s : GridStep) (xs : List Number) (old new z : ℤ) → Any (λ y. cell_at s y ≡ old) xs →
     Any (λ y. cell_at s y ≡ z) xs → (new ≡ old) ⊎ (new ≡ z) → Any (λ y. cell_at s y ≡ new) xs
 met_widened s xs old new z a b c =
     ⊎_elim (λ e. (a.0, a.1, a.2, a.3, a.4 ∙ sym e)) (λ e. (b.0, b.1, b.2, b.3, b.4 ∙ sym e)) c
 
-small_widened : (old new z : ℤ) → unsigned_abs old < 2 ^ 107 → unsigned_abs z < 2 ^ 107 → (new ≡ old) ⊎ (new ≡ z) → unsigned_abs new < 2 ^ 107
+-- a small bound stays small
+pub small_widened : (old new z : ℤ) → unsigned_abs old < 2 ^ 107 → unsigned_abs z < 2 ^ 107 → (new ≡ old) ⊎ (new ≡ z) → unsigned_abs new < 2 ^ 107
 small_widened old new z a b c = ⊎_elim (λ e. rw e a) (λ e. rw e b) c
 
 -- what a cell more makes of a span is small

@@ -1,16 +1,8 @@
 -- Pieces that are appended one after another
-use Rattle.std.proofs.Common.{◌≡◌, ℕ, if◌then◌else◌, List, ◌++◌, Result, Ok, Err, is_ok, OnOk, ap, ◌∙◌, append_assoc}
+use Rattle.std.proofs.Common.{◌≡◌, ℕ, List, ◌++◌, Result, Ok, Err, OnOk, ◌∙◌}
+use Rattle.mesh_write.proofs.Appended.{after3, after4}
 
 -- ---- several pieces, each with the text before it
-after2 : (a b x0 x1 : List ℕ) → x1 ≡ x0 ++ a → x1 ++ b ≡ x0 ++ (a ++ b)
-after2 a b x0 x1 e = ap (λ (xs : List ℕ). xs ++ b) e ∙ append_assoc x0 a b
-
-after3 : (a b c x0 x1 x2 : List ℕ) → x1 ≡ x0 ++ a → x2 ≡ x1 ++ b → x2 ++ c ≡ x0 ++ (a ++ (b ++ c))
-after3 a b c x0 x1 x2 e f = after2 b c x1 x2 f ∙ after2 a (b ++ c) x0 x1 e
-
-pub after4 : (a b c d x0 x1 x2 x3 : List ℕ) → x1 ≡ x0 ++ a → x2 ≡ x1 ++ b → x3 ≡ x2 ++ c → x3 ++ d ≡ x0 ++ (a ++ (b ++ (c ++ d)))
-after4 a b c d x0 x1 x2 x3 e f g = after2 c d x2 x3 g ∙ after3 a b (c ++ d) x0 x1 x2 e f
-
 pub after6 : (a b c d p q x0 x1 x2 x3 x4 x5 : List ℕ) → x1 ≡ x0 ++ a → x2 ≡ x1 ++ b → x3 ≡ x2 ++ c → x4 ≡ x3 ++ d →
     x5 ≡ x4 ++ p → x5 ++ q ≡ x0 ++ (a ++ (b ++ (c ++ (d ++ (p ++ q)))))
 after6 a b c d p q x0 x1 x2 x3 x4 x5 e f g h i = after3 d p q x3 x4 x5 h i ∙ after4 a b c (d ++ (p ++ q)) x0 x1 x2 x3 e f g
@@ -27,11 +19,6 @@ after8 a b c d p q r s x0 x1 x2 x3 x4 x5 x6 x7 e f g h i j k =
     after6 c d p q r s x2 x3 x4 x5 x6 x7 g h i j k ∙ after3 a b (c ++ (d ++ (p ++ (q ++ (r ++ s))))) x0 x1 x2 e f
 
 -- ---- results
--- a value chosen by a result is the first one if the result is Ok
-pub on_ok_if : {X E : Type 0} {new want : List ℕ} (ok err : List ℕ) (r : Result X E) → new ≡ (if is_ok r then ok else err) → ok ≡ want → OnOk r (new ≡ want)
-on_ok_if ok err (Ok v) e f = e ∙ f
-on_ok_if ok err (Err e) d f = tt
-
 -- an equal value
 pub on_ok_same : {X E : Type 0} (new now want : List ℕ) (r : Result X E) → OnOk r (new ≡ now) → now ≡ want → OnOk r (new ≡ want)
 on_ok_same new now want (Ok v) e f = e ∙ f

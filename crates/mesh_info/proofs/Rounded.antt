@@ -1,16 +1,10 @@
 -- Rounded triangles, and more of them.
 use Rattle.std.proofs.Common.{◌≡◌, ℕ, ◌+◌, ◌<◌, List, [], ◌∷◌, ◌++◌, length, take, get_or, sym, ap, subst, ◌∙◌, append_assoc}
-use Rattle.std.specs.List.{AllZip}
 use Rattle.std.proofs.lemmas.List.{take_more}
+use Rattle.ember_algebra.proofs.Lists.{AllZip-push}
 use Rattle.mesh_write.specs.declared.vertices.point.DecimalTriangle.{DecimalTriangle}
 use Rattle.mesh_write.specs.declared.stl.triangle.WrittenTriangle.{WrittenTriangle}
 use Rattle.mesh_info.specs.View.Views.{AreShown, IsShown}
-
-pushed : {A B : Type 0} (R : A → B → Type 0) (xs : List A) (ys : List B) (x : A) (y : B) → AllZip R xs ys → R x y → AllZip R (xs ++ x ∷ []) (ys ++ y ∷ [])
-pushed R [] [] x y h r = (r, tt)
-pushed R [] (b ∷ ys) x y h r = absurd h
-pushed R (a ∷ xs) [] x y h r = absurd h
-pushed R (a ∷ xs) (b ∷ ys) x y h r = (h.0, pushed R xs ys x y h.1 r)
 
 -- one triangle more
 pub one_more : (others ts : List DecimalTriangle) (i : ℕ) (t : DecimalTriangle) (ws vs : List WrittenTriangle)
@@ -22,4 +16,4 @@ one_more others ts i t ws vs w l is e before =
     ∙ ap (λ (us : List DecimalTriangle). others ++ us) (sym (take_more ts i t l)) in
     subst (λ (us : List WrittenTriangle). AreShown (others ++ take (i + 1) ts) us) (sym e)
     (subst (λ (us : List DecimalTriangle). AreShown us (ws ++ w ∷ [])) same
-    (pushed IsShown (others ++ take i ts) ws (get_or ts i t) w before is))
+    (AllZip-push IsShown (others ++ take i ts) ws (get_or ts i t) w before is))

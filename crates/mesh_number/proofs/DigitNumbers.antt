@@ -1,12 +1,13 @@
 -- The numbers that lists of digits spell.
 use Rattle.std.specs.List.{list_all}
 use Rattle.std.specs.Char.{is_ascii_digit}
-use Rattle.std.proofs.Common.{◌≡◌, ◌≤◌, ◌<◌, ℕ, zero, suc, Bool, true, false, ◌&&◌, ◌+◌, ◌-◌, ◌*◌, ◌^◌, List, [], ◌∷◌}
-use Rattle.std.proofs.Common.{◌++◌, length, drop, get_or, refl, ◌∙◌, sym, ap, arith}
+use Rattle.std.proofs.Common.{◌≡◌, ◌≤◌, ◌<◌, ℕ, zero, suc, Bool, true, ◌+◌, ◌-◌, ◌*◌, ◌^◌, List, [], ◌∷◌}
+use Rattle.std.proofs.Common.{◌++◌, length, drop, get_or, ◌∙◌, sym, ap, arith}
 use Rattle.std.proofs.lemmas.Bool.Decides.{nat_tests}
 use Rattle.std.proofs.Math.Nat.{pow-suc, mul-le-mul_left}
 use Rattle.ember_dec.specs.Decimal.{number_from}
 use Rattle.std.proofs.Math.Seq.{drop-cons}
+use Rattle.std.proofs.lemmas.Bool.{and_parts}
 use Rattle.ember_dec.proofs.Numbers.{number_from-append}
 use Rattle.mesh_number.specs.Number.Quotients.{quotient}
 use Rattle.mesh_number.proofs.Rounding.{quotient_chain, quotient_le}
@@ -37,11 +38,6 @@ pow_ten_pos (suc k) = rw (pow-suc 10 k) (omega (arith, pow_ten_pos k))
 below_step : (x p r f : ℕ) → f ≡ x * p + r → x ≤ 9 → r < p → f < p * 10
 below_step x p r f e h b = let m : p * x ≤ p * 9 = mul-le-mul_left p h in omega (arith, m)
 
--- both parts of a true `&&`
-pub both_true : (a b : Bool) → a && b ≡ true → (a ≡ true) × (b ≡ true)
-both_true true b h = (refl, h)
-both_true false b h = absurd (cc)
-
 digit_small : (d : ℕ) → is_ascii_digit d ≡ true → d - 48 ≤ 9
 digit_small d h = grind (arith, nat_tests)
 
@@ -49,15 +45,15 @@ digit_small d h = grind (arith, nat_tests)
 pub number_from-below : (ds : List ℕ) → list_all is_ascii_digit ds ≡ true → number_from 0 ds < 10 ^ length ds
 number_from-below [] h = omega arith
 number_from-below (d ∷ ds) h =
-    let parts = both_true (is_ascii_digit d) (list_all is_ascii_digit ds) h in
+    let parts = and_parts (is_ascii_digit d) (list_all is_ascii_digit ds) h in
     rw pow-suc (below_step (d - 48) (10 ^ length ds) (number_from 0 ds) (number_from 0 (d ∷ ds))
     (number_from-digit d ds) (digit_small d parts.0) (number_from-below ds parts.1))
 
 -- a digit by its place
 digit_at : (ds : List ℕ) (i : ℕ) → list_all is_ascii_digit ds ≡ true → i < length ds → is_ascii_digit (get_or ds i 0) ≡ true
 digit_at [] i h p = absurd (omega arith)
-digit_at (d ∷ ds) zero h p = (both_true (is_ascii_digit d) (list_all is_ascii_digit ds) h).0
-digit_at (d ∷ ds) (suc i) h p = digit_at ds i (both_true (is_ascii_digit d) (list_all is_ascii_digit ds) h).1 (omega arith)
+digit_at (d ∷ ds) zero h p = (and_parts (is_ascii_digit d) (list_all is_ascii_digit ds) h).0
+digit_at (d ∷ ds) (suc i) h p = digit_at ds i (and_parts (is_ascii_digit d) (list_all is_ascii_digit ds) h).1 (omega arith)
 
 -- and its bounds
 pub digit_bounds : (ds : List ℕ) (i : ℕ) → list_all is_ascii_digit ds ≡ true → i < length ds → (48 ≤ get_or ds i 0) × (get_or ds i 0 ≤ 57)

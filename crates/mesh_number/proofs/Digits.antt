@@ -13,7 +13,7 @@ digit_more xs k zero n = absurd (n refl)
 digit_more xs k (suc r) n = append_assoc xs ((48 + suc r / 10 ^ k) ∷ []) (fraction_digits k (suc r % 10 ^ k))
 
 -- nothing is left
-no_digits : (k : ℕ) → fraction_digits k 0 ≡ []
+pub no_digits : (k : ℕ) → fraction_digits k 0 ≡ []
 no_digits zero = refl
 no_digits (suc k) = refl
 

@@ -10,7 +10,8 @@ use Rattle.mesh_number.specs.Number.Fractions.{signed_whole, floor_times}
 use Rattle.mesh_number.specs.Number.Quotients.{quotient, size_of_multiple}
 use Rattle.mesh_number.proofs.Rounding.{quotient_of_zero}
 
-unsigned_abs-signed_whole : (minus : Bool) (n : ℕ) → unsigned_abs (signed_whole minus n) ≡ n
+-- the size of a number with a sign
+pub unsigned_abs-signed_whole : (minus : Bool) (n : ℕ) → unsigned_abs (signed_whole minus n) ≡ n
 unsigned_abs-signed_whole false n = refl
 unsigned_abs-signed_whole true zero = refl
 unsigned_abs-signed_whole true (suc n) = refl

@@ -7,7 +7,6 @@ use Rattle.std.specs.Bool.{Decides}
 use Rattle.std.specs.Str.{bytes_eq}
 use Rattle.std.specs.declared.option.Option.{Option}
 use Rattle.std.specs.Io.KnownBytes.{append_known}
-use Rattle.std.proofs.lemmas.List.{append-nil}
 use Rattle.std.proofs.lemmas.Slice.Eq.{bytes_eq-Decides}
 use Rattle.mesh_outside.specs.Target.Targets.{Names, value_at, beside, IsBeside, IsTaken, HoldsSame, HoldsOld, Puts, Grows, Moves}
 
@@ -54,21 +53,12 @@ Puts-undone (Some f) None name value e p = absurd p
 Puts-undone (Some f) (Some g) name value e p = λ other. elim (names_are_decided other name)
     [ inl same ↦ rw same (p.0 ∙ sym e) | inr differs ↦ p.1 other differs ]
 
-append_known-nothing : (value : Option (List ℕ)) → append_known value [] ≡ value
-append_known-nothing None = refl
-append_known-nothing (Some xs) = ap (λ w. Some w) (append-nil xs)
-
 append_known-twice : (value : Option (List ℕ)) (xs ys : List ℕ) → append_known (append_known value xs) ys ≡ append_known value (xs ++ ys)
 append_known-twice None xs ys = refl
 append_known-twice (Some zs) xs ys = ap (λ w. Some w) (append_assoc zs xs ys)
 
 ≡-or-< : (k n : ℕ) → k < n + 1 → (k ≡ n) ⊎ (k < n)
 ≡-or-< k n h = grind arith
-
--- before a file takes its first bytes it holds what it holds
-pub Puts-nothing : (a : Option Names) (name : List ℕ) → Puts a a name (append_known (value_at a name) [])
-Puts-nothing None name = tt
-Puts-nothing (Some f) name = (sym (append_known-nothing (f name)), λ other n. refl)
 
 -- a file that takes bytes, and then more, takes both
 pub Puts-appended : (a b c : Option Names) (name xs ys : List ℕ) → Puts a b name (append_known (value_at a name) xs) →
@@ -80,31 +70,12 @@ Puts-appended (Some f) (Some g) None name xs ys p q = absurd q
 Puts-appended (Some f) (Some g) (Some h) name xs ys p q =
     (q.0 ∙ ap (λ w. append_known w ys) p.0 ∙ append_known-twice (f name) xs ys, λ other n. q.1 other n ∙ p.1 other n)
 
--- a file that was given a value, and then another name, holds the value there
-pub Moves-after_Puts : (a b c : Option Names) (from to : List ℕ) (value : Option (List ℕ)) → Puts a b from value →
-    Moves b c from to (value_at b from) → Moves a c from to value
-Moves-after_Puts None b c from to value p q = tt
-Moves-after_Puts (Some f) None c from to value p q = absurd p
-Moves-after_Puts (Some f) (Some g) None from to value p q = absurd q
-Moves-after_Puts (Some f) (Some g) (Some h) from to value p q = (q.0 ∙ p.0, q.1, λ other m n. q.2 other m n ∙ p.1 other m)
-
 length-beside : (name : List ℕ) (number : ℕ) → length (beside name number) ≡ length name + 5 + length (decimal number)
 length-beside name number = grind (arith, length-append)
 
 -- a name isn't beside itself
 pub IsBeside-differs : (name other : List ℕ) → IsBeside name other → ¬ (other ≡ name)
 IsBeside-differs name other b e = absurd (omega (arith, length-beside name b.0, ap length (sym b.1 ∙ e)))
-
--- a new file that took the bytes, and then the name: the name holds them, and each other name what it held
-pub Puts-kept : (a b c : Option Names) (name path bytes : List ℕ) → value_at a path ≡ None → Puts a b path (Some [])
-    → Moves b c path name (append_known (value_at b path) bytes) → Puts a c name (Some bytes)
-Puts-kept None b c name path bytes e p q = tt
-Puts-kept (Some f) None c name path bytes e p q = absurd p
-Puts-kept (Some f) (Some g) None name path bytes e p q = absurd q
-Puts-kept (Some f) (Some g) (Some h) name path bytes e p q = (
-  q.0 ∙ ap (λ w. append_known w bytes) p.0,
-  λ other n. elim (names_are_decided other path) [ inl same ↦ rw same (q.1 ∙ sym e) | inr differs ↦ q.2 other differs n ∙ p.1 other differs ],
-)
 
 -- where each name holds what it held, no file is left beside
 pub HoldsOld-same : (a b : Option Names) (name : List ℕ) → HoldsSame a b → HoldsOld a b name
@@ -122,11 +93,6 @@ HoldsOld-left (Some f) (Some g) name path value i e p = (
   λ other. elim (names_are_decided other path) [ inl same ↦ inr (rw same (i, e)) | inr differs ↦ inl (p.1 other differs) ],
 )
 
--- before the new file takes its first bytes it holds what it holds
-pub Grows-nothing : (begun : Option (List ℕ)) (a : Option Names) → Grows begun a a []
-Grows-nothing None a = tt
-Grows-nothing (Some path) a = Puts-nothing a path
-
 -- a new file that takes bytes, and then more, takes both
 pub Grows-twice : (begun : Option (List ℕ)) (a b c : Option Names) (xs ys : List ℕ) → Grows begun a b xs → Grows begun b c ys → Grows begun a c (xs ++ ys)
 Grows-twice None a b c xs ys p q = tt
@@ -137,13 +103,6 @@ pub Grows-before_same : (begun : Option (List ℕ)) (a b c : Option Names) (xs :
     HoldsSame b c → IfSome begun (λ path. (value : Option (List ℕ)) × Puts a c path value)
 Grows-before_same None a b c xs p q = tt
 Grows-before_same (Some path) a b c xs p q = (append_known (value_at a path) xs, Puts-before_same a b c path (append_known (value_at a path) xs) p q)
-
--- a new file that took bytes, and then a name
-pub Grows-kept : (begun : Option (List ℕ)) (a b c : Option Names) (name xs : List ℕ) → Grows begun a b xs →
-    IfSome begun (λ path. Moves b c path name (value_at b path))
-    → IfSome begun (λ path. Moves a c path name (append_known (value_at a path) xs))
-Grows-kept None a b c name xs p q = tt
-Grows-kept (Some path) a b c name xs p q = Moves-after_Puts a b c path name (append_known (value_at a path) xs) p q
 
 -- a fact holds after an error too
 pub OnErr-holds : {T E P : Type 0} (r : Result T E) → P → OnErr r P

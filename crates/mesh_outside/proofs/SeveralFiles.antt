@@ -9,7 +9,7 @@ use Rattle.mesh_outside.specs.declared.target.target.WriteEnd.TheVariants.{Write
 use Rattle.ember_io.specs.Causes.{HasRisen}
 use Rattle.mesh_outside.specs.Target.Several.{IsWriteCause, NamedBytes, PutsBefore, PutsEach, names_and_bytes}
 use Rattle.mesh_outside.specs.Target.Targets.{Names, HasRisenTwice, HoldsSame, IsTaken, Puts, beside}
-use Rattle.mesh_outside.proofs.HeldNames.{HoldsSame-trans, Puts-after_same, Puts-before_same}
+use Rattle.mesh_outside.proofs.HeldNames.{HoldsSame-trans, Puts-after_same}
 
 HoldsSame-refl : (a : Option Names) → HoldsSame a a
 HoldsSame-refl None = tt
@@ -20,10 +20,6 @@ pub PutsEach-more : (files : List NamedBytes) (a b c : Option Names) (name bytes
     → PutsEach (files ++ (name, bytes) ∷ []) a c
 PutsEach-more [] a b c name bytes p q = (c, Puts-after_same a b c name (Some bytes) p q, HoldsSame-refl c)
 PutsEach-more (file ∷ files) a b c name bytes p q = (p.0, p.1, PutsEach-more files p.0 b c name bytes p.2 q)
-
--- one file alone is put as `write_whole` puts it
-pub PutsEach-one : (a b : Option Names) (name bytes : List ℕ) → PutsEach ((name, bytes) ∷ []) a b → Puts a b name (Some bytes)
-PutsEach-one a b name bytes p = Puts-before_same a p.0 b name (Some bytes) p.1 p.2
 
 -- a call that changed nothing, and then files that were put
 pub PutsEach-after_same : (files : List NamedBytes) (a b c : Option Names) → HoldsSame a b → PutsEach files b c → PutsEach files a c

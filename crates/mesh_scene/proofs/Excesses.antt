@@ -85,14 +85,6 @@ rises_drop zero xs r = r
 rises_drop (suc k) [] r = tt
 rises_drop (suc k) (x ∷ xs) r = rises_drop k xs r.1
 
--- the numbers from some number on stay where a lesser one is passed over
-pub counts_past : (number : ℕ) (xs : List ℕ) (i : ℕ) → i < length xs → get_or xs i 0 < number → (n : ℕ) → number ≤ n →
-    count n (drop (i + 1) xs) ≡ count n (drop i xs)
-counts_past number xs i l m n h =
-    let a : count n (drop i xs) ≡ count n (get_or xs i 0 ∷ drop (i + 1) xs) = ap (count n) (drop_more xs i 0 l) in
-    let b : count n (get_or xs i 0 ∷ drop (i + 1) xs) ≡ count n (drop (i + 1) xs) = rw (ne_eqb n (get_or xs i 0) (λ e. omega (arith, e, m, h))) (omega arith) in
-    sym b ∙ sym a
-
 module _ (there back : List ℕ) (rises_there : IsNonDecreasing there) (i next : ℕ) (l : i < length there) (after : ℕ)
     (counts : (n : ℕ) → get_or there i 0 ≤ n → count n (drop after back) ≡ count n (drop next back)) where
   abbrev number : ℕ

@@ -79,7 +79,8 @@ token_then : (t : Token) (u v : List ℕ) → IsPrintable t → (ends t ≡ true
     → lex between (token_text t ++ u) ≡ lex between (token_text t ++ v)
 token_then t u v h end_u end_v e = token_lexed t u h end_u ∙ ap (λ l. token_lexemes t ++ l) e ∙ sym (token_lexed t v h end_v)
 
-regrouped : (a b c d r : List ℕ) → (a ++ (b ++ (c ++ d))) ++ r ≡ a ++ (b ++ (c ++ (d ++ r)))
+-- five pieces, grouped from the end
+pub regrouped : (a b c d r : List ℕ) → (a ++ (b ++ (c ++ d))) ++ r ≡ a ++ (b ++ (c ++ (d ++ r)))
 regrouped a b c d r = simp append_assoc
 
 -- what has no lexemes changes none before it

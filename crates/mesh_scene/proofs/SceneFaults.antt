@@ -9,25 +9,17 @@ use Rattle.ember_mesh.specs.declared.fault.JoinFault.TheVariants as join_fault
 use Rattle.ember_mesh.specs.Joined.{IsJoinFault}
 use Rattle.mesh_grid.specs.declared.grid.grid.Grid.{Grid}
 use Rattle.mesh_grid.specs.declared.grid.choice.Wanted.{Wanted}
-use Rattle.mesh_grid.specs.declared.grid.fault.GridFault.{GridFault}
 use Rattle.mesh_grid.specs.declared.grid.fault.GridFault.TheVariants as grid_fault
-use Rattle.mesh_grid.specs.Grid.Grids.{IsGridFault}
 use Rattle.mesh_scene.specs.declared.scene.fault.SceneFault.{SceneFault}
 use Rattle.mesh_scene.specs.declared.scene.fault.SceneFault.TheVariants as scene_fault
 use Rattle.mesh_scene.specs.Scene.Images.{meshes_on}
-use Rattle.mesh_scene.specs.Scene.Faults.{IsClosedMesh, IsFirstOpen, IsFaultOn, of_grid_fault, of_join_fault, IsSceneGrid, IsSceneFault}
+use Rattle.mesh_scene.specs.Scene.Faults.{IsClosedMesh, IsFirstOpen, IsFaultOn, of_join_fault, IsSceneGrid, IsSceneFault}
 use Rattle.mesh_scene.proofs.Scenes.{parts_are_closed, closed_are_balanced, joined_images}
 
 -- what holds of the fault that a result has
 pub fault_has : {T : Type 0} (r : Result T SceneFault) (fault : SceneFault) (P : SceneFault → Type 0) → IsErrAnd r (λ e. e ≡ fault) → P fault → IfErr r P
 fault_has (Ok x) fault P h p = tt
 fault_has (Err e) fault P h p = subst P (sym h) p
-
--- a fault of the grid
-pub grid_fault_is : (ss : List Surface) (wanted : Wanted) (cause : GridFault) → IsGridFault ss wanted cause → IsSceneFault ss wanted (of_grid_fault cause)
-grid_fault_is ss wanted grid_fault.NoTriangles h = h
-grid_fault_is ss wanted (grid_fault.StepTooSmall extent) h = h
-grid_fault_is ss wanted grid_fault.OutOfMemory h = tt
 
 -- a fault of the surfaces on the grid
 pub fault_on_grid_is : (g : Grid) (ss : List Surface) (wanted : Wanted) (fault : SceneFault) → IsSceneGrid ss wanted g →

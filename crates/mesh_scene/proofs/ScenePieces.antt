@@ -24,7 +24,7 @@ use Rattle.mesh_scene.specs.SceneFile.Texts.{File, move_text, count_text, counts
 use Rattle.mesh_scene.specs.SceneFile.Texts.{file_line, files_text, offset_text, grid_text, text_of}
 use Rattle.mesh_scene.specs.SceneFile.ReadBack.{IsShort, IsFile}
 use Rattle.mesh_scene.proofs.FileLines.{next_lines, joined}
-use Rattle.mesh_scene.proofs.LexedTails.{tokens-pieces}
+use Rattle.mesh_scene.proofs.LexedTails.{tokens-pieces, regrouped}
 use Rattle.mesh_scene.proofs.PlainTexts.{plain_escape, plain_utf8, move_plain, step_plain}
 
 abbrev pub Pieces : Type 0
@@ -60,9 +60,6 @@ scene_pieces step o fs = grid_pieces step o ++ files_pieces fs
 regrouped5 : (a b c d e r : List ℕ) → (a ++ (b ++ (c ++ (d ++ e)))) ++ r ≡ a ++ (b ++ (c ++ (d ++ (e ++ r))))
 regrouped5 a b c d e r = simp append_assoc
 
-regrouped4 : (a b c d r : List ℕ) → (a ++ (b ++ (c ++ d))) ++ r ≡ a ++ (b ++ (c ++ (d ++ r)))
-regrouped4 a b c d r = simp append_assoc
-
 regrouped3 : (a b c r : List ℕ) → (a ++ (b ++ c)) ++ r ≡ a ++ (b ++ (c ++ r))
 regrouped3 a b c r = simp append_assoc
 
@@ -82,7 +79,7 @@ file_then f r =
 
 count_regrouped : (k : List ℕ) (n : ℕ) (r : List ℕ) → count_text k n ++ r ≡ count_then k n r
 unfolding count_text
-count_regrouped k n r = regrouped4 (codes ", \"") k (codes "\": ") (decimal n) r
+count_regrouped k n r = regrouped (codes ", \"") k (codes "\": ") (decimal n) r
 
 counts_regrouped : (c : Counts) (r : List ℕ) → counts_text c ++ r
     ≡ count_then (codes "triangles") c.triangles (count_then (codes "vanished") c.vanished (count_then (codes "without area") c.flat r))

@@ -4,7 +4,7 @@ use Rattle.std.proofs.Common.{Option, Some, None, List, [], ◌∷◌, slice_get
 use Rattle.std.proofs.Common.{◌+ℤ◌, ◌-ℤ◌, ◌*ℤ◌, ◌<ℤ◌}
 use Rattle.std.specs.List.{All, AllByRecursion, AllZip}
 use borrow.Author.Differences.{ints}
-use Rattle.std.proofs.lemmas.Bool.{eqb-true, leb-true, leb-false}
+use Rattle.std.proofs.lemmas.Bool.{eqb-true, leb-true, leb-false, and_parts}
 use Rattle.std.proofs.lemmas.List.Elements.{All-head, All-tail}
 use Rattle.std.proofs.lemmas.Option.{slice_get_past}
 use lib.IntN.{zero-*ℤ}
@@ -22,7 +22,6 @@ use Rattle.ember_model.specs.declared.point.Axis.TheVariants.{X, Y, Z}
 use Rattle.ember_model.specs.Edges.{normal}
 use Rattle.ember_model.specs.Faces.{hit}
 use Rattle.ember_model.specs.Planes.{along}
-use Rattle.ember_model.proofs.SignTests.{and_parts}
 use Rattle.ember_law.proofs.Generic.{at_hit_of}
 use Rattle.ember_poly.proofs.RingOutline.{each_get}
 use Rattle.mesh_certificate.specs.declared.key.lines.LineKey.{LineKey}

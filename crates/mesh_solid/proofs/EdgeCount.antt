@@ -9,7 +9,9 @@ use Rattle.ember_algebra.proofs.Laws.{linear}
 use Rattle.ember_algebra.proofs.Order.{by_sign, pos_mul, mul_neg_neg, sign_scaled, zero_product}
 use Rattle.ember_algebra.proofs.Ring.{◌⊕◌, ◌⊖◌, ◌⊗◌, ◌≈◌, num, neg, solve, cancels}
 use Rattle.ember_algebra.proofs.Signs.{pick, may_sum, both, not_null, sum_may, sgn-mul, sgn-neg, zero_from_sgn, pos_from_sgn}
+use Rattle.ember_algebra.proofs.Signs.{flip_zero}
 use Rattle.ember_algebra.proofs.Vectors.{scalar, vector, identity, vector_identity, same_v, dotE, crossE, scaleE, ◌≈v◌, cancels_v}
+use Rattle.ember_algebra.proofs.Vectors.{square_positive}
 use Rattle.ember_algebra.proofs.Identities.{parallel_products}
 use Rattle.ember_model.specs.declared.plane.Plane.{Plane}
 use Rattle.ember_model.specs.declared.point.Spot.{Spot}
@@ -24,7 +26,7 @@ use Rattle.ember_model.proofs.SignTests.{clash, and_true, sgn_scaled, negative_n
 use Rattle.ember_meaning.specs.Closed.Chains.{DirectedEdge, displacement, is_zero_vector, reached, coverage}
 use Rattle.ember_meaning.proofs.RectangleRound.{IsGeneralFace}
 use Rattle.ember_meaning.proofs.Displacements.{Parallel, zeroE, displacement_value, dot_swap, none_parallel}
-use Rattle.ember_meaning.proofs.Displacements.{parallel_swap, square_positive, zero_vector_in, zero_vector_out}
+use Rattle.ember_meaning.proofs.Displacements.{parallel_swap, zero_vector_in, zero_vector_out}
 use Rattle.ember_meaning.proofs.EdgeForm.{start_on, end_on, leads, course_nonzero, line_displacement, flat_displacement, edge_form}
 use Rattle.mesh_solid.proofs.Passings.{passing, below, passing_on_line, opposite_product, pick_is_cond}
 use Rattle.mesh_solid.proofs.Seen.{area, height, turn_at, passing_at, area_course, area_dot, area_scale}
@@ -47,17 +49,6 @@ reached_below Pos n = refl
 
 zero_by_sign : (z : ℤ) → sgn z ≡ Zero → z ≡ pos 0
 zero_by_sign z s = zero_from_sgn z (subst (λ (t : Sign). T (is_nil t)) (sym s) tt)
-
-flip_zero : (s : Sign) → flip s ≡ Zero → s ≡ Zero
-flip_zero Neg e = absurd (by e)
-  where
-    by : Pos ≡ Zero → ⊥
-    by e = cc
-flip_zero Zero e = refl
-flip_zero Pos e = absurd (by e)
-  where
-    by : Neg ≡ Zero → ⊥
-    by e = cc
 
 -- numbers of one sign have a positive product
 same_signs_positive : (a b : ℤ) → sgn a ≡ sgn b → b ≢ pos 0 → pos 0 <ℤ (b *ℤ a)

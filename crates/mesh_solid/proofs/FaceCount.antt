@@ -2,6 +2,7 @@
 use Rattle.std.proofs.Common.{◌≡◌, ◌≢◌, refl, ap, subst, ◌∙◌, arith, Bool, true, false, not, cond, ◌&&◌, List, [], ◌∷◌, map, ℤ, pos, ◌+ℤ◌, ◌*ℤ◌, ◌<ℤ◌}
 use Rattle.std.specs.Bool.{⊤}
 use Rattle.std.specs.List.{AllByRecursion}
+use Rattle.std.proofs.lemmas.Bool.{and_parts}
 use Rattle.ember_algebra.specs.Vector.{Vector, zero_v, scale_v, dot, cross}
 use Rattle.ember_algebra.specs.Sign.{is_negative, is_positive, sign}
 use Rattle.ember_algebra.specs.Sums.{total}
@@ -17,7 +18,7 @@ use Rattle.ember_model.specs.FaceFiles.{WrittenFace}
 use Rattle.ember_model.specs.Faces.{between}
 use Rattle.ember_model.specs.Planes.{value_at}
 use Rattle.ember_model.proofs.Legs.{value_between}
-use Rattle.ember_model.proofs.SignTests.{and_parts, negative_out}
+use Rattle.ember_model.proofs.SignTests.{negative_out}
 use Rattle.ember_poly.proofs.Chains.{each_map}
 use Rattle.ember_meaning.specs.Closed.Chains.{DirectedEdge, edges_to, directed_edges, face_from, IsOutlined}
 use Rattle.ember_meaning.proofs.RectangleRound.{IsGeneral, IsGeneralFace}

@@ -10,6 +10,7 @@ use Rattle.ember_algebra.proofs.Order.{pos_mul}
 use Rattle.ember_algebra.proofs.Large.{eventually_both, eventually_map}
 use Rattle.ember_algebra.proofs.Ring.{◌⊕◌, ◌⊖◌, ◌⊗◌, ◌≈◌, num, neg, cancels}
 use Rattle.ember_algebra.proofs.Vectors.{scalar, vector, tuple, identity, vector_identity, same_v, dotE, crossE, scaleE, minusE, ◌≈v◌, cancels_v, vector_partE}
+use Rattle.ember_algebra.proofs.Vectors.{square_positive}
 use Rattle.ember_model.specs.declared.plane.Plane.{Plane}
 use Rattle.ember_model.specs.declared.point.Spot.{Spot}
 use Rattle.ember_model.specs.declared.point.Axis.{Axis}
@@ -31,7 +32,7 @@ use Rattle.ember_poly.proofs.OutlinePoints.{Ended, edge_has_end}
 use Rattle.ember_meaning.specs.Closed.Chains.{displacement, face_from, IsOutlined}
 use Rattle.ember_meaning.proofs.ClearCorners.{hit_course}
 use Rattle.ember_meaning.proofs.ClearRectangle.{all_of}
-use Rattle.ember_meaning.proofs.Displacements.{Parallel, displacementE, zeroE, orthogonal_to_none, square_positive}
+use Rattle.ember_meaning.proofs.Displacements.{Parallel, displacementE, zeroE, orthogonal_to_none}
 use Rattle.ember_meaning.proofs.EdgeForm.{course_nonzero, start_on}
 use Rattle.mesh_certificate.specs.Key.LineKeys.{numerators}
 use Rattle.mesh_certificate.specs.declared.certificate.space_point.SpacePoint.{SpacePoint}

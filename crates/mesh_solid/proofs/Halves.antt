@@ -4,7 +4,6 @@ use Rattle.std.proofs.Common.{cond, List, [], ◌∷◌, map, length, ℤ, pos, 
 use Rattle.std.specs.Bool.{⊤}
 use Rattle.std.specs.List.{list_all, AllByRecursion}
 use Rattle.std.proofs.lemmas.List.{length-map}
-use borrow.Author.Differences.{ints}
 use lib.IntN.{*ℤ_comm}
 use Rattle.ember_algebra.specs.declared.Sign.{Sign}
 use Rattle.ember_algebra.specs.Sign.{sign, sgn, is_pos, is_negative, is_positive}
@@ -14,7 +13,8 @@ use Rattle.ember_algebra.proofs.Order.{by_sign, pos_mul, nonneg_mul, mul_pos_neg
 use Rattle.ember_algebra.proofs.Ring.{◌⊕◌, ◌⊖◌, ◌⊗◌, ◌≈◌, neg, solve, cancels}
 use Rattle.ember_algebra.proofs.Sums.{total_same}
 use Rattle.ember_model.specs.Faces.{size}
-use Rattle.ember_model.proofs.SignTests.{clash, sgn_scaled, negative_in, negative_not, positive_in, not_positive_in, positive_nonzero, size_positive}
+use Rattle.ember_model.proofs.SignTests.{clash, sgn_scaled, negative_in, positive_in, not_positive_in, positive_nonzero, size_positive}
+use Rattle.ember_model.proofs.SignTests.{positive_not_negative, size_nonnegative}
 use Rattle.ember_model.proofs.Legs.{size_is_pos, size_is_neg, ends_nonzero}
 use Rattle.ember_meaning.proofs.Starts.{one_if}
 
@@ -52,12 +52,6 @@ AreApart (p ∷ ps) =
 shrink : {k a : ℤ} → pos 0 ≤ℤ k → a <ℤ pos 0 → (k *ℤ a) ≤ℤ pos 0
 shrink {k} {a} p q = let n : pos 0 ≤ℤ neg_ℤ a = omega (arith, linear) in omega (arith, linear, nonneg_mul p n, *ℤ-neg k a)
 
-size_nonneg : (z : ℤ) → pos 0 ≤ℤ size z
-size_nonneg z = omega (arith, ints)
-
-not_negative : {z : ℤ} → pos 0 <ℤ z → is_negative z ≡ false
-not_negative {z} l = negative_not z (omega (arith, linear))
-
 -- for a number other than 0, "not positive" is "negative"
 strictly : (z : ℤ) → z ≢ pos 0 → not (is_positive z) ≡ is_negative z
 strictly (pos zero) n = absurd (n refl)
@@ -67,7 +61,7 @@ strictly (negsuc k) n = refl
 -- ---- the head is negative at both ends, or positive at both
 under : (p : AtEnds) (ps : List AtEnds) (q : AtEnds) → p.first <ℤ pos 0 → p.last <ℤ pos 0 → leaving (p ∷ ps) q ≡ leaving ps q
 under p ps q l m =
-    let a = shrink (size_nonneg q.last) l in let b = shrink (size_nonneg q.first) m in
+    let a = shrink (size_nonnegative q.last) l in let b = shrink (size_nonnegative q.first) m in
     let n = not_positive_in (value_where q p) (omega (arith, linear, a, b)) in
     λ i. cond (is_negative (q.first *ℤ q.last) && (n i && none_above ps q)) (sign q.last) (pos 0)
 
@@ -158,11 +152,11 @@ module _ (p : AtEnds) (l : p.first <ℤ pos 0) (m : pos 0 <ℤ p.last) where
     from_above a nl nu =
         by_sign q.last
         (λ b. let c : pos 0 <ℤ (up_to q).last = omega (arith, linear, pos_mul m a, mul_neg_pos l b) in
-        off_first (not_negative (pos_mul a b)) ∙ sym (off_up (not_negative (pos_mul a c))))
+        off_first (positive_not_negative (pos_mul a b)) ∙ sym (off_up (positive_not_negative (pos_mul a c))))
         (λ z. absurd (nl z))
         (λ b. let t = negative_in (mul_pos_neg a b) in let v = head_falling q a b in
         by_sign (up_to q).last
-        (λ c. off_head t (ap (λ (z : ℤ). not (is_positive z)) v ∙ ap not (positive_in c)) ∙ sym (off_up (not_negative (pos_mul a c))))
+        (λ c. off_head t (ap (λ (z : ℤ). not (is_positive z)) v ∙ ap not (positive_in c)) ∙ sym (off_up (positive_not_negative (pos_mul a c))))
         (λ z. absurd (nu z))
         (λ c. on_head (negsuc 0) t (ap (λ (z : ℤ). not (is_positive z)) v
         ∙ not_positive_in (up_to q).last (omega (arith, linear, c))) (sign_neg b)
@@ -181,10 +175,10 @@ module _ (p : AtEnds) (l : p.first <ℤ pos 0) (m : pos 0 <ℤ p.last) where
         (λ z. absurd (nu z))
         (λ c. let w : pos 0 <ℤ neg_ℤ (up_to q).last = omega (arith, linear, c) in
         off_head t (ap (λ (z : ℤ). not (is_positive z)) v ∙ ap not (positive_in w))
-        ∙ sym (off_up (not_negative (mul_neg_neg a c)))))
+        ∙ sym (off_up (positive_not_negative (mul_neg_neg a c)))))
         (λ z. absurd (nl z))
         (λ b. let c : (up_to q).last <ℤ pos 0 = omega (arith, linear, mul_pos_neg m a, mul_neg_neg l b) in
-        off_first (not_negative (mul_neg_neg a b)) ∙ sym (off_up (not_negative (mul_neg_neg a c))))
+        off_first (positive_not_negative (mul_neg_neg a b)) ∙ sym (off_up (positive_not_negative (mul_neg_neg a c))))
 
     from_first : q.first ≢ pos 0 → q.last ≢ pos 0 → (up_to q).last ≢ pos 0 → leaving (p ∷ ps) q ≡ leaving (map up_to ps) (up_to q)
     from_first nf nl nu =
@@ -250,7 +244,7 @@ module _ (p : AtEnds) (l : p.first <ℤ pos 0) (m : pos 0 <ℤ p.last) where
   rises ps ns apart ih =
       let a = head ps ns in let b = totals ps ps ns apart in let c = ap one_if (same_first ps) in
       let d : one_if (all_at_first (p ∷ ps)) ≡ one_if (all_at_first ps) = (let n = negative_in l in λ i. one_if (n i && all_at_first ps)) in
-      let e : one_if (all_at_last (p ∷ ps)) ≡ pos 0 = (let n = not_negative m in λ i. one_if (n i && all_at_last ps)) in
+      let e : one_if (all_at_last (p ∷ ps)) ≡ pos 0 = (let n = positive_not_negative m in λ i. one_if (n i && all_at_last ps)) in
       omega (arith, linear, a, b, c, d, e, ih)
 
 -- ---- the segment the other way round
@@ -268,11 +262,11 @@ none_back q (r ∷ rs) =
 opposite_signs : (a b : ℤ) → is_negative (a *ℤ b) ≡ true → sign a ≡ neg_ℤ (sign b)
 opposite_signs a b e =
     by_sign a
-    (λ l. by_sign b (λ m. absurd (clash e (not_negative (pos_mul l m)))) (λ z. absurd ((ends_nonzero a b e).1 z))
+    (λ l. by_sign b (λ m. absurd (clash e (positive_not_negative (pos_mul l m)))) (λ z. absurd ((ends_nonzero a b e).1 z))
     (λ m. sign_pos l ∙ sym (ap neg_ℤ (sign_neg m))))
     (λ z. absurd ((ends_nonzero a b e).0 z))
     (λ l. by_sign b (λ m. sign_neg l ∙ sym (ap neg_ℤ (sign_pos m))) (λ z. absurd ((ends_nonzero a b e).1 z))
-    (λ m. absurd (clash e (not_negative (mul_neg_neg l m)))))
+    (λ m. absurd (clash e (positive_not_negative (mul_neg_neg l m)))))
 
 leaving_back : (ps : List AtEnds) (q : AtEnds) → leaving (map back ps) (back q) ≡ neg_ℤ (leaving ps q)
 leaving_back ps q = by (is_negative (q.first *ℤ q.last)) refl
@@ -328,7 +322,8 @@ told (suc n) (p ∷ ps) e apart =
   where
     same : IsTold ps → p.first <ℤ pos 0 → p.last <ℤ pos 0 → IsTold (p ∷ ps)
     same t l m =
-        let a : leaving (p ∷ ps) p ≡ pos 0 = (let n = not_negative (mul_neg_neg l m) in λ i. cond (n i && none_above (p ∷ ps) p) (sign p.last) (pos 0)) in
+        let a : leaving (p ∷ ps) p ≡ pos 0 = (let n = positive_not_negative (mul_neg_neg l m) in
+        λ i. cond (n i && none_above (p ∷ ps) p) (sign p.last) (pos 0)) in
         let b = total_same (leaving (p ∷ ps)) (leaving ps) (λ q. under p ps q l m) ps in
         let c : one_if (all_at_first (p ∷ ps)) ≡ one_if (all_at_first ps) = (let n = negative_in l in λ i. one_if (n i && all_at_first ps)) in
         let d : one_if (all_at_last (p ∷ ps)) ≡ one_if (all_at_last ps) = (let n = negative_in m in λ i. one_if (n i && all_at_last ps)) in
@@ -337,8 +332,8 @@ told (suc n) (p ∷ ps) e apart =
     none : pos 0 <ℤ p.first → pos 0 <ℤ p.last → IsTold (p ∷ ps)
     none l m =
         let a = over_all p ps (p ∷ ps) l m in
-        let c : one_if (all_at_first (p ∷ ps)) ≡ pos 0 = (let n = not_negative l in λ i. one_if (n i && all_at_first ps)) in
-        let d : one_if (all_at_last (p ∷ ps)) ≡ pos 0 = (let n = not_negative m in λ i. one_if (n i && all_at_last ps)) in
+        let c : one_if (all_at_first (p ∷ ps)) ≡ pos 0 = (let n = positive_not_negative l in λ i. one_if (n i && all_at_first ps)) in
+        let d : one_if (all_at_last (p ∷ ps)) ≡ pos 0 = (let n = positive_not_negative m in λ i. one_if (n i && all_at_last ps)) in
         omega (arith, linear, a, c, d)
 
     -- the head rises: by the list up to where it is 0

@@ -6,6 +6,7 @@ use Rattle.ember_algebra.specs.Sign.{sgn, flip, times, is_pos}
 use Rattle.ember_algebra.proofs.Ring.{◌⊖◌, ◌⊗◌, ◌≈◌, cancels}
 use Rattle.ember_algebra.proofs.Signs.{pick, may_sum, both, not_null, sum_may, sgn-mul, sgn-neg}
 use Rattle.ember_algebra.proofs.Vectors.{scalar, vector, tuple, identity, vector_identity, dotE, crossE, scaleE, minusE, ◌≈v◌, cancels_v, vector_partE}
+use Rattle.ember_algebra.proofs.Vectors.{square_positive}
 use Rattle.ember_algebra.proofs.Identities.{parallel_products}
 use Rattle.ember_model.specs.declared.plane.Plane.{Plane}
 use Rattle.ember_model.specs.declared.point.Spot.{Spot}
@@ -13,7 +14,7 @@ use Rattle.ember_model.specs.Edges.{normal}
 use Rattle.ember_model.proofs.SignTests.{sgn_scaled}
 use Rattle.ember_model.proofs.Tuples.{spot_tuple}
 use Rattle.ember_meaning.specs.Closed.Chains.{displacement}
-use Rattle.ember_meaning.proofs.Displacements.{Parallel, displacementE, zeroE, parallel_swap, square_positive}
+use Rattle.ember_meaning.proofs.Displacements.{Parallel, displacementE, zeroE, parallel_swap}
 use Rattle.mesh_certificate.specs.declared.key.lines.LineKey.{LineKey}
 use Rattle.mesh_certificate.specs.Key.LineKeys.{direction, moment, numerators, IsOnLine}
 use Rattle.mesh_solid.proofs.Passings.{passing, below, passing_on_line}

@@ -67,14 +67,6 @@ pairs_with R S f [] (y ∷ ys) h = absurd h
 pairs_with R S f (x ∷ xs) [] h = absurd h
 pairs_with R S f (x ∷ xs) (y ∷ ys) h = (f x y h.0, pairs_with R S f xs ys h.1)
 
--- one pair more
-pub pairs_push : {A B : Type 0} (R : A → B → Type 0) (xs : List A) (ys : List B) (x : A) (y : B) → AllZip R xs ys →
-    R x y → AllZip R (xs ++ x ∷ []) (ys ++ y ∷ [])
-pairs_push R [] [] x y h r = (r, tt)
-pairs_push R [] (b ∷ ys) x y h r = absurd h
-pairs_push R (a ∷ xs) [] x y h r = absurd h
-pairs_push R (a ∷ xs) (b ∷ ys) x y h r = (h.0, pairs_push R xs ys x y h.1 r)
-
 -- ---- images
 -- an entry's image has its number
 pub mapped_has : {X Y : Type 0} (f : X → Y) (xs : List X) (n : ℕ) (P : X → Type 0) (Q : Y → Type 0) →

@@ -9,6 +9,7 @@ use Rattle.std.proofs.lemmas.Option.{get_or_from_slice_get, slice_get_within}
 use Rattle.std.proofs.lemmas.Map.Keys.{apart_from_distinct}
 use Rattle.ember_model.specs.declared.point.Spot.{Spot}
 use Rattle.ember_model.specs.declared.plane.Plane.{Plane}
+use Rattle.ember_model.proofs.Tuples.{same_spot}
 use Rattle.mesh_certificate.specs.declared.key.lines.LineKey.{LineKey}
 use Rattle.mesh_certificate.specs.declared.certificate.space_point.SpacePoint.{SpacePoint}
 use Rattle.mesh_certificate.specs.Certificate.Facing.{spot_of}
@@ -53,13 +54,10 @@ same_line_decides k l =
     (Decides-and _ _ (Decides-int_eq k.mx l.mx)
     (Decides-and _ _ (Decides-int_eq k.my l.my) (Decides-int_eq k.mz l.mz))))))
 
-spot_from : {u v : Spot} → u.x ≡ v.x → u.y ≡ v.y → u.z ≡ v.z → u.w ≡ v.w → u ≡ v
-spot_from a b c d = λ i. record { x = a i; y = b i; z = c i; w = d i }
-
 pub same_corner_decides : (p q : SpacePoint) → Decides (same_corner p q) (spot_of p ≡ spot_of q)
 same_corner_decides p q =
     Decides-like _
-    (λ t. spot_from {u = spot_of p} {v = spot_of q} t.0 t.1.0 t.1.1.0 t.1.1.1)
+    (λ t. same_spot {u = spot_of p} {v = spot_of q} t.0 t.1.0 t.1.1.0 t.1.1.1)
     (λ s. (ap (λ (v : Spot). v.x) s, (ap (λ (v : Spot). v.y) s, (ap (λ (v : Spot). v.z) s, ap (λ (v : Spot). v.w) s))))
     (Decides-and _ _ (Decides-int_eq p.x q.x) (Decides-and _ _ (Decides-int_eq p.y q.y) (Decides-and _ _ (Decides-int_eq p.z q.z) (Decides-int_eq p.w q.w))))
 

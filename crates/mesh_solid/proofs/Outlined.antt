@@ -2,7 +2,7 @@
 use Rattle.std.proofs.Common.{◌≡◌, ℕ, ◌+◌, ◌<◌, List, [], ◌∷◌, ◌++◌, map, length, take, get_or, Some, refl, sym, ap, subst, ◌∙◌, option_map}
 use Rattle.std.specs.List.{All, AllByRecursion, slice_get}
 use Rattle.std.proofs.lemmas.List.{map-append, take-map, take_more}
-use Rattle.std.proofs.lemmas.List.Elements.{All-push}
+use Rattle.std.proofs.lemmas.List.Elements.{All-push, recursion_from_All}
 use Rattle.std.proofs.lemmas.Option.{slice_get-get_or, slice_get-map}
 use Rattle.ember_meaning.specs.Closed.Chains.{IsOutlined}
 use Rattle.ember_model.specs.declared.face.Face.{Face}
@@ -14,7 +14,6 @@ use Rattle.mesh_solid.proofs.RoundOutlines.{round_is_outlined}
 use Rattle.ember_reread.specs.declared.cornered_face.CorneredFace.{CorneredFace}
 use Rattle.ember_reread.specs.Cornered.{IsFileOf, face_of}
 use Rattle.ember_reread.specs.Lines.{face_in}
-use Rattle.ember_reread.proofs.FaceTexts.{each_of}
 use Rattle.ember_reread.proofs.OneReading.{face_file_is_read_once}
 use Rattle.mesh_solid.specs.declared.mesh.mesh.SolidMesh.{SolidMesh}
 use Rattle.mesh_solid.specs.Mesh.FaceTables.{HasFirstFace}
@@ -79,4 +78,4 @@ unfolding file_holds
 outlined_mesh_is ws bytes mesh file round is =
     let read = is.tables_are.read in
     let same : ws ≡ read.written = face_file_is_read_once bytes (map face_in ws) is.tables_are.faces (file_holds ws bytes file) read in
-    record { of_document = is; outlined = subst (AllByRecursion IsOutlined) same (each_outlined ws (each_of IsRound ws round)) }
+    record { of_document = is; outlined = subst (AllByRecursion IsOutlined) same (each_outlined ws (recursion_from_All IsRound ws round)) }

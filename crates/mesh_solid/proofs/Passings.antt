@@ -58,16 +58,6 @@ passing_triangle a b c l m n t =
     (pick (is_pos l and (is_pos m and is_pos n)) (pos 1))) (signs 6 triangle_test tt a b c l m n) t)
 
 -- ---- small facts
-pub flip_flip : (s : Sign) → flip (flip s) ≡ s
-flip_flip Neg = refl
-flip_flip Zero = refl
-flip_flip Pos = refl
-
-pub flipped_positive : (s : Sign) → is_pos (flip s) ≡ is_neg s
-flipped_positive Neg = refl
-flipped_positive Zero = refl
-flipped_positive Pos = refl
-
 -- a product with the opposite sign is positive where the product is negative
 pub opposite_product : (a b : ℤ) → is_pos (times (flip (sgn a)) (sgn b)) ≡ is_negative (a *ℤ b)
 opposite_product a b = by (sgn a) (sgn b) ∙ ap is_neg (sym (sgn-mul a b))

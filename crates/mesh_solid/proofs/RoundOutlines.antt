@@ -1,5 +1,5 @@
 -- Edges that lead around a convex polygon are the outline of its face.
-use Rattle.std.proofs.Common.{◌≡◌, ℕ, zero, suc, ◌+◌, ◌<◌, ◌≤◌, List, [], ◌∷◌, ◌++◌, map, length, length-append}
+use Rattle.std.proofs.Common.{◌≡◌, ℕ, zero, suc, ◌+◌, ◌≤◌, List, [], ◌∷◌, ◌++◌, map, length, length-append}
 use Rattle.std.proofs.Common.{append_assoc, Some, None, inl, refl, sym, ap, ◌∙◌, subst, arith}
 use Rattle.std.specs.List.{AllByRecursion, slice_get}
 use Rattle.std.proofs.lemmas.List.{map-append}
@@ -106,13 +106,6 @@ oldest (e ∷ es) = later 1 es
 outline_of_sides : (index : ℕ) (es : List RingEdge) → outline (sides_from index es) ≡ es
 outline_of_sides index [] = refl
 outline_of_sides index (e ∷ es) = ap (λ (ds : List RingEdge). e ∷ ds) (outline_of_sides (index + 1) es)
-
--- there are at least three sides
-pub few_sides : (n : Plane) (xs : List Side) → length xs < 3 → IsConvexRing n xs → ⊥
-few_sides n [] l h = h
-few_sides n (s ∷ []) l h = h
-few_sides n (s ∷ t ∷ []) l h = h.0
-few_sides n (s ∷ t ∷ x ∷ xs) l h = absurd (omega (arith, l))
 
 -- edges that lead around are the outline of the face that their planes bound
 pub round_is_outlined : (w : WrittenFace) → IsRound w → IsOutlined w

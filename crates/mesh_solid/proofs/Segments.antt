@@ -1,6 +1,7 @@
 -- Segments of edges, as the tables grow
 use Rattle.std.proofs.Common.{◌≡◌, List, [], ◌∷◌, ◌++◌, sym, subst, ◌∙◌, append_assoc}
 use Rattle.std.specs.List.{AllZip, IsDistinct, All}
+use Rattle.ember_algebra.proofs.Lists.{AllZip-push}
 use Rattle.ember_model.specs.declared.plane.Plane.{Plane}
 use Rattle.ember_model.specs.Valid.{IsValidPlane}
 use Rattle.mesh_certificate.specs.declared.key.lines.LineKey.{LineKey}
@@ -14,7 +15,7 @@ use Rattle.mesh_solid.specs.declared.tables.draft.TableBuilder.{TableBuilder}
 use Rattle.mesh_solid.specs.Tables.Numberings.{same_entry, same_line, same_corner}
 use Rattle.mesh_solid.specs.Tables.Tables.{IsCorner, IsSegmentOf}
 use Rattle.mesh_solid.specs.Tables.Drafts.{planes_in, IsDraftBefore}
-use Rattle.mesh_solid.proofs.Lists.{Extends, entry_stays, pairs_with, pairs_push}
+use Rattle.mesh_solid.proofs.Lists.{Extends, entry_stays, pairs_with}
 
 -- a segment keeps its meaning as tables grow
 stays : (ps qs : List Plane) (ls ms : List LineKey) (cs ds : List SpacePoint) → Extends ps qs → Extends ls ms →
@@ -66,7 +67,7 @@ edge_put all rest edge d e s only is t h = subst (λ (x : TableBuilder). IsDraft
             corners = h.draft.corners;
             valid = h.draft.valid;
             segments = subst (AllZip (IsSegmentOf (planes_in d) d.lines.keys d.corners.keys) (h.done ++ edge ∷ []))
-                (sym t) (pairs_push (IsSegmentOf (planes_in d) d.lines.keys d.corners.keys) h.done d.segments.items edge s
+                (sym t) (AllZip-push (IsSegmentOf (planes_in d) d.lines.keys d.corners.keys) h.done d.segments.items edge s
                 h.draft.segments is);
           };
         }

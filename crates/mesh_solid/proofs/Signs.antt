@@ -4,10 +4,12 @@ use Rattle.std.specs.List.{AllByRecursion, Any, list_all}
 use Rattle.std.proofs.lemmas.Bool.{false≢true}
 use Rattle.std.proofs.lemmas.Int.{ints}
 use Rattle.ember_algebra.specs.Sign.{is_negative, is_positive, is_zero}
+use Rattle.ember_algebra.proofs.Booleans.{and_first, and_second}
 use Rattle.ember_model.specs.declared.plane.Plane.{Plane}
 use Rattle.ember_model.specs.declared.point.Spot.{Spot}
 use Rattle.ember_model.specs.Edges.{RingEdge}
 use Rattle.ember_model.specs.Planes.{value_at}
+use Rattle.ember_model.proofs.SignTests.{nonzero_out}
 use Rattle.ember_point.specs.Points.{spot_of}
 use Rattle.ember_poly.specs.Rings.{Side, IsBelow}
 use Rattle.ember_reread.specs.declared.cornered_face.CorneredEdge.{CorneredEdge}
@@ -16,17 +18,6 @@ use Rattle.mesh_solid.specs.Outline.Rounds.{side_of}
 use Rattle.mesh_solid.specs.Outline.Sides.{side_at}
 
 -- ---- one number
-pub zero_found : (z : ℤ) → is_zero z ≡ true → z ≡ pos 0
-zero_found (pos zero) e = refl
-zero_found (pos (suc n)) e = absurd (false≢true e)
-zero_found (negsuc n) e = absurd (false≢true e)
-
-pub zero_missed : (z : ℤ) → is_zero z ≡ false → z ≢ pos 0
-zero_missed z e q = false≢true (sym e ∙ ap is_zero q)
-
-pub zero_tested : (z : ℤ) → z ≡ pos 0 → is_zero z ≡ true
-zero_tested z q = ap is_zero q
-
 pub positive_tested : (z : ℤ) (b : Bool) → b ≡ is_positive z → (b ≡ true → pos 0 <ℤ z) × (pos 0 <ℤ z → b ≡ true)
 positive_tested (pos zero) b e = (λ t. absurd (false≢true (sym e ∙ t)), λ l. absurd (omega (arith, ints, l)))
 positive_tested (pos (suc n)) b e = (λ t. omega (arith, ints), λ l. e)
@@ -35,8 +26,8 @@ positive_tested (negsuc n) b e = (λ t. absurd (false≢true (sym e ∙ t)), λ 
 -- the negation of a test for 0
 pub off_tested : (z : ℤ) (b : Bool) → b ≡ is_zero z → (not b ≡ true → z ≢ pos 0) × (z ≢ pos 0 → not b ≡ true)
 off_tested (pos zero) b e = (λ t. absurd (false≢true (ap not (sym e) ∙ t)), λ p. absurd (p refl))
-off_tested (pos (suc n)) b e = (λ t. zero_missed (pos (suc n)) refl, λ p. ap not e)
-off_tested (negsuc n) b e = (λ t. zero_missed (negsuc n) refl, λ p. ap not e)
+off_tested (pos (suc n)) b e = (λ t. nonzero_out (pos (suc n)) refl, λ p. ap not e)
+off_tested (negsuc n) b e = (λ t. nonzero_out (negsuc n) refl, λ p. ap not e)
 
 pub below_found : (p : Plane) (v : Spot) → is_negative (value_at p v) ≡ true → IsBelow p v
 below_found p v e = record { under = negative (value_at p v) e }
@@ -55,14 +46,6 @@ below_tested p v h = negative (value_at p v) h.under
     negative (negsuc n) l = refl
 
 -- ---- all of a list
-first_true : (a b : Bool) → a && b ≡ true → a ≡ true
-first_true true b e = refl
-first_true false b e = absurd (false≢true e)
-
-second_true : (a b : Bool) → a && b ≡ true → b ≡ true
-second_true true b e = e
-second_true false b e = absurd (false≢true e)
-
 both_true : (a b : Bool) → a ≡ true → b ≡ true → a && b ≡ true
 both_true a b e f = (λ i. e i && f i)
 
@@ -71,7 +54,7 @@ module _ {X Y : Type 0} (p : X → Bool) (f : X → Y) (P : Y → Type 0) where
   pub all_found : ((x : X) → p x ≡ true → P (f x)) → (xs : List X) → list_all p xs ≡ true → AllByRecursion P (map f xs)
   all_found says [] e = tt
   all_found says (x ∷ xs) e =
-      (says x (first_true (p x) (list_all p xs) e), all_found says xs (second_true (p x) (list_all p xs) e))
+      (says x (and_first (p x) (list_all p xs) e), all_found says xs (and_second (p x) (list_all p xs) e))
 
   -- and the test is passed if it holds
   pub all_tested : ((x : X) → P (f x) → p x ≡ true) → (xs : List X) → AllByRecursion P (map f xs) → list_all p xs ≡ true
@@ -88,7 +71,7 @@ HasCornerOff n es = Any (λ (e : RingEdge). value_at n e.start ≢ pos 0) (map e
 off_here_or_later : (n : Plane) (x : CorneredEdge) (xs : List CorneredEdge) (b : Bool) → on_plane n x ≡ b →
     on_plane n x && list_all (on_plane n) xs ≡ false → (list_all (on_plane n) xs ≡ false → HasCornerOff n xs) →
     HasCornerOff n (x ∷ xs)
-off_here_or_later n x xs false q e later = (0, edge_of x, omega arith, refl, zero_missed _ q)
+off_here_or_later n x xs false q e later = (0, edge_of x, omega arith, refl, nonzero_out _ q)
 off_here_or_later n x xs true q e later =
     let rest = later (sym (ap (λ b. b && list_all (on_plane n) xs) q) ∙ e) in
     (suc rest.0, rest.1, omega (arith, rest.2), rest.3, rest.4)

@@ -7,6 +7,7 @@ use Rattle.ember_algebra.proofs.Laws.{linear}
 use Rattle.ember_algebra.proofs.Order.{by_sign, pos_mul, mul_neg_neg, zero_product}
 use Rattle.ember_algebra.proofs.Ring.{◌⊕◌, ◌⊖◌, ◌⊗◌, ◌≈◌, neg, solve, cancels}
 use Rattle.ember_algebra.proofs.Vectors.{scalar, vector, tuple, identity, dotE, crossE, scaleE, minusE, valueE}
+use Rattle.ember_algebra.proofs.Booleans.{same_test}
 use Rattle.ember_model.specs.declared.plane.Plane.{Plane}
 use Rattle.ember_model.specs.declared.point.Spot.{Spot}
 use Rattle.ember_model.specs.declared.face.Face.{Face}
@@ -16,7 +17,7 @@ use Rattle.ember_model.specs.Planes.{value_at}
 use Rattle.ember_model.proofs.Legs.{value_between, size_is_pos, size_is_neg, ends_nonzero}
 use Rattle.ember_model.proofs.SignTests.{clash, negative_not, zero_scaled}
 use Rattle.ember_model.proofs.Tuples.{plane_tuple, spot_tuple}
-use Rattle.ember_poly.proofs.FaceTests.{edge_in, edge_out, same_test}
+use Rattle.ember_poly.proofs.FaceTests.{edge_in, edge_out}
 use Rattle.ember_meaning.specs.Closed.Chains.{displacement}
 use Rattle.ember_meaning.proofs.RectangleRound.{IsGeneral}
 use Rattle.ember_meaning.proofs.Displacements.{Parallel, dot_swap, orthogonal_to_none, parallel_orthogonal, parallel_swap, zero_carried}

@@ -5,7 +5,7 @@ use Rattle.ember_algebra.specs.Vector.{Vector}
 use Rattle.ember_algebra.specs.Sign.{sgn, flip, is_pos, is_neg, is_negative}
 use Rattle.ember_algebra.proofs.Laws.{linear}
 use Rattle.ember_algebra.proofs.Order.{pos_mul, mul_pos_neg}
-use Rattle.ember_algebra.proofs.Signs.{◌and◌, both, not_null, zero_sum_from, neg_from_sgn, sgn-neg}
+use Rattle.ember_algebra.proofs.Signs.{◌and◌, both, not_null, zero_sum_from, neg_from_sgn, sgn-neg, is_pos-flip}
 use Rattle.ember_model.specs.declared.plane.Plane.{Plane}
 use Rattle.ember_model.specs.declared.point.Spot.{Spot}
 use Rattle.ember_model.specs.ClearTest.{all_negative}
@@ -14,14 +14,14 @@ use Rattle.ember_model.proofs.SignTests.{sgn_scaled}
 use Rattle.ember_meaning.proofs.Starts.{one_if}
 use Rattle.mesh_certificate.specs.Certificate.Facing.{FacesFront}
 use Rattle.mesh_solid.specs.Winding.TriangleFaces.{side_plane, face_of_points}
-use Rattle.mesh_solid.proofs.Passings.{may_triangle, passing_triangle, flipped_positive, pick_of_three}
+use Rattle.mesh_solid.proofs.Passings.{may_triangle, passing_triangle, pick_of_three}
 use Rattle.mesh_solid.proofs.Seen.{height, turn_at, passing_at, heights_balance, turns_add, side_value}
 
 -- a side's plane is negative where the side turns left
 side_negative : (n : Plane) (x u v : Spot) → pos 0 <ℤ x.w → pos 0 <ℤ u.w → is_pos (sgn (turn_at n x u v)) ≡ is_negative (value_at (side_plane n u v) x)
 side_negative n x u v wx wu =
     let g = value_at (side_plane n u v) x in
-    ap is_pos (sym (sgn_scaled (turn_at n x u v) wu) ∙ ap sgn (side_value n x u v) ∙ sgn-neg (x.w *ℤ g) ∙ ap flip (sgn_scaled g wx)) ∙ flipped_positive (sgn g)
+    ap is_pos (sym (sgn_scaled (turn_at n x u v) wu) ∙ ap sgn (side_value n x u v) ∙ sgn-neg (x.w *ℤ g) ∙ ap flip (sgn_scaled g wx)) ∙ is_pos-flip (sgn g)
 
 -- x is a point of no side's line, and no corner is level with it
 pub record IsGeneralTriangle (n : Plane) (e : Vector) (x u v w : Spot) : Type 0 where

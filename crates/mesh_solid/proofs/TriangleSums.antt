@@ -2,7 +2,7 @@
 use Rattle.std.proofs.Common.{◌≡◌, ◌≢◌, ⊎_elim, refl, sym, ap, ◌∙◌, arith, nat_eq, ◌&&◌, Option, Some, None, List, []}
 use Rattle.std.proofs.Common.{◌∷◌, slice_get, ℕ, ℤ, pos, ◌+ℤ◌, ◌*ℤ◌, ◌<ℤ◌}
 use Rattle.std.specs.List.{All, AllByRecursion}
-use Rattle.std.proofs.lemmas.Bool.{eqb-true}
+use Rattle.std.proofs.lemmas.Bool.{eqb-true, and_parts}
 use Rattle.std.proofs.lemmas.List.Elements.{All-head, All-tail}
 use lib.IntN.{zero-*ℤ}
 use Rattle.ember_algebra.specs.Vector.{Vector, zero_v, dot, cross}
@@ -19,7 +19,7 @@ use Rattle.ember_model.specs.Edges.{normal}
 use Rattle.ember_model.specs.Faces.{hit, crossing}
 use Rattle.ember_model.specs.Meshes.{wind}
 use Rattle.ember_model.specs.Planes.{value_at, along}
-use Rattle.ember_model.proofs.SignTests.{and_parts, positive_nonzero}
+use Rattle.ember_model.proofs.SignTests.{positive_nonzero}
 use Rattle.ember_model.proofs.Tuples.{spot_tuple}
 use Rattle.ember_law.proofs.Generic.{at_hit_of, cancel_zero}
 use Rattle.ember_poly.proofs.RingOutline.{each_get}

@@ -8,12 +8,13 @@ use Rattle.std.specs.Char.{is_ascii_digit}
 use Rattle.std.proofs.lemmas.Bool.Decides.{nat_tests, eqb_tells}
 use Rattle.std.proofs.lemmas.List.Folds.{list_all-append}
 use Rattle.std.proofs.lemmas.Nat.{pow_pos}
+use Rattle.std.proofs.lemmas.Bool.{and_parts}
 use Rattle.ember_dec.specs.Decimal.{number_from}
 use Rattle.ember_dec.proofs.Numbers.{number_from-grows}
 use Rattle.mesh_number.specs.declared.number.values.Exponent.{Exponent}
 use Rattle.mesh_number.specs.Number.Fractions.{signed_whole}
 use Rattle.mesh_number.specs.Number.Values.{decimal_value, places_right}
-use Rattle.mesh_number.proofs.DigitNumbers.{pow_ten_pos, both_true}
+use Rattle.mesh_number.proofs.DigitNumbers.{pow_ten_pos}
 
 abbrev is_zero : ℕ → Bool
 is_zero b = b == 48
@@ -35,7 +36,7 @@ signed_some false size p = some_size size p
 zeros : (ds : List ℕ) → list_all is_zero ds ≡ true → number_from 0 ds ≡ 0
 zeros [] h = refl
 zeros (d ∷ ds) h =
-    let parts = both_true (is_zero d) (list_all is_zero ds) h in
+    let parts = and_parts (is_zero d) (list_all is_zero ds) h in
     elim (eqb_tells d 48) [
       | inl e ↦ rw e.1 (zeros ds parts.1)
       | inr e ↦ absurd (cc)
@@ -48,7 +49,7 @@ behind_some s ds p = omega (arith, number_from-grows s ds)
 some_digit : (s : ℕ) (ds : List ℕ) → list_all is_ascii_digit ds ≡ true → list_all is_zero ds ≡ false → 0 < number_from s ds
 some_digit s [] h n = absurd (cc)
 some_digit s (d ∷ ds) h n =
-    let parts = both_true (is_ascii_digit d) (list_all is_ascii_digit ds) h in
+    let parts = and_parts (is_ascii_digit d) (list_all is_ascii_digit ds) h in
     elim (eqb_tells d 48) [
       | inl e ↦ some_digit (s * 10 + (d - 48)) ds parts.1 (rw e.0 at n)
       | inr e ↦

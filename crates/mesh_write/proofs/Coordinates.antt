@@ -1,6 +1,6 @@
 -- A coordinate, written and read again
 use Rattle.std.proofs.Common.{◌≡◌, ℕ, zero, suc, ◌+◌, ◌*◌, ◌/◌, ◌%◌, ◌^◌, ◌<◌, Bool, true, false, ◌&&◌, length, Some, ℤ}
-use Rattle.std.proofs.Common.{pos, negsuc, neg_ℤ, ◌*ℤ◌, refl, arith, decimal, ltb}
+use Rattle.std.proofs.Common.{pos, negsuc, neg_ℤ, ◌*ℤ◌, arith, decimal, ltb}
 use Rattle.std.specs.Prelude.{int_lt, nat_lt, unsigned_abs}
 use Rattle.std.proofs.lemmas.Bool.Decides.{nat_tests}
 use Rattle.std.proofs.lemmas.Fmt.{decimal_nonempty}
@@ -12,6 +12,7 @@ use Rattle.mesh_number.specs.Number.Texts.{value_of_text}
 use Rattle.mesh_number.proofs.DigitNumbers.{pow_ten_pos}
 use Rattle.mesh_write.specs.Text.Lines.{coordinate_text}
 use Rattle.mesh_number.specs.Round.Decimals.{fraction_digits, fraction_text}
+use Rattle.mesh_number.proofs.SignedFloors.{unsigned_abs-signed_whole}
 use Rattle.mesh_write.specs.Reading.Readings.{IsBelow, IsInUnits}
 use Rattle.mesh_write.proofs.Digits.{decimal_digits}
 use Rattle.mesh_write.proofs.FractionDigits.{ArePlaces, fraction_places}
@@ -47,13 +48,8 @@ same_signs : (units : ℤ) (n p d : ℕ) → n * p ≡ unsigned_abs units * d �
 same_signs (pos k) n p d h = rw (none_below k) (omega (arith, ints, h))
 same_signs (negsuc k) n p d h = rw (some_above k) (below_zero n k p d h)
 
-size_of_signed : (minus : Bool) (n : ℕ) → unsigned_abs (signed_whole minus n) ≡ n
-size_of_signed false n = refl
-size_of_signed true zero = refl
-size_of_signed true (suc n) = refl
-
 below_limit : (minus : Bool) (n d : ℕ) → n < 10 ^ 15 * d → is_below_limit (record { numerator = signed_whole minus n; denominator = d }) ≡ true
-below_limit minus n d h = rw (size_of_signed minus n) (grind (arith, nat_tests))
+below_limit minus n d h = rw (unsigned_abs-signed_whole minus n) (grind (arith, nat_tests))
 
 pub coordinate_is_read : (places : ℕ) (units : ℤ) → IsBelow places units → IsRead places units
 unfolding read_value

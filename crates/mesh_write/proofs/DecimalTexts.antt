@@ -6,12 +6,13 @@ use Rattle.std.specs.List.{list_all}
 use Rattle.std.specs.Char.{is_ascii_digit}
 use Rattle.std.proofs.lemmas.Bool.Decides.{nat_tests}
 use Rattle.std.proofs.lemmas.List.Elements.{All-cons, All-nil, All-append}
+use Rattle.std.proofs.lemmas.Bool.{and_parts}
 use Rattle.ember_dec.specs.Decimal.{is_decimal, is_minus, unsigned, before_point, behind_point}
 use Rattle.mesh_number.specs.Number.Fractions.{Fraction}
 use Rattle.mesh_number.specs.Number.Texts.{value_of_text, value_of_parts, mantissa, exponent_of}
 use Rattle.mesh_number.specs.Number.Values.{decimal_value}
-use Rattle.mesh_number.proofs.DigitNumbers.{both_true}
 use Rattle.mesh_number.specs.Round.Decimals.{fraction_digits, fraction_text}
+use Rattle.mesh_number.proofs.Digits.{no_digits}
 use Rattle.mesh_write.proofs.PlainTexts.{IsPlain, no_exponent, digits_plain, plain_mantissa, plain_exponent}
 use Rattle.mesh_write.proofs.PlainTexts.{digits_before, digits_behind, digit_unsigned, digit_is_no_minus}
 
@@ -20,10 +21,6 @@ pub record IsTail (t ds : List ℕ) : Type 0 where
   pub before : before_point t ≡ []
   pub behind : behind_point t ≡ ds
   pub plain : All IsPlain t
-
-no_digits : (k : ℕ) → fraction_digits k 0 ≡ []
-no_digits zero = refl
-no_digits (suc k) = refl
 
 not_none : (n : ℕ) → (suc n == 0) ≡ false
 not_none n = grind (arith, nat_tests)
@@ -74,7 +71,7 @@ unsigned_value : (whole fraction t : List ℕ) → list_all is_ascii_digit whole
     → value_of_text (whole ++ t) ≡ Some (decimal_value false whole fraction no_exponent)
 unsigned_value [] fraction t w some f h = absurd (omega arith)
 unsigned_value (d ∷ ds) fraction t w some f h =
-    let parts = both_true (is_ascii_digit d) (list_all is_ascii_digit ds) w in
+    let parts = and_parts (is_ascii_digit d) (list_all is_ascii_digit ds) w in
     text_value false (d ∷ (ds ++ t)) (d ∷ (ds ++ t)) (digit_is_no_minus d (ds ++ t) parts.0) (digit_unsigned d (ds ++ t) parts.0)
     (body_value false (d ∷ ds) fraction t w some f h)
 

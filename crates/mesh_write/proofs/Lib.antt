@@ -3,7 +3,6 @@ pub mod Meshes
 pub mod Appended
 pub mod Positions
 pub mod ReadBack
-pub mod GlbAppended
 pub mod Extremes
 pub mod BoundsOf
 pub mod Jsons

@@ -5,8 +5,8 @@ use Rattle.std.specs.Prelude.{All, nat_lt, not}
 use Rattle.std.specs.List.{list_all}
 use Rattle.std.proofs.lemmas.Bool.Decides.{nat_tests}
 use Rattle.std.proofs.lemmas.List.Elements.{All-cons, All-head, All-tail, All-nil, All-append, All-weaker}
+use Rattle.std.proofs.lemmas.Bool.{and_parts}
 use Rattle.mesh_read.specs.Scan.Parts.{Piece, before, onward, is_hash, is_separator, lines_from, uncommented, words_from, after_line}
-use Rattle.mesh_number.proofs.DigitNumbers.{both_true}
 use Rattle.mesh_read.proofs.Cuts.{first_cut, word_cut}
 
 -- ---- words and lines
@@ -25,7 +25,7 @@ is_word_byte b = nat_lt 35 b && not (b == 92)
 
 byte_in_word : (b : ℕ) → is_word_byte b ≡ true → IsInWord b
 byte_in_word b h =
-    let parts = both_true (nat_lt 35 b) (not (b == 92)) h in
+    let parts = and_parts (nat_lt 35 b) (not (b == 92)) h in
     record { above = grind (arith, nat_tests, parts.0); no_backslash = turned (b == 92) parts.1 }
   where
     turned : (t : Bool) → not t ≡ true → t ≡ false
@@ -35,7 +35,7 @@ byte_in_word b h =
 bytes_in_word : (w : List ℕ) → list_all is_word_byte w ≡ true → All IsInWord w
 bytes_in_word [] h = All-nil IsInWord
 bytes_in_word (b ∷ bs) h =
-    let parts = both_true (is_word_byte b) (list_all is_word_byte bs) h in
+    let parts = and_parts (is_word_byte b) (list_all is_word_byte bs) h in
     All-cons IsInWord b bs (byte_in_word b parts.0) (bytes_in_word bs parts.1)
 
 pub literal_word : (w : List ℕ) → list_all is_word_byte w ≡ true → 0 < length w → IsWord w

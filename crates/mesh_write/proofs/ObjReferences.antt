@@ -4,8 +4,8 @@ use Rattle.std.specs.Prelude.{if◌then◌else◌}
 use Rattle.std.specs.List.{list_all}
 use Rattle.std.specs.Char.{is_ascii_digit}
 use Rattle.std.proofs.lemmas.Bool.Decides.{nat_tests}
+use Rattle.std.proofs.lemmas.Bool.{and_parts}
 use Rattle.ember_dec.specs.Decimal.{number_from, is_minus}
-use Rattle.mesh_number.proofs.DigitNumbers.{both_true}
 use Rattle.ember_obj.specs.References.{is_slash, is_number, size_digits}
 use Rattle.mesh_read.specs.Scan.Parts.{Piece, before}
 use Rattle.mesh_read.specs.Wavefront.ReadWavefront.{counted, vertex_at, corner_or_fault, corner_in}
@@ -18,16 +18,16 @@ digit_no_slash d h = grind (arith, nat_tests)
 digits_before_slash : (ds : List ℕ) → list_all is_ascii_digit ds ≡ true → before is_slash ds ≡ ds
 digits_before_slash [] h = refl
 digits_before_slash (d ∷ ds) h =
-    let parts = both_true (is_ascii_digit d) (list_all is_ascii_digit ds) h in
+    let parts = and_parts (is_ascii_digit d) (list_all is_ascii_digit ds) h in
     rw (digit_no_slash d parts.0) (ap (λ l. d ∷ l) (digits_before_slash ds parts.1))
 
 digits_without_minus : (ds : List ℕ) → list_all is_ascii_digit ds ≡ true → is_minus ds ≡ false
 digits_without_minus [] h = refl
-digits_without_minus (d ∷ ds) h = digit_no_minus d (both_true (is_ascii_digit d) (list_all is_ascii_digit ds) h).0
+digits_without_minus (d ∷ ds) h = digit_no_minus d (and_parts (is_ascii_digit d) (list_all is_ascii_digit ds) h).0
 
 digits_of_size : (ds : List ℕ) → list_all is_ascii_digit ds ≡ true → size_digits ds ≡ ds
 digits_of_size [] h = refl
-digits_of_size (d ∷ ds) h = rw (digit_no_minus d (both_true (is_ascii_digit d) (list_all is_ascii_digit ds) h).0) refl
+digits_of_size (d ∷ ds) h = rw (digit_no_minus d (and_parts (is_ascii_digit d) (list_all is_ascii_digit ds) h).0) refl
 
 counted_ok : (v k : ℕ) → k < v → counted v false (k + 1) ≡ Some k
 counted_ok v k small =

@@ -5,10 +5,10 @@ use Rattle.std.specs.List.{list_all}
 use Rattle.std.specs.Char.{is_ascii_digit}
 use Rattle.std.proofs.lemmas.Bool.Decides.{nat_tests}
 use Rattle.std.proofs.lemmas.List.Elements.{All-cons, All-head, All-tail, All-nil}
+use Rattle.std.proofs.lemmas.Bool.{and_parts}
 use Rattle.ember_dec.specs.Decimal.{is_minus, unsigned, before_point, behind_point}
 use Rattle.mesh_number.specs.declared.number.values.Exponent.{Exponent}
 use Rattle.mesh_number.specs.Number.Texts.{begins_exponent, mantissa, exponent_of}
-use Rattle.mesh_number.proofs.DigitNumbers.{both_true}
 
 -- from `-` to `9`
 pub record IsPlain (b : ℕ) : Type 0 where
@@ -25,7 +25,7 @@ digit_plain d h = record { low = grind (arith, nat_tests); high = grind (arith, 
 pub digits_plain : (ds : List ℕ) → list_all is_ascii_digit ds ≡ true → All IsPlain ds
 digits_plain [] h = All-nil IsPlain
 digits_plain (d ∷ ds) h =
-    let parts = both_true (is_ascii_digit d) (list_all is_ascii_digit ds) h in
+    let parts = and_parts (is_ascii_digit d) (list_all is_ascii_digit ds) h in
     All-cons IsPlain d ds (digit_plain d parts.0) (digits_plain ds parts.1)
 
 plain_begins_none : (b : ℕ) → IsPlain b → begins_exponent b ≡ false
@@ -54,13 +54,13 @@ digit_no_minus d h = grind (arith, nat_tests)
 pub digits_before : (ds t : List ℕ) → list_all is_ascii_digit ds ≡ true → before_point (ds ++ t) ≡ ds ++ before_point t
 digits_before [] t h = refl
 digits_before (d ∷ ds) t h =
-    let parts = both_true (is_ascii_digit d) (list_all is_ascii_digit ds) h in
+    let parts = and_parts (is_ascii_digit d) (list_all is_ascii_digit ds) h in
     rw (digit_no_point d parts.0) (ap (λ l. d ∷ l) (digits_before ds t parts.1))
 
 pub digits_behind : (ds t : List ℕ) → list_all is_ascii_digit ds ≡ true → behind_point (ds ++ t) ≡ behind_point t
 digits_behind [] t h = refl
 digits_behind (d ∷ ds) t h =
-    let parts = both_true (is_ascii_digit d) (list_all is_ascii_digit ds) h in
+    let parts = and_parts (is_ascii_digit d) (list_all is_ascii_digit ds) h in
     rw (digit_no_point d parts.0) (digits_behind ds t parts.1)
 
 pub digit_unsigned : (d : ℕ) (bs : List ℕ) → is_ascii_digit d ≡ true → unsigned (d ∷ bs) ≡ d ∷ bs

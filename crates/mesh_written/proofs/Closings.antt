@@ -1,6 +1,6 @@
 -- Closed triangles stay closed under a map of their corners to positions, without triangles of which two positions are
 -- equal
-use Rattle.std.proofs.Common.{◌≡◌, ◌⊎◌, inl, inr, ℕ, ◌+◌, Bool, true, false, cond, not, ◌&&◌, ◌||◌, List, [], ◌∷◌, map}
+use Rattle.std.proofs.Common.{◌≡◌, ◌⊎◌, inl, inr, ℕ, ◌+◌, Bool, true, false, cond, not, ◌||◌, List, [], ◌∷◌, map}
 use Rattle.std.proofs.Common.{filter, ℤ, pos, ◌+ℤ◌, ◌-ℤ◌, neg_ℤ, refl, sym, ap, subst, ◌∙◌, arith}
 use borrow.Author.Differences.{ints}
 use Rattle.std.specs.List.{All}
@@ -8,16 +8,11 @@ use Rattle.std.proofs.lemmas.Bool.{and_parts, or_cases, eqb-true}
 use Rattle.std.proofs.lemmas.List.Elements.{All-head, All-tail}
 use Rattle.ember_algebra.specs.Sums.{total}
 use Rattle.ember_algebra.proofs.Laws.{linear}
+use Rattle.ember_algebra.proofs.Booleans.{and_swapped}
 use Rattle.mesh_certificate.specs.declared.certificate.triangle.Triangle.{Triangle}
 use Rattle.mesh_certificate.specs.Certificate.Certificate.{leads_round, edges_in}
 use Rattle.mesh_certificate.proofs.Cancels.{closed_cancels}
 use Rattle.mesh_written.specs.Closed.{AreRoundAndClosed, Positions, one_if_edge, edges_between, AreTrianglesClosed}
-
-and_swapped : (a b : Bool) → a && b ≡ b && a
-and_swapped true true = refl
-and_swapped true false = refl
-and_swapped false true = refl
-and_swapped false false = refl
 
 abbrev once : Bool → ℕ
 once b = cond b 1 0

@@ -5,6 +5,7 @@ use Rattle.std.proofs.lemmas.Nat.{pow-add, pow_pos}
 use Rattle.std.specs.Int.{leading_zeros, w64}
 use Rattle.std.specs.Int.Count.{leading_unique}
 use Rattle.ember_box.specs.Boxes.{Cell, halvings_left, root}
+use Rattle.ember_box.proofs.HalfCells.{times_one_more, times_next_power}
 use Rattle.ember_job.specs.declared.job.Job.{Job}
 use Rattle.ember_job.specs.Works.{Shape, halved, leafed, passed, IsSplit, Splits}
 use Rattle.ember_job.specs.Visited.{visited, if_leafed, leaves_among}
@@ -29,12 +30,13 @@ fits_root j at = record {
   below = subst (λ (c : Cell). c.path * 2 ^ halvings_left c + 2 ^ halvings_left c ≤ 2 ^ 37) (sym at) (omega arith);
 }
 
-double : (p m : ℕ) → p * 2 ^ suc m ≡ 2 * (p * 2 ^ m)
-double p m = ap (λ x. p * x) (pow-succ' 2 m) ∙ omega arith
-
 -- the halves share their box's place
 low_base : (p q l m : ℕ) → m + 1 ≡ l → q ≡ 2 * p → (q * 2 ^ m ≡ p * 2 ^ l) × (2 * 2 ^ m ≡ 2 ^ l)
-low_base p q l m e is = (ap (λ x. x * 2 ^ m) is ∙ (omega arith) ∙ sym (double p m) ∙ ap (λ n. p * 2 ^ n) same, sym (pow-succ' 2 m) ∙ ap (λ n. 2 ^ n) same) where
+low_base p q l m e is = (
+  ap (λ x. x * 2 ^ m) is ∙ (omega arith) ∙ sym (times_next_power p m) ∙ ap (λ n. p * 2 ^ n) same,
+  sym (pow-succ' 2 m) ∙
+      ap (λ n. 2 ^ n) same,
+) where
   same : suc m ≡ l
   same = omega (arith, e)
 
@@ -84,10 +86,6 @@ fits_high j l r s f =
       below = omega (arith, f.below, h.high_base, h.high_size);
     }
 
--- (a + 1) x is a x + x
-pub one_more : (a x : ℕ) → (a + 1) * x ≡ a * x + x
-one_more a x = omega arith
-
 -- how many leading zeros the path of a box with this depth has
 pub zeros_are : (j : Job) → Fits j → halvings_left j.cell + 27 ≡ leading_zeros w64 j.cell.path
 zeros_are j f = leading_unique 64 j.cell.path (halvings_left j.cell + 27) (37 - halvings_left j.cell)
@@ -112,7 +110,7 @@ zeros_are j f = leading_unique 64 j.cell.path (halvings_left j.cell + 27) (37 - 
 
       large : 2 ^ (36 - halvings_left j.cell) < j.cell.path + 1
       large = lt_of_mul-lt-mul_right (2 ^ halvings_left j.cell)
-          (omega (arith, half, f.from, one_more j.cell.path (2 ^ halvings_left j.cell), pow_pos (halvings_left j.cell)))
+          (omega (arith, half, f.from, times_one_more j.cell.path (2 ^ halvings_left j.cell), pow_pos (halvings_left j.cell)))
 
 -- the place by the path alone
 pub place_is : (j : Job) → Fits j → tree_key j.cell.path ≡ base j * 2 ^ 27

@@ -8,6 +8,7 @@ use Rattle.std.specs.List.Sorted.{IsNonDecreasingBy}
 use Rattle.std.proofs.lemmas.List.Sorted.{sum_by-IsPermutation, All-permutation}
 use Rattle.ember_model.proofs.SignTests.{In}
 use Rattle.ember_box.specs.Boxes.{halvings_left}
+use Rattle.ember_box.proofs.HalfCells.{times_one_more}
 use Rattle.ember_job.specs.Weights.{weigh, one}
 use Rattle.ember_job.specs.declared.job.Job.{Job}
 use Rattle.ember_job.specs.Works.{Shape, halved, leafed, passed, Splits}
@@ -21,7 +22,7 @@ use Rattle.ember_tree.specs.Order.{tree_key, IsMerged}
 use Rattle.steal_pool.specs.Steps.{IsPart, by_path, at_job}
 use Rattle.steal_pool.specs.Journals.{AnswersLeaf, AreParts}
 use Rattle.steal_pool.proofs.Trees.{low_less, high_less}
-use Rattle.steal_pool.proofs.LeafOrder.{base, Fits, Within, place_is, leaves_within, one_more}
+use Rattle.steal_pool.proofs.LeafOrder.{base, Fits, Within, place_is, leaves_within}
 
 abbrev low_in : Job → Shape → Job
 low_in j (halved l r) = l
@@ -188,7 +189,7 @@ module _ {I : Type 0} where
                   one_other j.cell.path p.path n.1,
                 )),
             place_is j w.1,
-            one_more (base j) (2 ^ 27),
+            times_one_more (base j) (2 ^ 27),
             pow_pos 27,
           )
           )

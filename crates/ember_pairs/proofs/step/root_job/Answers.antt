@@ -2,15 +2,15 @@ use Rattle.std.proofs.Common.{◌<◌, ◌∙◌, ℕ, List, All, sym, ap, subst
 use Rattle.std.specs.List.{range_with_len}
 use Rattle.ember_model.specs.declared.tri.Tri.{Tri}
 use Rattle.ember_box.specs.Near.{near_indices}
+use Rattle.ember_box.proofs.Lists.{all_indices_below}
 use Rattle.ember_pairs.specs.Works.{no_windings}
-use Rattle.ember_pairs.proofs.Steps.{places_in_range}
 use Rattle.ember_pairs.proofs.step.root_job.Goals as goal
 
 pub near_list-requires : goal.near_list-requires
 near_list-requires c =
     let ts = c.args.s.now.tris in
     let e = c.deref.ensures.value ∙ c.in_ok-all.ensures ∙ ap (λ (us : List Tri). range_with_len 0 (length us)) c.items.ensures in
-    subst (λ (is : List ℕ). All (λ i. i < length ts) is) (sym e) (places_in_range ts)
+    subst (λ (is : List ℕ). All (λ i. i < length ts) is) (sym e) (all_indices_below ts)
 
 pub returns : goal.returns
 returns c =

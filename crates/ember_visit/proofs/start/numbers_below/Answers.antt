@@ -1,5 +1,5 @@
 use Rattle.std.proofs.Common.{[], ◌∷◌, ◌++◌, ◌∙◌, ap, sym}
-use Rattle.ember_visit.proofs.IndexLists.{range_more}
+use Rattle.ember_algebra.proofs.Lists.{range_more}
 use Rattle.ember_visit.proofs.start.numbers_below.Goals as goal
 
 pub loop-i-preserved : goal.loop-i-preserved

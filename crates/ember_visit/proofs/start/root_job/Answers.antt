@@ -1,13 +1,13 @@
 use Rattle.std.proofs.Common.{pos, replicate, ◌<◌, length, All, subst, sym, ◌∙◌, ap}
 use Rattle.ember_box.specs.Near.{near_indices, all_indices}
 use Rattle.ember_box.specs.Reference.{vector_at}
+use Rattle.ember_box.proofs.Lists.{all_indices_below}
 use Rattle.ember_ref.proofs.RootOutside.{root_is_outside}
 use Rattle.ember_visit.specs.Jobs.{job_of}
-use Rattle.ember_visit.proofs.IndexLists.{all_places}
 use Rattle.ember_visit.proofs.start.root_job.Goals as goal
 
 pub near_list-requires : goal.near_list-requires
-near_list-requires c = let a = all_places c.args.s.now.tris in
+near_list-requires c = let a = all_indices_below c.args.s.now.tris in
     subst (All (λ i. i < length c.args.s.now.tris)) (sym (c.deref.ensures.value ∙ c.in_ok-all.ensures ∙ ap (λ ts. all_indices ts) c.items.ensures)) a
 
 pub returns-clause-valid : goal.returns-clause-valid

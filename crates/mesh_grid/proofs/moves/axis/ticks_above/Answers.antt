@@ -2,9 +2,10 @@ use Rattle.std.proofs.Common.{◌≡◌, ap, ◌∙◌, arith, pos, neg_ℤ, ◌
 use borrow.Author.Differences.{ints}
 use mir.Syntax.{w128}
 use mir.Val.{to_z, of_z}
+use Rattle.ember_algebra.proofs.Numbers.{unsigned_abs-neg}
 use Rattle.mesh_number.specs.Number.Fractions.{floor_of_multiple}
 use Rattle.mesh_number.specs.Number.Values.{value_of}
-use Rattle.mesh_grid.proofs.AxisMoves.{negated_is_below, size_of_negative}
+use Rattle.mesh_grid.proofs.AxisMoves.{negated_is_below}
 use Rattle.mesh_grid.proofs.moves.axis.ticks_above.Goals as goal
 
 pub ticks_below-floor-requires-clause-below : goal.ticks_below-floor-requires-clause-below
@@ -20,4 +21,4 @@ pub returns-clause-small : goal.returns-clause-small
 returns-clause-small c =
     let floor = c.ticks_below-floor.result in
     let stored : to_z w128 (of_z w128 (pos 0 -ℤ to_z w128 (of_z w128 floor))) ≡ neg_ℤ floor = omega (arith, ints, c.ticks_below-floor.ensures.small) in
-    rw (stored, size_of_negative floor) c.ticks_below-floor.ensures.small
+    rw (stored, unsigned_abs-neg floor) c.ticks_below-floor.ensures.small
