@@ -1,15 +1,22 @@
 -- How large the planes of a valid triangle are.
-use Rattle.std.proofs.Common.{ℕ, zero, suc, ℤ, pos, negsuc, arith, List, [], ◌∷◌, All}
+use Rattle.std.proofs.Common.{◌≡◌, ℕ, zero, suc, ◌+◌, ◌*◌, ◌≤◌, ℤ, pos, negsuc, ◌+ℤ◌, ◌-ℤ◌, ◌*ℤ◌, unsigned_abs}
+use Rattle.std.proofs.Common.{sym, subst, le_refl, mul-le-mul, lit≤, arith, List, [], ◌∷◌, All}
+use borrow.Author.Differences.{ints}
 use Rattle.std.proofs.lemmas.List.Elements.{All-cons, All-nil}
 use Rattle.ember_algebra.specs.Sign.{sign}
 use Rattle.ember_algebra.specs.Size.{Small}
-use Rattle.ember_algebra.proofs.Exact.{Code, input, number, ◌⊠◌, ◌⊞◌, ◌⊟◌, ◌&◌, done, bounded}
+use Rattle.ember_algebra.proofs.Ring.{◌⊕◌, ◌⊖◌, ◌⊗◌, ◌≈◌, solve, cancels}
+use Rattle.ember_algebra.proofs.Size.{small_within, small_mul, small_add, small_sub}
 use Rattle.ember_model.specs.declared.point.Corner.{Corner}
 use Rattle.ember_model.specs.declared.tri.Tri.{Tri}
 use Rattle.ember_model.specs.declared.plane.Plane.{Plane}
 use Rattle.ember_model.specs.declared.point.Axis.{Axis}
 use Rattle.ember_model.specs.declared.point.Axis.TheVariants.{X, Y, Z}
 use Rattle.ember_model.specs.Planes.{unit, support_of, edge_through, times_plane}
+use Rattle.ember_model.specs.declared.vector3.Vector3.{Vector3}
+use Rattle.ember_model.specs.Vectors3.{IsVector3Within}
+use Rattle.ember_model.specs.Limits.{narrow_limit, broad_limit}
+use Rattle.ember_model.specs.Within.{IsCornerWithin, IsTriWithin, IsSupportWithin, IsEdgeWithin, normal_limit}
 use Rattle.ember_model.specs.Valid.{IsValidCorner, IsValidTri, IsValidPlane}
 use Rattle.ember_model.specs.Sizes.{IsSupportSized, IsEdgeSized}
 
@@ -28,89 +35,155 @@ edge_valid s =
       d = record { small = omega (arith, s.d.small) };
     }
 
+-- ---- larger limits
+-- a corner within m is within each larger number
+pub corner_within : {m n : ℕ} {c : Corner} → m ≤ n → IsCornerWithin m c → IsCornerWithin n c
+corner_within l s = record { x = small_within l s.x; y = small_within l s.y; z = small_within l s.z }
+
+-- a triangle within m is within each larger number
+pub tri_within : {m n : ℕ} {t : Tri} → m ≤ n → IsTriWithin m t → IsTriWithin n t
+tri_within l s = record { a = corner_within l s.a; b = corner_within l s.b; c = corner_within l s.c }
+
+-- a valid corner is within the broad limit
+pub corner_broad : {c : Corner} → IsValidCorner c → IsCornerWithin broad_limit c
+corner_broad s = corner_within (lit≤ tt) s
+
+-- a valid triangle is within the broad limit
+pub tri_broad : {t : Tri} → IsValidTri t → IsTriWithin broad_limit t
+tri_broad s = tri_within (lit≤ tt) s
+
+-- a vector within m is within each larger number
+pub vector_within : {m n : ℕ} {v : Vector3} → m ≤ n → IsVector3Within m v → IsVector3Within n v
+vector_within l s = record { x = small_within l s.x; y = small_within l s.y; z = small_within l s.z }
+
 -- ---- the support plane
--- the step from corner i to corner j of a triangle, along one axis
-abbrev step : ℕ → ℕ → Code
-step i j = input j ⊟ input i
+-- the differences of three numbers add up to twice the distance of the least from the greatest
+differences_within : {m : ℕ} {a b c : ℤ} → Small m a → Small m b → Small m c →
+    unsigned_abs (b -ℤ c) + unsigned_abs (c -ℤ a) + unsigned_abs (a -ℤ b) ≤ 4 * m
+differences_within {m} {a} {b} {c} p q r = omega (arith, ints, p.small, q.small, r.small)
 
-abbrev minor : Code → Code → Code → Code → Code
-minor a b c d = a ⊠ d ⊟ b ⊠ c
+times_sum : (m x y z : ℕ) → x + y + z ≤ 4 * m → m * x + m * y + m * z ≤ normal_limit m
+times_sum m x y z l = let k : m * (x + y + z) ≤ m * (4 * m) = mul-le-mul (le_refl m) l in omega (arith, k)
 
-abbrev normal_x : Code
-normal_x = minor (step 1 4) (step 2 5) (step 1 7) (step 2 8)
+own_size : (z : ℤ) → Small (unsigned_abs z) z
+own_size z = record { small = le_refl (unsigned_abs z) }
 
-abbrev normal_y : Code
-normal_y = minor (step 2 5) (step 0 3) (step 2 8) (step 0 6)
+-- an entry of a normal, by the corners' coordinates a, b, c along the next axis and u, v, w along the one after it
+entry_within : {m : ℕ} (a b c u v w : ℤ) → Small m a → Small m b → Small m c → Small m u → Small m v → Small m w →
+    Small (normal_limit m) ((b -ℤ a) *ℤ (w -ℤ u) -ℤ (v -ℤ u) *ℤ (c -ℤ a))
+entry_within {m} a b c u v w pa pb pc pu pv pw =
+    let e = solve 6 (λ a b c u v w. (b ⊖ a) ⊗ (w ⊖ u) ⊖ (v ⊖ u) ⊗ (c ⊖ a) ≈ a ⊗ (v ⊖ w) ⊕ b ⊗ (w ⊖ u) ⊕ c ⊗ (u ⊖ v)) cancels a b c u v w in
+    let s = small_add (small_add (small_mul pa (own_size (v -ℤ w))) (small_mul pb (own_size (w -ℤ u)))) (small_mul pc (own_size (u -ℤ v))) in
+    let l = times_sum m (unsigned_abs (v -ℤ w)) (unsigned_abs (w -ℤ u)) (unsigned_abs (u -ℤ v)) (differences_within pu pv pw) in
+    subst (λ (z : ℤ). Small (normal_limit m) z) (sym e) (small_within l s)
 
-abbrev normal_z : Code
-normal_z = minor (step 0 3) (step 1 4) (step 0 6) (step 1 7)
+three_products : (m : ℕ) → normal_limit m * m + normal_limit m * m + normal_limit m * m ≤ 12 * (m * (m * m))
+three_products m = omega arith
+
+-- the support plane of a triangle within m
+pub support_within : (m : ℕ) (t : Tri) → IsTriWithin m t → IsSupportWithin m (support_of t)
+support_within m t v =
+    let x = entry_within t.a.y t.b.y t.c.y t.a.z t.b.z t.c.z v.a.y v.b.y v.c.y v.a.z v.b.z v.c.z in
+    let y = entry_within t.a.z t.b.z t.c.z t.a.x t.b.x t.c.x v.a.z v.b.z v.c.z v.a.x v.b.x v.c.x in
+    let z = entry_within t.a.x t.b.x t.c.x t.a.y t.b.y t.c.y v.a.x v.b.x v.c.x v.a.y v.b.y v.c.y in
+    record {
+      a = x;
+      b = y;
+      c = z;
+      d = small_within (three_products m) (small_add (small_add (small_mul x v.a.x) (small_mul y v.a.y)) (small_mul z v.a.z));
+    }
+
+-- within the narrow limit a support plane has the sizes of one
+pub support_sized_within : {p : Plane} → IsSupportWithin narrow_limit p → IsSupportSized p
+support_sized_within s =
+    record {
+      a = small_within (lit≤ tt) s.a;
+      b = small_within (lit≤ tt) s.b;
+      c = small_within (lit≤ tt) s.c;
+      d = small_within (lit≤ tt) s.d;
+    }
 
 -- the support plane of a valid triangle has the sizes of one
 pub support_sized : (t : Tri) → IsValidTri t → IsSupportSized (support_of t)
-support_sized t v =
-    let i = v.a.x & v.a.y & v.a.z & v.b.x & v.b.y & v.b.z & v.c.x & v.c.y & v.c.z & done in
-    record {
-      a = bounded i 33554431 normal_x tt;
-      b = bounded i 33554431 normal_y tt;
-      c = bounded i 33554431 normal_z tt;
-      d = bounded i 206158430207 (normal_x ⊠ input 0 ⊞ normal_y ⊠ input 1 ⊞ normal_z ⊠ input 2) tt;
-    }
+support_sized t v = support_sized_within (support_within narrow_limit t v)
 
 -- ---- the edge planes
-abbrev across : Code → Code → Code → Code → Code
-across a b c d = a ⊠ d ⊟ b ⊠ c
+one : Small 1 (pos 1)
+one = record { small = lit≤ tt }
 
--- inputs: the corners u and v, and the sign; the entries f, g, h of the unit vector
-abbrev entry_x : Code → Code → Code → Code
-entry_x f g h = across (step 1 4) (step 2 5) g h
+nil : Small 0 (pos 0)
+nil = record { small = lit≤ tt }
 
-abbrev entry_y : Code → Code → Code → Code
-entry_y f g h = across (step 2 5) (step 0 3) h f
+-- the plane through two corners within m and the axis
+pub edge_within : (m : ℕ) (u v : Corner) (k : Axis) (s : ℤ) → IsCornerWithin m u → IsCornerWithin m v → Small 1 s →
+    IsEdgeWithin m (times_plane s (edge_through u v (unit k)))
+edge_within m u v k s p q r = by k
+  where
+    step_x : Small (m + m) (v.x -ℤ u.x)
+    step_x = small_sub q.x p.x
 
-abbrev entry_z : Code → Code → Code → Code
-entry_z f g h = across (step 0 3) (step 1 4) f g
+    step_y : Small (m + m) (v.y -ℤ u.y)
+    step_y = small_sub q.y p.y
 
-abbrev constant : Code → Code → Code → Code
-constant f g h = entry_x f g h ⊠ input 0 ⊞ entry_y f g h ⊠ input 1 ⊞ entry_z f g h ⊠ input 2
+    step_z : Small (m + m) (v.z -ℤ u.z)
+    step_z = small_sub q.z p.z
 
-abbrev one : Code
-one = number (pos 1)
+    by : (k : Axis) → IsEdgeWithin m (times_plane s (edge_through u v (unit k)))
+    by X =
+        let x = small_sub (small_mul step_y nil) (small_mul step_z nil) in
+        let y = small_sub (small_mul step_z one) (small_mul step_x nil) in
+        let z = small_sub (small_mul step_x nil) (small_mul step_y one) in
+        record {
+          a = small_within (omega arith) (small_mul r x);
+          b = small_within (omega arith) (small_mul r y);
+          c = small_within (omega arith) (small_mul r z);
+          d = small_within (omega arith) (small_mul r (small_add (small_add (small_mul x p.x) (small_mul y p.y)) (small_mul z p.z)));
+        }
+    by Y =
+        let x = small_sub (small_mul step_y nil) (small_mul step_z one) in
+        let y = small_sub (small_mul step_z nil) (small_mul step_x nil) in
+        let z = small_sub (small_mul step_x one) (small_mul step_y nil) in
+        record {
+          a = small_within (omega arith) (small_mul r x);
+          b = small_within (omega arith) (small_mul r y);
+          c = small_within (omega arith) (small_mul r z);
+          d = small_within (omega arith) (small_mul r (small_add (small_add (small_mul x p.x) (small_mul y p.y)) (small_mul z p.z)));
+        }
+    by Z =
+        let x = small_sub (small_mul step_y one) (small_mul step_z nil) in
+        let y = small_sub (small_mul step_z nil) (small_mul step_x one) in
+        let z = small_sub (small_mul step_x nil) (small_mul step_y nil) in
+        record {
+          a = small_within (omega arith) (small_mul r x);
+          b = small_within (omega arith) (small_mul r y);
+          c = small_within (omega arith) (small_mul r z);
+          d = small_within (omega arith) (small_mul r (small_add (small_add (small_mul x p.x) (small_mul y p.y)) (small_mul z p.z)));
+        }
 
-abbrev nil : Code
-nil = number (pos 0)
+-- within the narrow limit an edge plane has the sizes of one
+pub edge_sized_within : {p : Plane} → IsEdgeWithin narrow_limit p → IsEdgeSized p
+edge_sized_within s =
+    record {
+      a = small_within (lit≤ tt) s.a;
+      b = small_within (lit≤ tt) s.b;
+      c = small_within (lit≤ tt) s.c;
+      d = small_within (lit≤ tt) s.d;
+    }
 
 -- a plane through two valid corners and an axis has the sizes of an edge plane
 pub edge_sized : (u v : Corner) (k : Axis) (s : ℤ) → IsValidCorner u → IsValidCorner v → Small 1 s → IsEdgeSized (times_plane s (edge_through u v (unit k)))
-edge_sized u v X s p q r =
-    let i = p.x & p.y & p.z & q.x & q.y & q.z & r & done in
-    record {
-      a = bounded i 4095 (input 6 ⊠ entry_x one nil nil) tt;
-      b = bounded i 4095 (input 6 ⊠ entry_y one nil nil) tt;
-      c = bounded i 4095 (input 6 ⊠ entry_z one nil nil) tt;
-      d = bounded i 16777215 (input 6 ⊠ constant one nil nil) tt;
-    }
-edge_sized u v Y s p q r =
-    let i = p.x & p.y & p.z & q.x & q.y & q.z & r & done in
-    record {
-      a = bounded i 4095 (input 6 ⊠ entry_x nil one nil) tt;
-      b = bounded i 4095 (input 6 ⊠ entry_y nil one nil) tt;
-      c = bounded i 4095 (input 6 ⊠ entry_z nil one nil) tt;
-      d = bounded i 16777215 (input 6 ⊠ constant nil one nil) tt;
-    }
-edge_sized u v Z s p q r =
-    let i = p.x & p.y & p.z & q.x & q.y & q.z & r & done in
-    record {
-      a = bounded i 4095 (input 6 ⊠ entry_x nil nil one) tt;
-      b = bounded i 4095 (input 6 ⊠ entry_y nil nil one) tt;
-      c = bounded i 4095 (input 6 ⊠ entry_z nil nil one) tt;
-      d = bounded i 16777215 (input 6 ⊠ constant nil nil one) tt;
-    }
+edge_sized u v k s p q r = edge_sized_within (edge_within narrow_limit u v k s p q r)
 
 -- a sign is at most 1 in size
 pub sign_small : (z : ℤ) → Small 1 (sign z)
 sign_small (pos zero) = record { small = omega arith }
 sign_small (pos (suc n)) = record { small = omega arith }
 sign_small (negsuc n) = record { small = omega arith }
+
+-- three edge planes within m, as a list
+pub three_within : {m : ℕ} {x y z : Plane} → IsEdgeWithin m x → IsEdgeWithin m y → IsEdgeWithin m z → All (IsEdgeWithin m) (x ∷ y ∷ z ∷ [])
+three_within {m} {x} {y} {z} p q r =
+    All-cons (IsEdgeWithin m) x (y ∷ z ∷ []) p (All-cons (IsEdgeWithin m) y (z ∷ []) q (All-cons (IsEdgeWithin m) z [] r (All-nil (IsEdgeWithin m))))
 
 -- three planes with the sizes of edge planes, as a list
 pub three_sized : {x y z : Plane} → IsEdgeSized x → IsEdgeSized y → IsEdgeSized z → All IsEdgeSized (x ∷ y ∷ z ∷ [])
@@ -121,3 +194,7 @@ three_sized {x} {y} {z} p q r =
 -- planes with the sizes of edge planes are valid
 pub edges_valid : (es : List Plane) → All IsEdgeSized es → All IsValidPlane es
 edges_valid es f = λ k d l. edge_valid (f k d l)
+
+-- edge planes within the narrow limit have the sizes of edge planes
+pub edges_sized_within : (es : List Plane) → All (IsEdgeWithin narrow_limit) es → All IsEdgeSized es
+edges_sized_within es f = λ k d l. edge_sized_within (f k d l)

@@ -1,3 +1,5 @@
+pub mod Limits
+pub mod Within
 pub mod Valid
 pub mod Points
 pub mod Planes

@@ -9,6 +9,7 @@ use Rattle.ember_model.specs.declared.point.Axis.{Axis}
 use Rattle.ember_model.specs.declared.tri.Tri.{Tri}
 use Rattle.ember_model.specs.declared.face.Face.{Face}
 use Rattle.ember_model.specs.Faces.{is_flat, face_of, crossing}
+use Rattle.ember_model.specs.Limits.{most_triangles, most_meshes}
 use Rattle.ember_model.specs.Valid.{IsValidTri}
 
 -- the winding number: the signed crossings of the ray from p along a with all faces
@@ -69,7 +70,7 @@ pub record HasMesh (most : ℕ) (t : Tri) : Type 0 where
 -- valid triangles of at most 64 meshes, each of them balanced
 pub record IsScene (ts : List Tri) (count : ℕ) : Type 0 where
   pub valid : All IsValidTri ts
-  pub few : length ts ≤ 262144
-  pub few_meshes : count ≤ 64
+  pub few : length ts ≤ most_triangles
+  pub few_meshes : count ≤ most_meshes
   pub numbered : All (HasMesh count) ts
   pub balanced : (m : ℕ) → IsBalanced (of_mesh m ts)

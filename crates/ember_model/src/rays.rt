@@ -2,6 +2,7 @@
 ghost use Rattle.std.specs.Prelude.{◌≡◌, ◌^◌, ◌*ℤ◌, neg_ℤ, pos, ◌&&◌, if◌then◌else◌};
 ghost use Rattle.ember_algebra.specs.Size.{Small};
 ghost use Rattle.ember_algebra.specs.Sign.{sign, is_negative, is_positive};
+ghost use Rattle.ember_model.specs.Limits.{valid_normal_limit};
 ghost use Rattle.ember_model.specs.Valid.{IsValidTri, IsValidSpot, IsValidFace};
 ghost use Rattle.ember_model.specs.Points.{DifferAlong};
 ghost use Rattle.ember_model.specs.Rays.{IsRayPointSized};
@@ -18,7 +19,7 @@ use crate::vector3::sign_number;
 /// normal along the ray. False if the ray starts on the plane or is parallel to it.
 pub fn meets(front: i128, slope: i64) -> bool
     requires front { Small (2 ^ 80) front }
-    requires slope { Small 33554431 slope }
+    requires slope { Small valid_normal_limit slope }
     ensures { result ≡ is_negative (front *ℤ slope) }
 {
     (front < 0 && slope > 0) || (front > 0 && slope < 0)
@@ -29,7 +30,7 @@ pub fn meets(front: i128, slope: i64) -> bool
 #[tactic(none)]
 pub fn hit_on_ray(front: i128, slope: i64, axis: Axis) -> RayPoint
     requires front { Small (2 ^ 80) front }
-    requires slope { Small 33554431 slope }
+    requires slope { Small valid_normal_limit slope }
     ensures value { result ≡ record { axis = axis; factor = size slope; offset = neg_ℤ (sign slope *ℤ front) } }
     ensures sized { IsRayPointSized result }
 {

@@ -1,8 +1,10 @@
 // The planes of a triangle: its support plane, its edge planes along an axis, and its face.
-ghost use Rattle.std.specs.Prelude.{◌≡◌, ◌<◌, ◌&&◌, IfOk, IfSome, All, slice_get, if◌then◌else◌};
+ghost use Rattle.std.specs.Prelude.{◌≡◌, ℕ, ◌<◌, ◌&&◌, IfOk, IfSome, All, slice_get, if◌then◌else◌};
 ghost use Rattle.ember_algebra.specs.Size.{Small};
-ghost use Rattle.ember_algebra.specs.Sign.{is_zero};
-ghost use Rattle.ember_model.specs.Valid.{IsValidCorner, IsValidTri, IsValidPlane, IsValidFace};
+ghost use Rattle.ember_algebra.specs.Sign.{sign, is_zero};
+ghost use Rattle.ember_model.specs.Limits.{broad_limit, valid_normal_limit};
+ghost use Rattle.ember_model.specs.Within.{IsCornerWithin, IsTriWithin, IsSupportWithin, IsEdgeWithin, IsFaceWithin};
+ghost use Rattle.ember_model.specs.Valid.{IsValidTri, IsValidPlane, IsValidFace};
 ghost use Rattle.ember_model.specs.Sizes.{IsSupportSized, IsEdgeSized};
 ghost use Rattle.ember_model.specs.Planes.{support_of, main_axis, along, unit, times_plane, edge_through, edge_planes};
 ghost use Rattle.ember_model.specs.Faces.{is_flat, face_of, edges_of};
@@ -19,10 +21,11 @@ pub type OutOfMemory = AllocError;
 
 /// The plane in which the triangle lies; its normal points to the triangle's front.
 pub fn support_of(t: &Tri) -> Plane
-    requires { IsValidTri t.now }
+    requires { IsTriWithin broad_limit t.now }
     ensures value { result ≡ support_of t.now }
-    ensures valid { IsValidPlane result }
-    ensures small { IsSupportSized result }
+    ensures within { (m : ℕ) → IsTriWithin m t.now → IsSupportWithin m result }
+    ensures valid { IsValidTri t.now → IsValidPlane result }
+    ensures small { IsValidTri t.now → IsSupportSized result }
 {
     let u = vector_between(&t.a, &t.b);
     let v = vector_between(&t.a, &t.c);
@@ -49,7 +52,7 @@ pub fn main_axis(p: &Plane) -> Axis
 pub fn component(plane: &Plane, axis: Axis) -> i64
     requires { IsValidPlane plane.now }
     ensures value { result ≡ along plane.now axis }
-    ensures small { Small 33554431 result }
+    ensures small { Small valid_normal_limit result }
 {
     match axis {
         Axis::X => plane.a,
@@ -58,13 +61,25 @@ pub fn component(plane: &Plane, axis: Axis) -> i64
     }
 }
 
+// The sign of the entry of a plane's normal along an axis.
+fn sign_along(plane: &Plane, axis: Axis) -> i64
+    ensures value { result ≡ sign (along plane.now axis) }
+    ensures small { Small 1 result }
+{
+    match axis {
+        Axis::X => sign_number(plane.a),
+        Axis::Y => sign_number(plane.b),
+        Axis::Z => sign_number(plane.c),
+    }
+}
+
 // The plane through the edge from `u` to `v` and parallel to the axis `k`, times the sign `s`.
 fn side_plane(u: &Corner, v: &Corner, k: Axis, s: i64) -> Plane
-    requires from { IsValidCorner u.now }
-    requires to { IsValidCorner v.now }
+    requires from { IsCornerWithin broad_limit u.now }
+    requires to { IsCornerWithin broad_limit v.now }
     requires s { Small 1 s }
     ensures value { result ≡ times_plane s (edge_through u.now v.now (unit k)) }
-    ensures small { IsEdgeSized result }
+    ensures within { (m : ℕ) → IsCornerWithin m u.now → IsCornerWithin m v.now → IsEdgeWithin m result }
 {
     let step = vector_between(u, v);
     plane_with(&edge_normal(&step, k, s), u)
@@ -74,13 +89,14 @@ fn side_plane(u: &Corner, v: &Corner, k: Axis, s: i64) -> Plane
 /// the triangle's side of it. If the entry of the triangle's normal along `k` is 0, all numbers of
 /// the plane are 0. Edges 0, 1 and 2 go from `a` to `b`, from `b` to `c` and from `c` to `a`.
 pub fn edge_plane(t: &Tri, edge: u8, k: Axis) -> Plane
-    requires tri { IsValidTri t.now }
+    requires tri { IsTriWithin broad_limit t.now }
     requires edge { edge < 3 }
     ensures value { slice_get (edge_planes t.now k) edge ≡ Some result }
-    ensures valid { IsValidPlane result }
-    ensures small { IsEdgeSized result }
+    ensures within { (m : ℕ) → IsTriWithin m t.now → IsEdgeWithin m result }
+    ensures valid { IsValidTri t.now → IsValidPlane result }
+    ensures small { IsValidTri t.now → IsEdgeSized result }
 {
-    let s = sign_number(component(&support_of(t), k));
+    let s = sign_along(&support_of(t), k);
     match edge {
         0 => side_plane(&t.a, &t.b, k, s),
         1 => side_plane(&t.b, &t.c, k, s),
@@ -98,13 +114,13 @@ pub fn has_no_normal(plane: &Plane) -> bool
 /// The edge planes parallel to the main axis, for edges 0, 1 and 2. Requires that `support` is the
 /// triangle's support plane.
 pub fn main_edges(t: &Tri, support: &Plane) -> [Plane; 3]
-    requires tri { IsValidTri t.now }
+    requires tri { IsTriWithin broad_limit t.now }
     requires support { support.now ≡ support_of t.now }
     ensures value { result ≡ edges_of t.now }
-    ensures small { All IsEdgeSized result }
+    ensures within { (m : ℕ) → IsTriWithin m t.now → All (IsEdgeWithin m) result }
 {
     let k = main_axis(support);
-    let s = sign_number(component(support, k));
+    let s = sign_along(support, k);
     [
         side_plane(&t.a, &t.b, k, s),
         side_plane(&t.b, &t.c, k, s),
@@ -115,11 +131,12 @@ pub fn main_edges(t: &Tri, support: &Plane) -> [Plane; 3]
 /// The triangle's face: its support plane and its edge planes parallel to the main axis. None if
 /// the triangle's normal is zero.
 pub fn face_of(alloc: Global, t: &Tri) -> Result<Option<Face>, OutOfMemory>
-    requires { IsValidTri t.now }
+    requires { IsTriWithin broad_limit t.now }
     ensures value { IfOk result (λ f. f ≡ (if is_flat t.now then None else Some (face_of t.now))) }
-    ensures valid { IfOk result (λ f. IfSome f IsValidFace) }
-    ensures support { IfOk result (λ f. IfSome f (λ g. IsSupportSized g.support)) }
-    ensures edges { IfOk result (λ f. IfSome f (λ g. All IsEdgeSized g.edges)) }
+    ensures within { (m : ℕ) → IsTriWithin m t.now → IfOk result (λ f. IfSome f (IsFaceWithin m)) }
+    ensures valid { IsValidTri t.now → IfOk result (λ f. IfSome f IsValidFace) }
+    ensures support { IsValidTri t.now → IfOk result (λ f. IfSome f (λ g. IsSupportSized g.support)) }
+    ensures edges { IsValidTri t.now → IfOk result (λ f. IfSome f (λ g. All IsEdgeSized g.edges)) }
 {
     let support = support_of(t);
     if has_no_normal(&support) {

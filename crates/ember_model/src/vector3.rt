@@ -1,9 +1,10 @@
 // Differences of corners, normals, and the planes that have them.
-ghost use Rattle.std.specs.Prelude.{◌≡◌, ℤ, ◌*ℤ◌};
+ghost use Rattle.std.specs.Prelude.{◌≡◌, ℕ, ◌*◌, ℤ, ◌*ℤ◌};
 ghost use Rattle.ember_algebra.specs.Size.{Small};
 ghost use Rattle.ember_algebra.specs.Sign.{sign};
 ghost use Rattle.ember_algebra.specs.Vector.{cross, scale_v};
-ghost use Rattle.ember_model.specs.Valid.{IsValidCorner};
+ghost use Rattle.ember_model.specs.Limits.{broad_limit};
+ghost use Rattle.ember_model.specs.Within.{IsCornerWithin};
 ghost use Rattle.ember_model.specs.Planes.{vector_between, plane_through, unit};
 ghost use Rattle.ember_model.specs.Vectors3.{as_vector, IsVector3Within};
 
@@ -18,13 +19,14 @@ pub struct Vector3 {
     pub z: i64,
 }
 
-/// The difference `to - from`. Each entry is at most 4094 in size.
+/// The difference `to - from`. Each entry is at most twice as large as the corners' coordinates may
+/// be.
 #[tactic(none)]
 pub fn vector_between(from: &Corner, to: &Corner) -> Vector3
-    requires from { IsValidCorner from.now }
-    requires to { IsValidCorner to.now }
+    requires from { IsCornerWithin broad_limit from.now }
+    requires to { IsCornerWithin broad_limit to.now }
     ensures value { as_vector result ≡ vector_between from.now to.now }
-    ensures small { IsVector3Within 4094 result }
+    ensures within { (m : ℕ) → IsCornerWithin m from.now → IsCornerWithin m to.now → IsVector3Within (2 * m) result }
 {
     Vector3 {
         x: to.x as i64 - from.x as i64,
@@ -33,14 +35,14 @@ pub fn vector_between(from: &Corner, to: &Corner) -> Vector3
     }
 }
 
-/// The cross product of two differences of corners. Each entry is at most 33,521,672 in size, twice
-/// the square of 4094.
+/// The cross product of two differences of corners. Each entry is at most twice the square of the
+/// differences' greatest entry.
 #[tactic(none)]
 pub fn cross_product(u: &Vector3, v: &Vector3) -> Vector3
-    requires u { IsVector3Within 4094 u.now }
-    requires v { IsVector3Within 4094 v.now }
+    requires u { IsVector3Within (2 * broad_limit) u.now }
+    requires v { IsVector3Within (2 * broad_limit) v.now }
     ensures value { as_vector result ≡ cross (as_vector u.now) (as_vector v.now) }
-    ensures small { IsVector3Within 33521672 result }
+    ensures small { IsVector3Within (8 * (broad_limit * broad_limit)) result }
 {
     Vector3 {
         x: u.y * v.z - u.z * v.y,
@@ -52,8 +54,8 @@ pub fn cross_product(u: &Vector3, v: &Vector3) -> Vector3
 /// The plane with the normal `normal` that contains the corner `u`.
 #[tactic(none)]
 pub fn plane_with(normal: &Vector3, u: &Corner) -> Plane
-    requires normal { IsVector3Within 33521672 normal.now }
-    requires u { IsValidCorner u.now }
+    requires normal { IsVector3Within (8 * (broad_limit * broad_limit)) normal.now }
+    requires u { IsCornerWithin broad_limit u.now }
     ensures { result ≡ plane_through (as_vector normal.now) u.now }
 {
     let d = normal.x * u.x as i64 + normal.y * u.y as i64 + normal.z * u.z as i64;
@@ -69,10 +71,10 @@ pub fn plane_with(normal: &Vector3, u: &Corner) -> Plane
 /// the sign `s`.
 #[tactic(none)]
 pub fn edge_normal(step: &Vector3, k: Axis, s: i64) -> Vector3
-    requires step { IsVector3Within 4094 step.now }
+    requires step { IsVector3Within (2 * broad_limit) step.now }
     requires s { Small 1 s }
     ensures value { as_vector result ≡ scale_v s (cross (as_vector step.now) (unit k)) }
-    ensures small { IsVector3Within 4094 result }
+    ensures small { IsVector3Within (2 * broad_limit) result }
 {
     let x = s * step.x;
     let y = s * step.y;

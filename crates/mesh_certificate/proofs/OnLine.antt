@@ -11,10 +11,10 @@ use borrow.Author.Differences.{ints}
 use mir.Syntax.{Width}
 use Rattle.ember_algebra.specs.Size.{Small}
 use Rattle.ember_algebra.proofs.Ring.{◌⊕◌, ◌⊖◌, ◌⊗◌, num, ◌≈◌, solve, cancels}
-use Rattle.mesh_number.specs.declared.wide.whole.Wide.{Wide}
-use Rattle.mesh_number.specs.Wide.Whole.{size_of, value_of}
+use Rattle.ember_wide.specs.declared.whole.Wide.{Wide}
+use Rattle.ember_wide.specs.Whole.{size_of, value_of}
 use Rattle.mesh_number.proofs.Sizes.{product_size}
-use Rattle.mesh_number.proofs.Determinants.{size_of_value}
+use Rattle.ember_wide.proofs.Values.{size_of_value}
 
 -- a test that fails refuses what asks for more
 pub refused : {P Q : Type 0} (b : Bool) → Decides b P → b ≡ false → (Q → P) → Decides false Q

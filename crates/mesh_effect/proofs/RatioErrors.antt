@@ -4,9 +4,9 @@ use Rattle.std.specs.Prelude.{not}
 use Rattle.std.proofs.Math.Pow.{pow_mono}
 use Rattle.mesh_number.specs.Number.Fractions.{Fraction}
 use Rattle.mesh_number.specs.Number.Quotients.{quotient}
-use Rattle.mesh_number.specs.declared.wide.whole.Wide.{Wide}
-use Rattle.mesh_number.specs.Wide.Whole.{size_of, value_of}
-use Rattle.mesh_number.proofs.Determinants.{size_of_value}
+use Rattle.ember_wide.specs.declared.whole.Wide.{Wide}
+use Rattle.ember_wide.specs.Whole.{size_of, value_of}
+use Rattle.ember_wide.proofs.Values.{size_of_value}
 use Rattle.mesh_number.specs.Float.Binary32.{distance}
 use Rattle.mesh_written.specs.declared.ratio.Ratio.{Ratio}
 use Rattle.mesh_written.specs.Places.{fraction_of}

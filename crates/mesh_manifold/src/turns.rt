@@ -1,7 +1,7 @@
 // How normals turn round an edge, exactly.
 ghost use Rattle.std.specs.Prelude.{◌≡◌, IfSome};
 ghost use Rattle.ember_algebra.specs.Size.{Small};
-ghost use Rattle.mesh_number.specs.Wide.Whole.{value_of};
+ghost use Rattle.ember_wide.specs.Whole.{value_of};
 ghost use Rattle.mesh_manifold.specs.Turns.{IsNormal, opposite, cross, inner, along, turn};
 
 use ember_model::Plane;

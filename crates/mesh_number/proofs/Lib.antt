@@ -4,7 +4,6 @@ pub mod Parts
 pub mod SignedFloors
 pub mod Doublings
 pub mod Denominators
-pub mod Products
 pub mod Sizes
 pub mod Determinants
 pub mod Halving

@@ -6,9 +6,9 @@ use Rattle.mesh_number.specs.Number.Fractions.{Fraction}
 use Rattle.mesh_number.specs.Round.Decimals.{decimal_text}
 use Rattle.mesh_number.specs.Round.Nearest.{nearest_whole}
 use Rattle.mesh_number.proofs.Digits.{power_of_10_positive}
-use Rattle.mesh_number.specs.declared.wide.whole.Wide.{Wide}
-use Rattle.mesh_number.specs.Wide.Whole.{size_of, value_of}
-use Rattle.mesh_number.proofs.Determinants.{size_of_value}
+use Rattle.ember_wide.specs.declared.whole.Wide.{Wide}
+use Rattle.ember_wide.specs.Whole.{size_of, value_of}
+use Rattle.ember_wide.proofs.Values.{size_of_value}
 use Rattle.mesh_written.proofs.Signs.{decimal_of_ratio, fits_with_places}
 use Rattle.mesh_grid.specs.declared.snap.steps.GridStep.{GridStep}
 use Rattle.mesh_grid.specs.declared.grid.extent.SceneExtent.{SceneExtent}

@@ -2,8 +2,8 @@
 use Rattle.std.proofs.Common.{◌≡◌, ℕ, ◌-◌, ◌*◌, ◌^◌, ◌≤◌, Option, None, subst, sym}
 use Rattle.std.specs.Prelude.{◌↔◌, IfSome}
 use Rattle.mesh_number.specs.Number.Fractions.{Fraction}
-use Rattle.mesh_number.specs.Wide.Whole.{size_of, value_of}
-use Rattle.mesh_number.proofs.Determinants.{size_of_value}
+use Rattle.ember_wide.specs.Whole.{size_of, value_of}
+use Rattle.ember_wide.proofs.Values.{size_of_value}
 use Rattle.mesh_number.specs.Float.Binary32.{IsNearestBinary32}
 use Rattle.mesh_written.specs.declared.ratio.Ratio.{Ratio}
 use Rattle.mesh_written.specs.Places.{fraction_of}

@@ -7,8 +7,8 @@ use Rattle.std.proofs.lemmas.Bool.{cases_lt}
 use Rattle.std.proofs.lemmas.Bool.Decides.{nat_tests}
 use borrow.Author.Differences.{ints}
 use Rattle.mesh_number.specs.Number.Fractions.{Fraction, signed_whole}
-use Rattle.mesh_number.specs.Wide.Whole.{size_of, value_of}
-use Rattle.mesh_number.proofs.Determinants.{size_of_value}
+use Rattle.ember_wide.specs.Whole.{size_of, value_of}
+use Rattle.ember_wide.proofs.Values.{size_of_value}
 use Rattle.mesh_number.specs.Round.Nearest.{nearest_whole, rounds_up}
 use Rattle.mesh_number.specs.Round.Decimals.{decimal_text}
 use Rattle.mesh_number.proofs.Digits.{power_of_10_positive}

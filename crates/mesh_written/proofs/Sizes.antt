@@ -3,10 +3,10 @@ use Rattle.std.proofs.Common.{◌≡◌, ℕ, ◌*◌, ◌^◌, ◌<◌, ◌≤�
 use Rattle.std.proofs.Math.IntN.{*ℤ-one}
 use mir.Syntax.{w128}
 use Rattle.ember_algebra.proofs.Exact.{kept, ◌&◌, done, exact}
-use Rattle.mesh_number.specs.declared.wide.whole.Wide.{Wide}
-use Rattle.mesh_number.specs.Wide.Whole.{size_of, value_of}
+use Rattle.ember_wide.specs.declared.whole.Wide.{Wide}
+use Rattle.ember_wide.specs.Whole.{size_of, value_of}
 use Rattle.mesh_number.proofs.Sizes.{product_size, fits_126}
-use Rattle.mesh_number.proofs.Determinants.{size_of_value}
+use Rattle.ember_wide.proofs.Values.{size_of_value}
 use Rattle.mesh_certificate.specs.declared.certificate.space_point.SpacePoint.{SpacePoint}
 
 -- the size of a product of two numbers with these bounds

@@ -3,7 +3,7 @@ use Rattle.std.specs.Prelude.{◌*◌, ℤ, pos, ◌+ℤ◌, ◌*ℤ◌, unsigne
 use Rattle.ember_model.specs.declared.point.Axis.{Axis}
 use Rattle.ember_model.specs.declared.point.Axis.TheVariants.{X, Y, Z}
 use Rattle.mesh_number.specs.Number.Fractions.{Fraction}
-use Rattle.mesh_number.specs.Wide.Whole.{value_of}
+use Rattle.ember_wide.specs.Whole.{value_of}
 use Rattle.mesh_grid.specs.declared.snap.steps.GridStep.{GridStep}
 use Rattle.mesh_grid.specs.declared.snap.offsets.Offset.{Offset}
 use Rattle.mesh_certificate.specs.declared.certificate.space_point.SpacePoint.{SpacePoint}

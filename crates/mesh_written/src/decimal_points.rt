@@ -1,7 +1,7 @@
 // Corners as points of decimals.
 ghost use Rattle.std.specs.Prelude.{◌≡◌, ◌↔◌, ◌*◌, ◌^◌, ◌<◌, ◌≤◌, None, map, IfSome, IfOk, IfErr, MatchOption};
 ghost use Rattle.mesh_number.specs.Number.Fractions.{signed_whole};
-ghost use Rattle.mesh_number.specs.Wide.Whole.{size_of};
+ghost use Rattle.ember_wide.specs.Whole.{size_of};
 ghost use Rattle.mesh_grid.specs.Snap.Steps.{IsStep};
 ghost use Rattle.mesh_written.specs.Places.{fraction_of, place_of};
 ghost use Rattle.mesh_written.specs.Decimals.{units_of, decimal_point, IsTooLong, IsFarPoint, IsDecimalFault};

@@ -1,7 +1,7 @@
 // Where corners lie in the user's unit.
 ghost use Rattle.std.specs.Prelude.{◌≡◌, ◌^◌, ◌<◌, pos, ◌+ℤ◌, ◌*ℤ◌};
 ghost use Rattle.ember_algebra.specs.Size.{Small};
-ghost use Rattle.mesh_number.specs.Wide.Whole.{value_of};
+ghost use Rattle.ember_wide.specs.Whole.{value_of};
 ghost use Rattle.mesh_grid.specs.Snap.Steps.{IsStep};
 ghost use Rattle.mesh_written.specs.Places.{coordinate_along, offset_along, fraction_of, place_of};
 

@@ -1,6 +1,6 @@
 // Moves of corners that are written as decimals.
 ghost use Rattle.std.specs.Prelude.{◌≡◌, ◌*◌, ◌^◌, ◌<◌, ◌≤◌, map, IfSome, IfOk, IfErr, MatchOption};
-ghost use Rattle.mesh_number.specs.Wide.Whole.{size_of};
+ghost use Rattle.ember_wide.specs.Whole.{size_of};
 ghost use Rattle.mesh_number.specs.Float.Binary32.{distance};
 ghost use Rattle.mesh_grid.specs.Snap.Steps.{IsStep};
 ghost use Rattle.mesh_written.specs.Places.{fraction_of, place_of};

@@ -1,7 +1,7 @@
 // Quotients that are rounded up.
 ghost use Rattle.std.specs.Prelude.{◌≡◌, ◌+◌, ◌*◌, ◌^◌, ◌<◌, ◌≤◌, true};
 ghost use Rattle.mesh_number.specs.Number.Quotients.{quotient};
-ghost use Rattle.mesh_number.specs.Wide.Whole.{size_of};
+ghost use Rattle.ember_wide.specs.Whole.{size_of};
 
 use mesh_number::{Magnitude, divide};
 

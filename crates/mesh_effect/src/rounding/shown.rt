@@ -1,6 +1,6 @@
 // Moves in few digits.
 ghost use Rattle.std.specs.Prelude.{◌≡◌, ◌+◌, ◌*◌, ◌≤◌, ◌<◌, ◌^◌};
-ghost use Rattle.mesh_number.specs.Wide.Whole.{size_of};
+ghost use Rattle.ember_wide.specs.Whole.{size_of};
 ghost use Rattle.mesh_grid.specs.Moves.Shown.{root_above};
 ghost use Rattle.mesh_effect.specs.Rounding.Ticks.{IsTick};
 ghost use Rattle.mesh_effect.specs.Rounding.Shown.{rounded_of, rounded_up, places_up_to, rounded_from, move_from};

@@ -1,6 +1,6 @@
 // The nearest binary32.
 ghost use Rattle.std.specs.Prelude.{◌≡◌, ◌*◌, ◌^◌, ◌-◌, ◌<◌, ◌≤◌, ◌↔◌, None, IfSome, ◌+◌};
-ghost use Rattle.mesh_number.specs.Wide.Whole.{size_of, value_of};
+ghost use Rattle.ember_wide.specs.Whole.{size_of, value_of};
 ghost use Rattle.mesh_number.specs.Float.Scaling.{IsScaled};
 ghost use Rattle.mesh_number.specs.Float.Binary32.{IsNearestBinary32};
 

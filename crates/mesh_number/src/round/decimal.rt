@@ -1,6 +1,6 @@
 // Decimals with a point.
 ghost use Rattle.std.specs.Prelude.{◌≡◌, ◌+◌, ◌*◌, ◌^◌, ◌<◌, ◌≤◌, ◌++◌, OnOk, decimal};
-ghost use Rattle.mesh_number.specs.Wide.Whole.{size_of};
+ghost use Rattle.ember_wide.specs.Whole.{size_of};
 ghost use Rattle.mesh_number.specs.Round.Nearest.{nearest_whole};
 ghost use Rattle.mesh_number.specs.Round.Decimals.{sign_text, fraction_digits, fraction_text, decimal_text};
 

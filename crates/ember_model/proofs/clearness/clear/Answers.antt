@@ -3,6 +3,8 @@ use Rattle.ember_algebra.specs.Sign.{is_zero}
 use Rattle.ember_model.specs.declared.plane.Plane.{Plane}
 use Rattle.ember_model.specs.Faces.{is_flat, face_of}
 use Rattle.ember_model.specs.ClearTest.{is_clear, face_with}
+use Rattle.ember_model.specs.Limits.{narrow_limit}
+use Rattle.ember_model.proofs.PlaneSizes.{edges_valid, edges_sized_within}
 use Rattle.ember_model.proofs.SignTests.{clash}
 use Rattle.ember_model.proofs.ClearPoints.{clear_from, clear_to}
 use Rattle.ember_model.proofs.clearness.clear.Goals as goal
@@ -24,3 +26,7 @@ returns-else-has_no_normal c =
     ∙ sym c.has_no_normal.ensures ∙ c.if-has_no_normal.false in
     let e : c.clear_of.result ≡ is_clear (face_of t) p = c.clear_of.ensures ∙ (λ i. is_clear (face_with (n i) (es i)) p) in
     (λ q d. clear_from (face_of t) p w (sym e ∙ q), λ q. e ∙ clear_to (face_of t) p w (q full))
+
+pub clear_of-requires-clause-edges : goal.clear_of-requires-clause-edges
+clear_of-requires-clause-edges c =
+    edges_valid _ (edges_sized_within _ (c.main_edges.ensures.within narrow_limit c.requires.tri))

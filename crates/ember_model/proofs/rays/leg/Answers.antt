@@ -41,3 +41,9 @@ returns-else-all_behind-clause-value c =
     sym (leg_behind a p q t c.requires.from.weight c.requires.to.weight c.requires.line
     ∙ ap (λ (b : Bool). cond b (cond (is_negative (value_at (support_of t) p *ℤ value_at (support_of t) q))
     (sign (value_at (support_of t) q)) (pos 0)) (pos 0)) b)
+
+pub plane_value-requires-clause-plane : goal.plane_value-requires-clause-plane
+plane_value-requires-clause-plane c = c.support_of-n.ensures.valid c.requires.tri
+
+pub plane_value-requires-then-all_behind-clause-plane : goal.plane_value-requires-then-all_behind-clause-plane
+plane_value-requires-then-all_behind-clause-plane c = c.support_of-n.ensures.valid c.requires.tri

@@ -1,14 +1,15 @@
-use Rattle.std.proofs.Common.{◌≡◌, ap, sym, subst, ◌∙◌, ℤ, ◌*ℤ◌}
+use Rattle.std.proofs.Common.{◌≡◌, ap, sym, subst, ◌∙◌, ℤ, ◌*ℤ◌, lit≤}
 use mir.Syntax.{w64}
 use Rattle.ember_algebra.proofs.Exact.{input, stored, ◌&◌, done, exact}
 use Rattle.ember_algebra.specs.Vector.{Vector, cross, scale_v}
 use Rattle.ember_algebra.proofs.Ring.{◌⊕◌, ◌⊗◌, ◌≈◌, solve, cancels}
 use Rattle.ember_model.specs.declared.point.Corner.{Corner}
 use Rattle.ember_model.specs.declared.plane.Plane.{Plane}
-use Rattle.ember_model.specs.Sizes.{IsEdgeSized}
+use Rattle.ember_model.specs.Limits.{broad_limit}
+use Rattle.ember_model.specs.Within.{IsEdgeWithin}
 use Rattle.ember_model.specs.Planes.{plane_through, times_plane, edge_through, unit}
 use Rattle.ember_model.specs.Vectors3.{as_vector}
-use Rattle.ember_model.proofs.PlaneSizes.{edge_sized}
+use Rattle.ember_model.proofs.PlaneSizes.{edge_within, vector_within}
 use Rattle.ember_model.proofs.triangle_planes.side_plane.Goals as goal
 
 -- a multiple of a normal gives the multiple of its plane
@@ -28,6 +29,12 @@ is_side c =
 pub returns-clause-value : goal.returns-clause-value
 returns-clause-value c = is_side c
 
-pub returns-clause-small : goal.returns-clause-small
-returns-clause-small c =
-    subst (λ (p : Plane). IsEdgeSized p) (sym (is_side c)) (edge_sized c.args.u.now c.args.v.now c.args.k c.args.s c.requires.from c.requires.to c.requires.s)
+pub returns-clause-within : goal.returns-clause-within
+returns-clause-within c m p q =
+    subst (λ (p : Plane). IsEdgeWithin m p) (sym (is_side c)) (edge_within m c.args.u.now c.args.v.now c.args.k c.args.s p q c.requires.s)
+
+pub edge_normal-requires-clause-step : goal.edge_normal-requires-clause-step
+edge_normal-requires-clause-step c = c.vector_between-step.ensures.within broad_limit c.requires.from c.requires.to
+
+pub plane_with-requires-clause-normal : goal.plane_with-requires-clause-normal
+plane_with-requires-clause-normal c = vector_within (lit≤ tt) c.edge_normal.ensures.small

@@ -7,6 +7,8 @@ use Rattle.ember_model.specs.declared.point.Spot.{Spot}
 use Rattle.ember_model.specs.declared.point.Axis.{Axis}
 use Rattle.ember_model.specs.declared.point.Axis.TheVariants.{X, Y, Z}
 use Rattle.ember_model.specs.Planes.{value_at, edge_through, unit}
+use Rattle.ember_model.specs.Limits.{narrow_limit}
+use Rattle.ember_model.proofs.PlaneSizes.{corner_broad}
 use Rattle.ember_model.proofs.values.edge_value.Goals as goal
 
 -- the plane's value at a point, by the point seen from the edge's start
@@ -37,26 +39,35 @@ along_z u v s =
 pub returns-in-X-clause-value : goal.returns-in-X-clause-value
 returns-in-X-clause-value c =
     let u = c.args.u.now in let v = c.args.v.now in let s = c.args.p.now in
-    let step = c.vector_between-step.ensures in let at = c.vector_from_corner-at.ensures in let e = step.value in let f = at.y in let g = at.z in
+    let step = c.vector_between-step.ensures in let near = step.within narrow_limit c.requires.from c.requires.to in
+    let at = c.vector_from_corner-at.ensures in let e = step.value in let f = at.y in let g = at.z in
     exact (c.product_difference.ensures.small & done) (stored w128 (input 0)) tt ∙ c.product_difference.ensures.value
-    ∙ exact (step.small.z & at.small.y & step.small.y & at.small.z & done) (narrow 0 ⊠ narrow 1 ⊟ narrow 2 ⊠ narrow 3)
+    ∙ exact (near.z & at.small.y & near.y & at.small.z & done) (narrow 0 ⊠ narrow 1 ⊟ narrow 2 ⊠ narrow 3)
     tt ∙ (λ i. (e i).z *ℤ f i -ℤ (e i).y *ℤ g i) ∙ along_x u v s
     ∙ ap (λ (k : Axis). value_at (edge_through u v (unit k)) s) (sym c.in-X.is)
 
 pub returns-in-Y-clause-value : goal.returns-in-Y-clause-value
 returns-in-Y-clause-value c =
     let u = c.args.u.now in let v = c.args.v.now in let s = c.args.p.now in
-    let step = c.vector_between-step.ensures in let at = c.vector_from_corner-at.ensures in let e = step.value in let f = at.z in let g = at.x in
+    let step = c.vector_between-step.ensures in let near = step.within narrow_limit c.requires.from c.requires.to in
+    let at = c.vector_from_corner-at.ensures in let e = step.value in let f = at.z in let g = at.x in
     exact (c.product_difference-in-Y.ensures.small & done) (stored w128 (input 0)) tt
-    ∙ c.product_difference-in-Y.ensures.value ∙ exact (step.small.x & at.small.z & step.small.z & at.small.x & done)
+    ∙ c.product_difference-in-Y.ensures.value ∙ exact (near.x & at.small.z & near.z & at.small.x & done)
     (narrow 0 ⊠ narrow 1 ⊟ narrow 2 ⊠ narrow 3) tt ∙ (λ i. (e i).x *ℤ f i -ℤ (e i).z *ℤ g i) ∙ along_y u v s
     ∙ ap (λ (k : Axis). value_at (edge_through u v (unit k)) s) (sym c.in-Y.is)
 
 pub returns-in-Z-clause-value : goal.returns-in-Z-clause-value
 returns-in-Z-clause-value c =
     let u = c.args.u.now in let v = c.args.v.now in let s = c.args.p.now in
-    let step = c.vector_between-step.ensures in let at = c.vector_from_corner-at.ensures in let e = step.value in let f = at.x in let g = at.y in
+    let step = c.vector_between-step.ensures in let near = step.within narrow_limit c.requires.from c.requires.to in
+    let at = c.vector_from_corner-at.ensures in let e = step.value in let f = at.x in let g = at.y in
     exact (c.product_difference-in-Z.ensures.small & done) (stored w128 (input 0)) tt
-    ∙ c.product_difference-in-Z.ensures.value ∙ exact (step.small.y & at.small.x & step.small.x & at.small.y & done)
+    ∙ c.product_difference-in-Z.ensures.value ∙ exact (near.y & at.small.x & near.x & at.small.y & done)
     (narrow 0 ⊠ narrow 1 ⊟ narrow 2 ⊠ narrow 3) tt ∙ (λ i. (e i).y *ℤ f i -ℤ (e i).x *ℤ g i) ∙ along_z u v s
     ∙ ap (λ (k : Axis). value_at (edge_through u v (unit k)) s) (sym c.in-Z.is)
+
+pub vector_between-step-requires-clause-from : goal.vector_between-step-requires-clause-from
+vector_between-step-requires-clause-from c = corner_broad c.requires.from
+
+pub vector_between-step-requires-clause-to : goal.vector_between-step-requires-clause-to
+vector_between-step-requires-clause-to c = corner_broad c.requires.to

@@ -1,5 +1,7 @@
 use mir.Syntax.{w64}
 use Rattle.ember_algebra.proofs.Exact.{input, stored, ◌⊠◌, ◌⊟◌, ◌&◌, done, exact, bounded, no_overflow}
+use Rattle.std.proofs.Common.{◌*◌}
+use Rattle.ember_model.specs.Limits.{broad_limit}
 use Rattle.ember_model.proofs.vector3.cross_product.Goals as goal
 
 pub overflow_mul-result : goal.overflow_mul-result
@@ -49,14 +51,14 @@ returns-clause-value c = let x = exact (c.requires.u.y & c.requires.v.z & c.requ
 pub returns-clause-small : goal.returns-clause-small
 returns-clause-small c = record {
   x = bounded (c.requires.u.y & c.requires.v.z & c.requires.u.z & c.requires.v.y & done)
-      33521672 (stored w64 (stored w64 (stored w64 (input 0) ⊠ stored w64 (input 1)) ⊟ stored w64
+      (8 * (broad_limit * broad_limit)) (stored w64 (stored w64 (stored w64 (input 0) ⊠ stored w64 (input 1)) ⊟ stored w64
       (stored w64 (input 2) ⊠ stored w64 (input 3)))) tt;
   y =
-      bounded (c.requires.u.z & c.requires.v.x & c.requires.u.x & c.requires.v.z & done) 33521672
+      bounded (c.requires.u.z & c.requires.v.x & c.requires.u.x & c.requires.v.z & done) (8 * (broad_limit * broad_limit))
       (stored w64 (stored w64 (stored w64 (input 0) ⊠ stored w64 (input 1)) ⊟ stored w64
       (stored w64 (input 2) ⊠ stored w64 (input 3)))) tt;
   z =
-      bounded (c.requires.u.x & c.requires.v.y & c.requires.u.y & c.requires.v.x & done) 33521672
+      bounded (c.requires.u.x & c.requires.v.y & c.requires.u.y & c.requires.v.x & done) (8 * (broad_limit * broad_limit))
       (stored w64 (stored w64 (stored w64 (input 0) ⊠ stored w64 (input 1)) ⊟ stored w64
       (stored w64 (input 2) ⊠ stored w64 (input 3)))) tt;
 }

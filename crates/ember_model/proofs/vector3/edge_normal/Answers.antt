@@ -1,11 +1,12 @@
 use mir.Syntax.{w64}
 use Rattle.ember_algebra.proofs.Exact.{input, number, stored, ◌⊠◌, ◌⊟◌, ◌&◌, done, exact, bounded, no_overflow}
-use Rattle.std.proofs.Common.{◌≡◌, ap, sym, ◌∙◌, ℤ, pos, ◌-ℤ◌, ◌*ℤ◌, arith}
+use Rattle.std.proofs.Common.{◌≡◌, ap, sym, ◌∙◌, ◌*◌, ℤ, pos, ◌-ℤ◌, ◌*ℤ◌, arith}
 use Rattle.ember_algebra.specs.Vector.{Vector, cross, scale_v}
 use Rattle.ember_algebra.proofs.Ring.{◌⊖◌, ◌⊗◌, ◌≈◌, num, solve, cancels}
 use Rattle.ember_algebra.proofs.Vectors.{same_v}
 use Rattle.ember_model.specs.declared.point.Axis.{Axis}
 use Rattle.ember_model.specs.declared.point.Axis.TheVariants.{X, Y, Z}
+use Rattle.ember_model.specs.Limits.{broad_limit}
 use Rattle.ember_model.specs.Planes.{unit}
 use Rattle.ember_model.specs.Vectors3.{as_vector}
 use Rattle.ember_model.proofs.vector3.edge_normal.Goals as goal
@@ -61,8 +62,8 @@ pub returns-in-X-clause-small : goal.returns-in-X-clause-small
 returns-in-X-clause-small c = record {
   x = record { small = omega arith };
   y =
-      bounded (c.requires.s & c.requires.step.z & done) 4094 (stored w64 (stored w64 (input 0) ⊠ stored w64 (input 1))) tt;
-  z = bounded (c.requires.s & c.requires.step.y & done) 4094
+      bounded (c.requires.s & c.requires.step.z & done) (2 * broad_limit) (stored w64 (stored w64 (input 0) ⊠ stored w64 (input 1))) tt;
+  z = bounded (c.requires.s & c.requires.step.y & done) (2 * broad_limit)
       (stored w64 (number (pos 0) ⊟ stored w64 (stored w64 (input 0) ⊠ stored w64 (input 1)))) tt;
 }
 
@@ -75,11 +76,11 @@ returns-in-Y-clause-value c = let x = exact (c.requires.s & c.requires.step.z & 
 
 pub returns-in-Y-clause-small : goal.returns-in-Y-clause-small
 returns-in-Y-clause-small c = record {
-  x = bounded (c.requires.s & c.requires.step.z & done) 4094
+  x = bounded (c.requires.s & c.requires.step.z & done) (2 * broad_limit)
       (stored w64 (number (pos 0) ⊟ stored w64 (stored w64 (input 0) ⊠ stored w64 (input 1)))) tt;
   y =
       record { small = omega arith };
-  z = bounded (c.requires.s & c.requires.step.x & done) 4094
+  z = bounded (c.requires.s & c.requires.step.x & done) (2 * broad_limit)
       (stored w64 (stored w64 (input 0) ⊠ stored w64 (input 1))) tt;
 }
 
@@ -93,10 +94,10 @@ returns-in-Z-clause-value c = let x = exact (c.requires.s & c.requires.step.y & 
 
 pub returns-in-Z-clause-small : goal.returns-in-Z-clause-small
 returns-in-Z-clause-small c = record {
-  x = bounded (c.requires.s & c.requires.step.y & done) 4094
+  x = bounded (c.requires.s & c.requires.step.y & done) (2 * broad_limit)
       (stored w64 (stored w64 (input 0) ⊠ stored w64 (input 1))) tt;
   y =
-      bounded (c.requires.s & c.requires.step.x & done) 4094
+      bounded (c.requires.s & c.requires.step.x & done) (2 * broad_limit)
       (stored w64 (number (pos 0) ⊟ stored w64 (stored w64 (input 0) ⊠ stored w64 (input 1)))) tt;
   z =
       record { small = omega arith };

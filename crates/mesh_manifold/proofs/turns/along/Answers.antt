@@ -3,10 +3,10 @@ use borrow.Author.Gap.{read_sfits}
 use mir.Syntax.{w128}
 use Rattle.ember_algebra.specs.Size.{Small}
 use Rattle.ember_algebra.proofs.Size.{small_of_fits}
-use Rattle.mesh_number.specs.declared.wide.whole.Wide.{Wide}
-use Rattle.mesh_number.specs.Wide.Whole.{size_of, value_of}
+use Rattle.ember_wide.specs.declared.whole.Wide.{Wide}
+use Rattle.ember_wide.specs.Whole.{size_of, value_of}
 use Rattle.mesh_number.proofs.Sizes.{product_size}
-use Rattle.mesh_number.proofs.Determinants.{size_of_value, size_of_sum}
+use Rattle.ember_wide.proofs.Values.{size_of_value, size_of_sum}
 use Rattle.mesh_manifold.proofs.turns.along.Goals as goal
 
 abbrev read : ℤ → ℤ

@@ -1,5 +1,5 @@
 use Rattle.std.proofs.Common.{◌≡◌, false, List, ℕ, pos, ◌++◌, ap, arith}
-use Rattle.mesh_number.specs.Wide.Whole.{size_of}
+use Rattle.ember_wide.specs.Whole.{size_of}
 use Rattle.mesh_report.proofs.Appended.{on_ok_same}
 use Rattle.mesh_report.proofs.ShownSteps.{length_fits, length_shown}
 use Rattle.mesh_report.proofs.texts.put_length.Goals as goal

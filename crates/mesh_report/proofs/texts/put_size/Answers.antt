@@ -1,5 +1,5 @@
 use Rattle.std.proofs.Common.{◌≡◌, ◌^◌, ◌∙◌, false, List, ℕ, pos, ◌++◌, ap, arith}
-use Rattle.mesh_number.specs.Wide.Whole.{size_of}
+use Rattle.ember_wide.specs.Whole.{size_of}
 use Rattle.mesh_number.proofs.Digits.{power_of_10_positive}
 use Rattle.mesh_report.proofs.Appended.{on_ok_same}
 use Rattle.mesh_report.proofs.ShownSteps.{size_fits, power_is_small, size_shown}

@@ -1,6 +1,6 @@
 use Rattle.std.proofs.Common.{◌≡◌, List, ℕ, pos, ◌++◌, ap, arith}
 use borrow.Author.Differences.{ints}
-use Rattle.mesh_number.specs.Wide.Whole.{value_of}
+use Rattle.ember_wide.specs.Whole.{value_of}
 use Rattle.mesh_report.proofs.Appended.{on_ok_same}
 use Rattle.mesh_report.proofs.ShownSteps.{step_shown}
 use Rattle.mesh_report.proofs.texts.put_step.Goals as goal

@@ -3,7 +3,7 @@ use Rattle.std.proofs.lemmas.Int.{to_z-of_z}
 use mir.Syntax.{w128}
 use Rattle.mesh_number.specs.Number.Fractions.{signed_whole}
 use Rattle.mesh_number.specs.Round.Nearest.{nearest_whole}
-use Rattle.mesh_number.specs.Wide.Whole.{size_of}
+use Rattle.ember_wide.specs.Whole.{size_of}
 use Rattle.mesh_written.proofs.Signs.{fits_with_places, units_are_small, units_of_ratio}
 use Rattle.mesh_written.proofs.decimal_points.units_of.Goals as goal
 

@@ -1,5 +1,5 @@
 use Rattle.std.proofs.Common.{◌<◌, ◌*◌, ◌^◌, List, ◌++◌, ℕ, ap, ◌∙◌, rules, arith}
-use Rattle.mesh_number.specs.Wide.Whole.{size_of}
+use Rattle.ember_wide.specs.Whole.{size_of}
 use Rattle.mesh_written.specs.Places.{place_of}
 use Rattle.mesh_written.proofs.Signs.{decimal_of_ratio, not_long, fits_with_places}
 use Rattle.mesh_written.proofs.decimals.put_place.Goals as goal

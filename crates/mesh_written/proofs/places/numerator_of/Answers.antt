@@ -1,8 +1,8 @@
 use Rattle.std.proofs.Common.{◌≡◌, ◌+◌, ◌*◌, ◌≤◌, pos, ◌*ℤ◌, unsigned_abs, to_z, of_z, to_z-of_z, mul-le-mul, refl, ◌∙◌, arith}
 use borrow.Author.Differences.{ints}
 use mir.Syntax.{w128}
-use Rattle.mesh_number.specs.Wide.Whole.{size_of, value_of}
-use Rattle.mesh_number.proofs.Determinants.{size_of_sum}
+use Rattle.ember_wide.specs.Whole.{size_of, value_of}
+use Rattle.ember_wide.proofs.Values.{size_of_sum}
 use Rattle.mesh_written.proofs.Sizes.{size_of_product, read_step, code_gives_numerator}
 use Rattle.mesh_written.proofs.places.numerator_of.Goals as goal
 

@@ -1,7 +1,7 @@
 use Rattle.std.proofs.Common.{◌≡◌, ◌≤◌, ◌<◌, true, ℕ, ◌*◌, ◌^◌, ap, ◌∙◌, rules, arith}
 use Rattle.mesh_number.specs.Number.Fractions.{Fraction}
 use Rattle.mesh_number.specs.Number.Quotients.{quotient}
-use Rattle.mesh_number.specs.Wide.Whole.{size_of}
+use Rattle.ember_wide.specs.Whole.{size_of}
 use Rattle.mesh_written.specs.Places.{place_of}
 use Rattle.mesh_effect.specs.Rounding.Squares.{decimal_ticks}
 use Rattle.mesh_effect.proofs.RatioErrors.{too_long, ticks_of_decimal}

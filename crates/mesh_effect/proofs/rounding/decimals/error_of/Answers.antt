@@ -1,5 +1,5 @@
 use Rattle.std.proofs.Common.{◌≡◌, ℕ, ◌*◌, ◌^◌, ap, ◌∙◌, arith}
-use Rattle.mesh_number.specs.Wide.Whole.{size_of}
+use Rattle.ember_wide.specs.Whole.{size_of}
 use Rattle.mesh_written.proofs.Signs.{fits_with_places}
 use Rattle.mesh_effect.proofs.RatioErrors.{rest_is_error}
 use Rattle.mesh_effect.proofs.rounding.decimals.error_of.Goals as goal

@@ -1,6 +1,6 @@
 use Rattle.std.proofs.Common.{◌≤◌, ℕ, ◌-◌, ◌*◌, ◌/◌, ap, ◌∙◌, arith}
 use Rattle.std.proofs.lemmas.Nat.{one_shl}
-use Rattle.mesh_number.specs.Wide.Whole.{size_of}
+use Rattle.ember_wide.specs.Whole.{size_of}
 use Rattle.mesh_effect.proofs.Doubling.{both_steps, first_step}
 use Rattle.mesh_effect.proofs.rounding.floats.doubled.Goals as goal
 

@@ -1,5 +1,5 @@
 use Rattle.std.proofs.Common.{◌≡◌, ℕ, ◌-◌, ◌*◌, ◌^◌, ap, ◌∙◌, arith}
-use Rattle.mesh_number.specs.Wide.Whole.{size_of}
+use Rattle.ember_wide.specs.Whole.{size_of}
 use Rattle.mesh_effect.specs.Rounding.Floats.{last_place}
 use Rattle.mesh_effect.proofs.RatioErrors.{place_most, significand_short, exact_small, written_most, sum_is_error}
 use Rattle.mesh_effect.proofs.rounding.floats.error_of.Goals as goal

@@ -1,6 +1,6 @@
 use Rattle.std.proofs.Common.{◌≡◌, ◌≤◌, ◌<◌, ℕ, ◌-◌, ◌*◌, ◌^◌, min, subst, sym, ap, ◌∙◌, rules, arith}
 use Rattle.mesh_number.specs.Number.Fractions.{Fraction}
-use Rattle.mesh_number.specs.Wide.Whole.{size_of}
+use Rattle.ember_wide.specs.Whole.{size_of}
 use Rattle.mesh_written.specs.Places.{place_of}
 use Rattle.mesh_written.specs.Floats.{IsFloatOf}
 use Rattle.mesh_effect.specs.Rounding.Floats.{float_number, last_place}

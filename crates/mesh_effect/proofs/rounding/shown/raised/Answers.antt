@@ -1,6 +1,6 @@
 use Rattle.std.proofs.Common.{◌≡◌, ◌≤◌, ◌<◌, ℕ, ◌+◌, ◌*◌, ◌^◌, true, refl, ap, ◌∙◌, mul-le-mul, arith}
 use Rattle.mesh_number.specs.Number.Quotients.{quotient}
-use Rattle.mesh_number.specs.Wide.Whole.{size_of}
+use Rattle.ember_wide.specs.Whole.{size_of}
 use Rattle.mesh_effect.specs.Rounding.Shown.{rounded_up}
 use Rattle.mesh_effect.proofs.Above.{quotient_less}
 use Rattle.mesh_effect.proofs.Places.{places_are, next_over}

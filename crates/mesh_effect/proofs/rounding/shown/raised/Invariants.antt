@@ -1,5 +1,5 @@
 use Rattle.std.proofs.Common.{◌≡◌, ◌<◌, ◌*◌, ◌^◌}
-use Rattle.mesh_number.specs.Wide.Whole.{size_of}
+use Rattle.ember_wide.specs.Whole.{size_of}
 use Rattle.mesh_effect.specs.Rounding.Shown.{rounded_up}
 use Rattle.mesh_effect.proofs.rounding.shown.raised.Given as goal
 

@@ -1,7 +1,7 @@
 use Rattle.std.proofs.Common.{◌≡◌, true, ℕ, ◌-◌, ◌*◌, ◌^◌, ap, ◌∙◌, arith}
 use Rattle.std.proofs.lemmas.Nat.{one_shl}
 use Rattle.mesh_number.specs.Number.Quotients.{quotient}
-use Rattle.mesh_number.specs.Wide.Whole.{size_of}
+use Rattle.ember_wide.specs.Whole.{size_of}
 use Rattle.mesh_effect.proofs.Above.{quotient_most}
 use Rattle.mesh_effect.proofs.TickCounts.{few_ticks, raised_most, low_ticks, high_ticks}
 use Rattle.mesh_effect.proofs.rounding.ticks.ticks.Goals.{After-quotient_above, After-shifted_above}

@@ -1,5 +1,5 @@
 use Rattle.std.proofs.Common.{refl, arith}
-use Rattle.mesh_number.specs.Wide.Whole.{size_of}
+use Rattle.ember_wide.specs.Whole.{size_of}
 use Rattle.mesh_number.proofs.NearestFloats.{is_finite, with_sign, without_sign, zero_loses_sign}
 use Rattle.mesh_number.proofs.float.binary32.joined.Goals.{else-n-via-then-n+else-bits-ne0, else-n-via-else-n}
 use Rattle.mesh_number.proofs.float.binary32.joined.Goals as goal

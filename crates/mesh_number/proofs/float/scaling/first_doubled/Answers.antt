@@ -1,5 +1,5 @@
 use Rattle.std.proofs.Common.{◌≡◌, ◌*◌, ◌^◌, ◌<◌, ◌≤◌, arith}
-use Rattle.mesh_number.specs.Wide.Whole.{size_of}
+use Rattle.ember_wide.specs.Whole.{size_of}
 use Rattle.mesh_number.proofs.Powers.{doublings_kept, power_stored}
 use Rattle.mesh_number.proofs.float.scaling.first_doubled.Goals as goal
 

@@ -1,0 +1,6 @@
+pub mod Sums
+pub mod CubeValues
+pub mod Quotients
+pub mod Slides
+pub mod ShortNumbers
+pub mod Places

@@ -1,0 +1,58 @@
+-- The laws of both widths.
+use Rattle.std.proofs.Common.{◌^◌, ◌<◌, pos, ◌*ℤ◌, ◌<ℤ◌, lit<, lit≤, arith}
+use borrow.Author.Differences.{ints}
+use Rattle.ember_algebra.proofs.Size.{small_within}
+use Rattle.ember_model.specs.declared.plane.Plane.{Plane}
+use Rattle.ember_model.specs.Valid.{IsValidPlane}
+use Rattle.ember_model.specs.Limits.{narrow_limit, broad_limit}
+use Rattle.ember_model.specs.Within.{IsPlaneWithin, normal_limit}
+use Rattle.ember_width.specs.Broad.{IsBroadPlane}
+use Rattle.ember_width.specs.BroadPoints.{spot_of}
+use Rattle.ember_width.specs.declared.broad_point.BroadPoint.{BroadPoint}
+use Rattle.ember_width.specs.declared.broad_point.BroadPoint.TheVariants.{Short, Floored, Far}
+
+-- ---- planes
+-- a plane within the narrow limit is valid
+pub narrow_planes : (p : Plane) → IsPlaneWithin narrow_limit p → IsValidPlane p
+narrow_planes p s =
+    record {
+      a = small_within (lit≤ tt) s.a;
+      b = small_within (lit≤ tt) s.b;
+      c = small_within (lit≤ tt) s.c;
+      d = small_within (lit≤ tt) s.d;
+    }
+
+-- a plane within the broad limit is one of the broad grid
+pub broad_planes : (p : Plane) → IsPlaneWithin broad_limit p → IsBroadPlane p
+broad_planes p s =
+    record {
+      a = small_within (lit≤ tt) s.a;
+      b = small_within (lit≤ tt) s.b;
+      c = small_within (lit≤ tt) s.c;
+      d = small_within (lit≤ tt) s.d;
+    }
+
+-- ---- the shifts
+-- normals of the narrow grid are below 2^27
+pub narrow_normals : normal_limit narrow_limit < 2 ^ 27
+narrow_normals = lit< tt
+
+-- normals of the broad grid are below 2^43
+pub broad_normals : normal_limit broad_limit < 2 ^ 43
+broad_normals = lit< tt
+
+-- ---- the root
+-- the root holds the narrow grid
+pub narrow_root : pos narrow_limit <ℤ (pos 2048 *ℤ pos 1)
+narrow_root = omega (arith, ints)
+
+-- the root holds the broad grid
+pub broad_root : pos broad_limit <ℤ (pos 2048 *ℤ pos 256)
+broad_root = omega (arith, ints)
+
+-- ---- points
+-- each point has a positive weight
+pub broad_weighs : (m : BroadPoint) → pos 0 <ℤ (spot_of m).w
+broad_weighs (Short m) = m.valid.weight
+broad_weighs (Floored m) = m.valid.weight
+broad_weighs (Far m) = m.valid.weight

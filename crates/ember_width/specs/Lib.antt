@@ -1,0 +1,4 @@
+pub mod Broad
+pub mod BroadPoints
+pub mod Levels
+pub mod Laws

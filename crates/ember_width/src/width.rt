@@ -1,0 +1,59 @@
+// The numbers that a grid needs.
+ghost use Rattle.std.specs.Prelude.{◌≡◌, ℕ, ◌*◌, ◌<◌, ℤ, pos, ◌*ℤ◌, ◌<ℤ◌, IfSome, IsNone, ◌↔◌};
+ghost use Rattle.ember_algebra.specs.Sign.{sgn};
+ghost use Rattle.ember_model.specs.declared.plane.Plane.{Plane as PlaneView};
+ghost use Rattle.ember_model.specs.declared.point.Spot.{Spot};
+ghost use Rattle.ember_model.specs.Planes.{value_at};
+ghost use Rattle.ember_model.specs.Within.{IsPlaneWithin, normal_limit};
+ghost use Rattle.ember_point.specs.Points.{weight, meet_of};
+
+use ember_algebra::Sign;
+use ember_model::Plane;
+
+/// How fine a grid is, and the numbers in which its points are computed. Everything is exact.
+pub trait Width {
+    /// The point in which three planes meet.
+    type Point: Copy;
+
+    /// How many steps of the grid are a unit of the boxes, which are 4096 units long at the root.
+    const UNIT: i32;
+
+    ghost UNIT: { ℤ };
+
+    // the greatest coordinate of a corner
+    ghost corner: { ℕ };
+
+    // a number above the entries of all normals: points are shifted by its reciprocal and the powers of that
+    ghost fine: { ℕ };
+
+    // the planes whose meets and sides can be computed
+    ghost IsPlane: { PlaneView → Type 0 };
+
+    // the point as a rational one
+    ghost spot: { Self.Point → Spot };
+
+    /// The one point of three planes, or `None` if there is none or more than one.
+    fn meet(p: &Plane, q: &Plane, r: &Plane) -> Option<Self::Point>
+        requires p { IsPlane p.now }
+        requires q { IsPlane q.now }
+        requires r { IsPlane r.now }
+        ensures none { IsNone result ↔ (weight p.now q.now r.now ≡ pos 0) }
+        ensures formula { IfSome result (λ m. spot m ≡ meet_of p.now q.now r.now) };
+
+    /// The side of the plane on which the point lies: `Pos` in front of it, `Zero` on it.
+    fn side(p: &Plane, m: &Self::Point) -> Sign
+        requires { IsPlane p.now }
+        ensures { result ≡ sgn (value_at p.now (spot m.now)) };
+
+    // weights are positive
+    ghost weighs: { (m : Self.Point) → pos 0 <ℤ (spot m).w };
+
+    // the planes of triangles on the grid, with up to two coordinates fixed
+    ghost takes: { (p : PlaneView) → IsPlaneWithin corner p → IsPlane p };
+
+    // the shifts are smaller than what any plane of a triangle tells apart
+    ghost tells_apart: { normal_limit corner < fine };
+
+    // the root, 2048 units to each side of the origin, holds all corners
+    ghost holds: { pos corner <ℤ (pos 2048 *ℤ UNIT) };
+}
