@@ -3,14 +3,13 @@ use Rattle.std.proofs.Common.{◌≡◌, ℕ, zero, suc, Bool, true, false, ◌<
 use Rattle.std.proofs.Common.{subst, arith, inl, inr, length-append, Option, None, Some, Result, Ok, Err, All}
 use Rattle.std.specs.Prelude.{if◌then◌else◌, nat_lt, IfOk, IfSome}
 use Rattle.std.proofs.lemmas.Bool.{cases_Bool, ltb-true}
-use Rattle.std.proofs.lemmas.List.{length-map}
 use Rattle.std.proofs.lemmas.List.Elements.{All-nil, All-push, All-append, All-weaker}
 use Rattle.mesh_number.specs.Number.Fractions.{Fraction}
 use Rattle.mesh_number.specs.Number.Naturals.{below}
 use Rattle.mesh_read.specs.declared.surface.surface.Facet.{Facet}
-use Rattle.mesh_read.specs.declared.surface.surface.Surface.{Surface}
-use Rattle.mesh_read.specs.Surface.Surfaces.{Point, Content, point_of, content_of, IsWithin, IsSurface, fan, first_far}
+use Rattle.mesh_read.specs.Surface.Surfaces.{Point, Content, IsWithin, fan}
 use Rattle.mesh_read.proofs.Fans.{fan_within}
+use Rattle.mesh_read.proofs.Flaws.{IsSound}
 use Rattle.mesh_ply.specs.declared.declarations.ScalarType.{ScalarType}
 use Rattle.mesh_ply.specs.declared.declarations.Encoding.{Encoding}
 use Rattle.mesh_ply.specs.declared.declarations.Axis.{Axis}
@@ -30,8 +29,7 @@ use Rattle.mesh_ply.specs.Rows.{and_then, Row, empty_row, unless_short, one_scal
 use Rattle.mesh_ply.specs.Rows.{corner_or_fault, corner_of, corners_from, skipped, list_of_size, size_of}
 use Rattle.mesh_ply.specs.Rows.{scalar_property, list_property, begins_property, properties, row_at}
 use Rattle.mesh_ply.specs.ReadPly.{point_of_three, facets_of, with_row, place_of, rows_from, bare_fault, unless_fault}
-use Rattle.mesh_ply.specs.ReadPly.{element_rows, elements_from, no_content, content_in, content_of_file, near_or_fault}
-use Rattle.mesh_ply.specs.ReadPly.{with_triangles, as_mesh, read_ply_of}
+use Rattle.mesh_ply.specs.ReadPly.{element_rows, elements_from, no_content, content_in, content_of_file}
 
 -- what a step keeps if the first part gives what the second needs
 then_holds : {A B : Type 0} (P : A → Type 0) (Q : B → Type 0) (r : Result A PlyFault) (next : A → Result B PlyFault) →
@@ -42,9 +40,6 @@ then_holds P Q (Ok a) next h k = k a h
 anything : {A : Type 0} (r : Result A PlyFault) → IfOk r (λ _. Unit {0})
 anything (Err fault) = tt
 anything (Ok a) = tt
-
-abbrev IsSound : Content → Type 0
-IsSound c = All (IsWithin (length c.points)) c.facets
 
 abbrev AreBelow : ℕ → List ℕ → Type 0
 AreBelow v corners = All (λ c. c < v) corners
@@ -201,28 +196,7 @@ content_sound : (encoding : Option Encoding) (ds : List Declaration) (body : Lis
 content_sound None ds body = tt
 content_sound (Some encoding) ds body = elements_sound ds no_content (begun encoding body) (All-nil (IsWithin 0))
 
-file_sound : (bytes : List ℕ) → IfOk (content_of_file bytes) IsSound
+-- each corner of what is read is a vertex
+pub file_sound : (bytes : List ℕ) → IfOk (content_of_file bytes) IsSound
 file_sound bytes =
     then_holds (λ _. Unit {0}) IsSound (header_of_file bytes) _ (anything (header_of_file bytes)) (λ h _. content_sound h.0.encoding h.0.declarations h.1)
-
-near_sound : (content : Content) (far : Option ℕ) → IsSound content → IfOk (near_or_fault content far) IsSound
-near_sound content None h = h
-near_sound content (Some place) h = tt
-
-triangles_sound : (content : Content) (facets : List Facet) → IsSound content → IfOk (with_triangles content facets) IsSound
-triangles_sound content [] h = tt
-triangles_sound content (f ∷ fs) h = near_sound content (first_far content) h
-
-mesh_sound : (r : Result Content PlyFault) → IfOk r IsSound → IfOk (as_mesh r) IsSound
-mesh_sound (Err fault) h = tt
-mesh_sound (Ok content) h = triangles_sound content content.facets h
-
-surface_of : (bytes : List ℕ) (s : Surface) → read_ply_of bytes ≡ Ok (content_of s) → IsSurface s
-surface_of bytes s e =
-    let h : IsSound (content_of s) = subst (λ (r : Result Content PlyFault). IfOk r IsSound) e (mesh_sound (content_of_file bytes) (file_sound bytes)) in
-    subst (λ n. All (IsWithin n) s.facets.items) (length-map s.vertices.items point_of) h
-
--- what is read is a surface
-pub reads_surface : (bytes : List ℕ) (r : Result Surface PlyFault) → IfOk r (λ s. read_ply_of bytes ≡ Ok (content_of s)) → IfOk r IsSurface
-reads_surface bytes (Err fault) h = tt
-reads_surface bytes (Ok s) h = surface_of bytes s h

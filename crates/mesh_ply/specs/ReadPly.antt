@@ -3,7 +3,10 @@ use Rattle.std.specs.Prelude.{ℕ, zero, suc, ◌+◌, ◌==◌, List, [], ◌�
 use Rattle.std.specs.Prelude.{if◌then◌else◌, Option, None, Some, Result, Ok, Err}
 use Rattle.mesh_number.specs.Number.Fractions.{Fraction}
 use Rattle.mesh_read.specs.declared.surface.surface.Facet.{Facet}
-use Rattle.mesh_read.specs.Surface.Surfaces.{Point, Content, fan, first_far}
+use Rattle.mesh_read.specs.declared.surface.flaw.Flaw.{Flaw}
+use Rattle.mesh_read.specs.declared.surface.flaw.Flaw.TheVariants as flaw
+use Rattle.mesh_read.specs.Surface.Surfaces.{Point, Content, fan}
+use Rattle.mesh_read.specs.Surface.Flaws.{as_mesh}
 use Rattle.mesh_ply.specs.declared.declarations.Encoding.{Encoding}
 use Rattle.mesh_ply.specs.declared.declarations.ElementKind.{ElementKind}
 use Rattle.mesh_ply.specs.declared.declarations.ElementKind.TheVariants.{Vertex, Face, Other}
@@ -98,21 +101,10 @@ content_of_file bytes =
     and_then (header_of_file bytes) (λ h. content_in h.0.encoding h.0.declarations h.1)
 
 -- ---- what no mesh has
--- the content, unless a triangle is too far out
-abbrev pub near_or_fault : Content → Option ℕ → Result Content PlyFault
-near_or_fault content None = Ok content
-near_or_fault content (Some place) = Err (TooLarge place)
-
--- the content, if it has triangles and none is too far out
-abbrev pub with_triangles : Content → List Facet → Result Content PlyFault
-with_triangles content [] = Err NoTriangles
-with_triangles content (f ∷ fs) = near_or_fault content (first_far content)
-
--- the content, if it is a mesh
-abbrev pub as_mesh : Result Content PlyFault → Result Content PlyFault
-as_mesh (Err fault) = Err fault
-as_mesh (Ok content) = with_triangles content content.facets
+abbrev pub of_flaw : Flaw → PlyFault
+of_flaw flaw.NoTriangles = NoTriangles
+of_flaw (flaw.TooLarge face) = TooLarge face
 
 -- what a file says, or its first fault
 abbrev pub read_ply_of : List ℕ → Result Content PlyFault
-read_ply_of bytes = as_mesh (content_of_file bytes)
+read_ply_of bytes = as_mesh of_flaw (content_of_file bytes)

@@ -1,5 +1,8 @@
 // What makes a file no mesh.
-use mesh_read::Span;
+ghost use Rattle.std.specs.Prelude.{◌≡◌};
+ghost use Rattle.mesh_ply.specs.ReadPly.{of_flaw};
+
+use mesh_read::{Flaw, Span};
 use thiserror::Error;
 
 /// The first fault of a file, or out-of-memory. Lines of the header and rows of an element are
@@ -42,4 +45,15 @@ pub enum PlyFault {
     TooLarge(u32),
     #[error("out of memory")]
     OutOfMemory,
+}
+
+impl From<Flaw> for PlyFault {
+    ghost from_gives = { λ flaw e. e ≡ of_flaw flaw };
+
+    fn from(flaw: Flaw) -> PlyFault {
+        match flaw {
+            Flaw::NoTriangles => PlyFault::NoTriangles,
+            Flaw::TooLarge(face) => PlyFault::TooLarge(face),
+        }
+    }
 }

@@ -1,7 +1,7 @@
 // The reading of a file.
 ghost use Rattle.std.specs.Prelude.{◌≡◌, ◌⊎◌, ◌≤◌, length, Ok, Err, IfOk, IfErr};
 ghost use Rattle.mesh_read.specs.Surface.Surfaces.{IsSurface, content_of};
-ghost use Rattle.mesh_ply.specs.ReadPly.{no_content, elements_from, content_of_file, as_mesh, read_ply_of};
+ghost use Rattle.mesh_ply.specs.ReadPly.{no_content, elements_from, content_of_file, read_ply_of};
 ghost use Rattle.mesh_ply.specs.Cursors.{begun};
 
 use crate::cursor::first_cursor;
@@ -10,7 +10,7 @@ use crate::elements::read_elements;
 use crate::fault::PlyFault;
 use crate::header::read_header;
 use crate::row::Row;
-use mesh_read::{Surface, first_too_large};
+use mesh_read::{Surface, as_mesh};
 use std::alloc::Global;
 
 // What the rows of these elements say.
@@ -55,29 +55,15 @@ fn read_content<'a>(alloc: Global, bytes: &'a [u8]) -> Result<Surface<'a>, PlyFa
     read_body(alloc, encoding, &header.declarations, body)
 }
 
-// The surface, if it is a mesh.
-#[tactic(none)]
-fn checked<'a>(surface: Surface<'a>) -> Result<Surface<'a>, PlyFault>
-    ensures ok { IfOk result (λ s. as_mesh (Ok (content_of surface.entry)) ≡ Ok (content_of s)) }
-    ensures fault { IfErr result (λ e. as_mesh (Ok (content_of surface.entry)) ≡ Err e) }
-{
-    if surface.facets.is_empty() {
-        return Err(PlyFault::NoTriangles);
-    }
-    match first_too_large(&surface) {
-        Some(place) => Err(PlyFault::TooLarge(place)),
-        None => Ok(surface),
-    }
-}
-
 // The surface of a file, if it is a mesh.
+#[tactic(auto, using(mesh_read::proofs::Flaws::mesh_found, mesh_read::proofs::Flaws::mesh_refused))]
 fn read_mesh<'a>(alloc: Global, bytes: &'a [u8]) -> Result<Surface<'a>, PlyFault>
     requires { length bytes.now ≤ 268435456 }
     ensures ok { IfOk result (λ s. read_ply_of bytes.now ≡ Ok (content_of s)) }
     ensures fault { IfErr result (λ e. (e ≡ PlyFault.OutOfMemory) ⊎ (read_ply_of bytes.now ≡ Err e)) }
 {
     let surface = read_content(alloc, bytes)?;
-    checked(surface)
+    Ok(as_mesh(surface)?)
 }
 
 /// The vertices and triangles of a PLY file, or its first fault.

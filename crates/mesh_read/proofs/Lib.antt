@@ -1,5 +1,6 @@
 pub mod Cuts
 pub mod FarPoints
+pub mod Flaws
 pub mod Fans
 pub mod Triangles
 pub mod Lines

@@ -3,24 +3,20 @@ use Rattle.std.proofs.Common.{◌≡◌, ℕ, zero, suc, Bool, true, false, ◌<
 use Rattle.std.proofs.Common.{refl, sym, ap, subst, arith, inl, inr, Option, None, Some, Result, Ok, Err, All}
 use Rattle.std.specs.Prelude.{if◌then◌else◌, nat_lt, nat_le, IfOk, IfSome}
 use Rattle.std.proofs.lemmas.Bool.{cases_Bool, ltb-true, leb-true}
-use Rattle.std.proofs.lemmas.List.{length-map, length-take-le}
+use Rattle.std.proofs.lemmas.List.{length-take-le}
 use Rattle.std.proofs.lemmas.List.Elements.{All-nil, All-cons, All-append}
 use Rattle.mesh_read.specs.Scan.Parts.{Piece}
 use Rattle.mesh_read.specs.declared.surface.surface.Facet.{Facet}
-use Rattle.mesh_read.specs.declared.surface.surface.Surface.{Surface}
-use Rattle.mesh_read.specs.Surface.Surfaces.{Point, Content, point_of, content_of, IsWithin, IsSurface, first_far}
+use Rattle.mesh_read.specs.Surface.Surfaces.{Point, Content, IsWithin}
 use Rattle.mesh_read.proofs.Fans.{fan_within}
+use Rattle.mesh_read.proofs.Flaws.{IsSound}
 use Rattle.mesh_read.specs.declared.off.fault.OffFault.{OffFault}
 use Rattle.mesh_read.specs.declared.off.fault.OffFault.TheVariants.{NoOff, FewLines}
-use Rattle.mesh_read.specs.Off.Rows.{Words, rows_of}
+use Rattle.mesh_read.specs.Off.Rows.{Words}
 use Rattle.mesh_number.specs.Number.Naturals.{number_of, below}
 use Rattle.mesh_read.specs.Off.ReadOff.{joined, point_in, one, points_of, with_corner, indices, corners_of_size, corners_of}
 use Rattle.mesh_read.specs.Off.ReadOff.{fan_or_fault, facets_in, facets_of, Counts, counts_of, whole, counted}
-use Rattle.mesh_read.specs.Off.ReadOff.{behind_keyword, is_keyword, with_keyword, content_in, near_or_fault, with_triangles}
-use Rattle.mesh_read.specs.Off.ReadOff.{as_mesh, read_off_of}
-
-abbrev IsSound : Content → Type 0
-IsSound c = All (IsWithin (length c.points)) c.facets
+use Rattle.mesh_read.specs.Off.ReadOff.{behind_keyword, is_keyword, with_keyword, content_in}
 
 limited : (v : ℕ) (n : Option ℕ) → IfSome (below v n) (λ c. c < v)
 limited v None = tt
@@ -112,31 +108,7 @@ keyword_sound (word ∷ words) rows = elim (is_keyword word.text) as
     (λ (t : Bool). IfOk (if t then behind_keyword words rows else Err NoOff) IsSound)
     [ true ↦ behind_sound words rows | false ↦ tt ]
 
-content_sound : (rows : List Words) → IfOk (content_in rows) IsSound
+-- each corner of what is read is a vertex
+pub content_sound : (rows : List Words) → IfOk (content_in rows) IsSound
 content_sound [] = tt
 content_sound (row ∷ rows) = keyword_sound row.words rows
-
-near_sound : (content : Content) (far : Option ℕ) → IsSound content → IfOk (near_or_fault content far) IsSound
-near_sound content None h = h
-near_sound content (Some place) h = tt
-
-triangles_sound : (content : Content) (facets : List Facet) → IsSound content → IfOk (with_triangles content facets) IsSound
-triangles_sound content [] h = tt
-triangles_sound content (f ∷ fs) h = near_sound content (first_far content) h
-
-mesh_sound : (r : Result Content OffFault) → IfOk r IsSound → IfOk (as_mesh r) IsSound
-mesh_sound (Err fault) h = tt
-mesh_sound (Ok content) h = triangles_sound content content.facets h
-
-sound : (bytes : List ℕ) → IfOk (read_off_of bytes) IsSound
-sound bytes = mesh_sound (content_in (rows_of bytes)) (content_sound (rows_of bytes))
-
-surface_of : (bytes : List ℕ) (s : Surface) → read_off_of bytes ≡ Ok (content_of s) → IsSurface s
-surface_of bytes s e =
-    let h : IsSound (content_of s) = subst (λ (r : Result Content OffFault). IfOk r IsSound) e (sound bytes) in
-    subst (λ n. All (IsWithin n) s.facets.items) (length-map s.vertices.items point_of) h
-
--- what is read is a surface
-pub reads_surface : (bytes : List ℕ) (r : Result Surface OffFault) → IfOk r (λ s. read_off_of bytes ≡ Ok (content_of s)) → IfOk r IsSurface
-reads_surface bytes (Err fault) h = tt
-reads_surface bytes (Ok s) h = surface_of bytes s h

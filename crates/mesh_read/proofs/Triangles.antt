@@ -1,14 +1,7 @@
 -- Triangles that are read one after another.
-use Rattle.std.proofs.Common.{◌≡◌, ℕ, suc, zero, ◌<◌, ◌≤◌, ◌+◌, ◌-◌, subst, List, [], ◌∷◌, map, Option, Some, None, refl, sym, ap, ◌∙◌, arith, Ok, Err}
-use Rattle.std.specs.Prelude.{slice_get}
-use Rattle.std.specs.List.{find, list_any}
-use Rattle.std.specs.Option.{option_map}
-use Rattle.std.proofs.lemmas.Option.{slice_get-map}
-use Rattle.mesh_read.specs.declared.surface.surface.Vertex.{Vertex}
-use Rattle.mesh_read.specs.declared.surface.surface.Facet.{Facet}
-use Rattle.mesh_read.specs.Surface.Surfaces.{Content, point_of, is_too_large, is_corner_too_large, is_facet_too_large}
+use Rattle.std.proofs.Common.{◌≡◌, ℕ, suc, zero, ◌<◌, ◌≤◌, ◌+◌, ◌-◌, subst, List, refl, ap, ◌∙◌, arith, Ok, Err}
+use Rattle.mesh_read.specs.Surface.Surfaces.{Content}
 use Rattle.mesh_read.specs.declared.stl.fault.StlFault.{StlFault}
-use Rattle.mesh_read.specs.Stl.Facets.{is_far, is_facet_far}
 use Rattle.mesh_read.specs.Stl.Binary.{first_facets, with_facet_at}
 
 -- a fault in the first facets stays the file's fault
@@ -40,23 +33,3 @@ pub facet_refused : (bytes : List ℕ) (k n : ℕ) (content : Content) (fault : 
     first_facets bytes n ≡ Err fault
 facet_refused bytes k n content fault is one within =
     fault_stays bytes (k + 1) n fault (next_facet bytes k ∙ ap (with_facet_at bytes k) is ∙ one) (omega arith)
-
--- a vertex is too large if its point is far
-same_vertex : (v : Option Vertex) → is_too_large v ≡ is_far (option_map point_of v)
-same_vertex None = refl
-same_vertex (Some v) = refl
-
-same_corner : (vertices : List Vertex) (corner : ℕ) → is_corner_too_large vertices corner ≡ is_far (slice_get (map point_of vertices) corner)
-same_corner vertices corner = same_vertex (slice_get vertices corner) ∙ ap is_far (sym (slice_get-map point_of vertices corner))
-
-same_corners : (vertices : List Vertex) (corners : List ℕ) →
-    list_any (is_corner_too_large vertices) corners ≡ list_any
-    (λ corner. is_far (slice_get (map point_of vertices) corner)) corners
-same_corners vertices [] = refl
-same_corners vertices (corner ∷ corners) = rw (same_corner vertices corner, same_corners vertices corners) refl
-
--- the first triangle that is too large is the first with a point that is far
-pub same_first_far : (vertices : List Vertex) (facets : List Facet) →
-    find (is_facet_too_large vertices) facets ≡ find (is_facet_far (map point_of vertices)) facets
-same_first_far vertices [] = refl
-same_first_far vertices (f ∷ facets) = rw (same_corners vertices f.corners, same_first_far vertices facets) refl

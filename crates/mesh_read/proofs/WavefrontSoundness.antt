@@ -3,30 +3,21 @@ use Rattle.std.proofs.Common.{◌≡◌, ℕ, Bool, true, false, ◌<◌, ◌≤
 use Rattle.std.proofs.Common.{refl, sym, subst, arith, inl, inr, Option, None, Some, Result, Ok, Err, All}
 use Rattle.std.specs.Prelude.{if◌then◌else◌, nat_lt, nat_le, IfOk, IfSome}
 use Rattle.std.proofs.lemmas.Bool.{cases_Bool, ltb-true, leb-true}
-use Rattle.std.proofs.lemmas.List.{length-map}
-use Rattle.std.proofs.lemmas.List.Elements.{All-nil, All-cons, All-head, All-tail, All-append}
+use Rattle.std.proofs.lemmas.List.Elements.{All-nil, All-cons, All-append}
 use Rattle.ember_dec.specs.Decimal.{number_from, is_minus}
 use Rattle.ember_obj.specs.References.{is_slash, is_number, size_digits}
 use Rattle.mesh_read.specs.Scan.Parts.{Piece, before}
 use Rattle.mesh_read.specs.declared.surface.surface.Facet.{Facet}
-use Rattle.mesh_read.specs.declared.surface.surface.Surface.{Surface}
-use Rattle.mesh_read.specs.Surface.Surfaces.{Point, Content, point_of, content_of, IsSurface, fan, fan_round, first_far}
-use Rattle.mesh_read.specs.declared.wavefront.fault.WavefrontFault.{WavefrontFault}
+use Rattle.mesh_read.specs.Surface.Surfaces.{Point, Content, IsWithin, fan}
+use Rattle.mesh_read.proofs.Fans.{fan_within}
+use Rattle.mesh_read.proofs.Flaws.{IsSound}
 use Rattle.mesh_read.specs.declared.wavefront.reading.Keyword.{Keyword}
 use Rattle.mesh_read.specs.declared.wavefront.reading.Keyword.TheVariants.{Vertex, Face, Other}
 use Rattle.mesh_read.specs.Wavefront.Faults.{Fault, FewCorners}
-use Rattle.mesh_read.specs.Wavefront.Rows.{Row, rows_of}
+use Rattle.mesh_read.specs.Wavefront.Rows.{Row}
 use Rattle.mesh_read.specs.Wavefront.ReadWavefront.{point_in, counted, vertex_named, corner_or_fault, with_corner}
 use Rattle.mesh_read.specs.Wavefront.ReadWavefront.{corners_of, fan_or_fault, facets_in, keyword_of, with_point}
 use Rattle.mesh_read.specs.Wavefront.ReadWavefront.{with_facets, after_keyword, after_words, after_rows, content_in}
-use Rattle.mesh_read.specs.Wavefront.ReadWavefront.{near_or_fault, with_triangles, as_mesh, read_wavefront_of}
-
--- all corners of the triangle are indices below n
-abbrev pub IsBelow : ℕ → Facet → Type 0
-IsBelow v f = All (λ c. c < v) f.corners
-
-abbrev pub IsSound : Content → Type 0
-IsSound c = All (IsBelow (length c.points)) c.facets
 
 -- ---- faces
 index_below : (v : ℕ) (back : Bool) (n : ℕ) → 0 < n → n ≤ v → (if back then v - n else n - 1) < v
@@ -72,31 +63,17 @@ corners_below line v (reference ∷ references) =
     (corner_below v line reference (vertex_named v reference) (named_below v reference))
     (corners_below line v references)
 
-fan_round_below : (v place first : ℕ) (others : List ℕ) → first < v → All (λ c. c < v) others → All (IsBelow v) (fan_round place first others)
-fan_round_below v place first [] h hs = All-nil (IsBelow v)
-fan_round_below v place first (p ∷ []) h hs = All-nil (IsBelow v)
-fan_round_below v place first (p ∷ q ∷ more) h hs =
-    let rest : All (λ c. c < v) (q ∷ more) = All-tail (λ c. c < v) p (q ∷ more) hs in
-    let third : All (λ c. c < v) (q ∷ []) = All-cons (λ c. c < v) q [] (All-head (λ c. c < v) q more rest) (All-nil (λ c. c < v)) in
-    let second : All (λ c. c < v) (p ∷ q ∷ []) = All-cons (λ c. c < v) p (q ∷ []) (All-head (λ c. c < v) p (q ∷ more) hs) third in
-    All-cons (IsBelow v) (record { corners = first ∷ p ∷ q ∷ []; place = place }) (fan_round place first (q ∷ more))
-    (All-cons (λ c. c < v) first (p ∷ q ∷ []) h second) (fan_round_below v place first (q ∷ more) h rest)
-
-fan_below : (v place : ℕ) (corners : List ℕ) → All (λ c. c < v) corners → All (IsBelow v) (fan place corners)
-fan_below v place [] hs = All-nil (IsBelow v)
-fan_below v place (first ∷ others) hs = fan_round_below v place first others (All-head (λ c. c < v) first others hs) (All-tail (λ c. c < v) first others hs)
-
-face_below : (v line : ℕ) (corners : Result (List ℕ) Fault) → IfOk corners (All (λ c. c < v)) → IfOk (fan_or_fault line corners) (All (IsBelow v))
+face_below : (v line : ℕ) (corners : Result (List ℕ) Fault) → IfOk corners (All (λ c. c < v)) → IfOk (fan_or_fault line corners) (All (IsWithin v))
 face_below v line (Err fault) h = tt
 face_below v line (Ok corners) h =
-    elim (nat_lt (length corners) 3) as (λ few. IfOk (if few then Err (FewCorners line) else Ok (fan line corners)) (All (IsBelow v))) [
+    elim (nat_lt (length corners) 3) as (λ few. IfOk (if few then Err (FewCorners line) else Ok (fan line corners)) (All (IsWithin v))) [
       | true ↦ tt
-      | false ↦ fan_below v line corners h
+      | false ↦ fan_within v line corners h
     ]
 
 -- ---- rows
 -- more vertices don't harm
-below_more : (v w : ℕ) (facets : List Facet) → v ≤ w → All (IsBelow v) facets → All (IsBelow w) facets
+below_more : (v w : ℕ) (facets : List Facet) → v ≤ w → All (IsWithin v) facets → All (IsWithin w) facets
 below_more v w facets more h = λ k d l. λ i e m. omega (arith, h k d l i e m, more)
 
 point_sound : (content : Content) (p : Result Point Fault) → IsSound content → IfOk (with_point content p) IsSound
@@ -105,9 +82,9 @@ point_sound content (Ok p) h = below_more (length content.points) (length (conte
     (omega (arith, length-append content.points (p ∷ []))) h
 
 facets_sound : (content : Content) (facets : Result (List Facet) Fault) → IsSound content →
-    IfOk facets (All (IsBelow (length content.points))) → IfOk (with_facets content facets) IsSound
+    IfOk facets (All (IsWithin (length content.points))) → IfOk (with_facets content facets) IsSound
 facets_sound content (Err fault) h hs = tt
-facets_sound content (Ok facets) h hs = All-append (IsBelow (length content.points)) content.facets facets h hs
+facets_sound content (Ok facets) h hs = All-append (IsWithin (length content.points)) content.facets facets h hs
 
 keyword_sound : (line : ℕ) (content : Content) (keyword : Keyword) (words : List Piece) → IsSound content →
     IfOk (after_keyword line content keyword words) IsSound
@@ -127,31 +104,6 @@ rows_sound so_far [] h = h
 rows_sound (Err fault) (row ∷ rows) h = tt
 rows_sound (Ok content) (row ∷ rows) h = rows_sound (after_words row.line content row.words) rows (words_sound row.line content row.words h)
 
-content_sound : (rows : List Row) → IfOk (content_in rows) IsSound
-content_sound rows = rows_sound (Ok (record { points = []; facets = [] })) rows (All-nil (IsBelow 0))
-
--- ---- the file
-near_sound : (content : Content) (far : Option ℕ) → IsSound content → IfOk (near_or_fault content far) IsSound
-near_sound content None h = h
-near_sound content (Some place) h = tt
-
-triangles_sound : (content : Content) (facets : List Facet) → IsSound content → IfOk (with_triangles content facets) IsSound
-triangles_sound content [] h = tt
-triangles_sound content (f ∷ fs) h = near_sound content (first_far content) h
-
-mesh_sound : (r : Result Content Fault) → IfOk r IsSound → IfOk (as_mesh r) IsSound
-mesh_sound (Err fault) h = tt
-mesh_sound (Ok content) h = triangles_sound content content.facets h
-
-sound : (bytes : List ℕ) → IfOk (read_wavefront_of bytes) IsSound
-sound bytes = mesh_sound (content_in (rows_of bytes)) (content_sound (rows_of bytes))
-
-surface_of : (bytes : List ℕ) (s : Surface) → read_wavefront_of bytes ≡ Ok (content_of s) → IsSurface s
-surface_of bytes s e =
-    let h : IsSound (content_of s) = subst (λ (r : Result Content Fault). IfOk r IsSound) e (sound bytes) in
-    subst (λ n. All (IsBelow n) s.facets.items) (length-map s.vertices.items point_of) h
-
--- what is read is a surface
-pub reads_surface : (bytes : List ℕ) (r : Result Surface WavefrontFault) → IfOk r (λ s. read_wavefront_of bytes ≡ Ok (content_of s)) → IfOk r IsSurface
-reads_surface bytes (Err fault) h = tt
-reads_surface bytes (Ok s) h = surface_of bytes s h
+-- each corner of what is read is a vertex
+pub content_sound : (rows : List Row) → IfOk (content_in rows) IsSound
+content_sound rows = rows_sound (Ok (record { points = []; facets = [] })) rows (All-nil (IsWithin 0))

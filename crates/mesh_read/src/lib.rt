@@ -13,5 +13,5 @@ pub use scan::{
     without_comment,
 };
 pub use stl::{StlFault, begins_with_word, is_ascii_stl, is_binary_stl, read_stl};
-pub use surface::{Facet, Surface, Vertex, first_too_large, push_fan};
+pub use surface::{Facet, Flaw, Surface, Vertex, as_mesh, push_fan};
 pub use wavefront::{WavefrontFault, read_wavefront};

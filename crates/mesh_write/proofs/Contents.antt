@@ -1,11 +1,13 @@
 -- What is read of a mesh, whatever its format
-use Rattle.std.proofs.Common.{◌≡◌, ℕ, zero, suc, ◌+◌, Bool, true, false, ◌&&◌, ◌||◌, not, List, [], ◌∷◌, map, Option, None, refl, ap, ap₂, ◌∙◌}
+use Rattle.std.proofs.Common.{◌≡◌, ℕ, zero, suc, ◌+◌, ◌<◌, Bool, true, false, ◌&&◌, ◌||◌, not, List, [], ◌∷◌, length, map, Option, None, Ok, refl, ap, ap₂, ◌∙◌, arith}
 use Rattle.std.specs.Prelude.{All, slice_get}
 use Rattle.std.specs.List.{AllZip, list_any, find}
 use Rattle.std.specs.Option.{option_map}
 use Rattle.std.proofs.lemmas.List.Elements.{All-head, All-tail}
 use Rattle.std.proofs.lemmas.Option.{slice_get-map}
 use Rattle.mesh_read.specs.declared.surface.surface.Facet.{Facet}
+use Rattle.mesh_read.specs.declared.surface.flaw.Flaw.{Flaw}
+use Rattle.mesh_read.specs.Surface.Flaws.{flaw_at, unless_flaw, as_mesh}
 use Rattle.mesh_read.specs.Surface.Surfaces.{Point, Content, is_point_below, is_far_point, is_far, first_far}
 use Rattle.mesh_write.specs.declared.vertices.point.DecimalPoint.{DecimalPoint}
 use Rattle.mesh_write.specs.declared.vertices.point.IndexedTriangle.{IndexedTriangle}
@@ -73,3 +75,11 @@ pub content_near : (n places : ℕ) (ps : List DecimalPoint) (ts : List IndexedT
     first_far (content_from n places ps ts) ≡ None
 content_near n places ps ts h =
     ap (λ (o : Option Facet). option_map (λ f. f.place) o) (none_far (map (read_point places) ps) (corner_near places ps h) (facets_from n ts))
+
+-- triangles that a file may hold are a mesh
+pub mesh_ok : {F : Type 0} (fault : Flaw → F) (n places : ℕ) (ps : List DecimalPoint) (ts : List IndexedTriangle) →
+    0 < length ts → All (IsPointBelow places) ps →
+    as_mesh fault (Ok (content_from n places ps ts)) ≡ Ok (content_from n places ps ts)
+mesh_ok fault n places ps [] some h = absurd (omega (arith, some))
+mesh_ok fault n places ps (t ∷ ts) some h =
+    ap (λ far. unless_flaw fault (content_from n places ps (t ∷ ts)) (flaw_at far)) (content_near n places ps (t ∷ ts) h)

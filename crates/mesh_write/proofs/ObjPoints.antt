@@ -7,10 +7,10 @@ use Rattle.mesh_write.specs.Text.Texts.{obj_vertex}
 use Rattle.mesh_number.specs.Number.Fractions.{Fraction}
 use Rattle.mesh_number.specs.Number.Texts.{value_of_text}
 use Rattle.mesh_read.specs.Scan.Parts.{Piece, lines_from}
-use Rattle.mesh_read.specs.Surface.Surfaces.{Point, Content}
+use Rattle.mesh_read.specs.Surface.Surfaces.{Point, Content, point_of_three}
 use Rattle.mesh_write.specs.declared.vertices.point.DecimalPoint.{DecimalPoint}
 use Rattle.mesh_read.specs.Wavefront.Faults.{Fault}
-use Rattle.mesh_read.specs.Wavefront.ReadWavefront.{coordinate_or_fault, coordinate_in, point_of_three, point_in}
+use Rattle.mesh_read.specs.Wavefront.ReadWavefront.{coordinate_or_fault, coordinate_in, point_in}
 use Rattle.mesh_read.specs.Wavefront.ReadWavefront.{keyword_of, with_point, after_keyword, after_words, after_rows}
 use Rattle.mesh_read.specs.Wavefront.Rows.{Row, rows_from}
 use Rattle.mesh_write.specs.Reading.Readings.{IsPointBelow}

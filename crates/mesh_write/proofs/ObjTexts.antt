@@ -4,21 +4,18 @@ use Rattle.std.specs.Prelude.{All, flat_map}
 use Rattle.std.proofs.lemmas.List.{length-map}
 use Rattle.mesh_write.specs.Text.Texts.{obj_face, obj_lines, obj_text}
 use Rattle.mesh_read.specs.Scan.Parts.{lines_from}
+use Rattle.mesh_read.specs.Surface.Flaws.{as_mesh}
 use Rattle.mesh_read.specs.Surface.Surfaces.{Content}
 use Rattle.mesh_write.specs.declared.vertices.point.DecimalPoint.{DecimalPoint}
 use Rattle.mesh_write.specs.declared.vertices.point.IndexedTriangle.{IndexedTriangle}
-use Rattle.mesh_read.specs.Wavefront.ReadWavefront.{after_rows, content_in, near_or_fault, as_mesh, read_wavefront_of}
+use Rattle.mesh_read.specs.Wavefront.ReadWavefront.{after_rows, content_in, read_wavefront_of}
+use Rattle.mesh_read.specs.Wavefront.Faults.{of_flaw}
 use Rattle.mesh_read.specs.Wavefront.Rows.{rows_from, rows_of}
 use Rattle.mesh_write.specs.Reading.Readings.{IsPointBelow, IsWithin, AreReadable, IsReadAs}
-use Rattle.mesh_write.proofs.Contents.{read_point, content_from, content_is_read, content_near}
+use Rattle.mesh_write.proofs.Contents.{read_point, content_from, content_is_read, mesh_ok}
 use Rattle.mesh_write.proofs.ObjRows.{comment_row}
 use Rattle.mesh_write.proofs.ObjPoints.{vertices}
 use Rattle.mesh_write.proofs.ObjFacets.{faces}
-
-mesh_ok : (n places : ℕ) (ps : List DecimalPoint) (ts : List IndexedTriangle) → 0 < length ts →
-    All (IsPointBelow places) ps → as_mesh (Ok (content_from n places ps ts)) ≡ Ok (content_from n places ps ts)
-mesh_ok n places ps [] some h = absurd (omega (arith, some))
-mesh_ok n places ps (t ∷ ts) some h = ap (near_or_fault (content_from n places ps (t ∷ ts))) (content_near n places ps (t ∷ ts) h)
 
 abbrev nothing : Content
 nothing = record { points = []; facets = [] }
@@ -42,7 +39,7 @@ pub obj_is_read : (places : ℕ) (ps : List DecimalPoint) (ts : List IndexedTria
     → (content : Content) × (read_wavefront_of (obj_text places ps ts) ≡ Ok content) × IsReadAs places ps ts content
 obj_is_read places ps ts h = (
   content_from (2 + length ps) places ps ts,
-  ap as_mesh (obj_content places ps ts h)
-      ∙ mesh_ok (2 + length ps) places ps ts h.triangles h.below,
+  ap (as_mesh of_flaw) (obj_content places ps ts h)
+      ∙ mesh_ok of_flaw (2 + length ps) places ps ts h.triangles h.below,
   content_is_read (2 + length ps) places ps ts h.below,
 )

@@ -5,7 +5,8 @@ use Rattle.std.proofs.lemmas.List.Elements.{All-head, All-tail}
 use Rattle.mesh_write.specs.Text.Lines.{coordinate_text, point_line}
 use Rattle.mesh_number.specs.Number.Fractions.{Fraction}
 use Rattle.mesh_number.specs.Number.Texts.{value_of_text}
-use Rattle.mesh_read.specs.Off.ReadOff.{coordinate_or_fault, coordinate_in, point_of_three, point_of_words, point_in, points_of, one, joined as joined_points}
+use Rattle.mesh_read.specs.Surface.Surfaces.{point_of_three}
+use Rattle.mesh_read.specs.Off.ReadOff.{coordinate_or_fault, coordinate_in, point_of_words, point_in, points_of, one, joined as joined_points}
 use Rattle.mesh_read.specs.Off.Rows.{Words, rows_from}
 use Rattle.mesh_read.specs.Scan.Parts.{Piece, lines_from, first_three}
 use Rattle.mesh_write.specs.declared.vertices.point.DecimalPoint.{DecimalPoint}

@@ -10,16 +10,17 @@ use Rattle.mesh_write.specs.Text.Texts.{off_header, off_text}
 use Rattle.mesh_number.specs.Number.Naturals.{number_of}
 use Rattle.mesh_read.specs.declared.off.fault.OffFault.TheVariants.{NoOff, FewLines}
 use Rattle.mesh_read.specs.Off.ReadOff.{Counts, points_of, facets_of, two_counts, counts_of, whole, counted, behind_keyword}
-use Rattle.mesh_read.specs.Off.ReadOff.{is_keyword, with_keyword, content_in, near_or_fault, as_mesh, read_off_of}
+use Rattle.mesh_read.specs.Off.ReadOff.{is_keyword, with_keyword, content_in, of_flaw, read_off_of}
 use Rattle.mesh_read.specs.Off.Rows.{Words, rows_from, rows_of}
 use Rattle.mesh_read.specs.Scan.Parts.{Piece, lines_from}
 use Rattle.mesh_read.specs.declared.surface.surface.Facet.{Facet}
+use Rattle.mesh_read.specs.Surface.Flaws.{as_mesh}
 use Rattle.mesh_read.specs.Surface.Surfaces.{Point, Content}
 use Rattle.mesh_write.specs.declared.vertices.point.DecimalPoint.{DecimalPoint}
 use Rattle.mesh_write.specs.declared.vertices.point.IndexedTriangle.{IndexedTriangle}
 use Rattle.mesh_write.specs.Reading.Readings.{IsPointBelow, AreReadable, IsReadAs}
 use Rattle.mesh_write.proofs.Digits.{number_of_decimal}
-use Rattle.mesh_write.proofs.Contents.{content_from, content_is_read, content_near}
+use Rattle.mesh_write.proofs.Contents.{content_from, content_is_read, mesh_ok}
 use Rattle.mesh_write.proofs.Lines.{IsWord, literal_word, two_words, spaced, texts, joined_words}
 use Rattle.mesh_write.proofs.WordTexts.{number_word}
 use Rattle.mesh_write.proofs.OffRows.{row_at, row_of_words}
@@ -101,11 +102,6 @@ counted_rows v f vs fs points facets a b p q =
     ∙ ap₂ whole (ap points_of front ∙ p) (ap (facets_of v) back ∙ q)
 
 -- ---- the mesh
-mesh_ok : (n places : ℕ) (ps : List DecimalPoint) (ts : List IndexedTriangle) → 0 < length ts →
-    All (IsPointBelow places) ps → as_mesh (Ok (content_from n places ps ts)) ≡ Ok (content_from n places ps ts)
-mesh_ok n places ps [] some h = absurd (omega (arith, some))
-mesh_ok n places ps (t ∷ ts) some h = ap (near_or_fault (content_from n places ps (t ∷ ts))) (content_near n places ps (t ∷ ts) h)
-
 off_content : (places : ℕ) (ps : List DecimalPoint) (ts : List IndexedTriangle) → AreReadable places ps ts →
     content_in (rows_of (off_text places ps ts)) ≡ Ok (content_from (3 + length ps) places ps ts)
 off_content places ps ts h =
@@ -127,7 +123,7 @@ pub off_is_read : (places : ℕ) (ps : List DecimalPoint) (ts : List IndexedTria
     → (content : Content) × (read_off_of (off_text places ps ts) ≡ Ok content) × IsReadAs places ps ts content
 off_is_read places ps ts h = (
   content_from (3 + length ps) places ps ts,
-  ap as_mesh (off_content places ps ts h)
-      ∙ mesh_ok (3 + length ps) places ps ts h.triangles h.below,
+  ap (as_mesh of_flaw) (off_content places ps ts h)
+      ∙ mesh_ok of_flaw (3 + length ps) places ps ts h.triangles h.below,
   content_is_read (3 + length ps) places ps ts h.below,
 )

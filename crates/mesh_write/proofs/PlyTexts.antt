@@ -9,14 +9,15 @@ use Rattle.mesh_number.specs.Number.Naturals.{number_of}
 use Rattle.mesh_ply.specs.declared.fault.PlyFault.{PlyFault}
 use Rattle.mesh_ply.specs.Cursors.{Cursor, Words, rows_of}
 use Rattle.mesh_ply.specs.Header.{Header, counted, entry_behind, entry_of, behind_entry, header_from, with_body, header_of_file}
-use Rattle.mesh_ply.specs.ReadPly.{elements_from, no_content, content_in, content_of_file, near_or_fault, as_mesh, read_ply_of}
+use Rattle.mesh_ply.specs.ReadPly.{elements_from, no_content, content_in, content_of_file, of_flaw, read_ply_of}
 use Rattle.mesh_ply.specs.Rows.{and_then}
 use Rattle.mesh_read.specs.Scan.Parts.{Piece, span_of, words_from, lines_from, after_lines}
+use Rattle.mesh_read.specs.Surface.Flaws.{as_mesh}
 use Rattle.mesh_read.specs.Surface.Surfaces.{Content}
 use Rattle.mesh_write.specs.declared.vertices.point.DecimalPoint.{DecimalPoint}
 use Rattle.mesh_write.specs.declared.vertices.point.IndexedTriangle.{IndexedTriangle}
 use Rattle.mesh_write.specs.Reading.Readings.{IsPointBelow, IsWithin, AreReadable, IsReadAs}
-use Rattle.mesh_write.proofs.Contents.{read_point, content_from, content_is_read, content_near}
+use Rattle.mesh_write.proofs.Contents.{read_point, content_from, content_is_read, mesh_ok}
 use Rattle.mesh_write.proofs.Digits.{number_of_decimal}
 use Rattle.mesh_write.proofs.Lines.{IsWord, literal_word, two_words, spaced, joined, piece, texts, joined_words, line_of_words, line_passed}
 use Rattle.mesh_write.proofs.PlyHeaders.{with_element, with_axes, with_corners, behind_element, format_declared, format_lines, axis_lines, last_lines}
@@ -180,16 +181,11 @@ ply_content places ps ts h few small =
     ∙ ap (all_rows header.a v header.b f) front.is
     ∙ triangles_read header.a header.b front.next places ps ts h small
 
-mesh_ok : (n places : ℕ) (ps : List DecimalPoint) (ts : List IndexedTriangle) → 0 < length ts →
-    All (IsPointBelow places) ps → as_mesh (Ok (content_from n places ps ts)) ≡ Ok (content_from n places ps ts)
-mesh_ok n places ps [] some h = absurd (omega (arith, some))
-mesh_ok n places ps (t ∷ ts) some h = ap (near_or_fault (content_from n places ps (t ∷ ts))) (content_near n places ps (t ∷ ts) h)
-
 pub ply_is_read : (places : ℕ) (ps : List DecimalPoint) (ts : List IndexedTriangle) → AreReadable places ps ts → length ps ≤ 10 ^ 15 → length ts ≤ 10 ^ 15
     → (content : Content) × (read_ply_of (ply_text places ps ts) ≡ Ok content) × IsReadAs places ps ts content
 ply_is_read places ps ts h few small = (
   content_from 1 places ps ts,
-  ap as_mesh (ply_content places ps ts h few small)
-      ∙ mesh_ok 1 places ps ts h.triangles h.below,
+  ap (as_mesh of_flaw) (ply_content places ps ts h few small)
+      ∙ mesh_ok of_flaw 1 places ps ts h.triangles h.below,
   content_is_read 1 places ps ts h.below,
 )

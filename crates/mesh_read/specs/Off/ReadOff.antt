@@ -7,7 +7,10 @@ use Rattle.mesh_number.specs.Number.Naturals.{number_of, below}
 use Rattle.mesh_number.specs.Number.Texts.{value_of_text}
 use Rattle.mesh_read.specs.Scan.Parts.{Piece, span_of, first_three}
 use Rattle.mesh_read.specs.declared.surface.surface.Facet.{Facet}
-use Rattle.mesh_read.specs.Surface.Surfaces.{Point, Content, fan, first_far}
+use Rattle.mesh_read.specs.declared.surface.flaw.Flaw.{Flaw}
+use Rattle.mesh_read.specs.declared.surface.flaw.Flaw.TheVariants as flaw
+use Rattle.mesh_read.specs.Surface.Surfaces.{Point, Content, point_of_three, fan}
+use Rattle.mesh_read.specs.Surface.Flaws.{as_mesh}
 use Rattle.mesh_read.specs.declared.off.fault.OffFault.{OffFault}
 use Rattle.mesh_read.specs.declared.off.fault.OffFault.TheVariants.{NoOff, NoCounts, FewLines}
 use Rattle.mesh_read.specs.declared.off.fault.OffFault.TheVariants.{FewCoordinates, NotANumber, Face}
@@ -34,14 +37,6 @@ coordinate_or_fault line word (Some v) = Ok v
 -- the value of a word, or its fault
 abbrev pub coordinate_in : ℕ → Piece → Result Fraction OffFault
 coordinate_in line word = coordinate_or_fault line word (value_of_text word.text)
-
--- the point with three coordinates, or the fault of the first that has one
-abbrev pub point_of_three :
-    Result Fraction OffFault → Result Fraction OffFault → Result Fraction OffFault → Result Point OffFault
-point_of_three (Err fault) y z = Err fault
-point_of_three (Ok x) (Err fault) z = Err fault
-point_of_three (Ok x) (Ok y) (Err fault) = Err fault
-point_of_three (Ok x) (Ok y) (Ok z) = Ok (record { x = x; y = y; z = z })
 
 abbrev pub point_of_words : ℕ → Option (Piece × Piece × Piece) → Result Point OffFault
 point_of_words line None = Err (FewCoordinates line)
@@ -148,21 +143,10 @@ content_in [] = Err NoOff
 content_in (row ∷ rows) = with_keyword row.words rows
 
 -- ---- what no mesh has
--- the content, unless a triangle is too far out
-abbrev pub near_or_fault : Content → Option ℕ → Result Content OffFault
-near_or_fault content None = Ok content
-near_or_fault content (Some place) = Err (TooLarge place)
-
--- the content, if it has triangles and none is too far out
-abbrev pub with_triangles : Content → List Facet → Result Content OffFault
-with_triangles content [] = Err NoTriangles
-with_triangles content (f ∷ fs) = near_or_fault content (first_far content)
-
--- the content, if it is a mesh
-abbrev pub as_mesh : Result Content OffFault → Result Content OffFault
-as_mesh (Err fault) = Err fault
-as_mesh (Ok content) = with_triangles content content.facets
+abbrev pub of_flaw : Flaw → OffFault
+of_flaw flaw.NoTriangles = NoTriangles
+of_flaw (flaw.TooLarge line) = TooLarge line
 
 -- what a file says, or its first fault
 abbrev pub read_off_of : List ℕ → Result Content OffFault
-read_off_of bytes = as_mesh (content_in (rows_of bytes))
+read_off_of bytes = as_mesh of_flaw (content_in (rows_of bytes))

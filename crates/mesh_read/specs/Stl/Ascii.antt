@@ -6,7 +6,7 @@ use Rattle.std.specs.Str.{str_eq_ignore_ascii_case}
 use Rattle.mesh_number.specs.Number.Fractions.{Fraction}
 use Rattle.mesh_number.specs.Number.Texts.{value_of_text}
 use Rattle.mesh_read.specs.Scan.Parts.{Piece, span_of, lines_from, is_space, words_by, first_three}
-use Rattle.mesh_read.specs.Surface.Surfaces.{Point, Content, point_of, content_of}
+use Rattle.mesh_read.specs.Surface.Surfaces.{Point, Content, point_of, content_of, point_of_three}
 use Rattle.mesh_read.specs.declared.stl.fault.StlFault.{StlFault}
 use Rattle.mesh_read.specs.declared.stl.fault.StlFault.TheVariants.{VertexOutside, NotThreeVertices}
 use Rattle.mesh_read.specs.declared.stl.fault.StlFault.TheVariants.{EndsInFacet, UnknownWord, NotANumber}
@@ -41,14 +41,6 @@ value_or_fault line word (Some value) = Ok value
 -- the value of a word, or its fault
 abbrev pub coordinate_of : ℕ → Piece → Result Fraction StlFault
 coordinate_of line word = value_or_fault line word (value_of_text word.text)
-
--- the point of three coordinates, or the fault of the first that has one
-abbrev pub point_of_three :
-    Result Fraction StlFault → Result Fraction StlFault → Result Fraction StlFault → Result Point StlFault
-point_of_three (Ok x) (Ok y) (Ok z) = Ok (record { x = x; y = y; z = z })
-point_of_three (Ok x) (Ok y) (Err fault) = Err fault
-point_of_three (Ok x) (Err fault) z = Err fault
-point_of_three (Err fault) y z = Err fault
 
 -- the point of three words, if there are that many
 abbrev pub vertex_in : ℕ → Option (Piece × Piece × Piece) → Result Point StlFault

@@ -1,13 +1,14 @@
 -- What the bytes of an STL file mean: its triangles, or its first fault.
-use Rattle.std.specs.Prelude.{ℕ, ◌+◌, ◌*◌, Bool, true, false, ◌&&◌, ◌||◌, List, [], ◌∷◌, Option, None}
-use Rattle.std.specs.Prelude.{Some, Result, Ok, Err, if◌then◌else◌, ◌==◌, nat_le, length, take, codes}
+use Rattle.std.specs.Prelude.{ℕ, ◌+◌, ◌*◌, Bool, true, false, ◌&&◌, ◌||◌, List, [], ◌∷◌}
+use Rattle.std.specs.Prelude.{Result, Ok, Err, if◌then◌else◌, ◌==◌, nat_le, length, take, codes}
 use Rattle.std.specs.Str.{str_eq_ignore_ascii_case}
-use Rattle.mesh_read.specs.declared.surface.surface.Facet.{Facet}
+use Rattle.mesh_read.specs.declared.surface.flaw.Flaw.{Flaw}
+use Rattle.mesh_read.specs.declared.surface.flaw.Flaw.TheVariants as flaw
 use Rattle.mesh_read.specs.Scan.Parts.{Piece, is_space, words_by}
 use Rattle.mesh_read.specs.Surface.Surfaces.{Content}
+use Rattle.mesh_read.specs.Surface.Flaws.{as_mesh}
 use Rattle.mesh_read.specs.declared.stl.fault.StlFault.{StlFault}
 use Rattle.mesh_read.specs.declared.stl.fault.StlFault.TheVariants.{CutOff, NoTriangles, LargeInFacet, LargeInLine}
-use Rattle.mesh_read.specs.Stl.Facets.{first_far}
 use Rattle.mesh_read.specs.Stl.Ascii.{ascii_of}
 use Rattle.mesh_read.specs.Stl.Binary.{number_at, binary_of}
 
@@ -40,16 +41,13 @@ abbrev pub large_in : Bool → ℕ → StlFault
 large_in true facet = LargeInFacet facet
 large_in false line = LargeInLine line
 
--- the content, unless a triangle is too far out
-abbrev pub unless_far : Bool → Content → Option Facet → Result Content StlFault
-unless_far binary content None = Ok content
-unless_far binary content (Some f) = Err (large_in binary f.place)
+abbrev pub of_flaw : Bool → Flaw → StlFault
+of_flaw binary flaw.NoTriangles = NoTriangles
+of_flaw binary (flaw.TooLarge place) = large_in binary place
 
 -- there are triangles, and all their coordinates are below 10^15 in size
 abbrev pub checked : Bool → Result Content StlFault → Result Content StlFault
-checked binary (Err fault) = Err fault
-checked binary (Ok content) =
-    if length content.facets == 0 then Err NoTriangles else unless_far binary content (first_far content)
+checked binary = as_mesh (of_flaw binary)
 
 -- the triangles of a file, or its first fault
 abbrev pub read_stl_of : List ℕ → Result Content StlFault

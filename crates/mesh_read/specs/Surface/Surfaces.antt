@@ -1,6 +1,6 @@
 -- What a mesh file holds: points in their order, and triangles over them with their places
 use Rattle.std.specs.Prelude.{ℕ, ◌<◌, Bool, false, ◌&&◌, not, List, [], ◌∷◌, length, map, All, Option}
-use Rattle.std.specs.Prelude.{Some, None, slice_get}
+use Rattle.std.specs.Prelude.{Some, None, Result, Ok, Err, slice_get}
 use Rattle.std.specs.List.{list_any, find}
 use Rattle.std.specs.Option.{option_map}
 use Rattle.mesh_number.specs.Number.Fractions.{Fraction, is_below_limit}
@@ -18,6 +18,13 @@ pub record Point : Type 0 where
 -- a vertex as the point of its exact coordinates
 abbrev pub point_of : Vertex → Point
 point_of v = record { x = value_of v.x; y = value_of v.y; z = value_of v.z }
+
+-- the point with three coordinates, or the fault of the first that has one
+abbrev pub point_of_three : {F : Type 0} → Result Fraction F → Result Fraction F → Result Fraction F → Result Point F
+point_of_three (Err fault) y z = Err fault
+point_of_three (Ok x) (Err fault) z = Err fault
+point_of_three (Ok x) (Ok y) (Err fault) = Err fault
+point_of_three (Ok x) (Ok y) (Ok z) = Ok (record { x = x; y = y; z = z })
 
 -- what a file says: its points and its triangles
 pub record Content : Type 0 where

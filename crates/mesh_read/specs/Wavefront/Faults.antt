@@ -1,5 +1,7 @@
 -- The first fault of a file, with the text of a bad word
 use Rattle.std.specs.Prelude.{ℕ, List}
+use Rattle.mesh_read.specs.declared.surface.flaw.Flaw.{Flaw}
+use Rattle.mesh_read.specs.declared.surface.flaw.Flaw.TheVariants as flaw
 use Rattle.mesh_read.specs.declared.wavefront.fault.WavefrontFault.{WavefrontFault}
 use Rattle.mesh_read.specs.declared.wavefront.fault.WavefrontFault.TheVariants as error
 
@@ -22,3 +24,8 @@ fault_of (error.FewCorners line) = FewCorners line
 fault_of error.NoTriangles = NoTriangles
 fault_of (error.TooLarge line) = TooLarge line
 fault_of error.OutOfMemory = OutOfMemory
+
+-- the fault of a file that is no mesh
+abbrev pub of_flaw : Flaw → Fault
+of_flaw flaw.NoTriangles = NoTriangles
+of_flaw (flaw.TooLarge line) = TooLarge line

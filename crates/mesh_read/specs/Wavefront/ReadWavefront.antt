@@ -7,11 +7,12 @@ use Rattle.mesh_number.specs.Number.Texts.{value_of_text}
 use Rattle.ember_obj.specs.References.{is_slash, is_number, size_digits}
 use Rattle.mesh_read.specs.Scan.Parts.{Piece, before, first_three}
 use Rattle.mesh_read.specs.declared.surface.surface.Facet.{Facet}
-use Rattle.mesh_read.specs.Surface.Surfaces.{Point, Content, fan, first_far}
+use Rattle.mesh_read.specs.Surface.Surfaces.{Point, Content, point_of_three, fan}
+use Rattle.mesh_read.specs.Surface.Flaws.{as_mesh}
 use Rattle.mesh_read.specs.declared.wavefront.reading.Keyword.{Keyword}
 use Rattle.mesh_read.specs.declared.wavefront.reading.Keyword.TheVariants.{Vertex, Face, Other}
 use Rattle.mesh_read.specs.Wavefront.Faults.{Fault, FewCoordinates, NotANumber, UnknownVertex, FewCorners}
-use Rattle.mesh_read.specs.Wavefront.Faults.{NoTriangles, TooLarge}
+use Rattle.mesh_read.specs.Wavefront.Faults.{of_flaw}
 use Rattle.mesh_read.specs.Wavefront.Rows.{Row, rows_of}
 
 -- ---- vertices
@@ -22,13 +23,6 @@ coordinate_or_fault line word (Some v) = Ok v
 -- a coordinate in a line
 abbrev pub coordinate_in : ℕ → Piece → Result Fraction Fault
 coordinate_in line word = coordinate_or_fault line word (value_of_text word.text)
-
--- the point with three coordinates, or the fault of the first that has one
-abbrev pub point_of_three : Result Fraction Fault → Result Fraction Fault → Result Fraction Fault → Result Point Fault
-point_of_three (Err fault) y z = Err fault
-point_of_three (Ok x) (Err fault) z = Err fault
-point_of_three (Ok x) (Ok y) (Err fault) = Err fault
-point_of_three (Ok x) (Ok y) (Ok z) = Ok (record { x = x; y = y; z = z })
 
 abbrev pub point_of_words : ℕ → Option (Piece × Piece × Piece) → Result Point Fault
 point_of_words line None = Err (FewCoordinates line)
@@ -125,22 +119,6 @@ after_rows (Ok content) (row ∷ rows) = after_rows (after_words row.line conten
 abbrev pub content_in : List Row → Result Content Fault
 content_in rows = after_rows (Ok (record { points = []; facets = [] })) rows
 
--- ---- what no mesh has
--- the content, unless a triangle is too far out
-abbrev pub near_or_fault : Content → Option ℕ → Result Content Fault
-near_or_fault content None = Ok content
-near_or_fault content (Some place) = Err (TooLarge place)
-
--- the content, if it has triangles and none is too far out
-abbrev pub with_triangles : Content → List Facet → Result Content Fault
-with_triangles content [] = Err NoTriangles
-with_triangles content (f ∷ fs) = near_or_fault content (first_far content)
-
--- the content, if it is a mesh
-abbrev pub as_mesh : Result Content Fault → Result Content Fault
-as_mesh (Err fault) = Err fault
-as_mesh (Ok content) = with_triangles content content.facets
-
 -- what a file says, or its first fault
 abbrev pub read_wavefront_of : List ℕ → Result Content Fault
-read_wavefront_of bytes = as_mesh (content_in (rows_of bytes))
+read_wavefront_of bytes = as_mesh of_flaw (content_in (rows_of bytes))

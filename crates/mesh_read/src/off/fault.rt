@@ -1,5 +1,9 @@
 // What makes a file no mesh.
+ghost use Rattle.std.specs.Prelude.{◌≡◌};
+ghost use Rattle.mesh_read.specs.Off.ReadOff.{of_flaw};
+
 use crate::scan::Span;
+use crate::surface::Flaw;
 use thiserror::Error;
 
 /// The first fault of a file, or out-of-memory. Lines are counted from 1.
@@ -33,4 +37,15 @@ pub enum OffFault {
     TooLarge(u32),
     #[error("out of memory")]
     OutOfMemory,
+}
+
+impl From<Flaw> for OffFault {
+    ghost from_gives = { λ flaw e. e ≡ of_flaw flaw };
+
+    fn from(flaw: Flaw) -> OffFault {
+        match flaw {
+            Flaw::NoTriangles => OffFault::NoTriangles,
+            Flaw::TooLarge(line) => OffFault::TooLarge(line),
+        }
+    }
 }

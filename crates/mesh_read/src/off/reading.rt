@@ -3,7 +3,7 @@ ghost use Rattle.std.specs.Prelude.{◌≡◌, ◌⊎◌, ◌+◌, ◌<◌, ◌�
 ghost use Rattle.mesh_read.specs.Scan.Parts.{piece_of, words_in};
 ghost use Rattle.mesh_read.specs.Surface.Surfaces.{IsSurface, content_of};
 ghost use Rattle.mesh_read.specs.Off.RowViews.{rows_in};
-ghost use Rattle.mesh_read.specs.Off.ReadOff.{points_of, facets_of, whole, counts_of, counted, behind_keyword, is_keyword, content_in, as_mesh, read_off_of};
+ghost use Rattle.mesh_read.specs.Off.ReadOff.{points_of, facets_of, whole, counts_of, counted, behind_keyword, is_keyword, content_in, read_off_of};
 
 use crate::off::counts::counts_in;
 use crate::off::faces::read_faces;
@@ -12,7 +12,7 @@ use crate::off::row::Rows;
 use crate::off::rows::{are_rows, next_row};
 use crate::off::vertices::read_vertices;
 use crate::scan::{Part, next_word};
-use crate::surface::{Surface, first_too_large};
+use crate::surface::{Surface, as_mesh};
 use std::alloc::Global;
 
 // The vertices and faces of these rows.
@@ -101,23 +101,8 @@ fn read_rows<'a>(alloc: Global, rows: Rows<'a>) -> Result<Surface<'a>, OffFault>
     read_behind(alloc, row.others, rest)
 }
 
-// The surface, if it is a mesh.
-#[tactic(none)]
-fn checked<'a>(surface: Surface<'a>) -> Result<Surface<'a>, OffFault>
-    ensures ok { IfOk result (λ s. as_mesh (Ok (content_of surface.entry)) ≡ Ok (content_of s)) }
-    ensures fault { IfErr result (λ e. as_mesh (Ok (content_of surface.entry)) ≡ Err e) }
-{
-    if surface.facets.is_empty() {
-        return Err(OffFault::NoTriangles);
-    }
-    match first_too_large(&surface) {
-        Some(place) => Err(OffFault::TooLarge(place)),
-        None => Ok(surface),
-    }
-}
-
 // The surface of a file, if it is a mesh.
-#[tactic(none)]
+#[tactic(auto, using(crate::proofs::Flaws::mesh_found, crate::proofs::Flaws::mesh_refused))]
 fn read_mesh<'a>(alloc: Global, bytes: &'a [u8]) -> Result<Surface<'a>, OffFault>
     requires { length bytes.now ≤ 268435456 }
     ensures ok { IfOk result (λ s. read_off_of bytes.now ≡ Ok (content_of s)) }
@@ -125,7 +110,7 @@ fn read_mesh<'a>(alloc: Global, bytes: &'a [u8]) -> Result<Surface<'a>, OffFault
 {
     let rest = Part { start: 0, bytes };
     let surface = read_rows(alloc, Rows { number: 1, rest })?;
-    checked(surface)
+    Ok(as_mesh(surface)?)
 }
 
 /// The vertices and triangles of an OFF file, or its first fault.

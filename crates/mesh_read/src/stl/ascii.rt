@@ -67,7 +67,8 @@ impl<'a> Reader<'a> {
     fn add_vertex(&mut self, line: u32, words: Part<'a>) -> Result<(), StlFault>
         ensures ok { OnOk result (with_vertex line (words_between Any words.entry) (state_of self.old) ≡
             Ok (state_of self.new)) }
-        ensures fault { IfErr result (IsErrorOf (with_vertex line (words_between Any words.entry) (state_of self.old))) }
+        ensures fault { IfErr result
+            (IsErrorOf (with_vertex line (words_between Any words.entry) (state_of self.old))) }
         ensures surface { self.new.surface ≡ self.old.surface }
         ensures count { OnOk result (length self.new.corners.items ≡ length self.old.corners.items + 1) }
     {
@@ -109,7 +110,8 @@ impl<'a> Reader<'a> {
     fn add_line(&mut self, line: u32, text: Part<'a>) -> Result<(), StlFault>
         requires few { vertex_count self.old + 4 < 2 ^ 32 }
         requires surface { IsSurface self.old.surface }
-        ensures ok { OnOk result (after_words line (state_of self.old) (words_between Any text.entry) ≡ Ok (state_of self.new)) }
+        ensures ok { OnOk result
+            (after_words line (state_of self.old) (words_between Any text.entry) ≡ Ok (state_of self.new)) }
         ensures fault { IfErr result (IsErrorOf (after_words line (state_of self.old) (words_between Any text.entry))) }
         ensures surface { OnOk result (IsSurface self.new.surface) }
         ensures count { OnOk result (vertex_count self.new ≤ vertex_count self.old + 1) }

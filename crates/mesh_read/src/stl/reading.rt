@@ -8,24 +8,29 @@ use crate::stl::ascii::read_ascii;
 use crate::stl::binary::read_binary;
 use crate::stl::fault::StlFault;
 use crate::stl::kind::{count_facets, is_ascii_stl, is_binary_stl};
-use crate::surface::{Surface, first_too_large};
+use crate::surface::{Flaw, Surface, as_mesh};
 use std::alloc::Global;
 
-// The same surface, if it has triangles and none is too far out.
-#[tactic(none)]
+fn fault_of(flaw: Flaw, binary: bool) -> StlFault
+    ensures { result ≡ spec.of_flaw binary flaw }
+{
+    match flaw {
+        Flaw::NoTriangles => StlFault::NoTriangles,
+        Flaw::TooLarge(place) if binary => StlFault::LargeInFacet(place),
+        Flaw::TooLarge(place) => StlFault::LargeInLine(place),
+    }
+}
+
+// The same surface, if it is a mesh.
 fn checked<'a>(surface: Surface<'a>, binary: bool) -> Result<Surface<'a>, StlFault>
     requires { IsSurface surface }
     ensures ok { IfOk result (λ s. spec.checked binary (Ok (content_of surface.entry)) ≡ Ok (content_of s)) }
     ensures fault { IfErr result (λ e. spec.checked binary (Ok (content_of surface.entry)) ≡ Err e) }
     ensures surface { IfOk result (λ s. IsSurface s) }
 {
-    if surface.facets.is_empty() {
-        return Err(StlFault::NoTriangles);
-    }
-    match first_too_large(&surface) {
-        Some(place) if binary => Err(StlFault::LargeInFacet(place)),
-        Some(place) => Err(StlFault::LargeInLine(place)),
-        None => Ok(surface),
+    match as_mesh(surface) {
+        Ok(surface) => Ok(surface),
+        Err(flaw) => Err(fault_of(flaw, binary)),
     }
 }
 

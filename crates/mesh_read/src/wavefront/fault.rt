@@ -1,4 +1,8 @@
 // What makes a file no mesh.
+ghost use Rattle.std.specs.Prelude.{◌≡◌};
+ghost use Rattle.mesh_read.specs.Wavefront.Faults.{fault_of, of_flaw};
+
+use crate::surface::Flaw;
 use thiserror::Error;
 
 /// The first fault of a file, or out-of-memory. Lines are counted from 1, and a line that is joined
@@ -25,4 +29,15 @@ pub enum WavefrontFault<'a> {
     TooLarge(u32),
     #[error("out of memory")]
     OutOfMemory,
+}
+
+impl<'a> From<Flaw> for WavefrontFault<'a> {
+    ghost from_gives = { λ flaw e. fault_of e ≡ of_flaw flaw };
+
+    fn from(flaw: Flaw) -> WavefrontFault<'a> {
+        match flaw {
+            Flaw::NoTriangles => WavefrontFault::NoTriangles,
+            Flaw::TooLarge(line) => WavefrontFault::TooLarge(line),
+        }
+    }
 }

@@ -4,10 +4,10 @@ ghost use Rattle.mesh_read.specs.Scan.Parts.{piece_of};
 ghost use Rattle.mesh_read.specs.Surface.Surfaces.{IsSurface, content_of};
 ghost use Rattle.mesh_read.specs.Wavefront.Faults.{fault_of};
 ghost use Rattle.mesh_read.specs.Wavefront.Rows.{rows_of};
-ghost use Rattle.mesh_read.specs.Wavefront.ReadWavefront.{keyword_of, point_in, with_point, after_words, content_in, as_mesh, read_wavefront_of};
+ghost use Rattle.mesh_read.specs.Wavefront.ReadWavefront.{keyword_of, point_in, with_point, after_words, content_in, read_wavefront_of};
 
 use crate::scan::Part;
-use crate::surface::{Surface, first_too_large};
+use crate::surface::{Surface, as_mesh};
 use crate::wavefront::faces::add_face;
 use crate::wavefront::fault::WavefrontFault;
 use crate::wavefront::lines::skip_mark;
@@ -104,29 +104,16 @@ fn read_rows<'a>(alloc: Global, bytes: &'a [u8]) -> Result<Surface<'a>, Wavefron
     Ok(surface)
 }
 
-// The surface, if it is a mesh.
-#[tactic(auto, using(crate::proofs::FarPoints::far_by_content))]
-fn checked<'a>(surface: Surface<'a>) -> Result<Surface<'a>, WavefrontFault<'a>>
-    ensures ok { IfOk result (λ s. as_mesh (Ok (content_of surface.entry)) ≡ Ok (content_of s)) }
-    ensures fault { IfErr result (λ e. as_mesh (Ok (content_of surface.entry)) ≡ Err (fault_of e)) }
-{
-    if surface.facets.is_empty() {
-        return Err(WavefrontFault::NoTriangles);
-    }
-    match first_too_large(&surface) {
-        Some(place) => Err(WavefrontFault::TooLarge(place)),
-        None => Ok(surface),
-    }
-}
-
 // The surface of a file, if it is a mesh.
+#[tactic(auto, using(crate::proofs::Flaws::mesh_found, crate::proofs::Flaws::mesh_refused))]
 fn read_mesh<'a>(alloc: Global, bytes: &'a [u8]) -> Result<Surface<'a>, WavefrontFault<'a>>
     requires { length bytes.now ≤ 268435456 }
     ensures ok { IfOk result (λ s. read_wavefront_of bytes.now ≡ Ok (content_of s)) }
     ensures fault { IfErr result (λ e. (e ≡ WavefrontFault.OutOfMemory)
         ⊎ (read_wavefront_of bytes.now ≡ Err (fault_of e))) }
 {
-    checked(read_rows(alloc, bytes)?)
+    let surface = read_rows(alloc, bytes)?;
+    Ok(as_mesh(surface)?)
 }
 
 /// The vertices and triangles of an OBJ file, or its first fault.

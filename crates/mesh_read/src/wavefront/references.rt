@@ -6,10 +6,7 @@ ghost use Rattle.mesh_read.specs.Wavefront.ReadWavefront.{counted, vertex_at, co
 
 use crate::scan::{Part, cut_before};
 use crate::wavefront::fault::WavefrontFault;
-use mesh_number::{append_digits, are_digits};
-
-// No file has as many vertices.
-const MOST: u64 = 1_000_000_000_000_000;
+use mesh_number::number_in;
 
 // The index of the vertex with this number, counted from 1, or back from the last.
 fn count_to(vertices: u32, back: bool, number: u64) -> Option<u32>
@@ -23,7 +20,7 @@ fn count_to(vertices: u32, back: bool, number: u64) -> Option<u32>
 }
 
 // The vertex that the part of a reference before its first slash names.
-#[tactic(auto, using(crate::proofs::Counts::counted_capped))]
+#[tactic(auto, using(crate::proofs::Counts::number_counted, crate::proofs::Counts::no_number))]
 fn find_vertex(vertices: u32, number: &[u8]) -> Option<u32>
     ensures { result ≡ vertex_at vertices number.now }
 {
@@ -31,10 +28,7 @@ fn find_vertex(vertices: u32, number: &[u8]) -> Option<u32>
         Some((b'-', rest)) => (true, rest),
         _ => (false, number),
     };
-    if digits.is_empty() || !are_digits(digits) {
-        return None;
-    }
-    count_to(vertices, back, append_digits(0, digits, MOST))
+    count_to(vertices, back, number_in(digits)?)
 }
 
 // The index of the vertex that a reference of a line names, of this number of vertices.
