@@ -15,20 +15,20 @@ use Rattle.ember_verdict.specs.Statuses.{IsTextIfTold, IsWritten, IsWrittenIfTol
 use Rattle.ember_verdict.specs.Statuses.{is_refusal, refused_file}
 use Rattle.ember_verdict.specs.Devices.{ShelfCall, SinkCall, HasShelfFailed, HasSinkFailed}
 use Rattle.ember_verdict.specs.Held.{MayHold}
-use Rattle.ember_verdict.specs.Lines.{text_on_err}
+use Rattle.ember_verdict.specs.Lines.{line_on_err, text_on_err}
 use Rattle.ember_verdict.specs.Messages.{AppendsUntilFault}
 use Rattle.ember_verdict.specs.Reported.{IsErrText, IsReportOfVerdictIfAsked, asks_report}
-use Rattle.ember_run.specs.Serves.{IsReply, Serves}
+use Rattle.ember_run.specs.Serves.{IsReply, IsReplyTo, Serves}
 use Rattle.ember_verdict.specs.NoReplies.{IsFileIn, IsNoReply, with_others}
 use Rattle.ember_verdict.specs.Slices.{IsFaceFault, IsSliceRefusal, IsSliceable}
 use Rattle.ember_verdict.specs.Verdict.{Contents, Verdict, Unknown, Refused, Writes, Slices, first_told, names_of, told_verdict, verdict_before, verdict_of}
 use Rattle.ember_verdict.specs.declared.status.FaceFault.{FaceFault}
-use Rattle.ember_verdict.proofs.HeldContents.{contents_count}
-use Rattle.ember_verdict.proofs.KnownVerdicts.{known_refusal, known_text, verdict_known}
 use Rattle.ember_verdict.proofs.RefusedBeforeFiles.{refused_with_any, unknown_refused}
 use Rattle.ember_verdict.proofs.SliceFaults.{one_fault, slice_or_fault, sliceable_or_fault}
-use Rattle.ember_verdict.proofs.SolidVerdicts.{err_text}
-use Rattle.ember_verdict.proofs.NoReplies.{before_is_refusal, file_is_refusal, length_told}
+use Rattle.ember_verdict.proofs.SolidVerdicts.{err_text, report_told}
+use Rattle.ember_verdict.proofs.ToldVerdicts.{verdict_told}
+use Rattle.ember_verdict.proofs.Verdicts.{IsSameIfTold, refusal_if_told, refusal_then, text_told}
+use Rattle.ember_verdict.proofs.NoReplies.{before_is_refusal, file_is_refusal, length_told, none_some}
 
 -- what a status must be for, by the verdict v
 pub record Owes (v : Verdict) (R W : Type 0) (old new : Option (List ℕ)) (status : Status) : Type 0 where
@@ -133,22 +133,6 @@ refusal_given (Slices at bytes) refusal R W old new status a o r =
     let f = refused_slice at bytes refusal a in
     subst (λ (s : Status). (status ≡ s) ⊎ (status ≡ OutOfMemory)) (sym f.1) (fault_or_memory at bytes f.0 R W old new status f.2 o r)
 
--- ---- contents that the files may have
--- all are given, so the verdict is known
-refusal_held : (command : Option Command) (told : List ℕ → Option (List ℕ)) (status : Status) →
-    MayHold told (names_of command) (λ contents. IsRefusalIfTold status (verdict_of command contents)) →
-    MayHold told (names_of command) (λ contents. IsRefusal status (verdict_of command contents))
-refusal_held command told status h =
-    let v = verdict_of command (map Some h.0) in
-    (h.0, h.1, known_refusal status v (verdict_known command h.0 (contents_count told (names_of command) h.0 h.1)) h.2)
-
-text_held : (command : Option Command) (told : List ℕ → Option (List ℕ)) (text : List ℕ) →
-    MayHold told (names_of command) (λ contents. IsTextIfTold (verdict_of command contents) text) →
-    MayHold told (names_of command) (λ contents. IsText (verdict_of command contents) text)
-text_held command told text h =
-    let v = verdict_of command (map Some h.0) in
-    (h.0, h.1, known_text v text (verdict_known command h.0 (contents_count told (names_of command) h.0 h.1)) h.2)
-
 -- what the statuses say, by the verdict
 pub record Rows (command : Option Command) (shelf : ShelfCall) (out : SinkCall) (status : Status) : Type 0 where
   pub contents : shelf.told_after ≡ shelf.told
@@ -247,30 +231,27 @@ touched status (inr e) d w = w e
 -- a reply that was written, or begun, is served
 pub replied_call_serves : (command : Command) (shelf : ShelfCall) (out err : SinkCall) (status : Status) (reply : Reply)
     (text line : List ℕ) → shelf.told_after ≡ shelf.told → shelf.faults ≤ shelf.faults_after →
-    out.faults ≤ out.faults_after → IsReply command shelf.told reply →
-    MayHold shelf.told (names_of (Some command)) (λ contents. IsTextIfTold (verdict_of (Some command) contents)
-    reply.text.items) → text ≡ reply.text.items → line ≡ reply.report.items
+    out.faults ≤ out.faults_after → IsReplyTo command shelf.told reply → text ≡ reply.text.items → line ≡ reply.report.items
     → (status ≡ Done → Appends out.taken out.taken_after text × IsFlushed out.taken_after out.flushed_after) →
     (status ≡ WriteFault → HasSinkFailed out × AppendsPrefix out.taken out.taken_after text) →
     (status ≡ Done) ⊎ (status ≡ WriteFault)
     → AppendsUntilFault err.faults err.faults_after err.taken err.taken_after
     (text_on_err (names_of (Some command)) status line) → Serves (Some command) shelf out err status
-replied_call_serves command shelf out err status reply text line same later out_later is text_read t l done fault either said =
+replied_call_serves command shelf out err status reply text line same later out_later held t l done fault either said =
     let verdict = told_verdict (Some command) shelf.told in
-    let is_text : IsTextIfTold verdict text = subst (λ (bytes : List ℕ). IsTextIfTold verdict bytes) (sym t) is.text in
-    let known_held : MayHold shelf.told (names_of (Some command))
-    (λ contents. IsText (verdict_of (Some command) contents) text) =
-    text_held (Some command) shelf.told text (subst
-    (λ (bytes : List ℕ). MayHold shelf.told (names_of (Some command))
-    (λ contents. IsTextIfTold (verdict_of (Some command) contents) bytes)) (sym t) text_read) in
+    let known = verdict_of (Some command) (map Some held.0) in
+    let is : IsReply (asks_report (Some command)) known reply = held.2 in
+    let same_told : IsSameIfTold verdict known = verdict_told (Some command) shelf.told held.0 held.1 in
+    let known_text : IsText known text = subst (λ (bytes : List ℕ). IsText known bytes) (sym t) is.text in
+    let is_text : IsTextIfTold verdict text = text_told text verdict known same_told known_text in
     served (Some command) shelf out err status (text_on_err (names_of (Some command)) status line)
     (record {
       contents = same;
       later = later;
       out_later = out_later;
       done = λ e. let d = done e in ((text, is_text, d.0), d.1);
-      done_read = λ e. let h = known_held in (h.0, h.1, (text, h.2, (done e).0));
-      begun_read = λ e. let h = known_held in (h.0, h.1, (text, h.2, (fault e).1));
+      done_read = λ e. (held.0, held.1, (text, known_text, (done e).0));
+      begun_read = λ e. (held.0, held.1, (text, known_text, (fault e).1));
       refused = λ r. absurd (not_refusal status either r);
       refused_read = λ r. absurd (not_refusal status either r);
       words = λ e. absurd (not_refusal status either (ap is_refusal e));
@@ -284,7 +265,7 @@ replied_call_serves command shelf out err status reply text line same later out_
     })
     (err_text (Some command) shelf.told status line
     (λ d. subst (λ (bytes : List ℕ). IsReportOfVerdictIfAsked (asks_report (Some command)) verdict bytes) (sym l)
-    is.report)) said
+    (report_told (asks_report (Some command)) reply.report.items verdict known same_told is.report))) said
 
 -- ---- a call that has no answer
 pub stopped_call_serves : (command : Command) (shelf : ShelfCall) (out err : SinkCall) (status : Status) →
@@ -301,8 +282,12 @@ stopped_call_serves command shelf out err status same later out_later untouched 
       done = λ e. absurd (no_reply.never.0 e);
       done_read = λ e. absurd (no_reply.never.0 e);
       begun_read = λ e. absurd (no_reply.never.2 e);
-      refused = no_reply.refused;
-      refused_read = λ r. refusal_held (Some command) shelf.told status (no_reply.refused_read r);
+      refused = λ r.
+          let h = no_reply.refused r in
+          refusal_then status (told_verdict (Some command) shelf.told) (verdict_of (Some command) (map Some h.0))
+          (verdict_told (Some command) shelf.told h.0 h.1)
+          (refusal_if_told status (verdict_of (Some command) (map Some h.0)) h.2);
+      refused_read = no_reply.refused;
       words = λ e. absurd (no_reply.never.1 e);
       before_files = no_reply.before_files;
       in_file = no_reply.in_file;
@@ -313,3 +298,31 @@ stopped_call_serves command shelf out err status same later out_later untouched 
       untouched = λ d w. untouched;
     })
     (err_text (Some command) shelf.told status [] (λ e. absurd (no_reply.never.0 e))) said
+
+-- ---- a call that reads no command
+pub refused_words_serve : (command : Option Command) (shelf : ShelfCall) (out err : SinkCall) → command ≡ None →
+    shelf.told_after ≡ shelf.told → shelf.faults ≤ shelf.faults_after → out.faults ≤ out.faults_after →
+    out.taken_after ≡ out.taken → AppendsUntilFault err.faults err.faults_after err.taken err.taken_after
+    (line_on_err [] Words) → Serves command shelf out err Words
+refused_words_serve command shelf out err none same later out_later untouched said =
+    subst (λ (command : Option Command). Serves command shelf out err Words) (sym none)
+    (served None shelf out err Words (line_on_err [] Words)
+    (record {
+      contents = same;
+      later = later;
+      out_later = out_later;
+      done = λ e. absurd (cc);
+      done_read = λ e. absurd (cc);
+      begun_read = λ e. absurd (cc);
+      refused = λ r. refl;
+      refused_read = λ r. ([], tt, refl);
+      words = λ e. refl;
+      before_files = λ b. refl;
+      in_file = λ i e. absurd (none_some e);
+      one_of = λ i e. absurd (none_some e);
+      memory = refl;
+      read_fault = λ i e. absurd (cc);
+      write_fault = λ e. absurd (cc);
+      untouched = λ d w. untouched;
+    })
+    refl said)

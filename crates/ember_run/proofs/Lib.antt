@@ -1,3 +1,4 @@
 pub mod TextsOfLeaves
 pub mod CanonicalWords
+pub mod Replies
 pub mod CallsServe

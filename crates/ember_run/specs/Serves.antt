@@ -1,28 +1,34 @@
 -- What a call promises: which status it may end with, and what it then did to each device
-use Rattle.std.specs.Prelude.{◌≡◌, ◌≢◌, ◌≤◌, ◌⊎◌, true, false, ℕ, List, length, map, None, Some}
+use Rattle.std.specs.Prelude.{◌≡◌, ◌≢◌, ◌≤◌, ◌⊎◌, Bool, true, false, ℕ, List, length, map, None, Some}
 use Rattle.std.specs.declared.option.Option.{Option}
 use Rattle.ember_io.specs.Sinks.{IsFlushed}
 use Rattle.ember_words.specs.declared.command.Command.{Command}
 use Rattle.ember_words.specs.Canonical.{CommandLine, IsCanonical, command_of_line, words_of}
 use Rattle.ember_words.specs.WordsCommand.{command_of}
 use Rattle.ember_verdict.specs.Statuses.{HasOutput, IsBegun, IsBegunIfTold, IsRefusal, IsRefusalIfTold}
-use Rattle.ember_verdict.specs.Statuses.{IsTextIfTold, IsWritten, IsWrittenIfTold, hides_memory}
+use Rattle.ember_verdict.specs.Statuses.{IsText, IsWritten, IsWrittenIfTold, hides_memory}
 use Rattle.ember_verdict.specs.Statuses.{is_before_files, is_refusal, refused_file}
 use Rattle.ember_verdict.specs.Devices.{ShelfCall, SinkCall, HasShelfFailed, HasSinkFailed}
 use Rattle.ember_verdict.specs.Held.{MayHold}
 use Rattle.ember_verdict.specs.Messages.{AppendsUntilFault}
 use Rattle.ember_verdict.specs.Reported.{IsErrText, IsReportOfVerdictIfAsked, asks_report}
 use Rattle.ember_verdict.specs.NoReplies.{IsFileIn, with_others}
-use Rattle.ember_verdict.specs.Verdict.{Contents, Unknown, Refused, names_of, told_verdict, verdict_before, verdict_of}
+use Rattle.ember_verdict.specs.Verdict.{Contents, Verdict, Unknown, Refused, names_of, told_verdict, verdict_before}
+use Rattle.ember_verdict.specs.Verdict.{verdict_of}
 use Rattle.ember_run.specs.declared.reply.Reply.{Reply}
 use Rattle.ember_verdict.specs.declared.status.Status.{Status}
 use Rattle.ember_verdict.specs.declared.status.Status.TheVariants.{Done, Words, ReadFault, WriteFault, OutOfMemory}
 
--- the text is what the command asks for, over these contents, and the report is there if it asks for one
-pub record IsReply (command : Command) (told : List ℕ → Option (List ℕ)) (reply : Reply) : Type 0 where
-  pub text : IsTextIfTold (told_verdict (Some command) told) reply.text.items
-  pub report : IsReportOfVerdictIfAsked (asks_report (Some command)) (told_verdict (Some command) told)
-      reply.report.items
+-- the text is the output of the verdict, and the report is there if it is asked for
+pub record IsReply (asked : Bool) (verdict : Verdict) (reply : Reply) : Type 0 where
+  pub text : IsText verdict reply.text.items
+  pub report : IsReportOfVerdictIfAsked asked verdict reply.report.items
+
+-- this is the reply to a command over contents that its files may have
+abbrev pub IsReplyTo : Command → (List ℕ → Option (List ℕ)) → Reply → Type 0
+IsReplyTo command told reply =
+    MayHold told (names_of (Some command))
+    (λ contents. IsReply (asks_report (Some command)) (verdict_of (Some command) contents) reply)
 
 -- words in the canonical spelling give the command of their values
 abbrev pub ReadsCanonical : List (List ℕ) → Type 0

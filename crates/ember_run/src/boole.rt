@@ -1,10 +1,10 @@
 // The commands `bool` and `demo`.
-ghost use Rattle.std.specs.Prelude.{◌≡◌, ◌≤◌, length, map, IfOk, IfErr};
+ghost use Rattle.std.specs.Prelude.{◌≡◌, ◌≤◌, length, IfOk, IfErr};
 ghost use Rattle.ember_expr.specs.Formula.{formula_of};
 ghost use Rattle.ember_query.specs.Queries.{IsExecutor};
 ghost use Rattle.ember_meaning.specs.Regions.Solids.{IsSolidText};
-ghost use Rattle.ember_verdict.specs.Reported.{IsReportOfVerdictIfAsked};
-ghost use Rattle.ember_verdict.specs.Statuses.{IsTextIfTold};
+ghost use Rattle.ember_run.specs.Serves.{IsReply};
+ghost use Rattle.ember_verdict.specs.Statuses.{IsText};
 ghost use Rattle.ember_verdict.specs.Devices.{shelf_call};
 ghost use Rattle.ember_verdict.specs.Held.{MayHold};
 ghost use Rattle.ember_verdict.specs.NoReplies.{IsNoReply, IsNoReplyToExpression};
@@ -70,13 +70,8 @@ pub fn boole_output<S: Shelf, C: Fn(&Query) -> Result<Answer, OutOfMemory>>(
     requires executor { IsExecutor C.pre C.post executor.now }
     ensures contents { S.contents shelf.new ≡ S.contents shelf.old }
     ensures later { S.faults shelf.old ≤ S.faults shelf.new }
-    ensures text { IfOk result (λ reply.
-        IsTextIfTold (bool_verdict expr.now places (map (S.contents shelf.old) files.now)) reply.text.items) }
-    ensures text_read { IfOk result (λ reply. MayHold (S.contents shelf.old) files.now
-        (λ contents. IsTextIfTold (bool_verdict expr.now places contents) reply.text.items)) }
-    ensures report { IfOk result (λ reply.
-        IsReportOfVerdictIfAsked reported (bool_verdict expr.now places (map
-        (S.contents shelf.old) files.now)) reply.report.items) }
+    ensures reply { IfOk result (λ reply. MayHold (S.contents shelf.old) files.now
+        (λ contents. IsReply reported (bool_verdict expr.now places contents) reply)) }
     ensures no_reply { IfErr result
         (IsNoReply (bool_verdict expr.now places) files.now
         (shelf_call S.contents S.faults S.fault_at shelf.old shelf.new)) }
@@ -123,7 +118,7 @@ pub fn demo_output<C: Fn(&Query) -> Result<Answer, OutOfMemory>>(
 ) -> Result<Vec<u8>, Status>
     requires boxes { boxes ≤ 20000 }
     requires executor { IsExecutor C.pre C.post executor.now }
-    ensures text { IfOk result (λ text. IsTextIfTold (demo_verdict boxes) text.items) }
+    ensures text { IfOk result (λ text. IsText (demo_verdict boxes) text.items) }
     ensures no_reply { IfErr result (IsNoReplyToExpression (demo_verdict boxes)) }
 {
     let expr = match parse_union(alloc) {

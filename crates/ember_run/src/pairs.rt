@@ -1,8 +1,8 @@
 // The command `pairs`.
-ghost use Rattle.std.specs.Prelude.{◌≡◌, ◌≤◌, length, map, IfOk, IfErr};
+ghost use Rattle.std.specs.Prelude.{◌≡◌, ◌≤◌, length, IfOk, IfErr};
 ghost use Rattle.ember_query.specs.Queries.{IsExecutor};
 ghost use Rattle.ember_verdict.specs.PairLists.{IsPairsText};
-ghost use Rattle.ember_verdict.specs.Statuses.{IsTextIfTold};
+ghost use Rattle.ember_verdict.specs.Statuses.{IsText};
 ghost use Rattle.ember_verdict.specs.Devices.{shelf_call};
 ghost use Rattle.ember_verdict.specs.Held.{MayHold};
 ghost use Rattle.ember_verdict.specs.NoReplies.{IsNoReply};
@@ -34,7 +34,6 @@ fn text_of_pairs<C: Fn(&Query) -> Result<Answer, OutOfMemory>>(
 
 /// The output of `pairs`: the pairs of triangles that cross or overlap. `places` is at most 3, and
 /// there are at most 64 files. The error is the status with which the call ends instead.
-#[tactic(auto, using(ember_verdict::proofs::SceneVerdicts::pairs_listed))]
 pub fn pairs_output<S: Shelf, C: Fn(&Query) -> Result<Answer, OutOfMemory>>(
     alloc: Global,
     places: u8,
@@ -47,10 +46,8 @@ pub fn pairs_output<S: Shelf, C: Fn(&Query) -> Result<Answer, OutOfMemory>>(
     requires executor { IsExecutor C.pre C.post executor.now }
     ensures contents { S.contents shelf.new ≡ S.contents shelf.old }
     ensures later { S.faults shelf.old ≤ S.faults shelf.new }
-    ensures text { IfOk result
-        (λ text. IsTextIfTold (pairs_verdict places (map (S.contents shelf.old) files.now)) text.items) }
-    ensures text_read { IfOk result (λ text. MayHold (S.contents shelf.old) files.now
-        (λ contents. IsTextIfTold (pairs_verdict places contents) text.items)) }
+    ensures text { IfOk result (λ text. MayHold (S.contents shelf.old) files.now
+        (λ contents. IsText (pairs_verdict places contents) text.items)) }
     ensures no_reply { IfErr result
         (IsNoReply (pairs_verdict places) files.now
         (shelf_call S.contents S.faults S.fault_at shelf.old shelf.new)) }

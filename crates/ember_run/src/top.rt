@@ -8,10 +8,8 @@ ghost use Rattle.ember_query.specs.Queries.{IsAnswer, IsExecutor, IsExecutorOfAn
 ghost use Rattle.ember_words.specs.WordsCommand.{command_of};
 ghost use Rattle.ember_words.specs.Within.{IsWithinLimits};
 ghost use Rattle.ember_verdict.specs.Devices.{shelf_call, sink_call};
-ghost use Rattle.ember_verdict.specs.Held.{MayHold};
-ghost use Rattle.ember_run.specs.Serves.{IsReply, ReadsCanonical, Serves};
+ghost use Rattle.ember_run.specs.Serves.{IsReplyTo, ReadsCanonical, Serves};
 ghost use Rattle.ember_verdict.specs.NoReplies.{IsNoReply};
-ghost use Rattle.ember_verdict.specs.Statuses.{IsTextIfTold};
 ghost use Rattle.ember_verdict.specs.Verdict.{names_of, verdict_of};
 
 use crate::boole::{boole_output, demo_output};
@@ -41,9 +39,7 @@ fn reply_to<S: Shelf, C: Fn(&Query) -> Result<Answer, OutOfMemory>>(
     requires executor { IsExecutor C.pre C.post executor.now }
     ensures contents { S.contents shelf.new ≡ S.contents shelf.old }
     ensures later { S.faults shelf.old ≤ S.faults shelf.new }
-    ensures reply { IfOk result (IsReply command.now (S.contents shelf.old)) }
-    ensures text_read { IfOk result (λ reply. MayHold (S.contents shelf.old) (names_of (Some command.now))
-        (λ contents. IsTextIfTold (verdict_of (Some command.now) contents) reply.text.items)) }
+    ensures reply { IfOk result (IsReplyTo command.now (S.contents shelf.old)) }
     ensures no_reply { IfErr result
         (IsNoReply (verdict_of (Some command.now)) (names_of (Some command.now))
         (shelf_call S.contents S.faults S.fault_at shelf.old shelf.new)) }

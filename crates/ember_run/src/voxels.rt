@@ -1,9 +1,9 @@
 // The command `voxels`.
-ghost use Rattle.std.specs.Prelude.{◌≡◌, ◌≤◌, length, map, IfOk, IfErr};
+ghost use Rattle.std.specs.Prelude.{◌≡◌, ◌≤◌, length, IfOk, IfErr};
 ghost use Rattle.ember_expr.specs.Formula.{formula_of};
 ghost use Rattle.ember_query.specs.Queries.{IsExecutor};
 ghost use Rattle.ember_verdict.specs.Lattices.{IsLatticeText};
-ghost use Rattle.ember_verdict.specs.Statuses.{IsTextIfTold};
+ghost use Rattle.ember_verdict.specs.Statuses.{IsText};
 ghost use Rattle.ember_verdict.specs.Devices.{shelf_call};
 ghost use Rattle.ember_verdict.specs.Held.{MayHold};
 ghost use Rattle.ember_verdict.specs.NoReplies.{IsNoReply};
@@ -40,7 +40,6 @@ fn text_of_voxels<C: Fn(&Query) -> Result<Answer, OutOfMemory>>(
 /// The output of `voxels`: the solid sampled on a lattice whose cells have the side `2 ^ size`, in
 /// units, for a size of 4 to 12. `places` is at most 3, and there are at most 64 files. The error
 /// is the status with which the call ends instead.
-#[tactic(auto, using(ember_verdict::proofs::SceneVerdicts::lattice_sampled))]
 pub fn voxels_output<S: Shelf, C: Fn(&Query) -> Result<Answer, OutOfMemory>>(
     alloc: Global,
     expr: &Text,
@@ -57,10 +56,8 @@ pub fn voxels_output<S: Shelf, C: Fn(&Query) -> Result<Answer, OutOfMemory>>(
     requires executor { IsExecutor C.pre C.post executor.now }
     ensures contents { S.contents shelf.new ≡ S.contents shelf.old }
     ensures later { S.faults shelf.old ≤ S.faults shelf.new }
-    ensures text { IfOk result (λ text.
-        IsTextIfTold (voxels_verdict expr.now size places (map (S.contents shelf.old) files.now)) text.items) }
-    ensures text_read { IfOk result (λ text. MayHold (S.contents shelf.old) files.now
-        (λ contents. IsTextIfTold (voxels_verdict expr.now size places contents) text.items)) }
+    ensures text { IfOk result (λ text. MayHold (S.contents shelf.old) files.now
+        (λ contents. IsText (voxels_verdict expr.now size places contents) text.items)) }
     ensures no_reply { IfErr result
         (IsNoReply (voxels_verdict expr.now size places) files.now
         (shelf_call S.contents S.faults S.fault_at shelf.old shelf.new)) }

@@ -1,5 +1,5 @@
 -- Contents that files may have.
-use Rattle.std.proofs.Common.{◌≡◌, ℕ, ◌+◌, ◌<◌, suc, List, [], ◌∷◌, ◌++◌, length, map, Some, None, refl, ap, arith, ◌∙◌}
+use Rattle.std.proofs.Common.{◌≡◌, ℕ, ◌+◌, ◌<◌, suc, List, [], ◌∷◌, ◌++◌, length, map, Some, None, refl, ap, subst, arith, ◌∙◌}
 use Rattle.std.specs.Prelude.{replicate}
 use Rattle.std.proofs.lemmas.List.{length-map, length-replicate}
 use Rattle.std.specs.declared.option.Option.{Option}
@@ -56,6 +56,11 @@ held_then told names P Q follows h =
 pub held_one_then : (told : Option (List ℕ)) (P Q : Option (List ℕ) → Type 0) →
     ((content : Option (List ℕ)) → P content → Q content) → MayHoldOne told P → MayHoldOne told Q
 held_one_then told P Q follows h = (h.0, h.1, follows (Some h.0) h.2)
+
+-- what holds of contents that the file may have, and of none told, holds of what is told
+pub held_one_told : (told : Option (List ℕ)) (P : Option (List ℕ) → Type 0) → P None → MayHoldOne told P → P told
+held_one_told None P none h = none
+held_one_told (Some bytes) P none h = subst (λ (b : List ℕ). P (Some b)) h.1 h.2
 
 -- one file is all files of a command that has one
 pub held_only : (told : List ℕ → Option (List ℕ)) (name : List ℕ) (P : Option (List ℕ) → Type 0) →

@@ -2,10 +2,11 @@ pub mod ErrTexts
 pub mod Verdicts
 pub mod HeldContents
 pub mod NoReplies
+pub mod NoFiles
+pub mod ToldVerdicts
 pub mod OneFile
 pub mod Expressions
 pub mod RefusedBeforeFiles
-pub mod KnownVerdicts
 pub mod SceneFiles
 pub mod PointCounts
 pub mod ClearFaces

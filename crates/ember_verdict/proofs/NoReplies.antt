@@ -8,7 +8,7 @@ use Rattle.ember_expr.specs.declared.fault.ExprFault.TheVariants as expr
 use Rattle.ember_model.specs.declared.tri.Tri.{Tri}
 use Rattle.ember_obj.specs.declared.fault.ObjFault.{ObjFault}
 use Rattle.ember_obj.specs.declared.fault.ObjFault.TheVariants as obj
-use Rattle.ember_verdict.specs.Statuses.{IsRefusalIfTold, hides_memory, is_before_files, is_refusal, refused_file}
+use Rattle.ember_verdict.specs.Statuses.{IsRefusal, IsRefusalIfTold, hides_memory, is_before_files, is_refusal, refused_file}
 use Rattle.ember_verdict.specs.Devices.{ShelfCall}
 use Rattle.ember_verdict.specs.Held.{MayHold}
 use Rattle.ember_verdict.specs.NoReplies.{IsAfterFiles, IsOfExpression, IsNoScene, IsNoReply, IsNoReplyToExpression, with_others}
@@ -144,7 +144,6 @@ memory_after status e = subst (λ (status : Status). IsAfterFiles status) (sym e
 memory_is_no_reply_to_any : (verdict : Contents → Verdict) (names : List (List ℕ)) (shelf : ShelfCall) → IsNoReply verdict names shelf OutOfMemory
 memory_is_no_reply_to_any verdict names shelf = record {
   refused = λ r. absurd (cc);
-  refused_read = λ r. absurd (cc);
   before_files = λ b. absurd (cc);
   in_file = λ i e. absurd (none_some e);
   one_of = λ i e. absurd (none_some e);
@@ -210,13 +209,32 @@ expression_is_no_reply after next places m names shelf status count no_reply =
     let all = length-map names shelf.told ∙ count in
     let kind = (no_reply (λ t. Unknown)).of_expression in
     record {
-      refused = λ r. subst (λ (v : Verdict). IsRefusalIfTold status v) (sym (expression_refuses after next places m status no_reply r contents all)) refl;
-      refused_read = λ r.
-          held_always shelf.told names (λ contents. IsRefusalIfTold status (asks after next places contents))
-          (λ contents l. subst (λ (v : Verdict). IsRefusalIfTold status v)
+      refused = λ r.
+          held_always shelf.told names (λ contents. IsRefusal status (asks after next places contents))
+          (λ contents l. subst (λ (v : Verdict). IsRefusal status v)
           (sym (expression_refuses after next places m status no_reply r contents (l ∙ count))) refl);
       before_files = λ b. expression_refuses after next places m status no_reply (before_is_refusal status b)
           (first_told 0 contents) (length_told 0 contents ∙ all);
+      in_file = λ i e. absurd (expression_no_file status i kind e);
+      one_of = λ i e. absurd (expression_no_file status i kind e);
+      read_fault = λ i e. absurd (subst (λ (status : Status). IsOfExpression status) e kind);
+      memory = expression_memory status kind;
+      never = (
+        λ e. subst (λ (status : Status). IsOfExpression status) e kind,
+        λ e. subst (λ (status : Status). IsOfExpression status) e kind,
+        λ e. subst (λ (status : Status). IsOfExpression status) e kind,
+      );
+    }
+
+-- so is one of a command without files
+pub expression_alone_is_no_reply : (verdict : Verdict) (names : List (List ℕ)) (shelf : ShelfCall) (status : Status) →
+    IsNoReplyToExpression verdict status → IsNoReply (λ contents. verdict) names shelf status
+expression_alone_is_no_reply verdict names shelf status no_reply =
+    let kind = no_reply.of_expression in
+    record {
+      refused = λ r. held_always shelf.told names (λ contents. IsRefusal status verdict)
+          (λ contents l. subst (λ (v : Verdict). IsRefusal status v) (sym (no_reply.refused r)) refl);
+      before_files = λ b. no_reply.refused (before_is_refusal status b);
       in_file = λ i e. absurd (expression_no_file status i kind e);
       one_of = λ i e. absurd (expression_no_file status i kind e);
       read_fault = λ i e. absurd (subst (λ (status : Status). IsOfExpression status) e kind);
@@ -245,12 +263,11 @@ scene_is_no_reply after next places m names shelf status t count given no_reply 
     let all = length-map names shelf.told in
     let s = no_reply (next m t) in
     record {
-      refused = λ r. subst (λ (v : Verdict). IsRefusalIfTold status v) (sym (scene_asked after next places m t given contents (all ∙ count))) (s.refused r);
-      refused_read = λ r.
-          held_then shelf.told names (λ contents. IsRefusalIfTold status (after_scene places contents (next m t)))
-          (λ contents. IsRefusalIfTold status (asks after next places contents))
-          (λ contents l h. subst (λ (v : Verdict). IsRefusalIfTold status v)
-          (sym (scene_asked after next places m t given contents (l ∙ count))) h) (s.refused_read r);
+      refused = λ r.
+          held_then shelf.told names (λ contents. IsRefusal status (after_scene places contents (next m t)))
+          (λ contents. IsRefusal status (asks after next places contents))
+          (λ contents l h. subst (λ (v : Verdict). IsRefusal status v)
+          (sym (scene_asked after next places m t given contents (l ∙ count))) h) (s.refused r);
       before_files = λ b. scene_asked after next places m t given (first_told 0 contents) (length_told 0 contents ∙ all ∙ count) ∙ s.before_files b;
       in_file = λ i e others l. subst (λ (v : Verdict). IsRefusalIfTold status v)
           (sym (scene_asked after next places m t given (with_others i contents others)
@@ -269,13 +286,12 @@ scene_is_no_reply after next places m names shelf status t count given no_reply 
 
 -- ---- statuses after all files
 pub after_no_reply : (verdict : Contents → Verdict) (names : List (List ℕ)) (shelf : ShelfCall) (status : Status) →
-    IsAfterFiles status → (is_refusal status ≡ true → IsRefusalIfTold status (verdict (map shelf.told names))) →
-    (is_refusal status ≡ true → MayHold shelf.told names (λ contents. IsRefusalIfTold status (verdict contents))) →
+    IsAfterFiles status →
+    (is_refusal status ≡ true → MayHold shelf.told names (λ contents. IsRefusal status (verdict contents))) →
     ((i : ℕ) → status ≢ ReadFault i) → (status ≢ Done) × (status ≢ Words) × (status ≢ WriteFault) →
     IsNoReply verdict names shelf status
-after_no_reply verdict names shelf status kind refused refused_read no_read_fault never = record {
+after_no_reply verdict names shelf status kind refused no_read_fault never = record {
   refused = refused;
-  refused_read = refused_read;
   before_files = λ b. let h : true ≡ false = sym b ∙ kind.not_before in absurd (cc);
   in_file = λ i e. absurd (none_some (sym kind.no_file ∙ e));
   one_of = λ i e. absurd (none_some (sym kind.no_file ∙ e));

@@ -16,7 +16,7 @@ use Rattle.ember_verdict.specs.Reported.{IsErrText, IsReportOfVerdict, IsReportO
 use Rattle.ember_verdict.specs.Lines.{text_on_err}
 use Rattle.ember_words.specs.declared.command.Command.{Command}
 use Rattle.std.specs.declared.option.Option.{Option}
-use Rattle.ember_verdict.specs.Statuses.{IsSameIfTold, IsTextIfTold}
+use Rattle.ember_verdict.specs.Statuses.{IsText}
 use Rattle.ember_verdict.specs.NoReplies.{IsNoReplyToExpression}
 use Rattle.ember_verdict.specs.Solids.{IsReportTextIfAsked, IsReportText, IsSolidFile, line_if_asked}
 use Rattle.ember_gen.specs.Scene.{scene_of}
@@ -24,6 +24,7 @@ use Rattle.ember_verdict.specs.Verdict.{Contents, Verdict, Unknown, Refused, Wri
 use Rattle.ember_verdict.specs.Verdict.{after_scene, after_bounded_expr, bool_verdict, demo_verdict, names_of}
 use Rattle.ember_verdict.specs.Verdict.{told_verdict}
 use Rattle.ember_verdict.proofs.SceneVerdicts.{ExprRead, SceneRead, after_read, scene_text}
+use Rattle.ember_verdict.proofs.Verdicts.{IsSameIfTold}
 
 -- ---- bounded expressions
 not_true : (b : Bool) → true ≡ not b → b ≡ false
@@ -69,9 +70,9 @@ is_report_text tris formula report bytes solid text = record { kept = solid.kept
 -- ---- the generated scene
 pub report_written : (boxes : ℕ) (formula : Formula) (tris : List Tri) (bytes : List ℕ) →
     ((next : Formula → Verdict) → after_expr (codes "m1|m2") 2 next ≡ next formula) → tris ≡ scene_of boxes →
-    IsReportText tris formula bytes → IsTextIfTold (demo_verdict boxes) bytes
+    IsReportText tris formula bytes → IsText (demo_verdict boxes) bytes
 report_written boxes formula tris bytes given e is =
-    subst (λ (v : Verdict). IsTextIfTold v bytes)
+    subst (λ (v : Verdict). IsText v bytes)
     (sym (given (λ formula. Writes (SolidReport (scene_of boxes) formula))))
     (subst (λ (tris : List Tri). IsReportText tris formula bytes) e is)
 
@@ -85,15 +86,18 @@ report_refused boxes status no_reply = no_reply (λ formula. Writes (SolidReport
 pub solid_written : (expr : List ℕ) (places m : ℕ) (contents : Contents) (formula : Formula) (tris : List Tri)
     (bytes : List ℕ) → length contents ≡ m → ExprRead (after_bounded_expr expr) m formula →
     SceneRead places contents tris → IsSolidFile tris formula bytes →
-    IsTextIfTold (bool_verdict expr places contents) bytes
+    IsText (bool_verdict expr places contents) bytes
 solid_written expr places m contents formula tris bytes count given scene is =
     scene_text (after_bounded_expr expr) places m contents count formula tris bytes (λ formula tris. Writes (SolidFaces tris formula)) given scene is
 
-report_then : (line : List ℕ) (u v : Verdict) → IsSameIfTold u v → IsReportOfVerdict v line → IsReportOfVerdict u line
-report_then line Unknown v e f = tt
-report_then line (Refused refusal) v e f = subst (λ v. IsReportOfVerdict v line) (sym e) f
-report_then line (Writes output) v e f = subst (λ v. IsReportOfVerdict v line) (sym e) f
-report_then line (Slices at bytes) v e f = subst (λ v. IsReportOfVerdict v line) (sym e) f
+-- a report of the verdict by all contents is one if only a part of them is known
+pub report_told : (asked : Bool) (line : List ℕ) (u v : Verdict) → IsSameIfTold u v →
+    IsReportOfVerdictIfAsked asked v line → IsReportOfVerdictIfAsked asked u line
+report_told false line u v e f = f
+report_told true line Unknown v e f = tt
+report_told true line (Refused refusal) v e f = subst (λ v. IsReportOfVerdict v line) (sym e) f
+report_told true line (Writes output) v e f = subst (λ v. IsReportOfVerdict v line) (sym e) f
+report_told true line (Slices at bytes) v e f = subst (λ v. IsReportOfVerdict v line) (sym e) f
 
 -- the report of the scene is the one that `bool` asks for
 pub solid_reported : (reported : Bool) (expr : List ℕ) (places m : ℕ) (contents : Contents) (formula : Formula)
@@ -104,8 +108,7 @@ solid_reported true expr places m contents formula tris line count given scene i
     subst (λ (v : Verdict). IsReportOfVerdict v line)
     (sym (after_read (after_bounded_expr expr) places m contents count formula
     (λ formula. after_scene places contents (λ tris. Writes (SolidFaces tris formula))) given))
-    (report_then line (after_scene places contents (λ tris. Writes (SolidFaces tris formula)))
-    (Writes (SolidFaces tris formula)) (scene (λ tris. Writes (SolidFaces tris formula))) is)
+    (subst (λ (v : Verdict). IsReportOfVerdict v line) (sym (scene (λ tris. Writes (SolidFaces tris formula)))) is)
 solid_reported false expr places m contents formula tris line count given scene is = is
 
 -- ---- what err takes

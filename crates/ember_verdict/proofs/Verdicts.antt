@@ -1,11 +1,10 @@
 -- What follows on a step of a verdict, and what the reading of a file says of it.
-use Rattle.std.proofs.Common.{◌≡◌, ℕ, ◌<◌, ◌≤◌, true, false, List, length, nat_le, Some, None, Result, Ok, Err, IfErr}
-use Rattle.std.proofs.Common.{refl, sym, subst, arith, leb, ◌⊎◌, inl, inr, ◌∙◌}
+use Rattle.std.proofs.Common.{◌≡◌, ℕ, ◌<◌, ◌≤◌, true, false, List, length, nat_le, Some, Result, Ok, Err, IfErr}
+use Rattle.std.proofs.Common.{refl, sym, ap, subst, arith, leb, ◌⊎◌, inl, inr, ◌∙◌}
 use Rattle.std.proofs.lemmas.Bool.{le-leb}
 use Rattle.std.proofs.lemmas.Bool.Decides.{leb_tells}
 use Rattle.std.specs.declared.option.Option.{Option}
 use Rattle.std.specs.Result.{IsErrAnd}
-use Rattle.ember_io.specs.Shelves.{Tells, TellsMore}
 use Rattle.ember_model.specs.declared.tri.Tri.{Tri}
 use Rattle.ember_obj.specs.declared.fault.ObjFault.{ObjFault}
 use Rattle.ember_obj.specs.Table.{FileTriangles}
@@ -13,26 +12,23 @@ use Rattle.ember_obj.specs.ReadObj.{read_obj_of}
 use Rattle.ember_verdict.specs.declared.status.LimitKind.TheVariants.{Bytes}
 use Rattle.ember_verdict.specs.declared.status.Status.{Status}
 use Rattle.ember_verdict.specs.declared.status.Status.TheVariants.{ObjRefused, Limit}
-use Rattle.ember_verdict.specs.FaceTexts.{IsFaceFileOf}
-use Rattle.ember_verdict.specs.Held.{MayHoldOne}
-use Rattle.ember_verdict.specs.Outputs.{FaceTexts}
-use Rattle.ember_verdict.proofs.HeldContents.{held_one_then, more_bytes}
-use Rattle.ember_verdict.specs.Verdict.{Verdict, Unknown, Refused, Writes, Slices, after_bytes, after_file, after_triangles, faces_verdict}
-use Rattle.ember_verdict.specs.Statuses.{IsRefusalIfTold, IsSameIfTold, IsTextIfTold}
+use Rattle.ember_verdict.specs.Held.{AreBytes, MayHoldOne}
+use Rattle.ember_verdict.specs.Verdict.{Verdict, Unknown, Refused, Writes, Slices, after_bytes, after_file, after_triangles}
+use Rattle.ember_verdict.specs.Statuses.{IsRefusal, IsRefusalIfTold, IsText, IsTextIfTold}
 
--- ---- one step after another
+-- ---- one verdict and another
+-- if the first verdict is told, it is the second
+abbrev pub IsSameIfTold : Verdict → Verdict → Type 0
+IsSameIfTold Unknown other = ⊤
+IsSameIfTold (Refused refusal) other = Refused refusal ≡ other
+IsSameIfTold (Writes output) other = Writes output ≡ other
+IsSameIfTold (Slices at bytes) other = Slices at bytes ≡ other
+
 pub same_self : (v : Verdict) → IsSameIfTold v v
 same_self Unknown = tt
 same_self (Refused status) = refl
 same_self (Writes output) = refl
 same_self (Slices at bytes) = refl
-
--- what is the same with less known is so over two steps
-pub same_then : (u v w : Verdict) → IsSameIfTold u v → IsSameIfTold v w → IsSameIfTold u w
-same_then Unknown v w e f = tt
-same_then (Refused status) v w e f = subst (λ v. IsSameIfTold v w) (sym e) f
-same_then (Writes output) v w e f = subst (λ v. IsSameIfTold v w) (sym e) f
-same_then (Slices at bytes) v w e f = subst (λ v. IsSameIfTold v w) (sym e) f
 
 -- a refusal stays one if only a part of the files is known
 pub refusal_then : (status : Status) (u v : Verdict) → IsSameIfTold u v → IsRefusalIfTold status v → IsRefusalIfTold status u
@@ -41,12 +37,19 @@ refusal_then status (Refused refusal) v e f = subst (λ v. IsRefusalIfTold statu
 refusal_then status (Writes output) v e f = subst (λ v. IsRefusalIfTold status v) (sym e) f
 refusal_then status (Slices at bytes) v e f = subst (λ v. IsRefusalIfTold status v) (sym e) f
 
--- an output stays one if only a part of the files is known
-pub text_then : (bytes : List ℕ) (u v : Verdict) → IsSameIfTold u v → IsTextIfTold v bytes → IsTextIfTold u bytes
-text_then bytes Unknown v e f = tt
-text_then bytes (Refused refusal) v e f = subst (λ v. IsTextIfTold v bytes) (sym e) f
-text_then bytes (Writes output) v e f = subst (λ v. IsTextIfTold v bytes) (sym e) f
-text_then bytes (Slices at file) v e f = subst (λ v. IsTextIfTold v bytes) (sym e) f
+-- a refusal that is told is one if told
+pub refusal_if_told : (status : Status) (v : Verdict) → IsRefusal status v → IsRefusalIfTold status v
+refusal_if_told status Unknown f = tt
+refusal_if_told status (Refused refusal) f = f
+refusal_if_told status (Writes output) f = f
+refusal_if_told status (Slices at bytes) f = f
+
+-- an output by all contents is one if only a part of them is known
+pub text_told : (bytes : List ℕ) (u v : Verdict) → IsSameIfTold u v → IsText v bytes → IsTextIfTold u bytes
+text_told bytes Unknown v e f = tt
+text_told bytes (Refused refusal) v e f = subst (λ v. IsText v bytes) (sym e) f
+text_told bytes (Writes output) v e f = subst (λ v. IsText v bytes) (sym e) f
+text_told bytes (Slices at file) v e f = subst (λ v. IsText v bytes) (sym e) f
 
 -- a verdict that, if told, is the same as an unknown one is unknown
 pub untold_then : (u v : Verdict) → IsSameIfTold u v → v ≡ Unknown → u ≡ Unknown
@@ -54,6 +57,10 @@ untold_then Unknown v e f = refl
 untold_then (Refused refusal) v e f = e ∙ f
 untold_then (Writes output) v e f = e ∙ f
 untold_then (Slices at bytes) v e f = e ∙ f
+
+-- a verdict that refuses is this refusal
+pub refusal_is : (status : Status) (v : Verdict) → v ≡ Refused status → IsRefusal status v
+refusal_is status v e = subst (λ (v : Verdict). IsRefusal status v) (sym e) refl
 
 -- ---- errors
 
@@ -72,68 +79,34 @@ above a b h = by (leb_tells a b)
     by (inr p) = p.0
 
 -- bytes that are few enough are passed on
-pub bytes_read : (i : ℕ) (told : Option (List ℕ)) (bytes : List ℕ) (next : List ℕ → Verdict) → Tells told bytes →
-    length bytes ≤ 268435456 → IsSameIfTold (after_bytes i told next) (next bytes)
-bytes_read i None bytes next h l = tt
-bytes_read i (Some told) bytes next h l =
-    let m : length told ≤ 268435456 = subst (λ (b : List ℕ). length b ≤ 268435456) h l in
-    subst (λ (b : List ℕ). IsSameIfTold (after_bytes i (Some told) next) (next b)) (sym h) (rw (le-leb (length told) 268435456 m) (same_self (next told)))
+pub bytes_read : (i : ℕ) (bytes : List ℕ) (next : List ℕ → Verdict) → length bytes ≤ 268435456 →
+    after_bytes i (Some bytes) next ≡ next bytes
+bytes_read i bytes next l = rw (le-leb (length bytes) 268435456 l) refl
 
 -- too many bytes are refused
-pub bytes_too_long : (i count : ℕ) (told : Option (List ℕ)) (next : List ℕ → Verdict) → count ≡ 268435457 →
-    TellsMore told 268435456 → IsRefusalIfTold (Limit (Bytes i) count) (after_bytes i told next)
-bytes_too_long i count None next e h = tt
-bytes_too_long i count (Some bytes) next e h = subst
-    (λ (n : ℕ). IsRefusalIfTold (Limit (Bytes i) n) (after_bytes i (Some bytes) next)) (sym e)
-    (rw (above (length bytes) 268435456 h) refl)
-
-too_long_held : (i count : ℕ) → count ≡ 268435457 → ((bytes : List ℕ) × (268435456 < length bytes)) →
-    MayHoldOne None (λ content. (next : List ℕ → Verdict) →
-    IsRefusalIfTold (Limit (Bytes i) count) (after_bytes i content next))
-too_long_held i count e bytes = (bytes.0, tt, λ next. bytes_too_long i count (Some bytes.0) next e bytes.1)
-
--- the same over contents that the file may have
-pub bytes_too_long_held : (i count : ℕ) (told : Option (List ℕ)) → count ≡ 268435457 → TellsMore told 268435456 →
-    MayHoldOne told (λ content. (next : List ℕ → Verdict) →
-    IsRefusalIfTold (Limit (Bytes i) count) (after_bytes i content next))
-bytes_too_long_held i count None e h = too_long_held i count e (more_bytes 268435456)
-bytes_too_long_held i count (Some bytes) e h = (bytes, refl, λ next. bytes_too_long i count (Some bytes) next e h)
+pub bytes_too_long : (i count : ℕ) (bytes : List ℕ) (next : List ℕ → Verdict) → count ≡ 268435457 →
+    268435456 < length bytes → after_bytes i (Some bytes) next ≡ Refused (Limit (Bytes i) count)
+bytes_too_long i count bytes next e h = subst (λ (n : ℕ). after_bytes i (Some bytes) next ≡ Refused (Limit (Bytes i) n))
+    (sym e) (rw (above (length bytes) 268435456 h) refl)
 
 -- triangles that were read are passed on
-pub file_read : (places i : ℕ) (told : Option (List ℕ)) (bytes : List ℕ) (faces : FileTriangles) (next : List Tri →
-    Verdict) → ((next : List ℕ → Verdict) → IsSameIfTold (after_bytes i told next) (next bytes)) →
-    read_obj_of places i bytes ≡ Ok faces → IsSameIfTold (after_file places i told next) (next faces.tris)
-file_read places i told bytes faces next read e =
-    same_then (after_file places i told next) (after_triangles i (read_obj_of places i bytes) next) (next faces.tris)
-    (read (λ bytes. after_triangles i (read_obj_of places i bytes) next))
-    (subst (λ (r : Result FileTriangles ObjFault). IsSameIfTold (after_triangles i r next) (next faces.tris)) (sym e)
-    (same_self (next faces.tris)))
+pub file_read : (places i : ℕ) (bytes : List ℕ) (faces : FileTriangles) (next : List Tri → Verdict) →
+    length bytes ≤ 268435456 → read_obj_of places i bytes ≡ Ok faces →
+    after_file places i (Some bytes) next ≡ next faces.tris
+file_read places i bytes faces next l e =
+    bytes_read i bytes (λ bytes. after_triangles i (read_obj_of places i bytes) next) l
+    ∙ ap (λ (read : Result FileTriangles ObjFault). after_triangles i read next) e
 
 -- a file with a fault is refused
-pub file_refused : (places i : ℕ) (told : Option (List ℕ)) (bytes : List ℕ) (fault : ObjFault) (next : List Tri →
-    Verdict) → ((next : List ℕ → Verdict) → IsSameIfTold (after_bytes i told next) (next bytes)) →
-    read_obj_of places i bytes ≡ Err fault → IsRefusalIfTold (ObjRefused i fault) (after_file places i told next)
-file_refused places i told bytes fault next read e =
-    refusal_then (ObjRefused i fault) (after_file places i told next)
-    (after_triangles i (read_obj_of places i bytes) next)
-    (read (λ bytes. after_triangles i (read_obj_of places i bytes) next))
-    (subst (λ (r : Result FileTriangles ObjFault). IsRefusalIfTold (ObjRefused i fault) (after_triangles i r next))
-    (sym e) refl)
+pub file_refused : (places i : ℕ) (bytes : List ℕ) (fault : ObjFault) (next : List Tri → Verdict) →
+    length bytes ≤ 268435456 → read_obj_of places i bytes ≡ Err fault →
+    after_file places i (Some bytes) next ≡ Refused (ObjRefused i fault)
+file_refused places i bytes fault next l e =
+    bytes_read i bytes (λ bytes. after_triangles i (read_obj_of places i bytes) next) l
+    ∙ ap (λ (read : Result FileTriangles ObjFault). after_triangles i read next) e
 
--- ---- contents that the file may have
--- those of a file whose bytes are refused
-pub bytes_refused_held : (places i : ℕ) (told : Option (List ℕ)) (status : Status) →
-    MayHoldOne told (λ content. (next : List ℕ → Verdict) → IsRefusalIfTold status (after_bytes i content next)) →
-    MayHoldOne told (λ content. (next : List Tri → Verdict) → IsRefusalIfTold status (after_file places i content next))
-bytes_refused_held places i told status h =
-    held_one_then told (λ content. (next : List ℕ → Verdict) →
-    IsRefusalIfTold status (after_bytes i content next)) (λ content. (next : List Tri → Verdict) →
-    IsRefusalIfTold status (after_file places i content next))
-    (λ content refused next. refused (λ bytes. after_triangles i (read_obj_of places i bytes) next)) h
-
--- the faces of the triangles that were read
-pub faces_read : (told : Option (List ℕ)) (places : ℕ) (tris : List Tri) (bytes : List ℕ) →
-    ((next : List Tri → Verdict) → IsSameIfTold (after_file places 1 told next) (next tris)) → IsFaceFileOf tris bytes →
-    IsTextIfTold (faces_verdict places told) bytes
-faces_read told places tris bytes read faces =
-    text_then bytes (faces_verdict places told) (Writes (FaceTexts tris)) (read (λ tris. Writes (FaceTexts tris))) faces
+-- the file may have the bytes that were read
+pub file_held : (told : List ℕ → Option (List ℕ)) (name : List ℕ) (places i : ℕ) (bytes : List ℕ)
+    (faces : FileTriangles) → AreBytes told name bytes → read_obj_of places i bytes ≡ Ok faces →
+    MayHoldOne (told name) (λ content. (next : List Tri → Verdict) → after_file places i content next ≡ next faces.tris)
+file_held told name places i bytes faces are e = (bytes, are.tells, λ next. file_read places i bytes faces next are.small e)

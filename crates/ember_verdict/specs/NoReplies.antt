@@ -1,10 +1,12 @@
 -- Why a command has no reply
 use Rattle.std.specs.Prelude.{◌≡◌, ◌≢◌, ◌≤◌, ⊤, ℕ, ◌-◌, true, false, List, ◌++◌, length, map, take, drop, None, Some}
+use Rattle.std.specs.declared.option.Option.{Option}
 use Rattle.ember_model.specs.declared.tri.Tri.{Tri}
-use Rattle.ember_verdict.specs.Statuses.{IsRefusalIfTold, hides_memory, is_before_files, is_refusal, refused_file}
+use Rattle.ember_verdict.specs.Statuses.{IsRefusal, IsRefusalIfTold, hides_memory, is_before_files, is_refusal}
+use Rattle.ember_verdict.specs.Statuses.{refused_file}
 use Rattle.ember_verdict.specs.Devices.{ShelfCall, HasShelfFailed}
-use Rattle.ember_verdict.specs.Held.{MayHold}
-use Rattle.ember_verdict.specs.Verdict.{Contents, Verdict, Unknown, Refused, after_scene, first_told}
+use Rattle.ember_verdict.specs.Held.{MayHold, MayHoldOne}
+use Rattle.ember_verdict.specs.Verdict.{Contents, Verdict, Unknown, Refused, Refuses, after_scene, first_told}
 use Rattle.ember_verdict.specs.declared.status.Status.{Status}
 use Rattle.ember_verdict.specs.declared.status.Status.TheVariants.{Done, Words, ReadFault, WriteFault}
 use Rattle.ember_verdict.specs.declared.status.Status.TheVariants.{ExprRefused, Unbounded, OutOfMemory}
@@ -12,6 +14,18 @@ use Rattle.ember_verdict.specs.declared.status.Status.TheVariants.{ExprRefused, 
 -- the contents of the first n files, and others after them
 abbrev pub with_others : ℕ → Contents → Contents → Contents
 with_others n contents others = take n contents ++ drop n others
+
+-- why file i, from 1, of this name gives nothing, whatever is asked of it; `step` reads its contents
+pub record IsNoFile {A : Type 0} (step : Option (List ℕ) → (A → Verdict) → Verdict) (i : ℕ) (name : List ℕ)
+    (shelf : ShelfCall) (status : Status) : Type 0 where
+  -- a refusal is that of contents that the file may have
+  pub refused : is_refusal status ≡ true → MayHoldOne (shelf.told name) (λ content. Refuses (step content) status)
+  pub of_file : is_refusal status ≡ true → refused_file status ≡ Some i
+  -- if the file can't be read, the shelf failed at it
+  pub read_fault : (number : ℕ) → status ≡ ReadFault number →
+      (number ≡ i) × HasShelfFailed shelf × (shelf.fault_at ≡ number)
+  pub memory : hides_memory status ≡ false
+  pub never : (status ≢ Done) × (status ≢ Words) × (status ≢ WriteFault)
 
 -- file i, from 1, is one of the files with these names
 pub record IsFileIn (names : List (List ℕ)) (i : ℕ) : Type 0 where
@@ -21,11 +35,8 @@ pub record IsFileIn (names : List (List ℕ)) (i : ℕ) : Type 0 where
 -- why a command over files with these names has no reply; `verdict` is what it asks for, over any contents of them
 pub record IsNoReply (verdict : Contents → Verdict) (names : List (List ℕ)) (shelf : ShelfCall)
     (status : Status) : Type 0 where
-  -- a refusal is that of the verdict
-  pub refused : is_refusal status ≡ true → IsRefusalIfTold status (verdict (map shelf.told names))
-  -- it is that of contents that the files may have. All of these are told, so the verdict of a command isn't Unknown
-  pub refused_read : is_refusal status ≡ true →
-      MayHold shelf.told names (λ contents. IsRefusalIfTold status (verdict contents))
+  -- a refusal is that of contents that the files may have
+  pub refused : is_refusal status ≡ true → MayHold shelf.told names (λ contents. IsRefusal status (verdict contents))
   -- a refusal of the words or of the expression doesn't depend on any file: `first_told n` tells the first n files, so
   -- `first_told 0` tells none. (`verdict_before i` of `Serves` counts from 1: it tells the files before file i)
   pub before_files : is_before_files status ≡ true → verdict (first_told 0 (map shelf.told names)) ≡ Refused status

@@ -1,5 +1,6 @@
 -- What the outputs of several commands say of the faces of one solid
-use Rattle.std.specs.Prelude.{◌≡◌, ℕ, ◌+◌, ◌-◌, ◌*◌, ◌^◌, ◌<◌, ℤ, pos, ◌<ℤ◌, Bool, List, ◌++◌}
+use Rattle.std.specs.Prelude.{◌≡◌, ℕ, ◌+◌, ◌-◌, ◌*◌, ◌^◌, ◌<◌, ℤ, pos, ◌<ℤ◌, Bool, true, List, ◌++◌, Some}
+use Rattle.std.specs.List.{list_all}
 use Rattle.ember_algebra.specs.Sums.{total}
 use Rattle.ember_box.specs.Reference.{reference_at}
 use Rattle.ember_expr.specs.Formula.{Formula}
@@ -7,6 +8,8 @@ use Rattle.ember_expr.specs.Truth.{truth}
 use Rattle.ember_meaning.specs.Regions.Meaning.{one_if}
 use Rattle.ember_meaning.specs.Regions.Nearby.{WhereShifted}
 use Rattle.ember_model.specs.Clear.{AreClear}
+use Rattle.ember_model.specs.ClearTest.{is_clear_of}
+use Rattle.ember_model.specs.FaceFiles.{IsFaceFile}
 use Rattle.ember_model.specs.Meshes.{faces_of, vector, wind}
 use Rattle.ember_model.specs.Planes.{value_at}
 use Rattle.ember_model.specs.declared.face.Face.{Face}
@@ -18,7 +21,13 @@ use Rattle.ember_slice.specs.Lines.{level}
 use Rattle.ember_slice.specs.Segments.{Directed}
 use Rattle.ember_voxel.specs.Grid.{char_at, is_one}
 use Rattle.ember_voxel.specs.Voxels.{least_corner}
-use Rattle.ember_verdict.specs.Outputs.{value_line}
+use Rattle.ember_verdict.specs.Outputs.{Counts, IsOutput, SolidFaces, value_line}
+
+-- these faces are read from the document of the solid
+pub record AreFacesOfSolid (tris : List Tri) (formula : Formula) (faces : List Face) : Type 0 where
+  pub file : List ℕ
+  pub document : IsOutput (SolidFaces tris formula) file
+  pub read : IsFaceFile file faces
 
 -- along all axes the faces wind once around p if `inside` is true, and otherwise not at all
 abbrev pub WindOnceIf : Bool → List Face → Spot → Type 0
@@ -49,6 +58,13 @@ SegmentsCrossOnceAtMost at faces segments =
     (p : Spot) → IsAtLevel at p → AreClear faces p → (inside : Bool) × CrossOnceIf inside segments p
 
 -- ---- points
+-- `at` writes this text for the point, which is clear of the scene's faces
+pub record IsTextAt (tris : List Tri) (formula : Formula) (p : Spot) (text : List ℕ) : Type 0 where
+  pub weight : pos 0 <ℤ p.w
+  pub clear : list_all (λ t. is_clear_of t p) tris ≡ true
+  pub meshes : ℕ
+  pub output : IsOutput (Counts p meshes tris (Some formula)) text
+
 -- the text ends with the line of the value
 pub record ShowsValue (text : List ℕ) (value : Bool) : Type 0 where
   pub counts : List ℕ

@@ -3,7 +3,6 @@ use Rattle.std.specs.Prelude.{◌≡◌, ℕ, ◌+◌, List, ◌++◌, length}
 use Rattle.ember_mesh.specs.declared.states.Closed.{Closed}
 use Rattle.ember_mesh.specs.Joined.{AreNumbered, triangles_of}
 use Rattle.ember_model.specs.declared.tri.Tri.{Tri}
-use Rattle.ember_verdict.specs.Statuses.{IsSameIfTold}
 use Rattle.ember_verdict.specs.Verdict.{Contents, Verdict, after_files, after_scene}
 
 -- the files with these contents were read as these meshes: whatever files follow, the verdict is that of the files that
@@ -12,5 +11,5 @@ pub record HasParts (places : ℕ) (read : Contents) (parts : List Closed) : Typ
   pub count : length parts ≡ length read
   pub numbered : AreNumbered 1 parts
   pub same : (more : Contents) (next : List Tri → Verdict) →
-      IsSameIfTold (after_scene places (read ++ more) next)
-      (after_files places (length read + 1) (triangles_of parts) more next)
+      after_scene places (read ++ more) next ≡
+      after_files places (length read + 1) (triangles_of parts) more next

@@ -71,17 +71,6 @@ hides_memory _ = false
 
 -- ---- what is so of a verdict. A name that ends in `IfTold` says nothing of an unknown one; without the ending it also
 -- says that the verdict is told
--- if the first verdict is told, it is the second
-abbrev pub IsSameIfTold : Verdict → Verdict → Type 0
-IsSameIfTold Unknown other = ⊤
-IsSameIfTold (Refused refusal) other = Refused refusal ≡ other
-IsSameIfTold (Writes output) other = Writes output ≡ other
-IsSameIfTold (Slices at bytes) other = Slices at bytes ≡ other
-
--- if the contents are told, the step refuses nothing, and this is its result: whatever is done next is done with it
-abbrev pub PassesOnIfTold : {A : Type 0} → ((A → Verdict) → Verdict) → A → Type 0
-PassesOnIfTold {A} step result = (next : A → Verdict) → IsSameIfTold (step next) (next result)
-
 -- the verdict, if told, is this refusal
 abbrev pub IsRefusalIfTold : Status → Verdict → Type 0
 IsRefusalIfTold status Unknown = ⊤
@@ -95,10 +84,6 @@ IsRefusal status Unknown = ⊥
 IsRefusal status (Refused refusal) = refusal ≡ status
 IsRefusal status (Writes output) = ⊥
 IsRefusal status (Slices at bytes) = IsSliceRefusal at bytes status
-
--- if the contents are told, the step refuses them with this status, whatever would be done next
-abbrev pub RefusesIfTold : {A : Type 0} → ((A → Verdict) → Verdict) → Status → Type 0
-RefusesIfTold {A} step status = (next : A → Verdict) → IsRefusalIfTold status (step next)
 
 -- the verdict, if told, is an output, and these are its bytes
 abbrev pub IsTextIfTold : Verdict → List ℕ → Type 0

@@ -45,6 +45,10 @@ Contents = List (Option (List ℕ))
 abbrev pub PassesOn : {A : Type 0} → ((A → Verdict) → Verdict) → A → Type 0
 PassesOn {A} step result = (next : A → Verdict) → step next ≡ next result
 
+-- the step refuses with this status, whatever would be done next
+abbrev pub Refuses : {A : Type 0} → ((A → Verdict) → Verdict) → Status → Type 0
+Refuses {A} step status = (next : A → Verdict) → step next ≡ Refused status
+
 -- ---- a file; `next` is what is done with its bytes, or with its triangles. A file has 2^28 = 268435456 bytes at most,
 -- and the refusal of a longer one names one byte more
 abbrev pub after_bytes : ℕ → Option (List ℕ) → (List ℕ → Verdict) → Verdict

@@ -1,5 +1,5 @@
 // The command `at`.
-ghost use Rattle.std.specs.Prelude.{ℕ, ◌≡◌, ◌≢◌, ◌≤◌, ◌++◌, length, map, true, All, Err, IfOk, IfErr, OnOk};
+ghost use Rattle.std.specs.Prelude.{ℕ, ◌≡◌, ◌≢◌, ◌≤◌, ◌++◌, length, true, All, Err, IfOk, IfErr, OnOk};
 ghost use Rattle.std.specs.List.{list_all};
 ghost use Rattle.ember_expr.specs.Truth.{AreCounts};
 ghost use Rattle.ember_model.specs.declared.point.Axis.TheVariants.{X};
@@ -8,7 +8,7 @@ ghost use Rattle.ember_model.specs.Meshes.{vector};
 ghost use Rattle.ember_model.specs.Valid.{IsValidSpot, IsValidTri};
 ghost use Rattle.ember_verdict.specs.OptionalExpr.{given_formula};
 ghost use Rattle.ember_verdict.specs.Outputs.{count_line, count_lines, counts_text, value_line, value_lines};
-ghost use Rattle.ember_verdict.specs.Statuses.{IsRefusalIfTold, IsTextIfTold, is_refusal};
+ghost use Rattle.ember_verdict.specs.Statuses.{IsRefusal, IsText, is_refusal};
 ghost use Rattle.ember_verdict.specs.Devices.{shelf_call};
 ghost use Rattle.ember_verdict.specs.Held.{MayHold};
 ghost use Rattle.ember_verdict.specs.NoReplies.{IsAfterFiles, IsNoReply};
@@ -133,9 +133,9 @@ fn text_at(
     requires point { IsValidSpot point.now }
     requires meshes { meshes ≤ 64 }
     ensures text { IfOk result (λ text.
-        IsTextIfTold (counts_verdict point.now meshes (given_formula expr.now) scene.now.tris) text.items) }
+        IsText (counts_verdict point.now meshes (given_formula expr.now) scene.now.tris) text.items) }
     ensures refused { IfErr result (λ status. is_refusal status ≡ true →
-        IsRefusalIfTold status (counts_verdict point.now meshes (given_formula expr.now) scene.now.tris)) }
+        IsRefusal status (counts_verdict point.now meshes (given_formula expr.now) scene.now.tris)) }
     ensures kind { IfErr result IsAfterFiles }
     ensures no_read_fault { (i : ℕ) → result ≢ Err (Status.ReadFault i) }
     ensures never { (result ≢ Err Status.Done) × (result ≢ Err Status.Words) × (result ≢ Err Status.WriteFault) }
@@ -163,10 +163,8 @@ pub fn at_output<S: Shelf>(
     requires few { length files.now ≤ 64 }
     ensures contents { S.contents shelf.new ≡ S.contents shelf.old }
     ensures later { S.faults shelf.old ≤ S.faults shelf.new }
-    ensures text { IfOk result (λ text.
-        IsTextIfTold (at_verdict point.now expr.now places (map (S.contents shelf.old) files.now)) text.items) }
-    ensures text_read { IfOk result (λ text. MayHold (S.contents shelf.old) files.now
-        (λ contents. IsTextIfTold (at_verdict point.now expr.now places contents) text.items)) }
+    ensures text { IfOk result (λ text. MayHold (S.contents shelf.old) files.now
+        (λ contents. IsText (at_verdict point.now expr.now places contents) text.items)) }
     ensures no_reply { IfErr result
         (IsNoReply (at_verdict point.now expr.now places) files.now
         (shelf_call S.contents S.faults S.fault_at shelf.old shelf.new)) }

@@ -2,7 +2,7 @@
 ghost use Rattle.std.specs.Prelude.{[], ◌∷◌, ◌≡◌, ◌≤◌, length, All, IfOk, IfErr};
 ghost use Rattle.ember_model.specs.Valid.{IsValidTri};
 ghost use Rattle.ember_verdict.specs.FaceTexts.{AddsFace, IsFaceFileOf};
-ghost use Rattle.ember_verdict.specs.Statuses.{IsTextIfTold};
+ghost use Rattle.ember_verdict.specs.Statuses.{IsText};
 ghost use Rattle.ember_verdict.specs.Devices.{shelf_call};
 ghost use Rattle.ember_verdict.specs.Held.{MayHold};
 ghost use Rattle.ember_verdict.specs.NoReplies.{IsNoReply};
@@ -50,7 +50,6 @@ fn faces_text(alloc: Global, tris: &[Tri]) -> Result<Vec<u8>, OutOfMemory>
 
 /// The output of `faces`: the face of each triangle of the file that isn't flat, in order. `places`
 /// is at most 3. The error is the status with which the call ends instead.
-#[tactic(auto, using(crate::proofs::Verdicts::faces_read))]
 pub fn faces_output<S: Shelf>(
     alloc: Global,
     places: u8,
@@ -60,10 +59,8 @@ pub fn faces_output<S: Shelf>(
     requires { places ≤ 3 }
     ensures contents { S.contents shelf.new ≡ S.contents shelf.old }
     ensures later { S.faults shelf.old ≤ S.faults shelf.new }
-    ensures text { IfOk result (λ text.
-        IsTextIfTold (faces_verdict places (S.contents shelf.old file.now)) text.items) }
-    ensures text_read { IfOk result (λ text. MayHold (S.contents shelf.old) (file.now ∷ [])
-        (λ contents. IsTextIfTold (faces_verdict places (file_at contents 1)) text.items)) }
+    ensures text { IfOk result (λ text. MayHold (S.contents shelf.old) (file.now ∷ [])
+        (λ contents. IsText (faces_verdict places (file_at contents 1)) text.items)) }
     ensures no_reply { IfErr result
         (IsNoReply (λ contents. faces_verdict places (file_at contents 1)) (file.now ∷ [])
         (shelf_call S.contents S.faults S.fault_at shelf.old shelf.new)) }

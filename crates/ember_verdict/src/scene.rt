@@ -1,15 +1,13 @@
 // The scene of several files: each is a closed mesh, and all together have few enough triangles.
-// `after_x` is a step of the verdict (specs/Verdict.antt). A clause whose name ends in `_read` is
-// about contents that the files may have, told or not.
-ghost use Rattle.std.specs.Prelude.{ℕ, ◌≡◌, ◌≢◌, ◌≤◌, length, map, true, false, All, Some, Err, IfOk, IfErr};
-ghost use Rattle.ember_io.specs.Causes.{HasRisen};
+// `after_x` is a step of the verdict (specs/Verdict.antt).
+ghost use Rattle.std.specs.Prelude.{ℕ, ◌≡◌, ◌≢◌, ◌≤◌, length, true, All, Err, IfOk, IfErr};
 ghost use Rattle.ember_mesh.specs.Joined.{AreNumbered, triangles_of};
 ghost use Rattle.ember_verdict.specs.Held.{MayHold, MayHoldOne};
 ghost use Rattle.ember_verdict.specs.Scenes.{HasParts};
-ghost use Rattle.ember_verdict.specs.Statuses.{PassesOnIfTold, RefusesIfTold, hides_memory, is_refusal, refused_file};
+ghost use Rattle.ember_verdict.specs.Statuses.{is_refusal};
 ghost use Rattle.ember_verdict.specs.Devices.{shelf_call};
-ghost use Rattle.ember_verdict.specs.NoReplies.{IsAfterFiles, IsNoScene};
-ghost use Rattle.ember_verdict.specs.Verdict.{PassesOn, after_mesh, after_scene, after_total};
+ghost use Rattle.ember_verdict.specs.NoReplies.{IsAfterFiles, IsNoFile, IsNoScene};
+ghost use Rattle.ember_verdict.specs.Verdict.{PassesOn, Refuses, after_mesh, after_scene, after_total};
 
 use crate::reading::read_file;
 use crate::status::{LimitKind, Status};
@@ -20,7 +18,7 @@ use ember_words::Text;
 use std::alloc::Global;
 
 // The closed mesh of the file with this number, from 1.
-#[tactic(auto, using(crate::proofs::SceneFiles::mesh_read, crate::proofs::SceneFiles::mesh_refused))]
+#[tactic(auto, using(crate::proofs::SceneFiles::mesh_held, crate::proofs::NoFiles::loose_is_no_file, crate::proofs::NoFiles::memory_is_no_file))]
 fn read_mesh<S: Shelf>(
     alloc: Global,
     shelf: &mut S,
@@ -31,22 +29,11 @@ fn read_mesh<S: Shelf>(
     requires { places ≤ 3 }
     ensures contents { S.contents shelf.new ≡ S.contents shelf.old }
     ensures later { S.faults shelf.old ≤ S.faults shelf.new }
-    ensures ok { IfOk result (λ mesh.
-        PassesOnIfTold (after_mesh places number (S.contents shelf.old name.now)) mesh.tris) }
-    ensures ok_read { IfOk result (λ mesh. MayHoldOne (S.contents shelf.old name.now)
-        (λ content. PassesOnIfTold (after_mesh places number content) mesh.tris)) }
+    ensures read { IfOk result (λ mesh. MayHoldOne (S.contents shelf.old name.now)
+        (λ content. PassesOn (after_mesh places number content) mesh.tris)) }
     ensures number { IfOk result (λ mesh. All (λ t. t.mesh ≡ number) mesh.tris) }
-    ensures refused { IfErr result (λ status. is_refusal status ≡ true →
-        RefusesIfTold (after_mesh places number (S.contents shelf.old name.now)) status) }
-    ensures refused_read { IfErr result (λ status. is_refusal status ≡ true →
-        MayHoldOne (S.contents shelf.old name.now)
-        (λ content. RefusesIfTold (after_mesh places number content) status)) }
-    ensures file { IfErr result (λ status. is_refusal status ≡ true → refused_file status ≡ Some number) }
-    ensures memory { IfErr result (λ status. hides_memory status ≡ false) }
-    ensures read_fault { (i : ℕ) → result ≡ Err (Status.ReadFault i) →
-        (i ≡ number) × HasRisen (S.faults shelf.old) (S.faults shelf.new) ×
-        (S.fault_at shelf.new ≡ i) }
-    ensures never { (result ≢ Err Status.Done) × (result ≢ Err Status.Words) × (result ≢ Err Status.WriteFault) }
+    ensures no_file { IfErr result (IsNoFile (after_mesh places number) number name.now
+        (shelf_call S.contents S.faults S.fault_at shelf.old shelf.new)) }
 {
     let soup = read_file(alloc, shelf, name, number, places)?;
     // `check` tests nothing: `read_file` has counted the triangles. `balanced` is the test.
@@ -70,8 +57,7 @@ fn read_parts<S: Shelf>(
     requires few { length files.now ≤ 64 }
     ensures contents { S.contents shelf.new ≡ S.contents shelf.old }
     ensures later { S.faults shelf.old ≤ S.faults shelf.new }
-    ensures parts { IfOk result (λ parts. HasParts places (map (S.contents shelf.old) files.now) parts.items) }
-    ensures parts_read { IfOk result (λ parts. MayHold (S.contents shelf.old) files.now
+    ensures parts { IfOk result (λ parts. MayHold (S.contents shelf.old) files.now
         (λ contents. HasParts places contents parts.items)) }
     ensures no_reply { IfErr result
         (IsNoScene places files.now (shelf_call S.contents S.faults S.fault_at shelf.old shelf.new)) }
@@ -97,7 +83,7 @@ fn join_parts(alloc: Global, parts: Vec<Closed>) -> Result<Scene, Status>
     ensures scene { IfOk result (λ scene. PassesOn (after_total (triangles_of parts.items)) scene.tris) }
     ensures meshes { IfOk result (λ scene. scene.meshes ≡ length parts.items) }
     ensures refused { IfErr result (λ status. is_refusal status ≡ true →
-        RefusesIfTold (after_total (triangles_of parts.items)) status) }
+        Refuses (after_total (triangles_of parts.items)) status) }
     ensures kind { IfErr result IsAfterFiles }
     ensures no_read_fault { (i : ℕ) → result ≢ Err (Status.ReadFault i) }
     ensures never { (result ≢ Err Status.Done) × (result ≢ Err Status.Words) × (result ≢ Err Status.WriteFault) }
@@ -127,10 +113,8 @@ pub fn read_scene<S: Shelf>(
     requires few { length files.now ≤ 64 }
     ensures contents { S.contents shelf.new ≡ S.contents shelf.old }
     ensures later { S.faults shelf.old ≤ S.faults shelf.new }
-    ensures ok { IfOk result (λ scene.
-        PassesOnIfTold (after_scene places (map (S.contents shelf.old) files.now)) scene.tris) }
-    ensures ok_read { IfOk result (λ scene. MayHold (S.contents shelf.old) files.now
-        (λ contents. PassesOnIfTold (after_scene places contents) scene.tris)) }
+    ensures read { IfOk result (λ scene. MayHold (S.contents shelf.old) files.now
+        (λ contents. PassesOn (after_scene places contents) scene.tris)) }
     ensures meshes { IfOk result (λ scene. scene.meshes ≡ length files.now) }
     ensures no_reply { IfErr result
         (IsNoScene places files.now (shelf_call S.contents S.faults S.fault_at shelf.old shelf.new)) }

@@ -2,7 +2,7 @@
 ghost use Rattle.std.specs.Prelude.{ℕ, ℤ, pos, negsuc, ◌≤ℤ◌, ◌≡◌, ◌≢◌, ◌≤◌, List, [], ◌∷◌, length, true, All, Err, IfOk, IfErr};
 ghost use Rattle.ember_model.specs.FaceFiles.{IsFaceFile};
 ghost use Rattle.ember_model.specs.Valid.{IsValidFace};
-ghost use Rattle.ember_verdict.specs.Statuses.{IsTextIfTold, is_refusal};
+ghost use Rattle.ember_verdict.specs.Statuses.{IsText, is_refusal};
 ghost use Rattle.ember_verdict.specs.Devices.{shelf_call};
 ghost use Rattle.ember_verdict.specs.Held.{MayHold};
 ghost use Rattle.ember_verdict.specs.NoReplies.{IsNoReply};
@@ -83,9 +83,8 @@ pub fn slice_output<S: Shelf>(
     requires high { at ≤ℤ pos 2047 }
     ensures contents { S.contents shelf.new ≡ S.contents shelf.old }
     ensures later { S.faults shelf.old ≤ S.faults shelf.new }
-    ensures text { IfOk result (λ text. IsTextIfTold (slice_verdict at (S.contents shelf.old file.now)) text.items) }
-    ensures text_read { IfOk result (λ text. MayHold (S.contents shelf.old) (file.now ∷ [])
-        (λ contents. IsTextIfTold (slice_verdict at (file_at contents 1)) text.items)) }
+    ensures text { IfOk result (λ text. MayHold (S.contents shelf.old) (file.now ∷ [])
+        (λ contents. IsText (slice_verdict at (file_at contents 1)) text.items)) }
     ensures no_reply { IfErr result
         (IsNoReply (λ contents. slice_verdict at (file_at contents 1)) (file.now ∷ [])
         (shelf_call S.contents S.faults S.fault_at shelf.old shelf.new)) }

@@ -1,8 +1,5 @@
-use Rattle.std.proofs.Common.{ℕ, List, map, refl, subst}
-use Rattle.std.proofs.lemmas.List.{length-map}
+use Rattle.std.proofs.Common.{ℕ, List, refl, subst}
 use Rattle.ember_verdict.specs.Outputs.{SolidFaces}
-use Rattle.ember_verdict.specs.Reported.{IsReportOfVerdictIfAsked}
-use Rattle.ember_verdict.specs.Statuses.{IsTextIfTold}
 use Rattle.ember_verdict.specs.Devices.{shelf_call}
 use Rattle.ember_verdict.specs.Held.{MayHold}
 use Rattle.ember_verdict.specs.NoReplies.{IsNoReply}
@@ -10,8 +7,9 @@ use Rattle.ember_verdict.specs.Verdict.{Writes, after_bounded_expr, bool_verdict
 use Rattle.ember_verdict.proofs.HeldContents.{held_then}
 use Rattle.ember_verdict.proofs.SceneVerdicts.{SceneRead}
 use Rattle.ember_verdict.proofs.SolidFiles.{solid_file}
-use Rattle.ember_verdict.proofs.SolidVerdicts.{solid_reported, solid_written}
 use Rattle.ember_verdict.proofs.NoReplies.{scene_is_no_reply, expression_is_no_reply}
+use Rattle.ember_run.specs.Serves.{IsReply}
+use Rattle.ember_run.proofs.Replies.{solid_replied}
 use Rattle.ember_run.proofs.boole.boole_output.Goals as goal
 
 pub returns-in-Err-clause-no_reply : goal.returns-in-Err-clause-no_reply
@@ -31,30 +29,14 @@ returns-in-Err-read_scene-clause-no_reply g c =
     c.items-files.result.now shelf c.in-Err-read_scene.status _ refl c.in-Ok.ensures.expr
     c.in-Err-read_scene.ensures.no_reply)
 
-pub returns-clause-text : goal.returns-clause-text
-returns-clause-text g c =
+pub returns-clause-reply : goal.returns-clause-reply
+returns-clause-reply g c =
     let a = c.args in let told = g.S.Shelf.contents a.shelf.now in let names = c.items-files.result.now in
-    subst (λ (names : List (List ℕ)). IsTextIfTold (bool_verdict a.expr.now a.places (map told names)) c.in_ok-reply.reply.text.items) c.items-files.ensures
-    (solid_written a.expr.now a.places _ (map told names) _ _ _ (length-map names told) c.in-Ok.ensures.expr
-    c.in-Ok-read_scene.ensures.ok (solid_file a.expr.now _ _ c.in-Ok-read_scene.scene _ c.in-Ok.ensures.expr
-    c.in_ok-reply.ensures.text))
-
-pub returns-clause-report : goal.returns-clause-report
-returns-clause-report g c =
-    let a = c.args in let told = g.S.Shelf.contents a.shelf.now in let names = c.items-files.result.now in
-    subst (λ (names : List (List ℕ)). IsReportOfVerdictIfAsked a.reported
-    (bool_verdict a.expr.now a.places (map told names)) c.in_ok-reply.reply.report.items) c.items-files.ensures
-    (solid_reported a.reported a.expr.now a.places _ (map told names) _ _ _ (length-map names told) c.in-Ok.ensures.expr
-    c.in-Ok-read_scene.ensures.ok c.in_ok-reply.ensures.report)
-
-pub returns-clause-text_read : goal.returns-clause-text_read
-returns-clause-text_read g c =
-    let a = c.args in let told = g.S.Shelf.contents a.shelf.now in let names = c.items-files.result.now in let scene = c.in-Ok-read_scene.scene in
+    let scene = c.in-Ok-read_scene.scene in let reply = c.in_ok-reply.reply in
     subst (λ (names : List (List ℕ)). MayHold told names
-    (λ contents. IsTextIfTold (bool_verdict a.expr.now a.places contents) c.in_ok-reply.reply.text.items))
-    c.items-files.ensures
+    (λ contents. IsReply a.reported (bool_verdict a.expr.now a.places contents) reply)) c.items-files.ensures
     (held_then told names (λ contents. SceneRead a.places contents scene.tris)
-    (λ contents. IsTextIfTold (bool_verdict a.expr.now a.places contents) c.in_ok-reply.reply.text.items)
-    (λ contents l read. solid_written a.expr.now a.places _ contents _ _ _ l c.in-Ok.ensures.expr read
-    (solid_file a.expr.now _ _ scene _ c.in-Ok.ensures.expr c.in_ok-reply.ensures.text))
-    c.in-Ok-read_scene.ensures.ok_read)
+    (λ contents. IsReply a.reported (bool_verdict a.expr.now a.places contents) reply)
+    (λ contents l read. solid_replied a.reported a.expr.now a.places _ contents _ scene.tris reply l c.in-Ok.ensures.expr read
+    (solid_file a.expr.now _ _ scene _ c.in-Ok.ensures.expr c.in_ok-reply.ensures.text) c.in_ok-reply.ensures.report)
+    c.in-Ok-read_scene.ensures.read)

@@ -3,7 +3,7 @@ use Rattle.ember_verdict.specs.Devices.{shelf_call}
 use Rattle.ember_verdict.specs.Held.{MayHold}
 use Rattle.ember_verdict.specs.Outputs.{MeetingPairs}
 use Rattle.ember_verdict.specs.NoReplies.{IsNoReply}
-use Rattle.ember_verdict.specs.Statuses.{IsTextIfTold}
+use Rattle.ember_verdict.specs.Statuses.{IsText}
 use Rattle.ember_verdict.specs.Verdict.{Writes, pairs_verdict}
 use Rattle.ember_verdict.proofs.HeldContents.{held_then}
 use Rattle.ember_verdict.proofs.SceneVerdicts.{SceneRead, pairs_listed}
@@ -16,11 +16,11 @@ returns-in-Err-clause-no_reply g c =
     subst (λ (names : List (List ℕ)). IsNoReply (pairs_verdict a.places) names shelf c.in-Err.status) c.items.ensures
     (c.in-Err.ensures.no_reply (λ tris. Writes (MeetingPairs tris)))
 
-pub returns-clause-text_read : goal.returns-clause-text_read
-returns-clause-text_read g c =
+pub returns-clause-text : goal.returns-clause-text
+returns-clause-text g c =
     let a = c.args in let told = g.S.Shelf.contents a.shelf.now in let names = c.items.result.now in let scene = c.in-Ok.scene in
     subst (λ (names : List (List ℕ)). MayHold told names
-    (λ contents. IsTextIfTold (pairs_verdict a.places contents) c.in_ok-text_of_pairs.field-0.items)) c.items.ensures
+    (λ contents. IsText (pairs_verdict a.places contents) c.in_ok-text_of_pairs.field-0.items)) c.items.ensures
     (held_then told names (λ contents. SceneRead a.places contents scene.tris)
-    (λ contents. IsTextIfTold (pairs_verdict a.places contents) c.in_ok-text_of_pairs.field-0.items)
-    (λ contents l read. pairs_listed a.places contents scene.tris _ read c.in_ok-text_of_pairs.ensures) c.in-Ok.ensures.ok_read)
+    (λ contents. IsText (pairs_verdict a.places contents) c.in_ok-text_of_pairs.field-0.items)
+    (λ contents l read. pairs_listed a.places contents scene.tris _ read c.in_ok-text_of_pairs.ensures) c.in-Ok.ensures.read)

@@ -1,7 +1,6 @@
-use Rattle.std.proofs.Common.{ℕ, List, map, refl, subst}
-use Rattle.std.proofs.lemmas.List.{length-map}
+use Rattle.std.proofs.Common.{ℕ, List, refl, subst}
 use Rattle.ember_verdict.specs.Outputs.{Lattice}
-use Rattle.ember_verdict.specs.Statuses.{IsTextIfTold}
+use Rattle.ember_verdict.specs.Statuses.{IsText}
 use Rattle.ember_verdict.specs.Devices.{shelf_call}
 use Rattle.ember_verdict.specs.Held.{MayHold}
 use Rattle.ember_verdict.specs.NoReplies.{IsNoReply}
@@ -30,20 +29,12 @@ returns-in-Err-read_scene-clause-no_reply g c =
 
 pub returns-clause-text : goal.returns-clause-text
 returns-clause-text g c =
-    let a = c.args in let told = g.S.Shelf.contents a.shelf.now in let names = c.items-files.result.now in
-    subst (λ (names : List (List ℕ)). IsTextIfTold (voxels_verdict a.expr.now a.size a.places (map told names))
-    c.in_ok-text_of_voxels.field-0.items) c.items-files.ensures
-    (lattice_sampled a.expr.now a.size a.places _ (map told names) _ _ _ (length-map names told) c.in-Ok.ensures.expr
-    c.in-Ok-read_scene.ensures.ok c.in_ok-text_of_voxels.ensures)
-
-pub returns-clause-text_read : goal.returns-clause-text_read
-returns-clause-text_read g c =
     let a = c.args in let told = g.S.Shelf.contents a.shelf.now in let names = c.items-files.result.now in let scene = c.in-Ok-read_scene.scene in
     subst (λ (names : List (List ℕ)). MayHold told names
-    (λ contents. IsTextIfTold (voxels_verdict a.expr.now a.size a.places contents)
+    (λ contents. IsText (voxels_verdict a.expr.now a.size a.places contents)
     c.in_ok-text_of_voxels.field-0.items)) c.items-files.ensures
     (held_then told names (λ contents. SceneRead a.places contents scene.tris)
-    (λ contents. IsTextIfTold (voxels_verdict a.expr.now a.size a.places contents)
+    (λ contents. IsText (voxels_verdict a.expr.now a.size a.places contents)
     c.in_ok-text_of_voxels.field-0.items)
     (λ contents l read. lattice_sampled a.expr.now a.size a.places _ contents _ _ _ l c.in-Ok.ensures.expr read
-    c.in_ok-text_of_voxels.ensures) c.in-Ok-read_scene.ensures.ok_read)
+    c.in_ok-text_of_voxels.ensures) c.in-Ok-read_scene.ensures.read)

@@ -1,11 +1,10 @@
-use Rattle.std.proofs.Common.{ℕ, List, map, subst, IfOk, IfErr, refl}
-use Rattle.std.proofs.lemmas.List.{length-map}
-use Rattle.ember_verdict.specs.Statuses.{IsTextIfTold}
+use Rattle.std.proofs.Common.{ℕ, List, subst, IfOk, IfErr, refl}
+use Rattle.ember_verdict.specs.Statuses.{IsText}
 use Rattle.ember_verdict.specs.Devices.{shelf_call}
 use Rattle.ember_verdict.specs.Held.{MayHold}
 use Rattle.ember_verdict.specs.NoReplies.{IsNoReply}
 use Rattle.ember_verdict.specs.Verdict.{after_given, at_verdict, counts_verdict}
-use Rattle.ember_verdict.proofs.AtVerdict.{held_text_if, point_is_no_reply_if, text_if}
+use Rattle.ember_verdict.proofs.AtVerdict.{point_is_no_reply_if, text_if}
 use Rattle.ember_verdict.proofs.NoReplies.{scene_is_no_reply, expression_is_no_reply}
 use Rattle.ember_verdict.proofs.at.at_output.Goals as goal
 
@@ -27,21 +26,12 @@ returns-in-Err-read_scene-clause-no_reply g c =
 
 pub returns-clause-text : goal.returns-clause-text
 returns-clause-text g c =
-    let a = c.args in let told = g.S.Shelf.contents a.shelf.now in let names = c.items-files.result.now in
-    subst (λ (names : List (List ℕ)). IfOk c.text_at.result
-    (λ text. IsTextIfTold (at_verdict a.point.now a.expr.now a.places (map told names)) text.items))
-    c.items-files.ensures
-    (text_if a.point.now a.expr.now a.places _ (map told names) _ _ c.text_at.result (length-map names told)
-    c.in-Ok.ensures.expr c.in-Ok-read_scene.ensures.ok c.text_at.ensures.text)
-
-pub returns-clause-text_read : goal.returns-clause-text_read
-returns-clause-text_read g c =
     let a = c.args in let told = g.S.Shelf.contents a.shelf.now in
     subst (λ (names : List (List ℕ)). IfOk c.text_at.result
-    (λ text. MayHold told names (λ contents. IsTextIfTold (at_verdict a.point.now a.expr.now a.places contents)
+    (λ text. MayHold told names (λ contents. IsText (at_verdict a.point.now a.expr.now a.places contents)
     text.items))) c.items-files.ensures
-    (held_text_if a.point.now a.expr.now a.places _ told c.items-files.result.now _ _ c.text_at.result refl
-    c.in-Ok.ensures.expr c.in-Ok-read_scene.ensures.ok_read c.text_at.ensures.text)
+    (text_if a.point.now a.expr.now a.places _ told c.items-files.result.now _ _ c.text_at.result refl
+    c.in-Ok.ensures.expr c.in-Ok-read_scene.ensures.read c.text_at.ensures.text)
 
 pub returns-clause-no_reply : goal.returns-clause-no_reply
 returns-clause-no_reply g c =
@@ -49,4 +39,4 @@ returns-clause-no_reply g c =
     let shelf = shelf_call g.S.Shelf.contents g.S.Shelf.faults g.S.Shelf.fault_at a.shelf.now c.read_scene.new.shelf in
     subst (λ (names : List (List ℕ)). IfErr c.text_at.result (IsNoReply (at_verdict a.point.now a.expr.now a.places) names shelf)) c.items-files.ensures
     (point_is_no_reply_if a.point.now a.expr.now a.places _ names shelf _ _ c.text_at.result refl c.in-Ok.ensures.expr
-    c.in-Ok-read_scene.ensures.ok c.in-Ok-read_scene.ensures.ok_read e.refused e.kind e.no_read_fault e.never)
+    c.in-Ok-read_scene.ensures.read e.refused e.kind e.no_read_fault e.never)

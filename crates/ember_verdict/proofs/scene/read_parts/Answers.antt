@@ -1,20 +1,21 @@
-use Rattle.std.proofs.Common.{arith, ◌≡◌, Err, IfErr, ap, rules, ◌∙◌}
-use Rattle.ember_verdict.proofs.ErrTexts.{has_risen_later}
+use Rattle.std.proofs.Common.{arith, ◌≡◌, IfErr, refl, rules, ◌∙◌}
 use Rattle.ember_verdict.specs.declared.status.Status.TheVariants.{OutOfMemory}
+use Rattle.ember_verdict.specs.Devices.{shelf_call}
+use Rattle.ember_verdict.specs.Verdict.{after_mesh}
+use Rattle.ember_verdict.proofs.NoFiles.{no_file_since}
 use Rattle.ember_verdict.proofs.NoReplies.{memory_is_no_scene}
-use Rattle.ember_verdict.proofs.SceneFiles.{more_held_parts, more_parts, part_is_no_reply}
+use Rattle.ember_verdict.proofs.SceneFiles.{more_held_parts, part_is_no_scene}
 use Rattle.ember_verdict.proofs.scene.read_parts.Goals as goal
 
 pub returns-in-Err-clause-no_reply : goal.returns-in-Err-clause-no_reply
 returns-in-Err-clause-no_reply g c =
-    let l = c.loop-file.invariant in let e = c.in-Err.ensures in
-    part_is_no_reply _ _ _ _ _ _ _ _ _ _ c.loop-file-test.true l.parts l.parts_read l.contents l.number
-    (c.as_str.ensures ∙ c.file-item.is) e.refused_read e.refused e.file (λ i f. let a = e.read_fault i (ap Err f) in
-    (a.0, has_risen_later _ _ _ l.later a.1, a.2)) e.memory (
-      λ f. e.never.0 (ap Err f),
-      λ f. e.never.1 (ap Err f),
-      λ f. e.never.2 (ap Err f),
-    )
+    let a = c.args in let l = c.loop-file.invariant in let name = c.as_str.result.now in
+    let late = shelf_call g.S.Shelf.contents g.S.Shelf.faults g.S.Shelf.fault_at c.loop-file.shelf c.read_mesh.new.shelf in
+    let all = shelf_call g.S.Shelf.contents g.S.Shelf.faults g.S.Shelf.fault_at a.shelf.now c.read_mesh.new.shelf in
+    part_is_no_scene a.places _ _ c.loop-file.number _ name _ all c.in-Err.status c.loop-file-test.true l.parts l.number
+    (c.as_str.ensures ∙ c.file-item.is)
+    (no_file_since (after_mesh a.places c.loop-file.number) c.loop-file.number name name late all c.in-Err.status
+    l.contents l.later refl refl refl c.in-Err.ensures.no_file)
 
 pub returns-in_err-push-clause-no_reply : goal.returns-in_err-push-clause-no_reply
 returns-in_err-push-clause-no_reply g c =
@@ -28,8 +29,6 @@ loop-file-preserved g c =
       contents = e.contents ∙ l.contents;
       later = omega arith;
       number = omega arith;
-      parts = more_parts _ _ _ _ _ _ _ _ _ _ _ c.loop-file-test.true l.parts l.contents l.number
-          (c.as_str.ensures ∙ c.file-item.is) c.in_ok-push.ensures.items e.number e.ok;
-      parts_read = more_held_parts _ _ _ _ _ _ _ _ _ _ _ c.loop-file-test.true l.parts_read l.contents l.number
-          (c.as_str.ensures ∙ c.file-item.is) c.in_ok-push.ensures.items e.number e.ok_read;
+      parts = more_held_parts _ _ _ _ _ _ _ _ _ _ _ c.loop-file-test.true l.parts l.contents l.number
+          (c.as_str.ensures ∙ c.file-item.is) c.in_ok-push.ensures.items e.number e.read;
     }

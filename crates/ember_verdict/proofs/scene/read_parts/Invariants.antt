@@ -1,4 +1,4 @@
-use Rattle.std.proofs.Common.{◌≡◌, ◌≤◌, ◌+◌, map, take}
+use Rattle.std.proofs.Common.{◌≡◌, ◌≤◌, ◌+◌, take}
 use Rattle.ember_verdict.specs.Held.{MayHold}
 use Rattle.ember_verdict.specs.Scenes.{HasParts}
 use Rattle.ember_verdict.proofs.scene.read_parts.Given as goal
@@ -9,6 +9,5 @@ invariant-loop-file g l =
       contents : g.S.Shelf.contents l.shelf ≡ g.S.Shelf.contents l.initial.shelf;
       later : g.S.Shelf.faults l.initial.shelf ≤ g.S.Shelf.faults l.shelf;
       number : l.number ≡ l.file-index + 1;
-      parts : HasParts l.places (map (g.S.Shelf.contents l.initial.shelf) (take l.file-index l.files)) l.parts.items;
-      parts_read : MayHold (g.S.Shelf.contents l.initial.shelf) (take l.file-index l.files) (λ contents. HasParts l.places contents l.parts.items);
+      parts : MayHold (g.S.Shelf.contents l.initial.shelf) (take l.file-index l.files) (λ contents. HasParts l.places contents l.parts.items);
     }

@@ -1,0 +1,13 @@
+use Rattle.ember_verdict.specs.Devices.{shelf_call}
+use Rattle.ember_verdict.specs.NoReplies.{IsNoFile}
+use Rattle.ember_verdict.specs.Verdict.{after_mesh}
+use Rattle.ember_verdict.proofs.NoFiles.{file_is_no_mesh}
+use Rattle.ember_verdict.proofs.Verdicts.{passed_on}
+use Rattle.ember_verdict.proofs.scene.read_mesh.Goals as goal
+
+pub returns-in_err-soup-clause-no_file : goal.returns-in_err-soup-clause-no_file
+returns-in_err-soup-clause-no_file g c =
+    let a = c.args in
+    let shelf = shelf_call g.S.Shelf.contents g.S.Shelf.faults g.S.Shelf.fault_at a.shelf.now c.read_file.new.shelf in
+    passed_on (IsNoFile (after_mesh a.places a.number) a.number a.name.now shelf) _ _ c.from_residual.ensures.1
+    (file_is_no_mesh a.places a.number a.name.now shelf _ c.in_err-soup.ensures.no_file)
