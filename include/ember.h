@@ -1,0 +1,121 @@
+/* ember.h: exact Booleans of closed triangle meshes. Licence: MIT. docs/use/LIBRARY.md says how to use it. */
+#ifndef EMBER_H
+#define EMBER_H
+#include <stddef.h>
+#include <stdint.h>
+#include <stdlib.h>
+#include <string.h>
+#ifdef __cplusplus
+extern "C" {
+#endif
+
+/* The version of this interface. It changes if a struct or a meaning does. */
+#define EMBER_ABI 1u
+
+/* The statuses: the exit statuses of the programs. docs/use/FORMATS.md and docs/use/MESHES.md say when each comes. */
+enum {
+  EMBER_DONE = 0,
+  EMBER_WORDS = 2,
+  EMBER_NO_FILE = 3,
+  EMBER_NOT_WRITTEN = 4,
+  EMBER_REFUSED = 5,
+  EMBER_NOT_CLOSED = 6,
+  EMBER_EXPRESSION = 7,
+  EMBER_UNBOUNDED = 8,
+  EMBER_TOO_MUCH = 9,
+  EMBER_TOO_FAR = 10,
+  EMBER_DOCUMENT = 11,
+  EMBER_NO_MEMORY = 12,
+  EMBER_NO_TEXT = 13,
+  EMBER_UNCERTIFIED = 14
+};
+
+/* Bytes that the caller lends for a call. `at` isn't NULL, not even if `len` is 0. Nobody may write them during the call. */
+typedef struct {
+  const uint8_t *at;
+  size_t len;
+} ember_bytes;
+
+/* A block that the caller owns after a call; NULL and 0 if it has no bytes. It came from malloc. */
+typedef struct {
+  uint8_t *at;
+  size_t len;
+} ember_block;
+
+/* A file that the caller lends. */
+typedef struct {
+  ember_bytes name, bytes;
+} ember_file;
+
+/* A file that the caller owns after a call. */
+typedef struct {
+  ember_block name, bytes;
+} ember_named;
+
+/* What a program would leave. With a status above 0 `out` and `files` are empty, and `err` has one line; but with
+   EMBER_NO_TEXT it has none, and with EMBER_NO_MEMORY it may have none. */
+typedef struct {
+  uint32_t status;      /* the exit status of the program */
+  uint32_t file;        /* the number of the file at fault, from 1, in the order in which the words name them; 0 if none is
+                           known to be */
+  uint64_t place;       /* the line, facet, vertex or face in it, from 1; 0 if only the line in `err` has it, or if none is
+                           known */
+  ember_block out, err; /* what the program writes to standard output and to standard error */
+  ember_named *files;   /* the files that it writes, in this order; NULL if there are none */
+  size_t n_files;
+} ember_answer;
+
+/* Does what `ember-mesh WORDS..` does in a folder that has exactly these files (of those with one name the first counts),
+   with one thread. Nothing is read from or written to the system. `words` are UTF-8, without the program's name. `answer` is
+   overwritten, whatever it holds; free it with ember_answer_free. Returns answer->status. Any number of threads may call at
+   once, each with an answer of its own. */
+uint32_t ember_mesh_command(const ember_bytes *words, size_t n_words, const ember_file *files, size_t n_files, ember_answer *answer);
+
+/* The same for `ember WORDS..`: faces, at, bool, demo, voxels, pairs, slice. */
+uint32_t ember_command(const ember_bytes *words, size_t n_words, const ember_file *files, size_t n_files, ember_answer *answer);
+
+/* The EMBER_ABI of the library that is linked. */
+uint32_t ember_abi(void);
+
+/* Writes as much of the library's version ("0.3.0", without a zero byte) as there is room for, and returns its length. */
+uint32_t ember_version(uint8_t *to, size_t room);
+
+/* Whether this processor can run the library. Call it once, before anything else. */
+static inline int ember_runs_here(void) {
+#if defined(__x86_64__) && defined(__GNUC__)
+  return __builtin_cpu_supports("sse4.2") && __builtin_cpu_supports("popcnt") && __builtin_cpu_supports("ssse3");
+#else
+  return 0;
+#endif
+}
+
+/* The bytes of a text, without its zero byte. */
+static inline ember_bytes ember_text(const char *text) {
+  ember_bytes bytes = {(const uint8_t *)text, strlen(text)};
+  return bytes;
+}
+
+static inline void ember_free(ember_block *block) {
+  free(block->at);
+  block->at = NULL;
+  block->len = 0;
+}
+
+/* Frees all that an answer holds, and leaves it empty. */
+static inline void ember_answer_free(ember_answer *answer) {
+  size_t i;
+  for (i = 0; i < answer->n_files; i++) {
+    ember_free(&answer->files[i].name);
+    ember_free(&answer->files[i].bytes);
+  }
+  free(answer->files);
+  answer->files = NULL;
+  answer->n_files = 0;
+  ember_free(&answer->out);
+  ember_free(&answer->err);
+}
+
+#ifdef __cplusplus
+}
+#endif
+#endif
