@@ -1,9 +1,9 @@
 -- Over closed triangles, what changes its sign with the direction of an edge cancels.
 use Rattle.std.proofs.Common.{◌≡◌, refl, sym, ap, ◌∙◌, arith, ℕ, ◌+◌, Bool, true, false, ◌&&◌, eqb, eqb-true, eq-eqb, List, [], ◌∷◌, ℤ, ◌+ℤ◌}
+use Rattle.std.proofs.lemmas.Bool.{and_parts}
 use Rattle.ember_algebra.specs.Sums.{total, occurrences}
 use Rattle.ember_algebra.proofs.Laws.{linear}
 use Rattle.ember_algebra.proofs.Sums.{IsEquality, total_odd}
-use Rattle.ember_model.proofs.SignTests.{and_parts}
 use Rattle.mesh_written.specs.Closed.{Positions, one_if_edge, edges_between, AreTrianglesClosed}
 use Rattle.mesh_tolerance.proofs.MovedTriangles.{around, HaveNoOddSum}
 

@@ -2,7 +2,7 @@
 use Rattle.std.proofs.Common.{◌≡◌, ◌≢◌, sym, ap, subst, ◌∙◌, arith, Bool, T, not, true, ◌&&◌, cond, [], ◌∷◌, ℤ, pos, ◌+ℤ◌, ◌*ℤ◌, neg_ℤ, ◌<ℤ◌}
 use lib.IntN.{*ℤ_comm}
 use Rattle.ember_algebra.specs.declared.Sign.{Sign}
-use Rattle.ember_algebra.specs.declared.Sign.TheVariants.{Zero}
+use Rattle.ember_algebra.specs.declared.Sign.TheVariants.{Neg, Zero, Pos}
 use Rattle.ember_algebra.specs.Sign.{sign, sgn, flip, times, is_neg, is_nil, same_sgn}
 use Rattle.ember_algebra.specs.Vector.{Vector, zero_v, dot, cross, det}
 use Rattle.ember_algebra.proofs.Identities.{orthogonal_parallel, parallel_products}
@@ -10,7 +10,7 @@ use Rattle.ember_algebra.proofs.Laws.{linear}
 use Rattle.ember_algebra.proofs.Order.{by_sign, pos_mul}
 use Rattle.ember_algebra.proofs.Ring.{◌⊕◌, ◌⊗◌, ◌≈◌, num, cancels}
 use Rattle.ember_algebra.proofs.Signs.{◌⇒◌, use_if, signs, sgn-mul, sgn-neg, not_null, sum3, sum3_from}
-use Rattle.ember_algebra.proofs.Vectors.{scalar, vector, tuple, identity, VectorE, TupleE, dotE, crossE, detE}
+use Rattle.ember_algebra.proofs.Vectors.{scalar, vector, tuple, identity, VectorE, TupleE, dotE, crossE, detE, square_positive}
 use Rattle.ember_model.specs.declared.plane.Plane.{Plane}
 use Rattle.ember_model.specs.declared.point.Axis.{Axis}
 use Rattle.ember_model.specs.declared.point.Axis.TheVariants.{X, Y, Z}
@@ -25,12 +25,11 @@ use Rattle.ember_model.proofs.PlaneValues.{along_dot, hit_flat, sign-number}
 use Rattle.ember_model.proofs.SignTests.{sgn_scaled, same_sgn_out, negative_not, positive_nonzero, size_positive, zero_scaled}
 use Rattle.ember_model.proofs.Tuples.{spot_tuple}
 use Rattle.ember_meaning.specs.Closed.Chains.{displacement}
-use Rattle.ember_meaning.proofs.Displacements.{displacementE, displacement_value, dot_swap, orthogonal_to_none, square_positive}
+use Rattle.ember_meaning.proofs.Displacements.{displacementE, displacement_value, dot_swap, orthogonal_to_none}
 use Rattle.ember_meaning.proofs.EdgeForm.{flat_displacement}
 use Rattle.mesh_certificate.specs.Certificate.Facing.{triangle_normal, FacesFront}
 use Rattle.mesh_solid.specs.Winding.TriangleFaces.{side_plane, face_of_points}
 use Rattle.mesh_solid.proofs.GeneralPoints.{hit_weight}
-use Rattle.mesh_solid.proofs.Passings.{flip_flip}
 use Rattle.mesh_solid.proofs.Seen.{area, turn_at, side_value}
 use Rattle.mesh_tolerance.proofs.Rays.{ray_crossing, no_area_no_crossing, face_crossing}
 use Rattle.mesh_tolerance.proofs.Sides.{turn_of, seen_crossing}
@@ -64,6 +63,12 @@ flat_turn : (n e f g : Vector) → dot n f ≡ pos 0 → dot n g ≡ pos 0 →
     dot e n *ℤ dot n (cross f g) ≡ dot n n *ℤ dot e (cross f g)
 flat_turn n e f g zf zg =
     parallel_products e n n (cross f g) (orthogonal_parallel n f g zf zg) ∙ *ℤ_comm (dot e (cross f g)) (dot n n)
+
+-- a sign turned over twice is itself
+flip_flip : (s : Sign) → flip (flip s) ≡ s
+flip_flip Neg = refl
+flip_flip Zero = refl
+flip_flip Pos = refl
 
 -- a sign times another twice is that sign
 undone : (k x : Sign) → T (not (is_nil k)) → times k (times k x) ≡ x

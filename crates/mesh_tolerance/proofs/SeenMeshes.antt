@@ -2,7 +2,7 @@
 -- of an edge cancels over them.
 use Rattle.std.proofs.Common.{◌≡◌, refl, sym, ◌∙◌, arith, true, Option, Some, None, List, [], ◌∷◌, map, slice_get, nat_eq, ◌&&◌, ℕ, ℤ, pos, ◌+ℤ◌, ◌<ℤ◌}
 use Rattle.std.specs.List.{All}
-use Rattle.std.proofs.lemmas.Bool.{eqb-true}
+use Rattle.std.proofs.lemmas.Bool.{eqb-true, and_parts}
 use Rattle.std.proofs.lemmas.List.Elements.{All-head, All-tail}
 use Rattle.ember_algebra.specs.Sums.{total}
 use Rattle.ember_algebra.proofs.Laws.{linear}
@@ -12,7 +12,6 @@ use Rattle.ember_model.specs.declared.point.Axis.{Axis}
 use Rattle.ember_model.specs.declared.point.Spot.{Spot}
 use Rattle.ember_model.specs.Faces.{crossing}
 use Rattle.ember_model.specs.Meshes.{wind}
-use Rattle.ember_model.proofs.SignTests.{and_parts}
 use Rattle.mesh_certificate.specs.declared.certificate.space_point.SpacePoint.{SpacePoint}
 use Rattle.mesh_certificate.specs.declared.certificate.triangle.Triangle.{Triangle}
 use Rattle.mesh_certificate.specs.Certificate.Certificate.{leads_round, is_in_one_plane, FacesFrontOf, IsProper, edges_in}

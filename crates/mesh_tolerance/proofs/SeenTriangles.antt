@@ -6,14 +6,14 @@ use Rattle.ember_algebra.specs.Vector.{Vector, dot}
 use Rattle.ember_algebra.proofs.Laws.{linear}
 use Rattle.ember_algebra.proofs.Order.{pos_mul}
 use Rattle.ember_algebra.proofs.Ring.{◌⊕◌, ◌⊗◌, ◌≈◌, num, solve, cancels}
-use Rattle.ember_algebra.proofs.Vectors.{tuple, identity, dotE, crossE, valueE, vector_partE}
+use Rattle.ember_algebra.proofs.Vectors.{tuple, identity, dotE, crossE, valueE, vector_partE, square_positive}
 use Rattle.ember_model.specs.declared.point.Axis.{Axis}
 use Rattle.ember_model.specs.declared.point.Spot.{Spot}
 use Rattle.ember_model.specs.Meshes.{wind}
 use Rattle.ember_model.specs.Planes.{value_at}
 use Rattle.ember_model.proofs.Tuples.{spot_tuple}
 use Rattle.ember_meaning.specs.Closed.Chains.{displacement, is_zero_vector}
-use Rattle.ember_meaning.proofs.Displacements.{displacementE, zero_vector_out, zero_not, square_positive}
+use Rattle.ember_meaning.proofs.Displacements.{displacementE, zero_vector_out, zero_not}
 use Rattle.mesh_certificate.specs.Certificate.Facing.{triangle_normal, FacesFront}
 use Rattle.mesh_written.specs.Closed.{Positions}
 use Rattle.mesh_tolerance.specs.Similar.{HasWeights}
