@@ -14,7 +14,7 @@ pub invariant_of-result : goal.invariant_of-result
 invariant_of-result c =
     let t = c.args.t.now in let n = c.support_of-support in let s = c.main_edges-edge_planes in
     let flat : is_flat t ≡ false = flat_is t n.result c.has_no_normal.result n.ensures.value c.has_no_normal.ensures ∙ c.if-has_no_normal.false in
-    tri_ring t n.result _ _ _ flat n.ensures.value n.ensures.valid s.ensures.value s.ensures.valid
+    tri_ring t n.result _ _ _ flat n.ensures.value (n.ensures.valid c.requires) s.ensures.value s.ensures.valid
     c.in_ok-planes.ensures c.in_ok-edges.ensures c.in_ok-corners.ensures c.in_ok-plane_indices.ensures
     c.at_corner.ensures c.at_corner-2.ensures c.at_corner-3.ensures
 
