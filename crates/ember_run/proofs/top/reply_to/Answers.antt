@@ -4,7 +4,8 @@ use Rattle.ember_verdict.specs.Devices.{shelf_call}
 use Rattle.ember_verdict.specs.Held.{MayHold}
 use Rattle.ember_verdict.specs.NoReplies.{IsNoReply}
 use Rattle.ember_verdict.specs.Statuses.{IsText}
-use Rattle.ember_verdict.specs.Verdict.{file_at, names_of, slice_verdict, verdict_of}
+use Rattle.ember_verdict.specs.Verdict.{at_verdict, faces_verdict, file_at, names_of, pairs_verdict, slice_verdict, verdict_of}
+use Rattle.ember_verdict.specs.Verdict.{voxels_verdict}
 use Rattle.ember_verdict.proofs.Verdicts.{passed_on}
 use Rattle.ember_run.specs.Serves.{IsReplyTo}
 use Rattle.ember_run.proofs.Replies.{text_alone_replied, text_replied}
@@ -53,43 +54,48 @@ returns-in-Boole-clause-no_reply g c =
     (IsNoReply (verdict_of (Some command)) (names_of (Some command)) shelf)) (sym c.in-Boole.is)
     c.boole_output.ensures.no_reply
 
-pub returns-in-Faces-clause-reply : goal.returns-in-Faces-clause-reply
-returns-in-Faces-clause-reply g c =
+pub returns-in_ok-text-in-Faces-clause-reply : goal.returns-in_ok-text-in-Faces-clause-reply
+returns-in_ok-text-in-Faces-clause-reply g c =
     let told = g.S.Shelf.contents c.args.shelf.now in let reply = c.of.result in let made = c.of.ensures in
     subst (λ (command : Command). IsReplyTo command told reply) (sym c.in-Faces.is)
-    (text_replied told _ _ _ reply made.text made.report c.in_ok-text.ensures.text)
+    (text_replied told (c.in-Faces.file ∷ []) (λ contents. faces_verdict c.in-Faces.places (file_at contents 1)) _ reply
+    made.text made.report
+    c.in_ok-text-in-Faces.ensures.text)
 
-pub returns-in-At-clause-reply : goal.returns-in-At-clause-reply
-returns-in-At-clause-reply g c =
+pub returns-in_ok-text-in-At-clause-reply : goal.returns-in_ok-text-in-At-clause-reply
+returns-in_ok-text-in-At-clause-reply g c =
     let told = g.S.Shelf.contents c.args.shelf.now in let reply = c.of-in-At.result in let made = c.of-in-At.ensures in
     subst (λ (command : Command). IsReplyTo command told reply) (sym c.in-At.is)
-    (text_replied told _ _ _ reply made.text made.report c.in_ok-text-in-At.ensures.text)
+    (text_replied told _ (λ contents. at_verdict c.in-At.point c.in-At.expr c.in-At.places contents) _ reply made.text made.report
+    c.in_ok-text-in-At.ensures.text)
 
-pub returns-in-Voxels-clause-reply : goal.returns-in-Voxels-clause-reply
-returns-in-Voxels-clause-reply g c =
+pub returns-in_ok-text-in-Voxels-clause-reply : goal.returns-in_ok-text-in-Voxels-clause-reply
+returns-in_ok-text-in-Voxels-clause-reply g c =
     let told = g.S.Shelf.contents c.args.shelf.now in let reply = c.of-in-Voxels.result in let made = c.of-in-Voxels.ensures in
     subst (λ (command : Command). IsReplyTo command told reply) (sym c.in-Voxels.is)
-    (text_replied told _ _ _ reply made.text made.report c.in_ok-text-in-Voxels.ensures.text)
+    (text_replied told _ (λ contents. voxels_verdict c.in-Voxels.expr c.in-Voxels.size c.in-Voxels.places contents) _ reply
+    made.text made.report c.in_ok-text-in-Voxels.ensures.text)
 
-pub returns-in-Pairs-clause-reply : goal.returns-in-Pairs-clause-reply
-returns-in-Pairs-clause-reply g c =
+pub returns-in_ok-text-in-Pairs-clause-reply : goal.returns-in_ok-text-in-Pairs-clause-reply
+returns-in_ok-text-in-Pairs-clause-reply g c =
     let told = g.S.Shelf.contents c.args.shelf.now in let reply = c.of-in-Pairs.result in let made = c.of-in-Pairs.ensures in
     subst (λ (command : Command). IsReplyTo command told reply) (sym c.in-Pairs.is)
-    (text_replied told _ _ _ reply made.text made.report c.in_ok-text-in-Pairs.ensures.text)
+    (text_replied told _ (λ contents. pairs_verdict c.in-Pairs.places contents) _ reply made.text made.report
+    c.in_ok-text-in-Pairs.ensures.text)
 
-pub returns-in-Slice-clause-reply : goal.returns-in-Slice-clause-reply
-returns-in-Slice-clause-reply g c =
+pub returns-in_ok-text-in-Slice-clause-reply : goal.returns-in_ok-text-in-Slice-clause-reply
+returns-in_ok-text-in-Slice-clause-reply g c =
     let told = g.S.Shelf.contents c.args.shelf.now in let reply = c.of-in-Slice.result in let made = c.of-in-Slice.ensures in
     let level : to_z w32 (of_z w32 c.in-Slice.at) ≡ c.in-Slice.at = search rules in
-    let names = c.in-Slice.file ∷ [] in let text = c.in_ok-text-in-Slice.field-0.items in
+    let names = c.in-Slice.file ∷ [] in let text = c.in_ok-text-in-Slice.text.items in
     let read : MayHold told names (λ contents. IsText (slice_verdict c.in-Slice.at (file_at contents 1)) text) =
     subst (λ (at : ℤ). MayHold told names (λ contents. IsText (slice_verdict at (file_at contents 1)) text)) level
     c.in_ok-text-in-Slice.ensures.text in
     subst (λ (command : Command). IsReplyTo command told reply) (sym c.in-Slice.is)
     (text_replied told names (λ contents. slice_verdict c.in-Slice.at (file_at contents 1)) text reply made.text made.report read)
 
-pub returns-in-Demo-clause-reply : goal.returns-in-Demo-clause-reply
-returns-in-Demo-clause-reply g c =
+pub returns-in_ok-text-in-Demo-clause-reply : goal.returns-in_ok-text-in-Demo-clause-reply
+returns-in_ok-text-in-Demo-clause-reply g c =
     let told = g.S.Shelf.contents c.args.shelf.now in let reply = c.of-in-Demo.result in let made = c.of-in-Demo.ensures in
     subst (λ (command : Command). IsReplyTo command told reply) (sym c.in-Demo.is)
     (text_alone_replied told _ _ reply made.text made.report c.in_ok-text-in-Demo.ensures.text)
