@@ -58,16 +58,23 @@ fn put_visible(said: &[u8], text: &mut Vec<u8>) -> Result<(), OutOfMemory>
     Ok(())
 }
 
+// A line of the program with this text.
+fn line_text(alloc: Global, why: &[u8]) -> Result<Vec<u8>, OutOfMemory>
+    ensures { IfOk result (λ text. text.items ≡ line why.now) }
+{
+    let mut text = Vec::from_slice(alloc, b"ember-mesh: ")?;
+    put_visible(why, &mut text)?;
+    text.extend_from_slice(b"\n")?;
+    Ok(text)
+}
+
 /// A line of the program with this text. Names may have line feeds and escapes in them, so each control
 /// character of ASCII is shown as a question mark: it is one line, whatever it names.
 pub fn line(alloc: Global, why: &[u8]) -> Result<Vec<u8>, OutOfMemory>
     ensures text { IfOk result (λ text. text.items ≡ line why.now) }
     ensures single { IfOk result (λ text. IsOneLine text.items) }
 {
-    let mut text = Vec::from_slice(alloc, b"ember-mesh: ")?;
-    put_visible(why, &mut text)?;
-    text.extend_from_slice(b"\n")?;
-    Ok(text)
+    line_text(alloc, why)
 }
 
 /// Appends a count in decimal digits.
