@@ -43,8 +43,12 @@ struct NewFile<F: Drop> {
 // folder, a pipe and a device.
 fn take_permissions<R: Files>(rt: &R, new_file: &R::File, name: &str) -> io::Result<()> {
     match fs::metadata(rt, name) {
-        Ok(found) if found.is_file() => new_file.set_permissions(found.permissions()),
-        Ok(_) => Err(Error::from(ErrorKind::Unsupported)),
+        Ok(found) => {
+            if !found.is_file() {
+                return Err(Error::from(ErrorKind::Unsupported));
+            }
+            new_file.set_permissions(found.permissions())
+        }
         Err(error) if error.kind() == ErrorKind::NotFound => Ok(()),
         Err(error) => Err(error),
     }
@@ -64,13 +68,15 @@ fn replace_linked<R: Files>(
     new_file: &NewFile<R::File>,
     name: &str,
 ) -> io::Result<()> {
-    match fs::symlink_metadata(rt, name) {
-        Ok(found) if found.is_symlink() => {
-            let linked = rt.canonicalize(alloc, name)?.into_string();
-            replace(rt, new_file, linked.as_str())
-        }
-        _ => replace(rt, new_file, name),
+    let is_link = match fs::symlink_metadata(rt, name) {
+        Ok(found) => found.is_symlink(),
+        Err(_) => false,
+    };
+    if !is_link {
+        return replace(rt, new_file, name);
     }
+    let linked = rt.canonicalize(alloc, name)?.into_string();
+    replace(rt, new_file, linked.as_str())
 }
 
 /// The files of the system. A new file is on the device before it takes its name. It takes the
