@@ -141,12 +141,12 @@ fn shown_fault(alloc: Global, arguments: &[Argument]) -> Result<Option<Refusal>,
 }
 
 // Why files of these names, which the option writes, are refused, if the output is one of them.
-fn over_output(setting: Setting, names: &[Text], arguments: &[Argument]) -> Option<Refusal>
-    ensures { result ≡ over_output setting names.now (value_in setting.Output arguments.now) }
+fn over_output(option: Setting, names: &[Text], arguments: &[Argument]) -> Option<Refusal>
+    ensures { result ≡ over_output option names.now (value_in setting.Output arguments.now) }
 {
     let output = value_in(arguments, Setting::Output)?;
     match first_same(output.as_str(), names) {
-        Some(_) => Some(Refusal::OverOutput(setting)),
+        Some(_) => Some(Refusal::OverOutput(option)),
         None => None,
     }
 }
