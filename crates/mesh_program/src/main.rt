@@ -54,7 +54,7 @@ fn main(rt: HostRuntime) -> ExitCode {
     let is_shown = rt.stderr().is_terminal() && !are_quiet(&words);
     let gate = ProgressGate::new(&rt, is_shown);
     let mut shelf = FileShelf::new(&rt);
-    let mut target = FileTarget::new(&rt);
+    let mut target = FileTarget::new(&rt, rt.alloc());
     // Standard output.
     let mut out = StdSink::new(io::writer(&rt));
     let mut err = StdSink::new(rt.stderr());

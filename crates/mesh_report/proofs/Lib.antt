@@ -1,3 +1,4 @@
 pub mod ShownSteps
 pub mod Appended
 pub mod CountLines
+pub mod OneLines

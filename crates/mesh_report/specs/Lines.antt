@@ -1,7 +1,8 @@
 -- The line on standard error of a request that isn't met
-use Rattle.std.specs.Prelude.{⊤, ℕ, ℤ, ◌+ℤ◌, ◌*ℤ◌, ◌<◌, ◌+◌, ◌-◌, ◌*◌, ◌^◌, List, [], ◌++◌, codes}
+use Rattle.std.specs.Prelude.{◌≡◌, ⊤, ℕ, ℤ, ◌+ℤ◌, ◌*ℤ◌, ◌<◌, ◌+◌, ◌-◌, ◌*◌, ◌^◌, false, List, [], ◌++◌, All, codes, map}
 use Rattle.std.specs.Prelude.{decimal, get_or, pos, nat_le, ◌==◌, Some, None, unsigned_abs}
 use Rattle.std.specs.Prelude.{if◌then◌else◌, string_bytes}
+use Rattle.std.specs.Char.{is_ascii_control}
 use Rattle.std.specs.declared.option.Option.{Option}
 use Rattle.ember_expr.specs.declared.fault.ExprFault.{ExprFault}
 use Rattle.ember_expr.specs.declared.fault.ExprFault.TheVariants as expr
@@ -39,10 +40,25 @@ use Rattle.mesh_report.specs.declared.status.Status.TheVariants.{Uncertified}
 abbrev pub name_of : List (List ℕ) → ℕ → List ℕ
 name_of names i = get_or names (i - 1) []
 
--- ---- pieces of lines
+-- ---- lines
+-- a question mark stands for a control character of ASCII, as a line feed or an escape
+abbrev pub visible_byte : ℕ → ℕ
+visible_byte byte = if is_ascii_control byte then 63 else byte
+
+abbrev pub visible : List ℕ → List ℕ
+visible text = map visible_byte text
+
 -- a line of the program
 abbrev pub line : List ℕ → List ℕ
-line text = codes "ember-mesh: " ++ (text ++ codes "\n")
+line text = codes "ember-mesh: " ++ (visible text ++ codes "\n")
+
+-- the line feed at the end is the only control character
+pub record IsOneLine (text : List ℕ) : Type 0 where
+  pub said : List ℕ
+  pub is_said : text ≡ said ++ codes "\n"
+  pub is_visible : All (λ byte. is_ascii_control byte ≡ false) said
+
+-- ---- pieces of lines
 
 -- a step in the user's unit
 abbrev pub step_text : GridStep → List ℕ

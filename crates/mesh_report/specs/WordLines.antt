@@ -39,6 +39,9 @@ refusal_text words (refusal.PageEnding s) = value_text s words ++ codes ": the n
 refusal_text words (refusal.OverInput s i) =
     value_text s words ++
     (codes ": would write over the input " ++ (input_given i words ++ codes "; give another name"))
+refusal_text words (refusal.OverOutput s) =
+    value_text s words ++
+    (codes ": would write the same file as -o " ++ (output_given words ++ codes "; give another name"))
 refusal_text words refusal.NotOneDocument = codes "export takes one document; see ember-mesh help"
 refusal_text words refusal.NoFolder = word_text (codes "-d") (codes "is missing")
 refusal_text words refusal.NoOutput = word_text (codes "-o") (codes "is missing")

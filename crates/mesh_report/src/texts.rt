@@ -4,7 +4,7 @@ ghost use Rattle.std.specs.Fmt.{signed_decimal};
 ghost use Rattle.mesh_grid.specs.Moves.Shown.{rounded_of};
 ghost use Rattle.mesh_grid.specs.Snap.Steps.{IsStep};
 ghost use Rattle.mesh_written.specs.Places.{place_of};
-ghost use Rattle.mesh_report.specs.Lines.{corner_text, length_text, line, move_text, name_of, shown, size_text, step_text, still_text, wanted_text};
+ghost use Rattle.mesh_report.specs.Lines.{IsOneLine, corner_text, length_text, line, move_text, name_of, shown, size_text, step_text, still_text, visible, visible_byte, wanted_text};
 
 use ember_model::{Axis, Corner, OutOfMemory};
 use ember_words::Texts;
@@ -41,14 +41,40 @@ pub fn wanted_text(step: &WantedStep) -> &[u8]
     }
 }
 
-/// A line of the program with this text.
-pub fn line(alloc: Global, why: &[u8]) -> Result<Vec<u8>, OutOfMemory>
+// The byte, or a question mark in place of a control character.
+fn visible_byte(byte: u8) -> u8
+    ensures { result ≡ visible_byte byte }
+{
+    if byte.is_ascii_control() { b'?' } else { byte }
+}
+
+// Appends the text with a question mark in place of each control character.
+fn put_visible(said: &[u8], text: &mut Vec<u8>) -> Result<(), OutOfMemory>
+    ensures { OnOk result (text.new.items ≡ text.old.items ++ visible said.now) }
+{
+    for byte in said {
+        text.push(visible_byte(*byte))?;
+    }
+    Ok(())
+}
+
+// A line of the program with this text.
+fn line_text(alloc: Global, why: &[u8]) -> Result<Vec<u8>, OutOfMemory>
     ensures { IfOk result (λ text. text.items ≡ line why.now) }
 {
     let mut text = Vec::from_slice(alloc, b"ember-mesh: ")?;
-    text.extend_from_slice(why)?;
+    put_visible(why, &mut text)?;
     text.extend_from_slice(b"\n")?;
     Ok(text)
+}
+
+/// A line of the program with this text. Names may have line feeds and escapes in them, so each control
+/// character of ASCII is shown as a question mark: it is one line, whatever it names.
+pub fn line(alloc: Global, why: &[u8]) -> Result<Vec<u8>, OutOfMemory>
+    ensures text { IfOk result (λ text. text.items ≡ line why.now) }
+    ensures single { IfOk result (λ text. IsOneLine text.items) }
+{
+    line_text(alloc, why)
 }
 
 /// Appends a count in decimal digits.

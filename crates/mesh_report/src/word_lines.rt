@@ -116,6 +116,27 @@ fn put_over_input(
     )
 }
 
+// Appends that the output would be written twice.
+fn put_over_output(
+    alloc: Global,
+    words: &[String],
+    option: Setting,
+    text: &mut Vec<u8>,
+) -> Result<(), OutOfMemory>
+    ensures { OnOk result (text.new.items ≡ text.old.items ++
+        (value_text option (map string_bytes words.now) ++ (codes ": would write the same file as -o " ++
+        (output_given (map string_bytes words.now) ++ codes "; give another name")))) }
+{
+    let output = output_given(alloc, words)?;
+    put_given(alloc, words, option, text)?;
+    put_value(
+        b": would write the same file as -o ",
+        output.as_str().as_bytes(),
+        b"; give another name",
+        text,
+    )
+}
+
 // Appends why the words are refused.
 fn put_refusal(
     alloc: Global,
@@ -142,6 +163,7 @@ fn put_refusal(
         Refusal::Twice(option) => put_word(option.name().as_bytes(), b"is given twice", text),
         Refusal::PageEnding(option) => put_page_ending(alloc, words, option, text),
         Refusal::OverInput(option, number) => put_over_input(alloc, words, option, number, text),
+        Refusal::OverOutput(option) => put_over_output(alloc, words, option, text),
         Refusal::NotOneDocument => {
             text.extend_from_slice(b"export takes one document; see ember-mesh help")
         }

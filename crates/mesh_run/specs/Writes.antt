@@ -1,11 +1,12 @@
 -- The files that a request gets, by their names and bytes
-use Rattle.std.specs.Prelude.{◌≡◌, ℕ, zero, suc, List, [], ◌∷◌, ◌++◌, length, codes, decimal, Some, MatchOption}
+use Rattle.std.specs.Prelude.{◌≡◌, ℕ, zero, suc, List, [], ◌∷◌, ◌++◌, length, Some, MatchOption}
 use Rattle.std.specs.declared.option.Option.{Option}
 use Rattle.std.specs.Global.{Vec}
 use Rattle.mesh_boolean.specs.declared.output.KeptDocument.{KeptDocument}
 use Rattle.mesh_boolean.specs.declared.output.SolidFile.{SolidFile}
 use Rattle.mesh_boolean.specs.declared.writing.Written.{Written}
 use Rattle.mesh_words.specs.declared.command.Request.{Request}
+use Rattle.mesh_words.specs.Folders.{document_name, mesh_name, scene_name}
 use Rattle.ember_model.specs.declared.tri.Tri.{Tri}
 use Rattle.mesh_write.specs.Page.Pages.{page_of}
 use Rattle.mesh_write.specs.Page.ReadBack.{IsReadBack}
@@ -26,26 +27,22 @@ pub record AreAppended (Are : List NamedBytes → Type 0) (old new : List NamedB
   pub all : new ≡ old ++ made
 
 -- ---- a scene in a folder
--- the name of a file in a folder
-abbrev pub in_folder : List ℕ → List ℕ → List ℕ
-in_folder folder name = folder ++ (codes "/" ++ name)
-
--- mesh i as `i.obj`
+-- mesh i under its name
 abbrev pub mesh_file : List ℕ → List Tri → ℕ → NamedBytes
-mesh_file folder tris i = (in_folder folder (decimal i ++ codes ".obj"), mesh_text (triangles_of i tris))
+mesh_file folder tris i = (mesh_name folder i, mesh_text (triangles_of i tris))
 
 -- the first meshes, so many of them
 abbrev pub mesh_files : List ℕ → List Tri → ℕ → List NamedBytes
 mesh_files folder tris zero = []
 mesh_files folder tris (suc n) = mesh_files folder tris n ++ mesh_file folder tris (suc n) ∷ []
 
--- all meshes of a scene on its grid, and `scene.json`
+-- all meshes of a scene on its grid, and the grid
 pub record AreSceneFiles (folder : List ℕ) (names : List (List ℕ)) (placed : PlacedScene) (files : List NamedBytes) :
     Type 0 where
   pub text : List ℕ
   pub is_text : IsSceneText placed.grid names placed.counts.items placed.moves.items text
   pub all : files ≡ mesh_files folder placed.scene.tris (length names)
-      ++ (in_folder folder (codes "scene.json"), text) ∷ []
+      ++ (scene_name folder, text) ∷ []
 
 -- ---- a mesh
 -- the page of this name that shows these triangles under that title; a reader finds them in it again
@@ -70,7 +67,7 @@ pub record AreKeptFiles (names : List (List ℕ)) (placed : PlacedScene) (docume
     Type 0 where
   pub scene : List NamedBytes
   pub are_scene : AreSceneFiles folder names placed scene
-  pub all : files ≡ scene ++ (in_folder folder (codes "doc.txt"), document) ∷ []
+  pub all : files ≡ scene ++ (document_name folder, document) ∷ []
 
 -- the scene that an output keeps, with its grid and counts
 abbrev pub placed_of : SolidFile → KeptDocument → PlacedScene

@@ -4,14 +4,15 @@ ghost use Rattle.mesh_write.specs.Page.Pages.{page_of};
 ghost use Rattle.mesh_write.specs.Page.ReadBack.{IsReadBack};
 ghost use Rattle.mesh_grid.specs.Snap.Steps.{IsStep};
 ghost use Rattle.mesh_outside.specs.Target.Several.{names_and_bytes};
-ghost use Rattle.mesh_run.specs.Writes.{AreAppended, AreFilesIf, AreKeptFiles, AreMeshFiles, AreOutputsKept, AreSceneFiles, AreSolidFiles, IsPageFile, in_folder, mesh_file, mesh_files};
+ghost use Rattle.mesh_words.specs.Folders.{document_name, scene_name};
+ghost use Rattle.mesh_run.specs.Writes.{AreAppended, AreFilesIf, AreKeptFiles, AreMeshFiles, AreOutputsKept, AreSceneFiles, AreSolidFiles, IsPageFile, mesh_file, mesh_files};
 
 use ember_model::{OutOfMemory, Tri};
 use ember_words::Text;
 use mesh_boolean::{KeptDocument, SolidFile, Written};
 use mesh_outside::NamedFile;
 use mesh_scene::{PlacedScene, grid_mesh, scene_text};
-use mesh_words::Request;
+use mesh_words::{Request, document_name, mesh_name, scene_name};
 use mesh_write::{WrittenTriangle, page_bytes};
 use std::alloc::Global;
 
@@ -30,20 +31,36 @@ fn put_named(
     Ok(())
 }
 
-// Appends a file of this name in a folder.
-fn put_inside(
+// Appends the file of the grid in a folder.
+fn put_grid(
     alloc: Global,
     folder: &Text,
-    name: &str,
-    bytes: Vec<u8>,
+    text: Vec<u8>,
     files: &mut Vec<NamedFile>,
 ) -> Result<(), OutOfMemory>
     ensures { OnOk result (names_and_bytes files.new.items ≡
-        names_and_bytes files.old.items ++ (in_folder folder.now name.now, bytes.items) ∷ []) }
+        names_and_bytes files.old.items ++ (scene_name folder.now, text.items) ∷ []) }
 {
-    let folder = folder.as_str();
-    let name = format!(in alloc; "{folder}/{name}")?;
-    files.push(NamedFile { name, bytes })?;
+    let name = scene_name(alloc, folder.as_str())?;
+    files.push(NamedFile { name, bytes: text })?;
+    Ok(())
+}
+
+// Appends the file of the document in a folder.
+fn put_document(
+    alloc: Global,
+    folder: &Text,
+    document: Vec<u8>,
+    files: &mut Vec<NamedFile>,
+) -> Result<(), OutOfMemory>
+    ensures { OnOk result (names_and_bytes files.new.items ≡
+        names_and_bytes files.old.items ++ (document_name folder.now, document.items) ∷ []) }
+{
+    let name = document_name(alloc, folder.as_str())?;
+    files.push(NamedFile {
+        name,
+        bytes: document,
+    })?;
     Ok(())
 }
 
@@ -58,9 +75,10 @@ fn put_mesh(
     ensures { OnOk result (names_and_bytes files.new.items ≡
         names_and_bytes files.old.items ++ mesh_file folder.now tris.now mesh ∷ []) }
 {
-    let text = grid_mesh(alloc, tris, mesh)?;
-    let name = format!(in alloc; "{mesh}.obj")?;
-    put_inside(alloc, folder, name.as_str(), text, files)
+    let bytes = grid_mesh(alloc, tris, mesh)?;
+    let name = mesh_name(alloc, folder.as_str(), mesh as usize)?;
+    files.push(NamedFile { name, bytes })?;
+    Ok(())
 }
 
 // Appends the files of the first meshes.
@@ -103,7 +121,7 @@ fn put_scene(
         files,
     )?;
     let text = scene_text(alloc, &placed.grid, names, &placed.counts, &placed.moves)?;
-    put_inside(alloc, folder, "scene.json", text, files)
+    put_grid(alloc, folder, text, files)
 }
 
 /// The files of a scene in a folder: its meshes on their grid, and the grid.
@@ -208,7 +226,7 @@ fn put_kept(
         (names_and_bytes files.old.items) (names_and_bytes files.new.items)) }
 {
     put_scene(alloc, folder, names, placed, files)?;
-    put_inside(alloc, folder, "doc.txt", document, files)
+    put_document(alloc, folder, document, files)
 }
 
 // The files of what is to be kept of an output, and its mesh.

@@ -3,6 +3,7 @@ pub mod Arguments
 pub mod Allowed
 pub mod Values
 pub mod Paths
+pub mod Folders
 pub mod Targets
 pub mod Plain
 pub mod Views

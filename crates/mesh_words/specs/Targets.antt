@@ -1,15 +1,17 @@
 -- Why what a command writes is refused
-use Rattle.std.specs.Prelude.{ℕ, zero, suc, ◌+◌, ◌||◌, Bool, false, true, List, [], ◌∷◌, ◌++◌, length, codes}
-use Rattle.std.specs.Prelude.{decimal, Option, Some, None, is_some, option_map, if◌then◌else◌}
+use Rattle.std.specs.Prelude.{ℕ, ◌+◌, ◌||◌, Bool, false, true, List, [], ◌∷◌, length, codes, Option, Some, None}
+use Rattle.std.specs.Prelude.{is_some, option_map, if◌then◌else◌}
 use Rattle.std.specs.Option.{option_or}
 use Rattle.mesh_words.specs.declared.faults.Refusal.{Refusal}
 use Rattle.mesh_words.specs.declared.faults.Refusal.TheVariants.{NotFor, Twice, PageEnding, OverInput}
+use Rattle.mesh_words.specs.declared.faults.Refusal.TheVariants.{OverOutput}
 use Rattle.mesh_words.specs.declared.names.Setting.{Setting}
 use Rattle.mesh_words.specs.declared.names.Setting.TheVariants as setting
 use Rattle.mesh_words.specs.declared.arguments.Argument.{Argument}
 use Rattle.mesh_words.specs.Names.{Text}
 use Rattle.mesh_words.specs.Arguments.{inputs_in, value_for, value_in}
 use Rattle.mesh_words.specs.Allowed.{first_beside, boolean_settings, snap_settings, export_settings, view_settings}
+use Rattle.mesh_words.specs.Folders.{scene_names, kept_names}
 use Rattle.mesh_words.specs.Paths.{is_same_path}
 use Rattle.mesh_words.specs.Values.{ends_in}
 
@@ -61,45 +63,55 @@ page_with s inputs (Some name) =
 abbrev pub page_fault : Setting → List Argument → Option Refusal
 page_fault s arguments = page_with s (inputs_in arguments) (value_in s arguments)
 
--- ---- folders
-abbrev pub in_folder : Text → Text → Text
-in_folder folder name = folder ++ (codes "/" ++ name)
+-- the page is the output
+abbrev pub page_over_output : Option Text → Option Text → Option Refusal
+page_over_output None output = None
+page_over_output (Some page) None = None
+page_over_output (Some page) (Some output) =
+    if is_same_path output page then Some (OverOutput setting.Page) else None
 
--- the meshes 1 to n
-abbrev pub mesh_names : Text → ℕ → List Text
-mesh_names folder zero = []
-mesh_names folder (suc n) = mesh_names folder n ++ in_folder folder (decimal (n + 1) ++ codes ".obj") ∷ []
+-- why a page that shows what is written to the output is refused
+abbrev pub shown_fault : List Argument → Option Refusal
+shown_fault arguments =
+    option_or (page_fault setting.Page arguments)
+    (page_over_output (value_in setting.Page arguments) (value_in setting.Output arguments))
 
--- the files of n meshes on their grid
-abbrev pub scene_names : Text → ℕ → List Text
-scene_names folder n = mesh_names folder n ++ in_folder folder (codes "scene.json") ∷ []
+-- ---- folders; a page has none of the names in them, since they end otherwise
+-- one of these files, which the option writes, is the output
+abbrev pub over_output : Setting → List Text → Option Text → Option Refusal
+over_output s names None = None
+over_output s names (Some output) = option_map (λ number. OverOutput s) (first_same output 0 names)
 
--- and the document
-abbrev pub kept_names : Text → ℕ → List Text
-kept_names folder n = scene_names folder n ++ in_folder folder (codes "doc.txt") ∷ []
+-- why the folder of `snap` is refused
+abbrev pub scene_with : List Text → Option Text → Option Refusal
+scene_with inputs None = None
+scene_with inputs (Some folder) =
+    option_map (OverInput setting.Folder) (first_over (scene_names folder (length inputs)) inputs)
 
--- why a folder is refused, into which files of these names are written for each number of inputs
-abbrev pub folder_with : Setting → (Text → ℕ → List Text) → List Text → Option Text → Option Refusal
-folder_with s names inputs None = None
-folder_with s names inputs (Some folder) =
-    option_map (OverInput s) (first_over (names folder (length inputs)) inputs)
+abbrev pub scene_fault : List Argument → Option Refusal
+scene_fault arguments = scene_with (inputs_in arguments) (value_in setting.Folder arguments)
 
-abbrev pub folder_fault : Setting → (Text → ℕ → List Text) → List Argument → Option Refusal
-folder_fault s names arguments = folder_with s names (inputs_in arguments) (value_in s arguments)
+-- why the folder of a Boolean is refused
+abbrev pub keep_with : List Text → Option Text → Option Text → Option Refusal
+keep_with inputs output None = None
+keep_with inputs output (Some folder) =
+    option_or (option_map (OverInput setting.Keep) (first_over (kept_names folder (length inputs)) inputs))
+    (over_output setting.Keep (kept_names folder (length inputs)) output)
+
+abbrev pub keep_fault : List Argument → Option Refusal
+keep_fault arguments =
+    keep_with (inputs_in arguments) (value_in setting.Output arguments) (value_in setting.Keep arguments)
 
 -- ---- the commands
 abbrev pub boolean_fault : List Argument → Option Refusal
 boolean_fault arguments =
-    option_or (option_fault boolean_settings arguments)
-    (option_or (page_fault setting.Page arguments) (folder_fault setting.Keep kept_names arguments))
+    option_or (option_fault boolean_settings arguments) (option_or (shown_fault arguments) (keep_fault arguments))
 
 abbrev pub snap_fault : List Argument → Option Refusal
-snap_fault arguments =
-    option_or (option_fault snap_settings arguments) (folder_fault setting.Folder scene_names arguments)
+snap_fault arguments = option_or (option_fault snap_settings arguments) (scene_fault arguments)
 
 abbrev pub export_fault : List Argument → Option Refusal
-export_fault arguments =
-    option_or (option_fault export_settings arguments) (page_fault setting.Page arguments)
+export_fault arguments = option_or (option_fault export_settings arguments) (shown_fault arguments)
 
 abbrev pub view_fault : List Argument → Option Refusal
 view_fault arguments = option_or (option_fault view_settings arguments) (page_fault setting.Output arguments)

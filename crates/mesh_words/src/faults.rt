@@ -47,6 +47,9 @@ pub enum Refusal {
     /// 0. The file that `--scene` names counts behind the others.
     #[error("a file that is read would be written over; give another name")]
     OverInput(Setting, usize),
+    /// The page that the option names, or a file in its folder, is the output that `-o` names.
+    #[error("a file would be written twice; give another name")]
+    OverOutput(Setting),
     /// `export` has no file name, or more than one.
     #[error("export takes one document; see ember-mesh help")]
     NotOneDocument,

@@ -7,6 +7,7 @@ mod command;
 mod exports;
 mod expressions;
 mod faults;
+mod folders;
 mod given;
 mod names;
 mod numbers;
@@ -23,6 +24,7 @@ pub use command::{
     Command, ExportRequest, OutputFormat, Request, SnapRequest, ViewRequest, WantedStep,
 };
 pub use faults::{Refusal, WordsFault};
+pub use folders::{document_name, mesh_name, scene_name};
 pub use given::{input_given, output_given, step_given, value_given};
 pub use names::Setting;
 pub use reading::read_words;

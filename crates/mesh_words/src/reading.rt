@@ -153,7 +153,8 @@ fn read(alloc: Global, words: &[String]) -> Result<Command, WordsFault>
 /// is refused.
 ///
 /// A page has a name that ends in `.html` or `.htm`. No page, and no file that `snap` and `--keep`
-/// write into their folder, may have the same path as a file that the command reads.
+/// write into their folder, may have the same path as a file that the command reads, or as the output
+/// beside it.
 ///
 /// A Boolean takes `--expr`, `-o`, `--step`, `--workers`, `--digits`, `--view` and `--keep`; `snap`
 /// takes `-d` and `--step`; `export` takes `--scene`, `-o`, `--digits` and `--view`; `view` takes

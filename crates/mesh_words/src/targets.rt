@@ -1,13 +1,15 @@
 // Why what a command writes is refused.
-ghost use Rattle.std.specs.Prelude.{◌≡◌, ◌++◌, ◌∷◌, [], false, IfOk, OnOk};
+ghost use Rattle.std.specs.Prelude.{◌≡◌, IfOk, false};
 ghost use Rattle.mesh_words.specs.declared.names.Setting.TheVariants as setting;
-ghost use Rattle.mesh_words.specs.Targets.{has_second, first_twice, option_fault, first_same, first_over, is_page_name, page_fault, in_folder, mesh_names, scene_names, kept_names, folder_fault, boolean_fault, snap_fault, export_fault, view_fault};
+ghost use Rattle.mesh_words.specs.Arguments.{value_in};
+ghost use Rattle.mesh_words.specs.Targets.{has_second, first_twice, option_fault, first_same, first_over, over_output, is_page_name, page_fault, page_over_output, shown_fault, scene_fault, keep_fault, boolean_fault, snap_fault, export_fault, view_fault};
 
 use crate::allowed::{
     BOOLEAN_SETTINGS, EXPORT_SETTINGS, SNAP_SETTINGS, VIEW_SETTINGS, first_beside,
 };
 use crate::arguments::{Argument, inputs_in, value_in};
 use crate::faults::Refusal;
+use crate::folders::{kept_names, scene_names};
 use crate::names::Setting;
 use crate::paths::is_same_path;
 use crate::values::ends_in;
@@ -115,46 +117,43 @@ fn page_fault(
     }
 }
 
-// Appends a name in a folder.
-fn put_inside(
-    alloc: Global,
-    folder: &str,
-    name: &str,
-    names: &mut Vec<Text>,
-) -> Result<(), AllocError>
-    ensures { OnOk result (names.new.items ≡ names.old.items ++ in_folder folder.now name.now ∷ []) }
+// Why the page beside the output is refused, if it is the output.
+fn page_over_output(arguments: &[Argument]) -> Option<Refusal>
+    ensures { result ≡ page_over_output (value_in setting.Page arguments.now) (value_in setting.Output arguments.now) }
 {
-    let name = format!(in alloc; "{folder}/{name}")?;
-    names.push(Text::of(name))?;
-    Ok(())
-}
-
-// The names of the files of this number of meshes on their grid.
-fn scene_names(alloc: Global, folder: &str, meshes: usize) -> Result<Vec<Text>, AllocError>
-    ensures { IfOk result (λ names. names.items ≡ scene_names folder.now meshes) }
-{
-    let mut names = Vec::new(alloc);
-    for before in 0..meshes {
-        let mesh = before + 1;
-        let name = format!(in alloc; "{mesh}.obj")?;
-        put_inside(alloc, folder, &name, &mut names)?;
+    let page = value_in(arguments, Setting::Page)?;
+    let output = value_in(arguments, Setting::Output)?;
+    if is_same_path(output.as_str(), page.as_str()) {
+        Some(Refusal::OverOutput(Setting::Page))
+    } else {
+        None
     }
-    put_inside(alloc, folder, "scene.json", &mut names)?;
-    Ok(names)
 }
 
-// The same, and that of the document.
-fn kept_names(alloc: Global, folder: &str, meshes: usize) -> Result<Vec<Text>, AllocError>
-    ensures { IfOk result (λ names. names.items ≡ kept_names folder.now meshes) }
+// Why the page that shows what is written to the output is refused, if there is one and it is.
+fn shown_fault(alloc: Global, arguments: &[Argument]) -> Result<Option<Refusal>, AllocError>
+    ensures { IfOk result (λ fault. fault ≡ shown_fault arguments.now) }
 {
-    let mut names = scene_names(alloc, folder, meshes)?;
-    put_inside(alloc, folder, "doc.txt", &mut names)?;
-    Ok(names)
+    match page_fault(alloc, Setting::Page, arguments)? {
+        Some(why) => Ok(Some(why)),
+        None => Ok(page_over_output(arguments)),
+    }
+}
+
+// Why files of these names, which the option writes, are refused, if the output is one of them.
+fn over_output(option: Setting, names: &[Text], arguments: &[Argument]) -> Option<Refusal>
+    ensures { result ≡ over_output option names.now (value_in setting.Output arguments.now) }
+{
+    let output = value_in(arguments, Setting::Output)?;
+    match first_same(output.as_str(), names) {
+        Some(_) => Some(Refusal::OverOutput(option)),
+        None => None,
+    }
 }
 
 // Why the folder of a Boolean is refused, if there is one and it is.
 fn keep_fault(alloc: Global, arguments: &[Argument]) -> Result<Option<Refusal>, AllocError>
-    ensures { IfOk result (λ fault. fault ≡ folder_fault setting.Keep kept_names arguments.now) }
+    ensures { IfOk result (λ fault. fault ≡ keep_fault arguments.now) }
 {
     let Some(folder) = value_in(arguments, Setting::Keep) else {
         return Ok(None);
@@ -163,13 +162,13 @@ fn keep_fault(alloc: Global, arguments: &[Argument]) -> Result<Option<Refusal>, 
     let names = kept_names(alloc, folder.as_str(), inputs.items().len())?;
     match first_over(&names, inputs.items()) {
         Some(number) => Ok(Some(Refusal::OverInput(Setting::Keep, number))),
-        None => Ok(None),
+        None => Ok(over_output(Setting::Keep, &names, arguments)),
     }
 }
 
 // The same of `snap`.
 fn scene_fault(alloc: Global, arguments: &[Argument]) -> Result<Option<Refusal>, AllocError>
-    ensures { IfOk result (λ fault. fault ≡ folder_fault setting.Folder scene_names arguments.now) }
+    ensures { IfOk result (λ fault. fault ≡ scene_fault arguments.now) }
 {
     let Some(folder) = value_in(arguments, Setting::Folder) else {
         return Ok(None);
@@ -190,7 +189,7 @@ pub fn boolean_fault(alloc: Global, arguments: &[Argument]) -> Result<Option<Ref
     if let Some(why) = option_fault(&BOOLEAN_SETTINGS, arguments) {
         return Ok(Some(why));
     }
-    if let Some(why) = page_fault(alloc, Setting::Page, arguments)? {
+    if let Some(why) = shown_fault(alloc, arguments)? {
         return Ok(Some(why));
     }
     keep_fault(alloc, arguments)
@@ -213,7 +212,7 @@ pub fn export_fault(alloc: Global, arguments: &[Argument]) -> Result<Option<Refu
     if let Some(why) = option_fault(&EXPORT_SETTINGS, arguments) {
         return Ok(Some(why));
     }
-    page_fault(alloc, Setting::Page, arguments)
+    shown_fault(alloc, arguments)
 }
 
 /// The same of `view`, which has no folder.

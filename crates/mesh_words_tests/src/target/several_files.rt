@@ -95,18 +95,18 @@ fn files_before_one_that_is_not_written_are_written(rt: HostRuntime) -> Result<(
     )
 }
 
-fn is_made(rt: &impl Files, name: &str) -> bool {
-    FileTarget::new(rt).make_folder(name).is_ok()
+fn is_made(rt: &impl Files, alloc: Global, name: &str) -> bool {
+    FileTarget::new(rt, alloc).make_folder(name).is_ok()
 }
 
 #[test]
 fn a_folder_is_made_with_those_above_it(rt: HostRuntime) -> Result<(), Fail> {
-    assert!(rt; is_made(&rt, "outer.out/inner.out"));
-    assert!(rt; is_made(&rt, "outer.out/inner.out"));
+    assert!(rt; is_made(&rt, rt.alloc(), "outer.out/inner.out"));
+    assert!(rt; is_made(&rt, rt.alloc(), "outer.out/inner.out"));
     assert!(rt; std::fs::metadata(&rt, "outer.out/inner.out")?.is_dir());
     std::fs::write(&rt, "outer.out/file", OLD)?;
-    assert!(rt; !is_made(&rt, "outer.out/file"));
-    assert!(rt; !is_made(&rt, "outer.out/file/inner.out"));
+    assert!(rt; !is_made(&rt, rt.alloc(), "outer.out/file"));
+    assert!(rt; !is_made(&rt, rt.alloc(), "outer.out/file/inner.out"));
     std::fs::remove_file(&rt, "outer.out/file")?;
     std::fs::remove_dir(&rt, "outer.out/inner.out")?;
     std::fs::remove_dir(&rt, "outer.out")?;

@@ -109,7 +109,7 @@ fn no_file_is_written_if_all_names_for_a_new_one_are_taken(rt: HostRuntime) -> R
 
 // Writes a file of the system.
 fn write_file(rt: &impl Files, alloc: Global, name: &str, bytes: &[u8]) -> Result<(), WriteEnd> {
-    let mut target = FileTarget::new(rt);
+    let mut target = FileTarget::new(rt, alloc);
     write_whole(alloc, &mut target, name, bytes)
 }
 

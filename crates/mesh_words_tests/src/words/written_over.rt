@@ -94,6 +94,59 @@ fn inputs_that_would_be_written_over(rt: HostRuntime) -> Result<(), Fail> {
 }
 
 #[test]
+fn outputs_that_would_be_written_twice(rt: HostRuntime) -> Result<(), Fail> {
+    let rows: [(&[&str], Setting); 6] = [
+        (
+            &["union", "-o", "d/1.obj", "--keep", "d", "a"],
+            Setting::Keep,
+        ),
+        (
+            &["bool", "--keep=d/", "-o=./d//2.obj", "a", "b", "--step=x"],
+            Setting::Keep,
+        ),
+        (&["union", "-o=1.obj", "--keep=.", "a"], Setting::Keep),
+        (
+            &["difference", "-o", "x.html", "--view", "./x.html", "a"],
+            Setting::Page,
+        ),
+        (
+            &["union", "--keep=d", "-o=x.html", "--view=x.html", "d/1.obj"],
+            Setting::Page,
+        ),
+        (
+            &["export", "-o=d/x.htm", "--view=d/./x.htm", "e"],
+            Setting::Page,
+        ),
+    ];
+    for (words, option) in rows {
+        assert_eq!(rt;
+            refusal(rt.alloc(), words)?,
+            Some(Refusal::OverOutput(option))
+        );
+    }
+    Ok(())
+}
+
+#[test]
+fn outputs_beside_other_files(rt: HostRuntime) -> Result<(), Fail> {
+    let rows: [&[&str]; 5] = [
+        &["union", "-o", "d/2.obj", "--keep", "d", "a"],
+        &["union", "-o", "1.obj", "--keep", "d", "a"],
+        &["union", "-o", "d/1.stl", "--keep", "d", "a"],
+        &["union", "-o", "d/1.OBJ", "--keep", "d", "a"],
+        &["export", "-o", "x.stl", "--view", "x.html", "e"],
+    ];
+    for words in rows {
+        assert!(rt; is_read(rt.alloc(), words)?);
+    }
+    // An input that would be written over is told first.
+    let words = ["union", "-o", "d/1.obj", "--keep", "d", "d/1.obj"];
+    let want = Refusal::OverInput(Setting::Keep, 0);
+    assert_eq!(rt; refusal(rt.alloc(), &words)?, Some(want));
+    Ok(())
+}
+
+#[test]
 fn inputs_that_stay(rt: HostRuntime) -> Result<(), Fail> {
     let rows: [&[&str]; 7] = [
         &["union", "-o", "a.stl", "./a.stl"],
