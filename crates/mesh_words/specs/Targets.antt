@@ -3,7 +3,7 @@ use Rattle.std.specs.Prelude.{ℕ, zero, suc, ◌+◌, ◌||◌, Bool, false, tr
 use Rattle.std.specs.Prelude.{decimal, Option, Some, None, is_some, option_map, if◌then◌else◌}
 use Rattle.std.specs.Option.{option_or}
 use Rattle.mesh_words.specs.declared.faults.Refusal.{Refusal}
-use Rattle.mesh_words.specs.declared.faults.Refusal.TheVariants.{NotFor, Twice, PageEnding, OverInput}
+use Rattle.mesh_words.specs.declared.faults.Refusal.TheVariants.{NotFor, Twice, PageEnding, OverInput, SecondInput}
 use Rattle.mesh_words.specs.declared.names.Setting.{Setting}
 use Rattle.mesh_words.specs.declared.names.Setting.TheVariants as setting
 use Rattle.mesh_words.specs.declared.arguments.Argument.{Argument}
@@ -11,6 +11,7 @@ use Rattle.mesh_words.specs.Names.{Text}
 use Rattle.mesh_words.specs.Arguments.{inputs_in, value_for, value_in}
 use Rattle.mesh_words.specs.Allowed.{first_beside, boolean_settings, snap_settings, export_settings, view_settings}
 use Rattle.mesh_words.specs.Paths.{is_same_path}
+use Rattle.mesh_words.specs.Streams.{reads_twice}
 use Rattle.mesh_words.specs.Values.{ends_in}
 
 -- ---- a second name
@@ -87,6 +88,11 @@ folder_with s names inputs (Some folder) =
 abbrev pub folder_fault : Setting → (Text → ℕ → List Text) → List Argument → Option Refusal
 folder_fault s names arguments = folder_with s names (inputs_in arguments) (value_in s arguments)
 
+-- ---- inputs
+-- standard input is named twice
+abbrev pub input_fault : List Argument → Option Refusal
+input_fault arguments = if reads_twice (inputs_in arguments) then Some SecondInput else None
+
 -- ---- the commands
 abbrev pub boolean_fault : List Argument → Option Refusal
 boolean_fault arguments =
@@ -99,7 +105,8 @@ snap_fault arguments =
 
 abbrev pub export_fault : List Argument → Option Refusal
 export_fault arguments =
-    option_or (option_fault export_settings arguments) (page_fault setting.Page arguments)
+    option_or (option_fault export_settings arguments)
+    (option_or (input_fault arguments) (page_fault setting.Page arguments))
 
 abbrev pub view_fault : List Argument → Option Refusal
 view_fault arguments = option_or (option_fault view_settings arguments) (page_fault setting.Output arguments)

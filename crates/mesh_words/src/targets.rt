@@ -1,7 +1,7 @@
 // Why what a command writes is refused.
 ghost use Rattle.std.specs.Prelude.{◌≡◌, ◌++◌, ◌∷◌, [], false, IfOk, OnOk};
 ghost use Rattle.mesh_words.specs.declared.names.Setting.TheVariants as setting;
-ghost use Rattle.mesh_words.specs.Targets.{has_second, first_twice, option_fault, first_same, first_over, is_page_name, page_fault, in_folder, mesh_names, scene_names, kept_names, folder_fault, boolean_fault, snap_fault, export_fault, view_fault};
+ghost use Rattle.mesh_words.specs.Targets.{has_second, first_twice, option_fault, first_same, first_over, is_page_name, page_fault, in_folder, mesh_names, scene_names, kept_names, folder_fault, input_fault, boolean_fault, snap_fault, export_fault, view_fault};
 
 use crate::allowed::{
     BOOLEAN_SETTINGS, EXPORT_SETTINGS, SNAP_SETTINGS, VIEW_SETTINGS, first_beside,
@@ -10,6 +10,7 @@ use crate::arguments::{Argument, inputs_in, value_in};
 use crate::faults::Refusal;
 use crate::names::Setting;
 use crate::paths::is_same_path;
+use crate::streams::reads_twice;
 use crate::values::ends_in;
 use ember_words::Text;
 use std::alloc::{AllocError, Global};
@@ -206,11 +207,25 @@ pub fn snap_fault(alloc: Global, arguments: &[Argument]) -> Result<Option<Refusa
     scene_fault(alloc, arguments)
 }
 
+// Whether the document and the file of its grid are both read from standard input.
+fn input_fault(alloc: Global, arguments: &[Argument]) -> Result<Option<Refusal>, AllocError>
+    ensures { IfOk result (λ fault. fault ≡ input_fault arguments.now) }
+{
+    let inputs = inputs_in(alloc, arguments)?;
+    if reads_twice(inputs.items()) {
+        return Ok(Some(Refusal::SecondInput));
+    }
+    Ok(None)
+}
+
 /// The same of `export`, which has no folder.
 pub fn export_fault(alloc: Global, arguments: &[Argument]) -> Result<Option<Refusal>, AllocError>
     ensures { IfOk result (λ fault. fault ≡ export_fault arguments.now) }
 {
     if let Some(why) = option_fault(&EXPORT_SETTINGS, arguments) {
+        return Ok(Some(why));
+    }
+    if let Some(why) = input_fault(alloc, arguments)? {
         return Ok(Some(why));
     }
     page_fault(alloc, Setting::Page, arguments)
