@@ -74,11 +74,11 @@ pub fn send<O: Sink, E: Sink>(
         TakesUntilFault (sink_call E.taken E.flushed E.faults err.old err.new) text }
     ensures memory { hides_memory result ≡ false }
 {
-    let Some(bytes) = sent else {
+    let Some(mesh) = sent else {
         say(err, report);
         return Status::Done;
     };
-    match write_all(out, bytes) {
+    match write_all(out, mesh) {
         Ok(()) => {
             say(err, report);
             Status::Done
