@@ -130,15 +130,16 @@ fn format_of(name: &str) -> Result<OutputFormat, Refusal>
 fn format_named(name: &str) -> Result<OutputFormat, Refusal>
     ensures { result ≡ format_named name.now }
 {
-    if name.eq_ignore_ascii_case("stl") {
+    let name = name.as_bytes();
+    if name.eq_ignore_ascii_case(b"stl") {
         Ok(OutputFormat::Stl)
-    } else if name.eq_ignore_ascii_case("glb") {
+    } else if name.eq_ignore_ascii_case(b"glb") {
         Ok(OutputFormat::Glb)
-    } else if name.eq_ignore_ascii_case("obj") {
+    } else if name.eq_ignore_ascii_case(b"obj") {
         Ok(OutputFormat::Obj)
-    } else if name.eq_ignore_ascii_case("ply") {
+    } else if name.eq_ignore_ascii_case(b"ply") {
         Ok(OutputFormat::Ply)
-    } else if name.eq_ignore_ascii_case("off") {
+    } else if name.eq_ignore_ascii_case(b"off") {
         Ok(OutputFormat::Off)
     } else {
         Err(Refusal::UnknownFormat)
