@@ -1,6 +1,7 @@
 // The values of options.
 ghost use Rattle.std.specs.Prelude.{◌≡◌, ◌≤◌, ◌-◌, IfOk, IfSome, drop, length, option_map};
 ghost use Rattle.std.specs.Int.{IsInRange};
+ghost use Rattle.std.specs.Str.{str_eq_ignore_ascii_case};
 ghost use Rattle.mesh_words.specs.Names.{operator_of};
 ghost use Rattle.mesh_words.specs.Values.{files_of, expression_of, folder_of, page_of, output_of, ends_in, format_of, format_named, format_at, step_of, workers_of, digits_of};
 ghost use Rattle.mesh_words.specs.Commands.{Reads, IsValidStep};
@@ -126,20 +127,27 @@ fn format_of(name: &str) -> Result<OutputFormat, Refusal>
     }
 }
 
+// Whether this is the name, in any case.
+fn is_named(wanted: &[u8], name: &[u8]) -> bool
+    ensures { result ≡ str_eq_ignore_ascii_case name.now wanted.now }
+{
+    name.eq_ignore_ascii_case(wanted)
+}
+
 // The format of this name, in any case. `UnknownFormat` if there is none.
 fn format_named(name: &str) -> Result<OutputFormat, Refusal>
     ensures { result ≡ format_named name.now }
 {
     let name = name.as_bytes();
-    if name.eq_ignore_ascii_case(b"stl") {
+    if is_named(b"stl", name) {
         Ok(OutputFormat::Stl)
-    } else if name.eq_ignore_ascii_case(b"glb") {
+    } else if is_named(b"glb", name) {
         Ok(OutputFormat::Glb)
-    } else if name.eq_ignore_ascii_case(b"obj") {
+    } else if is_named(b"obj", name) {
         Ok(OutputFormat::Obj)
-    } else if name.eq_ignore_ascii_case(b"ply") {
+    } else if is_named(b"ply", name) {
         Ok(OutputFormat::Ply)
-    } else if name.eq_ignore_ascii_case(b"off") {
+    } else if is_named(b"off", name) {
         Ok(OutputFormat::Off)
     } else {
         Err(Refusal::UnknownFormat)
