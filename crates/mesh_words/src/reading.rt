@@ -158,10 +158,10 @@ fn read(alloc: Global, words: &[String]) -> Result<Command, WordsFault>
 /// `-` is a file name, of standard input, which can be read once; and `-o -` is standard output, for
 /// which `--format` names the format. Of a file the ending of its name shows it.
 ///
-/// A Boolean takes `--expr`, `-o`, `--format`, `--step`, `--workers`, `--digits`, `--view` and `--keep`; `snap`
-/// takes `-d` and `--step`; `export` takes `--scene`, `-o`, `--format`, `--digits` and `--view`; `view` takes
-/// `-o`. These take `--quiet` too, which means nothing for `view`. `info` has no options: its words
-/// are file names.
+/// A Boolean takes `--expr`, `-o`, `--format`, `--step`, `--workers`, `--digits`, `--view` and
+/// `--keep`; `snap` takes `-d` and `--step`; `export` takes `--scene`, `-o`, `--format`, `--digits` and
+/// `--view`; `view` takes `-o`. These take `--quiet` too, which means nothing for `view`. `info` has no
+/// options: its words are file names.
 ///
 /// `help`, `--help` and `-h` ask for help, as the first word or after the name of a command.
 /// `--version` is a first word alone. The words after these first words aren't read.
