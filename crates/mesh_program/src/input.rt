@@ -1,5 +1,5 @@
 // The system's files, and standard input under the name `-`.
-ghost use Rattle.std.specs.Prelude.{◌≡◌, [], Some, None, cond};
+ghost use Rattle.std.specs.Prelude.{◌≤◌, length, None, IfSome, if◌then◌else◌};
 
 use ember_io::{Failed, FileShelf, Shelf};
 use std::io::{Error, ErrorKind, Read};
@@ -28,8 +28,8 @@ fn read_some<I: Read>(from: &mut I, buf: &mut [u8]) -> Option<usize>
 }
 
 /// The files of the system, and a reader under the name `-`. They tell no bytes. Every error of the
-/// system is a fault. But a read that a signal interrupted, or for which the device isn't ready yet, is
-/// tried again.
+/// system is a fault. But a read that a signal interrupted, or for which the device isn't ready
+/// yet, is tried again.
 #[derive(Drop)]
 pub struct InputShelf<'a, R: Files, I: Read + Drop> {
     files: FileShelf<'a, R>,
@@ -52,19 +52,12 @@ impl<'a, R: Files, I: Read + Drop> InputShelf<'a, R, I> {
             faults: 0,
         }
     }
-
-    // Counts a fault at this file.
-    fn fail(&mut self, number: u32) -> Failed {
-        self.fault_at = number;
-        self.faults = self.faults.saturating_add(1);
-        Failed
-    }
 }
 
 impl<'a, R: Files, I: Read + Drop> Shelf for InputShelf<'a, R, I> {
     ghost contents = { λ _ _. None };
 
-    ghost unread = { λ s. cond s.is_input None (⟦<FileShelf<'a, R> as Shelf>⟧.unread s.files) };
+    ghost unread = { λ s. if s.is_input then None else ⟦<FileShelf<'a, R> as Shelf>⟧.unread s.files };
 
     ghost begun = { λ s. s.begun };
 
@@ -78,22 +71,24 @@ impl<'a, R: Files, I: Read + Drop> Shelf for InputShelf<'a, R, I> {
         if self.is_input {
             return Ok(());
         }
-        match self.files.begin(name, number) {
-            Ok(()) => Ok(()),
-            Err(_) => Err(self.fail(number)),
+        if let Ok(()) = self.files.begin(name, number) {
+            return Ok(());
         }
+        self.fault_at = number;
+        self.faults = self.faults.saturating_add(1);
+        Err(Failed)
     }
 
     fn read(&mut self, buf: &mut [u8]) -> Result<usize, Failed> {
-        if !self.is_input {
-            return match self.files.read(buf) {
-                Ok(count) => Ok(count),
-                Err(_) => Err(self.fail(self.begun)),
-            };
+        if self.is_input {
+            if let Some(count) = read_some(&mut self.input, buf) {
+                return Ok(count);
+            }
+        } else if let Ok(count) = self.files.read(buf) {
+            return Ok(count);
         }
-        match read_some(&mut self.input, buf) {
-            Some(count) => Ok(count),
-            None => Err(self.fail(self.begun)),
-        }
+        self.fault_at = self.begun;
+        self.faults = self.faults.saturating_add(1);
+        Err(Failed)
     }
 }

@@ -170,8 +170,8 @@ fn write_export<S: Shelf, T: Target>(
     }
 }
 
-/// Writes the mesh of a document, to a file or to `out`, and the report or the line of the status to
-/// err.
+/// Writes the mesh of a document, to a file or to `out`, and the report or the line of the status
+/// to err.
 pub fn serve_export<S: Shelf, T: Target, O: Sink, E: Sink>(
     alloc: Global,
     request: &ExportRequest,

@@ -215,8 +215,8 @@ fn put_mesh_files(
     put_mesh_at(alloc, output, bytes, files)
 }
 
-/// The page that shows a mesh, if one is asked for, and the mesh, which goes to a file or to standard
-/// output.
+/// The page that shows a mesh, if one is asked for, and the mesh, which goes to a file or to
+/// standard output.
 pub fn written_files(
     alloc: Global,
     page: &Option<Text>,

@@ -117,8 +117,8 @@ fn solid_output<
     }
 }
 
-// Writes the files that a request asks for, and gives what goes to standard output and the report, or
-// the status that says why they aren't written.
+// Writes the files that a request asks for, and gives what goes to standard output and the report,
+// or the status that says why they aren't written.
 fn write_solid<
     S: Shelf,
     T: Target,
@@ -164,8 +164,8 @@ fn write_solid<
     }
 }
 
-/// Writes the files that a request asks for, the solid to `out` if it goes there, and the report or the
-/// line of the status to err.
+/// Writes the files that a request asks for, the solid to `out` if it goes there, and the report or
+/// the line of the status to err.
 pub fn serve_solid<
     S: Shelf,
     T: Target,

@@ -160,10 +160,11 @@ pub fn run_mesh_one<S: Shelf, T: Target, O: Sink, E: Sink, G: Gate + Stages>(
 }
 
 /// Does what the words ask for, with as many workers as they say. The files that they name are read
-/// from the shelf, and those of the result are written to the target, each whole or not at all. With
-/// `-o -` the mesh goes to `out`, behind all files. `help` and the version go to `out`, too; the report,
-/// or the line of the status, goes to `err`. The solid doesn't depend on the number of workers. With one
-/// worker, the calling thread does everything. The gate is told of the boxes and of the other stages.
+/// from the shelf, and those of the result are written to the target, each whole or not at all.
+/// With `-o -` the mesh goes to `out`, behind all files. `help` and the version go to `out`, too;
+/// the report, or the line of the status, goes to `err`. The solid doesn't depend on the number of
+/// workers. With one worker, the calling thread does everything. The gate is told of the boxes and
+/// of the other stages.
 pub fn run_mesh<
     R: Threads + Wait + Sync,
     S: Shelf,

@@ -14,8 +14,8 @@ use mesh_outside::{NamedFile, Target, WriteEnd, write_each};
 use mesh_report::Status;
 use std::alloc::Global;
 
-/// What is left to do once the files of a mesh are written: the mesh goes to standard output, if there
-/// are bytes, and then the report to standard error.
+/// What is left to do once the files of a mesh are written: the mesh goes to standard output, if
+/// there are bytes, and then the report to standard error.
 #[derive(Drop)]
 pub struct Sending {
     pub sent: Option<Vec<u8>>,

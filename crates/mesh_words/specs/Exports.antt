@@ -22,7 +22,8 @@ document_of (name ∷ second ∷ more) = Err NotOneDocument
 -- the request of these values, or the first refusal: of the document, of options and the page, of the output, of the
 -- digits
 abbrev pub export_with : Result Text Refusal → Option Refusal → Result Destination Refusal →
-    Result OutputFormat Refusal → Result (Option ℕ) Refusal → Option Text → Option Text → Bool → Result ExportRequest Refusal
+    Result OutputFormat Refusal → Result (Option ℕ) Refusal → Option Text → Option Text → Bool →
+    Result ExportRequest Refusal
 export_with (Err why) fault o m d scene view quiet = Err why
 export_with (Ok document) (Some why) o m d scene view quiet = Err why
 export_with (Ok document) None (Err why) m d scene view quiet = Err why

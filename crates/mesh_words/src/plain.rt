@@ -17,8 +17,8 @@ fn is_option(word: &str) -> bool
     is_option_word(word) && !is_help(word)
 }
 
-/// The number, from 1, of the first word that begins with a hyphen, isn't `-` itself, and doesn't ask
-/// for help. None if there is no such word.
+/// The number, from 1, of the first word that begins with a hyphen, isn't `-` itself, and doesn't
+/// ask for help. None if there is no such word.
 pub fn first_option(words: &[String]) -> Option<usize>
     ensures { result ≡ first_option 1 (map string_bytes words.now) }
 {
