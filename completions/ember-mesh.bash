@@ -8,10 +8,10 @@ _ember_mesh() {
         return
     fi
     case ${COMP_WORDS[1]} in
-        bool) options=' --expr -o --step --workers --digits --view --keep --quiet --help -h ' ;;
-        union | difference | intersection) options=' -o --step --workers --digits --view --keep --quiet --help -h ' ;;
+        bool) options=' --expr -o --format --step --workers --digits --view --keep --quiet --help -h ' ;;
+        union | difference | intersection) options=' -o --format --step --workers --digits --view --keep --quiet --help -h ' ;;
         snap) options=' -d --step --quiet --help -h ' ;;
-        export) options=' --scene -o --digits --view --quiet --help -h ' ;;
+        export) options=' --scene -o --format --digits --view --quiet --help -h ' ;;
         view) options=' -o --quiet --help -h ' ;;
         info) options=' --help -h ' ;;
         *) return ;;
@@ -23,7 +23,7 @@ _ember_mesh() {
             continue # bash splits --step=nice into three words
         elif [[ -n $option ]]; then
             option=''
-        elif [[ $each == -* ]]; then
+        elif [[ $each == -?* ]]; then
             options=${options/" ${each%%=*} "/ }
             [[ $each == --quiet || $each == --help || $each == -h || $each == *=* ]] || option=$each
         fi
@@ -31,6 +31,8 @@ _ember_mesh() {
 
     if [[ $option == --step ]]; then
         mapfile -t COMPREPLY < <(compgen -W 'nice finest' -- "$word")
+    elif [[ $option == --format ]]; then
+        mapfile -t COMPREPLY < <(compgen -W 'stl obj ply off glb' -- "$word")
     elif [[ -z $option && $word == -* ]]; then
         mapfile -t COMPREPLY < <(compgen -W "$options" -- "$word")
     elif [[ -z $option || $option == -[od] || $option == --scene || $option == --view || $option == --keep ]]; then

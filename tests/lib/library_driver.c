@@ -85,6 +85,15 @@ static int lend(const char *path, const struct stat *status, int kind, struct FT
   return 0;
 }
 
+/* The name `-` is standard input, as for the programs. */
+static void lend_input(void) {
+  static unsigned char room[1 << 20];
+  if (n_files == MOST_FILES) return;
+  files[n_files].name = ember_text("-");
+  files[n_files].bytes.at = room;
+  files[n_files++].bytes.len = fread(room, 1, sizeof room, stdin);
+}
+
 static void write_file(const ember_named *named) {
   char name[4096];
   size_t i;
@@ -119,12 +128,15 @@ static int run(command *call) {
   ember_answer answer;
   size_t i;
   int status = (int)call(words, n_words, files, n_files, &answer);
-  fwrite(answer.out.at, 1, answer.out.len, stdout);
-  fwrite(answer.err.at, 1, answer.err.len, stderr);
   for (i = 0; i < answer.n_files; i++) write_file(&answer.files[i]);
+  int is_lost = fwrite(answer.out.at, 1, answer.out.len, stdout) != answer.out.len || fflush(stdout);
+  if (is_lost)
+    fputs("ember-mesh: cannot write to standard output\n", stderr);
+  else
+    fwrite(answer.err.at, 1, answer.err.len, stderr);
   ember_answer_free(&answer);
   if (blocks) fprintf(stderr, "%ld blocks are left\n", blocks);
-  return blocks ? 125 : status;
+  return blocks ? 125 : is_lost ? EMBER_NOT_WRITTEN : status;
 }
 
 /* ---- want of memory */
@@ -198,6 +210,7 @@ int main(int argc, char **argv) {
   int is_program = strcmp(name, "ember") == 0 || strcmp(name, "ember-mesh") == 0, first = is_program ? 1 : 3, i;
   if (!ember_runs_here() || ember_abi() != EMBER_ABI || argc < first) return 125;
   if (nftw(".", lend, 16, FTW_PHYS)) fail("files");
+  if (is_program) lend_input();
   for (i = first; i < argc && n_words < sizeof words / sizeof *words; i++) words[n_words++] = ember_text(argv[i]);
   command *call = strcmp(is_program ? name : argv[2], "ember") == 0 ? ember_command : ember_mesh_command;
   if (is_program) return run(call);

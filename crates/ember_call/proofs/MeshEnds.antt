@@ -6,7 +6,7 @@ use Rattle.mesh_report.specs.Numbers.{document_number, number_of, uncut_number}
 use Rattle.mesh_report.specs.declared.status.Status.{Status}
 use Rattle.mesh_report.specs.declared.status.Status.TheVariants as status
 use Rattle.mesh_run.specs.Calls.{SinkCall, TargetCall, TakesUntilFault}
-use Rattle.mesh_run.specs.Serves.{IsOutcome, MeshServes}
+use Rattle.mesh_run.specs.Serves.{IsOutcome, IsSent, MeshServes}
 use Rattle.mesh_solid.specs.declared.mesh.fault.DocumentFault.{DocumentFault}
 use Rattle.mesh_solid.specs.declared.mesh.fault.DocumentFault.TheVariants as document
 use Rattle.mesh_triangles.specs.declared.fault.TrianglesFault.{TrianglesFault}
@@ -115,6 +115,12 @@ is_done status.OutOfMemory e = absurd (cc)
 is_done (status.Uncertified fault) e = absurd (cc)
 
 -- ---- a Boolean that is done
+-- what standard output and standard error took then
+done_is_sent : (sent : Option (List ℕ)) (report out : List ℕ) (flushed : ℕ) (said : List ℕ) →
+    IsSent sent report (mesh_sink_with out flushed) status.Done said → (out ≡ unwrap_or sent []) × (said ≡ report)
+done_is_sent None report out flushed said h = (ap (λ o. unwrap_or o []) h.2, h.1)
+done_is_sent (Some mesh) report out flushed said h = (h.0.taken, h.1)
+
 done_has_solid : (words : List (List ℕ)) (files : List (List ℕ × List ℕ)) (outcome : Outcome) (request : Request) → IsMeshDone words files outcome
     → command_of words ≡ Ok (Boole request) → HasSolid request files outcome
 done_has_solid words files outcome request is e =
@@ -122,16 +128,18 @@ done_has_solid words files outcome request is e =
     let made = subst (λ c. IsOutcome words c (mesh_shelf_over files ends.faults ends.fault_at)
     (target_with (names_and_bytes outcome.files.items)) (mesh_sink_with outcome.out.items ends.out_flushed)
     status.Done outcome.err.items) e ends.outcome in
+    let puts = made.puts in
+    let sent = done_is_sent made.sent made.report outcome.out.items ends.out_flushed outcome.err.items made.is_sent in
     record {
-      there = told_files_are_there files request.files made.0.is_output.of_files.files made.0.is_output.of_files.are_files;
-      output = made.0.output;
-      is_output = made.0.is_output;
-      written = made.0.files;
-      are_files = made.0.are_files;
-      all = made.0.written;
+      there = told_files_are_there files request.files puts.is_output.of_files.files puts.is_output.of_files.are_files;
+      output = puts.output;
+      is_output = puts.is_output;
+      written = puts.files;
+      are_files = puts.are_files;
+      all = puts.written;
       own_names = is.own_names;
-      out = ap (λ o. unwrap_or o []) made.1;
-      report = made.0.text_is;
+      out = sent.0 ∙ ap (λ o. unwrap_or o []) puts.sent_is;
+      report = sent.1 ∙ puts.report_is;
     }
 
 -- ---- outcomes

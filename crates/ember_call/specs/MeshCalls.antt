@@ -1,6 +1,6 @@
 -- What a call of `ember-mesh` gives
 use Rattle.std.specs.Prelude.{◌≡◌, ◌≢◌, ◌⊎◌, ℕ, ◌+◌, ◌-◌, ◌^◌, min, List, [], All, IsSome, None, Some, false}
-use Rattle.std.specs.Prelude.{Vec}
+use Rattle.std.specs.Prelude.{Vec, unwrap_or}
 use Rattle.std.specs.declared.alloc.Global.{Global}
 use Rattle.ember_call.specs.declared.outcome.Outcome.{Outcome}
 use Rattle.ember_call.specs.Lent.{contents_of}
@@ -19,7 +19,7 @@ use Rattle.mesh_run.specs.Calls.{ShelfCall, SinkCall, TargetCall}
 use Rattle.mesh_run.specs.Memory.{hides_memory}
 use Rattle.mesh_run.specs.Outputs.{IsOutputFor}
 use Rattle.mesh_run.specs.Serves.{IsOutcome}
-use Rattle.mesh_run.specs.Writes.{AreSolidFiles}
+use Rattle.mesh_run.specs.Writes.{AreSolidFiles, sent_to}
 use Rattle.mesh_words.specs.Commands.{command_of}
 use Rattle.mesh_words.specs.declared.command.Request.{Request}
 
@@ -136,5 +136,6 @@ pub record HasSolid (request : Request) (files : List (List ℕ × List ℕ)) (o
   pub are_files : AreSolidFiles request output written
   pub all : PutsEach written (held_by []) (held_by (names_and_bytes outcome.files.items))
   pub own_names : HaveOwnNames (names_and_bytes outcome.files.items)
-  pub out : outcome.out.items ≡ []
+  -- standard output has the mesh, if it goes there, and nothing else
+  pub out : outcome.out.items ≡ unwrap_or (sent_to request.output output.written.bytes.items) []
   pub report : outcome.err.items ≡ report_of request output

@@ -2,10 +2,13 @@
 //! standard streams and a line of progress, and ends with the status that comes back.
 #![tactic(auto)]
 
-use ember_io::{FileShelf, StdSink};
+mod input;
+
+use ember_io::StdSink;
+use input::InputShelf;
 use mesh_outside::{FileTarget, ProgressGate};
 use mesh_run::run_mesh;
-use std::io::IsTerminal;
+use std::io::{Input, IsTerminal};
 use std::process::ExitCode;
 use std::{env, io};
 
@@ -53,7 +56,7 @@ fn main(rt: HostRuntime) -> ExitCode {
     }
     let is_shown = rt.stderr().is_terminal() && !are_quiet(&words);
     let gate = ProgressGate::new(&rt, is_shown);
-    let mut shelf = FileShelf::new(&rt);
+    let mut shelf = InputShelf::new(&rt, rt.reader());
     let mut target = FileTarget::new(&rt, rt.alloc());
     // Standard output.
     let mut out = StdSink::new(io::writer(&rt));

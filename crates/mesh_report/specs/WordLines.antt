@@ -31,6 +31,7 @@ refusal_text words (refusal.UnknownOption i) = word_text (word_at words i) (code
 refusal_text words refusal.NoValue = word_text (word_at words (length words - 1)) (codes "needs a value")
 refusal_text words refusal.NoFiles = codes "no files; see ember-mesh help"
 refusal_text words refusal.TooManyFiles = codes "more than 64 files; see ember-mesh help"
+refusal_text words refusal.SecondInput = word_text (codes "-") (codes "standard input is read once")
 refusal_text words refusal.NoExpression = word_text (codes "--expr") (codes "is missing")
 refusal_text words refusal.NeedlessExpression = word_text (codes "--expr") (codes "is for bool alone")
 refusal_text words (refusal.NotFor s) = foreign_text s (word_at words 0)
@@ -45,6 +46,10 @@ refusal_text words (refusal.OverOutput s) =
 refusal_text words refusal.NotOneDocument = codes "export takes one document; see ember-mesh help"
 refusal_text words refusal.NoFolder = word_text (codes "-d") (codes "is missing")
 refusal_text words refusal.NoOutput = word_text (codes "-o") (codes "is missing")
+refusal_text words refusal.NoFormat = word_text (codes "--format") (codes "is missing")
+refusal_text words refusal.NeedlessFormat = word_text (codes "--format") (codes "is for -o - alone")
+refusal_text words refusal.UnknownFormat =
+    word_text (codes "--format") (codes "not one of stl, obj, ply, off and glb")
 refusal_text words refusal.OutputEnding =
     codes "-o " ++ (output_given words ++ codes ": the name must end in .stl, .obj, .ply, .off or .glb")
 refusal_text words refusal.NotAStep = codes "--step " ++ (step_given words ++ codes ": not a number above 0")

@@ -26,6 +26,7 @@ commands
 options
   -o OUT             the name of the result, which ends in .stl, .obj, .ply,
                      .off or .glb; PAGE ends in .html or .htm
+  -o - --format F    the result to standard output as stl, obj, ply, off or glb
   --step S           the step of the grid on which the meshes are exact: nice
                      (if not given), finest, or a decimal above 0
   --workers N        1 to 64 (4 if not given); the solid is the same for all
@@ -37,12 +38,13 @@ options
                      and nothing is moved
   --quiet            no report
 
-snap takes --step, export takes --digits and --view, and view and info take none;
-all but info take --quiet. A folder is made if it isn't there. No page and no
-file of DIR may replace a file that is read; OUT may.
+snap takes --step, export takes --format, --digits and --view, and view and info
+take none; all but info take --quiet. A folder is made if it isn't there. No page
+and no file of DIR may replace a file that is read; OUT may.
 
 FILE.. are 1 to 64 meshes in STL, OBJ, PLY or OFF files, which must be closed but
-for view and info. Each file is written whole or stays as it was, OUT as the last.
+for view and info. The name - is standard input, which is read once. Each file
+is written whole or stays as it was, OUT as the last.
 The report, or why nothing is written, goes to standard error.
 ";
 

@@ -11,6 +11,8 @@ use std::alloc::Global;
 
 const OUTPUT_ENDING: &[u8] = b": the name must end in .stl, .obj, .ply, .off or .glb";
 
+const UNKNOWN_FORMAT: &[u8] = b"not one of stl, obj, ply, off and glb";
+
 const NOT_A_STEP: &[u8] = b": not a number above 0";
 
 const PAGE_ENDING: &[u8] = b": the name must end in .html or .htm";
@@ -157,6 +159,7 @@ fn put_refusal(
         }
         Refusal::NoFiles => text.extend_from_slice(b"no files; see ember-mesh help"),
         Refusal::TooManyFiles => text.extend_from_slice(b"more than 64 files; see ember-mesh help"),
+        Refusal::SecondInput => put_word(b"-", b"standard input is read once", text),
         Refusal::NoExpression => put_word(b"--expr", b"is missing", text),
         Refusal::NeedlessExpression => put_word(b"--expr", b"is for bool alone", text),
         Refusal::NotFor(option) => put_foreign(option, word_at(words, 0), text),
@@ -169,6 +172,9 @@ fn put_refusal(
         }
         Refusal::NoFolder => put_word(b"-d", b"is missing", text),
         Refusal::NoOutput => put_word(b"-o", b"is missing", text),
+        Refusal::NoFormat => put_word(b"--format", b"is missing", text),
+        Refusal::NeedlessFormat => put_word(b"--format", b"is for -o - alone", text),
+        Refusal::UnknownFormat => put_word(b"--format", UNKNOWN_FORMAT, text),
         Refusal::OutputEnding => put_output_ending(alloc, words, text),
         Refusal::NotAStep => put_no_step(alloc, words, text),
         Refusal::Workers => put_word(b"--workers", b"not a number from 1 to 64", text),

@@ -24,6 +24,12 @@ one_mesh_more folder tris n others before after e f =
 pub all_are_appended : (Are : List NamedBytes → Type 0) (old new : List NamedBytes) → old ≡ [] → AreAppended Are old new → Are new
 all_are_appended Are old new e h = subst Are (sym (h.all ∙ ap (λ (files : List NamedBytes). files ++ h.made) e)) h.are
 
+-- files that are appended, and then others
+pub others_are_appended : (old between new made others : List NamedBytes) → between ≡ old ++ made →
+    new ≡ between ++ others → new ≡ old ++ (made ++ others)
+others_are_appended old between new made others e f =
+    f ∙ ap (λ (files : List NamedBytes). files ++ others) e ∙ append_assoc old made others
+
 -- files that are appended, and then one more
 pub one_more_is_appended : (old between new made : List NamedBytes) (file : NamedBytes) → between ≡ old ++ made →
     new ≡ between ++ file ∷ [] → new ≡ old ++ (made ++ file ∷ [])

@@ -7,6 +7,7 @@ pub mod Shown
 pub mod ErrTexts
 pub mod KeptNames
 pub mod UnmetRequests
+pub mod Sent
 pub mod Outcomes
 pub mod InfoOutcomes
 pub mod OutputMeaning

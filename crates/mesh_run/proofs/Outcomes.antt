@@ -20,10 +20,10 @@ words_without_memory words (Err why) shelf target out text same untouched e = (e
 words_without_memory words (Ok (Info names)) shelf target out text same untouched e = ((tt, untouched, e), same)
 words_without_memory words (Ok (View request)) shelf target out text same untouched e = ((inl same, e), untouched)
 words_without_memory words (Ok (Snap request)) shelf target out text same untouched e = ((inl same, e), untouched)
-words_without_memory words (Ok (Export request)) shelf target out text same untouched e = ((inl same, e), untouched)
+words_without_memory words (Ok (Export request)) shelf target out text same untouched e = (inl same, e, untouched)
 words_without_memory words (Ok Help) shelf target out text same untouched e = ((untouched, e), same)
 words_without_memory words (Ok Version) shelf target out text same untouched e = ((untouched, e), same)
-words_without_memory words (Ok (Boole request)) shelf target out text same untouched e = ((inl same, e), untouched)
+words_without_memory words (Ok (Boole request)) shelf target out text same untouched e = (inl same, e, untouched)
 
 -- ---- calls
 -- a call whose words give this command

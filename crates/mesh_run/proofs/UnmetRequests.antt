@@ -7,7 +7,7 @@ use Rattle.mesh_outside.specs.declared.target.target.WriteEnd.{WriteEnd}
 use Rattle.mesh_run.specs.Calls.{SinkCall, TargetCall, HoldsAll, TakesUntilFault}
 use Rattle.mesh_report.specs.Lines.{IsShown, line}
 use Rattle.mesh_run.specs.Memory.{hides_memory}
-use Rattle.mesh_run.specs.Unmet.{EndsAs, IsUnmet, IsUnwrittenStatus, IsWriteStop}
+use Rattle.mesh_run.specs.Unmet.{EndsAs, EndsOn, IsUnmet, IsUnwrittenStatus, IsWriteStop}
 use Rattle.mesh_report.specs.declared.status.Status.{Status}
 use Rattle.mesh_report.specs.declared.status.Status.TheVariants.{Done, Words, StepOfNoGrid, ReadFault, WriteFault}
 use Rattle.mesh_report.specs.declared.status.Status.TheVariants.{NotWritten, FileRefused, NoTriangles, NotAScene}
@@ -195,6 +195,32 @@ module _ (IsCause : Status → Type 0) (AreFiles : List NamedBytes → Type 0) (
   unmet_ends Writes why never OutOfMemory text h e = (h, e)
   unmet_ends Writes why never (Uncertified fault) text h e = (h, e)
 
+  -- the same where a mesh may go to out, which took nothing
+  unmet_ends_on : (out : SinkCall) (Writes : Status → List ℕ → Type 0) (why : Status → List ℕ) → (IsCause Done → ⊥) →
+      (IsCause WriteFault → ⊥) → out.taken_after ≡ out.taken →
+      (status : Status) (text : List ℕ) → IsUnmet IsCause AreFiles target status → text ≡ line (why status) →
+      EndsOn out Writes (IsUnmet IsCause AreFiles target) why status text
+  unmet_ends_on out Writes why never fault same Done text h e = absurd (never h.0)
+  unmet_ends_on out Writes why never fault same (Words refusal) text h e = (h, e, same)
+  unmet_ends_on out Writes why never fault same StepOfNoGrid text h e = (h, e, same)
+  unmet_ends_on out Writes why never fault same (ReadFault i) text h e = (h, e, same)
+  unmet_ends_on out Writes why never fault same WriteFault text h e = absurd (fault h.0)
+  unmet_ends_on out Writes why never fault same (NotWritten file) text h e = (h, e, same)
+  unmet_ends_on out Writes why never fault same (FileRefused i reason) text h e = (h, e, same)
+  unmet_ends_on out Writes why never fault same NoTriangles text h e = (h, e, same)
+  unmet_ends_on out Writes why never fault same NotAScene text h e = (h, e, same)
+  unmet_ends_on out Writes why never fault same (NotClosed o format) text h e = (h, e, same)
+  unmet_ends_on out Writes why never fault same (ExprRefused fault) text h e = (h, e, same)
+  unmet_ends_on out Writes why never fault same Unbounded text h e = (h, e, same)
+  unmet_ends_on out Writes why never fault same (LongFile i) text h e = (h, e, same)
+  unmet_ends_on out Writes why never fault same (TooManyTriangles count) text h e = (h, e, same)
+  unmet_ends_on out Writes why never fault same TooManyWritten text h e = (h, e, same)
+  unmet_ends_on out Writes why never fault same (StepTooSmall extent) text h e = (h, e, same)
+  unmet_ends_on out Writes why never fault same TooFar text h e = (h, e, same)
+  unmet_ends_on out Writes why never fault same (DocumentRefused fault) text h e = (h, e, same)
+  unmet_ends_on out Writes why never fault same OutOfMemory text h e = (h, e, same)
+  unmet_ends_on out Writes why never fault same (Uncertified fault) text h e = (h, e, same)
+
   -- the line is made and said, or, for want of memory, that of out-of-memory is
   pub said_status_ends : {E : Type 0} (Writes : List ℕ → Type 0) (why : Status → List ℕ) →
       why OutOfMemory ≡ codes "out of memory" → (IsCause Done → ⊥) →
@@ -213,6 +239,28 @@ module _ (IsCause : Status → Type 0) (AreFiles : List NamedBytes → Type 0) (
     line (codes "out of memory"),
     subst (λ (s : Status). EndsAs Writes (IsUnmet IsCause AreFiles target) why s
         (line (codes "out of memory"))) (sym without.0) (unmet_lacks_memory status unmet, ap line (sym memory)),
+    without.1,
+  )
+
+  -- the same where a mesh may go to out, which took nothing
+  pub said_status_ends_on : {E : Type 0} (out : SinkCall) (Writes : Status → List ℕ → Type 0) (why : Status → List ℕ) →
+      why OutOfMemory ≡ codes "out of memory" → (IsCause Done → ⊥) → (IsCause WriteFault → ⊥) →
+      out.taken_after ≡ out.taken →
+      (status result : Status) (err : SinkCall) (said : Result (Vec ℕ Global) E) →
+      IsUnmet IsCause AreFiles target status → IfOk said (λ text. text.items ≡ line (why status)) →
+      IfOk said (λ text. (result ≡ status) × TakesUntilFault err text.items) →
+      OnErr said ((result ≡ OutOfMemory) × TakesUntilFault err (line (codes "out of memory"))) →
+      (text : List ℕ) × EndsOn out Writes (IsUnmet IsCause AreFiles target) why result text × TakesUntilFault err text
+  said_status_ends_on out Writes why memory never fault same status result err (Ok text) unmet made told without = (
+    text.items,
+    subst (λ (s : Status). EndsOn out Writes (IsUnmet IsCause AreFiles target) why s text.items) (sym told.0)
+        (unmet_ends_on out Writes why never fault same status text.items unmet made),
+    told.1,
+  )
+  said_status_ends_on out Writes why memory never fault same status result err (Err e) unmet made told without = (
+    line (codes "out of memory"),
+    subst (λ (s : Status). EndsOn out Writes (IsUnmet IsCause AreFiles target) why s
+        (line (codes "out of memory"))) (sym without.0) (unmet_lacks_memory status unmet, ap line (sym memory), same),
     without.1,
   )
 

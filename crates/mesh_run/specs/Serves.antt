@@ -26,21 +26,40 @@ use Rattle.mesh_report.specs.Messages.{usage_text, version_text}
 use Rattle.mesh_run.specs.Outputs.{IsOutputFor, IsPlacedFor}
 use Rattle.mesh_run.specs.Pages.{IsPageOf}
 use Rattle.mesh_report.specs.Reports.{export_report, report_of, snap_report}
-use Rattle.mesh_run.specs.Unmet.{EndsAs, IsUnmet}
+use Rattle.mesh_run.specs.Unmet.{EndsAs, EndsOn, IsUnmet}
 use Rattle.mesh_report.specs.WordLines.{refusal_text}
-use Rattle.mesh_run.specs.Writes.{AreMeshFiles, AreSceneFiles, AreSolidFiles}
+use Rattle.mesh_run.specs.Writes.{AreMeshFiles, AreSceneFiles, AreSolidFiles, sent_to}
 use Rattle.mesh_report.specs.declared.status.Status.{Status}
 use Rattle.mesh_report.specs.declared.status.Status.TheVariants.{Done, Words, WriteFault, OutOfMemory}
 
+-- ---- a mesh to standard output
+-- all files are put. Then out takes the mesh, if it goes there, and err the report; or out fails
+abbrev pub IsSent : Option (List ℕ) → List ℕ → SinkCall → Status → List ℕ → Type 0
+IsSent None report out status text = (status ≡ Done) × (text ≡ report) × (out.taken_after ≡ out.taken)
+IsSent (Some mesh) report out Done text = TakesAll out mesh × (text ≡ report)
+IsSent (Some mesh) report out WriteFault text =
+    TakesSome out mesh × (text ≡ line (codes "cannot write to standard output"))
+IsSent (Some mesh) report out status text = ⊥
+
 -- ---- a Boolean
--- the output is that of the request, and its files are put, each in its turn; err takes the report
-pub record WritesSolid (request : Request) (shelf : ShelfCall) (target : TargetCall) (text : List ℕ) : Type 0 where
+-- the output is that of the request, and its files are put, each in its turn; this goes to out, and this is the report
+pub record PutsSolid (request : Request) (shelf : ShelfCall) (target : TargetCall) (sent : Option (List ℕ))
+    (report : List ℕ) : Type 0 where
   pub output : SolidFile
   pub is_output : IsOutputFor request shelf.told output
   pub files : List NamedBytes
   pub are_files : AreSolidFiles request output files
   pub written : PutsEach files target.held target.held_after
-  pub text_is : text ≡ report_of request output
+  pub sent_is : sent ≡ sent_to request.output output.written.bytes.items
+  pub report_is : report ≡ report_of request output
+
+-- out takes what goes there, and err the report; or out fails
+pub record WritesSolid (request : Request) (shelf : ShelfCall) (target : TargetCall) (out : SinkCall) (status : Status)
+    (text : List ℕ) : Type 0 where
+  pub sent : Option (List ℕ)
+  pub report : List ℕ
+  pub puts : PutsSolid request shelf target sent report
+  pub is_sent : IsSent sent report out status text
 
 -- these are the files of an output of the request
 pub record AreFilesFor (request : Request) (told : List ℕ → Option (List ℕ)) (files : List NamedBytes) : Type 0 where
@@ -53,9 +72,9 @@ IsSolidUnmet request shelf target status =
     IsUnmet (IsStop request shelf) (AreFilesFor request shelf.told) target status
 
 -- or the files aren't all written; err takes the line of the status
-abbrev pub IsSolidOutcome : Request → ShelfCall → TargetCall → Status → List ℕ → Type 0
-IsSolidOutcome request shelf target status text =
-    EndsAs (WritesSolid request shelf target) (IsSolidUnmet request shelf target) (why_of request) status text
+abbrev pub IsSolidOutcome : Request → ShelfCall → TargetCall → SinkCall → Status → List ℕ → Type 0
+IsSolidOutcome request shelf target out status text =
+    EndsOn out (WritesSolid request shelf target out) (IsSolidUnmet request shelf target) (why_of request) status text
 
 -- ---- meshes on their grid
 -- the files of the request are placed as it asks for, and the files of their scene are put, each in its turn; err takes
@@ -85,16 +104,25 @@ IsSnapOutcome request shelf target status text =
     EndsAs (WritesScene request shelf target) (IsSnapUnmet request shelf target) (snap_why request) status text
 
 -- ---- a document
--- the mesh is that of the document that is named, and its files are put, each in its turn; err takes the lines of the
--- mesh
-pub record WritesExport (request : ExportRequest) (shelf : ShelfCall) (target : TargetCall)
-    (text : List ℕ) : Type 0 where
+-- the mesh is that of the document that is named, and its files are put, each in its turn; this goes to out, and these
+-- are the lines of the mesh
+pub record PutsExport (request : ExportRequest) (shelf : ShelfCall) (target : TargetCall) (sent : Option (List ℕ))
+    (report : List ℕ) : Type 0 where
   pub mesh : Written
   pub is_export : IsExport request shelf.told mesh
   pub files : List NamedBytes
   pub are_files : AreMeshFiles request.view request.output mesh files
   pub written : PutsEach files target.held target.held_after
-  pub text_is : text ≡ export_report request mesh
+  pub sent_is : sent ≡ sent_to request.output mesh.bytes.items
+  pub report_is : report ≡ export_report request mesh
+
+-- out takes what goes there, and err the lines; or out fails
+pub record WritesExport (request : ExportRequest) (shelf : ShelfCall) (target : TargetCall) (out : SinkCall)
+    (status : Status) (text : List ℕ) : Type 0 where
+  pub sent : Option (List ℕ)
+  pub report : List ℕ
+  pub puts : PutsExport request shelf target sent report
+  pub is_sent : IsSent sent report out status text
 
 -- these are the files of a mesh that the request asks for
 pub record AreExportFilesFor (request : ExportRequest) (told : List ℕ → Option (List ℕ)) (files : List NamedBytes) :
@@ -108,9 +136,10 @@ IsExportUnmet request shelf target status =
     IsUnmet (IsExportStop request shelf) (AreExportFilesFor request shelf.told) target status
 
 -- or the files aren't all written; err takes the line of the status
-abbrev pub IsExportOutcome : ExportRequest → ShelfCall → TargetCall → Status → List ℕ → Type 0
-IsExportOutcome request shelf target status text =
-    EndsAs (WritesExport request shelf target) (IsExportUnmet request shelf target) (export_why request) status text
+abbrev pub IsExportOutcome : ExportRequest → ShelfCall → TargetCall → SinkCall → Status → List ℕ → Type 0
+IsExportOutcome request shelf target out status text =
+    EndsOn out (WritesExport request shelf target out) (IsExportUnmet request shelf target) (export_why request) status
+    text
 
 -- ---- help and the version
 -- out takes this message, or fails
@@ -179,12 +208,12 @@ IsOutcome words (Ok (View request)) shelf target out status text =
 IsOutcome words (Ok (Snap request)) shelf target out status text =
     IsSnapOutcome request shelf target status text × (out.taken_after ≡ out.taken)
 IsOutcome words (Ok (Export request)) shelf target out status text =
-    IsExportOutcome request shelf target status text × (out.taken_after ≡ out.taken)
+    IsExportOutcome request shelf target out status text
 IsOutcome words (Ok Help) shelf target out status text = IsMessageOutcome usage_text out status text × HoldsAll target
 IsOutcome words (Ok Version) shelf target out status text =
     IsMessageOutcome version_text out status text × HoldsAll target
 IsOutcome words (Ok (Boole request)) shelf target out status text =
-    IsSolidOutcome request shelf target status text × (out.taken_after ≡ out.taken)
+    IsSolidOutcome request shelf target out status text
 
 -- what a call with these words promises
 pub record MeshServes (words : List (List ℕ)) (shelf : ShelfCall) (target : TargetCall) (out err : SinkCall)

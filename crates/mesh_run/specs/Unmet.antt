@@ -3,11 +3,11 @@ use Rattle.std.specs.Prelude.{◌≡◌, ◌≢◌, ◌⊎◌, ⊤, ℕ, List, f
 use Rattle.mesh_outside.specs.Target.Several.{NamedBytes, PutsBefore}
 use Rattle.mesh_outside.specs.declared.target.target.WriteEnd.{WriteEnd}
 use Rattle.mesh_outside.specs.declared.target.target.WriteEnd.TheVariants as write
-use Rattle.mesh_run.specs.Calls.{TargetCall, HoldsAll}
+use Rattle.mesh_run.specs.Calls.{TargetCall, SinkCall, HoldsAll}
 use Rattle.mesh_report.specs.Lines.{line}
 use Rattle.mesh_run.specs.Memory.{hides_memory}
 use Rattle.mesh_report.specs.declared.status.Status.{Status}
-use Rattle.mesh_report.specs.declared.status.Status.TheVariants.{Done, NotWritten, OutOfMemory}
+use Rattle.mesh_report.specs.declared.status.Status.TheVariants.{Done, WriteFault, NotWritten, OutOfMemory}
 
 -- ---- writing
 -- the status of a file of this name that isn't written for this reason: want of memory is its own status, and may come
@@ -48,3 +48,10 @@ IsUnmet IsCause AreFiles target status = IsCause status × HoldsAll target × (h
 abbrev pub EndsAs : (List ℕ → Type 0) → (Status → Type 0) → (Status → List ℕ) → Status → List ℕ → Type 0
 EndsAs Writes Unmet why Done text = Writes text
 EndsAs Writes Unmet why status text = Unmet status × (text ≡ line (why status))
+
+-- the same where a mesh may go to out: if all files are written, out may still fail; otherwise it takes nothing
+abbrev pub EndsOn : SinkCall → (Status → List ℕ → Type 0) → (Status → Type 0) → (Status → List ℕ) → Status → List ℕ →
+    Type 0
+EndsOn out Writes Unmet why Done text = Writes Done text
+EndsOn out Writes Unmet why WriteFault text = Writes WriteFault text
+EndsOn out Writes Unmet why status text = Unmet status × (text ≡ line (why status)) × (out.taken_after ≡ out.taken)

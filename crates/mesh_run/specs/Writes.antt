@@ -1,10 +1,12 @@
 -- The files that a request gets, by their names and bytes
-use Rattle.std.specs.Prelude.{◌≡◌, ℕ, zero, suc, List, [], ◌∷◌, ◌++◌, length, Some, MatchOption}
+use Rattle.std.specs.Prelude.{◌≡◌, ℕ, zero, suc, List, [], ◌∷◌, ◌++◌, length, codes, Some, None, MatchOption}
 use Rattle.std.specs.declared.option.Option.{Option}
 use Rattle.std.specs.Global.{Vec}
 use Rattle.mesh_boolean.specs.declared.output.KeptDocument.{KeptDocument}
 use Rattle.mesh_boolean.specs.declared.output.SolidFile.{SolidFile}
 use Rattle.mesh_boolean.specs.declared.writing.Written.{Written}
+use Rattle.mesh_words.specs.declared.command.Destination.{Destination}
+use Rattle.mesh_words.specs.declared.command.Destination.TheVariants.{File, StandardOutput}
 use Rattle.mesh_words.specs.declared.command.Request.{Request}
 use Rattle.mesh_words.specs.Folders.{document_name, mesh_name, scene_name}
 use Rattle.ember_model.specs.declared.tri.Tri.{Tri}
@@ -44,6 +46,22 @@ pub record AreSceneFiles (folder : List ℕ) (names : List (List ℕ)) (placed :
   pub all : files ≡ mesh_files folder placed.scene.tris (length names)
       ++ (scene_name folder, text) ∷ []
 
+-- ---- where a mesh goes
+-- the file of a mesh with these bytes, if it goes to one
+abbrev pub mesh_file_at : Destination → List ℕ → List NamedBytes
+mesh_file_at (File name) bytes = (name, bytes) ∷ []
+mesh_file_at StandardOutput bytes = []
+
+-- what of it goes to standard output
+abbrev pub sent_to : Destination → List ℕ → Option (List ℕ)
+sent_to (File name) bytes = None
+sent_to StandardOutput bytes = Some bytes
+
+-- what a page calls it
+abbrev pub title_at : Destination → List ℕ
+title_at (File name) = name
+title_at StandardOutput = codes "standard output"
+
 -- ---- a mesh
 -- the page of this name that shows these triangles under that title; a reader finds them in it again
 pub record IsPageFile (title : List ℕ) (shown : Option (Vec WrittenTriangle)) (name : List ℕ)
@@ -54,12 +72,12 @@ pub record IsPageFile (title : List ℕ) (shown : Option (Vec WrittenTriangle)) 
   pub all : files ≡ (name, page_of title triangles.items) ∷ []
   pub read_back : IsReadBack triangles.items (page_of title triangles.items)
 
--- a mesh under its name, and before it the page that shows it under this name, if a page is asked for
-pub record AreMeshFiles (page : Option (List ℕ)) (name : List ℕ) (mesh : Written) (files : List NamedBytes) :
+-- the page that shows a mesh, if a page is asked for, and behind it the mesh, if it goes to a file
+pub record AreMeshFiles (page : Option (List ℕ)) (output : Destination) (mesh : Written) (files : List NamedBytes) :
     Type 0 where
   pub pages : List NamedBytes
-  pub are_pages : AreFilesIf page (IsPageFile name mesh.shown) pages
-  pub all : files ≡ pages ++ (name, mesh.bytes.items) ∷ []
+  pub are_pages : AreFilesIf page (IsPageFile (title_at output) mesh.shown) pages
+  pub all : files ≡ pages ++ mesh_file_at output mesh.bytes.items
 
 -- ---- a Boolean
 -- the files of a scene in a folder, and the document

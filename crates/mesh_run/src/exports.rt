@@ -1,17 +1,17 @@
 // The mesh of a document.
-ghost use Rattle.std.specs.Prelude.{◌≡◌, ◌≤◌, ℕ, List, false, None, IfOk, IfErr, IfSome};
+ghost use Rattle.std.specs.Prelude.{◌≡◌, ◌≤◌, ℕ, List, false, None, IfOk, IfErr, IfSome, option_map};
 ghost use Rattle.mesh_scene.specs.SceneFile.Scenes.{IsSceneOf};
 ghost use Rattle.mesh_grid.specs.Snap.Steps.{IsStep};
 ghost use Rattle.mesh_run.specs.Calls.{KeepsContents, TakesUntilFault, shelf_call, sink_call, target_call};
 ghost use Rattle.mesh_run.specs.Exports.{IsExport, IsExportStop, IsGridGiven, IsNoGrid, IsUnreadFile, document_index, status_of_document, unit_grid};
 ghost use Rattle.mesh_run.specs.Files.{AreBytes};
 ghost use Rattle.mesh_run.specs.Memory.{hides_memory};
-ghost use Rattle.mesh_run.specs.Serves.{IsExportOutcome, IsExportUnmet, WritesExport};
+ghost use Rattle.mesh_run.specs.Serves.{IsExportOutcome, IsExportUnmet, PutsExport};
 
 use crate::asked::format_asked;
 use crate::files::written_files;
 use crate::reading::MOST_BYTES;
-use crate::writing::{say, say_why, write_files};
+use crate::writing::{Sending, say_why, send, write_files};
 use ember_io::{ReadEnd, Shelf, Sink, read_all};
 use ember_words::Text;
 use mesh_boolean::{DocumentFileFault, Written, document_file};
@@ -134,22 +134,23 @@ fn mesh_for<S: Shelf>(
     }
 }
 
-// Writes the mesh that a request asks for, and gives the report, or the status that says why it
-// isn't written.
+// Writes the mesh that a request asks for, if it goes to a file. Gives what goes to standard output
+// and the report, or the status that says why it isn't written.
 fn write_export<S: Shelf, T: Target>(
     alloc: Global,
     request: &ExportRequest,
     shelf: &mut S,
     target: &mut T,
-) -> Result<Vec<u8>, Status>
+) -> Result<Sending, Status>
     requires digits { IfSome request.now.digits (λ n. n ≤ 17) }
     requires begun { T.begun target.old ≡ None }
     ensures contents { KeepsContents (shelf_call S.contents S.faults S.fault_at shelf.old shelf.new) }
     ensures none_begun { T.begun target.new ≡ None }
     ensures later { T.faults target.old ≤ T.faults target.new }
-    ensures written { IfOk result (λ report. WritesExport request.now
+    ensures written { IfOk result (λ sending. PutsExport request.now
         (shelf_call S.contents S.faults S.fault_at shelf.old shelf.new)
-        (target_call T.held T.begun T.faults target.old target.new) report.items) }
+        (target_call T.held T.begun T.faults target.old target.new)
+        (option_map (λ bytes. bytes.items) sending.sent) sending.report.items) }
     ensures stop { IfErr result (IsExportUnmet request.now
         (shelf_call S.contents S.faults S.fault_at shelf.old shelf.new)
         (target_call T.held T.begun T.faults target.old target.new)) }
@@ -159,19 +160,24 @@ fn write_export<S: Shelf, T: Target>(
         Err(status) => return Err(status),
     };
     let report = export_report(alloc, request, &mesh)?;
-    let files = written_files(alloc, &request.view, &request.output, mesh)?;
-    match write_files(alloc, target, None, &files) {
-        Ok(()) => Ok(report),
+    let made = written_files(alloc, &request.view, &request.output, mesh)?;
+    match write_files(alloc, target, None, &made.files) {
+        Ok(()) => Ok(Sending {
+            sent: made.sent,
+            report,
+        }),
         Err(status) => Err(status),
     }
 }
 
-/// Writes the mesh of a document, and the report or the line of the status to err.
-pub fn serve_export<S: Shelf, T: Target, E: Sink>(
+/// Writes the mesh of a document, to a file or to `out`, and the report or the line of the status
+/// to err.
+pub fn serve_export<S: Shelf, T: Target, O: Sink, E: Sink>(
     alloc: Global,
     request: &ExportRequest,
     shelf: &mut S,
     target: &mut T,
+    out: &mut O,
     err: &mut E,
 ) -> Status
     requires digits { IfSome request.now.digits (λ n. n ≤ 17) }
@@ -179,17 +185,16 @@ pub fn serve_export<S: Shelf, T: Target, E: Sink>(
     ensures contents { KeepsContents (shelf_call S.contents S.faults S.fault_at shelf.old shelf.new) }
     ensures none_begun { T.begun target.new ≡ None }
     ensures later { T.faults target.old ≤ T.faults target.new }
+    ensures later_out { O.faults out.old ≤ O.faults out.new }
     ensures outcome { (text : List ℕ) × IsExportOutcome request.now
         (shelf_call S.contents S.faults S.fault_at shelf.old shelf.new)
-        (target_call T.held T.begun T.faults target.old target.new) result text ×
+        (target_call T.held T.begun T.faults target.old target.new)
+        (sink_call O.taken O.flushed O.faults out.old out.new) result text ×
         TakesUntilFault (sink_call E.taken E.flushed E.faults err.old err.new) text }
     ensures memory { hides_memory result ≡ false }
 {
     match write_export(alloc, request, shelf, target) {
-        Ok(report) => {
-            say(err, &report);
-            Status::Done
-        }
+        Ok(sending) => send(out, err, &sending.sent, &sending.report),
         Err(status) => {
             let said = export_line(alloc, request, &status);
             say_why(err, status, said)

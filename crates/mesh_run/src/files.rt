@@ -1,20 +1,27 @@
 // The files that a request gets.
-ghost use Rattle.std.specs.Prelude.{◌≡◌, ◌≤◌, ◌++◌, ◌∷◌, [], length, IfOk, IsSome, OnOk};
+ghost use Rattle.std.specs.Prelude.{◌≡◌, ◌≤◌, ◌++◌, ◌∷◌, [], length, IfOk, IsSome, OnOk, option_map};
 ghost use Rattle.mesh_write.specs.Page.Pages.{page_of};
 ghost use Rattle.mesh_write.specs.Page.ReadBack.{IsReadBack};
 ghost use Rattle.mesh_grid.specs.Snap.Steps.{IsStep};
 ghost use Rattle.mesh_outside.specs.Target.Several.{names_and_bytes};
 ghost use Rattle.mesh_words.specs.Folders.{document_name, scene_name};
-ghost use Rattle.mesh_run.specs.Writes.{AreAppended, AreFilesIf, AreKeptFiles, AreMeshFiles, AreOutputsKept, AreSceneFiles, AreSolidFiles, IsPageFile, mesh_file, mesh_files};
+ghost use Rattle.mesh_run.specs.Writes.{AreAppended, AreFilesIf, AreKeptFiles, AreMeshFiles, AreOutputsKept, AreSceneFiles, AreSolidFiles, IsPageFile, mesh_file, mesh_file_at, mesh_files, sent_to, title_at};
 
 use ember_model::{OutOfMemory, Tri};
 use ember_words::Text;
 use mesh_boolean::{KeptDocument, SolidFile, Written};
 use mesh_outside::NamedFile;
 use mesh_scene::{PlacedScene, grid_mesh, scene_text};
-use mesh_words::{Request, document_name, mesh_name, scene_name};
+use mesh_words::{Destination, Request, document_name, mesh_name, scene_name};
 use mesh_write::{WrittenTriangle, page_bytes};
 use std::alloc::Global;
+
+/// The files of a mesh, and what of it goes to standard output.
+#[derive(Drop)]
+pub struct MeshFiles {
+    pub files: Vec<NamedFile>,
+    pub sent: Option<Vec<u8>>,
+}
 
 // Appends a file with this name and these bytes.
 fn put_named(
@@ -146,7 +153,7 @@ pub fn scene_files(
 fn put_page(
     alloc: Global,
     page: &Text,
-    title: &Text,
+    title: &[u8],
     shown: &[WrittenTriangle],
     files: &mut Vec<NamedFile>,
 ) -> Result<(), OutOfMemory>
@@ -154,7 +161,7 @@ fn put_page(
         names_and_bytes files.old.items ++ (page.now, page_of title.now shown.now) ∷ []) }
     ensures read_back { OnOk result (IsReadBack shown.now (page_of title.now shown.now)) }
 {
-    let bytes = page_bytes(alloc, title.as_str().as_bytes(), shown)?;
+    let bytes = page_bytes(alloc, title, shown)?;
     put_named(alloc, page, bytes, files)
 }
 
@@ -162,7 +169,7 @@ fn put_page(
 fn put_pages(
     alloc: Global,
     page: &Option<Text>,
-    title: &Text,
+    title: &[u8],
     shown: Option<Vec<WrittenTriangle>>,
     files: &mut Vec<NamedFile>,
 ) -> Result<(), OutOfMemory>
@@ -177,36 +184,71 @@ fn put_pages(
     put_page(alloc, page, title, &shown, files)
 }
 
-// Appends the page that shows a mesh, if one is asked for, and the mesh.
+// What a page calls a mesh that goes there.
+fn title_at(output: &Destination) -> &[u8]
+    ensures { result.now ≡ title_at output.now }
+{
+    match output {
+        Destination::File(name) => name.as_str().as_bytes(),
+        Destination::StandardOutput => b"standard output",
+    }
+}
+
+// Appends the file of a mesh, if it goes to one. Otherwise the bytes come back.
+fn put_mesh_at(
+    alloc: Global,
+    output: &Destination,
+    bytes: Vec<u8>,
+    files: &mut Vec<NamedFile>,
+) -> Result<Option<Vec<u8>>, OutOfMemory>
+    ensures put { OnOk result (names_and_bytes files.new.items ≡
+        names_and_bytes files.old.items ++ mesh_file_at output.now bytes.items) }
+    ensures sent { IfOk result (λ sent. option_map (λ b. b.items) sent ≡ sent_to output.now bytes.items) }
+{
+    match output {
+        Destination::File(name) => {
+            put_named(alloc, name, bytes, files)?;
+            Ok(None)
+        }
+        Destination::StandardOutput => Ok(Some(bytes)),
+    }
+}
+
+// Appends the page that shows a mesh, if one is asked for, and the mesh, if it goes to a file.
+// Otherwise the bytes of the mesh come back.
 fn put_mesh_files(
     alloc: Global,
     page: &Option<Text>,
-    name: &Text,
+    output: &Destination,
     mesh: Written,
     files: &mut Vec<NamedFile>,
-) -> Result<(), OutOfMemory>
+) -> Result<Option<Vec<u8>>, OutOfMemory>
     requires { IsSome page.now → IsSome mesh.shown }
-    ensures { OnOk result (AreAppended (AreMeshFiles page.now name.now mesh)
+    ensures put { OnOk result (AreAppended (AreMeshFiles page.now output.now mesh)
         (names_and_bytes files.old.items) (names_and_bytes files.new.items)) }
+    ensures sent { IfOk result (λ sent. option_map (λ b. b.items) sent ≡ sent_to output.now mesh.bytes.items) }
 {
     let Written { bytes, shown, .. } = mesh;
-    put_pages(alloc, page, name, shown, files)?;
-    put_named(alloc, name, bytes, files)
+    put_pages(alloc, page, title_at(output), shown, files)?;
+    put_mesh_at(alloc, output, bytes, files)
 }
 
-/// The page that shows a mesh, if one is asked for, and the mesh.
+/// The page that shows a mesh, if one is asked for, and the mesh, which goes to a file or to
+/// standard output.
 pub fn written_files(
     alloc: Global,
     page: &Option<Text>,
-    name: &Text,
+    output: &Destination,
     mesh: Written,
-) -> Result<Vec<NamedFile>, OutOfMemory>
+) -> Result<MeshFiles, OutOfMemory>
     requires { IsSome page.now → IsSome mesh.shown }
-    ensures { IfOk result (λ files. AreMeshFiles page.now name.now mesh (names_and_bytes files.items)) }
+    ensures files { IfOk result (λ made. AreMeshFiles page.now output.now mesh (names_and_bytes made.files.items)) }
+    ensures sent { IfOk result (λ made.
+        option_map (λ b. b.items) made.sent ≡ sent_to output.now mesh.bytes.items) }
 {
     let mut files = Vec::new(alloc);
-    put_mesh_files(alloc, page, name, mesh, &mut files)?;
-    Ok(files)
+    let sent = put_mesh_files(alloc, page, output, mesh, &mut files)?;
+    Ok(MeshFiles { files, sent })
 }
 
 // Appends the files of a scene in a folder, and the document.
@@ -274,21 +316,24 @@ fn kept_files(
     Ok((files, written))
 }
 
-/// The files of a Boolean: what is to be kept, the page that shows the solid, and the solid itself.
+/// The files of a Boolean: what is to be kept, the page that shows the solid, and the solid itself,
+/// which goes to a file or to standard output.
 pub fn solid_files(
     alloc: Global,
     request: &Request,
     output: SolidFile,
-) -> Result<Vec<NamedFile>, OutOfMemory>
+) -> Result<MeshFiles, OutOfMemory>
     requires few { length request.now.files ≤ 64 }
     requires step { IsStep output.grid.step }
     requires counts { length output.counts.items ≡ length request.now.files }
     requires moves { length output.moves.items ≡ length request.now.files }
     requires kept { IsSome request.now.keep → IsSome output.kept }
     requires shown { IsSome request.now.view → IsSome output.written.shown }
-    ensures { IfOk result (λ files. AreSolidFiles request.now output (names_and_bytes files.items)) }
+    ensures files { IfOk result (λ made. AreSolidFiles request.now output (names_and_bytes made.files.items)) }
+    ensures sent { IfOk result (λ made.
+        option_map (λ b. b.items) made.sent ≡ sent_to request.now.output output.written.bytes.items) }
 {
     let (mut files, mesh) = kept_files(alloc, request, output)?;
-    put_mesh_files(alloc, &request.view, &request.output, mesh, &mut files)?;
-    Ok(files)
+    let sent = put_mesh_files(alloc, &request.view, &request.output, mesh, &mut files)?;
+    Ok(MeshFiles { files, sent })
 }

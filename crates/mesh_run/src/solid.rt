@@ -1,5 +1,5 @@
 // The files of a Boolean.
-ghost use Rattle.std.specs.Prelude.{◌≡◌, ◌≤◌, ℕ, List, length, All, false, None, IfOk, IfErr};
+ghost use Rattle.std.specs.Prelude.{◌≡◌, ◌≤◌, ℕ, List, length, All, false, None, IfOk, IfErr, option_map};
 ghost use Rattle.std.specs.declared.option.Option.{Option};
 ghost use Rattle.mesh_boolean.specs.Outputs.{HasFewDigits};
 ghost use Rattle.ember_expr.specs.Formula.{formula_of};
@@ -12,12 +12,12 @@ ghost use Rattle.mesh_run.specs.Causes.{IsFilesCause, IsStop};
 ghost use Rattle.mesh_run.specs.Files.{AreContents};
 ghost use Rattle.mesh_run.specs.Memory.{hides_memory};
 ghost use Rattle.mesh_run.specs.Outputs.{IsFilesOutput, IsOutputFor};
-ghost use Rattle.mesh_run.specs.Serves.{IsSolidOutcome, IsSolidUnmet, WritesSolid};
+ghost use Rattle.mesh_run.specs.Serves.{IsSolidOutcome, IsSolidUnmet, PutsSolid};
 
 use crate::asked::{Asked, asked_by};
 use crate::files::solid_files;
 use crate::reading::{mesh_files, read_contents};
-use crate::writing::{say, say_why, write_files};
+use crate::writing::{Sending, say_why, send, write_files};
 use ember_io::{Shelf, Sink};
 use ember_model::OutOfMemory;
 use ember_query::{Answer, Query};
@@ -117,8 +117,8 @@ fn solid_output<
     }
 }
 
-// Writes the files that a request asks for, and gives the report, or the status that says why they
-// aren't written.
+// Writes the files that a request asks for, and gives what goes to standard output and the report,
+// or the status that says why they aren't written.
 fn write_solid<
     S: Shelf,
     T: Target,
@@ -133,7 +133,7 @@ fn write_solid<
     stages: &P,
     executor: &C,
     plane_executor: &D,
-) -> Result<Vec<u8>, Status>
+) -> Result<Sending, Status>
     requires limits { IsWithinLimits request.now }
     requires begun { T.begun target.old ≡ None }
     requires executor { IsExecutor C.pre C.post executor.now }
@@ -141,9 +141,10 @@ fn write_solid<
     ensures contents { KeepsContents (shelf_call S.contents S.faults S.fault_at shelf.old shelf.new) }
     ensures none_begun { T.begun target.new ≡ None }
     ensures later { T.faults target.old ≤ T.faults target.new }
-    ensures written { IfOk result (λ report. WritesSolid request.now
+    ensures written { IfOk result (λ sending. PutsSolid request.now
         (shelf_call S.contents S.faults S.fault_at shelf.old shelf.new)
-        (target_call T.held T.begun T.faults target.old target.new) report.items) }
+        (target_call T.held T.begun T.faults target.old target.new)
+        (option_map (λ bytes. bytes.items) sending.sent) sending.report.items) }
     ensures stop { IfErr result (IsSolidUnmet request.now
         (shelf_call S.contents S.faults S.fault_at shelf.old shelf.new)
         (target_call T.held T.begun T.faults target.old target.new)) }
@@ -153,17 +154,22 @@ fn write_solid<
         Err(status) => return Err(status),
     };
     let report = report_of(alloc, request, &output)?;
-    let files = solid_files(alloc, request, output)?;
-    match write_files(alloc, target, request.keep.as_ref(), &files) {
-        Ok(()) => Ok(report),
+    let made = solid_files(alloc, request, output)?;
+    match write_files(alloc, target, request.keep.as_ref(), &made.files) {
+        Ok(()) => Ok(Sending {
+            sent: made.sent,
+            report,
+        }),
         Err(status) => Err(status),
     }
 }
 
-/// Writes the files that a request asks for, and the report or the line of the status to err.
+/// Writes the files that a request asks for, the solid to `out` if it goes there, and the report or
+/// the line of the status to err.
 pub fn serve_solid<
     S: Shelf,
     T: Target,
+    O: Sink,
     E: Sink,
     P: Stages,
     C: Fn(&Query) -> Result<Answer, OutOfMemory>,
@@ -173,6 +179,7 @@ pub fn serve_solid<
     request: &Request,
     shelf: &mut S,
     target: &mut T,
+    out: &mut O,
     err: &mut E,
     stages: &P,
     executor: &C,
@@ -185,9 +192,11 @@ pub fn serve_solid<
     ensures contents { KeepsContents (shelf_call S.contents S.faults S.fault_at shelf.old shelf.new) }
     ensures none_begun { T.begun target.new ≡ None }
     ensures later { T.faults target.old ≤ T.faults target.new }
+    ensures later_out { O.faults out.old ≤ O.faults out.new }
     ensures outcome { (text : List ℕ) × IsSolidOutcome request.now
         (shelf_call S.contents S.faults S.fault_at shelf.old shelf.new)
-        (target_call T.held T.begun T.faults target.old target.new) result text ×
+        (target_call T.held T.begun T.faults target.old target.new)
+        (sink_call O.taken O.flushed O.faults out.old out.new) result text ×
         TakesUntilFault (sink_call E.taken E.flushed E.faults err.old err.new) text }
     ensures memory { hides_memory result ≡ false }
 {
@@ -200,10 +209,7 @@ pub fn serve_solid<
         executor,
         plane_executor,
     ) {
-        Ok(report) => {
-            say(err, &report);
-            Status::Done
-        }
+        Ok(sending) => send(out, err, &sending.sent, &sending.report),
         Err(status) => {
             let said = line_of(alloc, request, &status);
             say_why(err, status, said)

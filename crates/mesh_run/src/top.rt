@@ -87,6 +87,7 @@ fn run_by<
                 &request,
                 shelf,
                 target,
+                out,
                 err,
                 stages,
                 &|query: &Query| -> Result<Answer, OutOfMemory>
@@ -100,7 +101,7 @@ fn run_by<
             )
         }
         Ok(Command::Snap(request)) => serve_snap(alloc, &request, shelf, target, err, stages),
-        Ok(Command::Export(request)) => serve_export(alloc, &request, shelf, target, err),
+        Ok(Command::Export(request)) => serve_export(alloc, &request, shelf, target, out, err),
         Ok(Command::Info(names)) => serve_infos(alloc, &names, shelf, out, err),
         Ok(Command::View(request)) => serve_view(alloc, &request, shelf, target, err),
         Ok(Command::Help) => write_bytes(out, err, USAGE.as_bytes()),
@@ -159,10 +160,11 @@ pub fn run_mesh_one<S: Shelf, T: Target, O: Sink, E: Sink, G: Gate + Stages>(
 }
 
 /// Does what the words ask for, with as many workers as they say. The files that they name are read
-/// from the shelf, and those of the result are written to the target, each whole or not at all. `help`
-/// and the version go to `out`; the report, or the line of the status, goes to `err`. The solid
-/// doesn't depend on the number of workers. With one worker, the calling thread does everything. The
-/// gate is told of the boxes and of the other stages.
+/// from the shelf, and those of the result are written to the target, each whole or not at all.
+/// With `-o -` the mesh goes to `out`, behind all files. `help` and the version go to `out`, too;
+/// the report, or the line of the status, goes to `err`. The solid doesn't depend on the number of
+/// workers. With one worker, the calling thread does everything. The gate is told of the boxes and
+/// of the other stages.
 pub fn run_mesh<
     R: Threads + Wait + Sync,
     S: Shelf,

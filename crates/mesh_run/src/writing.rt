@@ -1,10 +1,10 @@
 // What the target and the two streams get.
-ghost use Rattle.std.specs.Prelude.{◌≡◌, ◌≤◌, ℕ, List, codes, false, None, IfOk, IfErr, OnOk, OnErr};
+ghost use Rattle.std.specs.Prelude.{◌≡◌, ◌≤◌, ℕ, List, codes, false, None, IfOk, IfErr, OnOk, OnErr, option_map};
 ghost use Rattle.mesh_outside.specs.Target.Several.{PutsEach, names_and_bytes};
 ghost use Rattle.mesh_run.specs.Calls.{HoldsAll, TakesUntilFault, sink_call, target_call};
 ghost use Rattle.mesh_report.specs.Lines.{line};
 ghost use Rattle.mesh_run.specs.Memory.{hides_memory};
-ghost use Rattle.mesh_run.specs.Serves.{IsMessageOutcome};
+ghost use Rattle.mesh_run.specs.Serves.{IsMessageOutcome, IsSent};
 ghost use Rattle.mesh_run.specs.Unmet.{IsUnwrittenStatus, IsWriteStop};
 
 use ember_io::{Sink, write_all};
@@ -13,6 +13,14 @@ use ember_words::Text;
 use mesh_outside::{NamedFile, Target, WriteEnd, write_each};
 use mesh_report::Status;
 use std::alloc::Global;
+
+/// What is left to do once the files of a mesh are written: the mesh goes to standard output, if
+/// there are bytes, and then the report to standard error.
+#[derive(Drop)]
+pub struct Sending {
+    pub sent: Option<Vec<u8>>,
+    pub report: Vec<u8>,
+}
 
 const MEMORY_LINE: &[u8] = b"ember-mesh: out of memory\n";
 
@@ -44,6 +52,35 @@ pub fn write_bytes<O: Sink, E: Sink>(out: &mut O, err: &mut E, bytes: &[u8]) -> 
     match write_all(out, bytes) {
         Ok(()) => {
             say(err, &[]);
+            Status::Done
+        }
+        Err(_) => {
+            say(err, NO_OUTPUT_LINE);
+            Status::WriteFault
+        }
+    }
+}
+
+/// Writes a mesh to `out`, if it goes there, and then the report to err, or the line of a failure.
+pub fn send<O: Sink, E: Sink>(
+    out: &mut O,
+    err: &mut E,
+    sent: &Option<Vec<u8>>,
+    report: &[u8],
+) -> Status
+    ensures later { O.faults out.old ≤ O.faults out.new }
+    ensures outcome { (text : List ℕ) × IsSent (option_map (λ bytes. bytes.items) sent.now) report.now
+        (sink_call O.taken O.flushed O.faults out.old out.new) result text ×
+        TakesUntilFault (sink_call E.taken E.flushed E.faults err.old err.new) text }
+    ensures memory { hides_memory result ≡ false }
+{
+    let Some(mesh) = sent else {
+        say(err, report);
+        return Status::Done;
+    };
+    match write_all(out, mesh) {
+        Ok(()) => {
+            say(err, report);
             Status::Done
         }
         Err(_) => {

@@ -1,7 +1,9 @@
 -- Arguments that are spelled as words are read back
 use Rattle.std.proofs.Common.{◌≡◌, ℕ, ◌+◌, ◌==◌, Bool, true, false, List, [], ◌∷◌, Option, Some, None, Result, Ok, option_map, refl, ap, sym, subst, ◌∙◌, cond}
-use Rattle.std.specs.Prelude.{option_and_then, codes}
+use Rattle.std.specs.Prelude.{option_and_then, codes, ◌&&◌, not}
 use Rattle.std.specs.Str.{bytes_eq}
+use Rattle.std.proofs.lemmas.Bool.{false≢true}
+use Rattle.std.proofs.lemmas.Slice.Eq.{bytes_eq-Decides}
 use Rattle.ember_dec.specs.Decimal.{is_minus}
 use Rattle.mesh_words.specs.declared.command.Command.{Command}
 use Rattle.mesh_words.specs.declared.faults.Refusal.{Refusal}
@@ -19,11 +21,13 @@ use Rattle.mesh_words.specs.Arguments.{in_front, parts_of, with_value, attached_
 use Rattle.mesh_words.specs.Arguments.{waiting_in, prepend, arguments_with, arguments_from}
 use Rattle.mesh_words.specs.Commands.{Reads, command_of, command_with, snap_command, export_command, view_command}
 use Rattle.mesh_words.specs.Spelling.{name_of, option_of, spelling_of, AreSpelled}
+use Rattle.mesh_words.specs.Streams.{is_option_word, is_stream}
 
 -- ---- one word
 option_waits : (s : Setting) → Waiting s ≡ said None (option_of s)
 option_waits setting.Expression = refl
 option_waits setting.Output = refl
+option_waits setting.Format = refl
 option_waits setting.Step = refl
 option_waits setting.Workers = refl
 option_waits setting.Digits = refl
@@ -44,14 +48,28 @@ not_attached b bs h = go (b == 61) (parts_of bs)
     go false (Some p) = rw h refl
 
 no_option : (w : Text) (quiet help : Bool) (s : Option Setting) (a : Option (Setting × Text)) → quiet ≡ false → help ≡ false → s ≡ None → a ≡ None
-    → is_minus w ≡ false → Whole (File w) ≡ cond quiet (Whole Quiet) (cond help (Whole Help) (said_by w s a))
+    → is_option_word w ≡ false → Whole (File w) ≡ cond quiet (Whole Quiet) (cond help (Whole Help) (said_by w s a))
 no_option w quiet help s a eq eh es ea m = rw (eq, eh, es, ea) (ap (λ (t : Bool). cond t Unknown (Whole (File w))) (sym m))
 
-file_is_whole : (name : Text) → is_minus name ≡ false → Whole (File name) ≡ said None name
-file_is_whole [] h = refl
-file_is_whole (b ∷ bs) h =
+plain_is_whole : (name : Text) → is_minus name ≡ false → Whole (File name) ≡ said None name
+plain_is_whole [] h = refl
+plain_is_whole (b ∷ bs) h =
     no_option (b ∷ bs) (bytes_eq (b ∷ bs) (codes "--quiet")) (is_help (b ∷ bs)) (setting_of (b ∷ bs)) (attached_in (b ∷ bs))
-    (rw h refl) (rw h refl) (rw h refl) (not_attached b bs h) h
+    (rw h refl) (rw h refl) (rw h refl) (not_attached b bs h) (rw h refl)
+
+-- `-` itself
+stream_is_whole : (name : Text) → is_stream name ≡ true → Whole (File name) ≡ said None name
+stream_is_whole name h =
+    subst (λ (w : Text). Whole (File w) ≡ said None w) (sym ((bytes_eq-Decides name (codes "-")).0 h)) refl
+
+file_is_whole : (name : Text) → is_option_word name ≡ false → Whole (File name) ≡ said None name
+file_is_whole name h = go (is_minus name) (is_stream name) refl refl h
+  where
+    go : (m s : Bool) → is_minus name ≡ m → is_stream name ≡ s → (m && not s) ≡ false →
+        Whole (File name) ≡ said None name
+    go false s minus stream e = plain_is_whole name minus
+    go true true minus stream e = stream_is_whole name stream
+    go true false minus stream e = absurd (false≢true (sym e))
 
 -- ---- all words
 whole_behind : (n : ℕ) (waits : Option Setting) (w : Text) (ws : List Text) (i : Argument) (is : List Argument) → Whole i ≡ said waits w

@@ -11,14 +11,14 @@ use Rattle.mesh_words.specs.Names.{rank}
 -- ---- the options with values that each command takes
 abbrev pub boolean_settings : List Setting
 boolean_settings =
-    setting.Expression ∷ setting.Output ∷ setting.Step ∷ setting.Workers ∷ setting.Digits ∷ setting.Page ∷
-    setting.Keep ∷ []
+    setting.Expression ∷ setting.Output ∷ setting.Format ∷ setting.Step ∷ setting.Workers ∷ setting.Digits ∷
+    setting.Page ∷ setting.Keep ∷ []
 
 abbrev pub snap_settings : List Setting
 snap_settings = setting.Folder ∷ setting.Step ∷ []
 
 abbrev pub export_settings : List Setting
-export_settings = setting.Scene ∷ setting.Output ∷ setting.Digits ∷ setting.Page ∷ []
+export_settings = setting.Scene ∷ setting.Output ∷ setting.Format ∷ setting.Digits ∷ setting.Page ∷ []
 
 abbrev pub view_settings : List Setting
 view_settings = setting.Output ∷ []

@@ -3,7 +3,6 @@ use Rattle.std.specs.Prelude.{ℕ, ◌+◌, ◌==◌, ◌||◌, Bool, true, fals
 use Rattle.std.specs.Prelude.{None, Result, Ok, Err, codes, option_map, option_and_then, if◌then◌else◌}
 use Rattle.std.specs.Option.{option_or}
 use Rattle.std.specs.Str.{bytes_eq}
-use Rattle.ember_dec.specs.Decimal.{is_minus}
 use Rattle.mesh_words.specs.declared.faults.Refusal.{Refusal}
 use Rattle.mesh_words.specs.declared.faults.Refusal.TheVariants.{UnknownOption, NoValue}
 use Rattle.mesh_words.specs.declared.names.Setting.{Setting}
@@ -13,6 +12,7 @@ use Rattle.mesh_words.specs.declared.arguments.Argument.TheVariants.{File, Value
 use Rattle.mesh_words.specs.declared.arguments.WordMeaning.{WordMeaning}
 use Rattle.mesh_words.specs.declared.arguments.WordMeaning.TheVariants.{Whole, Waiting, Unknown}
 use Rattle.mesh_words.specs.Names.{Text, setting_of, rank}
+use Rattle.mesh_words.specs.Streams.{is_option_word}
 
 -- ---- one word
 abbrev pub in_front : ℕ → Text × Text → Text × Text
@@ -39,7 +39,7 @@ is_help word = bytes_eq word (codes "--help") || bytes_eq word (codes "-h")
 abbrev pub said_by : Text → Option Setting → Option (Setting × Text) → WordMeaning
 said_by word (Some s) a = Waiting s
 said_by word None (Some a) = Whole (Value a.0 a.1)
-said_by word None None = if is_minus word then Unknown else Whole (File word)
+said_by word None None = if is_option_word word then Unknown else Whole (File word)
 
 abbrev pub said_alone : Text → WordMeaning
 said_alone word =

@@ -10,6 +10,7 @@ use Rattle.mesh_words.specs.declared.command.Request.{Request}
 use Rattle.mesh_words.specs.declared.command.SnapRequest.{SnapRequest}
 use Rattle.mesh_words.specs.declared.command.ExportRequest.{ExportRequest}
 use Rattle.mesh_words.specs.declared.command.ViewRequest.{ViewRequest}
+use Rattle.mesh_words.specs.declared.command.Destination.{Destination}
 use Rattle.mesh_words.specs.declared.command.OutputFormat.{OutputFormat}
 use Rattle.mesh_words.specs.declared.command.WantedStep.{WantedStep}
 use Rattle.mesh_words.specs.declared.command.WantedStep.TheVariants as step
@@ -41,7 +42,7 @@ Reads value (Err OutOfMemory) = ⊤
 -- ---- a Boolean
 -- the request of these values, or the first refusal among them
 abbrev pub request_of_values : List Text → Bool → Option Text → Option Text → Result Text Refusal →
-    Result Text Refusal → Result OutputFormat Refusal → Result WantedStep Refusal → Result ℕ Refusal →
+    Result Destination Refusal → Result OutputFormat Refusal → Result WantedStep Refusal → Result ℕ Refusal →
     Result (Option ℕ) Refusal → Result Request Refusal
 request_of_values files quiet view keep (Err why) o m s w d = Err why
 request_of_values files quiet view keep (Ok e) (Err why) m s w d = Err why
@@ -73,7 +74,8 @@ request_with operation arguments (Ok files) None =
     request_of_values files (list_any is_quiet arguments)
     (value_in setting.Page arguments) (value_in setting.Keep arguments)
     (expression_of (operator_of operation) (length files) (value_in setting.Expression arguments))
-    (output_of (value_in setting.Output arguments)) (format_from (output_of (value_in setting.Output arguments)))
+    (output_of (value_in setting.Output arguments))
+    (format_from (output_of (value_in setting.Output arguments)) (value_in setting.Format arguments))
     (step_of (value_in setting.Step arguments)) (workers_of (value_in setting.Workers arguments))
     (digits_of (value_in setting.Digits arguments))
 

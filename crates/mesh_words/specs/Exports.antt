@@ -2,6 +2,7 @@
 use Rattle.std.specs.Prelude.{ℕ, Bool, List, [], ◌∷◌, Option, Some, None, Result, Ok, Err}
 use Rattle.std.specs.List.{list_any}
 use Rattle.mesh_words.specs.declared.command.ExportRequest.{ExportRequest}
+use Rattle.mesh_words.specs.declared.command.Destination.{Destination}
 use Rattle.mesh_words.specs.declared.command.OutputFormat.{OutputFormat}
 use Rattle.mesh_words.specs.declared.faults.Refusal.{Refusal}
 use Rattle.mesh_words.specs.declared.faults.Refusal.TheVariants.{NotOneDocument}
@@ -20,8 +21,9 @@ document_of (name ∷ second ∷ more) = Err NotOneDocument
 
 -- the request of these values, or the first refusal: of the document, of options and the page, of the output, of the
 -- digits
-abbrev pub export_with : Result Text Refusal → Option Refusal → Result Text Refusal → Result OutputFormat Refusal →
-    Result (Option ℕ) Refusal → Option Text → Option Text → Bool → Result ExportRequest Refusal
+abbrev pub export_with : Result Text Refusal → Option Refusal → Result Destination Refusal →
+    Result OutputFormat Refusal → Result (Option ℕ) Refusal → Option Text → Option Text → Bool →
+    Result ExportRequest Refusal
 export_with (Err why) fault o m d scene view quiet = Err why
 export_with (Ok document) (Some why) o m d scene view quiet = Err why
 export_with (Ok document) None (Err why) m d scene view quiet = Err why
@@ -34,6 +36,7 @@ export_with (Ok document) None (Ok o) (Ok m) (Ok d) scene view quiet =
 abbrev pub export_of : List Argument → Result ExportRequest Refusal
 export_of arguments =
     export_with (document_of (names_in arguments)) (export_fault arguments)
-    (output_of (value_in setting.Output arguments)) (format_from (output_of (value_in setting.Output arguments)))
+    (output_of (value_in setting.Output arguments))
+    (format_from (output_of (value_in setting.Output arguments)) (value_in setting.Format arguments))
     (digits_of (value_in setting.Digits arguments)) (value_in setting.Scene arguments) (value_in setting.Page arguments)
     (list_any is_quiet arguments)

@@ -1,4 +1,5 @@
 pub mod Names
+pub mod Streams
 pub mod Arguments
 pub mod Allowed
 pub mod Values

@@ -41,6 +41,7 @@ abbrev pub setting_of : Text → Option Setting
 setting_of name =
     if bytes_eq name (codes "--expr") then Some setting.Expression
     else (if bytes_eq name (codes "-o") then Some setting.Output
+    else (if bytes_eq name (codes "--format") then Some setting.Format
     else (if bytes_eq name (codes "--step") then Some setting.Step
     else (if bytes_eq name (codes "--workers") then Some setting.Workers
     else (if bytes_eq name (codes "--digits") then Some setting.Digits
@@ -48,7 +49,7 @@ setting_of name =
     else (if bytes_eq name (codes "--scene") then Some setting.Scene
     else (if bytes_eq name (codes "--view") then Some setting.Page
     else (if bytes_eq name (codes "--keep") then Some setting.Keep
-    else None))))))))
+    else None)))))))))
 
 -- a number of its own for each option
 abbrev pub rank : Setting → ℕ
@@ -61,3 +62,4 @@ rank setting.Folder = 5
 rank setting.Scene = 6
 rank setting.Page = 7
 rank setting.Keep = 8
+rank setting.Format = 9

@@ -1,6 +1,5 @@
 -- How arguments are spelled as words
 use Rattle.std.specs.Prelude.{◌≡◌, ⊤, false, List, [], ◌∷◌, ◌++◌, codes}
-use Rattle.ember_dec.specs.Decimal.{is_minus}
 use Rattle.mesh_words.specs.declared.names.Operation.{Operation}
 use Rattle.mesh_words.specs.declared.names.Operation.TheVariants as operation
 use Rattle.mesh_words.specs.declared.names.Setting.{Setting}
@@ -8,6 +7,7 @@ use Rattle.mesh_words.specs.declared.names.Setting.TheVariants as setting
 use Rattle.mesh_words.specs.declared.arguments.Argument.{Argument}
 use Rattle.mesh_words.specs.declared.arguments.Argument.TheVariants.{File, Value, Quiet, Help}
 use Rattle.mesh_words.specs.Names.{Text}
+use Rattle.mesh_words.specs.Streams.{is_option_word}
 
 -- the name of the command
 abbrev pub name_of : Operation → Text
@@ -20,6 +20,7 @@ name_of operation.Expression = codes "bool"
 abbrev pub option_of : Setting → Text
 option_of setting.Expression = codes "--expr"
 option_of setting.Output = codes "-o"
+option_of setting.Format = codes "--format"
 option_of setting.Step = codes "--step"
 option_of setting.Workers = codes "--workers"
 option_of setting.Digits = codes "--digits"
@@ -40,9 +41,9 @@ abbrev pub spelling_of : List Argument → List Text
 spelling_of [] = []
 spelling_of (argument ∷ arguments) = words_of argument ++ spelling_of arguments
 
--- no file name begins with a hyphen
+-- no file name begins with a hyphen, but for `-` itself
 abbrev pub IsSpelled : Argument → Type 0
-IsSpelled (File name) = is_minus name ≡ false
+IsSpelled (File name) = is_option_word name ≡ false
 IsSpelled (Value s text) = ⊤
 IsSpelled Quiet = ⊤
 IsSpelled Help = ⊤

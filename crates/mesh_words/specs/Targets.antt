@@ -3,8 +3,8 @@ use Rattle.std.specs.Prelude.{ℕ, ◌+◌, ◌||◌, Bool, false, true, List, [
 use Rattle.std.specs.Prelude.{is_some, option_map, if◌then◌else◌}
 use Rattle.std.specs.Option.{option_or}
 use Rattle.mesh_words.specs.declared.faults.Refusal.{Refusal}
-use Rattle.mesh_words.specs.declared.faults.Refusal.TheVariants.{NotFor, Twice, PageEnding, OverInput}
-use Rattle.mesh_words.specs.declared.faults.Refusal.TheVariants.{OverOutput}
+use Rattle.mesh_words.specs.declared.faults.Refusal.TheVariants.{NotFor, Twice, PageEnding, OverInput, OverOutput}
+use Rattle.mesh_words.specs.declared.faults.Refusal.TheVariants.{SecondInput}
 use Rattle.mesh_words.specs.declared.names.Setting.{Setting}
 use Rattle.mesh_words.specs.declared.names.Setting.TheVariants as setting
 use Rattle.mesh_words.specs.declared.arguments.Argument.{Argument}
@@ -13,6 +13,7 @@ use Rattle.mesh_words.specs.Arguments.{inputs_in, value_for, value_in}
 use Rattle.mesh_words.specs.Allowed.{first_beside, boolean_settings, snap_settings, export_settings, view_settings}
 use Rattle.mesh_words.specs.Folders.{scene_names, kept_names}
 use Rattle.mesh_words.specs.Paths.{is_same_path}
+use Rattle.mesh_words.specs.Streams.{reads_twice}
 use Rattle.mesh_words.specs.Values.{ends_in}
 
 -- ---- a second name
@@ -102,6 +103,11 @@ abbrev pub keep_fault : List Argument → Option Refusal
 keep_fault arguments =
     keep_with (inputs_in arguments) (value_in setting.Output arguments) (value_in setting.Keep arguments)
 
+-- ---- inputs
+-- standard input is named twice
+abbrev pub input_fault : List Argument → Option Refusal
+input_fault arguments = if reads_twice (inputs_in arguments) then Some SecondInput else None
+
 -- ---- the commands
 abbrev pub boolean_fault : List Argument → Option Refusal
 boolean_fault arguments =
@@ -111,7 +117,8 @@ abbrev pub snap_fault : List Argument → Option Refusal
 snap_fault arguments = option_or (option_fault snap_settings arguments) (scene_fault arguments)
 
 abbrev pub export_fault : List Argument → Option Refusal
-export_fault arguments = option_or (option_fault export_settings arguments) (shown_fault arguments)
+export_fault arguments =
+    option_or (option_fault export_settings arguments) (option_or (input_fault arguments) (shown_fault arguments))
 
 abbrev pub view_fault : List Argument → Option Refusal
 view_fault arguments = option_or (option_fault view_settings arguments) (page_fault setting.Output arguments)

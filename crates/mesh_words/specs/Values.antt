@@ -7,21 +7,28 @@ use Rattle.std.specs.Str.{bytes_eq, str_eq_ignore_ascii_case}
 use Rattle.mesh_number.specs.Number.Fractions.{Fraction}
 use Rattle.mesh_number.specs.Number.Naturals.{number_of, below}
 use Rattle.mesh_number.specs.Number.Texts.{value_of_text}
+use Rattle.mesh_words.specs.declared.command.Destination.{Destination}
+use Rattle.mesh_words.specs.declared.command.Destination.TheVariants as destination
 use Rattle.mesh_words.specs.declared.command.OutputFormat.{OutputFormat}
 use Rattle.mesh_words.specs.declared.command.OutputFormat.TheVariants as format
 use Rattle.mesh_words.specs.declared.command.WantedStep.{WantedStep}
 use Rattle.mesh_words.specs.declared.command.WantedStep.TheVariants as step
 use Rattle.mesh_words.specs.declared.faults.Refusal.{Refusal}
-use Rattle.mesh_words.specs.declared.faults.Refusal.TheVariants.{NoFiles, TooManyFiles}
+use Rattle.mesh_words.specs.declared.faults.Refusal.TheVariants.{NoFiles, TooManyFiles, SecondInput}
 use Rattle.mesh_words.specs.declared.faults.Refusal.TheVariants.{NoExpression, NeedlessExpression}
 use Rattle.mesh_words.specs.declared.faults.Refusal.TheVariants.{NoFolder, NoOutput, OutputEnding}
+use Rattle.mesh_words.specs.declared.faults.Refusal.TheVariants.{NoFormat, NeedlessFormat, UnknownFormat}
 use Rattle.mesh_words.specs.declared.faults.Refusal.TheVariants.{NotAStep, Workers, Digits}
 use Rattle.mesh_words.specs.Names.{Text}
+use Rattle.mesh_words.specs.Streams.{is_stream, reads_twice}
 
--- 1 to 64 names
+-- 1 to 64 names, at most one of which is `-`
 abbrev pub files_of : List Text → Result (List Text) Refusal
 files_of [] = Err NoFiles
-files_of (name ∷ names) = if nat_lt 64 (length (name ∷ names)) then Err TooManyFiles else Ok (name ∷ names)
+files_of (name ∷ names) =
+    if nat_lt 64 (length (name ∷ names)) then Err TooManyFiles
+    else (if reads_twice (name ∷ names) then Err SecondInput
+    else Ok (name ∷ names))
 
 -- the meshes 1 to n + 1 with the operator between them, as m1|m2|m3
 abbrev pub joined : Text → ℕ → Text
@@ -39,9 +46,16 @@ abbrev pub folder_of : Option Text → Result Text Refusal
 folder_of None = Err NoFolder
 folder_of (Some name) = Ok name
 
-abbrev pub output_of : Option Text → Result Text Refusal
+-- the name of a page
+abbrev pub page_of : Option Text → Result Text Refusal
+page_of None = Err NoOutput
+page_of (Some name) = Ok name
+
+-- where a mesh goes
+abbrev pub output_of : Option Text → Result Destination Refusal
 output_of None = Err NoOutput
-output_of (Some name) = Ok name
+output_of (Some name) =
+    if is_stream name then Ok destination.StandardOutput else Ok (destination.File name)
 
 -- the name ends so, in any case
 abbrev pub ends_in : Text → Text → Bool
@@ -57,9 +71,26 @@ format_of name =
     else (if ends_in (codes ".off") name then Ok format.Off
     else Err OutputEnding))))
 
-abbrev pub format_from : Result Text Refusal → Result OutputFormat Refusal
-format_from (Err why) = Err why
-format_from (Ok name) = format_of name
+-- the format of this name, in any case
+abbrev pub format_named : Text → Result OutputFormat Refusal
+format_named name =
+    if str_eq_ignore_ascii_case name (codes "stl") then Ok format.Stl
+    else (if str_eq_ignore_ascii_case name (codes "glb") then Ok format.Glb
+    else (if str_eq_ignore_ascii_case name (codes "obj") then Ok format.Obj
+    else (if str_eq_ignore_ascii_case name (codes "ply") then Ok format.Ply
+    else (if str_eq_ignore_ascii_case name (codes "off") then Ok format.Off
+    else Err UnknownFormat))))
+
+-- the format of a mesh that goes there, if this format is given: of a file its name decides
+abbrev pub format_at : Destination → Option Text → Result OutputFormat Refusal
+format_at (destination.File name) None = format_of name
+format_at (destination.File name) (Some given) = Err NeedlessFormat
+format_at destination.StandardOutput None = Err NoFormat
+format_at destination.StandardOutput (Some given) = format_named given
+
+abbrev pub format_from : Result Destination Refusal → Option Text → Result OutputFormat Refusal
+format_from (Err why) given = Err why
+format_from (Ok output) given = format_at output given
 
 abbrev pub is_above_zero : Option Fraction → Bool
 is_above_zero None = false

@@ -7,7 +7,7 @@ use Rattle.mesh_words.specs.declared.arguments.Argument.{Argument}
 use Rattle.mesh_words.specs.Names.{Text}
 use Rattle.mesh_words.specs.Arguments.{names_in, value_in}
 use Rattle.mesh_words.specs.Targets.{view_fault}
-use Rattle.mesh_words.specs.Values.{files_of, output_of}
+use Rattle.mesh_words.specs.Values.{files_of, page_of}
 
 -- the page of these files, or the first refusal: of the files, of options and the page, of a missing name
 abbrev pub view_with : Result (List Text) Refusal → Option Refusal → Result Text Refusal → Result ViewRequest Refusal
@@ -20,4 +20,4 @@ view_with (Ok files) None (Ok output) = Ok (record { output = output; files = fi
 abbrev pub view_of : List Argument → Result ViewRequest Refusal
 view_of arguments =
     view_with (files_of (names_in arguments)) (view_fault arguments)
-    (output_of (value_in setting.Output arguments))
+    (page_of (value_in setting.Output arguments))

@@ -6,9 +6,10 @@ use crate::arguments::Argument;
 use crate::names::Setting;
 
 // The options with values that a Boolean takes.
-pub const BOOLEAN_SETTINGS: [Setting; 7] = [
+pub const BOOLEAN_SETTINGS: [Setting; 8] = [
     Setting::Expression,
     Setting::Output,
+    Setting::Format,
     Setting::Step,
     Setting::Workers,
     Setting::Digits,
@@ -20,9 +21,10 @@ pub const BOOLEAN_SETTINGS: [Setting; 7] = [
 pub const SNAP_SETTINGS: [Setting; 2] = [Setting::Folder, Setting::Step];
 
 // Those of `export`.
-pub const EXPORT_SETTINGS: [Setting; 4] = [
+pub const EXPORT_SETTINGS: [Setting; 5] = [
     Setting::Scene,
     Setting::Output,
+    Setting::Format,
     Setting::Digits,
     Setting::Page,
 ];

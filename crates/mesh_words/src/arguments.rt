@@ -8,7 +8,8 @@ ghost use Rattle.mesh_words.specs.Commands.{Reads};
 
 use crate::faults::{Refusal, WordsFault};
 use crate::names::Setting;
-use crate::texts::{begins_with_hyphen, copied, parts};
+use crate::streams::is_option_word;
+use crate::texts::{copied, parts};
 use ember_words::{Text, Texts};
 use std::alloc::{AllocError, Global};
 
@@ -29,7 +30,7 @@ pub enum WordMeaning {
     Whole(Argument),
     /// An option, whose value is the next word.
     Waiting(Setting),
-    /// It begins with a hyphen and is no option.
+    /// It begins with a hyphen, and is neither an option nor `-` itself.
     Unknown,
 }
 
@@ -59,7 +60,7 @@ fn said_by(alloc: Global, word: &str) -> Result<WordMeaning, AllocError>
     if let Some((setting, value)) = attached(word) {
         return Ok(WordMeaning::Whole(Argument::Value(setting, copied(alloc, value)?)));
     }
-    if begins_with_hyphen(word) {
+    if is_option_word(word) {
         return Ok(WordMeaning::Unknown);
     }
     Ok(WordMeaning::Whole(Argument::File(copied(alloc, word)?)))

@@ -25,8 +25,8 @@ pub enum Command {
 pub struct Request {
     /// An expression over the files in their order, not yet parsed.
     pub expression: Text,
-    /// The name of the output; it ends as its format says.
-    pub output: Text,
+    /// Where the mesh goes. A file's name ends as its format says.
+    pub output: Destination,
     pub format: OutputFormat,
     pub step: WantedStep,
     /// From 1 to 64.
@@ -35,7 +35,7 @@ pub struct Request {
     pub quiet: bool,
     /// The decimal places of OBJ, PLY and OFF, up to 17. If there is no number, the step decides.
     pub digits: Option<u32>,
-    /// The names of the mesh files.
+    /// The names of the mesh files; `-` is standard input, and at most one of them.
     pub files: Texts,
     /// The name of a page that shows the result too.
     pub view: Option<Text>,
@@ -63,8 +63,8 @@ pub struct ExportRequest {
     /// The name of the file with the grid of the document. Without it the step is 1 and nothing is
     /// moved.
     pub scene: Option<Text>,
-    /// The name of the output; it ends as its format says.
-    pub output: Text,
+    /// Where the mesh goes. A file's name ends as its format says.
+    pub output: Destination,
     pub format: OutputFormat,
     /// The decimal places of OBJ, PLY and OFF, up to 17. If there is no number, the step decides.
     pub digits: Option<u32>,
@@ -81,6 +81,15 @@ pub struct ViewRequest {
     pub output: Text,
     /// The names of the mesh files.
     pub files: Texts,
+}
+
+/// Where a mesh goes.
+#[derive(Drop)]
+pub enum Destination {
+    /// The file of this name.
+    File(Text),
+    /// Standard output.
+    StandardOutput,
 }
 
 /// How the mesh is written.

@@ -9,7 +9,7 @@ use crate::faults::{Refusal, WordsFault};
 use crate::names::Setting;
 use crate::targets::export_fault;
 use crate::texts::copied;
-use crate::values::{digits, format_of, optional, output};
+use crate::values::{digits, format_at, optional, output};
 use ember_words::{Text, Texts};
 use std::alloc::Global;
 
@@ -34,7 +34,7 @@ pub fn export_of(alloc: Global, arguments: &[Argument]) -> Result<ExportRequest,
         return Err(WordsFault::Refused(why));
     }
     let output = output(alloc, value_in(arguments, Setting::Output))?;
-    let format = format_of(output.as_str())?;
+    let format = format_at(&output, value_in(arguments, Setting::Format))?;
     let digits = digits(value_in(arguments, Setting::Digits))?;
     Ok(ExportRequest {
         document,

@@ -15,8 +15,8 @@ pub enum Refusal {
     /// The first word names no command.
     #[error("no such command; see ember-mesh help")]
     UnknownCommand,
-    /// The word with this number (the name of the command has the number 0) begins with a hyphen
-    /// and is no option.
+    /// The word with this number (the name of the command has the number 0) begins with a hyphen,
+    /// and is neither an option nor `-` itself.
     #[error("unknown option; see ember-mesh help")]
     UnknownOption(usize),
     /// The last word is an option whose value is missing.
@@ -28,6 +28,9 @@ pub enum Refusal {
     /// There are more than 64 file names.
     #[error("more than 64 files; see ember-mesh help")]
     TooManyFiles,
+    /// Two of the inputs or more are `-`.
+    #[error("-: standard input is read once; see ember-mesh help")]
+    SecondInput,
     /// `bool` has no `--expr`.
     #[error("--expr is missing; see ember-mesh help")]
     NoExpression,
@@ -59,6 +62,15 @@ pub enum Refusal {
     /// There is no `-o`.
     #[error("-o is missing; see ember-mesh help")]
     NoOutput,
+    /// The output is `-`, and there is no `--format`.
+    #[error("--format is missing; see ember-mesh help")]
+    NoFormat,
+    /// There is a `--format`, and the output is a file.
+    #[error("--format is for -o - alone; see ember-mesh help")]
+    NeedlessFormat,
+    /// The value of `--format` is none of `stl`, `obj`, `ply`, `off` and `glb`.
+    #[error("--format: not one of stl, obj, ply, off and glb; see ember-mesh help")]
+    UnknownFormat,
     /// The name of the output ends in none of `.stl`, `.obj`, `.ply`, `.off` and `.glb`.
     #[error("-o: the name must end in .stl, .obj, .ply, .off or .glb")]
     OutputEnding,

@@ -15,13 +15,15 @@ mod paths;
 mod plain;
 mod reading;
 mod snaps;
+mod streams;
 mod targets;
 mod texts;
 mod values;
 mod views;
 
 pub use command::{
-    Command, ExportRequest, OutputFormat, Request, SnapRequest, ViewRequest, WantedStep,
+    Command, Destination, ExportRequest, OutputFormat, Request, SnapRequest, ViewRequest,
+    WantedStep,
 };
 pub use faults::{Refusal, WordsFault};
 pub use folders::{document_name, mesh_name, scene_name};

@@ -30,6 +30,8 @@ pub enum Operation {
 pub enum Setting {
     Expression,
     Output,
+    /// The format of what goes to standard output.
+    Format,
     Step,
     Workers,
     Digits,
@@ -88,6 +90,7 @@ impl Setting {
         match name {
             "--expr" => Some(Setting::Expression),
             "-o" => Some(Setting::Output),
+            "--format" => Some(Setting::Format),
             "--step" => Some(Setting::Step),
             "--workers" => Some(Setting::Workers),
             "--digits" => Some(Setting::Digits),
@@ -106,6 +109,7 @@ impl Setting {
         match self {
             Setting::Expression => "--expr",
             Setting::Output => "-o",
+            Setting::Format => "--format",
             Setting::Step => "--step",
             Setting::Workers => "--workers",
             Setting::Digits => "--digits",
@@ -130,6 +134,7 @@ impl Setting {
             Setting::Scene => 6,
             Setting::Page => 7,
             Setting::Keep => 8,
+            Setting::Format => 9,
         }
     }
 }

@@ -5,19 +5,20 @@ ghost use Rattle.mesh_words.specs.Arguments.{is_help};
 ghost use Rattle.mesh_words.specs.Plain.{is_option, first_option, plain_names};
 
 use crate::arguments::is_help;
-use crate::texts::{begins_with_hyphen, copied};
+use crate::streams::is_option_word;
+use crate::texts::copied;
 use ember_words::Texts;
 use std::alloc::{AllocError, Global};
 
-// Whether the word begins with a hyphen, and doesn't ask for help.
+// Whether the word begins with a hyphen, isn't `-` itself, and doesn't ask for help.
 fn is_option(word: &str) -> bool
     ensures { result ≡ is_option word.now }
 {
-    begins_with_hyphen(word) && !is_help(word)
+    is_option_word(word) && !is_help(word)
 }
 
-/// The number, from 1, of the first word that begins with a hyphen and doesn't ask for help. None
-/// if there is no such word.
+/// The number, from 1, of the first word that begins with a hyphen, isn't `-` itself, and doesn't
+/// ask for help. None if there is no such word.
 pub fn first_option(words: &[String]) -> Option<usize>
     ensures { result ≡ first_option 1 (map string_bytes words.now) }
 {
@@ -41,13 +42,13 @@ pub fn are_for_help(words: &[String]) -> bool
     false
 }
 
-/// Copies of the words that don't begin with a hyphen, in their order.
+/// Copies of the words that don't begin with a hyphen, and of `-` itself, in their order.
 pub fn plain_names(alloc: Global, words: &[String]) -> Result<Texts, AllocError>
     ensures { IfOk result (λ names. names ≡ plain_names (map string_bytes words.now)) }
 {
     let mut names = Vec::new(alloc);
     for word in words {
-        if !begins_with_hyphen(word) {
+        if !is_option_word(word) {
             names.push(copied(alloc, word)?)?;
         }
     }

@@ -12,7 +12,7 @@ use crate::names::{Operation, Setting, Verb};
 use crate::plain::{are_for_help, first_option, plain_names};
 use crate::snaps::snap_of;
 use crate::targets::boolean_fault;
-use crate::values::{counted, digits, expression, format_of, optional, output, step, workers};
+use crate::values::{counted, digits, expression, format_at, optional, output, step, workers};
 use crate::views::view_of;
 use std::alloc::Global;
 
@@ -32,7 +32,7 @@ fn request_of(
     let given = value_in(arguments, Setting::Expression);
     let expression = expression(alloc, operation, files.items().len(), given)?;
     let output = output(alloc, value_in(arguments, Setting::Output))?;
-    let format = format_of(output.as_str())?;
+    let format = format_at(&output, value_in(arguments, Setting::Format))?;
     let step = step(alloc, value_in(arguments, Setting::Step))?;
     let workers = workers(value_in(arguments, Setting::Workers))?;
     let digits = digits(value_in(arguments, Setting::Digits))?;
@@ -147,19 +147,22 @@ fn read(alloc: Global, words: &[String]) -> Result<Command, WordsFault>
 /// The command that the words after the program's name give.
 ///
 /// The first word names the command. Options and file names follow it in any order. An option's
-/// value is the next word, whatever this is, or follows an equals sign, as in `--step=0.02`. A second
-/// value of an option that names what is written (`-o`, `-d`, `--view`, `--keep`) is refused; of
-/// several values of another option the last one counts. Any other word that begins with a hyphen
-/// is refused.
+/// value is the next word, whatever this is, or follows an equals sign, as in `--step=0.02`. A
+/// second value of an option that names what is written (`-o`, `-d`, `--view`, `--keep`) is
+/// refused; of several values of another option the last one counts. Any other word that begins
+/// with a hyphen, but for `-` itself, is refused.
 ///
 /// A page has a name that ends in `.html` or `.htm`. No page, and no file that `snap` and `--keep`
 /// write into their folder, may have the same path as a file that the command reads, or as the output
 /// beside it.
 ///
-/// A Boolean takes `--expr`, `-o`, `--step`, `--workers`, `--digits`, `--view` and `--keep`; `snap`
-/// takes `-d` and `--step`; `export` takes `--scene`, `-o`, `--digits` and `--view`; `view` takes
-/// `-o`. These take `--quiet` too, which means nothing for `view`. `info` has no options: its words
-/// are file names.
+/// `-` is a file name, of standard input, which can be read once; and `-o -` is standard output,
+/// for which `--format` names the format. Of a file the ending of its name shows it.
+///
+/// A Boolean takes `--expr`, `-o`, `--format`, `--step`, `--workers`, `--digits`, `--view` and
+/// `--keep`; `snap` takes `-d` and `--step`; `export` takes `--scene`, `-o`, `--format`, `--digits`
+/// and `--view`; `view` takes `-o`. These take `--quiet` too, which means nothing for `view`.
+/// `info` has no options: its words are file names.
 ///
 /// `help`, `--help` and `-h` ask for help, as the first word or after the name of a command.
 /// `--version` is a first word alone. The words after these first words aren't read.
@@ -167,10 +170,10 @@ fn read(alloc: Global, words: &[String]) -> Result<Command, WordsFault>
 /// The first refusal counts: of the first word; of the words in their order; and then of the files,
 /// of the first option that the command doesn't take, of a second name of what is written, of the
 /// page, of inputs in the folder, of the expression, the missing or wrong output or missing folder,
-/// the step, the workers and the digits.
+/// the format, the step, the workers and the digits.
 ///
 /// Arguments that are spelled as words, with each value in a word of its own and no hyphen at the
-/// beginning of a file name, are read as these arguments.
+/// beginning of a file name but `-`, are read as these arguments.
 pub fn read_words(alloc: Global, words: &[String]) -> Result<Command, WordsFault>
     ensures command { Reads (command_of (map string_bytes words.now)) result }
     ensures limits { IfOk result HasLimits }

@@ -2,7 +2,7 @@
 ghost use Rattle.std.specs.Prelude.{◌≡◌, IfOk, false};
 ghost use Rattle.mesh_words.specs.declared.names.Setting.TheVariants as setting;
 ghost use Rattle.mesh_words.specs.Arguments.{value_in};
-ghost use Rattle.mesh_words.specs.Targets.{has_second, first_twice, option_fault, first_same, first_over, over_output, is_page_name, page_fault, page_over_output, shown_fault, scene_fault, keep_fault, boolean_fault, snap_fault, export_fault, view_fault};
+ghost use Rattle.mesh_words.specs.Targets.{has_second, first_twice, option_fault, first_same, first_over, over_output, is_page_name, page_fault, page_over_output, shown_fault, scene_fault, keep_fault, input_fault, boolean_fault, snap_fault, export_fault, view_fault};
 
 use crate::allowed::{
     BOOLEAN_SETTINGS, EXPORT_SETTINGS, SNAP_SETTINGS, VIEW_SETTINGS, first_beside,
@@ -12,6 +12,7 @@ use crate::faults::Refusal;
 use crate::folders::{kept_names, scene_names};
 use crate::names::Setting;
 use crate::paths::is_same_path;
+use crate::streams::reads_twice;
 use crate::values::ends_in;
 use ember_words::Text;
 use std::alloc::{AllocError, Global};
@@ -205,11 +206,25 @@ pub fn snap_fault(alloc: Global, arguments: &[Argument]) -> Result<Option<Refusa
     scene_fault(alloc, arguments)
 }
 
+// Whether the document and the file of its grid are both read from standard input.
+fn input_fault(alloc: Global, arguments: &[Argument]) -> Result<Option<Refusal>, AllocError>
+    ensures { IfOk result (λ fault. fault ≡ input_fault arguments.now) }
+{
+    let inputs = inputs_in(alloc, arguments)?;
+    if reads_twice(inputs.items()) {
+        return Ok(Some(Refusal::SecondInput));
+    }
+    Ok(None)
+}
+
 /// The same of `export`, which has no folder.
 pub fn export_fault(alloc: Global, arguments: &[Argument]) -> Result<Option<Refusal>, AllocError>
     ensures { IfOk result (λ fault. fault ≡ export_fault arguments.now) }
 {
     if let Some(why) = option_fault(&EXPORT_SETTINGS, arguments) {
+        return Ok(Some(why));
+    }
+    if let Some(why) = input_fault(alloc, arguments)? {
         return Ok(Some(why));
     }
     shown_fault(alloc, arguments)

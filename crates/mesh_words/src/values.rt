@@ -1,21 +1,24 @@
 // The values of options.
 ghost use Rattle.std.specs.Prelude.{◌≡◌, ◌≤◌, ◌-◌, IfOk, IfSome, drop, length, option_map};
 ghost use Rattle.std.specs.Int.{IsInRange};
+ghost use Rattle.std.specs.Str.{str_eq_ignore_ascii_case};
 ghost use Rattle.mesh_words.specs.Names.{operator_of};
-ghost use Rattle.mesh_words.specs.Values.{files_of, expression_of, folder_of, output_of, ends_in, format_of, step_of, workers_of, digits_of};
+ghost use Rattle.mesh_words.specs.Values.{files_of, expression_of, folder_of, page_of, output_of, ends_in, format_of, format_named, format_at, step_of, workers_of, digits_of};
 ghost use Rattle.mesh_words.specs.Commands.{Reads, IsValidStep};
 
-use crate::command::{OutputFormat, WantedStep};
+use crate::command::{Destination, OutputFormat, WantedStep};
 use crate::expressions::joined;
 use crate::faults::{Refusal, WordsFault};
 use crate::names::Operation;
 use crate::numbers::is_above_zero;
+use crate::streams::{is_stream, reads_twice};
 use crate::texts::copied;
 use ember_words::{Text, Texts};
 use mesh_number::number_below;
 use std::alloc::{AllocError, Global};
 
-/// The same names, if there are 1 to 64 of them. Otherwise `NoFiles` or `TooManyFiles`.
+/// The same names, if there are 1 to 64 of them and at most one is `-`. Otherwise `NoFiles`,
+/// `TooManyFiles` or `SecondInput`.
 pub fn counted(names: Texts) -> Result<Texts, Refusal>
     ensures value { result ≡ files_of names }
     ensures range { IfOk result (λ files. IsInRange 1 64 (length files)) }
@@ -26,6 +29,9 @@ pub fn counted(names: Texts) -> Result<Texts, Refusal>
     }
     if count > 64 {
         return Err(Refusal::TooManyFiles);
+    }
+    if reads_twice(names.items()) {
+        return Err(Refusal::SecondInput);
     }
     Ok(names)
 }
@@ -69,14 +75,27 @@ pub fn optional(alloc: Global, given: Option<&Text>) -> Result<Option<Text>, All
     }
 }
 
-/// A copy of the output's name; `NoOutput` if none is given.
-pub fn output(alloc: Global, given: Option<&Text>) -> Result<Text, WordsFault>
-    ensures { Reads (output_of (option_map (λ text. text.now) given.entry)) result }
+/// A copy of the page's name; `NoOutput` if none is given.
+pub fn page(alloc: Global, given: Option<&Text>) -> Result<Text, WordsFault>
+    ensures { Reads (page_of (option_map (λ text. text.now) given.entry)) result }
 {
     match given {
         Some(name) => Ok(copied(alloc, name.as_str())?),
         None => Err(WordsFault::Refused(Refusal::NoOutput)),
     }
+}
+
+/// Where the mesh goes: to standard output if the name is `-`. `NoOutput` if none is given.
+pub fn output(alloc: Global, given: Option<&Text>) -> Result<Destination, WordsFault>
+    ensures { Reads (output_of (option_map (λ text. text.now) given.entry)) result }
+{
+    let Some(name) = given else {
+        return Err(WordsFault::Refused(Refusal::NoOutput));
+    };
+    if is_stream(name.as_str()) {
+        return Ok(Destination::StandardOutput);
+    }
+    Ok(Destination::File(copied(alloc, name.as_str())?))
 }
 
 /// Whether the name ends so, in any case.
@@ -87,9 +106,9 @@ pub fn ends_in(ending: &[u8], name: &[u8]) -> bool
     end.eq_ignore_ascii_case(ending)
 }
 
-/// The format that the ending of the output's name shows, in any case. `OutputEnding` if the ending
-/// is none of `.stl`, `.glb`, `.obj`, `.ply` and `.off`.
-pub fn format_of(name: &str) -> Result<OutputFormat, Refusal>
+// The format that the ending of the output's name shows, in any case. `OutputEnding` if the ending
+// is none of `.stl`, `.glb`, `.obj`, `.ply` and `.off`.
+fn format_of(name: &str) -> Result<OutputFormat, Refusal>
     ensures { result ≡ format_of name.now }
 {
     let name = name.as_bytes();
@@ -105,6 +124,47 @@ pub fn format_of(name: &str) -> Result<OutputFormat, Refusal>
         Ok(OutputFormat::Off)
     } else {
         Err(Refusal::OutputEnding)
+    }
+}
+
+// Whether this is the name, in any case.
+fn is_named(wanted: &[u8], name: &[u8]) -> bool
+    ensures { result ≡ str_eq_ignore_ascii_case name.now wanted.now }
+{
+    name.eq_ignore_ascii_case(wanted)
+}
+
+// The format of this name, in any case. `UnknownFormat` if there is none.
+fn format_named(name: &str) -> Result<OutputFormat, Refusal>
+    ensures { result ≡ format_named name.now }
+{
+    let name = name.as_bytes();
+    if is_named(b"stl", name) {
+        Ok(OutputFormat::Stl)
+    } else if is_named(b"glb", name) {
+        Ok(OutputFormat::Glb)
+    } else if is_named(b"obj", name) {
+        Ok(OutputFormat::Obj)
+    } else if is_named(b"ply", name) {
+        Ok(OutputFormat::Ply)
+    } else if is_named(b"off", name) {
+        Ok(OutputFormat::Off)
+    } else {
+        Err(Refusal::UnknownFormat)
+    }
+}
+
+/// The format of a mesh that goes there, if this format is given. A file has the format that the
+/// ending of its name shows, and takes no other word of it; for standard output it must be given.
+/// Otherwise `OutputEnding`, `NeedlessFormat`, `NoFormat` or `UnknownFormat`.
+pub fn format_at(output: &Destination, given: Option<&Text>) -> Result<OutputFormat, Refusal>
+    ensures { result ≡ format_at output.now (option_map (λ text. text.now) given.entry) }
+{
+    match (output, given) {
+        (Destination::File(name), None) => format_of(name.as_str()),
+        (Destination::File(_), Some(_)) => Err(Refusal::NeedlessFormat),
+        (Destination::StandardOutput, None) => Err(Refusal::NoFormat),
+        (Destination::StandardOutput, Some(name)) => format_named(name.as_str()),
     }
 }
 

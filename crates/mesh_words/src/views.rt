@@ -9,7 +9,7 @@ use crate::command::ViewRequest;
 use crate::faults::WordsFault;
 use crate::names::Setting;
 use crate::targets::view_fault;
-use crate::values::{counted, output};
+use crate::values::{counted, page};
 use std::alloc::Global;
 
 /// The request that the arguments of `view` make, with 1 to 64 files. Refuses another number of
@@ -22,6 +22,6 @@ pub fn view_of(alloc: Global, arguments: &[Argument]) -> Result<ViewRequest, Wor
     if let Some(why) = view_fault(alloc, arguments)? {
         return Err(WordsFault::Refused(why));
     }
-    let output = output(alloc, value_in(arguments, Setting::Output))?;
+    let output = page(alloc, value_in(arguments, Setting::Output))?;
     Ok(ViewRequest { output, files })
 }

@@ -1,6 +1,8 @@
 // Words of the second program's command line, and the commands that they give.
 use ember_words::Text;
-use mesh_words::{Command, OutputFormat, Setting, WantedStep, WordsFault, read_words};
+use mesh_words::{
+    Command, Destination, OutputFormat, Setting, WantedStep, WordsFault, read_words,
+};
 use std::alloc::Global;
 use std::process::Abort;
 use std::test::Fail;
@@ -53,17 +55,25 @@ fn name_in(name: &Option<Text>) -> Option<&str> {
     }
 }
 
+// The output as an option names it.
+fn output_in(output: &Destination) -> Option<&str> {
+    match output {
+        Destination::File(name) => Some(name.as_str()),
+        Destination::StandardOutput => Some("-"),
+    }
+}
+
 // The text that the command has of a setting, if it has one.
 fn text_of(command: &Command, setting: Setting) -> Option<&str> {
     match (command, setting) {
         (Command::Boole(request), Setting::Expression) => Some(request.expression.as_str()),
-        (Command::Boole(request), Setting::Output) => Some(request.output.as_str()),
+        (Command::Boole(request), Setting::Output) => output_in(&request.output),
         (Command::Boole(request), Setting::Step) => Some(step_in(&request.step)),
         (Command::Boole(request), Setting::Page) => name_in(&request.view),
         (Command::Boole(request), Setting::Keep) => name_in(&request.keep),
         (Command::Snap(request), Setting::Folder) => Some(request.folder.as_str()),
         (Command::Snap(request), Setting::Step) => Some(step_in(&request.step)),
-        (Command::Export(request), Setting::Output) => Some(request.output.as_str()),
+        (Command::Export(request), Setting::Output) => output_in(&request.output),
         (Command::Export(request), Setting::Scene) => name_in(&request.scene),
         (Command::Export(request), Setting::Page) => name_in(&request.view),
         (Command::View(request), Setting::Output) => Some(request.output.as_str()),

@@ -14,7 +14,7 @@ pub fn refusal(alloc: Global, words: &[&str]) -> Result<Option<Refusal>, Fail> {
 
 #[test]
 fn words_that_are_refused(rt: HostRuntime) -> Result<(), Fail> {
-    let rows: [(&[&str], Refusal); 19] = [
+    let rows: [(&[&str], Refusal); 24] = [
         (&[], Refusal::NoCommand),
         (&["snaps", "a.stl"], Refusal::UnknownCommand),
         (&["Union"], Refusal::UnknownCommand),
@@ -24,7 +24,18 @@ fn words_that_are_refused(rt: HostRuntime) -> Result<(), Fail> {
             &["bool", "-d", "x", "a", "--scene=s"],
             Refusal::NotFor(Setting::Folder),
         ),
-        (&["union", "-"], Refusal::UnknownOption(1)),
+        (&["union", "--"], Refusal::UnknownOption(1)),
+        (&["union", "-", "a", "-"], Refusal::SecondInput),
+        (&["union", "-"], Refusal::NoOutput),
+        (&["union", "-o", "-", "a"], Refusal::NoFormat),
+        (
+            &["union", "-o", "-", "--format=step", "a"],
+            Refusal::UnknownFormat,
+        ),
+        (
+            &["union", "-o", "x.stl", "--format=stl", "a"],
+            Refusal::NeedlessFormat,
+        ),
         (&["union", "--steps=1"], Refusal::UnknownOption(1)),
         (&["union", "--quiet=1", "-o"], Refusal::UnknownOption(1)),
         (&["union", "a", "-o"], Refusal::NoValue),
@@ -151,7 +162,11 @@ fn snaps_that_are_refused(rt: HostRuntime) -> Result<(), Fail> {
 
 #[test]
 fn exports_that_are_refused(rt: HostRuntime) -> Result<(), Fail> {
-    let rows: [(&[&str], Refusal); 9] = [
+    let rows: [(&[&str], Refusal); 10] = [
+        (
+            &["export", "--scene=-", "-o", "x.stl", "-"],
+            Refusal::SecondInput,
+        ),
         (&["export", "-o", "x.stl"], Refusal::NotOneDocument),
         (
             &["export", "-o", "x.stl", "a", "a", "--step=1"],

@@ -31,12 +31,12 @@ returns-in_err-report-clause-stop g c =
     memory_given (IsExportUnmet c.args.request.now shelf target) c.from_residual.result c.from_residual.ensures.1
     (inl (names_hold_the_same (g.T.Target.held c.args.target.now)))
 
-pub returns-in_err-files-clause-stop : goal.returns-in_err-files-clause-stop
-returns-in_err-files-clause-stop g c =
+pub returns-in_err-made-clause-stop : goal.returns-in_err-made-clause-stop
+returns-in_err-made-clause-stop g c =
     let shelf = shelf_call g.S.Shelf.contents g.S.Shelf.faults g.S.Shelf.fault_at c.args.shelf.now c.mesh_for.new.shelf in
     let target = target_call g.T.Target.held g.T.Target.begun g.T.Target.faults c.args.target.now c.args.target.now in
-    memory_given (IsExportUnmet c.args.request.now shelf target) c.from_residual-in_err-files.result
-    c.from_residual-in_err-files.ensures.1 (inl (names_hold_the_same (g.T.Target.held c.args.target.now)))
+    memory_given (IsExportUnmet c.args.request.now shelf target) c.from_residual-in_err-made.result
+    c.from_residual-in_err-made.ensures.1 (inl (names_hold_the_same (g.T.Target.held c.args.target.now)))
 
 pub returns-in-Ok-write_files-clause-written : goal.returns-in-Ok-write_files-clause-written
 returns-in-Ok-write_files-clause-written g c =
@@ -45,10 +45,11 @@ returns-in-Ok-write_files-clause-written g c =
     record {
       mesh = c.in-Ok.mesh;
       is_export = c.in-Ok.ensures.mesh;
-      files = names_and_bytes c.in_ok-files.files.items;
-      are_files = c.in_ok-files.ensures;
+      files = names_and_bytes c.in_ok-made.made.files.items;
+      are_files = c.in_ok-made.ensures.files;
       written = subst (λ (files : List NamedFile). PutsEach (names_and_bytes files) held after) c.deref.ensures.value c.in-Ok-write_files.ensures.written;
-      text_is = c.in_ok-report.ensures;
+      sent_is = c.in_ok-made.ensures.sent;
+      report_is = c.in_ok-report.ensures;
     }
 
 pub returns-in-Err-write_files-clause-stop : goal.returns-in-Err-write_files-clause-stop
@@ -57,6 +58,6 @@ returns-in-Err-write_files-clause-stop g c =
     let target = target_call g.T.Target.held g.T.Target.begun g.T.Target.faults c.args.target.now c.write_files.new.target in
     let request = c.args.request.now in
     let status = c.in-Err-write_files.status in
-    stop_is_unmet (IsExportStop request shelf) (AreExportFilesFor request shelf.told) target (names_and_bytes c.in_ok-files.files.items)
-    (record { mesh = c.in-Ok.mesh; is_export = c.in-Ok.ensures.mesh; are_files = c.in_ok-files.ensures }) status
+    stop_is_unmet (IsExportStop request shelf) (AreExportFilesFor request shelf.told) target (names_and_bytes c.in_ok-made.made.files.items)
+    (record { mesh = c.in-Ok.mesh; is_export = c.in-Ok.ensures.mesh; are_files = c.in_ok-made.ensures.files }) status
     (subst (λ (files : List NamedFile). IsWriteStop (names_and_bytes files) target status) c.deref.ensures.value c.in-Err-write_files.ensures.stop)

@@ -18,7 +18,7 @@ returns-in-Ok-Boole g c =
     subst (λ (command : Command). command_of words ≡ Ok command) c.in-Ok-Boole.field-0-is
     c.in-Ok-Boole.ensures.command in
     call_serves words (Ok (Boole c.in-Ok-Boole.request)) _ _ _ _ c.serve_solid.result e.outcome.0 is e.contents
-    e.none_begun e.later (omega arith) (e.outcome.1, refl) e.outcome.2 e.memory
+    e.none_begun e.later e.later_out e.outcome.1 e.outcome.2 e.memory
 
 pub returns-in-Ok-Info : goal.returns-in-Ok-Info
 returns-in-Ok-Info g c =
@@ -59,7 +59,7 @@ returns-in-Ok-Export g c =
     subst (λ (command : Command). command_of words ≡ Ok command) c.in-Ok-Export.field-0-is
     c.in-Ok-Export.ensures.command in
     call_serves words (Ok (Export c.in-Ok-Export.request)) _ _ _ _ c.serve_export.result e.outcome.0 is e.contents
-    e.none_begun e.later (omega arith) (e.outcome.1, refl) e.outcome.2 e.memory
+    e.none_begun e.later e.later_out e.outcome.1 e.outcome.2 e.memory
 
 pub returns-in-Ok-Help : goal.returns-in-Ok-Help
 returns-in-Ok-Help g c =
