@@ -1,5 +1,5 @@
 -- The crossing of a face by how its corners are seen from the start of the ray.
-use Rattle.std.proofs.Common.{◌≡◌, ◌≢◌, sym, ap, subst, ◌∙◌, arith, Bool, T, not, true, ◌&&◌, cond, [], ◌∷◌, ℤ, pos, ◌+ℤ◌, ◌*ℤ◌, neg_ℤ, ◌<ℤ◌}
+use Rattle.std.proofs.Common.{refl, ◌≡◌, ◌≢◌, sym, ap, subst, ◌∙◌, arith, Bool, T, not, true, ◌&&◌, cond, [], ◌∷◌, ℤ, pos, ◌+ℤ◌, ◌*ℤ◌, neg_ℤ, ◌<ℤ◌}
 use lib.IntN.{*ℤ_comm}
 use Rattle.ember_algebra.specs.declared.Sign.{Sign}
 use Rattle.ember_algebra.specs.declared.Sign.TheVariants.{Neg, Zero, Pos}
