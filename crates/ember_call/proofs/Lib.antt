@@ -1,5 +1,0 @@
-mod OwnNames
-mod Known
-mod Ends
-mod MeshKnown
-mod MeshEnds
