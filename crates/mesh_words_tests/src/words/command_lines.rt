@@ -1,8 +1,6 @@
 // Words of the second program's command line, and the commands that they give.
 use ember_words::Text;
-use mesh_words::{
-    Command, Destination, OutputFormat, Setting, WantedStep, WordsFault, read_words,
-};
+use mesh_words::{Command, Destination, OutputFormat, Setting, WantedStep, WordsFault, read_words};
 use std::alloc::Global;
 use std::process::Abort;
 use std::test::Fail;
