@@ -14,3 +14,16 @@ pub mod Similar
 pub mod SeenMeshes
 pub mod MovedMeshes
 pub mod SimilarTriangles
+pub mod Numbers
+pub mod SamePoints
+pub mod OnGrid
+pub mod AxisTicks
+pub mod WrittenMoves
+pub mod KeptTriangles
+pub mod SurfaceMoves
+pub mod SurfacePositions
+pub mod GridTriangles
+pub mod SceneWindings
+pub mod SurfaceWindings
+pub mod MeshMeaningNearby
+pub mod FileMeaning

@@ -6,5 +6,6 @@ mod law;
 
 pub use law::{
     moved_meshes_wind_as_before, moved_surfaces_stay_near, moved_surfaces_wind_as_before,
-    similar_triangles_wind_alike,
+    rounded_triangles_stay_near, similar_triangles_wind_alike, written_triangles_have_the_meaning,
+    written_triangles_have_the_meaning_of_the_grid,
 };
