@@ -200,26 +200,26 @@ module _ (IsCause : Status → Type 0) (AreFiles : List NamedBytes → Type 0) (
       (IsCause WriteFault → ⊥) → out.taken_after ≡ out.taken →
       (status : Status) (text : List ℕ) → IsUnmet IsCause AreFiles target status → text ≡ line (why status) →
       EndsOn out Writes (IsUnmet IsCause AreFiles target) why status text
-  unmet_ends_on out Writes why never fault same Done text h e = absurd (never h.0)
-  unmet_ends_on out Writes why never fault same (Words refusal) text h e = (h, e, same)
-  unmet_ends_on out Writes why never fault same StepOfNoGrid text h e = (h, e, same)
-  unmet_ends_on out Writes why never fault same (ReadFault i) text h e = (h, e, same)
-  unmet_ends_on out Writes why never fault same WriteFault text h e = absurd (fault h.0)
-  unmet_ends_on out Writes why never fault same (NotWritten file) text h e = (h, e, same)
-  unmet_ends_on out Writes why never fault same (FileRefused i reason) text h e = (h, e, same)
-  unmet_ends_on out Writes why never fault same NoTriangles text h e = (h, e, same)
-  unmet_ends_on out Writes why never fault same NotAScene text h e = (h, e, same)
-  unmet_ends_on out Writes why never fault same (NotClosed o format) text h e = (h, e, same)
-  unmet_ends_on out Writes why never fault same (ExprRefused fault) text h e = (h, e, same)
-  unmet_ends_on out Writes why never fault same Unbounded text h e = (h, e, same)
-  unmet_ends_on out Writes why never fault same (LongFile i) text h e = (h, e, same)
-  unmet_ends_on out Writes why never fault same (TooManyTriangles count) text h e = (h, e, same)
-  unmet_ends_on out Writes why never fault same TooManyWritten text h e = (h, e, same)
-  unmet_ends_on out Writes why never fault same (StepTooSmall extent) text h e = (h, e, same)
-  unmet_ends_on out Writes why never fault same TooFar text h e = (h, e, same)
-  unmet_ends_on out Writes why never fault same (DocumentRefused fault) text h e = (h, e, same)
-  unmet_ends_on out Writes why never fault same OutOfMemory text h e = (h, e, same)
-  unmet_ends_on out Writes why never fault same (Uncertified fault) text h e = (h, e, same)
+  unmet_ends_on out Writes why never unmet same Done text h e = absurd (never h.0)
+  unmet_ends_on out Writes why never unmet same (Words refusal) text h e = (h, e, same)
+  unmet_ends_on out Writes why never unmet same StepOfNoGrid text h e = (h, e, same)
+  unmet_ends_on out Writes why never unmet same (ReadFault i) text h e = (h, e, same)
+  unmet_ends_on out Writes why never unmet same WriteFault text h e = absurd (unmet h.0)
+  unmet_ends_on out Writes why never unmet same (NotWritten file) text h e = (h, e, same)
+  unmet_ends_on out Writes why never unmet same (FileRefused i reason) text h e = (h, e, same)
+  unmet_ends_on out Writes why never unmet same NoTriangles text h e = (h, e, same)
+  unmet_ends_on out Writes why never unmet same NotAScene text h e = (h, e, same)
+  unmet_ends_on out Writes why never unmet same (NotClosed o format) text h e = (h, e, same)
+  unmet_ends_on out Writes why never unmet same (ExprRefused fault) text h e = (h, e, same)
+  unmet_ends_on out Writes why never unmet same Unbounded text h e = (h, e, same)
+  unmet_ends_on out Writes why never unmet same (LongFile i) text h e = (h, e, same)
+  unmet_ends_on out Writes why never unmet same (TooManyTriangles count) text h e = (h, e, same)
+  unmet_ends_on out Writes why never unmet same TooManyWritten text h e = (h, e, same)
+  unmet_ends_on out Writes why never unmet same (StepTooSmall extent) text h e = (h, e, same)
+  unmet_ends_on out Writes why never unmet same TooFar text h e = (h, e, same)
+  unmet_ends_on out Writes why never unmet same (DocumentRefused fault) text h e = (h, e, same)
+  unmet_ends_on out Writes why never unmet same OutOfMemory text h e = (h, e, same)
+  unmet_ends_on out Writes why never unmet same (Uncertified fault) text h e = (h, e, same)
 
   -- the line is made and said, or, for want of memory, that of out-of-memory is
   pub said_status_ends : {E : Type 0} (Writes : List ℕ → Type 0) (why : Status → List ℕ) →
@@ -254,7 +254,7 @@ module _ (IsCause : Status → Type 0) (AreFiles : List NamedBytes → Type 0) (
   said_status_ends_on out Writes why memory never fault same status result err (Ok text) unmet made told without = (
     text.items,
     subst (λ (s : Status). EndsOn out Writes (IsUnmet IsCause AreFiles target) why s text.items) (sym told.0)
-        (unmet_ends_on out Writes why never fault same status text.items unmet made),
+        (unmet_ends_on out Writes why never unmet same status text.items unmet made),
     told.1,
   )
   said_status_ends_on out Writes why memory never fault same status result err (Err e) unmet made told without = (

@@ -1,21 +1,27 @@
-use Rattle.std.proofs.Common.{refl}
+use Rattle.std.proofs.Common.{ℕ, List, refl, subst}
 use Rattle.std.specs.Prelude.{codes}
+use Rattle.std.specs.Io.KnownBytes.{Appends}
+use Rattle.ember_io.specs.Sinks.{AppendsPrefix}
 use Rattle.mesh_report.specs.Lines.{line}
 use Rattle.mesh_run.proofs.writing.send.Goals as goal
 
-pub returns-clause-outcome : goal.returns-clause-outcome
-returns-clause-outcome g c = rw c.in-None.is (c.args.report.now, (refl, refl, refl), c.say.ensures)
+pub returns-in_default-clause-outcome : goal.returns-in_default-clause-outcome
+returns-in_default-clause-outcome g c = rw c.in-None.is (c.args.report.now, (refl, refl, refl), c.say.ensures)
 
 pub returns-in-Ok-clause-outcome : goal.returns-in-Ok-clause-outcome
 returns-in-Ok-clause-outcome g c =
     let e = c.in-Ok.ensures in
-    rw c.in-Some.is (c.args.report.now, (record { taken = e.taken; flushed = e.flushed }, refl), c.say-in-Ok.ensures)
+    let taken = subst (λ (bytes : List ℕ). Appends (g.O.Sink.taken c.args.out.now) (g.O.Sink.taken c.write_all.new.sink) bytes)
+    c.deref.ensures.value e.taken in
+    rw c.in-Some.is (c.args.report.now, (record { taken = taken; flushed = e.flushed }, refl), c.say-in-Ok.ensures)
 
 pub returns-in-Err-clause-outcome : goal.returns-in-Err-clause-outcome
 returns-in-Err-clause-outcome g c =
     let e = c.in-Err.ensures in
+    let prefix = subst (λ (bytes : List ℕ). AppendsPrefix (g.O.Sink.taken c.args.out.now) (g.O.Sink.taken c.write_all.new.sink)
+    bytes) c.deref.ensures.value e.prefix in
     rw c.in-Some.is (
       line (codes "cannot write to standard output"),
-      (record { failed = e.cause.failed; prefix = e.prefix }, refl),
+      (record { failed = e.cause.failed; prefix = prefix }, refl),
       c.say-in-Err.ensures,
     )
