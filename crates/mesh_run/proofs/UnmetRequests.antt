@@ -254,7 +254,7 @@ module _ (IsCause : Status → Type 0) (AreFiles : List NamedBytes → Type 0) (
   said_status_ends_on out Writes why memory never fault same status result err (Ok text) unmet made told without = (
     text.items,
     subst (λ (s : Status). EndsOn out Writes (IsUnmet IsCause AreFiles target) why s text.items) (sym told.0)
-        (unmet_ends_on out Writes why never unmet same status text.items unmet made),
+        (unmet_ends_on out Writes why never fault same status text.items unmet made),
     told.1,
   )
   said_status_ends_on out Writes why memory never fault same status result err (Err e) unmet made told without = (

@@ -74,19 +74,21 @@ pub fn send<O: Sink, E: Sink>(
         TakesUntilFault (sink_call E.taken E.flushed E.faults err.old err.new) text }
     ensures memory { hides_memory result ≡ false }
 {
-    let Some(mesh) = sent else {
-        say(err, report);
-        return Status::Done;
-    };
-    match write_all(out, mesh) {
-        Ok(()) => {
+    match sent {
+        None => {
             say(err, report);
             Status::Done
         }
-        Err(_) => {
-            say(err, NO_OUTPUT_LINE);
-            Status::WriteFault
-        }
+        Some(mesh) => match write_all(out, mesh) {
+            Ok(()) => {
+                say(err, report);
+                Status::Done
+            }
+            Err(_) => {
+                say(err, NO_OUTPUT_LINE);
+                Status::WriteFault
+            }
+        },
     }
 }
 

@@ -5,8 +5,8 @@ use Rattle.ember_io.specs.Sinks.{AppendsPrefix}
 use Rattle.mesh_report.specs.Lines.{line}
 use Rattle.mesh_run.proofs.writing.send.Goals as goal
 
-pub returns-in_default-clause-outcome : goal.returns-in_default-clause-outcome
-returns-in_default-clause-outcome g c = rw c.in-None.is (c.args.report.now, (refl, refl, refl), c.say.ensures)
+pub returns-in-None-clause-outcome : goal.returns-in-None-clause-outcome
+returns-in-None-clause-outcome g c = rw c.in-None.is (c.args.report.now, (refl, refl, refl), c.say.ensures)
 
 pub returns-in-Ok-clause-outcome : goal.returns-in-Ok-clause-outcome
 returns-in-Ok-clause-outcome g c =
