@@ -22,14 +22,14 @@ line \d+: reference 'W' names no vertex before it; export anew
 line \d+: face with fewer than three corners; remove it
 PLY header has no end; export anew
 line \d+: PLY header line not understood; export anew
-PLY format is none of ascii, binary_little_endian, binary_big_endian; export anew
+PLY format is none of ascii 1.0, binary_little_endian 1.0, binary_big_endian 1.0; export anew
 W \d+: the file ends or the row is short; it is cut off, export anew
 vertex \d+: coordinate is not a finite number; export anew
 PLY vertices have no x, y, z; export anew
 PLY faces have no vertex_indices \(strips aren't read\); export as triangles
 face \d+: names a vertex that isn't there; export anew
 face \d+: fewer than three corners; remove it
-line 1: no OFF; export anew
+line \d+: vertices of four coordinates \(4OFF\) aren't read; export as OFF
 OFF has no counts; export anew
 fewer lines than the counts say; it is cut off, export anew
 line \d+: face not understood; export anew

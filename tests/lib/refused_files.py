@@ -6,6 +6,7 @@ _CUT_OFF = "neither ASCII STL nor binary STL: {} bytes, but {} facets need {}; i
 _ASCII = b"ply\nformat ascii 1.0\n"
 _VERTEX = b"element vertex %d\nproperty int x\nproperty int y\nproperty int z\n"
 _FACE = b"element face 1\nproperty list int int vertex_index\nend_header\n"
+_FORMAT = "PLY format is none of ascii 1.0, binary_little_endian 1.0, binary_big_endian 1.0; export anew"
 _FAR = "a coordinate of 1e15 or more; export in another unit"
 
 _STL = (
@@ -27,7 +28,9 @@ _STL = (
 _PLY = (
     (_ASCII, "PLY header has no end; export anew"),
     (_ASCII + b"element vertex\nend_header\n", "line 3: PLY header line not understood; export anew"),
-    (b"ply\nend_header\n", "PLY format is none of ascii, binary_little_endian, binary_big_endian; export anew"),
+    (b"ply\nend_header\n", _FORMAT),
+    (b"ply\nformat ascii 1.1\nend_header\n", _FORMAT),
+    (b"ply\nformat binary_little_endian\nend_header\n", _FORMAT),
     (_ASCII + _VERTEX % 2 + b"end_header\n0 0 0\n0 0\n", "vertex 2: the file ends or the row is short; it is cut off, export anew"),
     (_ASCII + _VERTEX % 1 + b"end_header\n0 nan 0\n", "vertex 1: coordinate is not a finite number; export anew"),
     (_ASCII + b"element vertex 1\nproperty int x\nend_header\n0\n", "PLY vertices have no x, y, z; export anew"),
@@ -40,7 +43,11 @@ _PLY = (
 
 _OFF = (
     # A vertical tab separates words in an STL, but not in an OFF.
-    (b"OFF\x0b3 1\n", "line 1: no OFF; export anew"),
+    (b"OFF\x0b3 1\n", "no triangles in it; is it a mesh?"),
+    (b"# a comment\n4OFF 3 1\n", "line 2: vertices of four coordinates (4OFF) aren't read; export as OFF"),
+    (b"stn4off 3 1\n", "line 1: vertices of four coordinates (4OFF) aren't read; export as OFF"),
+    (b"3\n1 0\n", "OFF has no counts; export anew"),
+    (b"\xef\xbb\xbfOFF 1 0\n0 n/a 0\n", "line 2: coordinate 'n/a' is not a number; export anew"),
     (b"OFF\n", "OFF has no counts; export anew"),
     (b"OFF 3 1\n0 0 0\n", "fewer lines than the counts say; it is cut off, export anew"),
     (b"OFF 1 0\n1 2\n", "line 2: fewer than three coordinates; export anew"),

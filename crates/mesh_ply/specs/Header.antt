@@ -96,10 +96,15 @@ four_of (a ∷ b ∷ c ∷ []) = None
 four_of (a ∷ b ∷ c ∷ d ∷ []) = Some (a, b, c, d)
 four_of (a ∷ b ∷ c ∷ d ∷ e ∷ more) = None
 
--- what follows `format`
+-- the encoding with this name in version 1.0, which is the only one
+abbrev pub encoding_of_version : Piece → Piece → Option Encoding
+encoding_of_version name version = if bytes_eq version.text (codes "1.0") then encoding_named name.text else None
+
+-- what follows `format`: a name and a version
 abbrev pub format_entry : List Piece → Option Entry
 format_entry [] = None
-format_entry (name ∷ more) = Some (entry.Format (encoding_named name.text))
+format_entry (name ∷ []) = Some (entry.Format None)
+format_entry (name ∷ version ∷ more) = Some (entry.Format (encoding_of_version name version))
 
 -- an element with its number of rows; no file has 10^15 rows, and a larger number is taken for that
 abbrev pub counted : Piece → Option ℕ → Option Entry

@@ -14,7 +14,13 @@ use mesh_read::{Part, next_word};
 fn read_format<'a>(words: Part<'a>) -> Option<Entry>
     ensures { result ≡ format_entry (words_in words.entry) }
 {
-    let (name, _) = next_word(words)?;
+    let (name, rest) = next_word(words)?;
+    let Some((version, _)) = next_word(rest) else {
+        return Some(Entry::Format(None));
+    };
+    if !is_name(version.bytes, b"1.0") {
+        return Some(Entry::Format(None));
+    }
     Some(Entry::Format(encoding(name.bytes)))
 }
 

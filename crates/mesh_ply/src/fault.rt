@@ -15,8 +15,8 @@ pub enum PlyFault {
     /// This line of the header isn't one of a PLY file.
     #[error("line {0}: PLY header line not understood")]
     NotUnderstood(u32),
-    /// The header names no format, or another one.
-    #[error("PLY format is none of ascii, binary_little_endian, binary_big_endian")]
+    /// The header names no format, another one, or another version than 1.0.
+    #[error("PLY format is none of ascii, binary_little_endian, binary_big_endian, version 1.0")]
     NoFormat,
     /// A row ends before its last property, or the file does. The span is the name of the row's
     /// element in the header, and the number is that of the row.

@@ -71,8 +71,9 @@ fn read_mesh<'a>(alloc: Global, bytes: &'a [u8]) -> Result<Surface<'a>, PlyFault
 /// The header ends with the first line whose first word is `end_header`. Lines that begin with
 /// `ply`, `comment` or `obj_info` are passed over, as are lines without a word; the caller tests
 /// whether the file begins with `ply`. The format is `ascii`, `binary_little_endian` or
-/// `binary_big_endian`. The rows of the elements follow in the header's order. In an ASCII file a
-/// row is a line with a word, and what follows its last property isn't read.
+/// `binary_big_endian`, and its version `1.0`. The rows of the elements follow in the header's
+/// order. In an ASCII file a row is a line with a word, and what follows its last property isn't
+/// read.
 ///
 /// A `vertex` has the properties `x`, `y` and `z`, and a `face` the list `vertex_indices` or
 /// `vertex_index` of indices from 0 of vertices with rows before it. Other elements, properties and

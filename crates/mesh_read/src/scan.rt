@@ -9,6 +9,6 @@ mod words;
 
 pub use blanks::Blanks;
 pub use cut::cut_before;
-pub use lines::{next_line, without_comment};
+pub use lines::{next_line, part_behind_mark, without_comment};
 pub use part::{Part, Span};
 pub use words::{next_word, next_word_between, three_words};

@@ -103,7 +103,7 @@ ply_reason bytes ply.NoEnd = codes "PLY header has no end; export anew"
 ply_reason bytes (ply.NotUnderstood line) =
     at (codes "line") line (codes "PLY header line not understood; export anew")
 ply_reason bytes ply.NoFormat =
-    codes "PLY format is none of ascii, binary_little_endian, binary_big_endian; export anew"
+    codes "PLY format is none of ascii 1.0, binary_little_endian 1.0, binary_big_endian 1.0; export anew"
 ply_reason bytes (ply.ShortRow name row) = short_row (between name.start name.end bytes) row
 ply_reason bytes (ply.NotFinite vertex) =
     at (codes "vertex") vertex (codes "coordinate is not a finite number; export anew")
@@ -121,6 +121,8 @@ ply_reason bytes ply.OutOfMemory = out_of_memory
 -- the faults of OFF files
 abbrev pub off_reason : List ℕ → OffFault → List ℕ
 off_reason bytes off.NoOff = at (codes "line") 1 (codes "no OFF; export anew")
+off_reason bytes (off.MoreCoordinates line) =
+    at (codes "line") line (codes "vertices of four coordinates (4OFF) aren't read; export as OFF")
 off_reason bytes off.NoCounts = codes "OFF has no counts; export anew"
 off_reason bytes off.FewLines = codes "fewer lines than the counts say; it is cut off, export anew"
 off_reason bytes (off.FewCoordinates line) = few_coordinates line

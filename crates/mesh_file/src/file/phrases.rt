@@ -23,7 +23,7 @@ pub(crate) const NO_END: &str = "PLY header has no end; export anew";
 pub(crate) const NOT_UNDERSTOOD: &str = "PLY header line not understood; export anew";
 
 pub(crate) const NO_FORMAT: &str =
-    "PLY format is none of ascii, binary_little_endian, binary_big_endian; export anew";
+    "PLY format is none of ascii 1.0, binary_little_endian 1.0, binary_big_endian 1.0; export anew";
 
 pub(crate) const SHORT_ROW: &str = "the file ends or the row is short; it is cut off, export anew";
 
@@ -40,6 +40,9 @@ pub(crate) const FEW_CORNERS: &str = "fewer than three corners; remove it";
 
 // OFF
 pub(crate) const NO_OFF: &str = "no OFF; export anew";
+
+pub(crate) const MORE_COORDINATES: &str =
+    "vertices of four coordinates (4OFF) aren't read; export as OFF";
 
 pub(crate) const NO_COUNTS: &str = "OFF has no counts; export anew";
 

@@ -7,9 +7,9 @@ ghost use Rattle.mesh_file.specs.File.Reasons.{not_a_number, unknown_word, short
 use crate::file::fault::FileFault;
 use crate::file::phrases::{
     ENDS_IN_FACET, FACE_NOT_UNDERSTOOD, FACE_OF_FEW_CORNERS, FACET_NOT_FINITE, FEW_COORDINATES,
-    FEW_CORNERS, FEW_LINES, NO_COORDINATES, NO_CORNERS, NO_COUNTS, NO_END, NO_FORMAT, NO_OFF,
-    NO_SUCH_VERTEX, NO_TRIANGLES, NOT_THREE_VERTICES, NOT_UNDERSTOOD, OUT_OF_MEMORY, SHORT_ROW,
-    TOO_LARGE, VERTEX_NOT_FINITE, VERTEX_OUTSIDE,
+    FEW_CORNERS, FEW_LINES, MORE_COORDINATES, NO_COORDINATES, NO_CORNERS, NO_COUNTS, NO_END,
+    NO_FORMAT, NO_OFF, NO_SUCH_VERTEX, NO_TRIANGLES, NOT_THREE_VERTICES, NOT_UNDERSTOOD,
+    OUT_OF_MEMORY, SHORT_ROW, TOO_LARGE, VERTEX_NOT_FINITE, VERTEX_OUTSIDE,
 };
 use crate::file::reason_parts::{
     between, front, put_at, put_cut_off, put_numbered, put_with_word, put_word,
@@ -93,6 +93,7 @@ fn put_off_reason(bytes: &[u8], fault: &OffFault, text: &mut String) -> Result<(
 {
     match fault {
         OffFault::NoOff => put_at("line", 1, NO_OFF, text),
+        OffFault::MoreCoordinates(line) => put_at("line", *line, MORE_COORDINATES, text),
         OffFault::NoCounts => text.push_str(NO_COUNTS),
         OffFault::FewLines => text.push_str(FEW_LINES),
         OffFault::FewCoordinates(line) => put_at("line", *line, FEW_COORDINATES, text),

@@ -12,9 +12,9 @@ use crate::surface::{Surface, Vertex};
 use mesh_number::binary32;
 use std::alloc::{AllocError, Global};
 
-// The three coordinates from this byte on, if all are finite.
+/// The point of the three binary32 from this byte on, the lowest byte first, if all are finite.
 #[tactic(none)]
-fn read_point(bytes: &[u8], at: usize) -> Option<Vertex<'static>>
+pub fn read_point(bytes: &[u8], at: usize) -> Option<Vertex<'static>>
     requires { at + 12 ≤ length bytes.now }
     ensures { option_map point_of result ≡ point_at bytes.now at }
 {

@@ -18,9 +18,9 @@ pub(crate) const COUNT_AT: usize = 80;
 // The first words of an ASCII STL are within this many bytes.
 const FIRST_BYTES: usize = 4096;
 
-// The number of four bytes, the lowest byte first.
+/// The number of the four bytes from this one on, the lowest byte first.
 #[tactic(none)]
-pub(crate) fn read_number(bytes: &[u8], at: usize) -> u32
+pub fn read_number(bytes: &[u8], at: usize) -> u32
     requires { at + 4 ≤ length bytes.now }
     ensures { result ≡ number_at bytes.now at }
 {
