@@ -5,3 +5,7 @@ pub mod ExportLines
 pub mod Reports
 pub mod Messages
 pub mod Statuses
+pub mod Objects
+pub mod ReportObjects
+pub mod Refusals
+pub mod Said

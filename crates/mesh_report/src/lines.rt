@@ -86,8 +86,8 @@ pub fn put_file(
     text.extend_from_slice(said)
 }
 
-// What the number of a triangle's place counts.
-fn noun_of(format: Format) -> &'static [u8]
+/// What the number of a triangle's place counts.
+pub fn noun_of(format: Format) -> &'static [u8]
     ensures { result.now ≡ noun_of format }
 {
     match format {
