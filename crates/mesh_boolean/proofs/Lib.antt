@@ -4,3 +4,4 @@ pub mod WritingRefusals
 pub mod DocumentRefusals
 pub mod Outputs
 pub mod OutputMeaning
+pub mod OutputTolerance

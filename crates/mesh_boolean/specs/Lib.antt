@@ -4,3 +4,4 @@ pub mod Outputs
 pub mod WritingFaults
 pub mod Faults
 pub mod DocumentFiles
+pub mod Tolerance

@@ -17,6 +17,7 @@ ghost use Rattle.mesh_boolean.specs.declared.output.SolidFile.{SolidFile};
 ghost use Rattle.mesh_boolean.specs.Files.{AreReadings};
 ghost use Rattle.mesh_boolean.specs.Outputs.{IsOutput};
 ghost use Rattle.mesh_boolean.specs.Faults.{IsBooleanFault};
+ghost use Rattle.mesh_boolean.specs.Tolerance.{MeansOutsideMoves, MeansOutsideRounding};
 
 use mesh_scene::closed_surfaces_are_never_open;
 
@@ -42,6 +43,21 @@ pub fn triangles_of_outputs_have_the_meaning()
         HaveMeaning (images_of out.grid is.surfaces) formula (faces_of_mesh is.mesh) }
     ensures once { (files : List MeshFile) (formula : Formula) (wanted : WantedFile) (out : SolidFile) →
         IsFalseOutside formula → (is : IsOutput files formula wanted out) → WindOnceAtMost (faces_of_mesh is.mesh) }
+{}
+
+/// From files to the written one. Let an expression be false if all winding numbers are 0, and the
+/// surfaces of the files closed by the exact positions of their corners. At each point that is
+/// clear of them and farther from each of them than its greatest move to the grid, and clear of the
+/// written triangles and farther from the exact ones than the greatest rounding move, the written
+/// triangles wind once where the expression is true of the winding numbers of the surfaces, and not
+/// at all elsewhere. With the winding numbers of the triangles on the grid this holds of all files.
+pub fn written_files_have_the_meaning()
+    ensures files { (files : List MeshFile) (formula : Formula) (wanted : WantedFile) (out : SolidFile) →
+        IsFalseOutside formula → (is : IsOutput files formula wanted out) →
+        MeansOutsideMoves files formula wanted out is }
+    ensures grid { (files : List MeshFile) (formula : Formula) (wanted : WantedFile) (out : SolidFile) →
+        IsFalseOutside formula → (is : IsOutput files formula wanted out) →
+        MeansOutsideRounding files formula wanted out is }
 {}
 
 /// Files whose surfaces are closed by the exact positions of their corners are never refused as

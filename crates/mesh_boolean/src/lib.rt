@@ -23,7 +23,7 @@ pub use fault::BooleanFault;
 pub use files::{MeshFile, surfaces_in};
 pub use laws::{
     closed_files_are_never_open, faces_of_outputs_have_the_meaning,
-    triangles_of_outputs_have_the_meaning,
+    triangles_of_outputs_have_the_meaning, written_files_have_the_meaning,
 };
 pub use output::{KeptDocument, SolidFile};
 pub use placing::placed_files;

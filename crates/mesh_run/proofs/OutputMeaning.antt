@@ -2,6 +2,7 @@
 use Rattle.std.proofs.Common.{ℕ, List}
 use Rattle.std.specs.declared.option.Option.{Option}
 use Rattle.mesh_boolean.proofs.OutputMeaning.{output_means, output_winds_once_at_most}
+use Rattle.mesh_boolean.proofs.OutputTolerance.{output_means_outside_moves, output_means_outside_rounding}
 use Rattle.mesh_boolean.specs.declared.wanted.WantedFile.{WantedFile}
 use Rattle.mesh_boolean.specs.declared.output.SolidFile.{SolidFile}
 use Rattle.ember_expr.specs.Formula.{Formula}
@@ -24,5 +25,7 @@ output_is_asked_for request told wanted formula output asks of_files =
       means = record {
         means = output_means of_files.files formula wanted output outside is;
         once = output_winds_once_at_most of_files.files formula wanted output outside is;
+        outside_moves = output_means_outside_moves of_files.files formula wanted output outside is;
+        outside_rounding = output_means_outside_rounding of_files.files formula wanted output outside is;
       };
     }

@@ -6,6 +6,7 @@ use Rattle.mesh_boolean.specs.declared.wanted.WantedFile.{WantedFile}
 use Rattle.mesh_boolean.specs.declared.output.SolidFile.{SolidFile}
 use Rattle.mesh_boolean.specs.Files.{IsPlaced}
 use Rattle.mesh_boolean.specs.Outputs.{IsOutput}
+use Rattle.mesh_boolean.specs.Tolerance.{MeansOutsideMoves, MeansOutsideRounding}
 use Rattle.ember_expr.specs.Formula.{Formula}
 use Rattle.mesh_grid.specs.declared.grid.choice.Wanted.{Wanted}
 use Rattle.ember_meaning.specs.Regions.Meaning.{HaveMeaning}
@@ -26,11 +27,15 @@ pub record IsFilesOutput (told : List ℕ → Option (List ℕ)) (names : List (
   pub is_output : IsOutput files formula wanted output
 
 -- before the output's triangles are rounded, they wind once where the expression is true of the files' triangles on the
--- grid, and not at all elsewhere; around each point that is clear of the output's triangles alone, once or not at all
+-- grid, and not at all elsewhere; around each point that is clear of the output's triangles alone, once or not at all.
+-- The written triangles do so outside of the reported moves: with the winding numbers of the files, if these are closed,
+-- and with those of their triangles on the grid
 pub record MeansFormula (files : List MeshFile) (formula : Formula) (wanted : WantedFile) (output : SolidFile)
     (is : IsOutput files formula wanted output) : Type 0 where
   pub means : HaveMeaning (images_of output.grid is.surfaces) formula (faces_of_mesh is.mesh)
   pub once : WindOnceAtMost (faces_of_mesh is.mesh)
+  pub outside_moves : MeansOutsideMoves files formula wanted output is
+  pub outside_rounding : MeansOutsideRounding files formula wanted output is
 
 -- the output is what the request asks for, and means it
 pub record IsOutputFor (request : Request) (told : List ℕ → Option (List ℕ)) (output : SolidFile) : Type 0 where
