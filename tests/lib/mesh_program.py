@@ -38,7 +38,7 @@ line \d+: face not understood; export anew
 # What a status writes to standard error behind `ember-mesh: `. Status 13 has no line, and 14 is a fault of the program.
 LINES = {
     2: r"[^\n]+",
-    3: rf"{_NAME}: cannot be read",
+    3: rf"{_NAME}: cannot be read(?: \((?:No such file or directory|Permission denied|Is a directory)\))?",
     4: rf"cannot write (?:{_NAME}|to standard output)",
     5: rf"{_NAME}: (?:{'|'.join(REASONS)})",
     6: rf"{_NAME}: not closed: \d+ loose edges, the first from {_PLACE} to {_PLACE}, in (?:line|facet|face) \d+; close the hole in the modeller",

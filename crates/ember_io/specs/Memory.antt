@@ -2,6 +2,8 @@
 use Rattle.std.specs.Prelude.{◌≡◌, ℕ, ◌<◌, ◌≤◌, List, length, None, ◌⊎◌, Contains}
 use Rattle.ember_io.specs.Causes.{next_count}
 use Rattle.ember_io.specs.Files.{first_of}
+use Rattle.ember_io.specs.declared.shelf.FaultKind.{FaultKind}
+use Rattle.ember_io.specs.declared.shelf.FaultKind.TheVariants.{NotFound, Other}
 
 -- a shelf whose chosen calls fail
 pub record ShelfState : Type 0 where
@@ -12,6 +14,7 @@ pub record ShelfState : Type 0 where
   pub unread : List ℕ
   pub begun : ℕ
   pub fault_at : ℕ
+  pub fault_kind : FaultKind
   pub faults : ℕ
 
 -- a shelf that never fails
@@ -45,6 +48,11 @@ pub record IsSameSink (old new : SinkState) : Type 0 where
 -- the next call is chosen to fail, or no file has that name
 abbrev pub FailsToBegin : ShelfState → List ℕ → Type 0
 FailsToBegin s name = Contains s.failing (next_count s.calls) ⊎ (first_of s.files name ≡ None)
+
+-- a call that isn't chosen to fail fails for want of a file, and any other as it may
+abbrev pub IsKindOfBegin : ShelfState → FaultKind → Type 0
+IsKindOfBegin s kind =
+    (Contains s.failing (next_count s.calls) → kind ≡ Other) × (¬ Contains s.failing (next_count s.calls) → kind ≡ NotFound)
 
 -- the next call is chosen to fail, or there are bytes to take and the room is used up
 abbrev pub FailsToWrite : SinkState → List ℕ → Type 0

@@ -17,7 +17,7 @@ pub use memory_shelf::MemoryShelf;
 pub use memory_sink::MemorySink;
 pub use real::{FileShelf, StdSink};
 pub use safe_shelf::SafeShelf;
-pub use shelf::{ReadEnd, Shelf, read_all};
+pub use shelf::{FaultKind, ReadEnd, Shelf, read_all};
 pub use sink::{Sink, WriteFault, write_all};
 use std::alloc::AllocError;
 use thiserror::Error;

@@ -1,15 +1,15 @@
 // Files in memory, with calls that fail on purpose.
-ghost use Rattle.std.specs.Prelude.{◌≡◌, ◌<◌, ◌↔◌, [], min, length, Some, IsErr, IfOk, OnOk, OnErr, Contains};
+ghost use Rattle.std.specs.Prelude.{◌≡◌, ◌<◌, ◌↔◌, [], min, length, Some, IsErr, IfOk, OnOk, OnErr, Contains, if◌then◌else◌};
 ghost use Rattle.std.specs.Io.{ReadsAtMost};
 ghost use Rattle.std.specs.Io.KnownBytes.{ReadConsumes};
 ghost use Rattle.ember_io.specs.Causes.{next_count, HasCause, CountsFault};
 ghost use Rattle.ember_io.specs.Files.{first_of};
-ghost use Rattle.ember_io.specs.Memory.{IsSameShelf, FailsToBegin};
+ghost use Rattle.ember_io.specs.Memory.{IsSameShelf, FailsToBegin, IsKindOfBegin};
 ghost use Rattle.ember_io.specs.Shelves.{MarksFault};
 
 use crate::failing::is_failing;
 use crate::file_index::{bytes_of, file_index_of, give, past_files};
-use crate::shelf::Shelf;
+use crate::shelf::{FaultKind, Shelf};
 use crate::{Calls, Failed, FileSet, OutOfMemory};
 use std::alloc::Global;
 use std::marker::Model;
@@ -26,6 +26,7 @@ pub struct MemoryShelf {
     at: usize,
     begun: u32,
     fault_at: u32,
+    fault_kind: FaultKind,
     faults: u64,
 }
 
@@ -44,6 +45,7 @@ impl Model for MemoryShelf {
       unread = drop s.at (bytes_at s.files s.file_index);
       begun = s.begun;
       fault_at = s.fault_at;
+      fault_kind = s.fault_kind;
       faults = s.faults;
     } };
 
@@ -68,6 +70,7 @@ impl MemoryShelf {
           unread = [];
           begun = 0;
           fault_at = 0;
+          fault_kind = FaultKind.Other;
           faults = 0;
         }) }
     {
@@ -81,8 +84,20 @@ impl MemoryShelf {
             at: 0,
             begun: 0,
             fault_at: 0,
+            fault_kind: FaultKind::Other,
             faults: 0,
         })
+    }
+}
+
+// Why a file isn't begun by a call that was chosen to fail, or wasn't.
+fn kind_of_begin(is_chosen: bool) -> FaultKind
+    ensures { result ≡ (if is_chosen then FaultKind.Other else FaultKind.NotFound) }
+{
+    if is_chosen {
+        FaultKind::Other
+    } else {
+        FaultKind::NotFound
     }
 }
 
@@ -95,7 +110,13 @@ impl Shelf for MemoryShelf {
 
     ghost fault_at = { λ s. s.fault_at };
 
+    ghost fault_kind = { λ s. s.fault_kind };
+
     ghost faults = { λ s. s.faults };
+
+    fn last_fault(&self) -> FaultKind {
+        self.fault_kind
+    }
 
     fn begin(&mut self, name: &str, number: u32) -> Result<(), Failed>
         ensures contents { first_of self.new.files ≡ first_of self.old.files }
@@ -107,6 +128,7 @@ impl Shelf for MemoryShelf {
 
         // It fails exactly at the chosen calls and at unknown names.
         ensures fails { IsErr result ↔ FailsToBegin self.old name.now }
+        ensures kind { OnErr result (IsKindOfBegin self.old self.new.fault_kind) }
         ensures counts { CountsFault self.old.faults self.new.faults result }
         ensures calls { self.new.calls ≡ next_count self.old.calls }
         ensures same { IsSameShelf self.old self.new }
@@ -115,13 +137,15 @@ impl Shelf for MemoryShelf {
         self.begun = number;
         self.at = 0;
         self.file_index = past_files(self.files.items());
-        if !is_failing(&self.failing, self.calls) {
+        let is_chosen = is_failing(&self.failing, self.calls);
+        if !is_chosen {
             if let Some(file_index) = file_index_of(self.files.items(), name) {
                 self.file_index = file_index;
                 return Ok(());
             }
         }
         self.fault_at = number;
+        self.fault_kind = kind_of_begin(is_chosen);
         self.faults = self.faults.saturating_add(1);
         Err(Failed)
     }
@@ -136,6 +160,7 @@ impl Shelf for MemoryShelf {
 
         // It fails exactly at the chosen calls, and otherwise gives as much as fits, up to a piece.
         ensures fails { IsErr result ↔ Contains self.old.failing (next_count self.old.calls) }
+        ensures kind { OnErr result (self.new.fault_kind ≡ FaultKind.Other) }
         ensures count { IfOk result (λ n. n ≡ min self.old.piece (min (length buf.old) (length self.old.unread))) }
         ensures counts { CountsFault self.old.faults self.new.faults result }
         ensures calls { self.new.calls ≡ next_count self.old.calls }
@@ -144,6 +169,7 @@ impl Shelf for MemoryShelf {
         self.calls = self.calls.saturating_add(1);
         if is_failing(&self.failing, self.calls) {
             self.fault_at = self.begun;
+            self.fault_kind = FaultKind::Other;
             self.faults = self.faults.saturating_add(1);
             return Err(Failed);
         }

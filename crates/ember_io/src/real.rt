@@ -3,7 +3,7 @@ ghost use Rattle.std.specs.Prelude.{◌≡◌, [], Some, None};
 ghost use Rattle.std.specs.Option.{option_map_or};
 
 use crate::Failed;
-use crate::shelf::Shelf;
+use crate::shelf::{FaultKind, Shelf};
 use crate::sink::Sink;
 use std::io::{Error, ErrorKind, Read, Write};
 use std::rt::Files;
@@ -15,6 +15,16 @@ fn is_transient(error: &Error) -> bool {
     matches!(error.kind(), ErrorKind::Interrupted | ErrorKind::WouldBlock)
 }
 
+// Why a file can't be read, by the system's error.
+fn kind_of(error: &Error) -> FaultKind {
+    match error.kind() {
+        ErrorKind::NotFound => FaultKind::NotFound,
+        ErrorKind::PermissionDenied => FaultKind::Forbidden,
+        ErrorKind::IsADirectory => FaultKind::Folder,
+        _ => FaultKind::Other,
+    }
+}
+
 /// The files of the system. Every error of the system is a fault. But a read that a signal
 /// interrupted, or for which the device isn't ready yet, is tried again.
 #[derive(Drop)]
@@ -23,6 +33,7 @@ pub struct FileShelf<'a, R: Files> {
     file: Option<R::File>,
     begun: u32,
     fault_at: u32,
+    fault_kind: FaultKind,
     faults: u64,
 }
 
@@ -39,6 +50,7 @@ impl<'a, R: Files> FileShelf<'a, R> {
             file: None,
             begun: 0,
             fault_at: 0,
+            fault_kind: FaultKind::Other,
             faults: 0,
         }
     }
@@ -54,7 +66,13 @@ impl<'a, R: Files> Shelf for FileShelf<'a, R> {
 
     ghost fault_at = { λ s. s.fault_at };
 
+    ghost fault_kind = { λ s. s.fault_kind };
+
     ghost faults = { λ s. s.faults };
+
+    fn last_fault(&self) -> FaultKind {
+        self.fault_kind
+    }
 
     fn begin(&mut self, name: &str, number: u32) -> Result<(), Failed> {
         self.begun = number;
@@ -64,8 +82,9 @@ impl<'a, R: Files> Shelf for FileShelf<'a, R> {
                 self.file = Some(file);
                 Ok(())
             }
-            Err(_) => {
+            Err(error) => {
                 self.fault_at = number;
+                self.fault_kind = kind_of(&error);
                 self.faults = self.faults.saturating_add(1);
                 Err(Failed)
             }
@@ -81,10 +100,16 @@ impl<'a, R: Files> Shelf for FileShelf<'a, R> {
             match file.read(buf) {
                 Ok(count) => return Ok(count),
                 Err(error) if is_transient(&error) => thread::yield_now(),
-                Err(_) => break,
+                Err(error) => {
+                    self.fault_at = self.begun;
+                    self.fault_kind = kind_of(&error);
+                    self.faults = self.faults.saturating_add(1);
+                    return Err(Failed);
+                }
             }
         }
         self.fault_at = self.begun;
+        self.fault_kind = FaultKind::Other;
         self.faults = self.faults.saturating_add(1);
         Err(Failed)
     }

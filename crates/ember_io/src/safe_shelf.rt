@@ -7,7 +7,7 @@ ghost use Rattle.ember_io.specs.Files.{first_or_empty};
 ghost use Rattle.ember_io.specs.Shelves.{MarksFault};
 
 use crate::file_index::{bytes_of, file_index_or_end, give, past_files};
-use crate::shelf::Shelf;
+use crate::shelf::{FaultKind, Shelf};
 use crate::{Failed, FileSet, OutOfMemory};
 use std::alloc::Global;
 use std::marker::Model;
@@ -51,6 +51,8 @@ impl SafeShelf {
 }
 
 impl Shelf for SafeShelf {
+    ghost use Rattle.ember_io.specs.declared.shelf.FaultKind.TheVariants.{Other};
+
     ghost contents = { λ s. first_or_empty s.files };
 
     ghost unread = { λ s. Some s.unread };
@@ -59,7 +61,13 @@ impl Shelf for SafeShelf {
 
     ghost fault_at = { λ s. 0 };
 
+    ghost fault_kind = { λ s. Other };
+
     ghost faults = { λ s. 0 };
+
+    fn last_fault(&self) -> FaultKind {
+        FaultKind::Other
+    }
 
     fn begin(&mut self, name: &str, number: u32) -> Result<(), Failed>
         ensures contents { first_or_empty self.new.files ≡ first_or_empty self.old.files }

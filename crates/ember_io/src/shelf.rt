@@ -11,9 +11,24 @@ use crate::Failed;
 use std::alloc::Global;
 use thiserror::Error;
 
+/// Why a file can't be read.
+#[derive(Clone, Copy, Debug, PartialEq, Eq)]
+pub enum FaultKind {
+    /// There is no file of that name.
+    NotFound,
+    /// It may not be read.
+    Forbidden,
+    /// It is a folder.
+    Folder,
+    /// Any other reason.
+    Other,
+}
+
 /// A source of named files; the one begun last is read. At the start no bytes are unread, and the
 /// numbers of the last `begin` and of the last fault are 0.
 pub trait Shelf {
+    ghost use Rattle.ember_io.specs.declared.shelf.FaultKind.{FaultKind};
+
     /// The bytes of each name, if they are told.
     ghost contents: { Self → List ℕ → Option (List ℕ) };
 
@@ -26,8 +41,15 @@ pub trait Shelf {
     /// The number of the file at which the last fault occurred.
     ghost fault_at: { Self → ℕ };
 
+    /// Of which kind the last fault was.
+    ghost fault_kind: { Self → FaultKind };
+
     /// How often it has failed. This number never falls; at the greatest `u64` it stays.
     ghost faults: { Self → ℕ };
+
+    /// Of which kind the last fault was. If there was none, it may be any.
+    fn last_fault(&self) -> FaultKind
+        ensures { result ≡ fault_kind self.now };
 
     /// Begins the file of that name, under the caller's number for it.
     fn begin(&mut self, name: &str, number: u32) -> Result<(), Failed>

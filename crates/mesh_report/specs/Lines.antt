@@ -6,6 +6,8 @@ use Rattle.std.specs.Char.{is_ascii_control}
 use Rattle.std.specs.declared.option.Option.{Option}
 use Rattle.ember_expr.specs.declared.fault.ExprFault.{ExprFault}
 use Rattle.ember_expr.specs.declared.fault.ExprFault.TheVariants as expr
+use Rattle.ember_io.specs.declared.shelf.FaultKind.{FaultKind}
+use Rattle.ember_io.specs.declared.shelf.FaultKind.TheVariants as kind
 use Rattle.mesh_file.specs.declared.format.format.Format.{Format}
 use Rattle.mesh_file.specs.declared.format.format.Format.TheVariants as formats
 use Rattle.mesh_grid.specs.declared.grid.extent.SceneExtent.{SceneExtent}
@@ -173,10 +175,17 @@ abbrev pub too_many_text : OutputFormat → List ℕ
 too_many_text output.Glb = codes "more than 4294967295 bytes, too many for GLB; simplify the meshes"
 too_many_text format = codes "more than 4294967295 triangles, too many for STL; simplify the meshes"
 
+-- ---- a file that can't be read
+abbrev pub unreadable_text : FaultKind → List ℕ
+unreadable_text kind.NotFound = codes "cannot be read (No such file or directory)"
+unreadable_text kind.Forbidden = codes "cannot be read (Permission denied)"
+unreadable_text kind.Folder = codes "cannot be read (Is a directory)"
+unreadable_text kind.Other = codes "cannot be read"
+
 -- ---- all of them
 -- why not all files are read, or one isn't written
 abbrev pub reading_why : List (List ℕ) → Status → List ℕ
-reading_why names (ReadFault i) = file_text names i (codes "cannot be read")
+reading_why names (ReadFault i kind) = file_text names i (unreadable_text kind)
 reading_why names (FileRefused i reason) = file_text names i (string_bytes reason)
 reading_why names (LongFile i) = file_text names i (codes "more than 268435456 bytes; simplify the mesh")
 reading_why names (NotWritten name) = codes "cannot write " ++ string_bytes name

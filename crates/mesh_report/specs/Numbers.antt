@@ -30,7 +30,7 @@ abbrev pub number_of : Status → ℕ
 number_of Done = 0
 number_of (Words why) = 2
 number_of StepOfNoGrid = 2
-number_of (ReadFault i) = 3
+number_of (ReadFault i kind) = 3
 number_of WriteFault = 4
 number_of (NotWritten name) = 4
 number_of (FileRefused i reason) = 5

@@ -1,13 +1,14 @@
 // The line on standard error of a request that isn't met.
 ghost use Rattle.std.specs.Prelude.{◌≡◌, ◌++◌, ◌+◌, ◌<◌, codes, decimal, IfOk, OnOk};
 ghost use Rattle.mesh_grid.specs.Snap.Steps.{IsStep};
-ghost use Rattle.mesh_report.specs.Lines.{IsShown, expr_text, file_text, length_text, line, noun_of, not_found_text, open_text, place_text, reading_why, scene_why, snap_why, solid_text, step_text, too_far_text, too_many_text, uncut_text, why_of};
+ghost use Rattle.mesh_report.specs.Lines.{IsShown, expr_text, file_text, length_text, line, noun_of, not_found_text, open_text, place_text, reading_why, scene_why, snap_why, solid_text, step_text, too_far_text, too_many_text, uncut_text, unreadable_text, why_of};
 
 use crate::status::Status;
 use crate::texts::{
     line, name_among, put_corner, put_count, put_length, put_step, put_value, wanted_text,
 };
 use ember_expr::ExprFault;
+use ember_io::FaultKind;
 use ember_model::OutOfMemory;
 use ember_words::Texts;
 use mesh_file::Format;
@@ -195,6 +196,18 @@ pub fn too_far_text(format: OutputFormat) -> &'static [u8]
     }
 }
 
+// That a file can't be read, with the reason if it is known.
+fn unreadable_text(kind: FaultKind) -> &'static [u8]
+    ensures { result.now ≡ unreadable_text kind }
+{
+    match kind {
+        FaultKind::NotFound => b"cannot be read (No such file or directory)",
+        FaultKind::Forbidden => b"cannot be read (Permission denied)",
+        FaultKind::Folder => b"cannot be read (Is a directory)",
+        FaultKind::Other => b"cannot be read",
+    }
+}
+
 /// Appends why not all files are read, or why one isn't written.
 pub fn put_reading_why(
     files: &Texts,
@@ -204,7 +217,7 @@ pub fn put_reading_why(
     ensures { OnOk result (text.new.items ≡ text.old.items ++ reading_why files.now status.now) }
 {
     match status {
-        Status::ReadFault(number) => put_file(files, *number, b"cannot be read", text),
+        Status::ReadFault(number, kind) => put_file(files, *number, unreadable_text(*kind), text),
         Status::FileRefused(number, reason) => put_file(files, *number, reason.as_bytes(), text),
         Status::LongFile(number) => put_file(files, *number, LONG_FILE, text),
         Status::NotWritten(name) => put_value(b"cannot write ", name.as_bytes(), b"", text),

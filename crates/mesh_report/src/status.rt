@@ -4,6 +4,7 @@ ghost use Rattle.mesh_report.specs.Numbers.{document_number, number_of};
 ghost use Rattle.mesh_report.specs.declared.status.Status.TheVariants.{OutOfMemory};
 
 use ember_expr::ExprFault;
+use ember_io::FaultKind;
 use mesh_file::Format;
 use mesh_grid::SceneExtent;
 use mesh_scene::Open;
@@ -21,8 +22,8 @@ pub enum Status {
     Words(Refusal),
     /// The value of `--step` is a decimal above 0, but no grid can have it as its step.
     StepOfNoGrid,
-    /// The file can't be read.
-    ReadFault(u32),
+    /// The file can't be read, for this reason.
+    ReadFault(u32, FaultKind),
     /// Standard output can't be written.
     WriteFault,
     /// The file of this name can't be written; what its name held is still there.
@@ -80,7 +81,7 @@ impl Status {
         match self {
             Status::Done => 0,
             Status::Words(_) | Status::StepOfNoGrid => 2,
-            Status::ReadFault(_) => 3,
+            Status::ReadFault(_, _) => 3,
             Status::WriteFault | Status::NotWritten(_) => 4,
             Status::FileRefused(_, _) | Status::NoTriangles | Status::NotAScene => 5,
             Status::NotClosed(_, _) => 6,

@@ -33,28 +33,29 @@ use Rattle.mesh_report.specs.declared.status.Status.TheVariants.{TooFar, Documen
 -- what is seen of a later part of a call is seen of the whole of it
 pub unread_since : (name : List ℕ) (number : ℕ) (late whole : ShelfCall) (status : Status) → late.told ≡ whole.told →
     whole.faults ≤ late.faults → late.faults_after ≡ whole.faults_after → late.fault_at ≡ whole.fault_at →
-    IsUnreadFile name number late status → IsUnreadFile name number whole status
-unread_since name number late whole Done told before after at h = absurd h
-unread_since name number late whole (Words refusal) told before after at h = absurd h
-unread_since name number late whole StepOfNoGrid told before after at h = absurd h
-unread_since name number late whole (ReadFault i) told before after at h = (h.0, omega (arith, h.1, before, after), sym at ∙ h.2)
-unread_since name number late whole WriteFault told before after at h = absurd h
-unread_since name number late whole (NotWritten file) told before after at h = absurd h
-unread_since name number late whole (FileRefused i reason) told before after at h = absurd h
-unread_since name number late whole NoTriangles told before after at h = absurd h
-unread_since name number late whole NotAScene told before after at h = absurd h
-unread_since name number late whole (NotClosed o format) told before after at h = absurd h
-unread_since name number late whole (ExprRefused fault) told before after at h = absurd h
-unread_since name number late whole Unbounded told before after at h = absurd h
-unread_since name number late whole (LongFile i) told before after at h =
+    late.fault_kind ≡ whole.fault_kind → IsUnreadFile name number late status → IsUnreadFile name number whole status
+unread_since name number late whole Done told before after at kind_is h = absurd h
+unread_since name number late whole (Words refusal) told before after at kind_is h = absurd h
+unread_since name number late whole StepOfNoGrid told before after at kind_is h = absurd h
+unread_since name number late whole (ReadFault i kind) told before after at kind_is h =
+    (h.0, omega (arith, h.1, before, after), sym at ∙ h.2, h.3 ∙ kind_is)
+unread_since name number late whole WriteFault told before after at kind_is h = absurd h
+unread_since name number late whole (NotWritten file) told before after at kind_is h = absurd h
+unread_since name number late whole (FileRefused i reason) told before after at kind_is h = absurd h
+unread_since name number late whole NoTriangles told before after at kind_is h = absurd h
+unread_since name number late whole NotAScene told before after at kind_is h = absurd h
+unread_since name number late whole (NotClosed o format) told before after at kind_is h = absurd h
+unread_since name number late whole (ExprRefused fault) told before after at kind_is h = absurd h
+unread_since name number late whole Unbounded told before after at kind_is h = absurd h
+unread_since name number late whole (LongFile i) told before after at kind_is h =
     (h.0, subst (λ (told : List ℕ → Option (List ℕ)). TellsMore (told name) 268435456) told h.1)
-unread_since name number late whole (TooManyTriangles count) told before after at h = absurd h
-unread_since name number late whole TooManyWritten told before after at h = absurd h
-unread_since name number late whole (StepTooSmall extent) told before after at h = absurd h
-unread_since name number late whole TooFar told before after at h = absurd h
-unread_since name number late whole (DocumentRefused fault) told before after at h = absurd h
-unread_since name number late whole OutOfMemory told before after at h = tt
-unread_since name number late whole (Uncertified fault) told before after at h = absurd h
+unread_since name number late whole (TooManyTriangles count) told before after at kind_is h = absurd h
+unread_since name number late whole TooManyWritten told before after at kind_is h = absurd h
+unread_since name number late whole (StepTooSmall extent) told before after at kind_is h = absurd h
+unread_since name number late whole TooFar told before after at kind_is h = absurd h
+unread_since name number late whole (DocumentRefused fault) told before after at kind_is h = absurd h
+unread_since name number late whole OutOfMemory told before after at kind_is h = tt
+unread_since name number late whole (Uncertified fault) told before after at kind_is h = absurd h
 
 -- file i isn't read, and those before it are scenes
 unread_stop : (request : ExportRequest) (shelf : ShelfCall) (name : List ℕ) (i : ℕ) (status : Status) →
@@ -64,8 +65,9 @@ unread_stop : (request : ExportRequest) (shelf : ShelfCall) (name : List ℕ) (i
 unread_stop request shelf name i Done one named before h = absurd h
 unread_stop request shelf name i (Words refusal) one named before h = absurd h
 unread_stop request shelf name i StepOfNoGrid one named before h = absurd h
-unread_stop request shelf name i (ReadFault number) one named before h =
-    subst (λ (k : ℕ). IsFileUnread request shelf k) (sym h.0) (record { one_of = one; failed = h.1; place = h.2 ∙ h.0; before = before })
+unread_stop request shelf name i (ReadFault number kind) one named before h =
+    subst (λ (k : ℕ). IsFileUnread request shelf k kind) (sym h.0)
+    (record { one_of = one; failed = h.1; place = h.2 ∙ h.0; kind_is = h.3; before = before })
 unread_stop request shelf name i WriteFault one named before h = absurd h
 unread_stop request shelf name i (NotWritten file) one named before h = absurd h
 unread_stop request shelf name i (FileRefused number reason) one named before h = absurd h
@@ -125,7 +127,7 @@ pub grid_stop : (request : ExportRequest) (shelf : ShelfCall) (name bytes : List
 grid_stop request shelf name bytes Done e are h = absurd h
 grid_stop request shelf name bytes (Words refusal) e are h = absurd h
 grid_stop request shelf name bytes StepOfNoGrid e are h = absurd h
-grid_stop request shelf name bytes (ReadFault i) e are h = absurd h
+grid_stop request shelf name bytes (ReadFault i kind) e are h = absurd h
 grid_stop request shelf name bytes WriteFault e are h = absurd h
 grid_stop request shelf name bytes (NotWritten file) e are h = absurd h
 grid_stop request shelf name bytes (FileRefused i reason) e are h = absurd h
@@ -163,7 +165,7 @@ pub stop_tells_memory : (request : ExportRequest) (shelf : ShelfCall) (status : 
 stop_tells_memory request shelf Done h = absurd h
 stop_tells_memory request shelf (Words refusal) h = absurd h
 stop_tells_memory request shelf StepOfNoGrid h = absurd h
-stop_tells_memory request shelf (ReadFault i) h = refl
+stop_tells_memory request shelf (ReadFault i kind) h = refl
 stop_tells_memory request shelf WriteFault h = absurd h
 stop_tells_memory request shelf (NotWritten file) h = absurd h
 stop_tells_memory request shelf (FileRefused i reason) h = absurd h

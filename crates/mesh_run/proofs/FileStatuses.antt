@@ -15,6 +15,7 @@ use Rattle.mesh_file.specs.declared.file.fault.FileFault.{FileFault}
 use Rattle.mesh_boolean.specs.declared.wanted.WantedFile.{WantedFile}
 use Rattle.mesh_grid.specs.declared.grid.choice.Wanted.{Wanted}
 use Rattle.mesh_scene.specs.declared.scene.fault.SceneFault.TheVariants as scene
+use Rattle.ember_io.specs.declared.shelf.FaultKind.{FaultKind}
 use Rattle.ember_io.specs.declared.shelf.ReadEnd.{ReadEnd}
 use Rattle.ember_io.specs.declared.shelf.ReadEnd.TheVariants as read
 use Rattle.ember_io.specs.Shelves.{TellsMore}
@@ -41,7 +42,7 @@ refusal_is_cause : (names : List (List ℕ)) (shelf : ShelfCall) (status : Statu
 refusal_is_cause names shelf Done h = absurd h
 refusal_is_cause names shelf (Words refusal) h = absurd h
 refusal_is_cause names shelf StepOfNoGrid h = absurd h
-refusal_is_cause names shelf (ReadFault i) h = absurd h
+refusal_is_cause names shelf (ReadFault i kind) h = absurd h
 refusal_is_cause names shelf WriteFault h = absurd h
 refusal_is_cause names shelf (NotWritten file) h = absurd h
 refusal_is_cause names shelf (FileRefused i reason) h = h
@@ -59,24 +60,26 @@ refusal_is_cause names shelf (DocumentRefused fault) h = absurd h
 refusal_is_cause names shelf OutOfMemory h = tt
 refusal_is_cause names shelf (Uncertified fault) h = absurd h
 
-ended : (names : List (List ℕ)) (shelf : ShelfCall) (i : ℕ) (end : ReadEnd) → IsFileIn names i →
-    AreRead shelf.told (take (i - 1) names) → (end ≡ read.ReadFault → HasShelfFailed shelf × (shelf.fault_at ≡ i)) →
+ended : (names : List (List ℕ)) (shelf : ShelfCall) (i : ℕ) (end : ReadEnd) (kind : FaultKind) → IsFileIn names i →
+    kind ≡ shelf.fault_kind → AreRead shelf.told (take (i - 1) names) →
+    (end ≡ read.ReadFault → HasShelfFailed shelf × (shelf.fault_at ≡ i)) →
     ((count : ℕ) → end ≡ read.TooLong count → TellsMore (shelf.told (name_of names i)) 268435456) →
-    IsReadingCause names shelf (end_status i end)
-ended names shelf i read.ReadFault one before failed long =
-    let f = failed refl in record { one_of = one; failed = f.0; place = f.1; before = before }
-ended names shelf i (read.TooLong count) one before failed long = record { one_of = one; long = long count refl; before = before }
-ended names shelf i read.OutOfMemory one before failed long = tt
+    IsReadingCause names shelf (end_status i end kind)
+ended names shelf i read.ReadFault kind one is before failed long =
+    let f = failed refl in record { one_of = one; failed = f.0; place = f.1; kind_is = is; before = before }
+ended names shelf i (read.TooLong count) kind one is before failed long =
+    record { one_of = one; long = long count refl; before = before }
+ended names shelf i read.OutOfMemory kind one is before failed long = tt
 
 -- why reading ended at file i is why not all files are read
-pub end_is_cause : (names : List (List ℕ)) (shelf : ShelfCall) (i : ℕ) (end : ReadEnd) (status : Status) →
-    IsFileIn names i → IsEndAt shelf.told names i end status →
+pub end_is_cause : (names : List (List ℕ)) (shelf : ShelfCall) (i : ℕ) (end : ReadEnd) (kind : FaultKind)
+    (status : Status) → IsFileIn names i → kind ≡ shelf.fault_kind → IsEndAt shelf.told names i end kind status →
     (end ≡ read.ReadFault → HasShelfFailed shelf × (shelf.fault_at ≡ i)) →
     ((count : ℕ) → end ≡ read.TooLong count → TellsMore (shelf.told (name_of names i)) 268435456) →
     IsReadingCause names shelf status
-end_is_cause names shelf i end status one (inl h) failed long = refusal_is_cause names shelf status h
-end_is_cause names shelf i end status one (inr h) failed long =
-    subst (λ (s : Status). IsReadingCause names shelf s) (sym h.0) (ended names shelf i end one h.1 failed long)
+end_is_cause names shelf i end kind status one is (inl h) failed long = refusal_is_cause names shelf status h
+end_is_cause names shelf i end kind status one is (inr h) failed long =
+    subst (λ (s : Status). IsReadingCause names shelf s) (sym h.0) (ended names shelf i end kind one is h.1 failed long)
 
 -- ---- the file of a fault
 -- a file that isn't read is one of the files
@@ -187,7 +190,7 @@ module _ (told : List ℕ → Option (List ℕ)) (names : List (List ℕ)) (file
   placing_is_cause formula wanted Done h = h
   placing_is_cause formula wanted (Words refusal) h = h
   placing_is_cause formula wanted StepOfNoGrid h = h
-  placing_is_cause formula wanted (ReadFault i) h = h
+  placing_is_cause formula wanted (ReadFault i kind) h = h
   placing_is_cause formula wanted WriteFault h = h
   placing_is_cause formula wanted (NotWritten file) h = h
   placing_is_cause formula wanted (FileRefused i reason) h = h
@@ -244,7 +247,7 @@ pub cause_among_more : (told : List ℕ → Option (List ℕ)) (names : List (Li
 cause_among_more told names n Done l h = absurd h
 cause_among_more told names n (Words refusal) l h = absurd h
 cause_among_more told names n StepOfNoGrid l h = absurd h
-cause_among_more told names n (ReadFault i) l h = absurd h
+cause_among_more told names n (ReadFault i kind) l h = absurd h
 cause_among_more told names n WriteFault l h = absurd h
 cause_among_more told names n (NotWritten file) l h = absurd h
 cause_among_more told names n (FileRefused i reason) l h = refused_among_more told names n i (string_bytes reason) l h

@@ -58,7 +58,7 @@ module _ (names : List (List ℕ)) (shelf : ShelfCall) where
   refusal_is_reading Done h = h
   refusal_is_reading (Words refusal) h = h
   refusal_is_reading StepOfNoGrid h = h
-  refusal_is_reading (ReadFault i) h = absurd h
+  refusal_is_reading (ReadFault i kind) h = absurd h
   refusal_is_reading WriteFault h = h
   refusal_is_reading (NotWritten file) h = h
   refusal_is_reading (FileRefused i reason) h = h
@@ -81,7 +81,7 @@ module _ (names : List (List ℕ)) (shelf : ShelfCall) where
   reading_tells_memory Done h = absurd h
   reading_tells_memory (Words refusal) h = absurd h
   reading_tells_memory StepOfNoGrid h = absurd h
-  reading_tells_memory (ReadFault i) h = refl
+  reading_tells_memory (ReadFault i kind) h = refl
   reading_tells_memory WriteFault h = absurd h
   reading_tells_memory (NotWritten file) h = absurd h
   reading_tells_memory (FileRefused i reason) h = refl
@@ -107,7 +107,7 @@ module _ (names : List (List ℕ)) (shelf : ShelfCall) (out : SinkCall) where
   unread_outcome Done text h same e = absurd h
   unread_outcome (Words refusal) text h same e = (h, same, e)
   unread_outcome StepOfNoGrid text h same e = (h, same, e)
-  unread_outcome (ReadFault i) text h same e = (h, same, e)
+  unread_outcome (ReadFault i kind) text h same e = (h, same, e)
   unread_outcome WriteFault text h same e = absurd h
   unread_outcome (NotWritten file) text h same e = (h, same, e)
   unread_outcome (FileRefused i reason) text h same e = (h, same, e)
@@ -131,7 +131,7 @@ module _ (names : List (List ℕ)) (shelf : ShelfCall) (out : SinkCall) where
   lines_outcome lines Done text are h = record { lines = lines; are_lines = are; written = h }
   lines_outcome lines (Words refusal) text are h = absurd h
   lines_outcome lines StepOfNoGrid text are h = absurd h
-  lines_outcome lines (ReadFault i) text are h = absurd h
+  lines_outcome lines (ReadFault i kind) text are h = absurd h
   lines_outcome lines WriteFault text are h = record { lines = lines; are_lines = are; written = h }
   lines_outcome lines (NotWritten file) text are h = absurd h
   lines_outcome lines (FileRefused i reason) text are h = absurd h

@@ -46,7 +46,7 @@ pub stop_is_shown : (request : Request) (shelf : ShelfCall) → length request.f
 stop_is_shown request shelf few Done h = tt
 stop_is_shown request shelf few (Words refusal) h = tt
 stop_is_shown request shelf few StepOfNoGrid h = tt
-stop_is_shown request shelf few (ReadFault i) h = tt
+stop_is_shown request shelf few (ReadFault i kind) h = tt
 stop_is_shown request shelf few WriteFault h = tt
 stop_is_shown request shelf few (NotWritten file) h = tt
 stop_is_shown request shelf few (FileRefused i reason) h = tt
@@ -71,7 +71,7 @@ pub snap_stop_is_shown : (request : SnapRequest) (shelf : ShelfCall) → length 
 snap_stop_is_shown request shelf few Done h = tt
 snap_stop_is_shown request shelf few (Words refusal) h = tt
 snap_stop_is_shown request shelf few StepOfNoGrid h = tt
-snap_stop_is_shown request shelf few (ReadFault i) h = tt
+snap_stop_is_shown request shelf few (ReadFault i kind) h = tt
 snap_stop_is_shown request shelf few WriteFault h = tt
 snap_stop_is_shown request shelf few (NotWritten file) h = tt
 snap_stop_is_shown request shelf few (FileRefused i reason) h = tt

@@ -21,7 +21,7 @@ module _ (request : SnapRequest) (shelf : ShelfCall) (wanted : Wanted) (asks : I
   reading_stop Done h = absurd h
   reading_stop (Words refusal) h = absurd h
   reading_stop StepOfNoGrid h = absurd h
-  reading_stop (ReadFault i) h = record { wanted = wanted; asks = asks; cause = h }
+  reading_stop (ReadFault i kind) h = record { wanted = wanted; asks = asks; cause = h }
   reading_stop WriteFault h = absurd h
   reading_stop (NotWritten file) h = absurd h
   reading_stop (FileRefused i reason) h = record { wanted = wanted; asks = asks; cause = h }
@@ -44,7 +44,7 @@ module _ (request : SnapRequest) (shelf : ShelfCall) (wanted : Wanted) (asks : I
   placing_stop Done h = absurd h
   placing_stop (Words refusal) h = absurd h
   placing_stop StepOfNoGrid h = absurd h
-  placing_stop (ReadFault i) h = absurd h
+  placing_stop (ReadFault i kind) h = absurd h
   placing_stop WriteFault h = absurd h
   placing_stop (NotWritten file) h = absurd h
   placing_stop (FileRefused i reason) h = record { wanted = wanted; asks = asks; cause = h }
@@ -71,7 +71,7 @@ pub stop_tells_memory : (request : SnapRequest) (shelf : ShelfCall) (status : St
 stop_tells_memory request shelf Done h = refl
 stop_tells_memory request shelf (Words refusal) h = refl
 stop_tells_memory request shelf StepOfNoGrid h = refl
-stop_tells_memory request shelf (ReadFault i) h = refl
+stop_tells_memory request shelf (ReadFault i kind) h = refl
 stop_tells_memory request shelf WriteFault h = refl
 stop_tells_memory request shelf (NotWritten file) h = refl
 stop_tells_memory request shelf (FileRefused i reason) h = refl

@@ -23,7 +23,7 @@ pub words_stop : (request : Request) (shelf : ShelfCall) (status : Status) → I
 words_stop request shelf Done h = absurd h.2
 words_stop request shelf (Words refusal) h = absurd h.2
 words_stop request shelf StepOfNoGrid h = h
-words_stop request shelf (ReadFault i) h = absurd h.2
+words_stop request shelf (ReadFault i kind) h = absurd h.2
 words_stop request shelf WriteFault h = absurd h.2
 words_stop request shelf (NotWritten file) h = absurd h.2
 words_stop request shelf (FileRefused i reason) h = absurd h.2
@@ -47,7 +47,7 @@ module _ (request : Request) (shelf : ShelfCall) (formula : Formula) (wanted : W
   asked_stop Done h = absurd h
   asked_stop (Words refusal) h = absurd h
   asked_stop StepOfNoGrid h = absurd h
-  asked_stop (ReadFault i) h = record { wanted = wanted; formula = formula; asks = asks; cause = h }
+  asked_stop (ReadFault i kind) h = record { wanted = wanted; formula = formula; asks = asks; cause = h }
   asked_stop WriteFault h = absurd h
   asked_stop (NotWritten file) h = absurd h
   asked_stop (FileRefused i reason) h = record { wanted = wanted; formula = formula; asks = asks; cause = h }
@@ -70,7 +70,7 @@ module _ (request : Request) (shelf : ShelfCall) (formula : Formula) (wanted : W
   reading_stop Done h = absurd h
   reading_stop (Words refusal) h = absurd h
   reading_stop StepOfNoGrid h = absurd h
-  reading_stop (ReadFault i) h = asked_stop (ReadFault i) h
+  reading_stop (ReadFault i kind) h = asked_stop (ReadFault i kind) h
   reading_stop WriteFault h = absurd h
   reading_stop (NotWritten file) h = absurd h
   reading_stop (FileRefused i reason) h = asked_stop (FileRefused i reason) h
@@ -93,7 +93,7 @@ module _ (request : Request) (shelf : ShelfCall) (formula : Formula) (wanted : W
   files_stop Done h = absurd h
   files_stop (Words refusal) h = absurd h
   files_stop StepOfNoGrid h = absurd h
-  files_stop (ReadFault i) h = absurd h
+  files_stop (ReadFault i kind) h = absurd h
   files_stop WriteFault h = absurd h
   files_stop (NotWritten file) h = absurd h
   files_stop (FileRefused i reason) h = asked_stop (FileRefused i reason) h
@@ -116,7 +116,7 @@ pub stop_tells_memory : (request : Request) (shelf : ShelfCall) (status : Status
 stop_tells_memory request shelf Done h = absurd h
 stop_tells_memory request shelf (Words refusal) h = absurd h
 stop_tells_memory request shelf StepOfNoGrid h = refl
-stop_tells_memory request shelf (ReadFault i) h = refl
+stop_tells_memory request shelf (ReadFault i kind) h = refl
 stop_tells_memory request shelf WriteFault h = absurd h
 stop_tells_memory request shelf (NotWritten file) h = absurd h
 stop_tells_memory request shelf (FileRefused i reason) h = refl

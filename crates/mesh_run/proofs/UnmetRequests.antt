@@ -28,7 +28,7 @@ pub unwritten_status_stops : (files : List NamedBytes) (target : TargetCall) (na
 unwritten_status_stops files target name why Done before h = absurd h
 unwritten_status_stops files target name why (Words refusal) before h = absurd h
 unwritten_status_stops files target name why StepOfNoGrid before h = absurd h
-unwritten_status_stops files target name why (ReadFault i) before h = absurd h
+unwritten_status_stops files target name why (ReadFault i kind) before h = absurd h
 unwritten_status_stops files target name why WriteFault before h = absurd h
 unwritten_status_stops files target name why (NotWritten file) before h = (
   why,
@@ -59,7 +59,7 @@ module _ (IsCause : Status → Type 0) (AreFiles : List NamedBytes → Type 0) (
   cause_is_unmet Done never same h memory = (h, same, memory)
   cause_is_unmet (Words refusal) never same h memory = (h, same, memory)
   cause_is_unmet StepOfNoGrid never same h memory = (h, same, memory)
-  cause_is_unmet (ReadFault i) never same h memory = (h, same, memory)
+  cause_is_unmet (ReadFault i kind) never same h memory = (h, same, memory)
   cause_is_unmet WriteFault never same h memory = (h, same, memory)
   cause_is_unmet (NotWritten file) never same h memory = absurd (never file h)
   cause_is_unmet (FileRefused i reason) never same h memory = (h, same, memory)
@@ -82,7 +82,7 @@ module _ (IsCause : Status → Type 0) (AreFiles : List NamedBytes → Type 0) (
   stop_is_unmet files are Done h = absurd h
   stop_is_unmet files are (Words refusal) h = absurd h
   stop_is_unmet files are StepOfNoGrid h = absurd h
-  stop_is_unmet files are (ReadFault i) h = absurd h
+  stop_is_unmet files are (ReadFault i kind) h = absurd h
   stop_is_unmet files are WriteFault h = absurd h
   stop_is_unmet files are (NotWritten file) h = (h.0, h.1, record { files = files; are_files = are; before = h.2 })
   stop_is_unmet files are (FileRefused i reason) h = absurd h
@@ -105,7 +105,7 @@ module _ (IsCause : Status → Type 0) (AreFiles : List NamedBytes → Type 0) (
   unmet_lacks_memory Done h = inl h.1
   unmet_lacks_memory (Words refusal) h = inl h.1
   unmet_lacks_memory StepOfNoGrid h = inl h.1
-  unmet_lacks_memory (ReadFault i) h = inl h.1
+  unmet_lacks_memory (ReadFault i kind) h = inl h.1
   unmet_lacks_memory WriteFault h = inl h.1
   unmet_lacks_memory (NotWritten file) h = inr (string_bytes file, h.0, h.2)
   unmet_lacks_memory (FileRefused i reason) h = inl h.1
@@ -128,7 +128,7 @@ module _ (IsCause : Status → Type 0) (AreFiles : List NamedBytes → Type 0) (
   unmet_tells_memory Done h = h.2
   unmet_tells_memory (Words refusal) h = h.2
   unmet_tells_memory StepOfNoGrid h = h.2
-  unmet_tells_memory (ReadFault i) h = h.2
+  unmet_tells_memory (ReadFault i kind) h = h.2
   unmet_tells_memory WriteFault h = h.2
   unmet_tells_memory (NotWritten file) h = refl
   unmet_tells_memory (FileRefused i reason) h = h.2
@@ -151,7 +151,7 @@ module _ (IsCause : Status → Type 0) (AreFiles : List NamedBytes → Type 0) (
   unmet_is_shown shown Done h = shown Done h.0
   unmet_is_shown shown (Words refusal) h = shown (Words refusal) h.0
   unmet_is_shown shown StepOfNoGrid h = shown StepOfNoGrid h.0
-  unmet_is_shown shown (ReadFault i) h = shown (ReadFault i) h.0
+  unmet_is_shown shown (ReadFault i kind) h = shown (ReadFault i kind) h.0
   unmet_is_shown shown WriteFault h = shown WriteFault h.0
   unmet_is_shown shown (NotWritten file) h = tt
   unmet_is_shown shown (FileRefused i reason) h = shown (FileRefused i reason) h.0
@@ -177,7 +177,7 @@ module _ (IsCause : Status → Type 0) (AreFiles : List NamedBytes → Type 0) (
   unmet_ends Writes why never Done text h e = absurd (never h.0)
   unmet_ends Writes why never (Words refusal) text h e = (h, e)
   unmet_ends Writes why never StepOfNoGrid text h e = (h, e)
-  unmet_ends Writes why never (ReadFault i) text h e = (h, e)
+  unmet_ends Writes why never (ReadFault i kind) text h e = (h, e)
   unmet_ends Writes why never WriteFault text h e = (h, e)
   unmet_ends Writes why never (NotWritten file) text h e = (h, e)
   unmet_ends Writes why never (FileRefused i reason) text h e = (h, e)

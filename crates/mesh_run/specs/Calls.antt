@@ -4,6 +4,7 @@ use Rattle.std.specs.declared.option.Option.{Option}
 use Rattle.std.specs.Io.KnownBytes.{Appends}
 use Rattle.ember_io.specs.Causes.{HasRisen}
 use Rattle.ember_io.specs.Sinks.{AppendsPrefix, IsFlushed}
+use Rattle.ember_io.specs.declared.shelf.FaultKind.{FaultKind}
 use Rattle.mesh_outside.specs.Target.Targets.{Names, HoldsSame}
 
 -- what a call saw of a shelf
@@ -14,8 +15,9 @@ pub record ShelfCall : Type 0 where
   -- how often it had failed
   pub faults : ℕ
   pub faults_after : ℕ
-  -- the number of the file at which the last fault occurred
+  -- the number of the file at which the last fault occurred, and of which kind it was
   pub fault_at : ℕ
+  pub fault_kind : FaultKind
 
 -- what a call saw of a target
 pub record TargetCall : Type 0 where
@@ -40,14 +42,16 @@ pub record SinkCall : Type 0 where
   pub faults_after : ℕ
 
 -- ---- the calls, by what contracts see of a device
-abbrev pub shelf_call : {S : Type 0} → (S → List ℕ → Option (List ℕ)) → (S → ℕ) → (S → ℕ) → S → S → ShelfCall
-shelf_call contents faults fault_at old new =
+abbrev pub shelf_call : {S : Type 0} → (S → List ℕ → Option (List ℕ)) → (S → ℕ) → (S → ℕ) →
+    (S → FaultKind) → S → S → ShelfCall
+shelf_call contents faults fault_at fault_kind old new =
     record {
       told = contents old;
       told_after = contents new;
       faults = faults old;
       faults_after = faults new;
       fault_at = fault_at new;
+      fault_kind = fault_kind new;
     }
 
 abbrev pub target_call : {T : Type 0} → (T → Option Names) → (T → Option (List ℕ)) → (T → ℕ) → T → T → TargetCall

@@ -10,6 +10,7 @@ use Rattle.mesh_file.specs.declared.file.fault.FileFault.{FileFault}
 use Rattle.mesh_file.specs.declared.format.format.Format.{Format}
 use Rattle.mesh_grid.specs.declared.grid.choice.Wanted.{Wanted}
 use Rattle.ember_io.specs.Shelves.{TellsMore}
+use Rattle.ember_io.specs.declared.shelf.FaultKind.{FaultKind}
 use Rattle.ember_io.specs.declared.shelf.ReadEnd.{ReadEnd}
 use Rattle.ember_io.specs.declared.shelf.ReadEnd.TheVariants as read
 use Rattle.mesh_words.specs.declared.command.Request.{Request}
@@ -32,11 +33,12 @@ use Rattle.mesh_report.specs.declared.status.Status.TheVariants.{StepTooSmall, T
 use Rattle.mesh_report.specs.declared.status.Status.TheVariants.{Uncertified}
 
 -- ---- a file and those before it
--- the shelf failed at file i, and no file before it is refused
-pub record IsUnreadable (shelf : ShelfCall) (names : List (List ℕ)) (i : ℕ) : Type 0 where
+-- the shelf failed at file i, by a fault of this kind, and no file before it is refused
+pub record IsUnreadable (shelf : ShelfCall) (names : List (List ℕ)) (i : ℕ) (kind : FaultKind) : Type 0 where
   pub one_of : IsFileIn names i
   pub failed : HasShelfFailed shelf
   pub place : shelf.fault_at ≡ i
+  pub kind_is : kind ≡ shelf.fault_kind
   pub before : AreRead shelf.told (take (i - 1) names)
 
 -- file i has more than 2^28 bytes, and no file before it is refused
@@ -62,20 +64,21 @@ IsRefusalCause told names status = ⊥
 
 -- why not all files are read
 abbrev pub IsReadingCause : List (List ℕ) → ShelfCall → Status → Type 0
-IsReadingCause names shelf (ReadFault i) = IsUnreadable shelf names i
+IsReadingCause names shelf (ReadFault i kind) = IsUnreadable shelf names i kind
 IsReadingCause names shelf (LongFile i) = IsLong shelf.told names i
 IsReadingCause names shelf status = IsRefusalCause shelf.told names status
 
--- the status that comes of the way in which reading file i ended, if no file before it is refused
-abbrev pub end_status : ℕ → ReadEnd → Status
-end_status i read.ReadFault = ReadFault i
-end_status i (read.TooLong count) = LongFile i
-end_status i read.OutOfMemory = OutOfMemory
+-- the status that comes of the way in which reading file i ended, if no file before it is refused; the shelf's last
+-- fault was of this kind
+abbrev pub end_status : ℕ → ReadEnd → FaultKind → Status
+end_status i read.ReadFault kind = ReadFault i kind
+end_status i (read.TooLong count) kind = LongFile i
+end_status i read.OutOfMemory kind = OutOfMemory
 
 -- a file before file i is refused, or none is, and this is the status of its end
-abbrev pub IsEndAt : (List ℕ → Option (List ℕ)) → List (List ℕ) → ℕ → ReadEnd → Status → Type 0
-IsEndAt told names i end status =
-    IsRefusalCause told names status ⊎ ((status ≡ end_status i end) × AreRead told (take (i - 1) names))
+abbrev pub IsEndAt : (List ℕ → Option (List ℕ)) → List (List ℕ) → ℕ → ReadEnd → FaultKind → Status → Type 0
+IsEndAt told names i end kind status =
+    IsRefusalCause told names status ⊎ ((status ≡ end_status i end kind) × AreRead told (take (i - 1) names))
 
 -- ---- all files together
 -- the files have a fault
@@ -120,7 +123,7 @@ IsFilesCause told names formula wanted status = IsPlacingCause told names wanted
 -- ---- a Boolean
 -- why a request that asks for something gets no output
 abbrev pub IsAskedCause : Request → Formula → WantedFile → ShelfCall → Status → Type 0
-IsAskedCause request formula wanted shelf (ReadFault i) = IsReadingCause request.files shelf (ReadFault i)
+IsAskedCause request formula wanted shelf (ReadFault i kind) = IsReadingCause request.files shelf (ReadFault i kind)
 IsAskedCause request formula wanted shelf (LongFile i) = IsReadingCause request.files shelf (LongFile i)
 IsAskedCause request formula wanted shelf status = IsFilesCause shelf.told request.files formula wanted status
 
@@ -147,7 +150,7 @@ IsStop request shelf status = IsLateCause request shelf status
 -- ---- meshes on their grid
 -- why files aren't put on the grid that is wanted for them
 abbrev pub IsSceneCause : List (List ℕ) → Wanted → ShelfCall → Status → Type 0
-IsSceneCause names wanted shelf (ReadFault i) = IsReadingCause names shelf (ReadFault i)
+IsSceneCause names wanted shelf (ReadFault i kind) = IsReadingCause names shelf (ReadFault i kind)
 IsSceneCause names wanted shelf (LongFile i) = IsReadingCause names shelf (LongFile i)
 IsSceneCause names wanted shelf status = IsPlacingCause shelf.told names wanted status
 

@@ -7,6 +7,7 @@ use Rattle.mesh_boolean.specs.declared.writing.Written.{Written}
 use Rattle.mesh_boolean.specs.DocumentFiles.{IsDocumentFileFault, IsDocumentOutput}
 use Rattle.mesh_grid.specs.declared.grid.grid.Grid.{Grid}
 use Rattle.ember_io.specs.Shelves.{TellsMore}
+use Rattle.ember_io.specs.declared.shelf.FaultKind.{FaultKind}
 use Rattle.mesh_words.specs.declared.command.ExportRequest.{ExportRequest}
 use Rattle.mesh_scene.specs.SceneFile.Scenes.{IsSceneOf}
 use Rattle.mesh_run.specs.Asked.{format_asked}
@@ -51,11 +52,12 @@ pub record IsExport (request : ExportRequest) (told : List ℕ → Option (List 
 abbrev pub IsScene : (List ℕ → Option (List ℕ)) → List ℕ → Type 0
 IsScene told name = (grid : Grid) × IsSceneFile told name grid
 
--- the shelf failed at file i; if this is the document, the scene before it was read
-pub record IsFileUnread (request : ExportRequest) (shelf : ShelfCall) (i : ℕ) : Type 0 where
+-- the shelf failed at file i, by a fault of this kind; if this is the document, the scene before it was read
+pub record IsFileUnread (request : ExportRequest) (shelf : ShelfCall) (i : ℕ) (kind : FaultKind) : Type 0 where
   pub one_of : IsFileIn (names_read request) i
   pub failed : HasShelfFailed shelf
   pub place : shelf.fault_at ≡ i
+  pub kind_is : kind ≡ shelf.fault_kind
   pub before : All (IsScene shelf.told) (take (i - 1) (names_read request))
 
 -- file i has more than 2^28 bytes
@@ -82,7 +84,8 @@ document_index request = index_behind request.scene
 
 -- why the file of this name, which is read under this number, isn't read
 abbrev pub IsUnreadFile : List ℕ → ℕ → ShelfCall → Status → Type 0
-IsUnreadFile name number shelf (ReadFault i) = (i ≡ number) × HasShelfFailed shelf × (shelf.fault_at ≡ i)
+IsUnreadFile name number shelf (ReadFault i kind) =
+    (i ≡ number) × HasShelfFailed shelf × (shelf.fault_at ≡ i) × (kind ≡ shelf.fault_kind)
 IsUnreadFile name number shelf (LongFile i) = (i ≡ number) × TellsMore (shelf.told name) 268435456
 IsUnreadFile name number shelf OutOfMemory = ⊤
 IsUnreadFile name number shelf status = ⊥
@@ -112,7 +115,7 @@ status_of_document document.OutOfMemory = OutOfMemory
 
 -- why a document isn't exported: a file, or the document itself; of want of memory nothing is said
 abbrev pub IsExportStop : ExportRequest → ShelfCall → Status → Type 0
-IsExportStop request shelf (ReadFault i) = IsFileUnread request shelf i
+IsExportStop request shelf (ReadFault i kind) = IsFileUnread request shelf i kind
 IsExportStop request shelf (LongFile i) = IsFileLong request shelf.told i
 IsExportStop request shelf NotAScene = IsNoScene request shelf.told
 IsExportStop request shelf (DocumentRefused fault) = HasDocumentFault request shelf.told (document.Document fault)

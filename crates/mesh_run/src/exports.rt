@@ -42,14 +42,14 @@ fn bytes_in<S: Shelf>(
     name: &Text,
     number: u32,
 ) -> Result<Vec<u8>, Status>
-    ensures contents { KeepsContents (shelf_call S.contents S.faults S.fault_at shelf.old shelf.new) }
+    ensures contents { KeepsContents (shelf_call S.contents S.faults S.fault_at S.fault_kind shelf.old shelf.new) }
     ensures bytes { IfOk result (λ bytes. AreBytes (S.contents shelf.old) name.now bytes.items) }
     ensures cause { IfErr result (IsUnreadFile name.now number
-        (shelf_call S.contents S.faults S.fault_at shelf.old shelf.new)) }
+        (shelf_call S.contents S.faults S.fault_at S.fault_kind shelf.old shelf.new)) }
 {
     match read_all(alloc, shelf, name.as_str(), number, MOST_BYTES) {
         Ok(bytes) => Ok(bytes),
-        Err(ReadEnd::ReadFault) => Err(Status::ReadFault(number)),
+        Err(ReadEnd::ReadFault) => Err(Status::ReadFault(number, shelf.last_fault())),
         Err(ReadEnd::TooLong(_)) => Err(Status::LongFile(number)),
         Err(ReadEnd::OutOfMemory) => Err(Status::OutOfMemory),
     }
@@ -73,11 +73,11 @@ fn grid_given<S: Shelf>(
     request: &ExportRequest,
     shelf: &mut S,
 ) -> Result<Grid, Status>
-    ensures contents { KeepsContents (shelf_call S.contents S.faults S.fault_at shelf.old shelf.new) }
+    ensures contents { KeepsContents (shelf_call S.contents S.faults S.fault_at S.fault_kind shelf.old shelf.new) }
     ensures step { IfOk result (λ grid. IsStep grid.step) }
     ensures grid { IfOk result (IsGridGiven request.now (S.contents shelf.old)) }
     ensures stop { IfErr result
-        (IsExportStop request.now (shelf_call S.contents S.faults S.fault_at shelf.old shelf.new)) }
+        (IsExportStop request.now (shelf_call S.contents S.faults S.fault_at S.fault_kind shelf.old shelf.new)) }
 {
     let Some(name) = &request.scene else {
         return Ok(unit_grid());
@@ -114,10 +114,10 @@ fn mesh_for<S: Shelf>(
     shelf: &mut S,
 ) -> Result<Written, Status>
     requires { IfSome request.now.digits (λ n. n ≤ 17) }
-    ensures contents { KeepsContents (shelf_call S.contents S.faults S.fault_at shelf.old shelf.new) }
+    ensures contents { KeepsContents (shelf_call S.contents S.faults S.fault_at S.fault_kind shelf.old shelf.new) }
     ensures mesh { IfOk result (IsExport request.now (S.contents shelf.old)) }
     ensures stop { IfErr result
-        (IsExportStop request.now (shelf_call S.contents S.faults S.fault_at shelf.old shelf.new)) }
+        (IsExportStop request.now (shelf_call S.contents S.faults S.fault_at S.fault_kind shelf.old shelf.new)) }
 {
     let grid = match grid_given(alloc, request, shelf) {
         Ok(grid) => grid,
@@ -144,15 +144,15 @@ fn write_export<S: Shelf, T: Target>(
 ) -> Result<Sending, Status>
     requires digits { IfSome request.now.digits (λ n. n ≤ 17) }
     requires begun { T.begun target.old ≡ None }
-    ensures contents { KeepsContents (shelf_call S.contents S.faults S.fault_at shelf.old shelf.new) }
+    ensures contents { KeepsContents (shelf_call S.contents S.faults S.fault_at S.fault_kind shelf.old shelf.new) }
     ensures none_begun { T.begun target.new ≡ None }
     ensures later { T.faults target.old ≤ T.faults target.new }
     ensures written { IfOk result (λ sending. PutsExport request.now
-        (shelf_call S.contents S.faults S.fault_at shelf.old shelf.new)
+        (shelf_call S.contents S.faults S.fault_at S.fault_kind shelf.old shelf.new)
         (target_call T.held T.begun T.faults target.old target.new)
         (option_map (λ bytes. bytes.items) sending.sent) sending.report.items) }
     ensures stop { IfErr result (IsExportUnmet request.now
-        (shelf_call S.contents S.faults S.fault_at shelf.old shelf.new)
+        (shelf_call S.contents S.faults S.fault_at S.fault_kind shelf.old shelf.new)
         (target_call T.held T.begun T.faults target.old target.new)) }
 {
     let mesh = match mesh_for(alloc, request, shelf) {
@@ -182,12 +182,12 @@ pub fn serve_export<S: Shelf, T: Target, O: Sink, E: Sink>(
 ) -> Status
     requires digits { IfSome request.now.digits (λ n. n ≤ 17) }
     requires begun { T.begun target.old ≡ None }
-    ensures contents { KeepsContents (shelf_call S.contents S.faults S.fault_at shelf.old shelf.new) }
+    ensures contents { KeepsContents (shelf_call S.contents S.faults S.fault_at S.fault_kind shelf.old shelf.new) }
     ensures none_begun { T.begun target.new ≡ None }
     ensures later { T.faults target.old ≤ T.faults target.new }
     ensures later_out { O.faults out.old ≤ O.faults out.new }
     ensures outcome { (text : List ℕ) × IsExportOutcome request.now
-        (shelf_call S.contents S.faults S.fault_at shelf.old shelf.new)
+        (shelf_call S.contents S.faults S.fault_at S.fault_kind shelf.old shelf.new)
         (target_call T.held T.begun T.faults target.old target.new)
         (sink_call O.taken O.flushed O.faults out.old out.new) result text ×
         TakesUntilFault (sink_call E.taken E.flushed E.faults err.old err.new) text }

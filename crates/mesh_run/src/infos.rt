@@ -64,10 +64,10 @@ fn infos_of_contents(alloc: Global, names: &[Text], contents: &[Vec<u8>]) -> Res
 // instead.
 fn infos_in<S: Shelf>(alloc: Global, shelf: &mut S, names: &[Text]) -> Result<Vec<u8>, Status>
     requires { length names.now ≤ 64 }
-    ensures contents { KeepsContents (shelf_call S.contents S.faults S.fault_at shelf.old shelf.new) }
+    ensures contents { KeepsContents (shelf_call S.contents S.faults S.fault_at S.fault_kind shelf.old shelf.new) }
     ensures lines { IfOk result (λ lines. AreInfoLines (S.contents shelf.old) names.now lines.items) }
     ensures cause { IfErr result
-        (IsReadingCause names.now (shelf_call S.contents S.faults S.fault_at shelf.old shelf.new)) }
+        (IsReadingCause names.now (shelf_call S.contents S.faults S.fault_at S.fault_kind shelf.old shelf.new)) }
 {
     match read_contents(alloc, shelf, names) {
         Ok(contents) => infos_of_contents(alloc, names, &contents),
@@ -85,10 +85,10 @@ pub fn serve_infos<S: Shelf, O: Sink, E: Sink>(
     err: &mut E,
 ) -> Status
     requires { length names.now ≤ 64 }
-    ensures contents { KeepsContents (shelf_call S.contents S.faults S.fault_at shelf.old shelf.new) }
+    ensures contents { KeepsContents (shelf_call S.contents S.faults S.fault_at S.fault_kind shelf.old shelf.new) }
     ensures later { O.faults out.old ≤ O.faults out.new }
     ensures outcome { (text : List ℕ) × IsInfoOutcome names.now
-        (shelf_call S.contents S.faults S.fault_at shelf.old shelf.new)
+        (shelf_call S.contents S.faults S.fault_at S.fault_kind shelf.old shelf.new)
         (sink_call O.taken O.flushed O.faults out.old out.new) result text ×
         TakesUntilFault (sink_call E.taken E.flushed E.faults err.old err.new) text }
     ensures memory { hides_memory result ≡ false }

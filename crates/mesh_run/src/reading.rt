@@ -5,7 +5,7 @@ ghost use Rattle.mesh_run.specs.Calls.{shelf_call};
 ghost use Rattle.mesh_run.specs.Causes.{IsEndAt, IsReadingCause, IsRefusalCause};
 ghost use Rattle.mesh_run.specs.Files.{AreContents, AreReadAs};
 
-use ember_io::{ReadEnd, Shelf, read_all};
+use ember_io::{FaultKind, ReadEnd, Shelf, read_all};
 use ember_model::OutOfMemory;
 use ember_words::Text;
 use mesh_boolean::{MeshFile, surfaces_in};
@@ -63,19 +63,26 @@ pub fn surfaces_of<'a>(
     }
 }
 
-// Why reading ends at the file after these: one of them is refused, or that file can't be read.
-fn status_after(alloc: Global, names: &[Text], contents: &[Vec<u8>], end: ReadEnd) -> Status
+// Why reading ends at the file after these: one of them is refused, or that file can't be read. The
+// shelf's last fault was of this kind.
+fn status_after(
+    alloc: Global,
+    names: &[Text],
+    contents: &[Vec<u8>],
+    end: ReadEnd,
+    kind: FaultKind,
+) -> Status
     requires few { length names.now ≤ 64 }
     requires named { length contents.now < length names.now }
     requires small { All (λ bytes. length bytes.items ≤ 268435456) contents.now }
     ensures { (told : List ℕ → Option (List ℕ)) →
         AreContents told (take (length contents.now) names.now) contents.now →
-        IsEndAt told names.now (length contents.now + 1) end result }
+        IsEndAt told names.now (length contents.now + 1) end kind result }
 {
     let number = contents.len() as u32 + 1;
     match surfaces_of(alloc, names, contents) {
         Ok(_) => match end {
-            ReadEnd::ReadFault => Status::ReadFault(number),
+            ReadEnd::ReadFault => Status::ReadFault(number, kind),
             ReadEnd::TooLong(_) => Status::LongFile(number),
             ReadEnd::OutOfMemory => Status::OutOfMemory,
         },
@@ -98,14 +105,17 @@ pub fn read_contents<S: Shelf>(
     ensures later { S.faults shelf.old ≤ S.faults shelf.new }
     ensures contents { IfOk result (λ contents. AreContents (S.contents shelf.old) names.now contents.items) }
     ensures cause { IfErr result
-        (IsReadingCause names.now (shelf_call S.contents S.faults S.fault_at shelf.old shelf.new)) }
+        (IsReadingCause names.now (shelf_call S.contents S.faults S.fault_at S.fault_kind shelf.old shelf.new)) }
 {
     let mut contents = Vec::with_capacity(alloc, names.len())?;
     for name in names {
         let number = contents.len() as u32 + 1;
         match read_all(alloc, shelf, name.as_str(), number, MOST_BYTES) {
             Ok(bytes) => contents.push(bytes)?,
-            Err(end) => return Err(status_after(alloc, names, &contents, end)),
+            Err(end) => {
+                let kind = shelf.last_fault();
+                return Err(status_after(alloc, names, &contents, end, kind));
+            }
         }
     }
     Ok(contents)

@@ -57,10 +57,10 @@ fn placed_for<S: Shelf, P: Stages>(
     stages: &P,
 ) -> Result<PlacedScene, Status>
     requires { IsWithinSnapLimits request.now }
-    ensures contents { KeepsContents (shelf_call S.contents S.faults S.fault_at shelf.old shelf.new) }
+    ensures contents { KeepsContents (shelf_call S.contents S.faults S.fault_at S.fault_kind shelf.old shelf.new) }
     ensures placed { IfOk result (IsPlacedFor request.now (S.contents shelf.old)) }
     ensures stop { IfErr result
-        (IsSnapStop request.now (shelf_call S.contents S.faults S.fault_at shelf.old shelf.new)) }
+        (IsSnapStop request.now (shelf_call S.contents S.faults S.fault_at S.fault_kind shelf.old shelf.new)) }
 {
     let Some(wanted) = wanted_of(&request.step) else {
         return Err(Status::StepOfNoGrid);
@@ -83,14 +83,14 @@ fn write_scene<S: Shelf, T: Target, P: Stages>(
 ) -> Result<Vec<u8>, Status>
     requires limits { IsWithinSnapLimits request.now }
     requires begun { T.begun target.old ≡ None }
-    ensures contents { KeepsContents (shelf_call S.contents S.faults S.fault_at shelf.old shelf.new) }
+    ensures contents { KeepsContents (shelf_call S.contents S.faults S.fault_at S.fault_kind shelf.old shelf.new) }
     ensures none_begun { T.begun target.new ≡ None }
     ensures later { T.faults target.old ≤ T.faults target.new }
     ensures written { IfOk result (λ report. WritesScene request.now
-        (shelf_call S.contents S.faults S.fault_at shelf.old shelf.new)
+        (shelf_call S.contents S.faults S.fault_at S.fault_kind shelf.old shelf.new)
         (target_call T.held T.begun T.faults target.old target.new) report.items) }
     ensures stop { IfErr result (IsSnapUnmet request.now
-        (shelf_call S.contents S.faults S.fault_at shelf.old shelf.new)
+        (shelf_call S.contents S.faults S.fault_at S.fault_kind shelf.old shelf.new)
         (target_call T.held T.begun T.faults target.old target.new)) }
 {
     let placed = match placed_for(alloc, request, shelf, stages) {
@@ -117,11 +117,11 @@ pub fn serve_snap<S: Shelf, T: Target, E: Sink, P: Stages>(
 ) -> Status
     requires limits { IsWithinSnapLimits request.now }
     requires begun { T.begun target.old ≡ None }
-    ensures contents { KeepsContents (shelf_call S.contents S.faults S.fault_at shelf.old shelf.new) }
+    ensures contents { KeepsContents (shelf_call S.contents S.faults S.fault_at S.fault_kind shelf.old shelf.new) }
     ensures none_begun { T.begun target.new ≡ None }
     ensures later { T.faults target.old ≤ T.faults target.new }
     ensures outcome { (text : List ℕ) × IsSnapOutcome request.now
-        (shelf_call S.contents S.faults S.fault_at shelf.old shelf.new)
+        (shelf_call S.contents S.faults S.fault_at S.fault_kind shelf.old shelf.new)
         (target_call T.held T.begun T.faults target.old target.new) result text ×
         TakesUntilFault (sink_call E.taken E.flushed E.faults err.old err.new) text }
     ensures memory { hides_memory result ≡ false }

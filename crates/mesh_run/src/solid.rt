@@ -94,7 +94,7 @@ fn solid_output<
     ensures later { S.faults shelf.old ≤ S.faults shelf.new }
     ensures output { IfOk result (IsOutputFor request.now (S.contents shelf.old)) }
     ensures stop { IfErr result
-        (IsStop request.now (shelf_call S.contents S.faults S.fault_at shelf.old shelf.new)) }
+        (IsStop request.now (shelf_call S.contents S.faults S.fault_at S.fault_kind shelf.old shelf.new)) }
 {
     let asked = match asked_by(alloc, request) {
         Ok(asked) => asked,
@@ -138,15 +138,15 @@ fn write_solid<
     requires begun { T.begun target.old ≡ None }
     requires executor { IsExecutor C.pre C.post executor.now }
     requires plane_executor { IsPlaneExecutor D.pre D.post plane_executor.now }
-    ensures contents { KeepsContents (shelf_call S.contents S.faults S.fault_at shelf.old shelf.new) }
+    ensures contents { KeepsContents (shelf_call S.contents S.faults S.fault_at S.fault_kind shelf.old shelf.new) }
     ensures none_begun { T.begun target.new ≡ None }
     ensures later { T.faults target.old ≤ T.faults target.new }
     ensures written { IfOk result (λ sending. PutsSolid request.now
-        (shelf_call S.contents S.faults S.fault_at shelf.old shelf.new)
+        (shelf_call S.contents S.faults S.fault_at S.fault_kind shelf.old shelf.new)
         (target_call T.held T.begun T.faults target.old target.new)
         (option_map (λ bytes. bytes.items) sending.sent) sending.report.items) }
     ensures stop { IfErr result (IsSolidUnmet request.now
-        (shelf_call S.contents S.faults S.fault_at shelf.old shelf.new)
+        (shelf_call S.contents S.faults S.fault_at S.fault_kind shelf.old shelf.new)
         (target_call T.held T.begun T.faults target.old target.new)) }
 {
     let output = match solid_output(alloc, request, shelf, stages, executor, plane_executor) {
@@ -189,12 +189,12 @@ pub fn serve_solid<
     requires begun { T.begun target.old ≡ None }
     requires executor { IsExecutor C.pre C.post executor.now }
     requires plane_executor { IsPlaneExecutor D.pre D.post plane_executor.now }
-    ensures contents { KeepsContents (shelf_call S.contents S.faults S.fault_at shelf.old shelf.new) }
+    ensures contents { KeepsContents (shelf_call S.contents S.faults S.fault_at S.fault_kind shelf.old shelf.new) }
     ensures none_begun { T.begun target.new ≡ None }
     ensures later { T.faults target.old ≤ T.faults target.new }
     ensures later_out { O.faults out.old ≤ O.faults out.new }
     ensures outcome { (text : List ℕ) × IsSolidOutcome request.now
-        (shelf_call S.contents S.faults S.fault_at shelf.old shelf.new)
+        (shelf_call S.contents S.faults S.fault_at S.fault_kind shelf.old shelf.new)
         (target_call T.held T.begun T.faults target.old target.new)
         (sink_call O.taken O.flushed O.faults out.old out.new) result text ×
         TakesUntilFault (sink_call E.taken E.flushed E.faults err.old err.new) text }

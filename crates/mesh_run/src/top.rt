@@ -73,7 +73,7 @@ fn run_by<
     requires executor { IsExecutorOfAny C.pre C.post executor.now }
     requires plane_executor { IsPlaneExecutorOfAny D.pre D.post plane_executor.now }
     ensures { MeshServes (map string_bytes words.now)
-        (shelf_call S.contents S.faults S.fault_at shelf.old shelf.new)
+        (shelf_call S.contents S.faults S.fault_at S.fault_kind shelf.old shelf.new)
         (target_call T.held T.begun T.faults target.old target.new)
         (sink_call O.taken O.flushed O.faults out.old out.new)
         (sink_call E.taken E.flushed E.faults err.old err.new)
@@ -127,7 +127,7 @@ pub fn run_mesh_one<S: Shelf, T: Target, O: Sink, E: Sink, G: Gate + Stages>(
 ) -> Status
     requires { T.begun target.old ≡ None }
     ensures { MeshServes (map string_bytes words.now)
-        (shelf_call S.contents S.faults S.fault_at shelf.old shelf.new)
+        (shelf_call S.contents S.faults S.fault_at S.fault_kind shelf.old shelf.new)
         (target_call T.held T.begun T.faults target.old target.new)
         (sink_call O.taken O.flushed O.faults out.old out.new)
         (sink_call E.taken E.flushed E.faults err.old err.new)
@@ -184,7 +184,7 @@ pub fn run_mesh<
 ) -> Status
     requires { T.begun target.old ≡ None }
     ensures { MeshServes (map string_bytes words.now)
-        (shelf_call S.contents S.faults S.fault_at shelf.old shelf.new)
+        (shelf_call S.contents S.faults S.fault_at S.fault_kind shelf.old shelf.new)
         (target_call T.held T.begun T.faults target.old target.new)
         (sink_call O.taken O.flushed O.faults out.old out.new)
         (sink_call E.taken E.flushed E.faults err.old err.new)

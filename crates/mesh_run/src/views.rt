@@ -73,10 +73,10 @@ fn page_of_contents(alloc: Global, names: &[Text], contents: &[Vec<u8>]) -> Resu
 // The page of the files with these names. The error is the status with which the call ends instead.
 fn page_in<S: Shelf>(alloc: Global, shelf: &mut S, names: &[Text]) -> Result<Vec<u8>, Status>
     requires { length names.now ≤ 64 }
-    ensures contents { KeepsContents (shelf_call S.contents S.faults S.fault_at shelf.old shelf.new) }
+    ensures contents { KeepsContents (shelf_call S.contents S.faults S.fault_at S.fault_kind shelf.old shelf.new) }
     ensures page { IfOk result (λ page. IsPageOf (S.contents shelf.old) names.now page.items) }
     ensures cause { IfErr result
-        (IsReadingCause names.now (shelf_call S.contents S.faults S.fault_at shelf.old shelf.new)) }
+        (IsReadingCause names.now (shelf_call S.contents S.faults S.fault_at S.fault_kind shelf.old shelf.new)) }
 {
     match read_contents(alloc, shelf, names) {
         Ok(contents) => page_of_contents(alloc, names, &contents),
@@ -93,14 +93,14 @@ fn write_view<S: Shelf, T: Target>(
 ) -> Result<(), Status>
     requires few { length request.now.files ≤ 64 }
     requires begun { T.begun target.old ≡ None }
-    ensures contents { KeepsContents (shelf_call S.contents S.faults S.fault_at shelf.old shelf.new) }
+    ensures contents { KeepsContents (shelf_call S.contents S.faults S.fault_at S.fault_kind shelf.old shelf.new) }
     ensures none_begun { T.begun target.new ≡ None }
     ensures later { T.faults target.old ≤ T.faults target.new }
     ensures written { IfOk result (λ _. WritesPage request.now
-        (shelf_call S.contents S.faults S.fault_at shelf.old shelf.new)
+        (shelf_call S.contents S.faults S.fault_at S.fault_kind shelf.old shelf.new)
         (target_call T.held T.begun T.faults target.old target.new) []) }
     ensures stop { IfErr result (IsPageUnmet request.now
-        (shelf_call S.contents S.faults S.fault_at shelf.old shelf.new)
+        (shelf_call S.contents S.faults S.fault_at S.fault_kind shelf.old shelf.new)
         (target_call T.held T.begun T.faults target.old target.new)) }
 {
     let page = match page_in(alloc, shelf, request.files.items()) {
@@ -124,11 +124,11 @@ pub fn serve_view<S: Shelf, T: Target, E: Sink>(
 ) -> Status
     requires few { length request.now.files ≤ 64 }
     requires begun { T.begun target.old ≡ None }
-    ensures contents { KeepsContents (shelf_call S.contents S.faults S.fault_at shelf.old shelf.new) }
+    ensures contents { KeepsContents (shelf_call S.contents S.faults S.fault_at S.fault_kind shelf.old shelf.new) }
     ensures none_begun { T.begun target.new ≡ None }
     ensures later { T.faults target.old ≤ T.faults target.new }
     ensures outcome { (text : List ℕ) × IsViewOutcome request.now
-        (shelf_call S.contents S.faults S.fault_at shelf.old shelf.new)
+        (shelf_call S.contents S.faults S.fault_at S.fault_kind shelf.old shelf.new)
         (target_call T.held T.begun T.faults target.old target.new) result text ×
         TakesUntilFault (sink_call E.taken E.flushed E.faults err.old err.new) text }
     ensures memory { hides_memory result ≡ false }

@@ -28,7 +28,7 @@ returns-in-Ok-clause-grid g c =
 
 pub returns-in-Ok-clause-stop : goal.returns-in-Ok-clause-stop
 returns-in-Ok-clause-stop g c =
-    let shelf = shelf_call g.S.Shelf.contents g.S.Shelf.faults g.S.Shelf.fault_at c.args.shelf.now c.bytes_in.new.shelf in
+    let shelf = shelf_call g.S.Shelf.contents g.S.Shelf.faults g.S.Shelf.fault_at g.S.Shelf.fault_kind c.args.shelf.now c.bytes_in.new.shelf in
     let request = c.args.request.now in
     IfErr-weaker c.grid_in.result _ (IsExportStop request shelf)
     (λ status h. grid_stop request shelf c.in-Some.name c.in-Ok.bytes.items status c.in-Some.is c.in-Ok.ensures.bytes
@@ -37,5 +37,5 @@ returns-in-Ok-clause-stop g c =
 
 pub returns-in-Err-clause-stop : goal.returns-in-Err-clause-stop
 returns-in-Err-clause-stop g c =
-    let shelf = shelf_call g.S.Shelf.contents g.S.Shelf.faults g.S.Shelf.fault_at c.args.shelf.now c.bytes_in.new.shelf in
+    let shelf = shelf_call g.S.Shelf.contents g.S.Shelf.faults g.S.Shelf.fault_at g.S.Shelf.fault_kind c.args.shelf.now c.bytes_in.new.shelf in
     scene_stop c.args.request.now shelf c.in-Some.name c.in-Err.status c.in-Some.is c.in-Err.ensures.cause

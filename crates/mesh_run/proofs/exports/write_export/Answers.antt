@@ -16,7 +16,7 @@ written_files-requires g c = export_shown_is_there c.args.request.now (g.S.Shelf
 
 pub returns-in-Err-clause-stop : goal.returns-in-Err-clause-stop
 returns-in-Err-clause-stop g c =
-    let shelf = shelf_call g.S.Shelf.contents g.S.Shelf.faults g.S.Shelf.fault_at c.args.shelf.now c.mesh_for.new.shelf in
+    let shelf = shelf_call g.S.Shelf.contents g.S.Shelf.faults g.S.Shelf.fault_at g.S.Shelf.fault_kind c.args.shelf.now c.mesh_for.new.shelf in
     let target = target_call g.T.Target.held g.T.Target.begun g.T.Target.faults c.args.target.now c.args.target.now in
     let request = c.args.request.now in
     let stop = c.in-Err.ensures.stop in
@@ -26,14 +26,14 @@ returns-in-Err-clause-stop g c =
 
 pub returns-in_err-report-clause-stop : goal.returns-in_err-report-clause-stop
 returns-in_err-report-clause-stop g c =
-    let shelf = shelf_call g.S.Shelf.contents g.S.Shelf.faults g.S.Shelf.fault_at c.args.shelf.now c.mesh_for.new.shelf in
+    let shelf = shelf_call g.S.Shelf.contents g.S.Shelf.faults g.S.Shelf.fault_at g.S.Shelf.fault_kind c.args.shelf.now c.mesh_for.new.shelf in
     let target = target_call g.T.Target.held g.T.Target.begun g.T.Target.faults c.args.target.now c.args.target.now in
     memory_given (IsExportUnmet c.args.request.now shelf target) c.from_residual.result c.from_residual.ensures.1
     (inl (names_hold_the_same (g.T.Target.held c.args.target.now)))
 
 pub returns-in_err-made-clause-stop : goal.returns-in_err-made-clause-stop
 returns-in_err-made-clause-stop g c =
-    let shelf = shelf_call g.S.Shelf.contents g.S.Shelf.faults g.S.Shelf.fault_at c.args.shelf.now c.mesh_for.new.shelf in
+    let shelf = shelf_call g.S.Shelf.contents g.S.Shelf.faults g.S.Shelf.fault_at g.S.Shelf.fault_kind c.args.shelf.now c.mesh_for.new.shelf in
     let target = target_call g.T.Target.held g.T.Target.begun g.T.Target.faults c.args.target.now c.args.target.now in
     memory_given (IsExportUnmet c.args.request.now shelf target) c.from_residual-in_err-made.result
     c.from_residual-in_err-made.ensures.1 (inl (names_hold_the_same (g.T.Target.held c.args.target.now)))
@@ -54,7 +54,7 @@ returns-in-Ok-write_files-clause-written g c =
 
 pub returns-in-Err-write_files-clause-stop : goal.returns-in-Err-write_files-clause-stop
 returns-in-Err-write_files-clause-stop g c =
-    let shelf = shelf_call g.S.Shelf.contents g.S.Shelf.faults g.S.Shelf.fault_at c.args.shelf.now c.mesh_for.new.shelf in
+    let shelf = shelf_call g.S.Shelf.contents g.S.Shelf.faults g.S.Shelf.fault_at g.S.Shelf.fault_kind c.args.shelf.now c.mesh_for.new.shelf in
     let target = target_call g.T.Target.held g.T.Target.begun g.T.Target.faults c.args.target.now c.write_files.new.target in
     let request = c.args.request.now in
     let status = c.in-Err-write_files.status in

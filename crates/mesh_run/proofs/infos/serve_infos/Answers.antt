@@ -11,7 +11,7 @@ use Rattle.mesh_run.proofs.infos.serve_infos.Goals as goal
 pub returns-in-Ok-clause-outcome : goal.returns-in-Ok-clause-outcome
 returns-in-Ok-clause-outcome g c =
     let told = g.S.Shelf.contents c.args.shelf.now in
-    let shelf = shelf_call g.S.Shelf.contents g.S.Shelf.faults g.S.Shelf.fault_at c.args.shelf.now c.infos_in.new.shelf in
+    let shelf = shelf_call g.S.Shelf.contents g.S.Shelf.faults g.S.Shelf.fault_at g.S.Shelf.fault_kind c.args.shelf.now c.infos_in.new.shelf in
     let out = sink_call g.O.Sink.taken g.O.Sink.flushed g.O.Sink.faults c.args.out.now c.write_bytes.new.out in
     let lines = c.in-Ok.lines.items in
     let e = c.write_bytes.ensures.outcome in
@@ -21,7 +21,7 @@ returns-in-Ok-clause-outcome g c =
 
 pub returns-in-Ok-reading_line-clause-outcome : goal.returns-in-Ok-reading_line-clause-outcome
 returns-in-Ok-reading_line-clause-outcome g c =
-    let shelf = shelf_call g.S.Shelf.contents g.S.Shelf.faults g.S.Shelf.fault_at c.args.shelf.now c.infos_in.new.shelf in
+    let shelf = shelf_call g.S.Shelf.contents g.S.Shelf.faults g.S.Shelf.fault_at g.S.Shelf.fault_kind c.args.shelf.now c.infos_in.new.shelf in
     let out = sink_call g.O.Sink.taken g.O.Sink.flushed g.O.Sink.faults c.args.out.now c.args.out.now in
     let err = sink_call g.E.Sink.taken g.E.Sink.flushed g.E.Sink.faults c.args.err.now c.say.new.err in
     let text = c.in-Ok-reading_line.line.items in
@@ -33,7 +33,7 @@ returns-in-Ok-reading_line-clause-outcome g c =
 
 pub returns-in-Ok-reading_line-clause-memory : goal.returns-in-Ok-reading_line-clause-memory
 returns-in-Ok-reading_line-clause-memory g c =
-    let shelf = shelf_call g.S.Shelf.contents g.S.Shelf.faults g.S.Shelf.fault_at c.args.shelf.now c.infos_in.new.shelf in
+    let shelf = shelf_call g.S.Shelf.contents g.S.Shelf.faults g.S.Shelf.fault_at g.S.Shelf.fault_kind c.args.shelf.now c.infos_in.new.shelf in
     reading_tells_memory c.items.result.now shelf c.in-Err.status c.in-Err.ensures.cause
 
 pub returns-in-Err-reading_line-clause-outcome : goal.returns-in-Err-reading_line-clause-outcome

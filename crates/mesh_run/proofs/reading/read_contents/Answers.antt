@@ -45,7 +45,7 @@ returns-in-Err-clause-cause g c =
     let e = c.in-Err.ensures in
     let names = c.args.names.now in
     let told = g.S.Shelf.contents c.args.shelf.now in
-    let shelf = shelf_call g.S.Shelf.contents g.S.Shelf.faults g.S.Shelf.fault_at c.args.shelf.now c.read_all.new.shelf in
+    let shelf = shelf_call g.S.Shelf.contents g.S.Shelf.faults g.S.Shelf.fault_at g.S.Shelf.fault_kind c.args.shelf.now c.read_all.new.shelf in
     let seen = c.deref.result.now in
     let many : length seen ≡ c.loop-name.name-index = ap length c.deref.ensures.value ∙ i.count in
     let given = subst (λ (contents : List (Vec ℕ Global)). AreContents told (take (length seen) names) contents)
@@ -56,8 +56,9 @@ returns-in-Err-clause-cause g c =
     let name : c.as_str.result.now ≡ get_or names (length seen + 1 - 1) [] =
     c.as_str.ensures ∙ c.name-item.is ∙ get_or_default names c.loop-name.name-index c.name-item.result [] there
     ∙ ap (λ (n : ℕ). get_or names n []) (sym number) in
-    end_is_cause names shelf (length seen + 1) c.in-Err.end c.status_after.result
-    (record { first = omega arith; last = omega (arith, many, there) }) (c.status_after.ensures told given)
+    end_is_cause names shelf (length seen + 1) c.in-Err.end c.last_fault-kind.result c.status_after.result
+    (record { first = omega arith; last = omega (arith, many, there) }) c.last_fault-kind.ensures
+    (c.status_after.ensures told given)
     (λ f. (
       risen_in_all (g.S.Shelf.faults c.args.shelf.now) (g.S.Shelf.faults c.loop-name.shelf)
           (g.S.Shelf.faults c.read_all.new.shelf) i.later (e.read_fault (ap Err f)),

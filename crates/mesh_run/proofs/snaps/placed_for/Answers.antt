@@ -38,7 +38,7 @@ returns-in-Ok-clause-placed g c =
 pub returns-in-Ok-clause-stop : goal.returns-in-Ok-clause-stop
 returns-in-Ok-clause-stop g c =
     let told = g.S.Shelf.contents c.args.shelf.now in
-    let shelf = shelf_call g.S.Shelf.contents g.S.Shelf.faults g.S.Shelf.fault_at c.args.shelf.now c.read_contents.new.shelf in
+    let shelf = shelf_call g.S.Shelf.contents g.S.Shelf.faults g.S.Shelf.fault_at g.S.Shelf.fault_kind c.args.shelf.now c.read_contents.new.shelf in
     let names = c.items-names.result.now in
     let wanted = c.in-Some.wanted in
     let contents = subst (λ (contents : List (Vec ℕ Global)). AreContents told names contents) (sym c.deref.ensures.value) c.in-Ok.ensures.contents in
@@ -50,7 +50,7 @@ returns-in-Ok-clause-stop g c =
 
 pub returns-in-Err-clause-stop : goal.returns-in-Err-clause-stop
 returns-in-Err-clause-stop g c =
-    let shelf = shelf_call g.S.Shelf.contents g.S.Shelf.faults g.S.Shelf.fault_at c.args.shelf.now c.read_contents.new.shelf in
+    let shelf = shelf_call g.S.Shelf.contents g.S.Shelf.faults g.S.Shelf.fault_at g.S.Shelf.fault_kind c.args.shelf.now c.read_contents.new.shelf in
     let status = c.in-Err.status in
     reading_stop c.args.request.now shelf c.in-Some.wanted c.in-Some.ensures.wanted status
     (subst (λ (names : List (List ℕ)). IsReadingCause names shelf status) c.items-names.ensures c.in-Err.ensures.cause)

@@ -9,7 +9,7 @@ use Rattle.mesh_run.proofs.snaps.serve_snap.Goals as goal
 
 pub snap_line-said-requires : goal.snap_line-said-requires
 snap_line-said-requires g c =
-    let shelf = shelf_call g.S.Shelf.contents g.S.Shelf.faults g.S.Shelf.fault_at c.args.shelf.now c.write_scene.new.shelf in
+    let shelf = shelf_call g.S.Shelf.contents g.S.Shelf.faults g.S.Shelf.fault_at g.S.Shelf.fault_kind c.args.shelf.now c.write_scene.new.shelf in
     let target = target_call g.T.Target.held g.T.Target.begun g.T.Target.faults c.args.target.now c.write_scene.new.target in
     let request = c.args.request.now in
     unmet_is_shown (IsSnapStop request shelf) (AreSnapFilesFor request shelf.told) target
@@ -22,7 +22,7 @@ returns-in-Ok-clause-outcome g c =
 
 pub returns-in-Err-clause-outcome : goal.returns-in-Err-clause-outcome
 returns-in-Err-clause-outcome g c =
-    let shelf = shelf_call g.S.Shelf.contents g.S.Shelf.faults g.S.Shelf.fault_at c.args.shelf.now c.write_scene.new.shelf in
+    let shelf = shelf_call g.S.Shelf.contents g.S.Shelf.faults g.S.Shelf.fault_at g.S.Shelf.fault_kind c.args.shelf.now c.write_scene.new.shelf in
     let target = target_call g.T.Target.held g.T.Target.begun g.T.Target.faults c.args.target.now c.write_scene.new.target in
     let err = sink_call g.E.Sink.taken g.E.Sink.flushed g.E.Sink.faults c.args.err.now c.say_why.new.err in
     let request = c.args.request.now in
@@ -33,7 +33,7 @@ returns-in-Err-clause-outcome g c =
 
 pub returns-in-Err-clause-memory : goal.returns-in-Err-clause-memory
 returns-in-Err-clause-memory g c =
-    let shelf = shelf_call g.S.Shelf.contents g.S.Shelf.faults g.S.Shelf.fault_at c.args.shelf.now c.write_scene.new.shelf in
+    let shelf = shelf_call g.S.Shelf.contents g.S.Shelf.faults g.S.Shelf.fault_at g.S.Shelf.fault_kind c.args.shelf.now c.write_scene.new.shelf in
     let target = target_call g.T.Target.held g.T.Target.begun g.T.Target.faults c.args.target.now c.write_scene.new.target in
     let request = c.args.request.now in
     said_status_tells_memory (IsSnapStop request shelf) (AreSnapFilesFor request shelf.told) target _ _ c.in-Err.status

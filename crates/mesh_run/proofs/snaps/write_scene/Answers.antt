@@ -31,7 +31,7 @@ scene_files-requires-clause-moves g c =
 
 pub returns-in-Err-clause-stop : goal.returns-in-Err-clause-stop
 returns-in-Err-clause-stop g c =
-    let shelf = shelf_call g.S.Shelf.contents g.S.Shelf.faults g.S.Shelf.fault_at c.args.shelf.now c.placed_for.new.shelf in
+    let shelf = shelf_call g.S.Shelf.contents g.S.Shelf.faults g.S.Shelf.fault_at g.S.Shelf.fault_kind c.args.shelf.now c.placed_for.new.shelf in
     let target = target_call g.T.Target.held g.T.Target.begun g.T.Target.faults c.args.target.now c.args.target.now in
     let request = c.args.request.now in
     let stop = c.in-Err.ensures.stop in
@@ -41,14 +41,14 @@ returns-in-Err-clause-stop g c =
 
 pub returns-in_err-report-clause-stop : goal.returns-in_err-report-clause-stop
 returns-in_err-report-clause-stop g c =
-    let shelf = shelf_call g.S.Shelf.contents g.S.Shelf.faults g.S.Shelf.fault_at c.args.shelf.now c.placed_for.new.shelf in
+    let shelf = shelf_call g.S.Shelf.contents g.S.Shelf.faults g.S.Shelf.fault_at g.S.Shelf.fault_kind c.args.shelf.now c.placed_for.new.shelf in
     let target = target_call g.T.Target.held g.T.Target.begun g.T.Target.faults c.args.target.now c.args.target.now in
     memory_given (IsSnapUnmet c.args.request.now shelf target) c.from_residual.result c.from_residual.ensures.1
     (inl (names_hold_the_same (g.T.Target.held c.args.target.now)))
 
 pub returns-in_err-files-clause-stop : goal.returns-in_err-files-clause-stop
 returns-in_err-files-clause-stop g c =
-    let shelf = shelf_call g.S.Shelf.contents g.S.Shelf.faults g.S.Shelf.fault_at c.args.shelf.now c.placed_for.new.shelf in
+    let shelf = shelf_call g.S.Shelf.contents g.S.Shelf.faults g.S.Shelf.fault_at g.S.Shelf.fault_kind c.args.shelf.now c.placed_for.new.shelf in
     let target = target_call g.T.Target.held g.T.Target.begun g.T.Target.faults c.args.target.now c.args.target.now in
     memory_given (IsSnapUnmet c.args.request.now shelf target) c.from_residual-in_err-files.result
     c.from_residual-in_err-files.ensures.1 (inl (names_hold_the_same (g.T.Target.held c.args.target.now)))
@@ -69,7 +69,7 @@ returns-in-Ok-write_files-clause-written g c =
 
 pub returns-clause-stop : goal.returns-clause-stop
 returns-clause-stop g c =
-    let shelf = shelf_call g.S.Shelf.contents g.S.Shelf.faults g.S.Shelf.fault_at c.args.shelf.now c.placed_for.new.shelf in
+    let shelf = shelf_call g.S.Shelf.contents g.S.Shelf.faults g.S.Shelf.fault_at g.S.Shelf.fault_kind c.args.shelf.now c.placed_for.new.shelf in
     let target = target_call g.T.Target.held g.T.Target.begun g.T.Target.faults c.args.target.now c.write_files.new.target in
     let request = c.args.request.now in
     let status = c.in-Err-write_files.status in

@@ -15,7 +15,7 @@ use Rattle.mesh_run.proofs.solid.solid_output.Goals as goal
 
 pub returns-in-Err-clause-stop : goal.returns-in-Err-clause-stop
 returns-in-Err-clause-stop g c =
-    let shelf = shelf_call g.S.Shelf.contents g.S.Shelf.faults g.S.Shelf.fault_at c.args.shelf.now c.args.shelf.now in
+    let shelf = shelf_call g.S.Shelf.contents g.S.Shelf.faults g.S.Shelf.fault_at g.S.Shelf.fault_kind c.args.shelf.now c.args.shelf.now in
     words_stop c.args.request.now shelf c.in-Err.status c.in-Err.ensures.cause
 
 pub output_of_contents-requires-clause-one_each : goal.output_of_contents-requires-clause-one_each
@@ -44,7 +44,7 @@ returns-in-Ok-read_contents-clause-output g c =
 pub returns-in-Ok-read_contents-clause-stop : goal.returns-in-Ok-read_contents-clause-stop
 returns-in-Ok-read_contents-clause-stop g c =
     let told = g.S.Shelf.contents c.args.shelf.now in
-    let shelf = shelf_call g.S.Shelf.contents g.S.Shelf.faults g.S.Shelf.fault_at c.args.shelf.now c.read_contents.new.shelf in
+    let shelf = shelf_call g.S.Shelf.contents g.S.Shelf.faults g.S.Shelf.fault_at g.S.Shelf.fault_kind c.args.shelf.now c.read_contents.new.shelf in
     let names = c.items-names.result.now in
     let formula = formula_of c.in-Ok.asked.expr in
     let wanted = c.in-Ok.asked.wanted in
@@ -58,7 +58,7 @@ returns-in-Ok-read_contents-clause-stop g c =
 
 pub returns-clause-stop : goal.returns-clause-stop
 returns-clause-stop g c =
-    let shelf = shelf_call g.S.Shelf.contents g.S.Shelf.faults g.S.Shelf.fault_at c.args.shelf.now c.read_contents.new.shelf in
+    let shelf = shelf_call g.S.Shelf.contents g.S.Shelf.faults g.S.Shelf.fault_at g.S.Shelf.fault_kind c.args.shelf.now c.read_contents.new.shelf in
     let status = c.in-Err-read_contents.status in
     reading_stop c.args.request.now shelf (formula_of c.in-Ok.asked.expr) c.in-Ok.asked.wanted c.in-Ok.ensures.asks status
     (subst (λ (names : List (List ℕ)). IsReadingCause names shelf status) c.items-names.ensures c.in-Err-read_contents.ensures.cause)

@@ -11,7 +11,7 @@ returns-in-Ok-clause-outcome g c = ([], c.in-Ok.ensures.written, c.say.ensures)
 
 pub returns-in-Err-clause-outcome : goal.returns-in-Err-clause-outcome
 returns-in-Err-clause-outcome g c =
-    let shelf = shelf_call g.S.Shelf.contents g.S.Shelf.faults g.S.Shelf.fault_at c.args.shelf.now c.write_view.new.shelf in
+    let shelf = shelf_call g.S.Shelf.contents g.S.Shelf.faults g.S.Shelf.fault_at g.S.Shelf.fault_kind c.args.shelf.now c.write_view.new.shelf in
     let target = target_call g.T.Target.held g.T.Target.begun g.T.Target.faults c.args.target.now c.write_view.new.target in
     let err = sink_call g.E.Sink.taken g.E.Sink.flushed g.E.Sink.faults c.args.err.now c.say_why.new.err in
     let request = c.args.request.now in
@@ -22,7 +22,7 @@ returns-in-Err-clause-outcome g c =
 
 pub returns-in-Err-clause-memory : goal.returns-in-Err-clause-memory
 returns-in-Err-clause-memory g c =
-    let shelf = shelf_call g.S.Shelf.contents g.S.Shelf.faults g.S.Shelf.fault_at c.args.shelf.now c.write_view.new.shelf in
+    let shelf = shelf_call g.S.Shelf.contents g.S.Shelf.faults g.S.Shelf.fault_at g.S.Shelf.fault_kind c.args.shelf.now c.write_view.new.shelf in
     let target = target_call g.T.Target.held g.T.Target.begun g.T.Target.faults c.args.target.now c.write_view.new.target in
     let request = c.args.request.now in
     said_status_tells_memory (IsReadingCause request.files shelf) (IsPageFor request shelf.told) target _ _

@@ -9,7 +9,7 @@ use Rattle.mesh_run.proofs.views.write_view.Goals as goal
 
 pub returns-in-Err-clause-stop : goal.returns-in-Err-clause-stop
 returns-in-Err-clause-stop g c =
-    let shelf = shelf_call g.S.Shelf.contents g.S.Shelf.faults g.S.Shelf.fault_at c.args.shelf.now c.page_in.new.shelf in
+    let shelf = shelf_call g.S.Shelf.contents g.S.Shelf.faults g.S.Shelf.fault_at g.S.Shelf.fault_kind c.args.shelf.now c.page_in.new.shelf in
     let target = target_call g.T.Target.held g.T.Target.begun g.T.Target.faults c.args.target.now c.args.target.now in
     let request = c.args.request.now in
     let cause = subst (λ (names : List (List ℕ)). IsReadingCause names shelf c.in-Err.status) c.items.ensures c.in-Err.ensures.cause in
