@@ -4,6 +4,7 @@ import re
 _NUMBER = r"-?\d+(?:\.\d+)?"
 _MOVE = rf"(?:0 \(nothing moved\)|{_NUMBER})"
 _PLACE = rf"\({_NUMBER} {_NUMBER} {_NUMBER}\)"
+_VOLUME = rf"(?:{_NUMBER}|\?)"
 _NAME = r"[^\n]+?"
 
 # Why a file is refused, behind its name; W stands for a word of the file.
@@ -33,6 +34,9 @@ line 1: no OFF; export anew
 OFF has no counts; export anew
 fewer lines than the counts say; it is cut off, export anew
 line \d+: face not understood; export anew
+(?:3MF and other zip archives aren't|(?:GLB|FBX|STEP|VRML|COLLADA|AMF) isn't) read; export as STL, OBJ, PLY or OFF
+gzip isn't read; unpack the file
+an HTML page and no mesh; download the mesh itself
 """.strip().replace("W", "[!-~]*").split("\n")
 
 # What a status writes to standard error behind `ember-mesh: `. Status 13 has no line, and 14 is a fault of the program.
@@ -53,6 +57,7 @@ FORMS[0] = re.compile(
     (
         rf"ember-mesh: step {_NUMBER}, grid offset -?\d+ -?\d+ -?\d+\n"
         rf"(?:ember-mesh: {_NAME}: \d+ triangles, \d+ vanished, \d+ without area; greatest move {_MOVE}; closed\n)+"
+        rf"(?:ember-mesh: (?:{_NAME}: volume {_VOLUME}|warning: {_NAME}: its volume is {_VOLUME}, so it may be inside out; use w\d+=-1)\n)+"
         r"(?:ember-mesh: the result is empty\n)?"
         r"(?:ember-mesh: warning: rounding for (?:STL|OBJ|PLY|OFF|GLB) moves corners by up to \d[\d.e-]*, more than a hundredth of the step; "
         r"write OBJ, PLY or OFF, or move the parts to the origin\n)?"

@@ -1,4 +1,5 @@
-"""The report of ember-mesh: a line for the grid, one for each file, and one for the result, each without the name of the program."""
+"""The report of ember-mesh but for the volumes of files: a line for the grid, one for each file, and one for the result, each without the
+name of the program."""
 from itertools import zip_longest
 
 STILL = "0 (nothing moved)"

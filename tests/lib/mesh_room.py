@@ -92,12 +92,17 @@ def fault_of_shared(err, counts):
     return None if err.decode().endswith(end) else f"report {err.decode()!r}, which doesn't end in {end!r}"
 
 
+def without_volumes(err):
+    """The lines of a report but those with the volume of a file."""
+    return re.sub(r"(?m)^ember-mesh: (?:warning: .+: its volume is .+|.+: volume [0-9.?]+)\n", "", err.decode())
+
+
 def fault_of_report(err, report):
-    """The report has these lines; an N stands for any number, and an X for any move."""
+    """But for the volumes of files, the report has these lines; an N stands for any number, and an X for any move."""
     if report is None:
         return None
     form = "".join(f"ember-mesh: {re.escape(line)}\n" for line in report).replace("N\\ ", r"\d+\ ").replace("move\\ X;", r"move\ \d[\d.e-]*;")
-    return None if re.fullmatch(form, err.decode()) else f"report {err.decode()!r}, not {report}"
+    return None if re.fullmatch(form, without_volumes(err)) else f"report {err.decode()!r}, not {report}"
 
 
 def run_cases(usage, cases):

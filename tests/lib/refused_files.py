@@ -63,6 +63,24 @@ _OBJ = (
     (b"v 1e15 0 0\nf 1 1 1\n", f"line 2: {_FAR}"),
 )
 
+_EXPORT = "export as STL, OBJ, PLY or OFF"
+_MARKUP = b'\xef\xbb\xbf<?xml version="1.0" encoding="utf-8"?>\n'
+
+_UNREAD = (
+    # What is behind the first bytes doesn't count, even if it is a bad line of an OBJ.
+    (b"PK\x03\x04\nf 1\n", f"3MF and other zip archives aren't read; {_EXPORT}"),
+    (b"\x1f\x8b\x08", "gzip isn't read; unpack the file"),
+    (b"glTF\x02\x00", f"GLB isn't read; {_EXPORT}"),
+    (b"Kaydara FBX Binary  \x00", f"FBX isn't read; {_EXPORT}"),
+    (b"; FBX 7.3.0 project file\n", f"FBX isn't read; {_EXPORT}"),
+    (b"ISO-10303-21;\nHEADER;\n", f"STEP isn't read; {_EXPORT}"),
+    (b"#VRML V2.0 utf8\n", f"VRML isn't read; {_EXPORT}"),
+    (_MARKUP + b"<COLLADA>\n", f"COLLADA isn't read; {_EXPORT}"),
+    (_MARKUP + b"<!-- made by hand -->\n<amf unit='inch'>\n", f"AMF isn't read; {_EXPORT}"),
+    (b"\n <!DOCTYPE HTML>\n", "an HTML page and no mesh; download the mesh itself"),
+    (b"<html lang='en'>", "an HTML page and no mesh; download the mesh itself"),
+)
+
 REFUSED = (
     *(("a.b.stl", *row) for row in _STL),
     # The name decides what is neither kind of STL.
@@ -70,4 +88,8 @@ REFUSED = (
     *(("a.ply", *row) for row in _PLY),
     *(("a.off", *row) for row in _OFF),
     *(("a.obj", *row) for row in _OBJ),
+    *((name, *row) for name in ("a.obj", "a.stl", "a.3mf") for row in _UNREAD),
+    # An element is looked for in the first 4,096 bytes, and in markup alone.
+    ("a.dae", b"<?xml?>" + b" " * 4089 + b"<COLLADA", "no triangles in it; is it a mesh?"),
+    ("a.txt", b"about <html>\n", "no triangles in it; is it a mesh?"),
 )

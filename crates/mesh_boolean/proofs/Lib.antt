@@ -5,3 +5,4 @@ pub mod DocumentRefusals
 pub mod Outputs
 pub mod OutputMeaning
 pub mod OutputTolerance
+pub mod VolumeSums

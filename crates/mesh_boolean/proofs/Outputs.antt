@@ -1,5 +1,5 @@
 -- The file of a mesh, and the output that it belongs to
-use Rattle.std.proofs.Common.{◌≡◌, ◌≤◌, ℕ, Bool, true, false, not, List, map, length, Option, Some, None, IfSome, refl, sym, subst, ap, ◌∙◌, arith}
+use Rattle.std.proofs.Common.{◌≡◌, ◌≤◌, ℕ, Bool, true, false, not, List, map, length, Option, Some, None, IfSome, ℤ, refl, sym, subst, ap, ◌∙◌, arith}
 use Rattle.std.specs.Bool.{then_some}
 use Rattle.std.specs.Global.{Vec}
 use Rattle.std.specs.List.{All, list_all}
@@ -50,6 +50,7 @@ use Rattle.mesh_boolean.specs.declared.wanted.MeshFormat.TheVariants.{Floats, Te
 use Rattle.mesh_boolean.specs.declared.wanted.WantedFile.{WantedFile}
 use Rattle.mesh_boolean.specs.declared.writing.Written.{Written}
 use Rattle.mesh_boolean.specs.Files.{IsPlaced}
+use Rattle.mesh_boolean.specs.Volumes.{six_volumes_of_meshes}
 use Rattle.mesh_boolean.specs.Effects.{over_vertices, decimals_of}
 use Rattle.mesh_boolean.specs.Outputs.{AreKept, AreRounded, AreShownIf, IsTextOver, IsOfFloats, IsText, IsWritten}
 use Rattle.mesh_boolean.specs.Outputs.{IsClosedOfFloats, IsClosedText, IsClosedAs, IsOutput}
@@ -195,22 +196,25 @@ module _ (files : List MeshFile) (formula : Formula) (wanted : WantedFile) (plac
       (file : Written) → IsWritten wanted.format placed.grid meshed.mesh file →
       AreShownIf wanted.shows placed.grid meshed.mesh file.shown → (kept : Option KeptDocument) →
       kept ≡ kept_with placed.scene meshed.document →
+      (volumes : Vec ℤ) → volumes.items ≡ six_volumes_of_meshes placed.scene.tris placed.scene.meshes →
       IsOutput files formula wanted (record {
         written = file;
         grid = placed.grid;
         counts = placed.counts;
         moves =
             placed.moves;
+        six_volumes = volumes;
         report = meshed.report;
         kept = kept;
       })
-  output_is meshed solid file written shown kept e =
+  output_is meshed solid file written shown kept e volumes f =
       let of_images = subst (λ (tris : List Tri). IsMeshedSolid tris formula wanted.keeps meshed) is.tris solid in
       record {
         surfaces = is.surfaces;
         are_placed = is.are_placed;
         counts = is.counts;
         moves = is.moves;
+        six_volumes = f ∙ (λ i. six_volumes_of_meshes (is.tris i) (is.meshes i));
         mesh = meshed.mesh;
         solid = of_images.mesh;
         report = of_images.report;

@@ -47,6 +47,7 @@ files_are_placed files wanted surfaces placed read step grid tris meshes counts 
     scene = subst (λ (ts : List Tri). IsScene ts (length surfaces)) tris (subst (IsScene placed.scene.tris) meshes placed.scene.kept);
   };
   tris = tris;
+  meshes = meshes;
   counts = counts;
   moves = moves;
 }

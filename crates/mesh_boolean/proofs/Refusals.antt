@@ -64,6 +64,11 @@ file_fault_is file index (file_fault.Wavefront fault) h plain =
   where
     other : file_fault.Wavefront fault ≡ file_fault.OutOfMemory → ⊥
     other e = cc
+file_fault_is file index (file_fault.Unread format) h plain =
+    (refl, has_fault file (file_fault.Unread format) other h plain)
+  where
+    other : file_fault.Unread format ≡ file_fault.OutOfMemory → ⊥
+    other e = cc
 file_fault_is file index file_fault.OutOfMemory h plain = tt
 
 -- the fault of a file after files that are read is the first

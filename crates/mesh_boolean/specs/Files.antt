@@ -35,10 +35,11 @@ pub record ArePlaced (files : List MeshFile) (wanted : Wanted) (surfaces : List 
   pub on_grid : IsSceneGrid surfaces wanted grid
   pub scene : IsScene (images_of grid surfaces) (length surfaces)
 
--- the triangles, counts and moves of such surfaces
+-- the triangles, counts and moves of such surfaces, each of which is a mesh
 pub record IsPlaced (files : List MeshFile) (wanted : Wanted) (placed : PlacedScene) : Type 0 where
   pub surfaces : List Surface
   pub are_placed : ArePlaced files wanted surfaces placed.grid
   pub tris : placed.scene.tris ≡ images_of placed.grid surfaces
+  pub meshes : placed.scene.meshes ≡ length surfaces
   pub counts : placed.counts.items ≡ map (counts_on placed.grid) surfaces
   pub moves : AreMoves placed.grid surfaces placed.moves.items

@@ -1,4 +1,5 @@
 pub mod Files
+pub mod Volumes
 pub mod Effects
 pub mod Outputs
 pub mod WritingFaults

@@ -42,6 +42,7 @@ use Rattle.mesh_boolean.specs.declared.output.SolidFile.{SolidFile}
 use Rattle.mesh_boolean.specs.declared.writing.Written.{Written}
 use Rattle.mesh_boolean.specs.Effects.{IsDecimalEffect, IsFloatEffect, decimals_of, over_vertices}
 use Rattle.mesh_boolean.specs.Files.{ArePlaced}
+use Rattle.mesh_boolean.specs.Volumes.{six_volumes_of_meshes}
 
 -- ---- formats
 -- at most 17 decimal places are asked for
@@ -158,7 +159,7 @@ pub record AreKept (images : List Tri) (bytes : List ℕ) (kept : KeptDocument) 
   pub scene : kept.scene.tris ≡ images
   pub document : kept.document.items ≡ bytes
 
--- the surfaces of the files are a scene on the wanted grid, with these counts and moves; there is a mesh of the solid
+-- the surfaces of the files are a scene on the wanted grid, with these counts, moves and volumes; there is a mesh of the solid
 -- of their triangles, with this report of the run; the file is this mesh in the wanted format, closed;
 -- and the triangles
 -- that are shown, and the scene and the document of the solid, are there if they are wanted
@@ -167,6 +168,7 @@ pub record IsOutput (files : List MeshFile) (formula : Formula) (wanted : Wanted
   pub are_placed : ArePlaced files wanted.grid surfaces out.grid
   pub counts : out.counts.items ≡ map (counts_on out.grid) surfaces
   pub moves : AreMoves out.grid surfaces out.moves.items
+  pub six_volumes : out.six_volumes.items ≡ six_volumes_of_meshes (images_of out.grid surfaces) (length surfaces)
   pub mesh : SolidMesh
   pub solid : IsSolidMesh (images_of out.grid surfaces) formula mesh
   pub report : IsSolidReport (images_of out.grid surfaces) formula out.report

@@ -13,6 +13,7 @@ mod placing;
 mod rounding;
 mod solid;
 mod text;
+mod volumes;
 mod wanted;
 mod writing;
 mod writing_fault;
@@ -28,6 +29,7 @@ pub use laws::{
 pub use output::{KeptDocument, SolidFile};
 pub use placing::placed_files;
 pub use solid::solid_file;
+pub use volumes::six_volumes_of_meshes;
 pub use wanted::{FloatFormat, MeshFormat, WantedFile};
 pub use writing::Written;
 pub use writing_fault::WritingFault;

@@ -15,6 +15,8 @@ pub struct SolidFile {
     pub counts: Vec<Counts>,
     /// How far a corner of each file moved to the grid at most, in order.
     pub moves: Vec<Length>,
+    /// Six times the signed volume of each file's mesh on the grid, in cubes of the step, in order.
+    pub six_volumes: Vec<i64>,
     pub report: Report,
     /// What was computed from, and the exact result, if they were to be kept.
     pub kept: Option<KeptDocument>,

@@ -13,6 +13,7 @@ use crate::fault::BooleanFault;
 use crate::files::MeshFile;
 use crate::output::{KeptDocument, SolidFile};
 use crate::placing::placed_files;
+use crate::volumes::six_volumes_of_meshes;
 use crate::wanted::WantedFile;
 use crate::writing::written_of;
 use ember_expr::Expr;
@@ -72,6 +73,7 @@ pub fn solid_file<
     ensures fault { IfErr result (IsBooleanFault files.now (formula_of expr.now) wanted) }
 {
     let placed = placed_files(alloc, files, wanted.grid, stages)?;
+    let six_volumes = six_volumes_of_meshes(alloc, &placed.scene)?;
     let MeshedSolid {
         mesh,
         report,
@@ -92,6 +94,7 @@ pub fn solid_file<
         grid: placed.grid,
         counts: placed.counts,
         moves: placed.moves,
+        six_volumes,
         report,
         kept,
     })

@@ -1,3 +1,4 @@
 pub mod Limits
+pub mod NamedFormats
 pub mod StlFiles
 pub mod TextParts

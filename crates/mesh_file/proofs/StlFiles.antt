@@ -11,7 +11,7 @@ use Rattle.mesh_file.specs.declared.format.format.Format.{Format}
 use Rattle.mesh_file.specs.declared.format.format.Format.TheVariants.{Ply, BinaryStl, AsciiStl, Off, CutOffStl, Obj}
 use Rattle.mesh_file.specs.Format.Formats.{is_ply, is_off, has_stl_name, format_said}
 use Rattle.mesh_file.specs.File.Faults.{CutOff, of_stl}
-use Rattle.mesh_file.specs.File.ReadFile.{with_faults, reading_in, reading_of}
+use Rattle.mesh_file.specs.File.ReadFile.{with_faults, or_unread, reading_in, reading_of}
 
 neither : (p b a o s : Bool) (x y : Result Content StlFault) (n : ℕ) →
     (if p then Ply else (if b then BinaryStl else (if a then AsciiStl else (if o then Off else (if s then CutOffStl else Obj))))) ≡ CutOffStl →
@@ -28,11 +28,15 @@ cut_off name bytes e =
     (ascii_of bytes) (facets_said bytes) e in
     ap (with_faults of_stl) refused
 
--- the three kinds of STL have one reader
+-- the two kinds of STL have one reader
 pub stl_files_have_one_reader : (name bytes : List ℕ) (format : Format) → format ≡ format_said name bytes →
-    (format ≡ BinaryStl) ⊎ ((format ≡ AsciiStl) ⊎ (format ≡ CutOffStl)) →
+    (format ≡ BinaryStl) ⊎ (format ≡ AsciiStl) →
     reading_of name bytes ≡ with_faults of_stl (read_stl_of bytes)
 stl_files_have_one_reader name bytes format said (inl binary) = ap (λ f. reading_in f bytes) (sym said ∙ binary)
-stl_files_have_one_reader name bytes format said (inr (inl ascii)) = ap (λ f. reading_in f bytes) (sym said ∙ ascii)
-stl_files_have_one_reader name bytes format said (inr (inr named)) =
-    ap (λ f. reading_in f bytes) (sym said ∙ named) ∙ sym (cut_off name bytes (sym said ∙ named))
+stl_files_have_one_reader name bytes format said (inr ascii) = ap (λ f. reading_in f bytes) (sym said ∙ ascii)
+
+-- a file that is STL by its name alone has the same, but may be of a format that isn't read
+pub stl_names_have_its_reader : (name bytes : List ℕ) (format : Format) → format ≡ format_said name bytes →
+    format ≡ CutOffStl → reading_of name bytes ≡ or_unread bytes (with_faults of_stl (read_stl_of bytes))
+stl_names_have_its_reader name bytes format said named =
+    ap (λ f. reading_in f bytes) (sym said ∙ named) ∙ ap (or_unread bytes) (sym (cut_off name bytes (sym said ∙ named)))

@@ -1,3 +1,4 @@
 pub mod Faults
 pub mod ReadFile
 pub mod Reasons
+pub mod Unread

@@ -5,7 +5,9 @@ mod phrases;
 mod reading;
 mod reason;
 mod reason_parts;
+mod unread;
 
 pub use fault::FileFault;
 pub use reading::read_file;
 pub use reason::put_reason;
+pub use unread::UnreadFormat;

@@ -4,5 +4,5 @@
 mod file;
 mod format;
 
-pub use file::{FileFault, put_reason, read_file};
+pub use file::{FileFault, UnreadFormat, put_reason, read_file};
 pub use format::{Format, format_of};

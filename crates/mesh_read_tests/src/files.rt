@@ -29,7 +29,7 @@ fn count<'a>(alloc: Global, name: &[u8], bytes: &'a [u8]) -> Result<(usize, usiz
 
 #[test]
 fn files_of_each_format_are_read(rt: HostRuntime) {
-    let rows: [(&[u8], &[u8], (usize, usize)); 7] = [
+    let rows: [(&[u8], &[u8], (usize, usize)); 8] = [
         (b"a.obj", &facet(), (3, 1)),
         (
             b"a.obj",
@@ -46,6 +46,8 @@ element face 1\nproperty list uchar int vertex_index\nend_header\n0 0 0\n1 0 0\n
         (b"a.off", b"v 0 0 0\nv 1 0 0\nv 0 1 0\nf 1 2 3\n", (3, 1)),
         (b"", b"v 0 0 0\nf 1 1 1 1 1\n", (1, 3)),
         (b"a.obj", b"v 0 0 0\nf 1 1 1\n", (1, 1)),
+        // It begins as a page, but has a face.
+        (b"a.html", b"<html>\nv 0 0 0\nf 1 1 1\n", (1, 1)),
     ];
     for (name, bytes, want) in rows {
         assert_eq!(rt; count(rt.alloc(), name, bytes), Ok(want));

@@ -2,3 +2,5 @@ pub mod ShownSteps
 pub mod Appended
 pub mod CountLines
 pub mod OneLines
+pub mod VolumeLines
+pub mod VolumeSizes

@@ -1,8 +1,9 @@
 -- What is reported
-use Rattle.std.specs.Prelude.{ℕ, ◌==◌, List, [], ◌∷◌, ◌++◌, codes, decimal, drop, if◌then◌else◌}
+use Rattle.std.specs.Prelude.{ℕ, ℤ, ◌==◌, List, [], ◌∷◌, ◌++◌, codes, decimal, drop, if◌then◌else◌}
 use Rattle.std.specs.Fmt.{signed_decimal}
 use Rattle.mesh_boolean.specs.declared.output.SolidFile.{SolidFile}
 use Rattle.mesh_boolean.specs.declared.writing.Written.{Written}
+use Rattle.mesh_boolean.specs.Volumes.{six_volumes_of_meshes}
 use Rattle.mesh_grid.specs.declared.grid.grid.Grid.{Grid}
 use Rattle.mesh_words.specs.declared.command.ExportRequest.{ExportRequest}
 use Rattle.mesh_words.specs.declared.command.Request.{Request}
@@ -17,6 +18,7 @@ use Rattle.mesh_scene.specs.declared.scene.counts.Counts.{Counts}
 use Rattle.mesh_scene.specs.declared.scene.scene.PlacedScene.{PlacedScene}
 use Rattle.mesh_report.specs.Lines.{line, step_text}
 use Rattle.mesh_report.specs.Lines as lines
+use Rattle.mesh_report.specs.Volumes.{volume_lines}
 
 -- the grid
 abbrev pub grid_line : Grid → List ℕ
@@ -45,9 +47,10 @@ counts_lines (name ∷ names) [] moves = []
 counts_lines (name ∷ names) (c ∷ counts) moves =
     counts_line name c (first_move moves) ++ counts_lines names counts (drop 1 moves)
 
--- the grid, and a line for each file
-abbrev pub scene_lines : List (List ℕ) → Grid → List Counts → List Length → List ℕ
-scene_lines names g counts moves = grid_line g ++ counts_lines names counts moves
+-- the grid, a line for each file, and one for the volume of each, which is so many sixths of the step's cube
+abbrev pub scene_lines : List (List ℕ) → Grid → List Counts → List Length → List ℤ → List ℕ
+scene_lines names g counts moves six_volumes =
+    grid_line g ++ (counts_lines names counts moves ++ volume_lines 1 names g.step six_volumes)
 
 -- whether anything is left
 abbrev pub empty_line : Written → List ℕ
@@ -98,7 +101,8 @@ mesh_lines format faces mesh = empty_line mesh ++ (warning_line format mesh ++ m
 -- all lines of a Boolean
 abbrev pub report_lines : List (List ℕ) → OutputFormat → SolidFile → List ℕ
 report_lines names format out =
-    scene_lines names out.grid out.counts.items out.moves.items ++ mesh_lines format out.report.faces out.written
+    scene_lines names out.grid out.counts.items out.moves.items out.six_volumes.items
+    ++ mesh_lines format out.report.faces out.written
 
 -- ---- reports, unless they are to be quiet
 abbrev pub report_of : Request → SolidFile → List ℕ
@@ -106,7 +110,9 @@ report_of request out = if request.quiet then [] else report_lines request.files
 
 abbrev pub snap_report : SnapRequest → PlacedScene → List ℕ
 snap_report request placed =
-    if request.quiet then [] else scene_lines request.files placed.grid placed.counts.items placed.moves.items
+    if request.quiet then []
+    else scene_lines request.files placed.grid placed.counts.items placed.moves.items
+    (six_volumes_of_meshes placed.scene.tris placed.scene.meshes)
 
 abbrev pub export_report : ExportRequest → Written → List ℕ
 export_report request mesh = if request.quiet then [] else mesh_lines request.format mesh.faces mesh

@@ -10,6 +10,7 @@ mod refusals;
 mod report;
 mod status;
 mod texts;
+mod volumes;
 mod word_lines;
 
 pub use export_lines::export_line;

@@ -2,12 +2,14 @@
 ghost use Rattle.std.specs.Prelude.{◌≡◌, ◌++◌, ◌<◌, drop, IfOk, OnOk};
 ghost use Rattle.mesh_report.specs.Lines.{line};
 ghost use Rattle.mesh_grid.specs.Moves.Shown.{rounded_of};
+ghost use Rattle.mesh_grid.specs.Snap.Steps.{IsStep};
 ghost use Rattle.mesh_report.specs.Reports.{counts_line, counts_lines, empty_line, export_report, first_move, grid_line, losses_text, mesh_line, mesh_lines, mesh_text, name_of_format, report_of, scene_lines, snap_report, warning_line};
 
 use crate::texts::{line, put_count, put_move, put_signed, put_step};
+use crate::volumes::put_volumes;
 use ember_model::OutOfMemory;
 use ember_words::Text;
-use mesh_boolean::{SolidFile, Written};
+use mesh_boolean::{SolidFile, Written, six_volumes_of_meshes};
 use mesh_effect::put_move as put_rounding_move;
 use mesh_grid::{Grid, Length};
 use mesh_scene::{Counts, PlacedScene};
@@ -18,8 +20,8 @@ use std::alloc::Global;
 const ADVICE: &[u8] =
     b", more than a hundredth of the step; write OBJ, PLY or OFF, or move the parts to the origin";
 
-// Appends a line with this text.
-fn put_line(alloc: Global, said: &[u8], text: &mut Vec<u8>) -> Result<(), OutOfMemory>
+/// Appends a line with this text.
+pub fn put_line(alloc: Global, said: &[u8], text: &mut Vec<u8>) -> Result<(), OutOfMemory>
     ensures { OnOk result (text.new.items ≡ text.old.items ++ line said.now) }
 {
     let line = line(alloc, said)?;
@@ -199,31 +201,34 @@ fn put_mesh_lines(
     put_mesh(alloc, faces, mesh, text)
 }
 
-// Appends the lines of the grid and of the files.
+// Appends the lines of the grid, of the files and of their volumes.
 fn put_scene(
     alloc: Global,
     names: &[Text],
     grid: &Grid,
     counts: &[Counts],
     moves: &[Length],
+    six_volumes: &[i64],
     text: &mut Vec<u8>,
 ) -> Result<(), OutOfMemory>
-    requires { 0 < grid.now.step.denominator }
+    requires { IsStep grid.now.step }
     ensures { OnOk result (text.new.items ≡
-        text.old.items ++ scene_lines names.now grid.now counts.now moves.now) }
+        text.old.items ++ scene_lines names.now grid.now counts.now moves.now six_volumes.now) }
 {
     put_grid(alloc, grid, text)?;
-    put_all_counts(alloc, names, counts, moves, text)
+    put_all_counts(alloc, names, counts, moves, text)?;
+    put_volumes(alloc, names, &grid.step, six_volumes, text)
 }
 
 /// The report of an output; empty if the request wants none. It has a line for the grid, a line for
-/// each file, one that the result is empty, if it is, and one with the numbers of the result.
+/// each file, one for the volume of each, which is a warning if the volume is below 0, one that the
+/// result is empty, if it is, and one with the numbers of the result.
 pub fn report_of(
     alloc: Global,
     request: &Request,
     output: &SolidFile,
 ) -> Result<Vec<u8>, OutOfMemory>
-    requires { 0 < output.now.grid.step.denominator }
+    requires { IsStep output.now.grid.step }
     ensures { IfOk result (λ text. text.items ≡ report_of request.now output.now) }
 {
     let mut text = Vec::new(alloc);
@@ -237,6 +242,7 @@ pub fn report_of(
         &output.grid,
         &output.counts,
         &output.moves,
+        &output.six_volumes,
         &mut text,
     )?;
     put_mesh_lines(
@@ -249,14 +255,14 @@ pub fn report_of(
     Ok(text)
 }
 
-/// The report of placed files, unless the request wants none: a line for the grid and a line for
-/// each file.
+/// The report of placed files, unless the request wants none: a line for the grid, a line for each
+/// file, and one for the volume of each, which is a warning if the volume is below 0.
 pub fn snap_report(
     alloc: Global,
     request: &SnapRequest,
     placed: &PlacedScene,
 ) -> Result<Vec<u8>, OutOfMemory>
-    requires { 0 < placed.now.grid.step.denominator }
+    requires { IsStep placed.now.grid.step }
     ensures { IfOk result (λ text. text.items ≡ snap_report request.now placed.now) }
 {
     let mut text = Vec::new(alloc);
@@ -264,12 +270,14 @@ pub fn snap_report(
         return Ok(text);
     }
     let names = request.files.items();
+    let six_volumes = six_volumes_of_meshes(alloc, &placed.scene)?;
     put_scene(
         alloc,
         names,
         &placed.grid,
         &placed.counts,
         &placed.moves,
+        &six_volumes,
         &mut text,
     )?;
     Ok(text)

@@ -17,7 +17,7 @@ use mesh_written::{PlaceFault, put_place};
 use std::alloc::{AllocError, Global};
 
 // Numbers of the user's unit are shown with at most this many places.
-const PLACES: u32 = 12;
+pub const PLACES: u32 = 12;
 
 /// The name of file `number`, from 1. As in the definition, 0 counts as 1, and a number past the
 /// last file gives an empty name.

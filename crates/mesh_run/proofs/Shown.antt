@@ -92,8 +92,8 @@ snap_stop_is_shown request shelf few (Uncertified fault) h = tt
 
 -- so can the step of an output
 pub output_step_is_shown : (request : Request) (told : List ℕ → Option (List ℕ)) (output : SolidFile) →
-    IsOutputFor request told output → 0 < output.grid.step.denominator
-output_step_is_shown request told output h = h.of_files.is_output.are_placed.on_grid.step.denominator_positive
+    IsOutputFor request told output → IsStep output.grid.step
+output_step_is_shown request told output h = h.of_files.is_output.are_placed.on_grid.step
 
 -- and of meshes on their grid
 pub placed_step_is_shown : (request : SnapRequest) (told : List ℕ → Option (List ℕ)) (placed : PlacedScene) →

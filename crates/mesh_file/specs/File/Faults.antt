@@ -1,5 +1,5 @@
 -- The first fault of a file, with the text of a bad word
-use Rattle.std.specs.Prelude.{ℕ, Bool, true, false}
+use Rattle.std.specs.Prelude.{ℕ, Bool, true, false, List, Option, None, Some}
 use Rattle.mesh_read.specs.declared.stl.fault.StlFault.{StlFault}
 use Rattle.mesh_read.specs.declared.stl.fault.StlFault.TheVariants as stl
 use Rattle.mesh_ply.specs.declared.fault.PlyFault.{PlyFault}
@@ -9,6 +9,8 @@ use Rattle.mesh_read.specs.declared.off.fault.OffFault.TheVariants as off
 use Rattle.mesh_read.specs.declared.wavefront.fault.WavefrontFault.{WavefrontFault}
 use Rattle.mesh_read.specs.declared.wavefront.fault.WavefrontFault.TheVariants as error
 use Rattle.mesh_read.specs.Wavefront.Faults as wavefront
+use Rattle.mesh_file.specs.declared.file.unread.UnreadFormat.{UnreadFormat}
+use Rattle.mesh_file.specs.File.Unread.{unread_format}
 use Rattle.mesh_file.specs.declared.file.fault.FileFault.{FileFault}
 use Rattle.mesh_file.specs.declared.file.fault.FileFault.TheVariants as file
 
@@ -19,6 +21,7 @@ pub data Fault : Type 0 where
   Ply : PlyFault → Fault
   Off : OffFault → Fault
   Wavefront : wavefront.Fault → Fault
+  Unread : UnreadFormat → Fault
   OutOfMemory : Fault
 
 -- the fault that an error shows
@@ -28,6 +31,7 @@ fault_of (file.Stl fault) = Stl fault
 fault_of (file.Ply fault) = Ply fault
 fault_of (file.Off fault) = Off fault
 fault_of (file.Wavefront fault) = Wavefront (wavefront.fault_of fault)
+fault_of (file.Unread format) = Unread format
 fault_of file.OutOfMemory = OutOfMemory
 
 -- ---- the fault of a file for one of each reader
@@ -49,6 +53,17 @@ of_off fault = Off fault
 abbrev pub of_wavefront : wavefront.Fault → Fault
 of_wavefront wavefront.OutOfMemory = OutOfMemory
 of_wavefront fault = Wavefront fault
+
+-- ---- files of formats that aren't read
+-- a file of this format has this fault, and any other the one that its reader found
+abbrev pub unread_or : Option UnreadFormat → Fault → Fault
+unread_or None fault = fault
+unread_or (Some format) fault = Unread format
+
+-- of a file that has a fault as one of no format that is read
+abbrev pub with_unread : List ℕ → Fault → Fault
+with_unread bytes OutOfMemory = OutOfMemory
+with_unread bytes fault = unread_or (unread_format bytes) fault
 
 -- ---- faults that are a reader's alone
 -- neither out-of-memory nor that an STL is cut off
@@ -77,4 +92,5 @@ is_plain (file.Stl fault) = is_plain_stl fault
 is_plain (file.Ply fault) = is_plain_ply fault
 is_plain (file.Off fault) = is_plain_off fault
 is_plain (file.Wavefront fault) = is_plain_wavefront fault
+is_plain (file.Unread format) = true
 is_plain file.OutOfMemory = true

@@ -8,12 +8,17 @@ use Rattle.mesh_read.specs.Wavefront.ReadWavefront.{read_wavefront_of}
 use Rattle.mesh_file.specs.declared.format.format.Format.{Format}
 use Rattle.mesh_file.specs.declared.format.format.Format.TheVariants as format
 use Rattle.mesh_file.specs.Format.Formats.{format_said}
-use Rattle.mesh_file.specs.File.Faults.{Fault, CutOff, of_stl, of_ply, of_off, of_wavefront}
+use Rattle.mesh_file.specs.File.Faults.{Fault, CutOff, of_stl, of_ply, of_off, of_wavefront, with_unread}
 
 -- the same reading, whose fault becomes one of a file
 abbrev pub with_faults : {F : Type 0} → (F → Fault) → Result Content F → Result Content Fault
 with_faults of (Ok content) = Ok content
 with_faults of (Err fault) = Err (of fault)
+
+-- the same reading of a file with these bytes, which is refused for its format if that is one that isn't read
+abbrev pub or_unread : List ℕ → Result Content Fault → Result Content Fault
+or_unread bytes (Ok content) = Ok content
+or_unread bytes (Err fault) = Err (with_unread bytes fault)
 
 -- what a file of this format says, or its first fault
 abbrev pub reading_in : Format → List ℕ → Result Content Fault
@@ -21,8 +26,8 @@ reading_in format.Ply bytes = with_faults of_ply (read_ply_of bytes)
 reading_in format.BinaryStl bytes = with_faults of_stl (read_stl_of bytes)
 reading_in format.AsciiStl bytes = with_faults of_stl (read_stl_of bytes)
 reading_in format.Off bytes = with_faults of_off (read_off_of bytes)
-reading_in format.CutOffStl bytes = Err (CutOff (facets_said bytes))
-reading_in format.Obj bytes = with_faults of_wavefront (read_wavefront_of bytes)
+reading_in format.CutOffStl bytes = or_unread bytes (Err (CutOff (facets_said bytes)))
+reading_in format.Obj bytes = or_unread bytes (with_faults of_wavefront (read_wavefront_of bytes))
 
 -- what a file with this name says, or its first fault
 abbrev pub reading_of : List ℕ → List ℕ → Result Content Fault

@@ -8,7 +8,9 @@ use Rattle.mesh_ply.specs.declared.fault.PlyFault.TheVariants as ply
 use Rattle.mesh_read.specs.declared.off.fault.OffFault.{OffFault}
 use Rattle.mesh_read.specs.declared.off.fault.OffFault.TheVariants as off
 use Rattle.mesh_read.specs.Wavefront.Faults as wavefront
-use Rattle.mesh_file.specs.File.Faults.{Fault, CutOff, Stl, Ply, Off, Wavefront, OutOfMemory}
+use Rattle.mesh_file.specs.declared.file.unread.UnreadFormat.{UnreadFormat}
+use Rattle.mesh_file.specs.declared.file.unread.UnreadFormat.TheVariants as unread
+use Rattle.mesh_file.specs.File.Faults.{Fault, CutOff, Stl, Ply, Off, Wavefront, Unread, OutOfMemory}
 
 -- ---- words
 -- the bytes from one place to another
@@ -147,6 +149,18 @@ wavefront_reason wavefront.NoTriangles = no_triangles
 wavefront_reason (wavefront.TooLarge line) = too_large (codes "line") line
 wavefront_reason wavefront.OutOfMemory = out_of_memory
 
+-- ---- formats that aren't read
+abbrev pub unread_reason : UnreadFormat → List ℕ
+unread_reason unread.Zip = codes "3MF and other zip archives aren't read; export as STL, OBJ, PLY or OFF"
+unread_reason unread.Gzip = codes "gzip isn't read; unpack the file"
+unread_reason unread.Glb = codes "GLB isn't read; export as STL, OBJ, PLY or OFF"
+unread_reason unread.Fbx = codes "FBX isn't read; export as STL, OBJ, PLY or OFF"
+unread_reason unread.Step = codes "STEP isn't read; export as STL, OBJ, PLY or OFF"
+unread_reason unread.Vrml = codes "VRML isn't read; export as STL, OBJ, PLY or OFF"
+unread_reason unread.Collada = codes "COLLADA isn't read; export as STL, OBJ, PLY or OFF"
+unread_reason unread.Amf = codes "AMF isn't read; export as STL, OBJ, PLY or OFF"
+unread_reason unread.Html = codes "an HTML page and no mesh; download the mesh itself"
+
 -- ---- the file
 -- why a file with these bytes is refused
 abbrev pub reason_of : List ℕ → Fault → List ℕ
@@ -155,4 +169,5 @@ reason_of bytes (Stl fault) = stl_reason bytes fault
 reason_of bytes (Ply fault) = ply_reason bytes fault
 reason_of bytes (Off fault) = off_reason bytes fault
 reason_of bytes (Wavefront fault) = wavefront_reason fault
+reason_of bytes (Unread format) = unread_reason format
 reason_of bytes OutOfMemory = out_of_memory

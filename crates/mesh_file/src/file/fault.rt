@@ -1,4 +1,5 @@
 // What makes a file no mesh.
+use crate::file::unread::UnreadFormat;
 use mesh_ply::PlyFault;
 use mesh_read::{OffFault, StlFault, WavefrontFault};
 use thiserror::Error;
@@ -19,6 +20,9 @@ pub enum FileFault<'a> {
     Off(OffFault),
     #[error("{0}")]
     Wavefront(WavefrontFault<'a>),
+    /// It is of no format that is read, and begins as a file of this one does.
+    #[error("a format that isn't read")]
+    Unread(UnreadFormat),
     #[error("out of memory")]
     OutOfMemory,
 }

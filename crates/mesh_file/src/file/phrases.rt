@@ -49,3 +49,23 @@ pub(crate) const FACE_NOT_UNDERSTOOD: &str = "face not understood; export anew";
 
 // OBJ
 pub(crate) const FACE_OF_FEW_CORNERS: &str = "face with fewer than three corners; remove it";
+
+// Formats that aren't read
+pub(crate) const ZIP: &str =
+    "3MF and other zip archives aren't read; export as STL, OBJ, PLY or OFF";
+
+pub(crate) const GZIP: &str = "gzip isn't read; unpack the file";
+
+pub(crate) const GLB: &str = "GLB isn't read; export as STL, OBJ, PLY or OFF";
+
+pub(crate) const FBX: &str = "FBX isn't read; export as STL, OBJ, PLY or OFF";
+
+pub(crate) const STEP: &str = "STEP isn't read; export as STL, OBJ, PLY or OFF";
+
+pub(crate) const VRML: &str = "VRML isn't read; export as STL, OBJ, PLY or OFF";
+
+pub(crate) const COLLADA: &str = "COLLADA isn't read; export as STL, OBJ, PLY or OFF";
+
+pub(crate) const AMF: &str = "AMF isn't read; export as STL, OBJ, PLY or OFF";
+
+pub(crate) const HTML: &str = "an HTML page and no mesh; download the mesh itself";

@@ -7,10 +7,11 @@ ghost use Rattle.mesh_ply.specs.ReadPly.{read_ply_of};
 ghost use Rattle.mesh_read.specs.Off.ReadOff.{read_off_of};
 ghost use Rattle.mesh_read.specs.Wavefront.ReadWavefront.{read_wavefront_of};
 ghost use Rattle.mesh_read.specs.Wavefront.Faults as wavefront;
-ghost use Rattle.mesh_file.specs.File.Faults.{fault_of, is_plain, of_stl, of_ply, of_off, of_wavefront};
-ghost use Rattle.mesh_file.specs.File.ReadFile.{with_faults, reading_of};
+ghost use Rattle.mesh_file.specs.File.Faults.{fault_of, is_plain, of_stl, of_ply, of_off, of_wavefront, with_unread};
+ghost use Rattle.mesh_file.specs.File.ReadFile.{with_faults, or_unread, reading_of};
 
 use crate::file::fault::FileFault;
+use crate::file::unread::unread_format;
 use crate::format::{Format, format_of};
 use mesh_ply::{PlyFault, read_ply};
 use mesh_read::{OffFault, StlFault, Surface, WavefrontFault, read_off, read_stl, read_wavefront};
@@ -62,7 +63,24 @@ fn wavefront_fault<'a>(fault: WavefrontFault<'a>) -> FileFault<'a>
     }
 }
 
-// The surface of an STL file, binary, ASCII or cut off.
+// The fault of a file of no format that is read, which may be of one that isn't.
+fn or_unread<'a>(bytes: &[u8], fault: FileFault<'a>) -> FileFault<'a>
+    requires length { length bytes.now ≤ 268435456 }
+    requires plain { is_plain fault ≡ true }
+    ensures fault { fault_of result ≡ with_unread bytes.now (fault_of fault) }
+    ensures memory { fault ≡ FileFault.OutOfMemory → result ≡ FileFault.OutOfMemory }
+    ensures plain { is_plain result ≡ true }
+{
+    match fault {
+        FileFault::OutOfMemory => FileFault::OutOfMemory,
+        other => match unread_format(bytes) {
+            Some(format) => FileFault::Unread(format),
+            None => other,
+        },
+    }
+}
+
+// The surface of an STL file, binary or ASCII, or the fault of one that is cut off.
 fn read_stl_file<'a>(alloc: Global, bytes: &'a [u8]) -> Result<Surface<'a>, FileFault<'a>>
     requires { length bytes.now ≤ 268435456 }
     ensures ok { IfOk result (λ s. with_faults of_stl (read_stl_of bytes.now) ≡ Ok (content_of s)) }
@@ -123,13 +141,48 @@ fn read_wavefront_file<'a>(alloc: Global, bytes: &'a [u8]) -> Result<Surface<'a>
     }
 }
 
+// The surface of a file that is STL by its name alone, or rather its fault.
+fn read_cut_off_file<'a>(alloc: Global, bytes: &'a [u8]) -> Result<Surface<'a>, FileFault<'a>>
+    requires { length bytes.now ≤ 268435456 }
+    ensures ok { IfOk result (λ s. or_unread bytes.now (with_faults of_stl (read_stl_of bytes.now))
+        ≡ Ok (content_of s)) }
+    ensures surface { IfOk result IsSurface }
+    ensures within { IfOk result (λ s. find (is_facet_too_large s.vertices.items) s.facets.items ≡ None) }
+    ensures fault { IfErr result (λ e. (e ≡ FileFault.OutOfMemory)
+        ⊎ (or_unread bytes.now (with_faults of_stl (read_stl_of bytes.now)) ≡ Err (fault_of e))) }
+    ensures plain { IfErr result (λ e. is_plain e ≡ true) }
+{
+    match read_stl_file(alloc, bytes) {
+        Ok(surface) => Ok(surface),
+        Err(fault) => Err(or_unread(bytes, fault)),
+    }
+}
+
+// The surface of any other file, if it is an OBJ.
+fn read_other_file<'a>(alloc: Global, bytes: &'a [u8]) -> Result<Surface<'a>, FileFault<'a>>
+    requires { length bytes.now ≤ 268435456 }
+    ensures ok { IfOk result (λ s. or_unread bytes.now (with_faults of_wavefront (read_wavefront_of bytes.now))
+        ≡ Ok (content_of s)) }
+    ensures surface { IfOk result IsSurface }
+    ensures within { IfOk result (λ s. find (is_facet_too_large s.vertices.items) s.facets.items ≡ None) }
+    ensures fault { IfErr result (λ e. (e ≡ FileFault.OutOfMemory)
+        ⊎ (or_unread bytes.now (with_faults of_wavefront (read_wavefront_of bytes.now)) ≡ Err (fault_of e))) }
+    ensures plain { IfErr result (λ e. is_plain e ≡ true) }
+{
+    match read_wavefront_file(alloc, bytes) {
+        Ok(surface) => Ok(surface),
+        Err(fault) => Err(or_unread(bytes, fault)),
+    }
+}
+
 /// The vertices and triangles of a mesh file with this name, or its first fault.
 ///
 /// [`format_of`](crate::format::format_of) says which format it has. Each format has its own reader,
 /// which says what is read and where a triangle's place is: [`read_ply`](mesh_ply::read_ply),
 /// [`read_stl`](mesh_read::read_stl), [`read_off`](mesh_read::read_off) and
 /// [`read_wavefront`](mesh_read::read_wavefront). A file that is STL by its name alone is
-/// [`CutOff`](FileFault::CutOff).
+/// [`CutOff`](FileFault::CutOff). A file that is refused as STL by its name alone or as OBJ, and
+/// begins as a file of another format does, is [`Unread`](FileFault::Unread).
 ///
 /// All coordinates of triangles are below 10^15 in size. They may borrow their digits from `bytes`,
 /// and a fault its bad word. There are at most 2^28 bytes.
@@ -148,8 +201,9 @@ pub fn read_file<'a>(
 {
     match format_of(name, bytes) {
         Format::Ply => read_ply_file(alloc, bytes),
-        Format::BinaryStl | Format::AsciiStl | Format::CutOffStl => read_stl_file(alloc, bytes),
+        Format::BinaryStl | Format::AsciiStl => read_stl_file(alloc, bytes),
         Format::Off => read_off_file(alloc, bytes),
-        Format::Obj => read_wavefront_file(alloc, bytes),
+        Format::CutOffStl => read_cut_off_file(alloc, bytes),
+        Format::Obj => read_other_file(alloc, bytes),
     }
 }

@@ -2,18 +2,20 @@
 ghost use Rattle.std.specs.Prelude.{◌≡◌, ◌++◌, OnOk, string_bytes};
 ghost use Rattle.mesh_read.specs.Wavefront.Faults as wavefront;
 ghost use Rattle.mesh_file.specs.File.Faults.{fault_of};
-ghost use Rattle.mesh_file.specs.File.Reasons.{not_a_number, unknown_word, short_row, unknown_vertex, stl_reason, ply_reason, off_reason, wavefront_reason, reason_of};
+ghost use Rattle.mesh_file.specs.File.Reasons.{not_a_number, unknown_word, short_row, unknown_vertex, stl_reason, ply_reason, off_reason, wavefront_reason, unread_reason, reason_of};
 
 use crate::file::fault::FileFault;
 use crate::file::phrases::{
-    ENDS_IN_FACET, FACE_NOT_UNDERSTOOD, FACE_OF_FEW_CORNERS, FACET_NOT_FINITE, FEW_COORDINATES,
-    FEW_CORNERS, FEW_LINES, NO_COORDINATES, NO_CORNERS, NO_COUNTS, NO_END, NO_FORMAT, NO_OFF,
-    NO_SUCH_VERTEX, NO_TRIANGLES, NOT_THREE_VERTICES, NOT_UNDERSTOOD, OUT_OF_MEMORY, SHORT_ROW,
-    TOO_LARGE, VERTEX_NOT_FINITE, VERTEX_OUTSIDE,
+    AMF, COLLADA, ENDS_IN_FACET, FACE_NOT_UNDERSTOOD, FACE_OF_FEW_CORNERS, FACET_NOT_FINITE, FBX,
+    FEW_COORDINATES, FEW_CORNERS, FEW_LINES, GLB, GZIP, HTML, NO_COORDINATES, NO_CORNERS,
+    NO_COUNTS, NO_END, NO_FORMAT, NO_OFF, NO_SUCH_VERTEX, NO_TRIANGLES, NOT_THREE_VERTICES,
+    NOT_UNDERSTOOD, OUT_OF_MEMORY, SHORT_ROW, STEP, TOO_LARGE, VERTEX_NOT_FINITE, VERTEX_OUTSIDE,
+    VRML, ZIP,
 };
 use crate::file::reason_parts::{
     between, front, put_at, put_cut_off, put_numbered, put_with_word, put_word,
 };
+use crate::file::unread::UnreadFormat;
 use mesh_ply::PlyFault;
 use mesh_read::{OffFault, StlFault, WavefrontFault};
 use std::alloc::AllocError;
@@ -131,6 +133,23 @@ fn put_wavefront_reason(fault: &WavefrontFault, text: &mut String) -> Result<(),
     }
 }
 
+// Why a file of this format is refused.
+fn unread_reason(format: UnreadFormat) -> &'static str
+    ensures { result.now ≡ unread_reason format }
+{
+    match format {
+        UnreadFormat::Zip => ZIP,
+        UnreadFormat::Gzip => GZIP,
+        UnreadFormat::Glb => GLB,
+        UnreadFormat::Fbx => FBX,
+        UnreadFormat::Step => STEP,
+        UnreadFormat::Vrml => VRML,
+        UnreadFormat::Collada => COLLADA,
+        UnreadFormat::Amf => AMF,
+        UnreadFormat::Html => HTML,
+    }
+}
+
 /// Appends why a file with these bytes is refused: `PLACE: REASON; REMEDY`, without the place where
 /// the fault has none. The place is a line, a facet, a face or a vertex with its number from 1, or
 /// the name of an element of a PLY file with the number of its row. Out-of-memory is
@@ -149,6 +168,7 @@ pub fn put_reason(bytes: &[u8], fault: &FileFault, text: &mut String) -> Result<
         FileFault::Ply(fault) => put_ply_reason(bytes, fault, text),
         FileFault::Off(fault) => put_off_reason(bytes, fault, text),
         FileFault::Wavefront(fault) => put_wavefront_reason(fault, text),
+        FileFault::Unread(format) => text.push_str(unread_reason(*format)),
         FileFault::OutOfMemory => text.push_str(OUT_OF_MEMORY),
     }
 }

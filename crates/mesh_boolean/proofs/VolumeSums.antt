@@ -1,0 +1,35 @@
+-- The volume of a mesh, triangle by triangle
+use Rattle.std.proofs.Common.{◌≡◌, ℕ, ◌+◌, ◌*◌, ◌<◌, ◌≤◌, List, [], ◌∷◌, ◌++◌, length, take, get_or, map, nat_eq, ℤ, pos, ◌+ℤ◌, sym, ap, ◌∙◌, arith}
+use Rattle.std.specs.List.{range_with_len}
+use Rattle.std.proofs.lemmas.List.FromFn.{map-range_with_len_more}
+use Rattle.ember_algebra.specs.Size.{Small}
+use Rattle.ember_algebra.specs.Sums.{total}
+use Rattle.ember_algebra.specs.Vector.{Vector, minus_v, dot, cross, det}
+use Rattle.ember_algebra.proofs.Ring.{◌≈◌, cancels}
+use Rattle.ember_algebra.proofs.Size.{small_add, small_within}
+use Rattle.ember_algebra.proofs.Sums.{total-filter, total-take_more}
+use Rattle.ember_algebra.proofs.Vectors.{vector, identity, minusE, dotE, crossE}
+use Rattle.ember_model.specs.declared.tri.Tri.{Tri}
+use Rattle.mesh_boolean.specs.Volumes.{six_volumes_of_mesh, six_volumes, six_volumes_for}
+
+-- the constant of the plane through three points is their determinant
+pub constant_is_determinant : (a b c : Vector) → dot (cross (minus_v b a) (minus_v c a)) a ≡ det a b c
+constant_is_determinant =
+    identity (vector ∷ vector ∷ vector ∷ []) (λ a b c. dotE (crossE (minusE b a) (minusE c a)) a ≈ dotE a (crossE b c)) cancels
+
+-- the sum over the triangles of a mesh, as one over all triangles
+parts_of_mesh : (m : ℕ) (ts : List Tri) → six_volumes_of_mesh ts m ≡ total (six_volumes_for m) ts
+parts_of_mesh m ts = total-filter six_volumes (λ t. nat_eq t.mesh m) ts
+
+-- the sum with one triangle more
+pub volume_more : (m : ℕ) (ts : List Tri) (i : ℕ) (d : Tri) (sum part : ℤ) → i < length ts →
+    sum ≡ six_volumes_of_mesh (take i ts) m → part ≡ six_volumes_for m (get_or ts i d) →
+    sum +ℤ part ≡ six_volumes_of_mesh (take (i + 1) ts) m
+volume_more m ts i d sum part l e f =
+    (λ k. (e ∙ parts_of_mesh m (take i ts)) k +ℤ f k)
+    ∙ sym (total-take_more (six_volumes_for m) ts i d l)
+    ∙ sym (parts_of_mesh m (take (i + 1) ts))
+
+-- and how large it is at most, for parts of this size
+pub small_more : (size i : ℕ) (sum part : ℤ) → Small (i * size) sum → Small size part → Small ((i + 1) * size) (sum +ℤ part)
+small_more size i sum part p q = small_within (omega arith) (small_add p q)

@@ -1,0 +1,17 @@
+use Rattle.std.proofs.Common.{ap, ◌∙◌}
+use Rattle.ember_model.specs.declared.plane.Plane.{Plane}
+use Rattle.ember_model.specs.Planes.{vector_of}
+use Rattle.ember_model.proofs.PlaneSizes.{tri_broad}
+use Rattle.mesh_boolean.proofs.VolumeSums.{constant_is_determinant}
+use Rattle.mesh_boolean.proofs.volumes.six_volumes.Goals as goal
+
+pub support_of-requires : goal.support_of-requires
+support_of-requires c = tri_broad c.requires
+
+pub returns-clause-value : goal.returns-clause-value
+returns-clause-value c =
+    let t = c.args.t.now in
+    ap (λ (p : Plane). p.d) c.support_of.ensures.value ∙ constant_is_determinant (vector_of t.a) (vector_of t.b) (vector_of t.c)
+
+pub returns-clause-small : goal.returns-clause-small
+returns-clause-small c = let sized = c.support_of.ensures.small c.requires in sized.d

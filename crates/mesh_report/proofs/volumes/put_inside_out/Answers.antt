@@ -1,0 +1,13 @@
+use Rattle.std.proofs.Common.{codes, decimal}
+use Rattle.mesh_report.specs.Volumes.{volume_text}
+use Rattle.mesh_report.proofs.Appended.{after7, on_ok_if}
+use Rattle.mesh_report.proofs.volumes.put_inside_out.Goals as goal
+
+pub returns : goal.returns
+returns c =
+    on_ok_if _ _ c.extend_from_slice-5.result c.extend_from_slice-5.ensures.items
+    (after7 (codes "warning: ") c.args.name.now (codes ": its volume is ") (volume_text c.args.step.now c.args.six_volumes)
+    (codes ", so it may be inside out; use w") (decimal c.args.number) (codes "=-1") _ _ _ _ _ _ _
+    c.in_ok-extend_from_slice.ensures.items c.in_ok-extend_from_slice-2.ensures.items
+    c.in_ok-extend_from_slice-3.ensures.items c.in_ok-put_volume.ensures c.in_ok-extend_from_slice-4.ensures.items
+    c.in_ok-put_count.ensures)
