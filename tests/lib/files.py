@@ -51,10 +51,11 @@ def ply(mesh, form="ascii", scalar="float"):
     return head.encode() + b"".join(rows)
 
 
-def off(mesh):
+def off(mesh, head="OFF # made by a test\n", more=""):
+    """With another head than that line, and with more numbers of each vertex, which a reader of meshes passes over."""
     corners, faces = mesh
-    rows = [_words(it) for it in corners] + [" ".join(map(str, (len(face), *face))) for face in faces]
-    return "\n".join(["OFF # made by a test", f"{len(corners)} {len(faces)} 0", *rows, ""]).encode()
+    rows = [_words(it) + more for it in corners] + [" ".join(map(str, (len(face), *face))) for face in faces]
+    return head.encode() + "\n".join([f"{len(corners)} {len(faces)} 0", *rows, ""]).encode()
 
 
 FORMATS = {
@@ -65,4 +66,6 @@ FORMATS = {
     "little.ply": lambda mesh: ply(mesh, "binary_little_endian"),
     "big.ply": lambda mesh: ply(mesh, "binary_big_endian", "double"),
     "off": off,
+    "marked.off": lambda mesh: off(mesh, "\ufeff# made by a test\n\nstCnOFF # in any case\n", " 0.5 0.5 255 0 0 255 0 0 1"),
+    "bare.off": lambda mesh: off(mesh, "# made by a test\n"),
 }

@@ -30,7 +30,7 @@ PLY vertices have no x, y, z; export anew
 PLY faces have no vertex_indices \(strips aren't read\); export as triangles
 face \d+: names a vertex that isn't there; export anew
 face \d+: fewer than three corners; remove it
-line 1: no OFF; export anew
+line \d+: vertices of four coordinates \(4OFF\) aren't read; export as OFF
 OFF has no counts; export anew
 fewer lines than the counts say; it is cut off, export anew
 line \d+: face not understood; export anew

@@ -40,7 +40,11 @@ _PLY = (
 
 _OFF = (
     # A vertical tab separates words in an STL, but not in an OFF.
-    (b"OFF\x0b3 1\n", "line 1: no OFF; export anew"),
+    (b"OFF\x0b3 1\n", "no triangles in it; is it a mesh?"),
+    (b"# a comment\n4OFF 3 1\n", "line 2: vertices of four coordinates (4OFF) aren't read; export as OFF"),
+    (b"stn4off 3 1\n", "line 1: vertices of four coordinates (4OFF) aren't read; export as OFF"),
+    (b"3\n1 0\n", "OFF has no counts; export anew"),
+    (b"\xef\xbb\xbfOFF 1 0\n0 n/a 0\n", "line 2: coordinate 'n/a' is not a number; export anew"),
     (b"OFF\n", "OFF has no counts; export anew"),
     (b"OFF 3 1\n0 0 0\n", "fewer lines than the counts say; it is cut off, export anew"),
     (b"OFF 1 0\n1 2\n", "line 2: fewer than three coordinates; export anew"),

@@ -9,7 +9,7 @@ use Rattle.mesh_read.specs.Stl.Binary.{binary_of}
 use Rattle.mesh_read.specs.Stl.ReadStl.{is_binary, is_ascii, facets_said, read_stl_of, checked}
 use Rattle.mesh_file.specs.declared.format.format.Format.{Format}
 use Rattle.mesh_file.specs.declared.format.format.Format.TheVariants.{Ply, BinaryStl, AsciiStl, Off, CutOffStl, Obj}
-use Rattle.mesh_file.specs.Format.Formats.{is_ply, is_off, has_stl_name, format_said}
+use Rattle.mesh_file.specs.Format.Formats.{is_ply, is_off_file, has_stl_name, format_said}
 use Rattle.mesh_file.specs.File.Faults.{CutOff, of_stl}
 use Rattle.mesh_file.specs.File.ReadFile.{with_faults, or_unread, reading_in, reading_of}
 
@@ -24,7 +24,7 @@ neither false false false o s x y n e = refl
 cut_off : (name bytes : List ℕ) → format_said name bytes ≡ CutOffStl → with_faults of_stl (read_stl_of bytes) ≡ Err (CutOff (facets_said bytes))
 cut_off name bytes e =
     let refused : read_stl_of bytes ≡ Err (stl.CutOff (facets_said bytes)) =
-    neither (is_ply bytes) (is_binary bytes) (is_ascii bytes) (is_off bytes) (has_stl_name name) (binary_of bytes)
+    neither (is_ply bytes) (is_binary bytes) (is_ascii bytes) (is_off_file name bytes) (has_stl_name name) (binary_of bytes)
     (ascii_of bytes) (facets_said bytes) e in
     ap (with_faults of_stl) refused
 

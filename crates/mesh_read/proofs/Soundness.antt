@@ -11,12 +11,13 @@ use Rattle.mesh_read.specs.Surface.Surfaces.{Point, Content, IsWithin}
 use Rattle.mesh_read.proofs.Fans.{fan_within}
 use Rattle.mesh_read.proofs.Flaws.{IsSound}
 use Rattle.mesh_read.specs.declared.off.fault.OffFault.{OffFault}
-use Rattle.mesh_read.specs.declared.off.fault.OffFault.TheVariants.{NoOff, FewLines}
+use Rattle.mesh_read.specs.declared.off.fault.OffFault.TheVariants.{NoOff, MoreCoordinates, FewLines}
 use Rattle.mesh_read.specs.Off.Rows.{Words}
 use Rattle.mesh_number.specs.Number.Naturals.{number_of, below}
 use Rattle.mesh_read.specs.Off.ReadOff.{joined, point_in, one, points_of, with_corner, indices, corners_of_size, corners_of}
 use Rattle.mesh_read.specs.Off.ReadOff.{fan_or_fault, facets_in, facets_of, Counts, counts_of, whole, counted}
-use Rattle.mesh_read.specs.Off.ReadOff.{behind_keyword, is_keyword, with_keyword, content_in}
+use Rattle.mesh_read.specs.Off.Keywords.{is_keyword, is_homogeneous, is_count}
+use Rattle.mesh_read.specs.Off.ReadOff.{behind_keyword, with_first, content_in}
 
 limited : (v : ℕ) (n : Option ℕ) → IfSome (below v n) (λ c. c < v)
 limited v None = tt
@@ -102,13 +103,21 @@ behind_sound [] [] = tt
 behind_sound [] (row ∷ rows) = counted_sound (counts_of row.words) rows
 behind_sound (word ∷ words) rows = counted_sound (counts_of (word ∷ words)) rows
 
-keyword_sound : (words : List Piece) (rows : List Words) → IfOk (with_keyword words rows) IsSound
-keyword_sound [] rows = tt
-keyword_sound (word ∷ words) rows = elim (is_keyword word.text) as
-    (λ (t : Bool). IfOk (if t then behind_keyword words rows else Err NoOff) IsSound)
-    [ true ↦ behind_sound words rows | false ↦ tt ]
+choice_sound : (keyword four count : Bool) (fault : OffFault) (behind counted : Result Content OffFault) → IfOk behind IsSound →
+    IfOk counted IsSound → IfOk (if keyword then behind else (if four then Err fault else (if count then counted else Err NoOff))) IsSound
+choice_sound true four count fault behind counted h hs = h
+choice_sound false true count fault behind counted h hs = tt
+choice_sound false false true fault behind counted h hs = hs
+choice_sound false false false fault behind counted h hs = tt
+
+first_sound : (line : ℕ) (words : List Piece) (rows : List Words) → IfOk (with_first line words rows) IsSound
+first_sound line [] rows = tt
+first_sound line (word ∷ words) rows =
+    choice_sound (is_keyword word.text) (is_homogeneous word.text) (is_count word.text) (MoreCoordinates line)
+    (behind_keyword words rows) (counted (counts_of (word ∷ words)) rows) (behind_sound words rows)
+    (counted_sound (counts_of (word ∷ words)) rows)
 
 -- each corner of what is read is a vertex
 pub content_sound : (rows : List Words) → IfOk (content_in rows) IsSound
 content_sound [] = tt
-content_sound (row ∷ rows) = keyword_sound row.words rows
+content_sound (row ∷ rows) = first_sound row.line row.words rows

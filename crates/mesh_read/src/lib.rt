@@ -7,7 +7,7 @@ mod stl;
 mod surface;
 mod wavefront;
 
-pub use off::{OffFault, read_off};
+pub use off::{OffFault, begins_with_count, is_off, read_off};
 pub use scan::{
     Blanks, Part, Span, cut_before, next_line, next_word, next_word_between, three_words,
     without_comment,

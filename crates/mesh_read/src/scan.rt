@@ -9,6 +9,7 @@ mod words;
 
 pub use blanks::Blanks;
 pub use cut::cut_before;
+pub(crate) use lines::part_behind_mark;
 pub use lines::{next_line, without_comment};
 pub use part::{Part, Span};
 pub use words::{next_word, next_word_between, three_words};

@@ -14,7 +14,7 @@ fn format_in(name: &[u8], bytes: &[u8]) -> Option<Format> {
 
 #[test]
 fn formats_by_content_and_then_by_name(rt: HostRuntime) {
-    let rows: [(&[u8], &[u8], Format); 17] = [
+    let rows: [(&[u8], &[u8], Format); 21] = [
         (b"a.obj", b"ply\nformat ascii 1.0\n", Format::Ply),
         (b"a", b"ply\r\n", Format::Ply),
         (b"a.ply", b"ply", Format::Ply),
@@ -30,6 +30,10 @@ fn formats_by_content_and_then_by_name(rt: HostRuntime) {
         (b"a", b" COFF 3 1 0\n", Format::Off),
         (b"a", b"NOFF", Format::Off),
         (b"a.off", b"OFFS 3 1 0\n", Format::Obj),
+        (b"a.OFF", b"# a\n3 1 0\n", Format::Off),
+        (b"a.obj", b"3 1 0\n", Format::Obj),
+        (b"a", b"\xEF\xBB\xBF# a\n\nstnOFF\n", Format::Off),
+        (b"a.obj", b"4off", Format::Off),
         (b".stl", b"", Format::CutOffStl),
         (b"", b"", Format::Obj),
     ];

@@ -22,7 +22,7 @@ fn count(alloc: Global, bytes: &[u8]) -> Result<(usize, usize), OffFault> {
 
 #[test]
 fn off_files_that_are_read(rt: HostRuntime) {
-    let rows: [(&[u8], (usize, usize)); 8] = [
+    let rows: [(&[u8], (usize, usize)); 12] = [
         (b"OFF\n3 1 0\n0 0 0\n1 0 0\n0 1 0\n3 0 1 2\n", (3, 1)),
         (b"off 3 1\n0 0 0\n1 0 0\n0 1 0\n3 0 1 2", (3, 1)),
         (
@@ -46,6 +46,13 @@ fn off_files_that_are_read(rt: HostRuntime) {
             b"OFF\n4 1\n0 0 0\n1 0 0\n0 1 0\n1e15 0 0\n3 0 1 2\n",
             (4, 1),
         ),
+        (
+            b"\xEF\xBB\xBF\n# a\nSTOFF 3 1\n0 0 0 .5 .5\n1 0 0 0 0\n0 1 0 1 1\n3 0 1 2\n",
+            (3, 1),
+        ),
+        (b"stCnoff 3 1\n0 0 0\n1 0 0\n0 1 0\n3 0 1 2\n", (3, 1)),
+        (b"3 1 3\n0 0 0\n1 0 0\n0 1 0\n3 0 1 2\n", (3, 1)),
+        (b"\xEF\xBB\xBF03 1\n0 0 0\n1 0 0\n0 1 0\n3 0 1 2\n", (3, 1)),
     ];
     for (bytes, want) in rows {
         assert_eq!(rt; count(rt.alloc(), bytes), Ok(want));
@@ -54,12 +61,18 @@ fn off_files_that_are_read(rt: HostRuntime) {
 
 #[test]
 fn off_files_that_are_refused(rt: HostRuntime) {
-    let rows: [(&[u8], OffFault); 20] = [
+    let rows: [(&[u8], OffFault); 27] = [
         (b"", OffFault::NoOff),
         (b"# OFF\n", OffFault::NoOff),
-        (b"3 1 0\n", OffFault::NoOff),
         (b"OFFS 3 1\n", OffFault::NoOff),
-        (b"CNOFF 3 1\n", OffFault::NoOff),
+        (b"NCOFF 3 1\n", OffFault::NoOff),
+        (b"CSTOFF 3 1\n", OffFault::NoOff),
+        (b"\xEF\xBB 3 1\n", OffFault::NoOff),
+        (b"-3 1 0\n", OffFault::NoOff),
+        (b"# a\n\n4OFF 3 1\n", OffFault::MoreCoordinates(3)),
+        (b"STn4off\n", OffFault::MoreCoordinates(1)),
+        (b"3 1 0\n", OffFault::FewLines),
+        (b"3\n1 0\n", OffFault::NoCounts),
         (b"OFF", OffFault::NoCounts),
         (b"OFF 3", OffFault::NoCounts),
         (b"OFF 3\n1\n", OffFault::NoCounts),
@@ -71,6 +84,10 @@ fn off_files_that_are_refused(rt: HostRuntime) {
         (
             b"OFF 1 0\n0 nan 1.2.3\n",
             OffFault::NotANumber(2, Span { start: 10, end: 13 }),
+        ),
+        (
+            b"\xEF\xBB\xBFOFF 1 0\n0 nan 0\n",
+            OffFault::NotANumber(2, Span { start: 13, end: 16 }),
         ),
         (b"OFF 3 1\n0 0 0\n1 0 0\n0 1 0\n2 0 1\n", OffFault::Face(5)),
         (

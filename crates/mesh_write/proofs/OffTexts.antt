@@ -1,6 +1,6 @@
 -- An OFF text, read again
 use Rattle.std.proofs.Common.{◌≡◌, ℕ, zero, suc, ◌+◌, ◌<◌, ◌^◌, true, leb, List, [], ◌∷◌, ◌++◌, length, take, drop}
-use Rattle.std.proofs.Common.{length-append, Option, Some, Ok, Err, refl, ap, ap₂, ◌∙◌, arith, decimal}
+use Rattle.std.proofs.Common.{length-append, Option, Some, Result, Ok, Err, refl, ap, ap₂, ◌∙◌, arith, decimal}
 use Rattle.std.specs.Prelude.{All, flat_map, if◌then◌else◌}
 use Rattle.std.proofs.lemmas.Bool.Decides.{nat_tests}
 use Rattle.std.proofs.lemmas.List.{take_all}
@@ -8,9 +8,11 @@ use Rattle.std.proofs.lemmas.List.Elements.{All-nil}
 use Rattle.mesh_write.specs.Text.Lines.{point_line, listed_face}
 use Rattle.mesh_write.specs.Text.Texts.{off_header, off_text}
 use Rattle.mesh_number.specs.Number.Naturals.{number_of}
-use Rattle.mesh_read.specs.declared.off.fault.OffFault.TheVariants.{NoOff, FewLines}
+use Rattle.mesh_read.specs.declared.off.fault.OffFault.{OffFault}
+use Rattle.mesh_read.specs.declared.off.fault.OffFault.TheVariants.{NoOff, MoreCoordinates, FewLines}
 use Rattle.mesh_read.specs.Off.ReadOff.{Counts, points_of, facets_of, two_counts, counts_of, whole, counted, behind_keyword}
-use Rattle.mesh_read.specs.Off.ReadOff.{is_keyword, with_keyword, content_in, of_flaw, read_off_of}
+use Rattle.mesh_read.specs.Off.Keywords.{is_keyword, is_homogeneous, is_count}
+use Rattle.mesh_read.specs.Off.ReadOff.{with_first, content_in, of_flaw, read_off_of}
 use Rattle.mesh_read.specs.Off.Rows.{Words, rows_from, rows_of}
 use Rattle.mesh_read.specs.Scan.Parts.{Piece, lines_from}
 use Rattle.mesh_read.specs.declared.surface.surface.Facet.{Facet}
@@ -50,13 +52,20 @@ keyword_row = row_at 1 0 off_word []
 abbrev counts_row : ℕ → ℕ → Words
 counts_row v f = row_at 2 4 (decimal v) (others f)
 
-keyword_found : (words : List Piece) (row : Words) (rows : List Words) → texts words ≡ off_word ∷ [] →
-    with_keyword words (row ∷ rows) ≡ counted (counts_of row.words) rows
-keyword_found [] row rows e = absurd (cc)
-keyword_found (w ∷ []) row rows e =
+-- what is read if the first word is this one, and stands alone
+abbrev by_first : ℕ → List ℕ → Piece → Words → List Words → Result Content OffFault
+by_first line text w row rows =
+    if is_keyword text then behind_keyword [] (row ∷ rows)
+    else (if is_homogeneous text then Err (MoreCoordinates line)
+    else (if is_count text then counted (counts_of (w ∷ [])) (row ∷ rows) else Err NoOff))
+
+keyword_found : (line : ℕ) (words : List Piece) (row : Words) (rows : List Words) → texts words ≡ off_word ∷ [] →
+    with_first line words (row ∷ rows) ≡ counted (counts_of row.words) rows
+keyword_found line [] row rows e = absurd (cc)
+keyword_found line (w ∷ []) row rows e =
     let is : w.text ≡ off_word = cc in
-    ap (λ (l : List ℕ). if is_keyword l then behind_keyword [] (row ∷ rows) else Err NoOff) is
-keyword_found (w ∷ x ∷ more) row rows e = absurd (cc)
+    ap (λ (l : List ℕ). by_first line l w row rows) is
+keyword_found line (w ∷ x ∷ more) row rows e = absurd (cc)
 
 counts_found : (words : List Piece) (v f : ℕ) → v < 2 ^ 64 → f < 2 ^ 64 → texts words ≡ decimal v ∷ others f →
     counts_of words ≡ Some (record { vertices = v; faces = f })
@@ -113,7 +122,7 @@ off_content places ps ts h =
     let back = faces v (3 + v) front.next ts (omega (arith, h.few_points)) h.within in
     let rows = front.is ∙ ap (λ (l : List Words). front.rows ++ l) back.is in
     ap content_in (header.1 ∙ ap (λ (l : List Words). keyword_row ∷ counts_row v f ∷ l) rows)
-    ∙ keyword_found keyword_row.words (counts_row v f) (front.rows ++ back.rows) (joined_words 0 off_word [] off_is_word (All-nil IsWord))
+    ∙ keyword_found keyword_row.line keyword_row.words (counts_row v f) (front.rows ++ back.rows) (joined_words 0 off_word [] off_is_word (All-nil IsWord))
     ∙ ap (λ (c : Option Counts). counted c (front.rows ++ back.rows))
     (counts_found (counts_row v f).words v f h.few_points h.few_triangles
     (joined_words 4 (decimal v) (others f) (number_word v h.few_points) (others_words f h.few_triangles)))

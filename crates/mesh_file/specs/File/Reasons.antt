@@ -123,6 +123,8 @@ ply_reason bytes ply.OutOfMemory = out_of_memory
 -- the faults of OFF files
 abbrev pub off_reason : List ℕ → OffFault → List ℕ
 off_reason bytes off.NoOff = at (codes "line") 1 (codes "no OFF; export anew")
+off_reason bytes (off.MoreCoordinates line) =
+    at (codes "line") line (codes "vertices of four coordinates (4OFF) aren't read; export as OFF")
 off_reason bytes off.NoCounts = codes "OFF has no counts; export anew"
 off_reason bytes off.FewLines = codes "fewer lines than the counts say; it is cut off, export anew"
 off_reason bytes (off.FewCoordinates line) = few_coordinates line

@@ -3,8 +3,8 @@ use Rattle.std.specs.Prelude.{ℕ, ◌-◌, Bool, true, ◌&&◌, ◌||◌, List
 use Rattle.std.specs.Prelude.{length, drop, codes}
 use Rattle.std.specs.List.{starts_with}
 use Rattle.std.specs.Str.{str_eq_ignore_ascii_case}
-use Rattle.mesh_read.specs.Scan.Parts.{is_space, words_by}
-use Rattle.mesh_read.specs.Stl.ReadStl.{is_binary, is_ascii, begins_with}
+use Rattle.mesh_read.specs.Stl.ReadStl.{is_binary, is_ascii}
+use Rattle.mesh_read.specs.Off.Signs.{is_off, begins_with_count}
 use Rattle.mesh_file.specs.declared.format.format.Format.{Format}
 use Rattle.mesh_file.specs.declared.format.format.Format.TheVariants.{Ply, BinaryStl, AsciiStl, Off, CutOffStl, Obj}
 
@@ -17,16 +17,17 @@ ends_line (b ∷ bs) = b == 10 || b == 13
 abbrev pub is_ply : List ℕ → Bool
 is_ply bytes = starts_with nat_eq bytes (codes "ply") && ends_line (drop 3 bytes)
 
--- the first word is OFF, COFF or NOFF, in any case
-abbrev pub is_off : List ℕ → Bool
-is_off bytes =
-    begins_with (codes "OFF") (words_by is_space 0 bytes [])
-    || begins_with (codes "COFF") (words_by is_space 0 bytes [])
-    || begins_with (codes "NOFF") (words_by is_space 0 bytes [])
+-- the name ends in these four bytes, in any case
+abbrev pub has_ending : List ℕ → List ℕ → Bool
+has_ending ending name = str_eq_ignore_ascii_case (drop (length name - 4) name) ending
+
+-- the first word is a keyword of OFF, or a number in a file whose name ends in .off
+abbrev pub is_off_file : List ℕ → List ℕ → Bool
+is_off_file name bytes = is_off bytes || has_ending (codes ".off") name && begins_with_count bytes
 
 -- the name ends in .stl, in any case
 abbrev pub has_stl_name : List ℕ → Bool
-has_stl_name name = str_eq_ignore_ascii_case (drop (length name - 4) name) (codes ".stl")
+has_stl_name name = has_ending (codes ".stl") name
 
 -- the format of a file with this name and these bytes: the first that fits
 abbrev pub format_said : List ℕ → List ℕ → Format
@@ -34,6 +35,6 @@ format_said name bytes =
     if is_ply bytes then Ply
     else (if is_binary bytes then BinaryStl
     else (if is_ascii bytes then AsciiStl
-    else (if is_off bytes then Off
+    else (if is_off_file name bytes then Off
     else (if has_stl_name name then CutOffStl
     else Obj))))

@@ -41,6 +41,9 @@ pub(crate) const FEW_CORNERS: &str = "fewer than three corners; remove it";
 // OFF
 pub(crate) const NO_OFF: &str = "no OFF; export anew";
 
+pub(crate) const MORE_COORDINATES: &str =
+    "vertices of four coordinates (4OFF) aren't read; export as OFF";
+
 pub(crate) const NO_COUNTS: &str = "OFF has no counts; export anew";
 
 pub(crate) const FEW_LINES: &str = "fewer lines than the counts say; it is cut off, export anew";

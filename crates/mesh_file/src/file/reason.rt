@@ -7,7 +7,7 @@ ghost use Rattle.mesh_file.specs.File.Reasons.{not_a_number, unknown_word, short
 use crate::file::fault::FileFault;
 use crate::file::phrases::{
     AMF, COLLADA, ENDS_IN_FACET, FACE_NOT_UNDERSTOOD, FACE_OF_FEW_CORNERS, FACET_NOT_FINITE, FBX,
-    FEW_COORDINATES, FEW_CORNERS, FEW_LINES, GLB, GZIP, HTML, NO_COORDINATES, NO_CORNERS,
+    FEW_COORDINATES, FEW_CORNERS, FEW_LINES, GLB, GZIP, HTML, MORE_COORDINATES, NO_COORDINATES, NO_CORNERS,
     NO_COUNTS, NO_END, NO_FORMAT, NO_OFF, NO_SUCH_VERTEX, NO_TRIANGLES, NOT_THREE_VERTICES,
     NOT_UNDERSTOOD, OUT_OF_MEMORY, SHORT_ROW, STEP, TOO_LARGE, VERTEX_NOT_FINITE, VERTEX_OUTSIDE,
     VRML, ZIP,
@@ -95,6 +95,7 @@ fn put_off_reason(bytes: &[u8], fault: &OffFault, text: &mut String) -> Result<(
 {
     match fault {
         OffFault::NoOff => put_at("line", 1, NO_OFF, text),
+        OffFault::MoreCoordinates(line) => put_at("line", *line, MORE_COORDINATES, text),
         OffFault::NoCounts => text.push_str(NO_COUNTS),
         OffFault::FewLines => text.push_str(FEW_LINES),
         OffFault::FewCoordinates(line) => put_at("line", *line, FEW_COORDINATES, text),

@@ -27,7 +27,8 @@ pub enum Format {
 ///   byte 80 on, the lowest byte first.
 /// - ASCII STL, if its first word is `solid`, and `facet` or `endsolid` occurs in its first 4,096
 ///   bytes, in any case.
-/// - OFF, if its first word is `OFF`, `COFF` or `NOFF`, in any case.
+/// - OFF, if its first word is a keyword of OFF ([`is_off`](mesh_read::is_off)), or a natural number
+///   and its name ends in `.off`, in any case.
 /// - an STL that is cut off, if its name ends in `.stl`, in any case.
 /// - OBJ.
 pub fn format_of(name: &[u8], bytes: &[u8]) -> Format
@@ -40,7 +41,7 @@ pub fn format_of(name: &[u8], bytes: &[u8]) -> Format
         Format::BinaryStl
     } else if is_ascii_stl(bytes) {
         Format::AsciiStl
-    } else if is_off_file(bytes) {
+    } else if is_off_file(name, bytes) {
         Format::Off
     } else if is_stl_name(name) {
         Format::CutOffStl

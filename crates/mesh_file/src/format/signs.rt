@@ -1,8 +1,8 @@
 // By what a file shows its format.
 ghost use Rattle.std.specs.Prelude.{◌≡◌, ◌≤◌, length};
-ghost use Rattle.mesh_file.specs.Format.Formats.{ends_line, is_ply, is_off, has_stl_name};
+ghost use Rattle.mesh_file.specs.Format.Formats.{ends_line, is_ply, has_ending, is_off_file, has_stl_name};
 
-use mesh_read::begins_with_word;
+use mesh_read::{begins_with_count, is_off};
 
 // Whether a line ends where these bytes begin.
 fn is_line_end(bytes: &[u8]) -> bool
@@ -21,20 +21,25 @@ pub(crate) fn is_ply_file(bytes: &[u8]) -> bool
     bytes.starts_with(b"ply") && is_line_end(bytes.split_at(3).1)
 }
 
-// Whether the first word of the file is `OFF`, `COFF` or `NOFF`, in any case.
-pub(crate) fn is_off_file(bytes: &[u8]) -> bool
-    requires { length bytes.now ≤ 268435456 }
-    ensures { result ≡ is_off bytes.now }
+// Whether the name ends in these four bytes, in any case.
+fn has_ending(name: &[u8], ending: &[u8]) -> bool
+    ensures { result ≡ has_ending ending.now name.now }
 {
-    begins_with_word(bytes, b"OFF")
-        || begins_with_word(bytes, b"COFF")
-        || begins_with_word(bytes, b"NOFF")
+    let end = name.split_at(name.len().saturating_sub(4)).1;
+    end.eq_ignore_ascii_case(ending)
+}
+
+// Whether the first word of the file is a keyword of OFF, or a number where the name ends in `.off`.
+pub(crate) fn is_off_file(name: &[u8], bytes: &[u8]) -> bool
+    requires { length bytes.now ≤ 268435456 }
+    ensures { result ≡ is_off_file name.now bytes.now }
+{
+    is_off(bytes) || has_ending(name, b".off") && begins_with_count(bytes)
 }
 
 // Whether the name ends in `.stl`, in any case.
 pub(crate) fn is_stl_name(name: &[u8]) -> bool
     ensures { result ≡ has_stl_name name.now }
 {
-    let end = name.split_at(name.len().saturating_sub(4)).1;
-    end.eq_ignore_ascii_case(b".stl")
+    has_ending(name, b".stl")
 }

@@ -1,7 +1,6 @@
 -- What the bytes of an OFF file mean: points and triangles, or the first fault
-use Rattle.std.specs.Prelude.{codes, ℕ, ◌+◌, Bool, ◌||◌, List, [], ◌∷◌, ◌++◌, if◌then◌else◌, nat_lt}
+use Rattle.std.specs.Prelude.{ℕ, ◌+◌, List, [], ◌∷◌, ◌++◌, if◌then◌else◌, nat_lt}
 use Rattle.std.specs.Prelude.{nat_le, length, take, drop, zero, suc, Option, None, Some, Result, Ok, Err}
-use Rattle.std.specs.Str.{str_eq_ignore_ascii_case}
 use Rattle.mesh_number.specs.Number.Fractions.{Fraction}
 use Rattle.mesh_number.specs.Number.Naturals.{number_of, below}
 use Rattle.mesh_number.specs.Number.Texts.{value_of_text}
@@ -12,9 +11,10 @@ use Rattle.mesh_read.specs.declared.surface.flaw.Flaw.TheVariants as flaw
 use Rattle.mesh_read.specs.Surface.Surfaces.{Point, Content, point_of_three, fan}
 use Rattle.mesh_read.specs.Surface.Flaws.{as_mesh}
 use Rattle.mesh_read.specs.declared.off.fault.OffFault.{OffFault}
-use Rattle.mesh_read.specs.declared.off.fault.OffFault.TheVariants.{NoOff, NoCounts, FewLines}
+use Rattle.mesh_read.specs.declared.off.fault.OffFault.TheVariants.{NoOff, MoreCoordinates, NoCounts, FewLines}
 use Rattle.mesh_read.specs.declared.off.fault.OffFault.TheVariants.{FewCoordinates, NotANumber, Face}
 use Rattle.mesh_read.specs.declared.off.fault.OffFault.TheVariants.{NoTriangles, TooLarge}
+use Rattle.mesh_read.specs.Off.Keywords.{is_keyword, is_homogeneous, is_count}
 use Rattle.mesh_read.specs.Off.Rows.{Words, rows_of}
 
 -- ---- rows in order, up to the first fault
@@ -120,27 +120,25 @@ counted (Some c) rows =
     then whole (points_of (take c.vertices rows)) (facets_of c.vertices (take c.faces (drop c.vertices rows)))
     else Err FewLines
 
--- the counts are after the first word, or otherwise in the next row
+-- the counts are after the keyword, or otherwise in the next row
 abbrev pub behind_keyword : List Piece → List Words → Result Content OffFault
 behind_keyword [] [] = Err NoCounts
 behind_keyword [] (row ∷ rows) = counted (counts_of row.words) rows
 behind_keyword (word ∷ words) rows = counted (counts_of (word ∷ words)) rows
 
--- OFF, COFF or NOFF, in any case
-abbrev pub is_keyword : List ℕ → Bool
-is_keyword word =
-    str_eq_ignore_ascii_case word (codes "OFF")
-    || str_eq_ignore_ascii_case word (codes "COFF")
-    || str_eq_ignore_ascii_case word (codes "NOFF")
-
-abbrev pub with_keyword : List Piece → List Words → Result Content OffFault
-with_keyword [] rows = Err NoOff
-with_keyword (word ∷ words) rows = if is_keyword word.text then behind_keyword words rows else Err NoOff
+-- the first row has the keyword or, without one, the counts
+abbrev pub with_first : ℕ → List Piece → List Words → Result Content OffFault
+with_first line [] rows = Err NoOff
+with_first line (word ∷ words) rows =
+    if is_keyword word.text then behind_keyword words rows
+    else (if is_homogeneous word.text then Err (MoreCoordinates line)
+    else (if is_count word.text then counted (counts_of (word ∷ words)) rows
+    else Err NoOff))
 
 -- the content of these rows, whether it is a mesh or not
 abbrev pub content_in : List Words → Result Content OffFault
 content_in [] = Err NoOff
-content_in (row ∷ rows) = with_keyword row.words rows
+content_in (row ∷ rows) = with_first row.line row.words rows
 
 -- ---- what no mesh has
 abbrev pub of_flaw : Flaw → OffFault

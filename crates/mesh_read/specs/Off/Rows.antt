@@ -1,6 +1,6 @@
 -- The rows of an OFF file: its lines without comments that have a word
 use Rattle.std.specs.Prelude.{ℕ, ◌+◌, List, [], ◌∷◌}
-use Rattle.mesh_read.specs.Scan.Parts.{Piece, lines_from, uncommented, words_of}
+use Rattle.mesh_read.specs.Scan.Parts.{Piece, lines_of_file, uncommented, words_of}
 
 -- the number of a line, and its words
 pub record Words : Type 0 where
@@ -19,4 +19,4 @@ rows_from number (line ∷ lines) = with_row number (words_of (uncommented line)
 
 -- the rows of a file
 abbrev pub rows_of : List ℕ → List Words
-rows_of bytes = rows_from 1 (lines_from 0 bytes)
+rows_of bytes = rows_from 1 (lines_of_file bytes)

@@ -1,6 +1,7 @@
 -- Parts of a file: its lines and their words, each with its place
-use Rattle.std.specs.Prelude.{ℕ, ◌+◌, ◌-◌, Bool, ◌||◌, ◌&&◌, List, [], ◌∷◌, ◌++◌, if◌then◌else◌, ◌==◌, nat_le}
+use Rattle.std.specs.Prelude.{ℕ, ◌+◌, ◌-◌, Bool, ◌||◌, ◌&&◌, List, [], ◌∷◌, ◌++◌, if◌then◌else◌, ◌==◌, nat_eq, nat_le}
 use Rattle.std.specs.Prelude.{length, drop, zero, suc, Option, None, Some}
+use Rattle.std.specs.List.{starts_with}
 use Rattle.mesh_read.specs.declared.scan.blanks.Blanks.{Blanks}
 use Rattle.mesh_read.specs.declared.scan.blanks.Blanks.TheVariants.{InLine, Any}
 use Rattle.mesh_read.specs.declared.scan.part.Part.{Part}
@@ -46,6 +47,11 @@ lines_from start (b ∷ bs) =
 -- the lines of a part
 abbrev pub lines_in : Part → List Piece
 lines_in p = lines_from p.start p.bytes.now
+
+-- the lines of a file; a byte order mark at its beginning is in none of them
+abbrev pub lines_of_file : List ℕ → List Piece
+lines_of_file bytes =
+    if starts_with nat_eq bytes (239 ∷ 187 ∷ 191 ∷ []) then lines_from 3 (drop 3 bytes) else lines_from 0 bytes
 
 -- what follows the first line
 abbrev pub after_line : List ℕ → List ℕ

@@ -9,10 +9,14 @@ use thiserror::Error;
 /// The first fault of a file, or out-of-memory. Lines are counted from 1.
 #[derive(Clone, Copy, Debug, PartialEq, Eq, Error)]
 pub enum OffFault {
-    /// The first word isn't `OFF`, `COFF` or `NOFF`.
+    /// The first word is no keyword (`OFF`, or `COFF` or another with letters before it), and no
+    /// natural number.
     #[error("no OFF at the beginning")]
     NoOff,
-    /// Two numbers don't follow that word, in its line or the next.
+    /// The keyword in this line, `4OFF` or one that ends so, gives each vertex four coordinates.
+    #[error("line {0}: four coordinates a vertex")]
+    MoreCoordinates(u32),
+    /// Two numbers don't follow the keyword, in its line or the next, or there is one without it.
     #[error("OFF has no counts")]
     NoCounts,
     /// There are fewer lines than vertices and faces.

@@ -2,14 +2,15 @@
 ghost use Rattle.std.specs.Prelude.{◌≡◌, ◌⊎◌, ◌+◌, ◌<◌, ◌≤◌, ◌^◌, [], ◌∷◌, take, drop, length, Ok, Err, IfOk, IfErr};
 ghost use Rattle.mesh_read.specs.Scan.Parts.{piece_of, words_in};
 ghost use Rattle.mesh_read.specs.Surface.Surfaces.{IsSurface, content_of};
-ghost use Rattle.mesh_read.specs.Off.RowViews.{rows_in};
-ghost use Rattle.mesh_read.specs.Off.ReadOff.{points_of, facets_of, whole, counts_of, counted, behind_keyword, is_keyword, content_in, read_off_of};
+ghost use Rattle.mesh_read.specs.Off.RowViews.{words_of_row, rows_in};
+ghost use Rattle.mesh_read.specs.Off.ReadOff.{points_of, facets_of, whole, counts_of, counted, behind_keyword, with_first, content_in, read_off_of};
 
 use crate::off::counts::counts_in;
 use crate::off::faces::read_faces;
 use crate::off::fault::OffFault;
-use crate::off::row::Rows;
-use crate::off::rows::{are_rows, next_row};
+use crate::off::keywords::{is_count, is_homogeneous, is_keyword};
+use crate::off::row::{Row, Rows};
+use crate::off::rows::{are_rows, first_rows, next_row};
 use crate::off::vertices::read_vertices;
 use crate::scan::{Part, next_word};
 use crate::surface::{Surface, as_mesh};
@@ -61,7 +62,7 @@ fn read_counted<'a>(
     read_lists(alloc, rows, vertices as u32, faces as usize)
 }
 
-// The vertices and faces after the word at the beginning, which these words follow in its line.
+// The vertices and faces after the keyword, which these words follow in its line.
 fn read_behind<'a>(alloc: Global, words: Part<'a>, rows: Rows<'a>) -> Result<Surface<'a>, OffFault>
     requires { rows.number ≤ rows.rest.start + 1 }
     ensures ok { IfOk result (λ s. behind_keyword (words_in words.entry) (rows_in rows.entry) ≡ Ok (content_of s)) }
@@ -77,13 +78,24 @@ fn read_behind<'a>(alloc: Global, words: Part<'a>, rows: Rows<'a>) -> Result<Sur
     read_counted(alloc, row.first, row.others, rest)
 }
 
-// Whether the word is `OFF`, `COFF` or `NOFF`, in any case.
-fn names_format(word: &[u8]) -> bool
-    ensures { result ≡ is_keyword word.now }
+// The vertices and faces of a file with this first row.
+fn read_first<'a>(alloc: Global, row: Row<'a>, rest: Rows<'a>) -> Result<Surface<'a>, OffFault>
+    requires { rest.number ≤ rest.rest.start + 1 }
+    ensures ok { IfOk result (λ s.
+        with_first row.entry.line (words_of_row row.entry).words (rows_in rest.entry) ≡ Ok (content_of s)) }
+    ensures fault { IfErr result (λ e. (e ≡ OffFault.OutOfMemory)
+        ⊎ (with_first row.entry.line (words_of_row row.entry).words (rows_in rest.entry) ≡ Err e)) }
 {
-    word.eq_ignore_ascii_case(b"OFF")
-        || word.eq_ignore_ascii_case(b"COFF")
-        || word.eq_ignore_ascii_case(b"NOFF")
+    if is_keyword(row.first.bytes) {
+        return read_behind(alloc, row.others, rest);
+    }
+    if is_homogeneous(row.first.bytes) {
+        return Err(OffFault::MoreCoordinates(row.line));
+    }
+    if is_count(row.first.bytes) {
+        return read_counted(alloc, row.first, row.others, rest);
+    }
+    Err(OffFault::NoOff)
 }
 
 // The vertices and faces of a file, whatever they are.
@@ -95,10 +107,7 @@ fn read_rows<'a>(alloc: Global, rows: Rows<'a>) -> Result<Surface<'a>, OffFault>
     let Some((row, rest)) = next_row(rows) else {
         return Err(OffFault::NoOff);
     };
-    if !names_format(row.first.bytes) {
-        return Err(OffFault::NoOff);
-    }
-    read_behind(alloc, row.others, rest)
+    read_first(alloc, row, rest)
 }
 
 // The surface of a file, if it is a mesh.
@@ -108,19 +117,19 @@ fn read_mesh<'a>(alloc: Global, bytes: &'a [u8]) -> Result<Surface<'a>, OffFault
     ensures ok { IfOk result (λ s. read_off_of bytes.now ≡ Ok (content_of s)) }
     ensures fault { IfErr result (λ e. (e ≡ OffFault.OutOfMemory) ⊎ (read_off_of bytes.now ≡ Err e)) }
 {
-    let rest = Part { start: 0, bytes };
-    let surface = read_rows(alloc, Rows { number: 1, rest })?;
+    let surface = read_rows(alloc, first_rows(bytes))?;
     Ok(as_mesh(surface)?)
 }
 
 /// The vertices and triangles of an OFF file, or its first fault.
 ///
-/// Lines are counted from 1, and a `#` and what follows it in its line don't count. The first word
-/// is `OFF`, `COFF` or `NOFF`, in any case. The numbers of vertices and of faces follow it in its
-/// line, or otherwise are in the next line with a word. Each further line with a word is a vertex:
-/// the first three words are decimals, or then a face: a number of corners, and as many indices of
-/// vertices, from 0. What follows them isn't read. A face is cut into triangles from its first
-/// corner, and its line is their place.
+/// Lines are counted from 1. A `#` and what follows it in its line don't count, nor does a byte
+/// order mark at the beginning. The first word is the keyword: `OFF`, maybe with `ST`, `C` and `N`
+/// before it, in this order and in any case. The numbers of vertices and of faces follow it in its
+/// line, or otherwise are in the next line with a word; or they are the first words, without a
+/// keyword. Each further line with a word is a vertex: the first three words are decimals, or then
+/// a face: a number of corners, and as many indices of vertices, from 0. What follows them isn't
+/// read. A face is cut into triangles from its first corner, and its line is their place.
 ///
 /// [`FewLines`](OffFault::FewLines) precedes each fault of a vertex or a face, and those are in the
 /// order of lines. The coordinates borrow their digits from `bytes`. There are at most 2^28 bytes.

@@ -1,9 +1,22 @@
 // Lines that have a word.
-ghost use Rattle.std.specs.Prelude.{◌≡◌, ◌+◌, ◌<◌, ◌≤◌, [], ◌∷◌, MatchOption, IfSome, length, nat_le};
+ghost use Rattle.std.specs.Prelude.{◌≡◌, ◌+◌, ◌<◌, ◌≤◌, ◌^◌, [], ◌∷◌, MatchOption, IfSome, length, nat_le};
+ghost use Rattle.mesh_read.specs.Off.Rows.{rows_of};
 ghost use Rattle.mesh_read.specs.Off.RowViews.{words_of_row, rows_in};
 
 use crate::off::row::{Row, Rows};
-use crate::scan::{next_line, next_word, without_comment};
+use crate::scan::{next_line, next_word, part_behind_mark, without_comment};
+
+// All rows of a file.
+pub(crate) fn first_rows<'a>(bytes: &'a [u8]) -> Rows<'a>
+    requires { length bytes.now < 2 ^ 31 }
+    ensures rows { rows_in result ≡ rows_of bytes.now }
+    ensures numbered { result.number ≤ result.rest.start + 1 }
+{
+    Rows {
+        number: 1,
+        rest: part_behind_mark(bytes),
+    }
+}
 
 // The first row, and what follows it.
 #[tactic(none)]

@@ -1,9 +1,24 @@
 // Lines, and lines without their comments.
-ghost use Rattle.std.specs.Prelude.{◌≡◌, ◌+◌, ◌<◌, ◌≤◌, [], ◌∷◌, length, MatchOption, IfSome};
-ghost use Rattle.mesh_read.specs.Scan.Parts.{piece_of, lines_in, after_line, uncommented};
+ghost use Rattle.std.specs.Prelude.{◌≡◌, ◌+◌, ◌<◌, ◌≤◌, ◌^◌, [], ◌∷◌, length, MatchOption, IfSome};
+ghost use Rattle.mesh_read.specs.Scan.Parts.{piece_of, lines_in, lines_of_file, after_line, uncommented};
 
 use crate::scan::cut::cut_before;
 use crate::scan::part::Part;
+
+const MARK: [u8; 3] = [0xEF, 0xBB, 0xBF];
+
+// The bytes of a file without a byte order mark at its beginning.
+pub(crate) fn part_behind_mark<'a>(bytes: &'a [u8]) -> Part<'a>
+    requires { length bytes.now < 2 ^ 31 }
+    ensures { lines_in result ≡ lines_of_file bytes.now }
+{
+    let file = Part::of_file(bytes);
+    if bytes.starts_with(&MARK) {
+        file.split_at(3).1
+    } else {
+        file
+    }
+}
 
 /// The first line, without the line feed that ends it, and what follows. None if no byte is left.
 pub fn next_line<'a>(part: Part<'a>) -> Option<(Part<'a>, Part<'a>)>
