@@ -1,14 +1,15 @@
 -- What the names of a target hold, over several calls.
 use Rattle.std.proofs.Common.{◌≡◌, ℕ, ◌+◌, ◌<◌, List, [], ◌++◌, length, Some, None, IfSome, Bool, true, false, refl}
 use Rattle.std.proofs.Common.{◌∙◌, ap, sym, inl, inr, ◌⊎◌, arith, append_assoc, Ok, Err, Result, OnOk, OnErr}
-use Rattle.std.proofs.Common.{length-append}
+use Rattle.std.proofs.Common.{length-append, length-take, ◌≤◌}
+use Rattle.std.proofs.lemmas.Fmt.{length-decimal-le}
 use Rattle.std.specs.Prelude.{decimal}
 use Rattle.std.specs.Bool.{Decides}
 use Rattle.std.specs.Str.{bytes_eq}
 use Rattle.std.specs.declared.option.Option.{Option}
 use Rattle.std.specs.Io.KnownBytes.{append_known}
 use Rattle.std.proofs.lemmas.Slice.Eq.{bytes_eq-Decides}
-use Rattle.mesh_outside.specs.Target.Targets.{Names, value_at, beside, IsBeside, IsTaken, HoldsSame, HoldsOld, Puts, Grows, Moves}
+use Rattle.mesh_outside.specs.Target.Targets.{Names, value_at, length_in_folder, new_name, IsFront, IsBeside, IsTaken, HoldsSame, HoldsOld, Puts, Grows, Moves}
 
 decided : {P : Type 0} (b : Bool) → Decides b P → P ⊎ ¬ P
 decided true d = inl (d.0 refl)
@@ -57,6 +58,9 @@ append_known-twice : (value : Option (List ℕ)) (xs ys : List ℕ) → append_k
 append_known-twice None xs ys = refl
 append_known-twice (Some zs) xs ys = ap (λ w. Some w) (append_assoc zs xs ys)
 
+≤-or-< : (k n : ℕ) → (k ≤ n) ⊎ (n < k)
+≤-or-< k n = grind arith
+
 ≡-or-< : (k n : ℕ) → k < n + 1 → (k ≡ n) ⊎ (k < n)
 ≡-or-< k n h = grind arith
 
@@ -70,12 +74,29 @@ Puts-appended (Some f) (Some g) None name xs ys p q = absurd q
 Puts-appended (Some f) (Some g) (Some h) name xs ys p q =
     (q.0 ∙ ap (λ w. append_known w ys) p.0 ∙ append_known-twice (f name) xs ys, λ other n. q.1 other n ∙ p.1 other n)
 
-length-beside : (name : List ℕ) (number : ℕ) → length (beside name number) ≡ length name + 5 + length (decimal number)
-length-beside name number = grind (arith, length-append)
+length-new_name : (front : List ℕ) (number : ℕ) → length (new_name front number) ≡ length front + 5 + length (decimal number)
+length-new_name front number = grind (arith, length-append)
+
+-- a front with an ending isn't the name, since it is longer or shorter
+fronts_differ : (name front : List ℕ) (number : ℕ) → number < 100 → IsFront name front → ¬ (new_name front number ≡ name)
+fronts_differ name front number less is e = elim (≤-or-< (length_in_folder name) 248) [
+  | inl short ↦ absurd (omega (arith, length-new_name front number, ap length e, ap length (is.0 short)))
+  | inr long ↦
+      let shorter = is.1 long in
+      absurd (omega (
+        arith,
+        length-new_name front number,
+        ap length e,
+        shorter.1,
+        ap length shorter.2,
+        length-take shorter.0 name,
+        length-decimal-le 2 number (omega arith) less (omega (arith, less)),
+      ))
+]
 
 -- a name isn't beside itself
 pub IsBeside-differs : (name other : List ℕ) → IsBeside name other → ¬ (other ≡ name)
-IsBeside-differs name other b e = absurd (omega (arith, length-beside name b.0, ap length (sym b.1 ∙ e)))
+IsBeside-differs name other b e = fronts_differ name b.front b.number b.number_is_less b.is_front (sym b.is_new_name ∙ e)
 
 -- where each name holds what it held, no file is left beside
 pub HoldsOld-same : (a b : Option Names) (name : List ℕ) → HoldsSame a b → HoldsOld a b name
@@ -122,9 +143,9 @@ pub HoldsOld-discarded : {T E : Type 0} (r : Result T E) (a b c : Option Names) 
 HoldsOld-discarded (Ok x) a b c name path value i e p q s = HoldsOld-same a c name (Puts-undone a c path None e (Puts-twice a b c path value None p q))
 HoldsOld-discarded (Err y) a b c name path value i e p q s = HoldsOld-left a c name path value i e (Puts-before_same a b c path value p s)
 
--- where the names beside are taken up to a number, and this one is, they are up to the next number
-pub IsTaken-next : (a b : Option Names) (name path : List ℕ) (n : ℕ) → ((k : ℕ) → k < n → IsTaken a (beside name k)) →
-    HoldsSame a b → path ≡ beside name n → IsTaken b path
-    → (k : ℕ) → k < n + 1 → IsTaken a (beside name k)
-IsTaken-next a b name path n before p e t k h =
-    elim (≡-or-< k n h) [ inl same ↦ rw same (IsTaken-before_same a b (beside name n) p (rw (sym e) t)) | inr less ↦ before k less ]
+-- where the new names of a front are taken up to a number, and this one is, they are up to the next number
+pub IsTaken-next : (a b : Option Names) (front path : List ℕ) (n : ℕ) → ((k : ℕ) → k < n → IsTaken a (new_name front k)) →
+    HoldsSame a b → path ≡ new_name front n → IsTaken b path
+    → (k : ℕ) → k < n + 1 → IsTaken a (new_name front k)
+IsTaken-next a b front path n before p e t k h =
+    elim (≡-or-< k n h) [ inl same ↦ rw same (IsTaken-before_same a b (new_name front n) p (rw (sym e) t)) | inr less ↦ before k less ]

@@ -1,4 +1,5 @@
 pub mod HeldNames
+pub mod NamesInFolders
 pub mod MapFiles
 pub mod SeveralFiles
 mod Halves

@@ -8,7 +8,7 @@ use Rattle.mesh_outside.specs.declared.target.target.WriteEnd.{WriteEnd}
 use Rattle.mesh_outside.specs.declared.target.target.WriteEnd.TheVariants.{WriteFault, NamesTaken, OutOfMemory}
 use Rattle.ember_io.specs.Causes.{HasRisen}
 use Rattle.mesh_outside.specs.Target.Several.{IsWriteCause, NamedBytes, PutsBefore, PutsEach, names_and_bytes}
-use Rattle.mesh_outside.specs.Target.Targets.{Names, HasRisenTwice, HoldsSame, IsTaken, Puts, beside}
+use Rattle.mesh_outside.specs.Target.Targets.{Names, AreAllTaken, HasRisenTwice, HoldsSame, Puts}
 use Rattle.mesh_outside.proofs.HeldNames.{HoldsSame-trans, Puts-after_same}
 
 HoldsSame-refl : (a : Option Names) → HoldsSame a a
@@ -47,7 +47,7 @@ risen_twice_since before between now h (inr r) = inr (omega (arith, h, r))
 
 -- the cause of one file is one of all that were to be written
 pub cause_since : (held : Option Names) (name : List ℕ) (before between now : ℕ) (why : WriteEnd) → before ≤ between → (why ≡ WriteFault → HasRisen between now)
-    → (why ≡ NamesTaken → (number : ℕ) → number < 100 → IsTaken held (beside name number)) → IsWriteCause held name before now why
+    → (why ≡ NamesTaken → AreAllTaken held name) → IsWriteCause held name before now why
 cause_since held name before between now WriteFault h fault taken = omega (arith, h, fault refl)
 cause_since held name before between now NamesTaken h fault taken = taken refl
 cause_since held name before between now OutOfMemory h fault taken = tt

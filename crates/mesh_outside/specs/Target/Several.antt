@@ -1,8 +1,8 @@
 -- Files that are written one after another, and what the names of a target hold then.
-use Rattle.std.specs.Prelude.{◌≡◌, ℕ, ◌<◌, List, [], ◌∷◌, ◌++◌, ⊤, Some, ◌⊎◌, map, string_bytes}
+use Rattle.std.specs.Prelude.{◌≡◌, ℕ, List, [], ◌∷◌, ◌++◌, ⊤, Some, ◌⊎◌, map, string_bytes}
 use Rattle.std.specs.declared.option.Option.{Option}
 use Rattle.ember_io.specs.Causes.{HasRisen}
-use Rattle.mesh_outside.specs.Target.Targets.{Names, IsTaken, HoldsSame, HoldsOld, Puts, HasRisenTwice, beside}
+use Rattle.mesh_outside.specs.Target.Targets.{Names, AreAllTaken, HoldsSame, HoldsOld, Puts, HasRisenTwice}
 use Rattle.mesh_outside.specs.declared.target.several.NamedFile.{NamedFile}
 use Rattle.mesh_outside.specs.declared.target.target.WriteEnd.{WriteEnd}
 use Rattle.mesh_outside.specs.declared.target.target.WriteEnd.TheVariants.{WriteFault, NamesTaken, OutOfMemory}
@@ -24,7 +24,7 @@ PutsEach (file ∷ files) old new =
 -- why a file of this name isn't written
 abbrev pub IsWriteCause : Option Names → List ℕ → ℕ → ℕ → WriteEnd → Type 0
 IsWriteCause held name before now WriteFault = HasRisen before now
-IsWriteCause held name before now NamesTaken = (number : ℕ) → number < 100 → IsTaken held (beside name number)
+IsWriteCause held name before now NamesTaken = AreAllTaken held name
 IsWriteCause held name before now OutOfMemory = ⊤
 
 -- the files before one of this name are put, and that one isn't, for this reason: its name holds what it

@@ -1,5 +1,7 @@
 -- What the names of a target hold, and what calls leave of it.
-use Rattle.std.specs.Prelude.{◌≡◌, ℕ, ◌+◌, ◌-◌, ◌^◌, ◌≤◌, min, List, ◌++◌, ⊤, None, Some, IsSome, ◌⊎◌, codes, decimal}
+use Rattle.std.specs.Prelude.{◌≡◌, ℕ, ◌+◌, ◌-◌, ◌^◌, ◌<◌, ◌≤◌, min, List, ◌++◌, ⊤, None, Some, IsSome, ◌⊎◌, ◌==◌, not, length, take}
+use Rattle.std.specs.Prelude.{codes, decimal}
+use Rattle.std.specs.List.{suffix_len}
 use Rattle.std.specs.declared.option.Option.{Option}
 use Rattle.std.specs.Io.KnownBytes.{append_known}
 
@@ -41,13 +43,37 @@ Moves (Some f) None from to value = ⊥
 Moves (Some f) (Some g) from to value =
     (g to ≡ value) × (g from ≡ None) × ((other : List ℕ) → ¬ (other ≡ from) → ¬ (other ≡ to) → g other ≡ f other)
 
--- the name of a new file that is made beside this name
-abbrev pub beside : List ℕ → ℕ → List ℕ
-beside name number = name ++ (codes ".new-" ++ decimal number)
+-- ---- names of new files
+-- how many bytes a path has behind its last slash: those of the file's name in its folder
+abbrev pub length_in_folder : List ℕ → ℕ
+length_in_folder path = suffix_len (λ byte. not (byte == 47)) path
 
--- such a name
-abbrev pub IsBeside : List ℕ → List ℕ → Type 0
-IsBeside name other = (number : ℕ) × (other ≡ beside name number)
+-- a front of this name without its last 8 bytes
+abbrev pub IsShorter : List ℕ → List ℕ → Type 0
+IsShorter name front = (n : ℕ) × (n + 8 ≤ length name) × (front ≡ take n name)
+
+-- what the names of new files beside this name begin with: this name, or a front of it if its file's name has more than 248
+-- bytes, since such a name has at most 255
+abbrev pub IsFront : List ℕ → List ℕ → Type 0
+IsFront name front =
+    (length_in_folder name ≤ 248 → front ≡ name) × (248 < length_in_folder name → IsShorter name front)
+
+-- the name of a new file that begins with this front
+abbrev pub new_name : List ℕ → ℕ → List ℕ
+new_name front number = front ++ (codes ".new-" ++ decimal number)
+
+-- the name of a new file that is made beside this name
+pub record IsBeside (name other : List ℕ) : Type 0 where
+  pub front : List ℕ
+  pub number : ℕ
+  pub is_front : IsFront name front
+  pub number_is_less : number < 100
+  pub is_new_name : other ≡ new_name front number
+
+-- if it is told, there are files of all names that a new file beside this name may have
+abbrev pub AreAllTaken : Option Names → List ℕ → Type 0
+AreAllTaken held name =
+    (front : List ℕ) × IsFront name front × ((number : ℕ) → number < 100 → IsTaken held (new_name front number))
 
 -- if it is told, this name holds what it held, and so does each other, but a new file may be left beside it
 abbrev pub HoldsOld : Option Names → Option Names → List ℕ → Type 0

@@ -4,7 +4,7 @@ ghost use Rattle.std.specs.declared.option.Option.{Option};
 ghost use Rattle.std.specs.Io.{WritesAtMost};
 ghost use Rattle.std.specs.Io.KnownBytes.{append_known};
 ghost use Rattle.ember_io.specs.Causes.{HasRisen, HasCause};
-ghost use Rattle.mesh_outside.specs.Target.Targets.{Names, value_at, beside, IsBeside, IsTaken, HoldsSame, HoldsOld, Puts, Grows, Moves, HasRisenTwice};
+ghost use Rattle.mesh_outside.specs.Target.Targets.{Names, value_at, length_in_folder, new_name, IsFront, IsBeside, IsTaken, AreAllTaken, HoldsSame, HoldsOld, Puts, Grows, Moves, HasRisenTwice};
 ghost use Rattle.mesh_outside.specs.declared.target.target.WriteEnd.TheVariants.{OutOfMemory};
 
 use ember_io::Failed;
@@ -109,11 +109,35 @@ impl From<AllocError> for WriteEnd {
 // How many names are tried for a new file.
 const TRIES: u32 = 100;
 
-// The name of a new file beside this name.
-fn name_beside(alloc: Global, name: &str, number: u32) -> Result<String, AllocError>
-    ensures { IfOk result (λ path. string_bytes path ≡ beside name.now number) }
+// How many bytes the name of a file in its folder has at most if `.new-99` can follow it.
+const ROOMY: usize = 248;
+
+// How many bytes the name of a path's file has in its folder.
+fn length_in_folder(path: &str) -> usize
+    ensures { result ≡ length_in_folder path.now }
 {
-    format!(in alloc; "{name}.new-{number}")
+    match path.rfind('/') {
+        Some(slash) => path.len() - slash - 1,
+        None => path.len(),
+    }
+}
+
+// What the names of new files beside this name begin with.
+fn front_of(name: &str) -> &str
+    ensures { IsFront name.now result.now }
+{
+    if length_in_folder(name) <= ROOMY {
+        return name;
+    }
+    let end = name.floor_char_boundary(name.len() - 8);
+    name.split_at(end).0
+}
+
+// The name of a new file that begins with this front.
+fn name_of_new(alloc: Global, front: &str, number: u32) -> Result<String, AllocError>
+    ensures { IfOk result (λ path. string_bytes path ≡ new_name front.now number) }
+{
+    format!(in alloc; "{front}.new-{number}")
 }
 
 // Begins a new file beside this name, under the first of its names that is free.
@@ -125,11 +149,11 @@ fn begin_beside<T: Target>(alloc: Global, target: &mut T, name: &str) -> Result<
     ensures held { OnErr result (HoldsSame (T.held target.old) (T.held target.new)) }
     ensures later { T.faults target.old ≤ T.faults target.new }
     ensures fault { IsErrOf result WriteEnd.WriteFault → HasRisen (T.faults target.old) (T.faults target.new) }
-    ensures taken { IsErrOf result WriteEnd.NamesTaken → (number : ℕ) → number < TRIES →
-        IsTaken (T.held target.old) (beside name.now number) }
+    ensures taken { IsErrOf result WriteEnd.NamesTaken → AreAllTaken (T.held target.old) name.now }
 {
+    let front = front_of(name);
     for number in 0..TRIES {
-        let path = name_beside(alloc, name, number)?;
+        let path = name_of_new(alloc, front, number)?;
         match target.begin(path) {
             Ok(()) => return Ok(()),
             Err(BeginEnd::Taken) => {}
@@ -162,7 +186,8 @@ fn write_and_keep<T: Target>(target: &mut T, name: &str, bytes: &[u8]) -> Result
 
 /// Writes a file: its name then holds these bytes, and each other name what it held. After an error
 /// this name holds what it held, and so does each other. But a new file NAME.new-N may be left, if
-/// two calls of the target failed. N is less than 100.
+/// two calls of the target failed. N is less than 100. If NAME has more than 248 bytes in its folder,
+/// its last ones give way to the ending.
 pub fn write_whole<T: Target>(
     alloc: Global,
     target: &mut T,
@@ -177,8 +202,7 @@ pub fn write_whole<T: Target>(
     ensures none_begun { T.begun target.new ≡ None }
     ensures later { T.faults target.old ≤ T.faults target.new }
     ensures fault { IsErrOf result WriteEnd.WriteFault → HasRisen (T.faults target.old) (T.faults target.new) }
-    ensures taken { IsErrOf result WriteEnd.NamesTaken → (number : ℕ) → number < TRIES →
-        IsTaken (T.held target.old) (beside name.now number) }
+    ensures taken { IsErrOf result WriteEnd.NamesTaken → AreAllTaken (T.held target.old) name.now }
 {
     begin_beside(alloc, target, name)?;
     let Ok(()) = write_and_keep(target, name, bytes) else {

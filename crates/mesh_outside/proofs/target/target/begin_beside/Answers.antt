@@ -11,3 +11,10 @@ loop-number-preserved g c =
       later = omega arith;
       taken = IsTaken-next _ _ _ _ _ i.taken i.held c.in_ok-path.ensures (e.taken (ap Err c.in-Err-Taken.field-0-is));
     }
+
+pub returns-clause-taken : goal.returns-clause-taken
+returns-clause-taken g c = λ _. (
+  c.front_of-front.result.now,
+  c.front_of-front.ensures,
+  λ number less. c.loop-number.invariant.taken number (omega (arith, less, c.loop-number-test.false, c.loop-number.auto.number-end)),
+)

@@ -1,5 +1,5 @@
 use Rattle.std.proofs.Common.{◌≡◌, ◌<◌, ◌≤◌, ℕ, None}
-use Rattle.mesh_outside.specs.Target.Targets.{beside, IsTaken, HoldsSame}
+use Rattle.mesh_outside.specs.Target.Targets.{new_name, IsTaken, HoldsSame}
 use Rattle.mesh_outside.proofs.target.target.begin_beside.Given as goal
 
 abbrev pub invariant-loop-number : goal.invariant-loop-number
@@ -8,5 +8,5 @@ invariant-loop-number g l =
       none_begun : g.T.Target.begun l.target ≡ None;
       held : HoldsSame (g.T.Target.held l.fn.target) (g.T.Target.held l.target);
       later : g.T.Target.faults l.fn.target ≤ g.T.Target.faults l.target;
-      taken : (number : ℕ) → number < l.number → IsTaken (g.T.Target.held l.fn.target) (beside l.name number);
+      taken : (number : ℕ) → number < l.number → IsTaken (g.T.Target.held l.fn.target) (new_name l.front number);
     }
