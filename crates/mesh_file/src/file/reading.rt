@@ -67,8 +67,8 @@ fn wavefront_fault<'a>(fault: WavefrontFault<'a>) -> FileFault<'a>
 fn or_unread<'a>(bytes: &[u8], fault: FileFault<'a>) -> FileFault<'a>
     requires length { length bytes.now ≤ 268435456 }
     requires plain { is_plain fault ≡ true }
-    ensures fault { fault_of result ≡ with_unread bytes.now (fault_of fault) }
-    ensures memory { fault ≡ FileFault.OutOfMemory → result ≡ FileFault.OutOfMemory }
+    ensures fault { fault_of result ≡ with_unread bytes.now (fault_of fault.entry) }
+    ensures memory { fault.entry ≡ FileFault.OutOfMemory → result ≡ FileFault.OutOfMemory }
     ensures plain { is_plain result ≡ true }
 {
     match fault {
