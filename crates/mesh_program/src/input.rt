@@ -1,7 +1,7 @@
 // The system's files, and standard input under the name `-`.
 ghost use Rattle.std.specs.Prelude.{◌≤◌, length, None, IfSome, if◌then◌else◌};
 
-use ember_io::{Failed, FileShelf, Shelf};
+use ember_io::{Failed, FaultKind, FileShelf, Shelf};
 use std::io::{Error, ErrorKind, Read};
 use std::rt::Files;
 use std::thread;
@@ -37,6 +37,7 @@ pub struct InputShelf<'a, R: Files, I: Read + Drop> {
     is_input: bool,
     begun: u32,
     fault_at: u32,
+    fault_kind: FaultKind,
     faults: u64,
 }
 
@@ -49,6 +50,7 @@ impl<'a, R: Files, I: Read + Drop> InputShelf<'a, R, I> {
             is_input: false,
             begun: 0,
             fault_at: 0,
+            fault_kind: FaultKind::Other,
             faults: 0,
         }
     }
@@ -63,7 +65,13 @@ impl<'a, R: Files, I: Read + Drop> Shelf for InputShelf<'a, R, I> {
 
     ghost fault_at = { λ s. s.fault_at };
 
+    ghost fault_kind = { λ s. s.fault_kind };
+
     ghost faults = { λ s. s.faults };
+
+    fn last_fault(&self) -> FaultKind {
+        self.fault_kind
+    }
 
     fn begin(&mut self, name: &str, number: u32) -> Result<(), Failed> {
         self.begun = number;
@@ -75,6 +83,7 @@ impl<'a, R: Files, I: Read + Drop> Shelf for InputShelf<'a, R, I> {
             return Ok(());
         }
         self.fault_at = number;
+        self.fault_kind = self.files.last_fault();
         self.faults = self.faults.saturating_add(1);
         Err(Failed)
     }
@@ -84,8 +93,12 @@ impl<'a, R: Files, I: Read + Drop> Shelf for InputShelf<'a, R, I> {
             if let Some(count) = read_some(&mut self.input, buf) {
                 return Ok(count);
             }
-        } else if let Ok(count) = self.files.read(buf) {
-            return Ok(count);
+            self.fault_kind = FaultKind::Other;
+        } else {
+            if let Ok(count) = self.files.read(buf) {
+                return Ok(count);
+            }
+            self.fault_kind = self.files.last_fault();
         }
         self.fault_at = self.begun;
         self.faults = self.faults.saturating_add(1);
