@@ -1,5 +1,5 @@
 -- The volume of a mesh, triangle by triangle
-use Rattle.std.proofs.Common.{◌≡◌, ℕ, ◌+◌, ◌*◌, ◌<◌, ◌≤◌, List, [], ◌∷◌, ◌++◌, length, take, get_or, map, nat_eq, ℤ, pos, ◌+ℤ◌, sym, ap, ◌∙◌, arith}
+use Rattle.std.proofs.Common.{◌≡◌, ℕ, ◌+◌, ◌*◌, ◌<◌, ◌≤◌, List, [], ◌∷◌, ◌++◌, length, take, get_or, map, nat_eq, ℤ, pos, ◌+ℤ◌, sym, ap, ap₂, ◌∙◌, arith}
 use Rattle.std.specs.List.{range_with_len}
 use Rattle.std.proofs.lemmas.List.FromFn.{map-range_with_len_more}
 use Rattle.ember_algebra.specs.Size.{Small}
@@ -10,7 +10,7 @@ use Rattle.ember_algebra.proofs.Size.{small_add, small_within}
 use Rattle.ember_algebra.proofs.Sums.{total-filter, total-take_more}
 use Rattle.ember_algebra.proofs.Vectors.{vector, identity, minusE, dotE, crossE}
 use Rattle.ember_model.specs.declared.tri.Tri.{Tri}
-use Rattle.mesh_boolean.specs.Volumes.{six_volumes_of_mesh, six_volumes, six_volumes_for}
+use Rattle.mesh_boolean.specs.Volumes.{six_volumes_of_mesh, six_volumes_of_meshes, six_volumes, six_volumes_for}
 
 -- the constant of the plane through three points is their determinant
 pub constant_is_determinant : (a b c : Vector) → dot (cross (minus_v b a) (minus_v c a)) a ≡ det a b c
@@ -33,3 +33,10 @@ volume_more m ts i d sum part l e f =
 -- and how large it is at most, for parts of this size
 pub small_more : (size i : ℕ) (sum part : ℤ) → Small (i * size) sum → Small size part → Small ((i + 1) * size) (sum +ℤ part)
 small_more size i sum part p q = small_within (omega arith) (small_add p q)
+
+-- the volumes with that of one mesh more
+pub volumes_more : (ts : List Tri) (n : ℕ) (before : List ℤ) (next : ℤ) → before ≡ six_volumes_of_meshes ts n →
+    next ≡ six_volumes_of_mesh ts (n + 1) → before ++ next ∷ [] ≡ six_volumes_of_meshes ts (n + 1)
+volumes_more ts n before next e f =
+    ap₂ (λ (vs : List ℤ) (v : ℤ). vs ++ v ∷ []) e f
+    ∙ sym (map-range_with_len_more (six_volumes_of_mesh ts) 1 n (n + 1) (omega arith))
