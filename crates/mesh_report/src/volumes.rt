@@ -1,5 +1,5 @@
 // The volumes of the files' meshes.
-ghost use Rattle.std.specs.Prelude.{◌≡◌, ◌++◌, ◌+◌, ◌*◌, ◌<◌, ◌^◌, drop, OnOk};
+ghost use Rattle.std.specs.Prelude.{◌≡◌, ℤ, ◌++◌, ◌+◌, ◌*◌, ◌<◌, ◌^◌, length, get_or, drop, OnOk};
 ghost use Rattle.mesh_grid.specs.Snap.Steps.{IsStep};
 ghost use Rattle.mesh_report.specs.Volumes.{cube, inside_out_text, plain_text, said_text, volume_line, volume_lines, volume_text};
 
@@ -119,6 +119,13 @@ fn put_volume_line(
     put_line(alloc, &said, text)
 }
 
+fn volume_at(six_volumes: &[i64], index: usize) -> i64
+    requires { index < length six_volumes.now }
+    ensures { (other : ℤ) → result ≡ get_or six_volumes.now index other }
+{
+    six_volumes[index]
+}
+
 /// Appends the line of each file's volume, which warns if the volume is below 0.
 pub fn put_volumes(
     alloc: Global,
@@ -133,12 +140,13 @@ pub fn put_volumes(
 {
     let mut file = 0;
     for name in names {
-        let Some(of_file) = six_volumes.get(file) else {
+        if file >= six_volumes.len() {
             return Ok(());
-        };
+        }
+        let of_file = volume_at(six_volumes, file);
         file += 1;
         let name = name.as_str().as_bytes();
-        put_volume_line(alloc, file as u64, name, *of_file, step, text)?;
+        put_volume_line(alloc, file as u64, name, of_file, step, text)?;
     }
     Ok(())
 }
