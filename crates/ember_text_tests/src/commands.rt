@@ -1,7 +1,6 @@
 // Words of the command line, and the commands that they give.
 use ember_words::{Command, Text, Texts, WordsFault, read_words};
 use std::alloc::Global;
-use std::process::Abort;
 use std::test::Fail;
 
 fn read(alloc: Global, words: &[&str]) -> Result<Result<Command, WordsFault>, Fail> {
@@ -118,168 +117,135 @@ fn has_files(command: &Command, names: &[&str]) -> bool {
     }
 }
 
-// The words give a command with this name, these numbers, this expression and these files.
-fn check(
-    rt: &impl Abort,
-    alloc: Global,
-    words: &[&str],
-    name: &str,
-    numbers: [i64; 5],
-    expr: Option<&str>,
-    files: &[&str],
-) -> Result<(), Fail> {
-    let command = command(alloc, words)?;
-    assert_eq!(rt; name_of(&command), name);
-    assert_eq!(rt; numbers_of(&command), numbers);
-    assert_eq!(rt; expr_of(&command), expr);
-    assert!(rt; has_files(&command, files));
-    Ok(())
-}
+// Words, with the name, the numbers, the expression and the files of the command that they give.
+type Row = (
+    &'static [&'static str],
+    &'static str,
+    [i64; 5],
+    Option<&'static str>,
+    &'static [&'static str],
+);
 
-#[test]
-fn words_of_faces(rt: HostRuntime) -> Result<(), Fail> {
-    let words = ["faces", "--places", "02", "a.obj"];
-    check(
-        &rt,
-        rt.alloc(),
-        &words,
+static COMMANDS: [Row; 7] = [
+    (
+        &["faces", "--places", "02", "a.obj"],
         "faces",
         [2, 0, 0, 0, 0],
         None,
         &["a.obj"],
-    )
-}
-
-#[test]
-fn words_of_at(rt: HostRuntime) -> Result<(), Fail> {
-    let words = [
-        "at",
-        "--point=-10,-0,13,4",
-        "--expr",
-        "m1&!m2",
-        "c.obj",
-        "d.obj",
-    ];
-    let files = ["c.obj", "d.obj"];
-    check(
-        &rt,
-        rt.alloc(),
-        &words,
+    ),
+    (
+        &[
+            "at",
+            "--point=-10,-0,13,4",
+            "--expr",
+            "m1&!m2",
+            "c.obj",
+            "d.obj",
+        ],
         "at",
         [-10, 0, 13, 4, 0],
         Some("m1&!m2"),
-        &files,
-    )
-}
-
-#[test]
-fn words_of_bool(rt: HostRuntime) -> Result<(), Fail> {
-    let words = [
-        "bool",
-        "--expr",
-        "m1|m2",
-        "--workers=7",
-        "--report",
-        "c.obj",
-        "d.obj",
-    ];
-    let files = ["c.obj", "d.obj"];
-    check(
-        &rt,
-        rt.alloc(),
-        &words,
+        &["c.obj", "d.obj"],
+    ),
+    (
+        &[
+            "bool",
+            "--expr",
+            "m1|m2",
+            "--workers=7",
+            "--report",
+            "c.obj",
+            "d.obj",
+        ],
         "bool",
         [7, 0, 1, 0, 0],
         Some("m1|m2"),
-        &files,
-    )
-}
-
-#[test]
-fn words_of_demo(rt: HostRuntime) -> Result<(), Fail> {
-    let words = ["demo", "--workers", "64", "20000"];
-    check(
-        &rt,
-        rt.alloc(),
-        &words,
+        &["c.obj", "d.obj"],
+    ),
+    (
+        &["demo", "--workers", "64", "20000"],
         "demo",
         [20000, 64, 0, 0, 0],
         None,
         &[],
-    )
-}
-
-#[test]
-fn words_of_voxels(rt: HostRuntime) -> Result<(), Fail> {
-    let words = ["voxels", "--expr", "m1", "--size", "11", "c.obj"];
-    check(
-        &rt,
-        rt.alloc(),
-        &words,
+    ),
+    (
+        &["voxels", "--expr", "m1", "--size", "11", "c.obj"],
         "voxels",
         [11, 1, 0, 0, 0],
         Some("m1"),
         &["c.obj"],
-    )
-}
-
-#[test]
-fn words_of_pairs(rt: HostRuntime) -> Result<(), Fail> {
-    let words = ["pairs", "--workers", "2", "c.obj", "d.obj"];
-    check(
-        &rt,
-        rt.alloc(),
-        &words,
+    ),
+    (
+        &["pairs", "--workers", "2", "c.obj", "d.obj"],
         "pairs",
         [2, 0, 0, 0, 0],
         None,
         &["c.obj", "d.obj"],
-    )
-}
-
-#[test]
-fn words_of_slice(rt: HostRuntime) -> Result<(), Fail> {
-    let words = ["slice", "--at=-2048", "t1"];
-    check(
-        &rt,
-        rt.alloc(),
-        &words,
+    ),
+    (
+        &["slice", "--at=-2048", "t1"],
         "slice",
         [-2048, 0, 0, 0, 0],
         None,
         &["t1"],
-    )
+    ),
+];
+
+// The command has this name, these numbers, this expression and these files.
+fn is_so(
+    command: &Command,
+    name: &str,
+    numbers: [i64; 5],
+    expr: Option<&str>,
+    files: &[&str],
+) -> bool {
+    name_of(command) == name
+        && numbers_of(command) == numbers
+        && expr_of(command) == expr
+        && has_files(command, files)
 }
 
 #[test]
+fn words_give_commands(rt: HostRuntime) -> Result<(), Fail> {
+    for &(words, name, numbers, expr, files) in &COMMANDS {
+        let command = command(rt.alloc(), words)?;
+        assert!(rt; is_so(&command, name, numbers, expr, files), "{name}");
+    }
+    Ok(())
+}
+
+static OTHER_WORDS_ARE_REFUSED: [&[&str]; 24] = [
+    &[],
+    &["help"],
+    &["pair", "pair", "a.obj"],
+    &["--report", "faces", "-"],
+    &["faces"],
+    &["faces", ""],
+    &["faces", "--help"],
+    &["faces", "--workers=1", "a.obj"],
+    &["faces", "--places", "4", "a.obj"],
+    &["faces", "--places", "0000000001", "a.obj"],
+    &["at", "--point=-1099511627776,2,3,16", "a.obj"],
+    &["at", "--point=1,2,3,16", "a.obj", ""],
+    &["at", "--point", "1,2,3", "a.obj"],
+    &["at", "--point", "1,2,3,0", "a.obj"],
+    &["at", "--point", "1,2,3,4,5", "a.obj"],
+    &["bool", "--expr", "", "a.obj"],
+    &["demo", "--workers=3", "-1"],
+    &["demo"],
+    &["slice", "--at=2048", "t1"],
+    &["slice", "--at", "-1", "t1"],
+    &["slice", "--at=", "t1"],
+    &["voxels", "--expr", "m1", "--size", "3", "a.obj"],
+    &["voxels", "--expr", "m1", "--size", "13", "a.obj"],
+    &["voxels", "--expr", "m1", "a.obj"],
+];
+
+#[test]
 fn other_words_are_refused(rt: HostRuntime) -> Result<(), Fail> {
-    let refused: [&[&str]; 24] = [
-        &[],
-        &["help"],
-        &["pair", "pair", "a.obj"],
-        &["--report", "faces", "-"],
-        &["faces"],
-        &["faces", ""],
-        &["faces", "--help"],
-        &["faces", "--workers=1", "a.obj"],
-        &["faces", "--places", "4", "a.obj"],
-        &["faces", "--places", "0000000001", "a.obj"],
-        &["at", "--point=-1099511627776,2,3,16", "a.obj"],
-        &["at", "--point=1,2,3,16", "a.obj", ""],
-        &["at", "--point", "1,2,3", "a.obj"],
-        &["at", "--point", "1,2,3,0", "a.obj"],
-        &["at", "--point", "1,2,3,4,5", "a.obj"],
-        &["bool", "--expr", "", "a.obj"],
-        &["demo", "--workers=3", "-1"],
-        &["demo"],
-        &["slice", "--at=2048", "t1"],
-        &["slice", "--at", "-1", "t1"],
-        &["slice", "--at=", "t1"],
-        &["voxels", "--expr", "m1", "--size", "3", "a.obj"],
-        &["voxels", "--expr", "m1", "--size", "13", "a.obj"],
-        &["voxels", "--expr", "m1", "a.obj"],
-    ];
-    for words in refused {
+    for &words in &OTHER_WORDS_ARE_REFUSED {
         assert!(rt; matches!(fault_of(rt.alloc(), words)?, Some(WordsFault::Words)));
     }
     Ok(())

@@ -16,20 +16,21 @@ fn windings(first: i8, second: i8) -> Vector
     Vector { counts }
 }
 
+static VALUES: [(&str, i8, i8, bool); 7] = [
+    ("2*w1-w2>=1", 1, 1, true),
+    ("m1^m2", 1, 1, false),
+    ("m1|m2^m2", 1, 1, true),
+    ("-w1<0", 1, 1, true),
+    ("odd(-w1)", -1, 0, true),
+    ("w1!=-1", -1, 0, false),
+    ("!m1", -1, 0, true),
+];
+
 #[test]
 fn values(rt: HostRuntime) -> Result<(), Fail> {
-    let rows: [(&str, i8, i8, bool); 7] = [
-        ("2*w1-w2>=1", 1, 1, true),
-        ("m1^m2", 1, 1, false),
-        ("m1|m2^m2", 1, 1, true),
-        ("-w1<0", 1, 1, true),
-        ("odd(-w1)", -1, 0, true),
-        ("w1!=-1", -1, 0, false),
-        ("!m1", -1, 0, true),
-    ];
-    for (text, first, second, want) in rows {
+    for &(text, first, second, want) in &VALUES {
         let e = parse(rt.alloc(), text.as_bytes(), 2)?;
-        assert_eq!(rt; value(&e, &windings(first, second)), want, "{text}");
+        assert!(rt; value(&e, &windings(first, second)) == want, "{text}");
     }
     Ok(())
 }
@@ -43,7 +44,7 @@ fn shared<T: Send + Sync>(value: &T) -> &T {
 fn bounded_or_not(rt: HostRuntime) -> Result<(), Fail> {
     for (text, want) in [("m1", true), ("!m1", false)] {
         let e = parse(rt.alloc(), text.as_bytes(), 2)?;
-        assert_eq!(rt; bounded(shared(&e)), want, "{text}");
+        assert!(rt; bounded(shared(&e)) == want, "{text}");
     }
     Ok(())
 }
@@ -57,9 +58,9 @@ fn the_tree_of_a_mesh(rt: HostRuntime) -> Result<(), Fail> {
 
 fn check_terms(rt: &impl Abort, sum: &Sum, want: &[(bool, u32, u32)]) {
     let terms = sum.items();
-    assert_eq!(rt; terms.len(), want.len());
+    assert!(rt; terms.len() == want.len());
     for i in 0..want.len() {
-        assert_eq!(rt; (terms[i].minus, terms[i].factor, terms[i].mesh), want[i]);
+        assert!(rt; (terms[i].minus, terms[i].factor, terms[i].mesh) == want[i]);
     }
 }
 
@@ -74,66 +75,69 @@ fn the_tree_of_a_comparison(rt: HostRuntime) -> Result<(), Fail> {
     Ok(())
 }
 
+static REFUSED: [(&[u8], ExprFault); 7] = [
+    (b"m3", ExprFault::NoMesh(3)),
+    (b"w1>", ExprFault::Syntax(3)),
+    (b"m1 | 1000001 = w1", ExprFault::Number(5)),
+    (b"!m1=w2", ExprFault::Syntax(3)),
+    (b"m", ExprFault::Syntax(0)),
+    (b"", ExprFault::Syntax(0)),
+    (b"m0", ExprFault::NoMesh(0)),
+];
+
 #[test]
-fn refused(rt: HostRuntime) -> Result<(), Fail> {
-    let mut signs = "!".repeat(rt.alloc(), 65)?;
-    signs.push_str("m1")?;
-    let long = " ".repeat(rt.alloc(), 4097)?;
-    let rows: [(&[u8], ExprFault); 9] = [
-        (b"m3", ExprFault::NoMesh(3)),
-        (b"w1>", ExprFault::Syntax(3)),
-        (b"m1 | 1000001 = w1", ExprFault::Number(5)),
-        (b"!m1=w2", ExprFault::Syntax(3)),
-        (b"m", ExprFault::Syntax(0)),
-        (b"", ExprFault::Syntax(0)),
-        (b"m0", ExprFault::NoMesh(0)),
-        (signs.as_bytes(), ExprFault::Deep(64)),
-        (long.as_bytes(), ExprFault::Long),
-    ];
-    for (text, want) in rows {
-        assert_eq!(rt; parse(rt.alloc(), text, 2).err(), Some(want));
+fn refused(rt: HostRuntime) {
+    for &(text, want) in &REFUSED {
+        assert!(rt; parse(rt.alloc(), text, 2).err() == Some(want));
     }
-    Ok(())
 }
 
 #[test]
+fn refused_for_their_size(rt: HostRuntime) -> Result<(), Fail> {
+    let mut signs = "!".repeat(rt.alloc(), 65)?;
+    signs.push_str("m1")?;
+    assert!(rt; parse(rt.alloc(), signs.as_bytes(), 2).err() == Some(ExprFault::Deep(64)));
+    let long = " ".repeat(rt.alloc(), 4097)?;
+    assert!(rt; parse(rt.alloc(), long.as_bytes(), 2).err() == Some(ExprFault::Long));
+    Ok(())
+}
+
+static PLACES_OF_SYNTAX_FAULTS: [(&[u8], u32); 24] = [
+    // it ends too early
+    (b" ", 1),
+    (b"w1", 2),
+    (b"(m1 ", 4),
+    (b"odd(w1", 6),
+    (b"m1|", 3),
+    // what follows a whole expression
+    (b"m1 m2", 3),
+    (b"m1)", 2),
+    (b"m1=1", 2),
+    (b"1=1=1", 3),
+    // a sum has no parentheses, and its first sign is alone
+    (b"(1+2)=3", 4),
+    (b"1=--1", 3),
+    (b"2*3=6", 2),
+    (b"w1*2=0", 2),
+    (b"odd(m1)", 4),
+    (b"odd w1", 4),
+    // the longest token is taken
+    (b"!!=1", 1),
+    (b"1 ! = 2", 2),
+    (b"w1<>2", 3),
+    (b"m1|odds", 6),
+    // an unknown byte, and a letter without a number
+    (b"m1\t", 2),
+    (b"m1&w", 3),
+    (b"m1 & M2", 5),
+    // a fault of syntax comes before the others of its token
+    (b"m1 m0", 3),
+    (b"m1 1000001", 3),
+];
+
+#[test]
 fn places_of_syntax_faults(rt: HostRuntime) {
-    let rows: [(&[u8], u32); 24] = [
-        // it ends too early
-        (b" ", 1),
-        (b"w1", 2),
-        (b"(m1 ", 4),
-        (b"odd(w1", 6),
-        (b"m1|", 3),
-        // what follows a whole expression
-        (b"m1 m2", 3),
-        (b"m1)", 2),
-        (b"m1=1", 2),
-        (b"1=1=1", 3),
-        // a sum has no parentheses, and its first sign is alone
-        (b"(1+2)=3", 4),
-        (b"1=--1", 3),
-        (b"2*3=6", 2),
-        (b"w1*2=0", 2),
-        (b"odd(m1)", 4),
-        (b"odd w1", 4),
-        // the longest token is taken
-        (b"!!=1", 1),
-        (b"1 ! = 2", 2),
-        (b"w1<>2", 3),
-        (b"m1|odds", 6),
-        // an unknown byte, and a letter without a number
-        (b"m1\t", 2),
-        (b"m1&w", 3),
-        (b"m1 & M2", 5),
-        // a fault of syntax comes before the others of its token
-        (b"m1 m0", 3),
-        (b"m1 1000001", 3),
-    ];
-    for (text, place) in rows {
-        assert_eq!(rt;
-            parse(rt.alloc(), text, 2).err(),
-            Some(ExprFault::Syntax(place))
-        );
+    for &(text, place) in &PLACES_OF_SYNTAX_FAULTS {
+        assert!(rt; parse(rt.alloc(), text, 2).err() == Some(ExprFault::Syntax(place)));
     }
 }

@@ -23,59 +23,61 @@ fn count(alloc: Global, bytes: &[u8]) -> Result<usize, ObjFault> {
     }
 }
 
+static FILES_THAT_MEAN_HARM: [(&[u8], Result<usize, ObjFault>); 14] = [
+    (b"v 1 2", Err(ObjFault::Word(1))),
+    (b"f", Err(ObjFault::FewCorners(1))),
+    (b"v 0 0 0\\", Ok(0)),
+    (
+        b"v 0 0 0\nf 99999999999999999999 1 1",
+        Err(ObjFault::Index(2)),
+    ),
+    (
+        b"v 0 0 0\nf -99999999999999999999 1 1",
+        Err(ObjFault::Index(2)),
+    ),
+    (b"v 0 0 0\nf - 1 1", Err(ObjFault::Word(2))),
+    (b"v 0 0 0\nf /1 1 1", Err(ObjFault::Word(2))),
+    (
+        b"v 1e2 0 0",
+        Err(ObjFault::Coordinate(1, DecFault::Malformed)),
+    ),
+    (b"v 00000000000000000000000000000007 0 0", Ok(0)),
+    (
+        b"v 2047.9 0 0",
+        Err(ObjFault::Coordinate(1, DecFault::Fraction)),
+    ),
+    (
+        b"# a \\\nv x 0 0",
+        Err(ObjFault::Coordinate(2, DecFault::Malformed)),
+    ),
+    (b"v 0 0 \\\n0\nf 1 1 2", Err(ObjFault::Index(3))),
+    (b"V 0 0 0\nf 1 1 1", Err(ObjFault::Index(2))),
+    (b"\xEF\xBB\xBFv 1 1 1\nf 1 1 1", Ok(1)),
+];
+
 #[test]
 fn files_that_mean_harm(rt: HostRuntime) {
-    let rows: [(&[u8], Result<usize, ObjFault>); 14] = [
-        (b"v 1 2", Err(ObjFault::Word(1))),
-        (b"f", Err(ObjFault::FewCorners(1))),
-        (b"v 0 0 0\\", Ok(0)),
-        (
-            b"v 0 0 0\nf 99999999999999999999 1 1",
-            Err(ObjFault::Index(2)),
-        ),
-        (
-            b"v 0 0 0\nf -99999999999999999999 1 1",
-            Err(ObjFault::Index(2)),
-        ),
-        (b"v 0 0 0\nf - 1 1", Err(ObjFault::Word(2))),
-        (b"v 0 0 0\nf /1 1 1", Err(ObjFault::Word(2))),
-        (
-            b"v 1e2 0 0",
-            Err(ObjFault::Coordinate(1, DecFault::Malformed)),
-        ),
-        (b"v 00000000000000000000000000000007 0 0", Ok(0)),
-        (
-            b"v 2047.9 0 0",
-            Err(ObjFault::Coordinate(1, DecFault::Fraction)),
-        ),
-        (
-            b"# a \\\nv x 0 0",
-            Err(ObjFault::Coordinate(2, DecFault::Malformed)),
-        ),
-        (b"v 0 0 \\\n0\nf 1 1 2", Err(ObjFault::Index(3))),
-        (b"V 0 0 0\nf 1 1 1", Err(ObjFault::Index(2))),
-        (b"\xEF\xBB\xBFv 1 1 1\nf 1 1 1", Ok(1)),
-    ];
-    for (bytes, want) in rows {
-        assert_eq!(rt; count(rt.alloc(), bytes), want);
+    for &(bytes, want) in &FILES_THAT_MEAN_HARM {
+        assert!(rt; count(rt.alloc(), bytes) == want);
     }
 }
+
+static FACES_THAT_ARE_REFUSED: [(&[u8], ObjFault); 5] = [
+    (b"f 0 1 2", ObjFault::Index(5)),
+    (b"f 1 2 5", ObjFault::Index(5)),
+    (b"f 1 2", ObjFault::FewCorners(5)),
+    (b"f 1 2 x", ObjFault::Word(5)),
+    (b"f 1 2 0\nv 1", ObjFault::Index(5)),
+];
 
 #[test]
 fn faces_that_are_refused(rt: HostRuntime) -> Result<(), Fail> {
     // Behind four vertices, on lines 1 to 4.
     let vertices = b"v 0 0 0\nv 1 0 0\nv 0 1 0\nv 0 0 1\n";
-    let rows: [(&[u8], ObjFault); 5] = [
-        (b"f 0 1 2", ObjFault::Index(5)),
-        (b"f 1 2 5", ObjFault::Index(5)),
-        (b"f 1 2", ObjFault::FewCorners(5)),
-        (b"f 1 2 x", ObjFault::Word(5)),
-        (b"f 1 2 0\nv 1", ObjFault::Index(5)),
-    ];
-    for (face, want) in rows {
+    for &(face, want) in &FACES_THAT_ARE_REFUSED {
         let mut bytes = Vec::from_slice(rt.alloc(), vertices)?;
         bytes.extend_from_slice(face)?;
-        assert_eq!(rt; count(rt.alloc(), &bytes), Err(want));
+        assert!(rt; count(rt.alloc(), &bytes) == Err(want));
     }
     Ok(())
 }
@@ -108,11 +110,11 @@ fn check(
     let Ok(soup) = read(alloc, bytes) else {
         return Err(Fail::from("refused"));
     };
-    assert_eq!(rt; soup.lines.items(), lines);
+    assert!(rt; soup.lines.items() == lines);
     let tris = soup.tris.items();
-    assert_eq!(rt; tris.len(), want.len());
+    assert!(rt; tris.len() == want.len());
     for i in 0..want.len() {
-        assert_eq!(rt; tris[i], triangle(want[i]));
+        assert!(rt; tris[i] == triangle(want[i]));
     }
     Ok(())
 }
@@ -155,7 +157,7 @@ fn too_many_vertices(rt: HostRuntime) -> Result<(), Fail> {
     for _ in 0..262_145 {
         bytes.extend_from_slice(b"v 0 0 0\n")?;
     }
-    assert_eq!(rt; count(rt.alloc(), &bytes), Err(ObjFault::TooMany(262_145)));
+    assert!(rt; count(rt.alloc(), &bytes) == Err(ObjFault::TooMany(262_145)));
     Ok(())
 }
 
@@ -163,8 +165,8 @@ fn too_many_vertices(rt: HostRuntime) -> Result<(), Fail> {
 fn long_lines(rt: HostRuntime) -> Result<(), Fail> {
     let mut bytes = Vec::from_slice(rt.alloc(), b"v 0 0 0")?;
     bytes.resize(65_536, b' ')?;
-    assert_eq!(rt; count(rt.alloc(), &bytes), Ok(0));
+    assert!(rt; count(rt.alloc(), &bytes) == Ok(0));
     bytes.push(b' ')?;
-    assert_eq!(rt; count(rt.alloc(), &bytes), Err(ObjFault::LongLine(1)));
+    assert!(rt; count(rt.alloc(), &bytes) == Err(ObjFault::LongLine(1)));
     Ok(())
 }

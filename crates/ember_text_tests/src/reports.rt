@@ -23,7 +23,7 @@ fn check(
     requires { sum_by length journals.now < 2 ^ 64 }
 {
     let report = report_of(journals, faces);
-    assert_eq!(rt; report_line(alloc, &report)?.as_slice(), want);
+    assert!(rt; report_line(alloc, &report)?.as_slice() == want);
     Ok(())
 }
 

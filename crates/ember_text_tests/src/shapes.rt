@@ -12,7 +12,7 @@ pub const Y: Corner = Corner { x: 0, y: 1, z: 0 };
 pub const Z: Corner = Corner { x: 0, y: 0, z: 1 };
 
 /// The triangles of the tetrahedron with the corners 0 and the unit points, outward.
-pub const TETRA: [Tri; 4] = [
+pub static TETRA: [Tri; 4] = [
     Tri {
         a: O,
         b: Y,

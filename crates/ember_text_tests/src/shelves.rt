@@ -23,8 +23,8 @@ fn check<S: Shelf>(
     want: Result<&[u8], ReadEnd>,
 ) {
     match (read_all(alloc, shelf, name, 1, u64::from(most)), want) {
-        (Ok(bytes), Ok(want)) => assert_eq!(rt; bytes.as_slice(), want),
-        (Err(end), Err(want)) => assert_eq!(rt; end, want),
+        (Ok(bytes), Ok(want)) => assert!(rt; bytes.as_slice() == want),
+        (Err(end), Err(want)) => assert!(rt; end == want),
         _ => assert!(rt; false, "{name}"),
     }
 }
@@ -38,32 +38,35 @@ fn a_file_is_read_whole_from_pieces(rt: HostRuntime) -> Result<(), Fail> {
     Ok(())
 }
 
-#[test]
-fn a_file_with_a_byte_more_than_allowed_is_too_long(rt: HostRuntime) -> Result<(), Fail> {
-    let alloc = rt.alloc();
-    let mut shelf = SafeShelf::new(alloc, five_bytes(alloc)?)?;
-    let rows: [(&str, u32, Result<&[u8], ReadEnd>); 3] = [
+static A_FILE_WITH_A_BYTE_MORE_THAN_ALLOWED_IS_TOO_LONG: [(&str, u32, Result<&[u8], ReadEnd>); 3] =
+    [
         ("a", 4, Err(ReadEnd::TooLong(5))),
         ("a", 5, Ok(b"12345")),
         ("b", 4, Ok(b"")),
     ];
-    for (name, most, want) in rows {
+
+#[test]
+fn a_file_with_a_byte_more_than_allowed_is_too_long(rt: HostRuntime) -> Result<(), Fail> {
+    let alloc = rt.alloc();
+    let mut shelf = SafeShelf::new(alloc, five_bytes(alloc)?)?;
+    for &(name, most, want) in &A_FILE_WITH_A_BYTE_MORE_THAN_ALLOWED_IS_TOO_LONG {
         check(&rt, alloc, &mut shelf, name, most, want);
     }
     Ok(())
 }
+
+static A_FAILING_CALL_AND_AN_UNKNOWN_NAME_ARE_FAULTS: [(&str, Result<&[u8], ReadEnd>); 3] = [
+    ("a", Err(ReadEnd::ReadFault)),
+    ("b", Err(ReadEnd::ReadFault)),
+    ("a", Ok(b"12345")),
+];
 
 #[test]
 fn a_failing_call_and_an_unknown_name_are_faults(rt: HostRuntime) -> Result<(), Fail> {
     let alloc = rt.alloc();
     let third = Calls::of(vec![in alloc; 3]?);
     let mut shelf = MemoryShelf::new(alloc, five_bytes(alloc)?, 2, third)?;
-    let rows: [(&str, Result<&[u8], ReadEnd>); 3] = [
-        ("a", Err(ReadEnd::ReadFault)),
-        ("b", Err(ReadEnd::ReadFault)),
-        ("a", Ok(b"12345")),
-    ];
-    for (name, want) in rows {
+    for &(name, want) in &A_FAILING_CALL_AND_AN_UNKNOWN_NAME_ARE_FAULTS {
         check(&rt, alloc, &mut shelf, name, 10, want);
     }
     Ok(())
@@ -90,15 +93,12 @@ fn a_file_of_the_system_is_read(rt: HostRuntime) -> Result<(), Fail> {
 fn lists_of_files_and_calls_lend_and_give_back_their_vectors(rt: HostRuntime) -> Result<(), Fail> {
     let alloc = rt.alloc();
     let files = five_bytes(alloc)?;
-    assert_eq!(rt; files.items().len(), 1);
+    assert!(rt; files.items().len() == 1);
     let files = files.into_vec();
-    assert_eq!(rt; files.len(), 1);
-    assert_eq!(rt;
-        (files[0].0.as_str(), files[0].1.as_slice()),
-        ("a", b"12345".as_slice())
-    );
+    assert!(rt; files.len() == 1);
+    assert!(rt; (files[0].0.as_str(), files[0].1.as_slice()) == ("a", b"12345".as_slice()));
     let calls = Calls::of(vec![in alloc; 7]?);
-    assert_eq!(rt; calls.items(), [7].as_slice());
-    assert_eq!(rt; calls.into_vec().as_slice(), [7].as_slice());
+    assert!(rt; calls.items() == [7].as_slice());
+    assert!(rt; calls.into_vec().as_slice() == [7].as_slice());
     Ok(())
 }

@@ -22,18 +22,22 @@ fn check(
     answer: Result<(), WriteFault>,
     taken: &[u8],
 ) {
-    assert_eq!(rt; write_all(sink, bytes), answer);
-    assert_eq!(rt; sink.bytes(), taken);
+    assert!(rt; write_all(sink, bytes) == answer);
+    assert!(rt; sink.bytes() == taken);
 }
 
 const LINES: &[u8] = b"one line..two lines.three linefour line.five line.six line..";
 
+// Its seventh call is the flush.
+static A_SINK_TAKES_WHOLE_PIECES_UP_TO_ITS_FAULT: [(u64, &[u8]); 2] = [
+    (5, b"one line..two lines.three linefour line."),
+    (7, LINES),
+];
+
 #[test]
 fn a_sink_takes_whole_pieces_up_to_its_fault(rt: HostRuntime) -> Result<(), Fail> {
     let alloc = rt.alloc();
-    // Its seventh call is the flush.
-    let rows: [(u64, &[u8]); 2] = [(5, b"one line..two lines.three linefour line."), (7, LINES)];
-    for (failing, taken) in rows {
+    for &(failing, taken) in &A_SINK_TAKES_WHOLE_PIECES_UP_TO_ITS_FAULT {
         let mut sink = sink(alloc, 100, 10, failing)?;
         check(&rt, &mut sink, LINES, Err(WriteFault), taken);
     }
@@ -51,11 +55,11 @@ fn a_sink_takes_bytes_up_to_its_room(rt: HostRuntime) -> Result<(), Fail> {
 #[test]
 fn a_stream_of_the_system_takes_bytes(rt: HostRuntime) -> Result<(), Fail> {
     let mut out = StdSink::new(std::io::writer(&rt));
-    assert_eq!(rt; write_all(&mut out, b"written\n"), Ok(()));
+    assert!(rt; write_all(&mut out, b"written\n") == Ok(()));
     let mut file = StdSink::new(std::fs::create(&rt, "taken.txt")?);
-    assert_eq!(rt; write_all(&mut file, b"written\n"), Ok(()));
+    assert!(rt; write_all(&mut file, b"written\n") == Ok(()));
     drop(file);
     let text = std::fs::read(&rt, "taken.txt")?;
-    assert_eq!(rt; text.as_slice(), b"written\n".as_slice());
+    assert!(rt; text.as_slice() == b"written\n".as_slice());
     Ok(())
 }

@@ -16,20 +16,20 @@ fn is_slice(alloc: Global, file: &[u8], at: i32, want: &[u8]) -> Result<bool, Sl
     Ok(text.as_slice() == want)
 }
 
+static A_TETRAHEDRON: [(i32, &[u8]); 3] = [
+    (
+        0,
+        b"slice 0\ns 0 0 1 2 1 0 1 2\ns 0 1 1 2 0 0 1 2\ns 1 0 1 2 0 1 1 2\nend 3\n",
+    ),
+    (1, b"slice 1\nend 0\n"),
+    (-1, b"slice -1\nend 0\n"),
+];
+
 #[test]
 fn a_tetrahedron(rt: HostRuntime) {
-    let rows: [(i32, &[u8]); 3] = [
-        (
-            0,
-            b"slice 0\ns 0 0 1 2 1 0 1 2\ns 0 1 1 2 0 0 1 2\ns 1 0 1 2 0 1 1 2\nend 3\n",
-        ),
-        (1, b"slice 1\nend 0\n"),
-        (-1, b"slice -1\nend 0\n"),
-    ];
-    for (at, want) in rows {
-        assert_eq!(rt;
-            is_slice(rt.alloc(), TETRA_TEXT, at, want),
-            Ok(true),
+    for &(at, want) in &A_TETRAHEDRON {
+        assert!(rt;
+            is_slice(rt.alloc(), TETRA_TEXT, at, want) == Ok(true),
             "{at}"
         );
     }
@@ -94,15 +94,16 @@ s 119 50 -8 16 73 52 -4 8\n\
 s -505 -54 -5 10 -4 -54 -5 10\n\
 end 2\n";
 
+static FACES_OF_ANY_PLANES: [(&[u8], i32, &[u8], Result<bool, SliceFault>); 4] = [
+    (LARGE, 1, LARGE_AT_1, Ok(true)),
+    (SMALL, -1, SMALL_BELOW_0, Ok(true)),
+    (ENDLESS, 0, b"", Err(SliceFault::Endless(1))),
+    (ENDLESS, -1, b"slice -1\nend 0\n", Ok(true)),
+];
+
 #[test]
 fn faces_of_any_planes(rt: HostRuntime) {
-    let rows: [(&[u8], i32, &[u8], Result<bool, SliceFault>); 4] = [
-        (LARGE, 1, LARGE_AT_1, Ok(true)),
-        (SMALL, -1, SMALL_BELOW_0, Ok(true)),
-        (ENDLESS, 0, b"", Err(SliceFault::Endless(1))),
-        (ENDLESS, -1, b"slice -1\nend 0\n", Ok(true)),
-    ];
-    for (file, at, text, want) in rows {
-        assert_eq!(rt; is_slice(rt.alloc(), file, at, text), want, "{at}");
+    for &(file, at, text, want) in &FACES_OF_ANY_PLANES {
+        assert!(rt; is_slice(rt.alloc(), file, at, text) == want, "{at}");
     }
 }

@@ -4,6 +4,12 @@ use ember_algebra::Sign;
 use ember_width::{Narrow, Width};
 use std::test::Fail;
 
+static SIDES: [([i16; 4], Sign); 3] = [
+    ([1, 1, 1, 2], Sign::Neg),
+    ([1, 0, -1, 0], Sign::Zero),
+    ([1, 1, 1, 0], Sign::Pos),
+];
+
 #[test]
 fn a_narrow_meet_and_its_sides(rt: HostRuntime) -> Result<(), Fail> {
     let Some(m) = Narrow::meet(
@@ -13,18 +19,9 @@ fn a_narrow_meet_and_its_sides(rt: HostRuntime) -> Result<(), Fail> {
     ) else {
         return Err(Fail::from("no meet"));
     };
-    assert_eq!(rt; [m.x, m.y, m.z, m.w], [1, 1, 1, 3]);
-    let rows = [
-        ([1, 1, 1, 2], Sign::Neg),
-        ([1, 0, -1, 0], Sign::Zero),
-        ([1, 1, 1, 0], Sign::Pos),
-    ];
-    for (numbers, want) in rows {
-        assert_eq!(rt;
-            Narrow::side(&narrow_plane(numbers), &m),
-            want,
-            "{numbers:?}"
-        );
+    assert!(rt; [m.x, m.y, m.z, m.w] == [1, 1, 1, 3]);
+    for (numbers, want) in &SIDES {
+        assert!(rt; Narrow::side(&narrow_plane(*numbers), &m) == *want);
     }
     Ok(())
 }
