@@ -41,7 +41,7 @@ fn the_least_loose_edges_of_files(rt: HostRuntime) -> Result<(), Fail> {
         (LONG, Some(long)),
     ];
     for (bytes, want) in rows {
-        assert_eq!(rt; loose_of(rt.alloc(), bytes)?, want);
+        assert!(rt; loose_of(rt.alloc(), bytes)? == want);
     }
     Ok(())
 }

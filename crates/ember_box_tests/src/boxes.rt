@@ -15,24 +15,24 @@ use std::alloc::Global;
 use std::process::Abort;
 use std::test::Fail;
 
-const AXES: [Axis; 3] = [Axis::X, Axis::Y, Axis::Z];
+static AXES: [Axis; 3] = [Axis::X, Axis::Y, Axis::Z];
 
 fn check_root_halves(rt: &impl Abort, k: Axis) {
     let (low, high) = halves(&root(), k);
-    assert_eq!(rt; (low.path(), high.path()), (2, 3));
-    assert_eq!(rt; (low.low(k), high.low(k)), (-2048, 0));
-    for other in AXES {
+    assert!(rt; (low.path(), high.path()) == (2, 3));
+    assert!(rt; (low.low(k), high.low(k)) == (-2048, 0));
+    for &other in &AXES {
         let want = if other == k { 11 } else { 12 };
-        assert_eq!(rt; (low.log(other), high.log(other)), (want, want));
+        assert!(rt; (low.log(other), high.log(other)) == (want, want));
     }
 }
 
 #[test]
 fn the_root_is_halved_along_each_axis(rt: HostRuntime) {
     let whole = root();
-    assert_eq!(rt; (whole.path(), whole.lo()), (1, [-2048, -2048, -2048]));
-    for k in AXES {
-        assert_eq!(rt; (whole.log(k), whole.side(k)), (12, 4096));
+    assert!(rt; (whole.path(), whole.lo()) == (1, [-2048, -2048, -2048]));
+    for &k in &AXES {
+        assert!(rt; (whole.log(k), whole.side(k)) == (12, 4096));
         check_root_halves(&rt, k);
     }
 }
@@ -40,9 +40,9 @@ fn the_root_is_halved_along_each_axis(rt: HostRuntime) {
 // The upper half of the root along an axis has these fields.
 fn check_upper_half(rt: &impl Abort, k: Axis, lo: [i32; 3], log: [u8; 3]) {
     let (_, upper) = halves(&root(), k);
-    assert_eq!(rt; upper.lo, lo);
-    assert_eq!(rt; upper.log, log);
-    assert_eq!(rt; upper.path, 3);
+    assert!(rt; upper.lo == lo);
+    assert!(rt; upper.log == log);
+    assert!(rt; upper.path == 3);
 }
 
 #[test]
@@ -55,7 +55,7 @@ fn a_box_shows_its_fields(rt: HostRuntime) {
 // The box of side 1 with the least corner 0.
 fn unit_box() -> Cell {
     let mut c = root();
-    for k in AXES {
+    for &k in &AXES {
         for _ in 0..12 {
             if c.log(k) > 0 {
                 let (low, high) = halves(&c, k);
@@ -73,10 +73,10 @@ v 3 0 0\nv 0 3 0\nv 0 0 3\nv 4 0 0\nv 0 4 0\nv 0 0 4\nf 1 2 3\nf 4 5 6\nf 4 5 4\
 #[test]
 fn a_plane_beside_a_box_keeps_its_triangle_away(rt: HostRuntime) -> Result<(), Fail> {
     let unit = unit_box();
-    assert_eq!(rt; unit.lo(), [0, 0, 0]);
+    assert!(rt; unit.lo() == [0, 0, 0]);
     let soup = soup_of(rt.alloc(), BESIDE, 1)?;
     let tris = soup.tris.items();
-    assert_eq!(rt; tris.len(), 3);
+    assert!(rt; tris.len() == 3);
     assert!(rt; near_tri(&unit, &tris[0]));
     assert!(rt; !near_tri(&unit, &tris[1]));
     assert!(rt; near_tri(&unit, &tris[2]));
@@ -96,14 +96,14 @@ fn check_near(rt: &impl Abort, alloc: Global, files: &[&[u8]], all: &[u32]) -> R
 {
     let scene = scene_of_files(alloc, files)?;
     let job = root_job(alloc, &scene)?;
-    assert_eq!(rt; job.list.items(), all);
+    assert!(rt; job.list.items() == all);
     let near = near_in(alloc, &scene, &job, &root())?;
-    assert_eq!(rt; near.as_slice(), all);
-    for k in AXES {
+    assert!(rt; near.as_slice() == all);
+    for &k in &AXES {
         let (low, high) = halves(&root(), k);
         for half in [&low, &high] {
             let near = near_in(alloc, &scene, &job, half)?;
-            assert_eq!(rt; near.as_slice(), all);
+            assert!(rt; near.as_slice() == all);
         }
     }
     Ok(())
@@ -146,10 +146,10 @@ fn check_halving(
     let scene = scene_of_files(alloc, files)?;
     let job = root_job(alloc, &scene)?;
     let (axis, is_leaf, best) = halving_of(&scene, &job);
-    assert_eq!(rt; axis, want);
-    assert_eq!(rt; is_leaf, want.is_none());
+    assert!(rt; axis == want);
+    assert!(rt; is_leaf == want.is_none());
     if let Some(k) = want {
-        assert_eq!(rt; best, k);
+        assert!(rt; best == k);
     }
     Ok(())
 }
@@ -186,8 +186,8 @@ fn each_half_keeps_the_triangles_that_reach_it(rt: HostRuntime) -> Result<(), Fa
     let job = root_job(rt.alloc(), &scene)?;
     assert!(rt; job.cell.log(Axis::Y) > 0);
     let (low, high) = lists_of_halves(rt.alloc(), &scene, &job)?;
-    assert_eq!(rt; low.as_slice(), [2, 3].as_slice());
-    assert_eq!(rt; high.as_slice(), [0, 1, 2, 3].as_slice());
+    assert!(rt; low.as_slice() == [2, 3].as_slice());
+    assert!(rt; high.as_slice() == [0, 1, 2, 3].as_slice());
     Ok(())
 }
 
@@ -206,14 +206,8 @@ fn one_look_tells_the_axis_and_the_lists_of_both_halves(rt: HostRuntime) -> Resu
     let Some(HalvedBox { axis, left, right }) = look_at(alloc, &scene, &job)? else {
         return Err(Fail::from("a leaf"));
     };
-    assert_eq!(rt; axis, Axis::Y);
-    assert_eq!(rt;
-        left.as_slice(),
-        [2, 3, 6, 7, 10, 11, 14, 15, 18, 19].as_slice()
-    );
-    assert_eq!(rt;
-        right.as_slice(),
-        [0, 1, 4, 5, 8, 9, 12, 13, 16, 17].as_slice()
-    );
+    assert!(rt; axis == Axis::Y);
+    assert!(rt; left.as_slice() == [2, 3, 6, 7, 10, 11, 14, 15, 18, 19].as_slice());
+    assert!(rt; right.as_slice() == [0, 1, 4, 5, 8, 9, 12, 13, 16, 17].as_slice());
     Ok(())
 }

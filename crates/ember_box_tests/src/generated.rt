@@ -7,8 +7,8 @@ use std::test::Fail;
 fn the_first_box(rt: HostRuntime) -> Result<(), Fail> {
     let scene = scene_of(rt.alloc(), 1)?;
     let tris = scene.tris.items();
-    assert_eq!(rt; scene.meshes, 2);
-    assert_eq!(rt; tris.len(), 12);
+    assert!(rt; scene.meshes == 2);
+    assert!(rt; tris.len() == 12);
     let first = Corner {
         x: 710,
         y: 382,
@@ -19,8 +19,8 @@ fn the_first_box(rt: HostRuntime) -> Result<(), Fail> {
         y: 458,
         z: 1405,
     };
-    assert_eq!(rt; (tris[0].a, tris[0].mesh), (first, 1));
-    assert_eq!(rt; tris[3].b, opposite);
+    assert!(rt; (tris[0].a, tris[0].mesh) == (first, 1));
+    assert!(rt; tris[3].b == opposite);
     Ok(())
 }
 
@@ -28,7 +28,7 @@ fn the_first_box(rt: HostRuntime) -> Result<(), Fail> {
 fn boxes_with_odd_numbers_come_last(rt: HostRuntime) -> Result<(), Fail> {
     let scene = scene_of(rt.alloc(), 3)?;
     let tris = scene.tris.items();
-    assert_eq!(rt; tris.len(), 36);
-    assert_eq!(rt; (tris[23].mesh, tris[24].mesh), (1, 2));
+    assert!(rt; tris.len() == 36);
+    assert!(rt; (tris[23].mesh, tris[24].mesh) == (1, 2));
     Ok(())
 }

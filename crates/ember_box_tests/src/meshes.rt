@@ -14,7 +14,7 @@ const Y: Corner = Corner { x: 0, y: 1, z: 0 };
 const Z: Corner = Corner { x: 0, y: 0, z: 1 };
 
 // The triangles of the tetrahedron.
-const TRIANGLES: [Tri; 4] = [
+static TRIANGLES: [Tri; 4] = [
     Tri {
         a: O,
         b: Y,
@@ -44,11 +44,11 @@ const TRIANGLES: [Tri; 4] = [
 #[test]
 fn a_tetrahedron_becomes_a_scene(rt: HostRuntime) -> Result<(), Fail> {
     let scene = scene_of_files(rt.alloc(), &[TETRA])?;
-    assert_eq!(rt; scene.meshes, 1);
+    assert!(rt; scene.meshes == 1);
     let tris = scene.tris.items();
-    assert_eq!(rt; tris.len(), 4);
+    assert!(rt; tris.len() == 4);
     for i in 0..4 {
-        assert_eq!(rt; tris[i], TRIANGLES[i]);
+        assert!(rt; tris[i] == TRIANGLES[i]);
     }
     Ok(())
 }
@@ -60,7 +60,7 @@ fn a_lone_triangle_is_refused_and_handed_back(rt: HostRuntime) -> Result<(), Fai
         return Err(Fail::from("no fault"));
     };
     assert!(rt; matches!(fault, MeshFault::Unbalanced(_)));
-    assert_eq!(rt; solid.tris.items().len(), 1);
-    assert_eq!(rt; solid.lines.items(), [4].as_slice());
+    assert!(rt; solid.tris.items().len() == 1);
+    assert!(rt; solid.lines.items() == [4].as_slice());
     Ok(())
 }

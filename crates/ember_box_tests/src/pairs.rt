@@ -14,7 +14,7 @@ use std::test::Fail;
 fn equal_triangles_meet_and_neighbours_do_not(rt: HostRuntime) -> Result<(), Fail> {
     let alloc = rt.alloc();
     let scene = scene_of_files(alloc, &[TETRA, TETRA])?;
-    assert_eq!(rt; scene.tris.items().len(), 8);
+    assert!(rt; scene.tris.items().len() == 8);
     assert!(rt; meeting(alloc, &scene, 0, 4)?);
     assert!(rt; !meeting(alloc, &scene, 0, 5)?);
     Ok(())
@@ -67,32 +67,32 @@ fn meet(alloc: Global, one: &[u8], other: &[u8]) -> Result<Option<bool>, Fail> {
     Ok(if same { Some(first) } else { None })
 }
 
+static TRIANGLES_OF_ONE_PLANE_AND_OF_TWO: [(&[u8], &[u8], bool); 12] = [
+    (LEFT, LEFT, true),
+    // one within the other
+    (LEFT, SMALL, true),
+    (LEANING, WITHIN, true),
+    // six corners of a star
+    (UP, DOWN, true),
+    // a sliver in common, along an edge and in the middle
+    (LARGE, SLIVER, true),
+    (ALONG, ACROSS, true),
+    // one edge in common: on the same side, and on two sides
+    (LEFT, LOW, true),
+    (LEFT, RIGHT, false),
+    // one corner in common, and none
+    (LEFT, CORNER, false),
+    (LEFT, BEYOND, false),
+    // in a parallel plane, and through the plane beside the triangle
+    (LEFT, RAISED, false),
+    (LEFT, PIERCING, false),
+];
+
 #[test]
 fn triangles_of_one_plane_and_of_two(rt: HostRuntime) -> Result<(), Fail> {
-    let rows = [
-        (LEFT, LEFT, true),
-        // one within the other
-        (LEFT, SMALL, true),
-        (LEANING, WITHIN, true),
-        // six corners of a star
-        (UP, DOWN, true),
-        // a sliver in common, along an edge and in the middle
-        (LARGE, SLIVER, true),
-        (ALONG, ACROSS, true),
-        // one edge in common: on the same side, and on two sides
-        (LEFT, LOW, true),
-        (LEFT, RIGHT, false),
-        // one corner in common, and none
-        (LEFT, CORNER, false),
-        (LEFT, BEYOND, false),
-        // in a parallel plane, and through the plane beside the triangle
-        (LEFT, RAISED, false),
-        (LEFT, PIERCING, false),
-    ];
-    for (one, other, want) in rows {
-        assert_eq!(rt;
-            meet(rt.alloc(), one, other)?,
-            Some(want),
+    for &(one, other, want) in &TRIANGLES_OF_ONE_PLANE_AND_OF_TWO {
+        assert!(rt;
+            meet(rt.alloc(), one, other)? == Some(want),
             "{one:?} and {other:?}"
         );
     }
@@ -115,7 +115,7 @@ fn check(rt: &impl Abort, alloc: Global, files: &[&[u8]], want: &[u8]) -> Result
     let scene = scene_of_files(alloc, files)?;
     let items = vec![in alloc; root_item(alloc, &scene)?, root_item(alloc, &scene)?]?;
     let pairs = gather(alloc, items)?;
-    assert_eq!(rt; pairs_text(alloc, pairs.items())?.as_slice(), want);
+    assert!(rt; pairs_text(alloc, pairs.items())?.as_slice() == want);
     Ok(())
 }
 

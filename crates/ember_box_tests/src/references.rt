@@ -33,9 +33,9 @@ const BEYOND: Plane = Plane {
 
 #[test]
 fn signs_beside_a_corner(rt: HostRuntime) {
-    assert_eq!(rt; lex_side(&DIAGONAL, [0, 0, 0]), Sign::Pos);
-    assert_eq!(rt; lex_side(&LEVEL, [0, 0, 5]), Sign::Neg);
-    assert_eq!(rt; lex_side(&BEYOND, [0, 0, 0]), Sign::Neg);
+    assert!(rt; lex_side(&DIAGONAL, [0, 0, 0]) == Sign::Pos);
+    assert!(rt; lex_side(&LEVEL, [0, 0, 5]) == Sign::Neg);
+    assert!(rt; lex_side(&BEYOND, [0, 0, 0]) == Sign::Neg);
 }
 
 // The quarter of the root box in which x and y are at least 0.
@@ -70,11 +70,11 @@ fn carried_by(s: &Scene, list: &[u32], c: &Cell) -> [i32; 3]
 fn into_a_cube_along_z(rt: HostRuntime) -> Result<(), Fail> {
     let scene = scene_of_files(rt.alloc(), &[C])?;
     let c = quarter();
-    assert_eq!(rt; (c.path(), c.lo()), (7, [0, 0, -2048]));
-    assert_eq!(rt; carried(&scene, &c), [1, 0, 0]);
+    assert!(rt; (c.path(), c.lo()) == (7, [0, 0, -2048]));
+    assert!(rt; carried(&scene, &c) == [1, 0, 0]);
     // The bottom alone is passed.
-    assert_eq!(rt; scene.tris.items().len(), 12);
-    assert_eq!(rt; carried_by(&scene, &[0, 1], &c), [1, 0, 0]);
-    assert_eq!(rt; carried_by(&scene, &[2, 3], &c), [0, 0, 0]);
+    assert!(rt; scene.tris.items().len() == 12);
+    assert!(rt; carried_by(&scene, &[0, 1], &c) == [1, 0, 0]);
+    assert!(rt; carried_by(&scene, &[2, 3], &c) == [0, 0, 0]);
     Ok(())
 }

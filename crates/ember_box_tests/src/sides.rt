@@ -87,7 +87,7 @@ fn face_sides(alloc: Global, s: &Scene, job: &Job, i: usize) -> Result<Option<Si
 fn the_sides_of_a_tetrahedron(rt: HostRuntime) -> Result<(), Fail> {
     let alloc = rt.alloc();
     let scene = scene_of_files(alloc, &[TETRA])?;
-    assert_eq!(rt; scene.tris.items().len(), 4);
+    assert!(rt; scene.tris.items().len() == 4);
     let job = root_job(alloc, &scene)?;
     let after = [1, 1, 1, 0];
     for i in 0..4 {
@@ -95,7 +95,10 @@ fn the_sides_of_a_tetrahedron(rt: HostRuntime) -> Result<(), Fail> {
             before: one_count(1 - after[i]),
             after: one_count(after[i]),
         };
-        assert_eq!(rt; face_sides(alloc, &scene, &job, i)?, Some(want), "face {i}");
+        assert!(rt;
+            face_sides(alloc, &scene, &job, i)? == Some(want),
+            "face {i}"
+        );
     }
     Ok(())
 }
@@ -177,7 +180,7 @@ fn see_all(alloc: Global, s: &Scene, text: &[u8]) -> Result<Seen, Fail> {
 // at least so many of them.
 fn check(rt: &impl Abort, alloc: Global, s: &Scene, text: &[u8], least: u64) -> Result<(), Fail> {
     let seen = see_all(alloc, s, text)?;
-    assert_eq!(rt; seen.differing, 0);
+    assert!(rt; seen.differing == 0);
     assert!(rt; seen.regions >= least);
     Ok(())
 }
@@ -213,10 +216,10 @@ fn all_triangles_of_two_cubes_are_near_the_last_leaf(rt: HostRuntime) -> Result<
     let alloc = rt.alloc();
     let scene = scene_of_files(alloc, &[C, D])?;
     let seen = see_all(alloc, &scene, b"m1|m2")?;
-    assert_eq!(rt; (seen.regions, seen.differing, seen.near), (26, 0, 24));
+    assert!(rt; (seen.regions, seen.differing, seen.near) == (26, 0, 24));
     let corner = seen.corner;
-    assert_eq!(rt; corner, [0, 0, 0]);
+    assert!(rt; corner == [0, 0, 0]);
     let sides = seen.sides;
-    assert_eq!(rt; sides, [8, 8, 8]);
+    assert!(rt; sides == [8, 8, 8]);
     Ok(())
 }

@@ -16,9 +16,9 @@ use std::test::Fail;
 fn all_triangles_are_near_the_root(rt: HostRuntime) -> Result<(), Fail> {
     let alloc = rt.alloc();
     let root = root_job(alloc, &scene_of_files(alloc, &[TETRA])?)?;
-    assert_eq!(rt; root.list.items(), [0, 1, 2, 3].as_slice());
+    assert!(rt; root.list.items() == [0, 1, 2, 3].as_slice());
     let root = root_job(alloc, &scene_of(alloc, 1)?)?;
-    assert_eq!(rt; root.list.items().len(), 12);
+    assert!(rt; root.list.items().len() == 12);
     Ok(())
 }
 
@@ -29,15 +29,19 @@ fn value_in(s: &Scene, e: &Expr, job: &Job) -> Option<bool>
     box_value(e, s, job)
 }
 
+static WHAT_IS_KNOWN_OF_THE_ROOT_OF_ONE_BOX: [(&str, Option<bool>); 2] = [
+    ("m1", None),
+    ("m2", Some(false)),
+];
+
 #[test]
 fn what_is_known_of_the_root_of_one_box(rt: HostRuntime) -> Result<(), Fail> {
     let alloc = rt.alloc();
     let scene = scene_of(alloc, 1)?;
     let root = root_job(alloc, &scene)?;
-    let rows: [(&str, Option<bool>); 2] = [("m1", None), ("m2", Some(false))];
-    for (text, want) in rows {
+    for &(text, want) in &WHAT_IS_KNOWN_OF_THE_ROOT_OF_ONE_BOX {
         let e = expression(alloc, text.as_bytes(), 2)?;
-        assert_eq!(rt; value_in(&scene, &e, &root), want, "{text}");
+        assert!(rt; value_in(&scene, &e, &root) == want, "{text}");
     }
     Ok(())
 }
@@ -65,9 +69,9 @@ fn the_halves_of_the_root_part_its_triangles(rt: HostRuntime) -> Result<(), Fail
     assert!(rt; listed(alloc, &scene, &root)?.as_slice() == scene.tris.items());
     assert!(rt; root.cell.log(Axis::Y) > 0);
     let (low, high) = halves_of(alloc, &scene, &root)?;
-    assert_eq!(rt; (low.cell.path(), high.cell.path()), (2, 3));
-    assert_eq!(rt; low.list.items(), [2, 3].as_slice());
-    assert_eq!(rt; high.list.items(), [0, 1].as_slice());
+    assert!(rt; (low.cell.path(), high.cell.path()) == (2, 3));
+    assert!(rt; low.list.items() == [2, 3].as_slice());
+    assert!(rt; high.list.items() == [0, 1].as_slice());
     assert!(rt; low.at == root.at && high.at == root.at);
     Ok(())
 }
@@ -94,15 +98,9 @@ fn a_box_that_is_no_leaf_has_halves(rt: HostRuntime) -> Result<(), Fail> {
     let Some((low, high)) = halves_unless_leaf(alloc, &scene, &root)? else {
         return Err(Fail::from("a leaf"));
     };
-    assert_eq!(rt; (low.cell.path(), high.cell.path()), (2, 3));
-    assert_eq!(rt;
-        low.list.items(),
-        [2, 3, 6, 7, 10, 11, 14, 15, 18, 19].as_slice()
-    );
-    assert_eq!(rt;
-        high.list.items(),
-        [0, 1, 4, 5, 8, 9, 12, 13, 16, 17].as_slice()
-    );
+    assert!(rt; (low.cell.path(), high.cell.path()) == (2, 3));
+    assert!(rt; low.list.items() == [2, 3, 6, 7, 10, 11, 14, 15, 18, 19].as_slice());
+    assert!(rt; high.list.items() == [0, 1, 4, 5, 8, 9, 12, 13, 16, 17].as_slice());
     assert!(rt; low.at == root.at && high.at == root.at);
     Ok(())
 }

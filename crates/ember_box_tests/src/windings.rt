@@ -60,10 +60,10 @@ fn check(
 {
     let scene = scene_of_files(alloc, files)?;
     for k in [Axis::X, Axis::Y, Axis::Z] {
-        assert_eq!(rt; counts_along(&scene, &NEAR, k), counts);
+        assert!(rt; counts_along(&scene, &NEAR, k) == counts);
     }
-    assert_eq!(rt; crossings(&scene, &NEAR, &FAR), out);
-    assert_eq!(rt; crossings(&scene, &FAR, &NEAR), back);
+    assert!(rt; crossings(&scene, &NEAR, &FAR) == out);
+    assert!(rt; crossings(&scene, &FAR, &NEAR) == back);
     Ok(())
 }
 

@@ -10,19 +10,29 @@ use ember_poly::{Ring, of_tri};
 use std::alloc::Global;
 use std::test::Fail;
 
+const O: [i32; 3] = [0, 0, 0];
+
+const X: [i32; 3] = [1, 0, 0];
+
+const Y: [i32; 3] = [0, 1, 0];
+
+const FAR: [i32; 3] = [4, 4, 0];
+
+const UP: [i32; 3] = [0, 1, 1];
+
+static TRIANGLES_OF_ONE_PLANE: [([[i32; 3]; 3], [[i32; 3]; 3], bool); 5] = [
+    ([O, X, Y], [Y, X, FAR], true),
+    ([O, X, Y], [O, Y, X], true),
+    ([O, X, Y], [O, X, UP], false),
+    ([O, X, Y], [O, X, X], false),
+    ([O, X, X], [O, X, Y], false),
+];
+
 #[test]
 fn triangles_of_one_plane(rt: HostRuntime) {
-    let [o, x, y, far] = [[0, 0, 0], [1, 0, 0], [0, 1, 0], [4, 4, 0]];
-    let rows = [
-        ([o, x, y], [y, x, far], true),
-        ([o, x, y], [o, y, x], true),
-        ([o, x, y], [o, x, [0, 1, 1]], false),
-        ([o, x, y], [o, x, x], false),
-        ([o, x, x], [o, x, y], false),
-    ];
-    for (one, other, want) in rows {
+    for &(one, other, want) in &TRIANGLES_OF_ONE_PLANE {
         let are_coplanar = same_plane(&triangle(one), &triangle(other));
-        assert_eq!(rt; are_coplanar, want, "{one:?} and {other:?}");
+        assert!(rt; are_coplanar == want, "{one:?} and {other:?}");
     }
 }
 
@@ -59,28 +69,28 @@ fn holds_and_owns_face(
     }
 }
 
+// Nothing before the second triangle contains the third, but neither does it itself.
+static OWNERS: [Option<(bool, bool)>; 4] = [
+    None,
+    Some((false, true)),
+    Some((true, true)),
+    Some((true, false)),
+];
+
 #[test]
 fn the_first_that_contains_a_region_owns_it(rt: HostRuntime) -> Result<(), Fail> {
     // A triangle in the plane z = 0, with a triangle of another plane and one of another place before it, and the same
     // turned behind it.
-    let [o, x, y] = [[0, 0, 0], [1, 0, 0], [0, 1, 0]];
-    let own = triangle([o, x, y]);
+    let own = triangle([O, X, Y]);
     let near = [
-        triangle([o, x, [0, 1, 1]]),
-        triangle([o, [4, 4, 0], y]),
+        triangle([O, X, UP]),
+        triangle([O, FAR, Y]),
         own,
-        triangle([y, x, o]),
-    ];
-    // Nothing before the second triangle contains the third, but neither does it itself.
-    let rows = [
-        None,
-        Some((false, true)),
-        Some((true, true)),
-        Some((true, false)),
+        triangle([Y, X, O]),
     ];
     for i in 0..4u32 {
         let found = holds_and_owns_face(rt.alloc(), &near, i, &own)?;
-        assert_eq!(rt; found, rows[i as usize], "triangle {i}");
+        assert!(rt; found == OWNERS[i as usize], "triangle {i}");
     }
     Ok(())
 }

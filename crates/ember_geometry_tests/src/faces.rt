@@ -10,23 +10,16 @@ use std::alloc::Global;
 use std::test::Fail;
 
 // The support plane and the edge planes that the faces of the tetrahedron have.
-fn planes_of_tetra(i: usize) -> [Plane; 4] {
-    let rows: [[i16; 4]; 4] = match i {
-        0 => [[0, 0, -1, 0], [-1, 0, 0, 0], [1, 1, 0, 1], [0, -1, 0, 0]],
-        1 => [[0, -1, 0, 0], [0, 0, -1, 0], [1, 0, 1, 1], [-1, 0, 0, 0]],
-        2 => [[-1, 0, 0, 0], [0, -1, 0, 0], [0, 1, 1, 1], [0, 0, -1, 0]],
-        _ => [[1, 1, 1, 1], [0, 0, -1, 0], [0, 1, 1, 1], [0, -1, 0, 0]],
-    };
-    [
-        plane(rows[0]),
-        plane(rows[1]),
-        plane(rows[2]),
-        plane(rows[3]),
-    ]
-}
+static PLANES_OF_TETRA: [[[i16; 4]; 4]; 4] = [
+    [[0, 0, -1, 0], [-1, 0, 0, 0], [1, 1, 0, 1], [0, -1, 0, 0]],
+    [[0, -1, 0, 0], [0, 0, -1, 0], [1, 0, 1, 1], [-1, 0, 0, 0]],
+    [[-1, 0, 0, 0], [0, -1, 0, 0], [0, 1, 1, 1], [0, 0, -1, 0]],
+    [[1, 1, 1, 1], [0, 0, -1, 0], [0, 1, 1, 1], [0, -1, 0, 0]],
+];
 
-fn has_planes(face: &Face, want: &[Plane; 4]) -> bool {
-    face.support == want[0] && face.edges.items() == &want[1..]
+fn has_planes(face: &Face, want: &[[i16; 4]; 4]) -> bool {
+    let edges = [plane(want[1]), plane(want[2]), plane(want[3])];
+    face.support == plane(want[0]) && face.edges.items() == edges.as_slice()
 }
 
 // The second edge plane of a triangle, along the main axis of its support plane.
@@ -40,13 +33,13 @@ fn second_edge(t: &Tri) -> Plane
 fn faces_of_the_tetrahedron(rt: HostRuntime) -> Result<(), Fail> {
     for i in 0..4 {
         let t = tetra(i);
-        let want = planes_of_tetra(i);
+        let want = PLANES_OF_TETRA[i];
         let Some(face) = face_of(rt.alloc(), &t)? else {
             return Err(Fail::from("no face"));
         };
         assert!(rt; has_planes(&face, &want), "face {i}");
-        assert_eq!(rt; support_of(&t), want[0]);
-        assert_eq!(rt; second_edge(&t), want[2]);
+        assert!(rt; support_of(&t) == plane(want[0]));
+        assert!(rt; second_edge(&t) == plane(want[2]));
     }
     Ok(())
 }
@@ -76,24 +69,25 @@ fn crossing_by_both(alloc: Global, p: &Spot, k: Axis, t: &Tri) -> Result<Option<
     }
 }
 
+// How often a ray along each axis crosses each face.
+static CROSSINGS: [(Axis, [i32; 4]); 3] = [
+    (Axis::X, [0, 0, 0, 1]),
+    (Axis::Y, [0, 0, 0, 1]),
+    (Axis::Z, [0, 0, 0, 1]),
+];
+
 #[test]
 fn rays_leave_the_tetrahedron_once(rt: HostRuntime) -> Result<(), Fail> {
     let p = spot([1, 2, 3], 16);
-    let rows = [
-        (Axis::X, [0, 0, 0, 1]),
-        (Axis::Y, [0, 0, 0, 1]),
-        (Axis::Z, [0, 0, 0, 1]),
-    ];
-    for (k, want) in rows {
+    for &(k, want) in &CROSSINGS {
         for i in 0..4 {
             let count = crossing_by_both(rt.alloc(), &p, k, &tetra(i))?;
-            assert_eq!(rt; count, Some(want[i]), "face {i}");
+            assert!(rt; count == Some(want[i]), "face {i}");
         }
     }
     for i in 0..4 {
-        assert_eq!(rt;
-            clear_by_both(rt.alloc(), &p, &tetra(i))?,
-            Some(true),
+        assert!(rt;
+            clear_by_both(rt.alloc(), &p, &tetra(i))? == Some(true),
             "face {i}"
         );
     }
@@ -108,63 +102,70 @@ const HIGH: [[i32; 3]; 3] = [[4, 0, 0], [4, 4, 4], [4, 0, 4]];
 // A triangle without a face.
 const FLAT: [[i32; 3]; 3] = [[0, 0, 0], [1, 1, 1], [2, 2, 2]];
 
+const O: [i32; 3] = [0, 0, 0];
+
+const X: [i32; 3] = [1, 0, 0];
+
+const Y: [i32; 3] = [0, 1, 0];
+
+const Z: [i32; 3] = [0, 0, 1];
+
+static POINTS: [([i32; 3], u32, [[i32; 3]; 3], bool); 10] = [
+    // on the face x = 0
+    ([0, 1, 1], 4, [O, Z, Y], false),
+    // its ray along x meets an edge of two faces
+    ([-1, 1, 1], 2, [O, Z, Y], false),
+    ([-1, 1, 1], 2, [X, Y, Z], false),
+    ([-1, 1, 1], 2, [O, Y, X], true),
+    // on the side of the cube, and with a ray to its diagonal
+    ([4, 1, 2], 1, HIGH, false),
+    ([1, 2, 2], 1, LOW, false),
+    ([1, 2, 2], 1, HIGH, false),
+    ([10, 11, 13], 4, LOW, true),
+    ([10, 11, 13], 4, HIGH, true),
+    ([1, 1, 1], 1, FLAT, true),
+];
+
 #[test]
 fn points_that_are_clear_and_points_that_are_not(rt: HostRuntime) -> Result<(), Fail> {
-    let [o, x, y, z] = [[0, 0, 0], [1, 0, 0], [0, 1, 0], [0, 0, 1]];
-    let rows = [
-        // on the face x = 0
-        ([0, 1, 1], 4, [o, z, y], false),
-        // its ray along x meets an edge of two faces
-        ([-1, 1, 1], 2, [o, z, y], false),
-        ([-1, 1, 1], 2, [x, y, z], false),
-        ([-1, 1, 1], 2, [o, y, x], true),
-        // on the side of the cube, and with a ray to its diagonal
-        ([4, 1, 2], 1, HIGH, false),
-        ([1, 2, 2], 1, LOW, false),
-        ([1, 2, 2], 1, HIGH, false),
-        ([10, 11, 13], 4, LOW, true),
-        ([10, 11, 13], 4, HIGH, true),
-        ([1, 1, 1], 1, FLAT, true),
-    ];
-    for (at, w, corners, want) in rows {
+    for &(at, w, corners, want) in &POINTS {
         assert!(rt; w > 0);
         let is_clear = clear_by_both(rt.alloc(), &spot(at, w), &triangle(corners))?;
-        assert_eq!(rt; is_clear, Some(want), "{at:?} and {corners:?}");
+        assert!(rt; is_clear == Some(want), "{at:?} and {corners:?}");
     }
     Ok(())
 }
 
+static RAYS: [(Axis, [[i32; 3]; 3], i32); 4] = [
+    (Axis::X, LOW, 0),
+    (Axis::X, HIGH, 1),
+    (Axis::Y, HIGH, 0),
+    (Axis::X, FLAT, 0),
+];
+
 #[test]
 fn crossings_of_rays_with_the_side_of_a_cube(rt: HostRuntime) {
     let p = spot([10, 11, 13], 4);
-    let rows = [
-        (Axis::X, LOW, 0),
-        (Axis::X, HIGH, 1),
-        (Axis::Y, HIGH, 0),
-        (Axis::X, FLAT, 0),
-    ];
-    for (k, corners, want) in rows {
-        assert_eq!(rt; crossing(&p, k, &triangle(corners)), want);
+    for &(k, corners, want) in &RAYS {
+        assert!(rt; crossing(&p, k, &triangle(corners)) == want);
     }
-    assert_eq!(rt; plane_value(&support_of(&triangle(HIGH)), &p), -96);
+    assert!(rt; plane_value(&support_of(&triangle(HIGH)), &p) == -96);
 }
+
+// Through the side from within and back, beside it, and up to it.
+static WAYS: [(i32, i32, [[i32; 3]; 3], i32); 4] = [
+    (10, 20, HIGH, 1),
+    (20, 10, HIGH, -1),
+    (10, 20, LOW, 0),
+    (10, 16, HIGH, 0),
+];
 
 #[test]
 fn ways_through_the_side_of_a_cube(rt: HostRuntime) {
     let p = spot([10, 11, 13], 4);
-    // through the side from within and back, beside it, and up to it
-    let rows = [
-        (10, 20, HIGH, 1),
-        (20, 10, HIGH, -1),
-        (10, 20, LOW, 0),
-        (10, 16, HIGH, 0),
-    ];
-    for (from, to, corners, want) in rows {
+    for &(from, to, corners, want) in &WAYS {
         let from = slid(&p, from);
-        assert_eq!(rt;
-            leg(&from, &slid(&from, to), Axis::X, &triangle(corners)),
-            want
-        );
+        assert!(rt; leg(&from, &slid(&from, to), Axis::X, &triangle(corners)) == want);
     }
 }
 

@@ -49,6 +49,12 @@ fn planes_without_one_point_in_common(rt: HostRuntime) {
     }
 }
 
+static SIDES: [([i16; 4], Sign); 3] = [
+    ([1, 1, 1, 2], Sign::Neg),
+    ([1, 0, -1, 0], Sign::Zero),
+    ([1, 1, 1, 0], Sign::Pos),
+];
+
 #[test]
 fn sides_of_a_meet(rt: HostRuntime) -> Result<(), Fail> {
     let Some(m) = meet(
@@ -58,14 +64,9 @@ fn sides_of_a_meet(rt: HostRuntime) -> Result<(), Fail> {
     ) else {
         return Err(Fail::from("no meet"));
     };
-    assert_eq!(rt; [m.x, m.y, m.z, m.w], [1, 1, 1, 3]);
-    let rows = [
-        ([1, 1, 1, 2], Sign::Neg),
-        ([1, 0, -1, 0], Sign::Zero),
-        ([1, 1, 1, 0], Sign::Pos),
-    ];
-    for (numbers, want) in rows {
-        assert_eq!(rt; side(&plane(numbers), &m), want, "{numbers:?}");
+    assert!(rt; [m.x, m.y, m.z, m.w] == [1, 1, 1, 3]);
+    for &(numbers, want) in &SIDES {
+        assert!(rt; side(&plane(numbers), &m) == want, "{numbers:?}");
     }
     Ok(())
 }
@@ -78,12 +79,12 @@ fn a_slid_plane_and_lowest_terms(rt: HostRuntime) {
         c: 1,
         d: 1,
     };
-    assert_eq!(rt; slide(&diagonal, Axis::X, 1), plane([0, 1, 1, 0]));
+    assert!(rt; slide(&diagonal, Axis::X, 1) == plane([0, 1, 1, 0]));
     let m = reduce(&Meet {
         x: 6,
         y: 0,
         z: -9,
         w: 3,
     });
-    assert_eq!(rt; [m.x, m.y, m.z, m.w], [2, 0, -3, 1]);
+    assert!(rt; [m.x, m.y, m.z, m.w] == [2, 0, -3, 1]);
 }

@@ -24,26 +24,28 @@ fn unit_ring(alloc: Global) -> Result<Ring, Fail> {
 // The ring has these edge planes, and at these corners its edges start.
 fn check(rt: &impl Abort, ring: &Ring, planes: &[[i16; 4]], starts: &[[i128; 4]]) {
     let (found_planes, found_starts) = outline(ring);
-    assert_eq!(rt; found_planes.len(), planes.len());
+    assert!(rt; found_planes.len() == planes.len());
     for (found, want) in found_planes.iter().zip(planes) {
-        assert_eq!(rt; *found, plane(*want));
+        assert!(rt; *found == plane(*want));
     }
-    assert_eq!(rt; found_starts.len(), starts.len());
+    assert!(rt; found_starts.len() == starts.len());
     for (found, want) in found_starts.iter().zip(starts) {
         assert!(rt; is_at(found, *want), "{want:?}");
     }
     assert!(rt; edges(ring) == found_planes && corners(ring) == found_starts);
 }
 
+static UNIT_PLANES: [[i16; 4]; 3] = [[0, 0, -1, 0], [0, 1, 1, 1], [0, -1, 0, 0]];
+
+static UNIT_STARTS: [[i128; 4]; 3] = [[1, 0, 0, 1], [0, 1, 0, 1], [0, 0, 1, 1]];
+
 #[test]
 fn the_ring_of_a_triangle(rt: HostRuntime) -> Result<(), Fail> {
     let ring = unit_ring(rt.alloc())?;
     let same = copy(rt.alloc(), &ring)?;
-    let planes = [[0, 0, -1, 0], [0, 1, 1, 1], [0, -1, 0, 0]];
-    let starts = [[1, 0, 0, 1], [0, 1, 0, 1], [0, 0, 1, 1]];
     for ring in [&ring, &same] {
-        assert_eq!(rt; support(ring), plane([1, 1, 1, 1]));
-        check(&rt, ring, &planes, &starts);
+        assert!(rt; support(ring) == plane([1, 1, 1, 1]));
+        check(&rt, ring, &UNIT_PLANES, &UNIT_STARTS);
     }
     Ok(())
 }
@@ -55,31 +57,32 @@ fn a_flat_triangle_has_no_ring(rt: HostRuntime) -> Result<(), Fail> {
     Ok(())
 }
 
+static SIDES: [([i16; 4], Reach); 6] = [
+    ([1, 0, 0, 1], Reach::Below),
+    ([-1, 0, 0, 0], Reach::Below),
+    ([1, 0, 0, -1], Reach::Above),
+    ([2, 2, 2, 2], Reach::On),
+    ([2, 0, 0, 1], Reach::Both),
+    ([1, -1, 0, 0], Reach::Both),
+];
+
 #[test]
 fn on_which_sides_of_a_plane_a_ring_lies(rt: HostRuntime) -> Result<(), Fail> {
-    let rows = [
-        ([1, 0, 0, 1], Reach::Below),
-        ([-1, 0, 0, 0], Reach::Below),
-        ([1, 0, 0, -1], Reach::Above),
-        ([2, 2, 2, 2], Reach::On),
-        ([2, 0, 0, 1], Reach::Both),
-        ([1, -1, 0, 0], Reach::Both),
-    ];
     let ring = unit_ring(rt.alloc())?;
-    for (numbers, want) in rows {
-        assert_eq!(rt; reach(&ring, &plane(numbers)), want, "{numbers:?}");
+    for &(numbers, want) in &SIDES {
+        assert!(rt; reach(&ring, &plane(numbers)) == want, "{numbers:?}");
     }
     Ok(())
 }
 
 // The planes and starts of the parts of the unit ring below and above 2x = 1.
-const LOW_PLANES: [[i16; 4]; 4] = [[0, 0, -1, 0], [0, 1, 1, 1], [0, -1, 0, 0], [2, 0, 0, 1]];
+static LOW_PLANES: [[i16; 4]; 4] = [[0, 0, -1, 0], [0, 1, 1, 1], [0, -1, 0, 0], [2, 0, 0, 1]];
 
-const LOW_STARTS: [[i128; 4]; 4] = [[1, 1, 0, 2], [0, 1, 0, 1], [0, 0, 1, 1], [1, 0, 1, 2]];
+static LOW_STARTS: [[i128; 4]; 4] = [[1, 1, 0, 2], [0, 1, 0, 1], [0, 0, 1, 1], [1, 0, 1, 2]];
 
-const HIGH_PLANES: [[i16; 4]; 3] = [[0, 0, -1, 0], [-2, 0, 0, -1], [0, -1, 0, 0]];
+static HIGH_PLANES: [[i16; 4]; 3] = [[0, 0, -1, 0], [-2, 0, 0, -1], [0, -1, 0, 0]];
 
-const HIGH_STARTS: [[i128; 4]; 3] = [[1, 0, 0, 1], [1, 1, 0, 2], [1, 0, 1, 2]];
+static HIGH_STARTS: [[i128; 4]; 3] = [[1, 0, 0, 1], [1, 1, 0, 2], [1, 0, 1, 2]];
 
 #[test]
 fn a_cut_triangle(rt: HostRuntime) -> Result<(), Fail> {
@@ -95,11 +98,13 @@ fn a_cut_triangle(rt: HostRuntime) -> Result<(), Fail> {
 // The ring keeps these planes, in the order in which they were added.
 fn check_planes(rt: &impl Abort, ring: &Ring, wanted: &[[i16; 4]]) {
     let found = planes(ring);
-    assert_eq!(rt; found.len(), wanted.len());
+    assert!(rt; found.len() == wanted.len());
     for (one, want) in found.iter().zip(wanted) {
-        assert_eq!(rt; *one, plane(*want));
+        assert!(rt; *one == plane(*want));
     }
 }
+
+static ALL_OF_HIGH: [[i16; 4]; 4] = [[0, 0, -1, 0], [0, 1, 1, 1], [0, -1, 0, 0], [-2, 0, 0, -1]];
 
 #[test]
 fn a_part_of_a_triangle_keeps_all_its_planes(rt: HostRuntime) -> Result<(), Fail> {
@@ -108,15 +113,14 @@ fn a_part_of_a_triangle_keeps_all_its_planes(rt: HostRuntime) -> Result<(), Fail
         return Err(Fail::from("one part"));
     };
     check_planes(&rt, &low, &LOW_PLANES);
-    let all_of_high = [[0, 0, -1, 0], [0, 1, 1, 1], [0, -1, 0, 0], [-2, 0, 0, -1]];
-    check_planes(&rt, &high, &all_of_high);
+    check_planes(&rt, &high, &ALL_OF_HIGH);
     Ok(())
 }
 
 #[test]
 fn a_clipped_triangle(rt: HostRuntime) -> Result<(), Fail> {
     let (side, low) = clip(unit_ring(rt.alloc())?, &plane([2, 0, 0, 1]))?;
-    assert_eq!(rt; side, Reach::Both);
+    assert!(rt; side == Reach::Both);
     check(&rt, &low, &LOW_PLANES, &LOW_STARTS);
     Ok(())
 }
@@ -151,7 +155,7 @@ fn a_triangle_clipped_in_a_draft(rt: HostRuntime) -> Result<(), Fail> {
     let Some((side, low)) = left_in_a_draft(rt.alloc(), &tri, &plane([2, 0, 0, 1]))? else {
         return Err(Fail::from("a flat triangle"));
     };
-    assert_eq!(rt; side, Reach::Both);
+    assert!(rt; side == Reach::Both);
     check(&rt, &low, &LOW_PLANES, &LOW_STARTS);
     Ok(())
 }
@@ -226,45 +230,65 @@ fn meeting(alloc: Global, t: &Tri, u: &Tri) -> Result<Option<bool>, OutOfMemory>
     }
 }
 
+// The corners of two tetrahedra with right angles at their first corners, and another.
+const O: [i32; 3] = [0, 0, 0];
+
+const A: [i32; 3] = [2, 0, 0];
+
+const B: [i32; 3] = [0, 2, 0];
+
+const C: [i32; 3] = [0, 0, 2];
+
+const P: [i32; 3] = [1, 0, 0];
+
+const Q: [i32; 3] = [3, 0, 0];
+
+const R: [i32; 3] = [1, 2, 0];
+
+const S: [i32; 3] = [1, 0, 2];
+
+const T: [i32; 3] = [0, 2, 2];
+
+static OF_SEVERAL_PLANES: [([[i32; 3]; 3], [[i32; 3]; 3], bool); 6] = [
+    ([A, B, C], [P, R, Q], false),
+    ([P, R, Q], [A, B, C], true),
+    ([A, B, C], [P, S, R], true),
+    ([O, B, A], [P, R, Q], true),
+    ([O, B, A], [O, A, C], false),
+    ([O, B, A], [C, S, T], false),
+];
+
 #[test]
 fn rings_and_triangles_of_several_planes(rt: HostRuntime) -> Result<(), Fail> {
-    // The faces of two tetrahedra with right angles at their first corners.
-    let [o, a, b, c] = [[0, 0, 0], [2, 0, 0], [0, 2, 0], [0, 0, 2]];
-    let [p, q, r, s] = [[1, 0, 0], [3, 0, 0], [1, 2, 0], [1, 0, 2]];
-    let rows = [
-        ([a, b, c], [p, r, q], false),
-        ([p, r, q], [a, b, c], true),
-        ([a, b, c], [p, s, r], true),
-        ([o, b, a], [p, r, q], true),
-        ([o, b, a], [o, a, c], false),
-        ([o, b, a], [c, s, [0, 2, 2]], false),
-    ];
-    for (one, other, want) in rows {
+    for &(one, other, want) in &OF_SEVERAL_PLANES {
         let meet = meeting(rt.alloc(), &triangle(one), &triangle(other))?;
-        assert_eq!(rt; meet, Some(want), "{one:?} and {other:?}");
+        assert!(rt; meet == Some(want), "{one:?} and {other:?}");
     }
     Ok(())
 }
 
+const SMALL: [[i32; 3]; 3] = [[0, 0, 0], [1, 0, 0], [0, 1, 0]];
+
+const LARGE: [[i32; 3]; 3] = [[-4, -1, 0], [4, -1, 0], [0, 4, 0]];
+
+static OF_ONE_PLANE: [([[i32; 3]; 3], [[i32; 3]; 3], bool); 6] = [
+    (SMALL, SMALL, true),
+    (SMALL, LARGE, true),
+    (LARGE, SMALL, true),
+    (SMALL, [[1, 0, 0], [4, 4, 0], [0, 1, 0]], false),
+    (SMALL, [[1, 0, 0], [2, 0, 0], [4, 4, 0]], false),
+    (
+        [[0, 0, 0], [2, 0, 0], [0, 4, 0]],
+        [[1, 0, 0], [2, 0, 0], [4, 4, 0]],
+        true,
+    ),
+];
+
 #[test]
 fn rings_and_triangles_of_one_plane(rt: HostRuntime) -> Result<(), Fail> {
-    let small = [[0, 0, 0], [1, 0, 0], [0, 1, 0]];
-    let large = [[-4, -1, 0], [4, -1, 0], [0, 4, 0]];
-    let rows = [
-        (small, small, true),
-        (small, large, true),
-        (large, small, true),
-        (small, [[1, 0, 0], [4, 4, 0], [0, 1, 0]], false),
-        (small, [[1, 0, 0], [2, 0, 0], [4, 4, 0]], false),
-        (
-            [[0, 0, 0], [2, 0, 0], [0, 4, 0]],
-            [[1, 0, 0], [2, 0, 0], [4, 4, 0]],
-            true,
-        ),
-    ];
-    for (one, other, want) in rows {
+    for &(one, other, want) in &OF_ONE_PLANE {
         let meet = meeting(rt.alloc(), &triangle(one), &triangle(other))?;
-        assert_eq!(rt; meet, Some(want), "{one:?} and {other:?}");
+        assert!(rt; meet == Some(want), "{one:?} and {other:?}");
     }
     Ok(())
 }

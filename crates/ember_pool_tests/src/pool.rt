@@ -129,14 +129,14 @@ fn check_journals(
             }
         }
     }
-    assert_eq!(rt; entries, last);
+    assert!(rt; entries == last);
     let mut once = 0u64;
     for (path, times) in seen.iter().enumerate() {
         if *times == 1 && 1 <= path && path as u64 <= last {
             once = once.saturating_add(1);
         }
     }
-    assert_eq!(rt; once, last);
+    assert!(rt; once == last);
     Ok(())
 }
 
@@ -149,10 +149,10 @@ fn check_items(
     leaves: u64,
 ) -> Result<(), Fail> {
     let items = merge(alloc, parts.into_vec())?;
-    assert_eq!(rt; items.len() as u64, leaves);
+    assert!(rt; items.len() as u64 == leaves);
     let mut want = leaves;
     for item in items.iter() {
-        assert_eq!(rt; *item, want);
+        assert!(rt; *item == want);
         want = want.saturating_add(1);
     }
     Ok(())
@@ -170,8 +170,8 @@ fn check(
         journals: lists,
         left,
     } = harvest;
-    assert_eq!(rt; left, 0);
-    assert_eq!(rt; lists.items().len(), journals);
+    assert!(rt; left == 0);
+    assert!(rt; lists.items().len() == journals);
     check_journals(
         rt,
         alloc,
@@ -191,7 +191,7 @@ fn each_box_is_run_once(rt: HostRuntime) -> Result<(), Fail> {
         let harvest = run(&rt, alloc, workers, 2, 0, &calls, &OpenGate)?;
         check(&rt, alloc, harvest, journals, 1024)?;
     }
-    assert_eq!(rt; calls.load(Ordering::SeqCst), 4 * 2047);
+    assert!(rt; calls.load(Ordering::SeqCst) == 4 * 2047);
     Ok(())
 }
 
@@ -203,7 +203,7 @@ fn a_gate_that_holds_a_depth_lets_it_pass(rt: HostRuntime) -> Result<(), Fail> {
     let harvest = run(&rt, alloc, 8, 2, 0, &calls, &gate)?;
     check(&rt, alloc, harvest, 9, 1024)?;
     assert!(rt; !gate.was_tired());
-    assert_eq!(rt; calls.load(Ordering::SeqCst), 2047);
+    assert!(rt; calls.load(Ordering::SeqCst) == 2047);
     Ok(())
 }
 
@@ -234,6 +234,6 @@ fn a_hundred_runs_give_equal_answers(rt: HostRuntime) -> Result<(), Fail> {
         let harvest = run(&rt, alloc, workers, 8, 0, &calls, &OpenGate)?;
         check(&rt, alloc, harvest, workers as usize + 1, 16)?;
     }
-    assert_eq!(rt; calls.load(Ordering::SeqCst), 100 * 31);
+    assert!(rt; calls.load(Ordering::SeqCst) == 100 * 31);
     Ok(())
 }

@@ -23,8 +23,8 @@ fn check_shelf<R: Abort + Threads + Wait + Sync>(
         let mut err = failing_sink(alloc, 0)?;
         let given = answer(rt, alone, alloc, line, &mut shelf, &mut out, &mut err)?;
         assert!(rt; given == status, "{line}");
-        assert_eq!(rt; out.bytes().len(), 0);
-        assert_eq!(rt; err.bytes(), message);
+        assert!(rt; out.bytes().len() == 0);
+        assert!(rt; err.bytes() == message);
     }
     Ok(())
 }
@@ -61,9 +61,9 @@ fn failing_sinks_are_write_faults(rt: HostRuntime) -> Result<(), Fail> {
         let mut out = failing_sink(alloc, call)?;
         let mut err = failing_sink(alloc, 0)?;
         let status = answer(&rt, alone, alloc, line, &mut shelf, &mut out, &mut err)?;
-        assert_eq!(rt; status, Status::WriteFault);
-        assert_eq!(rt; out.bytes(), text);
-        assert_eq!(rt; err.bytes(), b"ember: cannot write\n".as_slice());
+        assert!(rt; status == Status::WriteFault);
+        assert!(rt; out.bytes() == text);
+        assert!(rt; err.bytes() == b"ember: cannot write\n".as_slice());
     }
     Ok(())
 }
@@ -79,7 +79,7 @@ fn a_file_after_a_refusal_is_never_begun(rt: HostRuntime) -> Result<(), Fail> {
         let mut err = failing_sink(alloc, 0)?;
         let status = answer(&rt, alone, alloc, line, &mut shelf, &mut out, &mut err)?;
         assert!(rt; matches!(&status, Status::MeshRefused(1, _)));
-        assert_eq!(rt; err.bytes(), message.as_slice());
+        assert!(rt; err.bytes() == message.as_slice());
     }
     Ok(())
 }

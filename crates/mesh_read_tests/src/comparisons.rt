@@ -3,24 +3,27 @@ use ember_algebra::Sign;
 use mesh_number::{PlanePoint, compare_fractions, turn};
 use std::cmp::Ordering;
 
+const LONG: i128 = 1 << 85;
+
+const HEAVY: i128 = 1 << 74;
+
+static ORDER_OF_FRACTIONS: [(i128, i128, i128, i128, Ordering); 9] = [
+    (1, 2, 1, 3, Ordering::Greater),
+    (-1, 2, -1, 3, Ordering::Less),
+    (2, 4, 1, 2, Ordering::Equal),
+    (0, 5, 0, 7, Ordering::Equal),
+    (LONG, HEAVY, LONG, HEAVY, Ordering::Equal),
+    (LONG + 1, HEAVY, LONG, HEAVY, Ordering::Greater),
+    (LONG, HEAVY + 1, LONG, HEAVY, Ordering::Less),
+    (-LONG, HEAVY + 1, -LONG, HEAVY, Ordering::Greater),
+    (-LONG, 1, LONG, HEAVY, Ordering::Less),
+];
+
 #[test]
 fn the_order_of_fractions(rt: HostRuntime) {
-    let long = 1i128 << 85;
-    let heavy = 1i128 << 74;
-    let rows: [(i128, i128, i128, i128, Ordering); 9] = [
-        (1, 2, 1, 3, Ordering::Greater),
-        (-1, 2, -1, 3, Ordering::Less),
-        (2, 4, 1, 2, Ordering::Equal),
-        (0, 5, 0, 7, Ordering::Equal),
-        (long, heavy, long, heavy, Ordering::Equal),
-        (long + 1, heavy, long, heavy, Ordering::Greater),
-        (long, heavy + 1, long, heavy, Ordering::Less),
-        (-long, heavy + 1, -long, heavy, Ordering::Greater),
-        (-long, 1, long, heavy, Ordering::Less),
-    ];
-    for (x, v, y, w, want) in rows {
+    for &(x, v, y, w, want) in &ORDER_OF_FRACTIONS {
         assert!(rt; 0 < v && 0 < w);
-        assert_eq!(rt; compare_fractions(x, v, y, w), want);
+        assert!(rt; compare_fractions(x, v, y, w) == want);
     }
 }
 
@@ -50,6 +53,6 @@ fn turns_of_points(rt: HostRuntime) {
         (far, farther, ORIGIN, Sign::Neg),
     ];
     for (p, q, r, want) in rows {
-        assert_eq!(rt; turn(&p, &q, &r), want);
+        assert!(rt; turn(&p, &q, &r) == want);
     }
 }

@@ -31,12 +31,9 @@ fn one_triangle(rt: HostRuntime) -> Result<(), Fail> {
     let Ok(bytes) = glb_bytes(rt.alloc(), &[triangle]) else {
         return Err(Fail::from("refused"));
     };
-    assert_eq!(rt; bytes.len(), 748);
+    assert!(rt; bytes.len() == 748);
     let (head, rest) = bytes.split_at(20);
-    assert_eq!(rt;
-        head,
-        b"glTF\x02\x00\x00\x00\xec\x02\x00\x00\x88\x02\x00\x00JSON".as_slice()
-    );
+    assert!(rt; head == b"glTF\x02\x00\x00\x00\xec\x02\x00\x00\x88\x02\x00\x00JSON".as_slice());
     assert!(rt; rest.starts_with(JSON));
     let numbers = bytes.split_at(748 - 80).1;
     assert!(rt; numbers.starts_with(b"\x48\0\0\0BIN\0\0\0\0\0"));
@@ -50,7 +47,7 @@ fn no_triangles(rt: HostRuntime) -> Result<(), Fail> {
     let Ok(bytes) = glb_bytes(rt.alloc(), &[]) else {
         return Err(Fail::from("refused"));
     };
-    assert_eq!(rt; bytes.len(), 96);
+    assert!(rt; bytes.len() == 96);
     assert!(rt; bytes.ends_with(b"\"scenes\":[{}]}"));
     Ok(())
 }

@@ -10,20 +10,21 @@ fn number(text: &[u8]) -> Result<Number<'_>, Fail> {
     Ok(read_decimal(text).ok_or("no decimal")?)
 }
 
+static CELLS_ARE_NEAREST: [(&[u8], u64, u64, i128); 9] = [
+    (b"0.25", 1, 2, 1),
+    (b"-0.25", 1, 2, 0),
+    (b"0.75", 1, 2, 2),
+    (b"-0.75", 1, 2, -1),
+    (b"0.7499999999999999999999", 1, 2, 1),
+    (b"12345.678", 1, 100, 1_234_568),
+    (b"-1e-30", 1, 1, 0),
+    (b"2.5", 5, 1, 1),
+    (b"-2.5", 5, 1, 0),
+];
+
 #[test]
 fn cells_are_nearest(rt: HostRuntime) -> Result<(), Fail> {
-    let rows: [(&[u8], u64, u64, i128); 9] = [
-        (b"0.25", 1, 2, 1),
-        (b"-0.25", 1, 2, 0),
-        (b"0.75", 1, 2, 2),
-        (b"-0.75", 1, 2, -1),
-        (b"0.7499999999999999999999", 1, 2, 1),
-        (b"12345.678", 1, 100, 1_234_568),
-        (b"-1e-30", 1, 1, 0),
-        (b"2.5", 5, 1, 1),
-        (b"-2.5", 5, 1, 0),
-    ];
-    for (text, numerator, denominator, want) in rows {
+    for &(text, numerator, denominator, want) in &CELLS_ARE_NEAREST {
         let number = number(text)?;
         let step = GridStep {
             numerator,
@@ -32,7 +33,7 @@ fn cells_are_nearest(rt: HostRuntime) -> Result<(), Fail> {
         assert!(rt; mesh_number::is_below_limit(&number));
         assert!(rt; 0 < numerator && numerator < 1 << 40);
         assert!(rt; 0 < denominator && denominator < 1 << 40);
-        assert_eq!(rt; cell(&number, &step), want);
+        assert!(rt; cell(&number, &step) == want);
     }
     Ok(())
 }
@@ -74,43 +75,40 @@ fn offset(x: i128, y: i128, z: i128) -> Option<Offset> {
 #[test]
 fn grids_of_scenes(rt: HostRuntime) -> Result<(), Fail> {
     let box_of_15 = grid(&rt, [b"0", b"0", b"0"], [b"15", b"10", b"10"])?;
-    assert_eq!(rt;
-        box_of_15,
-        (
-            step(5, 1000),
-            step(3664, 1_000_000),
-            offset(1500, 1000, 1000)
-        )
+    assert!(rt;
+        box_of_15
+            == (
+                step(5, 1000),
+                step(3664, 1_000_000),
+                offset(1500, 1000, 1000)
+            )
     );
     let far = grid(
         &rt,
         [b"2000000000", b"0", b"-5"],
         [b"2000000010.5", b"10", b"5"],
     )?;
-    assert_eq!(rt; far.0, step(5, 1000));
-    assert_eq!(rt; far.2, offset(400_000_001_050, 1000, 0));
+    assert!(rt; far.0 == step(5, 1000));
+    assert!(rt; far.2 == offset(400_000_001_050, 1000, 0));
     let large = grid(
         &rt,
         [b"-999999999999999", b"0", b"0"],
         [b"999999999999999", b"0", b"0"],
     )?;
-    assert_eq!(rt;
-        large,
-        (
-            step(500_000_000_000, 1),
-            step(488_500_000_000, 1),
-            offset(0, 0, 0)
-        )
+    assert!(rt;
+        large
+            == (
+                step(500_000_000_000, 1),
+                step(488_500_000_000, 1),
+                offset(0, 0, 0)
+            )
     );
     let tiny = grid(&rt, [b"1e-20", b"0", b"7"], [b"3e-20", b"0", b"7"])?;
-    assert_eq!(rt; tiny.0, step(1, 1_000_000_000_000));
-    assert_eq!(rt; tiny.2, offset(0, 0, 7_000_000_000_000));
+    assert!(rt; tiny.0 == step(1, 1_000_000_000_000));
+    assert!(rt; tiny.2 == offset(0, 0, 7_000_000_000_000));
     let too_long_by_a_cell = grid(&rt, [b"0", b"0", b"0"], [b"4.0945", b"0", b"0"])?;
-    assert_eq!(rt; too_long_by_a_cell.0, step(2, 1000));
+    assert!(rt; too_long_by_a_cell.0 == step(2, 1000));
     let long = grid(&rt, [b"0", b"0", b"0"], [b"4.0944999", b"0", b"0"])?;
-    assert_eq!(rt;
-        long,
-        (step(1, 1000), step(1000, 1_000_000), offset(2047, 0, 0))
-    );
+    assert!(rt; long == (step(1, 1000), step(1000, 1_000_000), offset(2047, 0, 0)));
     Ok(())
 }

@@ -17,6 +17,6 @@ fn no_surfaces(rt: HostRuntime) -> Result<(), Fail> {
         return Err(Fail::from("no page"));
     };
     assert!(rt; head.ends_with("<title>"));
-    assert_eq!(rt; numbers, "");
+    assert!(rt; numbers == "");
     Ok(())
 }

@@ -34,69 +34,71 @@ fn count(alloc: Global, bytes: &[u8]) -> Result<usize, StlFault> {
     }
 }
 
+static ASCII_FILES_THAT_ARE_READ: [(&[u8], usize); 5] = [
+    (
+        b"solid s\nfacet normal 0 0 1\nouter loop\nvertex 0 0 0\nvertex 1 0 0\nvertex 0 1 0\nendloop\nendfacet\nendsolid s\n",
+        1,
+    ),
+    (
+        b" SOLID\r\nFACET\r\n\r\nVERTEX 0 0 0\r\n VERTEX +1. 0 0\r\n\tVertex .0 1e0 0 7 x\r\nEndFacet\r\n",
+        1,
+    ),
+    (
+        b"solid\nfacet\nvertex 0 0 0\nvertex 1 0 0\nvertex 0 1 0\nendfacet\nendsolid\nsolid\nfacet\nvertex 0 0 0\nvertex 1 0 0\nvertex 0 1 0\nendfacet",
+        2,
+    ),
+    (
+        b"solid\nfacet\nvertex 9 9 9\nfacet\nvertex 0 0 0\nvertex 1 0 0\nvertex 0 1 0\nendfacet",
+        1,
+    ),
+    (
+        b"solid\nfacet\nvertex 0 0 0\nvertex 0 999999999999999.9 0\nvertex 0 1 0\nendfacet",
+        1,
+    ),
+];
+
 #[test]
 fn ascii_files_that_are_read(rt: HostRuntime) {
-    let rows: [(&[u8], usize); 5] = [
-        (
-            b"solid s\nfacet normal 0 0 1\nouter loop\nvertex 0 0 0\nvertex 1 0 0\nvertex 0 1 0\nendloop\nendfacet\nendsolid s\n",
-            1,
-        ),
-        (
-            b" SOLID\r\nFACET\r\n\r\nVERTEX 0 0 0\r\n VERTEX +1. 0 0\r\n\tVertex .0 1e0 0 7 x\r\nEndFacet\r\n",
-            1,
-        ),
-        (
-            b"solid\nfacet\nvertex 0 0 0\nvertex 1 0 0\nvertex 0 1 0\nendfacet\nendsolid\nsolid\nfacet\nvertex 0 0 0\nvertex 1 0 0\nvertex 0 1 0\nendfacet",
-            2,
-        ),
-        (
-            b"solid\nfacet\nvertex 9 9 9\nfacet\nvertex 0 0 0\nvertex 1 0 0\nvertex 0 1 0\nendfacet",
-            1,
-        ),
-        (
-            b"solid\nfacet\nvertex 0 0 0\nvertex 0 999999999999999.9 0\nvertex 0 1 0\nendfacet",
-            1,
-        ),
-    ];
-    for (bytes, want) in rows {
-        assert_eq!(rt; count(rt.alloc(), bytes), Ok(want));
+    for &(bytes, want) in &ASCII_FILES_THAT_ARE_READ {
+        assert!(rt; count(rt.alloc(), bytes) == Ok(want));
     }
 }
 
+static ASCII_FILES_THAT_ARE_REFUSED: [(&[u8], StlFault); 13] = [
+    (b"solid\nvertex 0 0\nfacet", StlFault::VertexOutside(2)),
+    (b"solid\nfacet\nvertex x 0\n", StlFault::FewCoordinates(3)),
+    (
+        b"solid\nfacet\nvertex 0 nan 0x1\n",
+        StlFault::NotANumber(3, Span { start: 21, end: 24 }),
+    ),
+    (
+        b"solid\nfacet\nendfacet\nvertex",
+        StlFault::NotThreeVertices(3),
+    ),
+    (b"solid\nendfacet", StlFault::NotThreeVertices(2)),
+    (
+        b"solid\nfacet\nvertex 0 0 0\nvertex 1 0 0\nvertex 0 1 0\nvertex 0 0 1\nendfacet",
+        StlFault::NotThreeVertices(7),
+    ),
+    (b"solid\nfacet\nvertex 0 0 0", StlFault::EndsInFacet(2)),
+    (
+        b"solid\nfacet\n normal 0 0 1\nvertex",
+        StlFault::UnknownWord(3, Span { start: 13, end: 19 }),
+    ),
+    (b"solid\nendsolid", StlFault::NoTriangles),
+    (
+        b"solid\nfacet\nvertex 0 0 0\nvertex 0 -1e15 0\nvertex 0 1 0\nendfacet",
+        StlFault::LargeInLine(2),
+    ),
+    (b"", StlFault::CutOff(0)),
+    (b"solids\nfacet", StlFault::CutOff(0)),
+    (b"solid name", StlFault::CutOff(0)),
+];
+
 #[test]
 fn ascii_files_that_are_refused(rt: HostRuntime) {
-    let rows: [(&[u8], StlFault); 13] = [
-        (b"solid\nvertex 0 0\nfacet", StlFault::VertexOutside(2)),
-        (b"solid\nfacet\nvertex x 0\n", StlFault::FewCoordinates(3)),
-        (
-            b"solid\nfacet\nvertex 0 nan 0x1\n",
-            StlFault::NotANumber(3, Span { start: 21, end: 24 }),
-        ),
-        (
-            b"solid\nfacet\nendfacet\nvertex",
-            StlFault::NotThreeVertices(3),
-        ),
-        (b"solid\nendfacet", StlFault::NotThreeVertices(2)),
-        (
-            b"solid\nfacet\nvertex 0 0 0\nvertex 1 0 0\nvertex 0 1 0\nvertex 0 0 1\nendfacet",
-            StlFault::NotThreeVertices(7),
-        ),
-        (b"solid\nfacet\nvertex 0 0 0", StlFault::EndsInFacet(2)),
-        (
-            b"solid\nfacet\n normal 0 0 1\nvertex",
-            StlFault::UnknownWord(3, Span { start: 13, end: 19 }),
-        ),
-        (b"solid\nendsolid", StlFault::NoTriangles),
-        (
-            b"solid\nfacet\nvertex 0 0 0\nvertex 0 -1e15 0\nvertex 0 1 0\nendfacet",
-            StlFault::LargeInLine(2),
-        ),
-        (b"", StlFault::CutOff(0)),
-        (b"solids\nfacet", StlFault::CutOff(0)),
-        (b"solid name", StlFault::CutOff(0)),
-    ];
-    for (bytes, want) in rows {
-        assert_eq!(rt; count(rt.alloc(), bytes), Err(want));
+    for &(bytes, want) in &ASCII_FILES_THAT_ARE_REFUSED {
+        assert!(rt; count(rt.alloc(), bytes) == Err(want));
     }
 }
 
@@ -121,41 +123,46 @@ fn binary_file(
     Ok(bytes)
 }
 
+const NEAR: [u32; 9] = [0, 0, 0, ONE, 0, 0, 0, ONE, 0];
+
+const DISTANT: [u32; 9] = [0, 0, 0, ONE, 0, 0, 0, 0, FAR];
+
+const INFINITE: [u32; 9] = [0, 0, 0, ONE, 0, INFINITY, 0, ONE, 0];
+
+const NO_NUMBER: [u32; 9] = [NAN, 0, 0, ONE, 0, 0, 0, ONE, 0];
+
+static BINARY_FILES: [(&[u8; 11], u32, &[[u32; 9]], Result<usize, StlFault>); 9] = [
+    (b"exported by", 1, &[NEAR], Ok(1)),
+    (b"solid facet", 3, &[NEAR, NEAR, NEAR], Ok(3)),
+    (b"exported by", 0, &[], Err(StlFault::NoTriangles)),
+    (
+        b"exported by",
+        2,
+        &[NEAR, INFINITE],
+        Err(StlFault::NotFinite(2)),
+    ),
+    (
+        b"exported by",
+        3,
+        &[DISTANT, NO_NUMBER, INFINITE],
+        Err(StlFault::NotFinite(2)),
+    ),
+    (
+        b"exported by",
+        3,
+        &[NEAR, DISTANT, DISTANT],
+        Err(StlFault::LargeInFacet(2)),
+    ),
+    (b"exported by", 2, &[NEAR], Err(StlFault::CutOff(2))),
+    (b"exported by", 0, &[NEAR], Err(StlFault::CutOff(0))),
+    (b"solid facet", 2, &[NEAR], Err(StlFault::NoTriangles)),
+];
+
 #[test]
 fn binary_files(rt: HostRuntime) -> Result<(), Fail> {
-    let near = [0, 0, 0, ONE, 0, 0, 0, ONE, 0];
-    let far = [0, 0, 0, ONE, 0, 0, 0, 0, FAR];
-    let infinite = [0, 0, 0, ONE, 0, INFINITY, 0, ONE, 0];
-    let no_number = [NAN, 0, 0, ONE, 0, 0, 0, ONE, 0];
-    let rows: [(&[u8; 11], u32, &[[u32; 9]], Result<usize, StlFault>); 9] = [
-        (b"exported by", 1, &[near], Ok(1)),
-        (b"solid facet", 3, &[near, near, near], Ok(3)),
-        (b"exported by", 0, &[], Err(StlFault::NoTriangles)),
-        (
-            b"exported by",
-            2,
-            &[near, infinite],
-            Err(StlFault::NotFinite(2)),
-        ),
-        (
-            b"exported by",
-            3,
-            &[far, no_number, infinite],
-            Err(StlFault::NotFinite(2)),
-        ),
-        (
-            b"exported by",
-            3,
-            &[near, far, far],
-            Err(StlFault::LargeInFacet(2)),
-        ),
-        (b"exported by", 2, &[near], Err(StlFault::CutOff(2))),
-        (b"exported by", 0, &[near], Err(StlFault::CutOff(0))),
-        (b"solid facet", 2, &[near], Err(StlFault::NoTriangles)),
-    ];
-    for (header, facets, coordinates, want) in rows {
+    for &(header, facets, coordinates, want) in &BINARY_FILES {
         let bytes = binary_file(rt.alloc(), header, facets, coordinates)?;
-        assert_eq!(rt; count(rt.alloc(), &bytes), want);
+        assert!(rt; count(rt.alloc(), &bytes) == want);
     }
     Ok(())
 }
@@ -184,21 +191,21 @@ fn check(
     let Ok(surface) = read(alloc, bytes) else {
         return Err(Fail::from("refused"));
     };
-    assert_eq!(rt; surface.vertices.len(), want.len());
+    assert!(rt; surface.vertices.len() == want.len());
     for (vertex, [x, y, z]) in surface.vertices.iter().zip(want) {
-        assert_eq!(rt; coordinates(vertex), [Some(*x), Some(*y), Some(*z)]);
+        assert!(rt; coordinates(vertex) == [Some(*x), Some(*y), Some(*z)]);
     }
-    assert_eq!(rt; surface.facets.len(), places.len());
+    assert!(rt; surface.facets.len() == places.len());
     let mut first = 0;
     for (facet, place) in surface.facets.iter().zip(places) {
         assert!(rt; first < 1000);
         let corners = [first, first + 1, first + 2];
-        assert_eq!(rt;
-            *facet,
-            Facet {
-                corners,
-                place: *place
-            }
+        assert!(rt;
+            *facet
+                == (Facet {
+                    corners,
+                    place: *place
+                })
         );
         first += 3;
     }
@@ -243,8 +250,8 @@ fn forms_of_files(rt: HostRuntime) -> Result<(), Fail> {
     ];
     for (bytes, is_binary, is_ascii) in rows {
         assert!(rt; bytes.len() <= 268_435_456);
-        assert_eq!(rt; is_binary_stl(bytes), is_binary);
-        assert_eq!(rt; is_ascii_stl(bytes), is_ascii);
+        assert!(rt; is_binary_stl(bytes) == is_binary);
+        assert!(rt; is_ascii_stl(bytes) == is_ascii);
     }
     Ok(())
 }

@@ -112,7 +112,7 @@ fn each_file_has_its_surface(rt: HostRuntime) {
         file(b"mesh.stl", STL_TRIANGLE),
     ];
     let shapes: [Shape; 2] = [(&tetrahedron, &faces), (&triangle, &[facet([0, 1, 2], 2)])];
-    assert_eq!(rt; right_surfaces(rt.alloc(), &files, &shapes), 2);
+    assert!(rt; right_surfaces(rt.alloc(), &files, &shapes) == 2);
 }
 
 // Keeps the stages that it is told of.
@@ -172,7 +172,7 @@ fn stages_come_in_their_order(rt: HostRuntime) -> Result<(), Fail> {
         stages: RefCell::new(Vec::new(rt.alloc())),
     };
     let cube = file(b"mesh.obj", SHIFTED_CUBE);
-    assert_eq!(rt; fault_of(rt.alloc(), &[cube, cube], &told)?, None);
+    assert!(rt; fault_of(rt.alloc(), &[cube, cube], &told)? == None);
     let stages = told.stages.into_inner();
     let want = [
         Stage::Reading,
@@ -180,7 +180,7 @@ fn stages_come_in_their_order(rt: HostRuntime) -> Result<(), Fail> {
         Stage::Snapping,
         Stage::Writing,
     ];
-    assert_eq!(rt; stages.as_slice(), want.as_slice());
+    assert!(rt; stages.as_slice() == want.as_slice());
     Ok(())
 }
 
@@ -190,14 +190,14 @@ fn no_files_are_no_scene(rt: HostRuntime) -> Result<(), Fail> {
         stages: RefCell::new(Vec::new(rt.alloc())),
     };
     let fault = BooleanFault::Scene(SceneFault::NoTriangles);
-    assert_eq!(rt; fault_of(rt.alloc(), &[], &told)?, Some(fault));
+    assert!(rt; fault_of(rt.alloc(), &[], &told)? == Some(fault));
     Ok(())
 }
 
 #[test]
 fn no_surfaces_have_no_grid_and_are_no_scene(rt: HostRuntime) {
     let grid = grid_of(rt.alloc(), &[], Wanted::Finest);
-    assert_eq!(rt; grid, Err(GridFault::NoTriangles));
+    assert!(rt; grid == Err(GridFault::NoTriangles));
     let scene = scene_of(rt.alloc(), &[], Wanted::Nice);
-    assert_eq!(rt; scene.err(), Some(SceneFault::NoTriangles));
+    assert!(rt; scene.err() == Some(SceneFault::NoTriangles));
 }

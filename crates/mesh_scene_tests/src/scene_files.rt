@@ -56,7 +56,7 @@ fn a_scene_is_written_and_read_again(rt: HostRuntime) -> Result<(), Fail> {
     let alloc = rt.alloc();
     let names = vec![in alloc; text(alloc, "a.stl")?, text(alloc, "b \"2\".obj")?]?;
     let written = scene_text(alloc, &GRID, &names, &COUNTS, &MOVES)?;
-    assert_eq!(rt; written.as_slice(), SCENE);
+    assert!(rt; written.as_slice() == SCENE);
     let grid = Grid {
         step: GridStep {
             numerator: 1,
@@ -64,17 +64,14 @@ fn a_scene_is_written_and_read_again(rt: HostRuntime) -> Result<(), Fail> {
         },
         offset: GRID.offset,
     };
-    assert_eq!(rt; read_scene(alloc, &written), Ok(grid));
+    assert!(rt; read_scene(alloc, &written) == Ok(grid));
     Ok(())
 }
 
 #[test]
 fn other_members_are_passed_over(rt: HostRuntime) -> Result<(), Fail> {
     let bytes = b"[{}]";
-    assert_eq!(rt;
-        read_scene(rt.alloc(), bytes),
-        Err(SceneFileFault::NotAScene)
-    );
+    assert!(rt; read_scene(rt.alloc(), bytes) == Err(SceneFileFault::NotAScene));
     let bytes =
         b"{\"offset\":[0,7,-9223372036854775808],\"more\":[1.5],\"step\":\"2/1099511627775\"}";
     let grid = Grid {
@@ -88,35 +85,33 @@ fn other_members_are_passed_over(rt: HostRuntime) -> Result<(), Fail> {
             z: -9_223_372_036_854_775_808,
         },
     };
-    assert_eq!(rt; read_scene(rt.alloc(), bytes), Ok(grid));
+    assert!(rt; read_scene(rt.alloc(), bytes) == Ok(grid));
     Ok(())
 }
 
+static OTHER_FILES_ARE_NO_SCENES: [&[u8]; 16] = [
+    b"",
+    b"\xff",
+    b"ember 1\n",
+    b"{\"step\": \"1/5\", \"offset\": [0, 0, 0]",
+    b"{\"step\": \"1/5\"}",
+    b"{\"offset\": [0, 0, 0]}",
+    b"{\"step\": 0.2, \"offset\": [0, 0, 0]}",
+    b"{\"step\": \"0.2\", \"offset\": [0, 0, 0]}",
+    b"{\"step\": \"1/0\", \"offset\": [0, 0, 0]}",
+    b"{\"step\": \"+1/5\", \"offset\": [0, 0, 0]}",
+    b"{\"step\": \"1/05\", \"offset\": [0, 0, 0]}",
+    b"{\"step\": \"1/1099511627776\", \"offset\": [0, 0, 0]}",
+    b"{\"step\": \"1/5\", \"offset\": [0, 0]}",
+    b"{\"step\": \"1/5\", \"offset\": [0, 0, 0, 0]}",
+    b"{\"step\": \"1/5\", \"offset\": [0, 0, 0.5]}",
+    b"{\"step\": \"1/5\", \"offset\": [0, 0, 9223372036854775808]}",
+];
+
 #[test]
 fn other_files_are_no_scenes(rt: HostRuntime) -> Result<(), Fail> {
-    let rows: [&[u8]; 16] = [
-        b"",
-        b"\xff",
-        b"ember 1\n",
-        b"{\"step\": \"1/5\", \"offset\": [0, 0, 0]",
-        b"{\"step\": \"1/5\"}",
-        b"{\"offset\": [0, 0, 0]}",
-        b"{\"step\": 0.2, \"offset\": [0, 0, 0]}",
-        b"{\"step\": \"0.2\", \"offset\": [0, 0, 0]}",
-        b"{\"step\": \"1/0\", \"offset\": [0, 0, 0]}",
-        b"{\"step\": \"+1/5\", \"offset\": [0, 0, 0]}",
-        b"{\"step\": \"1/05\", \"offset\": [0, 0, 0]}",
-        b"{\"step\": \"1/1099511627776\", \"offset\": [0, 0, 0]}",
-        b"{\"step\": \"1/5\", \"offset\": [0, 0]}",
-        b"{\"step\": \"1/5\", \"offset\": [0, 0, 0, 0]}",
-        b"{\"step\": \"1/5\", \"offset\": [0, 0, 0.5]}",
-        b"{\"step\": \"1/5\", \"offset\": [0, 0, 9223372036854775808]}",
-    ];
-    for bytes in rows {
-        assert_eq!(rt;
-            read_scene(rt.alloc(), bytes),
-            Err(SceneFileFault::NotAScene)
-        );
+    for &bytes in &OTHER_FILES_ARE_NO_SCENES {
+        assert!(rt; read_scene(rt.alloc(), bytes) == Err(SceneFileFault::NotAScene));
     }
     Ok(())
 }

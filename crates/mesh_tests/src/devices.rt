@@ -25,9 +25,9 @@ fn each_call_of_the_shelf_fails_in_turn(rt: HostRuntime) -> Result<(), Fail> {
             4..=6 => (3, b"ember-mesh: b.obj: cannot be read\n".as_slice()),
             _ => (0, b"".as_slice()),
         };
-        assert_eq!(rt; given.status.number(), number, "call {call}");
-        assert_eq!(rt; given.err.bytes(), line, "call {call}");
-        assert_eq!(rt; given.bytes() == BEFORE, number == 3, "call {call}");
+        assert!(rt; given.status.number() == number, "call {call}");
+        assert!(rt; given.err.bytes() == line, "call {call}");
+        assert!(rt; (given.bytes() == BEFORE) == (number == 3), "call {call}");
     }
     Ok(())
 }
@@ -42,9 +42,9 @@ fn each_call_of_the_target_fails_in_turn(rt: HostRuntime) -> Result<(), Fail> {
             1..=3 => (4, b"ember-mesh: cannot write out.stl\n".as_slice()),
             _ => (0, b"".as_slice()),
         };
-        assert_eq!(rt; given.status.number(), number, "call {call}");
-        assert_eq!(rt; given.err.bytes(), line, "call {call}");
-        assert_eq!(rt; given.bytes() == BEFORE, number == 4, "call {call}");
+        assert!(rt; given.status.number() == number, "call {call}");
+        assert!(rt; given.err.bytes() == line, "call {call}");
+        assert!(rt; (given.bytes() == BEFORE) == (number == 4), "call {call}");
         assert!(rt;
             given.target.bytes_of("out.stl.new-0").is_none(),
             "call {call}"
@@ -57,11 +57,8 @@ fn each_call_of_the_target_fails_in_turn(rt: HostRuntime) -> Result<(), Fail> {
 fn a_sink_that_fails_for_help_is_a_write_fault(rt: HostRuntime) -> Result<(), Fail> {
     let alloc = rt.alloc();
     let given = give(alloc, "help", &[], none(alloc), none(alloc), 10)?;
-    assert_eq!(rt; given.status.number(), 4);
-    assert_eq!(rt; given.out.bytes().len(), 10);
-    assert_eq!(rt;
-        given.err.bytes(),
-        b"ember-mesh: cannot write to standard output\n".as_slice()
-    );
+    assert!(rt; given.status.number() == 4);
+    assert!(rt; given.out.bytes().len() == 10);
+    assert!(rt; given.err.bytes() == b"ember-mesh: cannot write to standard output\n".as_slice());
     Ok(())
 }

@@ -57,6 +57,18 @@ impl Eprint for Desk {
     }
 }
 
+// then the others, each after what is done by then
+static A_LINE_FOLLOWS_THE_BOXES: [(u64, u64, &str); 8] = [
+    (1000, 9, "ember-mesh:  12 %    \r"),
+    (1099, 5, ""),
+    (1100, 3, "ember-mesh:  50 %    \r"),
+    (1200, 6, ""),
+    (1300, 1 << 20, ""),
+    (1400, 7, "ember-mesh:  75 %    \r"),
+    (1450, 14, ""),
+    (1500, 15, "ember-mesh:  87 %    \r"),
+];
+
 #[test]
 fn a_line_follows_the_boxes(rt: HostRuntime) -> Result<(), Fail> {
     let desk = Desk::new(rt.alloc());
@@ -67,48 +79,38 @@ fn a_line_follows_the_boxes(rt: HostRuntime) -> Result<(), Fail> {
     }
     desk.milliseconds.set(999);
     gate.enter(8);
-    assert_eq!(rt; desk.taken(rt.alloc())?.as_str(), "");
-    // then the others, each after what is done by then
-    let rows = [
-        (1000, 9, "ember-mesh:  12 %    \r"),
-        (1099, 5, ""),
-        (1100, 3, "ember-mesh:  50 %    \r"),
-        (1200, 6, ""),
-        (1300, 1 << 20, ""),
-        (1400, 7, "ember-mesh:  75 %    \r"),
-        (1450, 14, ""),
-        (1500, 15, "ember-mesh:  87 %    \r"),
-    ];
-    for (time, path, line) in rows {
+    assert!(rt; desk.taken(rt.alloc())?.as_str() == "");
+    for &(time, path, line) in &A_LINE_FOLLOWS_THE_BOXES {
         desk.milliseconds.set(time);
         gate.enter(path);
-        assert_eq!(rt; desk.taken(rt.alloc())?.as_str(), line);
+        assert!(rt; desk.taken(rt.alloc())?.as_str() == line);
     }
     gate.clear();
-    assert_eq!(rt; desk.taken(rt.alloc())?.as_str(), "                     \r");
+    assert!(rt; desk.taken(rt.alloc())?.as_str() == "                     \r");
     Ok(())
 }
+
+static A_STAGE_IS_SHOWN_WHEN_IT_BEGINS: [(u64, Stage, &str); 7] = [
+    (999, Stage::Reading, ""),
+    (1000, Stage::Reading, "ember-mesh: reading  \r"),
+    (1200, Stage::Reading, ""),
+    (1201, Stage::Snapping, "ember-mesh: snapping \r"),
+    (5000, Stage::Triangles, "ember-mesh: triangles\r"),
+    (5001, Stage::Triangles, ""),
+    (5002, Stage::Writing, "ember-mesh: writing  \r"),
+];
 
 #[test]
 fn a_stage_is_shown_when_it_begins(rt: HostRuntime) -> Result<(), Fail> {
     let desk = Desk::new(rt.alloc());
     let gate = ProgressGate::new(&desk, true);
-    let rows = [
-        (999, Stage::Reading, ""),
-        (1000, Stage::Reading, "ember-mesh: reading  \r"),
-        (1200, Stage::Reading, ""),
-        (1201, Stage::Snapping, "ember-mesh: snapping \r"),
-        (5000, Stage::Triangles, "ember-mesh: triangles\r"),
-        (5001, Stage::Triangles, ""),
-        (5002, Stage::Writing, "ember-mesh: writing  \r"),
-    ];
-    for (time, stage, line) in rows {
+    for &(time, stage, line) in &A_STAGE_IS_SHOWN_WHEN_IT_BEGINS {
         desk.milliseconds.set(time);
         gate.begin(stage);
-        assert_eq!(rt; desk.taken(rt.alloc())?.as_str(), line);
+        assert!(rt; desk.taken(rt.alloc())?.as_str() == line);
     }
     gate.clear();
-    assert_eq!(rt; desk.taken(rt.alloc())?.as_str(), "                     \r");
+    assert!(rt; desk.taken(rt.alloc())?.as_str() == "                     \r");
     Ok(())
 }
 
@@ -124,26 +126,27 @@ fn nothing_is_shown_that_is_not_wanted(rt: HostRuntime) -> Result<(), Fail> {
         }
         gate.begin(Stage::Triangles);
         gate.clear();
-        assert_eq!(rt; desk.taken(rt.alloc())?.as_str(), "");
+        assert!(rt; desk.taken(rt.alloc())?.as_str() == "");
     }
     Ok(())
 }
 
+static WEIGHTS_AND_PERCENTAGES: [(u64, u64); 9] = [
+    (1, 65536),
+    (2, 32768),
+    (3, 32768),
+    (7, 16384),
+    (65535, 2),
+    (65536, 1),
+    (131071, 1),
+    (131072, 0),
+    (1 << 36, 0),
+];
+
 #[test]
 fn weights_and_percentages(rt: HostRuntime) -> Result<(), Fail> {
-    let rows = [
-        (1, 65536),
-        (2, 32768),
-        (3, 32768),
-        (7, 16384),
-        (65535, 2),
-        (65536, 1),
-        (131071, 1),
-        (131072, 0),
-        (1 << 36, 0),
-    ];
-    for (path, want) in rows {
-        assert_eq!(rt; weight(path), want);
+    for &(path, want) in &WEIGHTS_AND_PERCENTAGES {
+        assert!(rt; weight(path) == want);
     }
     for (done, want) in [
         (0, 0),
@@ -153,7 +156,7 @@ fn weights_and_percentages(rt: HostRuntime) -> Result<(), Fail> {
         (65536, 100),
         (98304, 100),
     ] {
-        assert_eq!(rt; percentage(done), want);
+        assert!(rt; percentage(done) == want);
     }
     Ok(())
 }

@@ -53,7 +53,7 @@ fn line(direction: [i64; 3], moment: [i128; 3]) -> LineKey {
 }
 
 // The lines of the square's sides.
-const SIDES: [LineKey; 4] = [
+static SIDES: [LineKey; 4] = [
     LineKey {
         dx: 1,
         dy: 0,
@@ -171,41 +171,43 @@ const IN_SIX: [[u32; 4]; 6] = [
     [1, 0, 3, 2],
 ];
 
+static TRIANGLES_THAT_CUT_UP_A_SQUARE: [&[[u32; 4]]; 3] = [&DIAGONAL, &CROSSED, &IN_SIX];
+
 #[test]
 fn triangles_that_cut_up_a_square(rt: HostRuntime) -> Result<(), Fail> {
-    let rows: [&[[u32; 4]]; 3] = [&DIAGONAL, &CROSSED, &IN_SIX];
-    for triangles in rows {
+    for &triangles in &TRIANGLES_THAT_CUT_UP_A_SQUARE {
         assert!(rt; is_cut_into(rt.alloc(), triangles)?);
     }
     Ok(())
 }
 
+static TRIANGLES_THAT_DO_NOT_CUT_UP_A_SQUARE: [&[[u32; 4]]; 6] = [
+    // One is missing, turned over, or there twice.
+    &[[0, 0, 1, 2], [1, 0, 2, 1], [1, 0, 3, 2]],
+    &[[0, 0, 2, 1], [0, 0, 2, 3], [1, 0, 2, 1], [1, 0, 3, 2]],
+    &[
+        [0, 0, 1, 2],
+        [0, 0, 1, 2],
+        [0, 0, 2, 3],
+        [1, 0, 2, 1],
+        [1, 0, 3, 2],
+    ],
+    // A T-junction on one side.
+    &[
+        [0, 0, 4, 2],
+        [0, 4, 1, 2],
+        [0, 0, 2, 3],
+        [1, 0, 2, 1],
+        [1, 0, 3, 2],
+    ],
+    // A corner and a plane that aren't in their tables.
+    &[[0, 0, 1, 5]],
+    &[[2, 0, 1, 2]],
+];
+
 #[test]
 fn triangles_that_do_not_cut_up_a_square(rt: HostRuntime) -> Result<(), Fail> {
-    let rows: [&[[u32; 4]]; 6] = [
-        // One is missing, turned over, or there twice.
-        &[[0, 0, 1, 2], [1, 0, 2, 1], [1, 0, 3, 2]],
-        &[[0, 0, 2, 1], [0, 0, 2, 3], [1, 0, 2, 1], [1, 0, 3, 2]],
-        &[
-            [0, 0, 1, 2],
-            [0, 0, 1, 2],
-            [0, 0, 2, 3],
-            [1, 0, 2, 1],
-            [1, 0, 3, 2],
-        ],
-        // A T-junction on one side.
-        &[
-            [0, 0, 4, 2],
-            [0, 4, 1, 2],
-            [0, 0, 2, 3],
-            [1, 0, 2, 1],
-            [1, 0, 3, 2],
-        ],
-        // A corner and a plane that aren't in their tables.
-        &[[0, 0, 1, 5]],
-        &[[2, 0, 1, 2]],
-    ];
-    for triangles in rows {
+    for &triangles in &TRIANGLES_THAT_DO_NOT_CUT_UP_A_SQUARE {
         assert!(rt; !is_cut_into(rt.alloc(), triangles)?);
     }
     Ok(())
@@ -356,6 +358,6 @@ fn fronts_of_slanted_planes(rt: HostRuntime) {
         ([0, 0, 1, 0], p, q, r, false),
     ];
     for (numbers, u, v, w, want) in rows {
-        assert_eq!(rt; faces_front(&plane(numbers), &u, &v, &w), want);
+        assert!(rt; faces_front(&plane(numbers), &u, &v, &w) == want);
     }
 }

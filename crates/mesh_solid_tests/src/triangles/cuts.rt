@@ -30,7 +30,7 @@ enum Outcome {
 }
 
 // Planes along each axis, with the two sides of each.
-const SHEETS: [[[i16; 4]; 2]; 3] = [
+static SHEETS: [[[i16; 4]; 2]; 3] = [
     [[0, 0, 1, 0], [0, 0, -1, 0]],
     [[0, 3, 0, 0], [0, -3, 0, 0]],
     [[1, 1, 1, 0], [-1, -1, -1, 0]],
@@ -218,7 +218,7 @@ fn outcome_of(
     }
 }
 
-const SQUARES: [(i16, i16); 15] = [
+static SQUARES: [(i16, i16); 15] = [
     (0, 0),
     (9, 0),
     (9, 9),
@@ -243,7 +243,7 @@ fn outcome_of_rings(alloc: Global, sheet: usize, rings: &[&[u32]]) -> Result<Out
 }
 
 // Parts that are cut into triangles.
-const PARTS: [&[&[u32]]; 9] = [
+static PARTS: [&[&[u32]]; 9] = [
     &[&[0, 1, 2]],
     &[&[0, 1, 2, 3]],
     // A quadrangle that is cut by only one of its diagonals.
@@ -261,7 +261,7 @@ const PARTS: [&[&[u32]]; 9] = [
 #[test]
 fn parts_of_squares(rt: HostRuntime) -> Result<(), Fail> {
     for sheet in 0..3 {
-        for rings in PARTS {
+        for &rings in &PARTS {
             let outcome = outcome_of_rings(rt.alloc(), sheet, rings)?;
             assert!(rt; outcome == Outcome::Certified, "{rings:?} of sheet {sheet}");
         }

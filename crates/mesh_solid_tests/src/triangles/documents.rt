@@ -34,20 +34,17 @@ pub fn mesh_of(alloc: Global, bytes: &[u8]) -> Result<SolidMesh, DocumentFault> 
 #[test]
 fn a_tetrahedron_has_four_triangles(rt: HostRuntime) -> Result<(), Fail> {
     let mesh = mesh_of(rt.alloc(), TETRA)?;
-    assert_eq!(rt; (mesh.faces, mesh.triangles.len()), (4, 4));
-    assert_eq!(rt; (mesh.planes.len(), mesh.corners.len()), (4, 4));
+    assert!(rt; (mesh.faces, mesh.triangles.len()) == (4, 4));
+    assert!(rt; (mesh.planes.len(), mesh.corners.len()) == (4, 4));
     let empty = mesh_of(rt.alloc(), b"ember 1\nend 0\n")?;
-    assert_eq!(rt; (empty.faces, empty.triangles.len()), (0, 0));
+    assert!(rt; (empty.faces, empty.triangles.len()) == (0, 0));
     Ok(())
 }
 
 #[test]
 fn what_is_no_document_is_refused(rt: HostRuntime) {
     for bytes in [b"".as_slice(), b"ember 1\n", b"ember 1\nend 1\n"] {
-        assert_eq!(rt;
-            mesh_of(rt.alloc(), bytes).err(),
-            Some(DocumentFault::NotADocument)
-        );
+        assert!(rt; mesh_of(rt.alloc(), bytes).err() == Some(DocumentFault::NotADocument));
     }
 }
 
@@ -63,31 +60,32 @@ fn one_face_is_not_closed(rt: HostRuntime) -> Result<(), Fail> {
     Ok(())
 }
 
+static EDGES_THAT_ARE_NO_OUTLINE_ARE_REFUSED: [(&[u8], DocumentFault); 4] = [
+    (
+        b"f 0 0 -1 0 3\ne -1 0 0 0 0 0 0 1\ne 1 1 0 1 0 1 1 1\ne 0 -1 0 0 1 0 0 1\nend 2\n",
+        DocumentFault::OffPlane(1),
+    ),
+    (
+        b"f 0 0 -1 0 3\ne -1 0 0 0 0 0 0 1\ne 1 1 0 1 0 2 0 1\ne 0 -1 0 0 1 0 0 1\nend 2\n",
+        DocumentFault::OffEdge(1),
+    ),
+    (
+        b"f 0 0 1 0 3\ne -1 0 0 0 0 0 0 1\ne 1 1 0 1 0 1 0 1\ne 0 -1 0 0 1 0 0 1\nend 2\n",
+        DocumentFault::NotRound(1),
+    ),
+    (
+        b"f 0 0 -1 0 3\ne -1 0 0 0 0 1 0 1\ne 0 -1 0 0 0 0 0 1\ne 1 1 0 1 1 0 0 1\nend 2\n",
+        DocumentFault::NotRound(1),
+    ),
+];
+
 // The face after the bottom has each fault in turn: a corner above its plane, one on its plane but
 // past its edge, the opposite front, and corners in the other order.
 #[test]
 fn edges_that_are_no_outline_are_refused(rt: HostRuntime) -> Result<(), Fail> {
-    let rows: [(&[u8], DocumentFault); 4] = [
-        (
-            b"f 0 0 -1 0 3\ne -1 0 0 0 0 0 0 1\ne 1 1 0 1 0 1 1 1\ne 0 -1 0 0 1 0 0 1\nend 2\n",
-            DocumentFault::OffPlane(1),
-        ),
-        (
-            b"f 0 0 -1 0 3\ne -1 0 0 0 0 0 0 1\ne 1 1 0 1 0 2 0 1\ne 0 -1 0 0 1 0 0 1\nend 2\n",
-            DocumentFault::OffEdge(1),
-        ),
-        (
-            b"f 0 0 1 0 3\ne -1 0 0 0 0 0 0 1\ne 1 1 0 1 0 1 0 1\ne 0 -1 0 0 1 0 0 1\nend 2\n",
-            DocumentFault::NotRound(1),
-        ),
-        (
-            b"f 0 0 -1 0 3\ne -1 0 0 0 0 1 0 1\ne 0 -1 0 0 0 0 0 1\ne 1 1 0 1 1 0 0 1\nend 2\n",
-            DocumentFault::NotRound(1),
-        ),
-    ];
-    for (lines, fault) in rows {
+    for &(lines, fault) in &EDGES_THAT_ARE_NO_OUTLINE_ARE_REFUSED {
         let document = with_bottom(rt.alloc(), lines)?;
-        assert_eq!(rt; mesh_of(rt.alloc(), &document).err(), Some(fault));
+        assert!(rt; mesh_of(rt.alloc(), &document).err() == Some(fault));
     }
     Ok(())
 }

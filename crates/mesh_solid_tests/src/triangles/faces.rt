@@ -49,7 +49,7 @@ fn count_of(
 }
 
 // The corners of a sheet in the plane z = 0.
-const PLACES: [(i32, i32); 15] = [
+static PLACES: [(i32, i32); 15] = [
     (0, 0),
     (2, 0),
     (4, 0),
@@ -68,7 +68,7 @@ const PLACES: [(i32, i32); 15] = [
 ];
 
 // The lines on which the sheet has edges: its plane, and one that meets it there.
-const SHEET_LINES: [[[i16; 4]; 2]; 14] = [
+static SHEET_LINES: [[[i16; 4]; 2]; 14] = [
     [[0, 0, 1, 0], [0, 1, 0, 0]],
     [[0, 0, 1, 0], [0, 3, 0, 2]],
     [[0, 0, 1, 0], [1, 0, 0, 0]],
@@ -124,7 +124,7 @@ fn sheet_count(
 ) -> Result<usize, TrianglesFault> {
     let planes = [plane([0, 0, 1, 0]), plane([0, 0, -1, 0])];
     let mut corners = Vec::new(alloc);
-    for (x, y) in PLACES {
+    for &(x, y) in &PLACES {
         corners.push(thirds(x, y, 0))?;
     }
     let mut segments = Vec::new(alloc);
@@ -135,30 +135,39 @@ fn sheet_count(
     count_of(alloc, &planes, &lines, &corners, &segments)
 }
 
+const LEFT: &[(u32, u32)] = &[(0, 1), (3, 4), (1, 5), (2, 0)];
+
+const RIGHT: &[(u32, u32)] = &[(0, 2), (4, 3), (1, 4), (3, 1)];
+
+const BOTH: &[(u32, u32)] = &[(0, 2), (4, 3), (1, 5), (2, 0)];
+
+const HOLE: &[(u32, u32)] = &[(5, 6), (6, 7), (7, 1)];
+
+const EAST: &[(u32, u32)] = &[(8, 9), (11, 10), (9, 8)];
+
+const WEST: &[(u32, u32)] = &[(10, 11), (12, 12), (8, 8)];
+
+const SOUTH: &[(u32, u32)] = &[(9, 13), (13, 14), (10, 8)];
+
+const OVERLAP: TrianglesFault = TrianglesFault::Overlap { plane: 0, line: 0 };
+
+static SHEETS: [(&[&[(u32, u32)]], bool, Result<usize, TrianglesFault>); 7] = [
+    (&[], false, Ok(0)),
+    // The side that two squares have in common cancels.
+    (&[LEFT], false, Ok(4)),
+    (&[LEFT, RIGHT], false, Ok(4)),
+    (&[LEFT, RIGHT], true, Err(TrianglesFault::NotClosed(0))),
+    (&[LEFT, LEFT], false, Err(OVERLAP)),
+    // A corner of the hole lies inside an edge.
+    (&[BOTH, HOLE], false, Ok(12)),
+    // Three edges of the boundary cross in a corner, where none of them changes.
+    (&[EAST, WEST, SOUTH], false, Ok(6)),
+];
+
 #[test]
 fn sheets(rt: HostRuntime) {
-    let left: &[(u32, u32)] = &[(0, 1), (3, 4), (1, 5), (2, 0)];
-    let right: &[(u32, u32)] = &[(0, 2), (4, 3), (1, 4), (3, 1)];
-    let both: &[(u32, u32)] = &[(0, 2), (4, 3), (1, 5), (2, 0)];
-    let hole: &[(u32, u32)] = &[(5, 6), (6, 7), (7, 1)];
-    let east: &[(u32, u32)] = &[(8, 9), (11, 10), (9, 8)];
-    let west: &[(u32, u32)] = &[(10, 11), (12, 12), (8, 8)];
-    let south: &[(u32, u32)] = &[(9, 13), (13, 14), (10, 8)];
-    let overlap = TrianglesFault::Overlap { plane: 0, line: 0 };
-    let rows: [(&[&[(u32, u32)]], bool, Result<usize, TrianglesFault>); 7] = [
-        (&[], false, Ok(0)),
-        // The side that two squares have in common cancels.
-        (&[left], false, Ok(4)),
-        (&[left, right], false, Ok(4)),
-        (&[left, right], true, Err(TrianglesFault::NotClosed(0))),
-        (&[left, left], false, Err(overlap)),
-        // A corner of the hole lies inside an edge.
-        (&[both, hole], false, Ok(12)),
-        // Three edges of the boundary cross in a corner, where none of them changes.
-        (&[east, west, south], false, Ok(6)),
-    ];
-    for (rings, is_open, want) in rows {
-        assert_eq!(rt; sheet_count(rt.alloc(), rings, is_open), want);
+    for &(rings, is_open, want) in &SHEETS {
+        assert!(rt; sheet_count(rt.alloc(), rings, is_open) == want);
     }
 }
 
@@ -174,7 +183,7 @@ const NO_LINE: LineKey = LineKey {
 
 // The edges of the tetrahedron with the corners (0, 0, 0), (1, 0, 0), (0, 1, 0) and (0, 0, 1): their planes, lines
 // and ends.
-const TETRAHEDRON: [(u32, u32, u32, u32); 12] = [
+static TETRAHEDRON: [(u32, u32, u32, u32); 12] = [
     (0, 1, 0, 2),
     (0, 3, 2, 1),
     (0, 0, 1, 0),
@@ -190,7 +199,7 @@ const TETRAHEDRON: [(u32, u32, u32, u32); 12] = [
 ];
 
 // The lines of its edges.
-const TETRAHEDRON_LINES: [[[i16; 4]; 2]; 6] = [
+static TETRAHEDRON_LINES: [[[i16; 4]; 2]; 6] = [
     [[0, 1, 0, 0], [0, 0, 1, 0]],
     [[1, 0, 0, 0], [0, 0, 1, 0]],
     [[1, 0, 0, 0], [0, 1, 0, 0]],
@@ -232,12 +241,9 @@ fn count_of_edges(alloc: Global, edges: &[(u32, u32, u32, u32)]) -> Result<usize
 
 #[test]
 fn faces_of_a_tetrahedron(rt: HostRuntime) {
-    assert_eq!(rt; count_of_edges(rt.alloc(), &TETRAHEDRON), Ok(4));
+    assert!(rt; count_of_edges(rt.alloc(), &TETRAHEDRON) == Ok(4));
     let open = &TETRAHEDRON[..11];
-    assert_eq!(rt;
-        count_of_edges(rt.alloc(), open),
-        Err(TrianglesFault::NotClosed(4))
-    );
+    assert!(rt; count_of_edges(rt.alloc(), open) == Err(TrianglesFault::NotClosed(4)));
 }
 
 // How a line is changed.
@@ -267,17 +273,15 @@ fn count_with(alloc: Global, number: usize, change: Change) -> Result<usize, Tri
 fn edges_off_the_lines_of_the_table(rt: HostRuntime) {
     let wrong = Err(TrianglesFault::NotCertified);
     for number in 0..6 {
-        assert_eq!(rt;
-            count_with(rt.alloc(), number, Change::Shifted),
-            wrong,
+        assert!(rt;
+            count_with(rt.alloc(), number, Change::Shifted) == wrong,
             "{number}"
         );
-        assert_eq!(rt;
-            count_with(rt.alloc(), number, Change::Zeros),
-            wrong,
+        assert!(rt;
+            count_with(rt.alloc(), number, Change::Zeros) == wrong,
             "{number}"
         );
     }
     // A line without edges may be anything.
-    assert_eq!(rt; count_with(rt.alloc(), 6, Change::More), Ok(4));
+    assert!(rt; count_with(rt.alloc(), 6, Change::More) == Ok(4));
 }

@@ -100,22 +100,20 @@ fn found_in(
     Ok((solid.mesh.triangles.len(), agrees, solid.document.is_some()))
 }
 
+// A face of a box that isn't cut has two triangles. One that is cut at a corner has four.
+static SOLIDS_OF_TWO_MESHES: [(&[u8], &[u8], &[u8], usize); 6] = [
+    (TETRA, LOW_BOX, b"m1", 4),
+    (TETRA, LOW_BOX, b"m1|m2", 16),
+    (LOW_BOX, HIGH_BOX, b"m1|m2", 36),
+    (LOW_BOX, HIGH_BOX, b"m1&m2", 12),
+    (LOW_BOX, HIGH_BOX, b"m1&!m2", 24),
+    (LOW_BOX, HIGH_BOX, b"m1&!m1", 0),
+];
+
 #[test]
 fn solids_of_two_meshes(rt: HostRuntime) -> Result<(), Fail> {
-    // A face of a box that isn't cut has two triangles. One that is cut at a corner has four.
-    let rows: [(&[u8], &[u8], &[u8], usize); 6] = [
-        (TETRA, LOW_BOX, b"m1", 4),
-        (TETRA, LOW_BOX, b"m1|m2", 16),
-        (LOW_BOX, HIGH_BOX, b"m1|m2", 36),
-        (LOW_BOX, HIGH_BOX, b"m1&m2", 12),
-        (LOW_BOX, HIGH_BOX, b"m1&!m2", 24),
-        (LOW_BOX, HIGH_BOX, b"m1&!m1", 0),
-    ];
-    for (first, second, text, want) in rows {
-        assert_eq!(rt;
-            found_in(rt.alloc(), first, second, text)?,
-            (want, true, false)
-        );
+    for &(first, second, text, want) in &SOLIDS_OF_TWO_MESHES {
+        assert!(rt; found_in(rt.alloc(), first, second, text)? == (want, true, false));
     }
     Ok(())
 }
@@ -138,6 +136,6 @@ fn same_parts(alloc: Global, solid: &MeshedSolid) -> Result<[bool; 4], Fail> {
 fn documents_of_solids_have_their_mesh(rt: HostRuntime) -> Result<(), Fail> {
     let scene = scene_of(rt.alloc(), LOW_BOX, HIGH_BOX)?;
     let solid = solid_of(rt.alloc(), &scene, b"m1&!m2", true)?;
-    assert_eq!(rt; same_parts(rt.alloc(), &solid)?, [true; 4]);
+    assert!(rt; same_parts(rt.alloc(), &solid)? == [true; 4]);
     Ok(())
 }

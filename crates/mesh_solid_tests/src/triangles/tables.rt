@@ -21,7 +21,7 @@ const MULTIPLES: &[u8] = b"ember 1\n\
     end 4\n";
 
 // Plane, line, start and end of each edge.
-const EDGES: [[u32; 4]; 12] = [
+static EDGES: [[u32; 4]; 12] = [
     [0, 0, 0, 1],
     [0, 1, 1, 2],
     [0, 2, 2, 0],
@@ -51,31 +51,32 @@ fn a_tetrahedron_has_four_planes_and_six_lines(rt: HostRuntime) -> Result<(), Fa
         for s in &tables.segments {
             edges.push([s.plane, s.line, s.start, s.end])?;
         }
-        assert_eq!(rt; edges.as_slice(), EDGES.as_slice());
-        assert_eq!(rt; tables.planes.len(), 4);
-        assert_eq!(rt; tables.lines.len(), 6);
-        assert_eq!(rt; tables.corners.len(), 4);
+        assert!(rt; edges.as_slice() == EDGES.as_slice());
+        assert!(rt; tables.planes.len() == 4);
+        assert!(rt; tables.lines.len() == 6);
+        assert!(rt; tables.corners.len() == 4);
         let (line, corner) = (tables.lines[3], tables.corners[3]);
-        assert_eq!(rt; (line.dx, line.dy, line.dz), (1, 0, -1));
-        assert_eq!(rt; (line.mx, line.my, line.mz), (0, 1, 0));
-        assert_eq!(rt; (corner.x, corner.y, corner.z, corner.w), (0, 0, 1, 1));
+        assert!(rt; (line.dx, line.dy, line.dz) == (1, 0, -1));
+        assert!(rt; (line.mx, line.my, line.mz) == (0, 1, 0));
+        assert!(rt; (corner.x, corner.y, corner.z, corner.w) == (0, 0, 1, 1));
     }
     Ok(())
 }
 
+static EDGES_WITHOUT_A_LINE_OR_A_CORNER: [(&[u8], TableFault); 2] = [
+    (
+        b"ember 1\nf 0 0 1 0 3\ne 0 0 2 5 0 0 0 1\ne 1 0 0 0 0 0 0 1\ne 0 1 0 0 0 0 0 1\nend 1\n",
+        TableFault::NoLine(0),
+    ),
+    (
+        b"ember 1\nf 0 0 1 0 3\ne 1 0 0 0 0 0 0 1\ne 1 0 0 5 0 0 0 1\ne 0 1 0 0 0 0 0 1\nend 1\n",
+        TableFault::NoCorner(0),
+    ),
+];
+
 #[test]
 fn edges_without_a_line_or_a_corner(rt: HostRuntime) {
-    let rows: [(&[u8], TableFault); 2] = [
-        (
-            b"ember 1\nf 0 0 1 0 3\ne 0 0 2 5 0 0 0 1\ne 1 0 0 0 0 0 0 1\ne 0 1 0 0 0 0 0 1\nend 1\n",
-            TableFault::NoLine(0),
-        ),
-        (
-            b"ember 1\nf 0 0 1 0 3\ne 1 0 0 0 0 0 0 1\ne 1 0 0 5 0 0 0 1\ne 0 1 0 0 0 0 0 1\nend 1\n",
-            TableFault::NoCorner(0),
-        ),
-    ];
-    for (file, fault) in rows {
-        assert_eq!(rt; tables_in(rt.alloc(), file).err(), Some(fault));
+    for &(file, fault) in &EDGES_WITHOUT_A_LINE_OR_A_CORNER {
+        assert!(rt; tables_in(rt.alloc(), file).err() == Some(fault));
     }
 }

@@ -50,7 +50,7 @@ fn moves_to_decimals(rt: HostRuntime) -> Result<(), Fail> {
         )?;
         let mut text = Vec::new(alloc);
         put_move(&moved, &mut text)?;
-        assert_eq!(rt; text.as_slice(), want);
+        assert!(rt; text.as_slice() == want);
     }
     Ok(())
 }
@@ -85,7 +85,7 @@ fn moves_to_floats(rt: HostRuntime) -> Result<(), Fail> {
         )?;
         let mut text = Vec::new(alloc);
         put_move(&moved, &mut text)?;
-        assert_eq!(rt; text.as_slice(), want);
+        assert!(rt; text.as_slice() == want);
     }
     Ok(())
 }
@@ -118,7 +118,7 @@ fn moves_are_written(rt: HostRuntime) -> Result<(), Fail> {
     for (moved, want) in rows {
         let mut text = Vec::new(rt.alloc());
         put_move(&moved, &mut text)?;
-        assert_eq!(rt; text.as_slice(), want);
+        assert!(rt; text.as_slice() == want);
     }
     Ok(())
 }
@@ -158,7 +158,7 @@ fn moves_below_a_ten_thousandth_have_an_exponent(rt: HostRuntime) -> Result<(), 
     for (moved, want) in rows {
         let mut text = Vec::new(rt.alloc());
         put_move(&moved, &mut text)?;
-        assert_eq!(rt; text.as_slice(), want);
+        assert!(rt; text.as_slice() == want);
     }
     Ok(())
 }

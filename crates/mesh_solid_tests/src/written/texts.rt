@@ -33,8 +33,8 @@ fn a_common_corner_is_one_vertex(rt: HostRuntime) -> Result<(), Fail> {
         IndexedTriangle { a: 0, b: 1, c: 2 },
         IndexedTriangle { a: 0, b: 2, c: 3 },
     ];
-    assert_eq!(rt; mesh.vertices(), vertices.as_slice());
-    assert_eq!(rt; mesh.triangles(), triangles.as_slice());
+    assert!(rt; mesh.vertices() == vertices.as_slice());
+    assert!(rt; mesh.triangles() == triangles.as_slice());
     Ok(())
 }
 
@@ -48,18 +48,19 @@ const PLY: &[u8] = b"ply\nformat ascii 1.0\ncomment ember-mesh: rounded from an 
 
 const OFF: &[u8] = b"OFF\n4 2 0\n0 0 0\n1.5 0 0\n1.5 1.5 0\n0 100 -0.1\n3 0 1 2\n3 0 2 3\n";
 
+static TWO_TRIANGLES_IN_EACH_FORMAT: [(TextFormat, &[u8]); 3] = [
+    (TextFormat::Obj, OBJ),
+    (TextFormat::Ply, PLY),
+    (TextFormat::Off, OFF),
+];
+
 #[test]
 fn two_triangles_in_each_format(rt: HostRuntime) -> Result<(), Fail> {
     let alloc = rt.alloc();
     let mesh = two_triangles(alloc)?;
-    let rows: [(TextFormat, &[u8]); 3] = [
-        (TextFormat::Obj, OBJ),
-        (TextFormat::Ply, PLY),
-        (TextFormat::Off, OFF),
-    ];
-    for (format, want) in rows {
+    for &(format, want) in &TWO_TRIANGLES_IN_EACH_FORMAT {
         let text = mesh_text(alloc, format, mesh.vertices(), mesh.triangles(), 1)?;
-        assert_eq!(rt; text.as_slice(), want);
+        assert!(rt; text.as_slice() == want);
     }
     Ok(())
 }
@@ -85,7 +86,7 @@ fn decimals_of_points(rt: HostRuntime) -> Result<(), Fail> {
     for (vertex, places, want) in rows {
         assert!(rt; places <= 17);
         let text = mesh_text(rt.alloc(), TextFormat::Off, &[vertex], &[], places)?;
-        assert_eq!(rt; text.as_slice(), want);
+        assert!(rt; text.as_slice() == want);
     }
     Ok(())
 }

@@ -47,23 +47,24 @@ pub const THIRDS: SpacePoint = SpacePoint {
     w: 3,
 };
 
+const CORNERS_ARE_ROUNDED: [(SpacePoint, Axis, GridStep, Offset, u32, &[u8]); 6] = [
+    (TENTHS, Axis::X, TENTH, AT_ZERO, 0x3f00_0000, b"0.5"),
+    (TENTHS, Axis::Y, TENTH, AT_ZERO, 0xbe99_999a, b"-0.3"),
+    (TENTHS, Axis::Z, TENTH, AT_ZERO, 0, b"0"),
+    (THIRDS, Axis::X, UNIT, UP, 0x3eaa_aaab, b"0.333333"),
+    (THIRDS, Axis::Y, UNIT, UP, 0xbf2a_aaab, b"-0.666667"),
+    (THIRDS, Axis::Z, UNIT, UP, 0x4b80_0000, b"16777217"),
+];
+
 #[test]
 fn corners_are_rounded(rt: HostRuntime) -> Result<(), Fail> {
-    let rows: [(SpacePoint, Axis, GridStep, Offset, u32, &[u8]); 6] = [
-        (TENTHS, Axis::X, TENTH, AT_ZERO, 0x3f00_0000, b"0.5"),
-        (TENTHS, Axis::Y, TENTH, AT_ZERO, 0xbe99_999a, b"-0.3"),
-        (TENTHS, Axis::Z, TENTH, AT_ZERO, 0, b"0"),
-        (THIRDS, Axis::X, UNIT, UP, 0x3eaa_aaab, b"0.333333"),
-        (THIRDS, Axis::Y, UNIT, UP, 0xbf2a_aaab, b"-0.666667"),
-        (THIRDS, Axis::Z, UNIT, UP, 0x4b80_0000, b"16777217"),
-    ];
-    for (corner, axis, step, offset, bits, text) in rows {
+    for (corner, axis, step, offset, bits, text) in CORNERS_ARE_ROUNDED {
         assert!(rt; 0 < step.numerator && step.numerator < 1 << 40);
         assert!(rt; 0 < step.denominator && step.denominator < 1 << 40);
-        assert_eq!(rt; float_place(&corner, axis, &step, &offset), Some(bits));
+        assert!(rt; float_place(&corner, axis, &step, &offset) == Some(bits));
         let mut out = Vec::new(rt.alloc());
         put_place(&corner, axis, &step, &offset, 6, &mut out)?;
-        assert_eq!(rt; out.as_slice(), text);
+        assert!(rt; out.as_slice() == text);
     }
     Ok(())
 }
@@ -80,13 +81,13 @@ fn a_corner_too_far_out(rt: HostRuntime) {
         z: 1_000_000_000,
     };
     let mut out = Vec::new(rt.alloc());
-    assert_eq!(rt; float_place(&TENTHS, Axis::X, &step, &offset), None);
+    assert!(rt; float_place(&TENTHS, Axis::X, &step, &offset) == None);
     let far = put_place(&TENTHS, Axis::X, &step, &offset, 6, &mut out);
-    assert_eq!(rt; far, Err(PlaceFault::TooFar));
+    assert!(rt; far == Err(PlaceFault::TooFar));
     let long = put_place(&TENTHS, Axis::Z, &step, &offset, 6, &mut out);
-    assert_eq!(rt; long, Err(PlaceFault::TooFar));
+    assert!(rt; long == Err(PlaceFault::TooFar));
     assert!(rt; out.is_empty());
-    assert_eq!(rt; decimal_place(&TENTHS, Axis::Z, &step, &offset, 6), None);
+    assert!(rt; decimal_place(&TENTHS, Axis::Z, &step, &offset, 6) == None);
 }
 
 // An edge of a triangle, on a line that doesn't matter.
@@ -173,7 +174,7 @@ fn two_triangles_of_four_vanish(rt: HostRuntime) -> Result<(), Fail> {
             c: float_point(0, 0, HEIGHT),
         },
     ];
-    assert_eq!(rt; written.as_slice(), want.as_slice());
+    assert!(rt; written.as_slice() == want.as_slice());
     Ok(())
 }
 
@@ -196,9 +197,9 @@ fn edges_of_more_than_two_triangles(rt: HostRuntime) -> Result<(), Fail> {
         b: p,
         c: r,
     };
-    assert_eq!(rt; shared_edges(rt.alloc(), &[])?, 0);
-    assert_eq!(rt; shared_edges(rt.alloc(), &[front, back])?, 0);
-    assert_eq!(rt; shared_edges(rt.alloc(), &[front, back, back, front])?, 3);
+    assert!(rt; shared_edges(rt.alloc(), &[])? == 0);
+    assert!(rt; shared_edges(rt.alloc(), &[front, back])? == 0);
+    assert!(rt; shared_edges(rt.alloc(), &[front, back, back, front])? == 3);
     Ok(())
 }
 
@@ -206,12 +207,9 @@ fn edges_of_more_than_two_triangles(rt: HostRuntime) -> Result<(), Fail> {
 fn edges_of_more_than_two_triangles_over_vertices(rt: HostRuntime) -> Result<(), Fail> {
     let front = IndexedTriangle { a: 0, b: 1, c: 2 };
     let back = IndexedTriangle { a: 1, b: 0, c: 2 };
-    assert_eq!(rt; shared_edges_by_index(rt.alloc(), &[])?, 0);
-    assert_eq!(rt; shared_edges_by_index(rt.alloc(), &[front, back])?, 0);
-    assert_eq!(rt;
-        shared_edges_by_index(rt.alloc(), &[front, back, back, front])?,
-        3
-    );
+    assert!(rt; shared_edges_by_index(rt.alloc(), &[])? == 0);
+    assert!(rt; shared_edges_by_index(rt.alloc(), &[front, back])? == 0);
+    assert!(rt; shared_edges_by_index(rt.alloc(), &[front, back, back, front])? == 3);
     Ok(())
 }
 
@@ -230,10 +228,7 @@ fn corners_in_units_of_a_place(rt: HostRuntime) {
         assert!(rt; 0 < step.numerator && step.numerator < 1 << 40);
         assert!(rt; 0 < step.denominator && step.denominator < 1 << 40);
         assert!(rt; places <= 17);
-        assert_eq!(rt;
-            decimal_place(&corner, axis, &step, &offset, places),
-            Some(units)
-        );
+        assert!(rt; decimal_place(&corner, axis, &step, &offset, places) == Some(units));
     }
 }
 
@@ -266,31 +261,32 @@ fn two_triangles_of_four_vanish_as_decimals(rt: HostRuntime) -> Result<(), Fail>
         IndexedTriangle { a: 0, b: 1, c: 2 },
         IndexedTriangle { a: 2, b: 1, c: 0 },
     ];
-    assert_eq!(rt; mesh.vertices(), vertices.as_slice());
-    assert_eq!(rt; mesh.triangles(), written.as_slice());
-    assert_eq!(rt; planes.as_slice(), [0, 3].as_slice());
+    assert!(rt; mesh.vertices() == vertices.as_slice());
+    assert!(rt; mesh.triangles() == written.as_slice());
+    assert!(rt; planes.as_slice() == [0, 3].as_slice());
     Ok(())
 }
 
+static PLACES_OF_STEPS: [(u64, u64, u32); 7] = [
+    (1, 1, 6),
+    (5, 10, 7),
+    (2, 100, 8),
+    (1000, 100_000, 8),
+    (9770, 1_000_000, 11),
+    (1, 3, 17),
+    (1, 1_000_000_000_000, 17),
+];
+
 #[test]
 fn places_of_steps(rt: HostRuntime) {
-    let rows = [
-        (1, 1, 6),
-        (5, 10, 7),
-        (2, 100, 8),
-        (1000, 100_000, 8),
-        (9770, 1_000_000, 11),
-        (1, 3, 17),
-        (1, 1_000_000_000_000, 17),
-    ];
-    for (numerator, denominator, places) in rows {
+    for &(numerator, denominator, places) in &PLACES_OF_STEPS {
         let step = GridStep {
             numerator,
             denominator,
         };
         assert!(rt; 0 < step.numerator && step.numerator < 1 << 40);
         assert!(rt; 0 < step.denominator && step.denominator < 1 << 40);
-        assert_eq!(rt; written_places(None, &step), places);
-        assert_eq!(rt; written_places(Some(3), &step), 3);
+        assert!(rt; written_places(None, &step) == places);
+        assert!(rt; written_places(Some(3), &step) == 3);
     }
 }

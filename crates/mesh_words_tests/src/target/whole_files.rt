@@ -34,29 +34,31 @@ fn check(
 )
     requires { target.old.begun ≡ None }
 {
-    assert_eq!(rt; write_whole(alloc, target, "out", NEW), end);
+    assert!(rt; write_whole(alloc, target, "out", NEW) == end);
     for (name, bytes) in held {
-        assert_eq!(rt; target.bytes_of(name), *bytes, "{name}");
+        assert!(rt; target.bytes_of(name) == *bytes, "{name}");
     }
 }
 
+const FAULT: Result<(), WriteEnd> = Err(WriteEnd::WriteFault);
+
 // The calls are `begin`, three times `write`, and `keep`. A call that fails is followed by `discard`.
+static ENDS: [(&[u64], Result<(), WriteEnd>, &[u8], Option<&[u8]>); 9] = [
+    (&[], Ok(()), NEW, None),
+    (&[6], Ok(()), NEW, None),
+    (&[1], FAULT, OLD, None),
+    (&[2], FAULT, OLD, None),
+    (&[3], FAULT, OLD, None),
+    (&[4], FAULT, OLD, None),
+    (&[5], FAULT, OLD, None),
+    (&[3, 4], FAULT, OLD, Some(b"0123")),
+    (&[5, 6], FAULT, OLD, Some(NEW)),
+];
+
 #[test]
 fn a_name_holds_all_new_bytes_or_what_it_held(rt: HostRuntime) -> Result<(), Fail> {
     let alloc = rt.alloc();
-    let fault = Err(WriteEnd::WriteFault);
-    let rows: [(&[u64], Result<(), WriteEnd>, &[u8], Option<&[u8]>); 9] = [
-        (&[], Ok(()), NEW, None),
-        (&[6], Ok(()), NEW, None),
-        (&[1], fault, OLD, None),
-        (&[2], fault, OLD, None),
-        (&[3], fault, OLD, None),
-        (&[4], fault, OLD, None),
-        (&[5], fault, OLD, None),
-        (&[3, 4], fault, OLD, Some(b"0123")),
-        (&[5, 6], fault, OLD, Some(NEW)),
-    ];
-    for (failing, end, out, left) in rows {
+    for &(failing, end, out, left) in &ENDS {
         let mut target = target(alloc, failing)?;
         let held = [
             ("out", Some(out)),
@@ -117,12 +119,12 @@ fn write_file(rt: &impl Files, alloc: Global, name: &str, bytes: &[u8]) -> Resul
 fn a_file_of_the_system_is_written_whole(rt: HostRuntime) -> Result<(), Fail> {
     std::fs::write(&rt, "whole.out.new-0", OLD)?;
     for bytes in [OLD, NEW, b"".as_slice()] {
-        assert_eq!(rt; write_file(&rt, rt.alloc(), "whole.out", bytes), Ok(()));
+        assert!(rt; write_file(&rt, rt.alloc(), "whole.out", bytes) == Ok(()));
         let held = std::fs::read(&rt, "whole.out")?;
-        assert_eq!(rt; held.as_slice(), bytes);
+        assert!(rt; held.as_slice() == bytes);
     }
     let left = std::fs::read(&rt, "whole.out.new-0")?;
-    assert_eq!(rt; left.as_slice(), OLD);
+    assert!(rt; left.as_slice() == OLD);
     assert!(rt; !std::fs::exists(&rt, "whole.out.new-1")?);
     std::fs::remove_file(&rt, "whole.out")?;
     std::fs::remove_file(&rt, "whole.out.new-0")?;
@@ -136,7 +138,7 @@ fn a_file_of_the_system_that_cannot_be_written_leaves_no_other(
     std::fs::create_dir(&rt, "folder.out")?;
     for name in ["folder.out", "missing/whole.out"] {
         let end = write_file(&rt, rt.alloc(), name, NEW);
-        assert_eq!(rt; end, Err(WriteEnd::WriteFault), "{name}");
+        assert!(rt; end == Err(WriteEnd::WriteFault), "{name}");
     }
     assert!(rt; std::fs::metadata(&rt, "folder.out")?.is_dir());
     assert!(rt; !std::fs::exists(&rt, "folder.out.new-0")?);

@@ -125,9 +125,9 @@ fn check(
     files: &[&str],
 ) -> Result<(), Fail> {
     let command = command_of(alloc, words)?;
-    assert_eq!(rt; settings_of(&command), settings);
+    assert!(rt; settings_of(&command) == settings);
     for (setting, text) in texts {
-        assert_eq!(rt; text_of(&command, *setting), *text);
+        assert!(rt; text_of(&command, *setting) == *text);
     }
     assert!(rt; has_files(&command, files));
     Ok(())
@@ -186,7 +186,7 @@ fn options_between_and_behind_files(rt: HostRuntime) -> Result<(), Fail> {
 }
 
 // Command lines of a Boolean, with the page and the folder that each names.
-const PAGES_AND_FOLDERS: [(&[&str], Option<&str>, Option<&str>); 4] = [
+static PAGES_AND_FOLDERS: [(&[&str], Option<&str>, Option<&str>); 4] = [
     (
         &["union", "-o", "x.stl", "a", "--view", "p.html"],
         Some("p.html"),
@@ -226,40 +226,41 @@ const PAGES_AND_FOLDERS: [(&[&str], Option<&str>, Option<&str>); 4] = [
 
 #[test]
 fn pages_and_folders_of_a_boolean(rt: HostRuntime) -> Result<(), Fail> {
-    for (words, view, keep) in PAGES_AND_FOLDERS {
+    for &(words, view, keep) in &PAGES_AND_FOLDERS {
         let command = command_of(rt.alloc(), words)?;
-        assert_eq!(rt; text_of(&command, Setting::Page), view);
-        assert_eq!(rt; text_of(&command, Setting::Keep), keep);
+        assert!(rt; text_of(&command, Setting::Page) == view);
+        assert!(rt; text_of(&command, Setting::Keep) == keep);
     }
     Ok(())
 }
 
+static MESHES_FOR_THEIR_GRID: [(&[&str], bool, &str, &str, &[&str]); 3] = [
+    (
+        &["snap", "a.stl", "-d", "grid", "b.obj", "--quiet", "a.stl"],
+        true,
+        "grid",
+        "nice",
+        &["a.stl", "b.obj", "a.stl"],
+    ),
+    (
+        &["snap", "--step=finest", "-d=", "a"],
+        false,
+        "",
+        "finest",
+        &["a"],
+    ),
+    (
+        &["snap", "-d", "-o", "a", "--step", ".5"],
+        false,
+        "-o",
+        ".5",
+        &["a"],
+    ),
+];
+
 #[test]
 fn meshes_for_their_grid(rt: HostRuntime) -> Result<(), Fail> {
-    let rows: [(&[&str], bool, &str, &str, &[&str]); 3] = [
-        (
-            &["snap", "a.stl", "-d", "grid", "b.obj", "--quiet", "a.stl"],
-            true,
-            "grid",
-            "nice",
-            &["a.stl", "b.obj", "a.stl"],
-        ),
-        (
-            &["snap", "--step=finest", "-d=", "a"],
-            false,
-            "",
-            "finest",
-            &["a"],
-        ),
-        (
-            &["snap", "-d", "-o", "a", "--step", ".5"],
-            false,
-            "-o",
-            ".5",
-            &["a"],
-        ),
-    ];
-    for (words, quiet, folder, step, files) in rows {
+    for &(words, quiet, folder, step, files) in &MESHES_FOR_THEIR_GRID {
         let texts = [(Setting::Folder, Some(folder)), (Setting::Step, Some(step))];
         check(
             &rt,
@@ -364,23 +365,24 @@ fn asks_for(alloc: Global, words: &[&str]) -> Result<(bool, bool), Fail> {
     Ok((is_help, is_version))
 }
 
+static WORDS_THAT_ASK_FOR_HELP_OR_THE_VERSION: [&[&str]; 9] = [
+    &["help"],
+    &["help", "union"],
+    &["-h", "--x"],
+    &["--help"],
+    &["union", "a.stl", "--help"],
+    &["info", "a.stl", "-h"],
+    &["view", "--step=1", "--help"],
+    &["snap", "--help"],
+    &["export", "-h", "a", "b"],
+];
+
 #[test]
 fn words_that_ask_for_help_or_the_version(rt: HostRuntime) -> Result<(), Fail> {
-    let helping: [&[&str]; 9] = [
-        &["help"],
-        &["help", "union"],
-        &["-h", "--x"],
-        &["--help"],
-        &["union", "a.stl", "--help"],
-        &["info", "a.stl", "-h"],
-        &["view", "--step=1", "--help"],
-        &["snap", "--help"],
-        &["export", "-h", "a", "b"],
-    ];
-    for words in helping {
-        assert_eq!(rt; asks_for(rt.alloc(), words)?, (true, false));
+    for &words in &WORDS_THAT_ASK_FOR_HELP_OR_THE_VERSION {
+        assert!(rt; asks_for(rt.alloc(), words)? == (true, false));
     }
-    assert_eq!(rt; asks_for(rt.alloc(), &["--version"])?, (false, true));
+    assert!(rt; asks_for(rt.alloc(), &["--version"])? == (false, true));
     Ok(())
 }
 

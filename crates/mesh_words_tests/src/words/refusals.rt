@@ -12,212 +12,218 @@ pub fn refusal(alloc: Global, words: &[&str]) -> Result<Option<Refusal>, Fail> {
     }
 }
 
+static WORDS_THAT_ARE_REFUSED: [(&[&str], Refusal); 24] = [
+    (&[], Refusal::NoCommand),
+    (&["snaps", "a.stl"], Refusal::UnknownCommand),
+    (&["Union"], Refusal::UnknownCommand),
+    (&["union", "a", "--views=p"], Refusal::UnknownOption(2)),
+    (&["union", "a", "--keep"], Refusal::NoValue),
+    (
+        &["bool", "-d", "x", "a", "--scene=s"],
+        Refusal::NotFor(Setting::Folder),
+    ),
+    (&["union", "--"], Refusal::UnknownOption(1)),
+    (&["union", "-", "a", "-"], Refusal::SecondInput),
+    (&["union", "-"], Refusal::NoOutput),
+    (&["union", "-o", "-", "a"], Refusal::NoFormat),
+    (
+        &["union", "-o", "-", "--format=step", "a"],
+        Refusal::UnknownFormat,
+    ),
+    (
+        &["union", "-o", "x.stl", "--format=stl", "a"],
+        Refusal::NeedlessFormat,
+    ),
+    (&["union", "--steps=1"], Refusal::UnknownOption(1)),
+    (&["union", "--quiet=1", "-o"], Refusal::UnknownOption(1)),
+    (&["union", "a", "-o"], Refusal::NoValue),
+    (&["union", "-o", "--help"], Refusal::NoFiles),
+    (&["bool", "-o", "x.stl", "a"], Refusal::NoExpression),
+    (&["union", "--expr", "m1", "a"], Refusal::NeedlessExpression),
+    (&["union", "a"], Refusal::NoOutput),
+    (&["union", "-o", "x.gltf", "a"], Refusal::OutputEnding),
+    (&["union", "-o", "stl", "a"], Refusal::OutputEnding),
+    (&["info"], Refusal::NoFiles),
+    (&["info", "a", "--quiet"], Refusal::UnknownOption(2)),
+    (&["info", "--help", "-o=x.stl"], Refusal::UnknownOption(2)),
+];
+
 #[test]
 fn words_that_are_refused(rt: HostRuntime) -> Result<(), Fail> {
-    let rows: [(&[&str], Refusal); 24] = [
-        (&[], Refusal::NoCommand),
-        (&["snaps", "a.stl"], Refusal::UnknownCommand),
-        (&["Union"], Refusal::UnknownCommand),
-        (&["union", "a", "--views=p"], Refusal::UnknownOption(2)),
-        (&["union", "a", "--keep"], Refusal::NoValue),
-        (
-            &["bool", "-d", "x", "a", "--scene=s"],
-            Refusal::NotFor(Setting::Folder),
-        ),
-        (&["union", "--"], Refusal::UnknownOption(1)),
-        (&["union", "-", "a", "-"], Refusal::SecondInput),
-        (&["union", "-"], Refusal::NoOutput),
-        (&["union", "-o", "-", "a"], Refusal::NoFormat),
-        (
-            &["union", "-o", "-", "--format=step", "a"],
-            Refusal::UnknownFormat,
-        ),
-        (
-            &["union", "-o", "x.stl", "--format=stl", "a"],
-            Refusal::NeedlessFormat,
-        ),
-        (&["union", "--steps=1"], Refusal::UnknownOption(1)),
-        (&["union", "--quiet=1", "-o"], Refusal::UnknownOption(1)),
-        (&["union", "a", "-o"], Refusal::NoValue),
-        (&["union", "-o", "--help"], Refusal::NoFiles),
-        (&["bool", "-o", "x.stl", "a"], Refusal::NoExpression),
-        (&["union", "--expr", "m1", "a"], Refusal::NeedlessExpression),
-        (&["union", "a"], Refusal::NoOutput),
-        (&["union", "-o", "x.gltf", "a"], Refusal::OutputEnding),
-        (&["union", "-o", "stl", "a"], Refusal::OutputEnding),
-        (&["info"], Refusal::NoFiles),
-        (&["info", "a", "--quiet"], Refusal::UnknownOption(2)),
-        (&["info", "--help", "-o=x.stl"], Refusal::UnknownOption(2)),
-    ];
-    for (words, want) in rows {
-        assert_eq!(rt; refusal(rt.alloc(), words)?, Some(want));
+    for &(words, want) in &WORDS_THAT_ARE_REFUSED {
+        assert!(rt; refusal(rt.alloc(), words)? == Some(want));
     }
     Ok(())
 }
+
+static STEPS_WORKERS_AND_DIGITS_THAT_ARE_REFUSED: [(&[&str], Refusal); 10] = [
+    (
+        &["union", "-o", "x.stl", "--step", "0.00e3", "a"],
+        Refusal::NotAStep,
+    ),
+    (
+        &["union", "-o", "x.stl", "--step", "-1", "a"],
+        Refusal::NotAStep,
+    ),
+    (
+        &["union", "-o", "x.stl", "--step", "Nice", "a"],
+        Refusal::NotAStep,
+    ),
+    (&["union", "-o", "x.stl", "--step=", "a"], Refusal::NotAStep),
+    (
+        &["union", "-o", "x.stl", "--workers", "0", "a"],
+        Refusal::Workers,
+    ),
+    (
+        &["union", "-o", "x.stl", "--workers=65", "a"],
+        Refusal::Workers,
+    ),
+    (
+        &["union", "-o", "x.stl", "--workers", "+4", "a"],
+        Refusal::Workers,
+    ),
+    (
+        &["union", "-o", "x.stl", "--digits", "18", "a"],
+        Refusal::Digits,
+    ),
+    (
+        &["union", "-o", "x.stl", "--digits", "-1", "a"],
+        Refusal::Digits,
+    ),
+    (&["union", "-o", "x.stl", "--digits=", "a"], Refusal::Digits),
+];
 
 #[test]
 fn steps_workers_and_digits_that_are_refused(rt: HostRuntime) -> Result<(), Fail> {
-    let rows: [(&[&str], Refusal); 10] = [
-        (
-            &["union", "-o", "x.stl", "--step", "0.00e3", "a"],
-            Refusal::NotAStep,
-        ),
-        (
-            &["union", "-o", "x.stl", "--step", "-1", "a"],
-            Refusal::NotAStep,
-        ),
-        (
-            &["union", "-o", "x.stl", "--step", "Nice", "a"],
-            Refusal::NotAStep,
-        ),
-        (&["union", "-o", "x.stl", "--step=", "a"], Refusal::NotAStep),
-        (
-            &["union", "-o", "x.stl", "--workers", "0", "a"],
-            Refusal::Workers,
-        ),
-        (
-            &["union", "-o", "x.stl", "--workers=65", "a"],
-            Refusal::Workers,
-        ),
-        (
-            &["union", "-o", "x.stl", "--workers", "+4", "a"],
-            Refusal::Workers,
-        ),
-        (
-            &["union", "-o", "x.stl", "--digits", "18", "a"],
-            Refusal::Digits,
-        ),
-        (
-            &["union", "-o", "x.stl", "--digits", "-1", "a"],
-            Refusal::Digits,
-        ),
-        (&["union", "-o", "x.stl", "--digits=", "a"], Refusal::Digits),
-    ];
-    for (words, want) in rows {
-        assert_eq!(rt; refusal(rt.alloc(), words)?, Some(want));
+    for &(words, want) in &STEPS_WORKERS_AND_DIGITS_THAT_ARE_REFUSED {
+        assert!(rt; refusal(rt.alloc(), words)? == Some(want));
     }
     Ok(())
 }
+
+static VIEWS_THAT_ARE_REFUSED: [(&[&str], Refusal); 10] = [
+    (&["view"], Refusal::NoFiles),
+    (&["view", "--step=1", "-o=p"], Refusal::NoFiles),
+    (&["view", "a"], Refusal::NoOutput),
+    (&["view", "a", "-o"], Refusal::NoValue),
+    (
+        &["view", "a", "--keep", "d"],
+        Refusal::NotFor(Setting::Keep),
+    ),
+    (
+        &["view", "--quiet", "a", "--step", "x"],
+        Refusal::NotFor(Setting::Step),
+    ),
+    (
+        &["view", "a", "-o=p", "--digits=3", "--expr=m1"],
+        Refusal::NotFor(Setting::Digits),
+    ),
+    (
+        &["view", "--expr", "m1", "a"],
+        Refusal::NotFor(Setting::Expression),
+    ),
+    (
+        &["view", "--workers", "0", "a"],
+        Refusal::NotFor(Setting::Workers),
+    ),
+    (&["view", "-o", "p", "--step=1"], Refusal::NoFiles),
+];
 
 #[test]
 fn views_that_are_refused(rt: HostRuntime) -> Result<(), Fail> {
-    let rows: [(&[&str], Refusal); 10] = [
-        (&["view"], Refusal::NoFiles),
-        (&["view", "--step=1", "-o=p"], Refusal::NoFiles),
-        (&["view", "a"], Refusal::NoOutput),
-        (&["view", "a", "-o"], Refusal::NoValue),
-        (
-            &["view", "a", "--keep", "d"],
-            Refusal::NotFor(Setting::Keep),
-        ),
-        (
-            &["view", "--quiet", "a", "--step", "x"],
-            Refusal::NotFor(Setting::Step),
-        ),
-        (
-            &["view", "a", "-o=p", "--digits=3", "--expr=m1"],
-            Refusal::NotFor(Setting::Digits),
-        ),
-        (
-            &["view", "--expr", "m1", "a"],
-            Refusal::NotFor(Setting::Expression),
-        ),
-        (
-            &["view", "--workers", "0", "a"],
-            Refusal::NotFor(Setting::Workers),
-        ),
-        (&["view", "-o", "p", "--step=1"], Refusal::NoFiles),
-    ];
-    for (words, want) in rows {
-        assert_eq!(rt; refusal(rt.alloc(), words)?, Some(want));
+    for &(words, want) in &VIEWS_THAT_ARE_REFUSED {
+        assert!(rt; refusal(rt.alloc(), words)? == Some(want));
     }
-    assert_eq!(rt; Setting::Workers.name(), "--workers");
-    assert_eq!(rt; Setting::Output.name(), "-o");
+    assert!(rt; Setting::Workers.name() == "--workers");
+    assert!(rt; Setting::Output.name() == "-o");
     Ok(())
 }
+
+static SNAPS_THAT_ARE_REFUSED: [(&[&str], Refusal); 8] = [
+    (&["snap"], Refusal::NoFiles),
+    (&["snap", "-o=x.stl", "--step=0"], Refusal::NoFiles),
+    (&["snap", "a"], Refusal::NoFolder),
+    (&["snap", "a", "-d"], Refusal::NoValue),
+    (&["snap", "a", "-do"], Refusal::UnknownOption(2)),
+    (
+        &["snap", "a", "--step=0", "-o", "x.stl"],
+        Refusal::NotFor(Setting::Output),
+    ),
+    (
+        &["snap", "a", "--workers=4"],
+        Refusal::NotFor(Setting::Workers),
+    ),
+    (&["snap", "a", "-d", "d", "--step=0"], Refusal::NotAStep),
+];
 
 #[test]
 fn snaps_that_are_refused(rt: HostRuntime) -> Result<(), Fail> {
-    let rows: [(&[&str], Refusal); 8] = [
-        (&["snap"], Refusal::NoFiles),
-        (&["snap", "-o=x.stl", "--step=0"], Refusal::NoFiles),
-        (&["snap", "a"], Refusal::NoFolder),
-        (&["snap", "a", "-d"], Refusal::NoValue),
-        (&["snap", "a", "-do"], Refusal::UnknownOption(2)),
-        (
-            &["snap", "a", "--step=0", "-o", "x.stl"],
-            Refusal::NotFor(Setting::Output),
-        ),
-        (
-            &["snap", "a", "--workers=4"],
-            Refusal::NotFor(Setting::Workers),
-        ),
-        (&["snap", "a", "-d", "d", "--step=0"], Refusal::NotAStep),
-    ];
-    for (words, want) in rows {
-        assert_eq!(rt; refusal(rt.alloc(), words)?, Some(want));
+    for &(words, want) in &SNAPS_THAT_ARE_REFUSED {
+        assert!(rt; refusal(rt.alloc(), words)? == Some(want));
     }
     Ok(())
 }
+
+static EXPORTS_THAT_ARE_REFUSED: [(&[&str], Refusal); 10] = [
+    (
+        &["export", "--scene=-", "-o", "x.stl", "-"],
+        Refusal::SecondInput,
+    ),
+    (&["export", "-o", "x.stl"], Refusal::NotOneDocument),
+    (
+        &["export", "-o", "x.stl", "a", "a", "--step=1"],
+        Refusal::NotOneDocument,
+    ),
+    (&["export", "a", "--step"], Refusal::NoValue),
+    (
+        &["export", "a", "-o=x", "--step=1", "--keep=d"],
+        Refusal::NotFor(Setting::Step),
+    ),
+    (
+        &["export", "--expr=m1", "a"],
+        Refusal::NotFor(Setting::Expression),
+    ),
+    (&["export", "a"], Refusal::NoOutput),
+    (
+        &["export", "a", "-o", "x.html", "--digits=x"],
+        Refusal::OutputEnding,
+    ),
+    (
+        &["export", "a", "-o", "x.off", "--digits=18"],
+        Refusal::Digits,
+    ),
+    (
+        &["export", "a", "-o", "x.off", "--digits=17", "--quiet=1"],
+        Refusal::UnknownOption(5),
+    ),
+];
 
 #[test]
 fn exports_that_are_refused(rt: HostRuntime) -> Result<(), Fail> {
-    let rows: [(&[&str], Refusal); 10] = [
-        (
-            &["export", "--scene=-", "-o", "x.stl", "-"],
-            Refusal::SecondInput,
-        ),
-        (&["export", "-o", "x.stl"], Refusal::NotOneDocument),
-        (
-            &["export", "-o", "x.stl", "a", "a", "--step=1"],
-            Refusal::NotOneDocument,
-        ),
-        (&["export", "a", "--step"], Refusal::NoValue),
-        (
-            &["export", "a", "-o=x", "--step=1", "--keep=d"],
-            Refusal::NotFor(Setting::Step),
-        ),
-        (
-            &["export", "--expr=m1", "a"],
-            Refusal::NotFor(Setting::Expression),
-        ),
-        (&["export", "a"], Refusal::NoOutput),
-        (
-            &["export", "a", "-o", "x.html", "--digits=x"],
-            Refusal::OutputEnding,
-        ),
-        (
-            &["export", "a", "-o", "x.off", "--digits=18"],
-            Refusal::Digits,
-        ),
-        (
-            &["export", "a", "-o", "x.off", "--digits=17", "--quiet=1"],
-            Refusal::UnknownOption(5),
-        ),
-    ];
-    for (words, want) in rows {
-        assert_eq!(rt; refusal(rt.alloc(), words)?, Some(want));
+    for &(words, want) in &EXPORTS_THAT_ARE_REFUSED {
+        assert!(rt; refusal(rt.alloc(), words)? == Some(want));
     }
     Ok(())
 }
 
+static VALUES_THAT_ARE_REFUSED_ARE_KNOWN: [(&[&str], &str, &str); 5] = [
+    (&["union", "-o", "x.3mf", "--step=1=2", "a"], "x.3mf", "1=2"),
+    (
+        &["union", "--step", "1", "-ox", "a", "--step", "-1"],
+        "",
+        "",
+    ),
+    (&["union", "--step", "1", "a", "--step", "-1"], "", "-1"),
+    (&["union", "a"], "", ""),
+    (&[], "", ""),
+];
+
 #[test]
 fn values_that_are_refused_are_known(rt: HostRuntime) -> Result<(), Fail> {
-    let rows: [(&[&str], &str, &str); 5] = [
-        (&["union", "-o", "x.3mf", "--step=1=2", "a"], "x.3mf", "1=2"),
-        (
-            &["union", "--step", "1", "-ox", "a", "--step", "-1"],
-            "",
-            "",
-        ),
-        (&["union", "--step", "1", "a", "--step", "-1"], "", "-1"),
-        (&["union", "a"], "", ""),
-        (&[], "", ""),
-    ];
-    for (words, output, step) in rows {
+    for &(words, output, step) in &VALUES_THAT_ARE_REFUSED_ARE_KNOWN {
         let strings = strings(rt.alloc(), words)?;
-        assert_eq!(rt; output_given(rt.alloc(), &strings)?.as_str(), output);
-        assert_eq!(rt; step_given(rt.alloc(), &strings)?.as_str(), step);
+        assert!(rt; output_given(rt.alloc(), &strings)?.as_str() == output);
+        assert!(rt; step_given(rt.alloc(), &strings)?.as_str() == step);
     }
     Ok(())
 }
@@ -233,6 +239,6 @@ fn at_most_64_files(rt: HostRuntime) -> Result<(), Fail> {
     }
     assert!(rt; is_boolean_of(rt.alloc(), &words, 64)?);
     words.push("a")?;
-    assert_eq!(rt; refusal(rt.alloc(), &words)?, Some(Refusal::TooManyFiles));
+    assert!(rt; refusal(rt.alloc(), &words)? == Some(Refusal::TooManyFiles));
     Ok(())
 }
