@@ -203,7 +203,7 @@ module _ (IsCause : Status → Type 0) (AreFiles : List NamedBytes → Type 0) (
   unmet_ends_on out Writes why never unmet same Done text h e = absurd (never h.0)
   unmet_ends_on out Writes why never unmet same (Words refusal) text h e = (h, e, same)
   unmet_ends_on out Writes why never unmet same StepOfNoGrid text h e = (h, e, same)
-  unmet_ends_on out Writes why never unmet same (ReadFault i) text h e = (h, e, same)
+  unmet_ends_on out Writes why never unmet same (ReadFault i kind) text h e = (h, e, same)
   unmet_ends_on out Writes why never unmet same WriteFault text h e = absurd (unmet h.0)
   unmet_ends_on out Writes why never unmet same (NotWritten file) text h e = (h, e, same)
   unmet_ends_on out Writes why never unmet same (FileRefused i reason) text h e = (h, e, same)
