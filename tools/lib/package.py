@@ -13,7 +13,7 @@ TOP = Path(__file__).resolve().parent.parent.parent
 # The crate of each program, by the program's place in a package.
 PROGRAMS = {"bin/ember": "ember", "bin/ember-mesh": "mesh_program"}
 # What a package is made of.
-SOURCES = ["crates", "crates.txt", "HANDLES", "docs", "completions", "examples", "tools", "packages", "Makefile", "LICENSE", "CHANGELOG.md"]
+SOURCES = ["crates", "crates.txt", "HANDLES", "docs", "completions", "examples", "tools", "packages", "python", "Makefile", "LICENSE", "CHANGELOG.md"]
 
 
 def loaded(script):
@@ -63,11 +63,11 @@ def refuse_changes():
         fail(f"a package has the files of a commit, and these differ from the last one:\n{changed}")
 
 
-def build(jobs):
+def build(jobs, crates=None):
     """Proves and builds the programs. Ends if a source was changed meanwhile: the program may be that of another text then."""
     refuse_changes()
     begun = time.time()
-    for crate in PROGRAMS.values():
+    for crate in crates or PROGRAMS.values():
         build = [TOP / "tools/build", "--program", crate, *(["--jobs", str(jobs)] if jobs else [])]
         if subprocess.run(build, check=False).returncode:
             fail("there is no package without its programs")
@@ -77,10 +77,10 @@ def build(jobs):
         fail(f"{newer.relative_to(TOP)} was changed while the programs were built: make the package anew")
 
 
-def crates_of_programs():
+def crates_of(programs):
     """Returns the crates that the programs use, lowest first."""
     crates = builder.listed()
-    names = set().union(*(builder.below(crates, it) for it in PROGRAMS.values()))
+    names = set().union(*(builder.below(crates, it) for it in programs.values()))
     return [it for it in crates if it in names]
 
 
@@ -93,11 +93,12 @@ def last_line_of_check(crate):
     return said[-1]
 
 
-def proved(folder):
+def proved(folder, programs=None):
     """Returns the text of PROVED: what the programs in the folder are, and what was proved of them."""
-    sums = subprocess.run(["sha256sum", *PROGRAMS], cwd=folder, stdout=subprocess.PIPE, text=True, check=True).stdout
-    checks = [f"{place}: {last_line_of_check(crate)}\n" for place, crate in PROGRAMS.items()]
-    libraries = len(crates_of_programs()) - len(PROGRAMS)
+    programs = programs or PROGRAMS
+    sums = subprocess.run(["sha256sum", *programs], cwd=folder, stdout=subprocess.PIPE, text=True, check=True).stdout
+    checks = [f"{place}: {last_line_of_check(crate)}\n" for place, crate in programs.items()]
+    libraries = len(crates_of(programs)) - len(programs)
     return (
         f"ember {version()}: what these programs are, and what was proved of them\n\n"
         f"commit {output_of('git', 'rev-parse', 'HEAD')}\n"
@@ -113,10 +114,10 @@ def kit():
     return Path(os.path.realpath(shutil.which("rt"))).parent.parent / "rattle"
 
 
-def libraries():
+def libraries(programs):
     """Returns the toolchain's libraries that the programs use, directly or below others."""
     open_, found = {"std"}, set()
-    for crate in crates_of_programs():
+    for crate in crates_of(programs):
         line = builder.listed()[crate][0]
         open_ |= set(line.partition("#")[0].partition(":")[2].split())
     while open_:
@@ -129,10 +130,10 @@ def libraries():
     return sorted(found)
 
 
-def licences():
+def licences(programs=None):
     """Returns the text of LIBRARIES: the licences of the libraries whose code is in the programs."""
     text = "The programs contain code of these libraries of the toolchain, under their own licences.\n"
-    for name in libraries():
+    for name in libraries(programs or PROGRAMS):
         files = sorted((kit() / name).glob("LICENSE*"))
         # Where the user may choose, it is this one.
         files = [it for it in files if it.name == "LICENSE-MIT"] or files
@@ -148,9 +149,9 @@ def install(room, prefix, **places):
     subprocess.run(["make", "-s", "-C", TOP, "-o", "build", "-o", "mesh", "install", "install-mesh", *words], check=True)
 
 
-def needed_libc(folder):
+def needed_libc(folder, programs=None):
     """Returns the least version of the C library with which the programs in the folder start."""
-    versions = [it for program in PROGRAMS for it in re.findall(rb"GLIBC_([\d.]+)\0", (folder / program).read_bytes())]
+    versions = [it for program in programs or PROGRAMS for it in re.findall(rb"GLIBC_([\d.]+)\0", (folder / program).read_bytes())]
     return max((it.decode() for it in versions), key=lambda it: [int(part) for part in it.split(".")])
 
 

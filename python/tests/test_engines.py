@@ -1,0 +1,174 @@
+"""How the program is started and stopped."""
+import os
+import signal
+import subprocess
+import sys
+import threading
+import time
+from pathlib import Path
+
+import pytest
+
+import ember
+from ember import processor, program
+from scenes import box
+
+A, B = box((0, 0, 0), (1, 1, 1)), box((0.25, 0.25, 0.25), (0.75, 0.75, 2))
+
+
+def test_no_program_is_there(monkeypatch):
+    monkeypatch.setattr(program, "found", lambda: None)
+    with pytest.raises(FileNotFoundError, match="install the wheel of ember-mesh, or set EMBER_MESH"):
+        ember.union(A)
+
+
+def test_engines_that_are_refused():
+    with pytest.raises(ember.UsageError, match="is none of auto, program"):
+        ember.union(A, engine="other")
+    with pytest.raises(ember.UsageError, match="this version of the package has no C library"):
+        ember.union(A, engine="library")
+
+
+def test_the_engine_by_itself(engine):
+    assert len(ember.union(A).faces) == len(ember.union(A, engine=engine).faces) == 12
+
+
+def test_a_call_leaves_no_folder(engine, room):
+    ember.union(A, B, engine="program")
+    with pytest.raises(ember.NotClosedError):
+        ember.union((A[0], A[1][1:]), engine="program")
+
+
+def is_alive(path):
+    """Whether the process is there whose number is in the file. Without a number it was ended before it wrote one."""
+    number = path.read_text().strip() if path.exists() else ""
+    return number != "" and Path(f"/proc/{number}").exists()
+
+
+def wait_for(path):
+    for _ in range(6000):
+        if path.exists() and path.read_text().endswith("\n"):
+            return
+        time.sleep(0.01)
+    raise AssertionError("the program didn't start")
+
+
+def test_a_call_that_takes_too_long(false_program, room, tmp_path):
+    false_program(f"echo $$ >{tmp_path}/number; exec sleep 60")
+    with pytest.raises(ember.Stopped, match="took more than 2 seconds") as caught:
+        ember.union(A, B, timeout=2, engine="program")
+    assert caught.value.status is None and isinstance(caught.value, RuntimeError)
+    assert not is_alive(tmp_path / "number")
+
+
+def interrupt():
+    os.kill(os.getpid(), signal.SIGINT)
+
+
+def test_a_call_that_is_interrupted(false_program, room, tmp_path):
+    false_program(f"echo $$ >{tmp_path}/number; exec sleep 60")
+    threading.Thread(target=lambda: (wait_for(tmp_path / "number"), interrupt())).start()
+    with pytest.raises(KeyboardInterrupt):
+        ember.union(A, B, engine="program")
+    assert not is_alive(tmp_path / "number")
+
+
+@pytest.mark.parametrize("step", ["_fill", "_stamps", "Popen"])
+def test_a_call_that_is_interrupted_between_its_steps(false_program, room, tmp_path, monkeypatch, step):
+    """The signal comes when a step has ended, and its result isn't there yet."""
+    false_program(f"echo $$ >{tmp_path}/number; exec sleep 60")
+    place = subprocess if step == "Popen" else program
+    whole = getattr(place, step)
+
+    def interrupted(*words, **options):
+        done = whole(*words, **options)
+        if step == "Popen":
+            wait_for(tmp_path / "number")
+        interrupt()
+        return done
+
+    monkeypatch.setattr(place, step, interrupted)
+    before = signal.getsignal(signal.SIGINT)
+    with pytest.raises(KeyboardInterrupt):
+        ember.union(A, B, engine="program")
+    assert signal.getsignal(signal.SIGINT) is before
+    assert not is_alive(tmp_path / "number")
+
+
+def test_handlers_that_raise_nothing(false_program, room, tmp_path, monkeypatch):
+    """Where the user's handler raises nothing, the call goes on."""
+    came = []
+    whole = program._fill
+    monkeypatch.setattr(program, "_fill", lambda *words: (whole(*words), interrupt()))
+    false_program("echo hello")
+    before = signal.signal(signal.SIGINT, lambda number, _: came.append(number))
+    try:
+        assert ember.command(["info"], engine="program").out == b"hello\n"
+    finally:
+        signal.signal(signal.SIGINT, before)
+    assert came == [signal.SIGINT]
+
+
+def test_a_call_in_a_thread(false_program, room):
+    false_program("echo hello")
+    found = []
+    thread = threading.Thread(target=lambda: found.append(ember.command(["info"], engine="program").out))
+    thread.start()
+    thread.join()
+    assert found == [b"hello\n"]
+
+
+def test_a_program_that_a_signal_ends(false_program, room):
+    false_program("kill -9 $$")
+    with pytest.raises(ember.Stopped, match="ended by the signal SIGKILL") as caught:
+        ember.union(A, B, engine="program")
+    assert caught.value.status == -9
+
+
+def test_a_program_that_says_something_else(false_program, room):
+    false_program("printf 'OFF\\n0 0 0\\n' >out.off; echo hello >&2")
+    with pytest.raises(ValueError, match="isn't a report of ember-mesh"):
+        ember.union(A, B, engine="program")
+
+
+def test_command(engine):
+    off = ember.union(A, engine=engine).export("off")
+    answer = ember.command(["union", "-o", "out.stl", "--keep", "kept", "in/a.off"], {"in/a.off": off}, engine=engine)
+    assert (answer.status, answer.out) == (0, b"")
+    assert sorted(answer.files) == ["kept/1.obj", "kept/doc.txt", "kept/scene.json", "out.stl"]
+    assert answer.files["out.stl"] == ember.union(off, engine=engine).export("stl")
+    assert answer.err.startswith(b"ember-mesh: step ")
+
+
+def test_a_command_that_fails(engine):
+    answer = ember.command(["union", "-o", "out.stl", "none.off"], {"out.stl": b"old"}, engine=engine)
+    assert (answer.status, answer.out, answer.files) == (3, b"", {})
+    assert answer.err.startswith(b"ember-mesh: none.off: cannot be read")
+
+
+def test_a_command_over_its_own_file(engine):
+    off = ember.union(A, engine=engine).export("off")
+    answer = ember.command(["union", "-o", "a.off", "--quiet", "a.off"], {"a.off": off, "other": b""}, engine=engine)
+    assert (answer.status, set(answer.files)) == (0, {"a.off"})
+
+
+def test_the_version(engine):
+    answer = ember.command(["--version"], engine=engine)
+    assert (answer.status, answer.out.decode()) == (0, f"ember-mesh {ember.__version__}\n")
+
+
+@pytest.mark.parametrize("name", ["/etc/mesh.stl", "../mesh.stl", "a/../../mesh.stl", ""])
+def test_files_out_of_the_folder(false_program, name):
+    false_program("exit 0")
+    with pytest.raises(ember.UsageError, match="names nothing in the folder"):
+        ember.command(["info"], {name: b""}, engine="program")
+
+
+def test_processors():
+    assert processor.lacking("fpu cx16 lahf_lm popcnt ssse3 sse4_1 sse4_2 avx") == set()
+    assert processor.lacking("fpu cx16 lahf_lm ssse3 sse4_1") == {"popcnt", "sse4_2"}
+
+
+def test_nothing_is_imported_that_is_not_needed():
+    said = subprocess.run([sys.executable, "-c", "import ember, sys; print('trimesh' in sys.modules)"], capture_output=True, text=True, check=True)
+    assert said.stdout == "False\n"
