@@ -1,10 +1,14 @@
 """What the tests have in common. EMBER_MESH names the program, unless the package has it."""
 import os
+import signal
 import stat
 
 import pytest
 
 from ember import program
+
+# Where the tests are started in the background, SIGINT is ignored, and none of them could be interrupted.
+signal.signal(signal.SIGINT, signal.default_int_handler)
 
 
 @pytest.fixture
