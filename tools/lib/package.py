@@ -85,12 +85,11 @@ def crates_of(programs):
 
 
 def last_line_of_check(crate):
-    """Returns what the toolchain said last of the proof of a program. It says so in each build, and of a crate below only when it proves it."""
-    log = Path(builder.room(), f"{crate}.log").read_text(encoding="utf-8")
-    said = re.findall(r"^logic=proved .*$", log, re.M)
-    if not said:
-        fail(f"{builder.room()}/{crate}.log doesn't say that the crate is proved")
-    return said[-1]
+    """Returns what the toolchain said last of the proof of a program. The build keeps it, since it is said only when the program is proved."""
+    path = Path(builder.room(), f"{crate}.proved")
+    if not path.exists():
+        fail(f"there is no {path}, which has what the toolchain said of the proof")
+    return path.read_text(encoding="utf-8").strip()
 
 
 def proved(folder, programs=None):
