@@ -1,5 +1,5 @@
 -- The faults of the steps from a mesh to its file are those of the file
-use Rattle.std.proofs.Common.{◌≡◌, ℕ, List, Option, Result, Err, arith}
+use Rattle.std.proofs.Common.{◌≡◌, ℕ, List, Option, Result, Err, inl, arith}
 use Rattle.mesh_certificate.specs.declared.certificate.space_point.SpacePoint.{SpacePoint}
 use Rattle.mesh_write.specs.declared.glb.fault.GlbWriteFault.{GlbWriteFault}
 use Rattle.mesh_write.specs.declared.glb.fault.GlbWriteFault.TheVariants as glb_fault
@@ -27,7 +27,7 @@ use Rattle.mesh_boolean.specs.WritingFaults.{IsFloatFileFault, IsWritingFault, o
 pub float_fault_is : (format : FloatFormat) (grid : Grid) (mesh : SolidMesh) (cause : PlaceFault) →
     IsFloatFault grid.step grid.offset mesh.corners.items cause →
     IsWritingFault (Floats format) grid mesh (of_place_fault cause)
-float_fault_is format grid mesh place_fault.TooFar h = h
+float_fault_is format grid mesh place_fault.TooFar h = inl h
 float_fault_is format grid mesh place_fault.OutOfMemory h = tt
 
 -- too many triangles for a GLB

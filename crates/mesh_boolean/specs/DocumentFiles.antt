@@ -15,7 +15,7 @@ use Rattle.mesh_boolean.specs.declared.writing.Written.{Written}
 use Rattle.mesh_boolean.specs.declared.writing_fault.WritingFault.{WritingFault}
 use Rattle.mesh_boolean.specs.declared.writing_fault.WritingFault.TheVariants as writing_fault
 use Rattle.mesh_boolean.specs.Outputs.{AreShownIf, IsClosedAs}
-use Rattle.mesh_boolean.specs.WritingFaults.{HasFarCorner, HasTooMany}
+use Rattle.mesh_boolean.specs.WritingFaults.{HasTooMany, LiesTooFar}
 
 -- ---- the file
 -- there is a mesh of the document; the file is this mesh on the grid, in this format, closed; and the
@@ -53,6 +53,6 @@ pub record HasUnwrittenMesh (bytes : List ℕ) (IsFault : SolidMesh → Type 0) 
 -- no mesh, or a mesh that isn't written; or want of memory, of which nothing is said
 abbrev pub IsDocumentFileFault : List ℕ → Grid → MeshFormat → DocumentFileFault → Type 0
 IsDocumentFileFault bytes grid format (Document fault) = HasNoDocumentMesh bytes fault
-IsDocumentFileFault bytes grid format TooFar = HasUnwrittenMesh bytes (HasFarCorner format grid)
+IsDocumentFileFault bytes grid format TooFar = HasUnwrittenMesh bytes (LiesTooFar format grid)
 IsDocumentFileFault bytes grid format TooManyTriangles = HasUnwrittenMesh bytes (HasTooMany format grid)
 IsDocumentFileFault bytes grid format OutOfMemory = ⊤

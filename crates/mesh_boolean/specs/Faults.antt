@@ -24,7 +24,7 @@ use Rattle.mesh_boolean.specs.declared.wanted.WantedFile.{WantedFile}
 use Rattle.mesh_boolean.specs.declared.writing_fault.WritingFault.{WritingFault}
 use Rattle.mesh_boolean.specs.declared.writing_fault.WritingFault.TheVariants as writing_fault
 use Rattle.mesh_boolean.specs.Files.{reading, AreReadings, ArePlaced}
-use Rattle.mesh_boolean.specs.WritingFaults.{HasFarCorner, HasTooMany}
+use Rattle.mesh_boolean.specs.WritingFaults.{HasTooMany, LiesTooFar}
 
 -- ---- the faults of the steps, where want of memory is one
 abbrev pub of_file_fault : ℕ → FileFault → BooleanFault
@@ -121,7 +121,7 @@ abbrev pub IsBooleanFault : List MeshFile → Formula → WantedFile → Boolean
 IsBooleanFault files formula wanted (File index fault) = IsFirstUnread files index fault
 IsBooleanFault files formula wanted (Scene fault) = AreNoScene files wanted.grid fault
 IsBooleanFault files formula wanted (Solid fault) = HasNoMesh files formula wanted.grid fault
-IsBooleanFault files formula wanted TooFar = HasUnwritten files formula wanted.grid (HasFarCorner wanted.format)
+IsBooleanFault files formula wanted TooFar = HasUnwritten files formula wanted.grid (LiesTooFar wanted.format)
 IsBooleanFault files formula wanted TooManyTriangles =
     HasUnwritten files formula wanted.grid (HasTooMany wanted.format)
 IsBooleanFault files formula wanted OutOfMemory = ⊤

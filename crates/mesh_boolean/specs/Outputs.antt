@@ -80,10 +80,9 @@ pub record AreRoundedWith (grid : Grid) (mesh : SolidMesh) (written : List Writt
   pub rounded : AreRounded grid mesh written
   pub is_effect : IsFloatEffect grid mesh rounded.points effect
 
--- the bytes are the file of the mesh's rounded triangles, which are also those that are shown, if any are; the numbers
--- are those of the mesh, of what rounding did to it, of its triangles that aren't written, and of the
--- edges of more than
--- two written triangles, if these are closed
+-- the bytes are the file of the mesh's rounded triangles, which are also those that are shown, if any are; there are none
+-- only if the mesh has none. The numbers are those of the mesh, of what rounding did to it, of its triangles that aren't
+-- written, and of the edges of more than two written triangles, if these are closed
 pub record IsOfFloats (format : FloatFormat) (grid : Grid) (mesh : SolidMesh) (file : Written) : Type 0 where
   pub written : List WrittenTriangle
   pub rounded : AreRoundedWith grid mesh written file.effect
@@ -94,6 +93,7 @@ pub record IsOfFloats (format : FloatFormat) (grid : Grid) (mesh : SolidMesh) (f
   pub planes : file.planes ≡ length mesh.planes.items
   pub triangles : file.triangles ≡ length mesh.triangles.items
   pub vanished : file.vanished + length written ≡ file.triangles
+  pub some : file.written ≡ 0 → file.triangles ≡ 0
   pub count : file.written ≡ length written
   pub shared : AreWrittenClosed written → IsSharedCount written file.shared
 
@@ -112,10 +112,8 @@ pub record IsTextOver (format : TextFormat) (places : ℕ) (ts : List DecimalTri
   pub manifold : is_manifold ≡ true → IsManifold split.triangles.items
   pub whole : is_manifold ≡ false → cut ≡ ts
 
--- the bytes are the text of the mesh's rounded triangles; the numbers are those of the mesh, of what
--- rounding did to it,
--- of its triangles that aren't written, and, if the others are closed, of their edges of more than two,
--- where each point
+-- the bytes are the text of the mesh's rounded triangles; the numbers are those of the mesh, of what rounding did to it,
+-- of its triangles that aren't written, and, if the others are closed, of their edges of more than two, where each point
 -- is one vertex
 pub record IsText (format : TextFormat) (digits : Option ℕ) (grid : Grid) (mesh : SolidMesh) (file : Written) :
     Type 0 where

@@ -1,5 +1,5 @@
 -- Why a mesh isn't written
-use Rattle.std.specs.Prelude.{⊤, ◌^◌, ◌≤◌, List, length}
+use Rattle.std.specs.Prelude.{⊤, ◌⊎◌, ◌^◌, ◌≤◌, ◌<◌, List, [], length}
 use Rattle.std.specs.List.{Any}
 use Rattle.mesh_write.specs.declared.glb.fault.GlbWriteFault.{GlbWriteFault}
 use Rattle.mesh_write.specs.declared.glb.fault.GlbWriteFault.TheVariants as glb_fault
@@ -35,10 +35,16 @@ of_glb_fault glb_fault.TooManyTriangles = TooManyTriangles
 of_glb_fault glb_fault.OutOfMemory = OutOfMemory
 
 -- ---- the file
--- a corner rounds to infinity, or is too far out for a decimal
-abbrev pub HasFarCorner : MeshFormat → Grid → SolidMesh → Type 0
-HasFarCorner (Floats format) grid mesh = Any (IsTooFar grid.step grid.offset) mesh.corners.items
-HasFarCorner (Text format digits) grid mesh = Any (IsFarPoint grid.step grid.offset) mesh.corners.items
+-- the mesh lies where floats are so far apart that each of its triangles vanishes when it is rounded, though it has some
+pub record IsRoundedAway (grid : Grid) (mesh : SolidMesh) : Type 0 where
+  pub some : 0 < length mesh.triangles.items
+  pub none_left : AreRounded grid mesh []
+
+-- a corner rounds to infinity, or the whole mesh to nothing; or a corner is too far out for a decimal
+abbrev pub LiesTooFar : MeshFormat → Grid → SolidMesh → Type 0
+LiesTooFar (Floats format) grid mesh =
+    Any (IsTooFar grid.step grid.offset) mesh.corners.items ⊎ IsRoundedAway grid mesh
+LiesTooFar (Text format digits) grid mesh = Any (IsFarPoint grid.step grid.offset) mesh.corners.items
 
 -- there are too many triangles for an STL, or their GLB is too long
 abbrev pub AreTooMany : FloatFormat → List WrittenTriangle → Type 0
@@ -63,6 +69,6 @@ HasTooMany (Text format digits) grid mesh = ⊥
 
 -- why a mesh isn't written
 abbrev pub IsWritingFault : MeshFormat → Grid → SolidMesh → WritingFault → Type 0
-IsWritingFault format grid mesh TooFar = HasFarCorner format grid mesh
+IsWritingFault format grid mesh TooFar = LiesTooFar format grid mesh
 IsWritingFault format grid mesh TooManyTriangles = HasTooMany format grid mesh
 IsWritingFault format grid mesh OutOfMemory = ⊤

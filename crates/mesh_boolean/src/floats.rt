@@ -1,5 +1,5 @@
 // The STL or the GLB of a mesh.
-ghost use Rattle.std.specs.Prelude.{All, IfOk, IfErr};
+ghost use Rattle.std.specs.Prelude.{◌≡◌, ◌×◌, ◌<◌, [], All, IfOk, IfErr, length, true, false};
 ghost use Rattle.mesh_certificate.specs.Certificate.Certificate.{IsProper};
 ghost use Rattle.ember_model.specs.Valid.{IsValidPlane};
 ghost use Rattle.mesh_grid.specs.Snap.Steps.{IsStep};
@@ -38,6 +38,14 @@ fn float_bytes(
     }
 }
 
+// Whether a mesh has triangles, but none of them is left.
+fn is_rounded_away(mesh: &SolidMesh, written: &[WrittenTriangle]) -> bool
+    ensures lost { result ≡ true → (0 < length mesh.now.triangles.items) × (written.now ≡ []) }
+    ensures kept { result ≡ false → length written.now ≡ 0 → length mesh.now.triangles.items ≡ 0 }
+{
+    written.is_empty() && !mesh.triangles.is_empty()
+}
+
 // The STL or the GLB of a mesh on a grid. The mesh isn't kept while its bytes are made.
 pub(crate) fn float_file(
     alloc: Global,
@@ -57,6 +65,9 @@ pub(crate) fn float_file(
         triangles: written,
         effect,
     } = rounded_with_effect(alloc, &mesh, grid)?;
+    if is_rounded_away(&mesh, &written) {
+        return Err(WritingFault::TooFar);
+    }
     let faces = mesh.faces;
     let planes = mesh.planes.len() as u64;
     let triangles = mesh.triangles.len() as u64;

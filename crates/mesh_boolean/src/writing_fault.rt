@@ -12,7 +12,8 @@ use thiserror::Error;
 #[derive(Clone, Copy, Debug, PartialEq, Eq, Error)]
 pub enum WritingFault {
     /// A corner is too far from zero along an axis, in the user's unit: 2^128 - 2^103 or more, so
-    /// that no float is nearest to it, or, for a decimal, 10^21 or more.
+    /// that no float is nearest to it, or, for a decimal, 10^21 or more. Or floats are so far apart
+    /// there that each triangle of the mesh vanishes.
     #[error("a corner is too far from zero")]
     TooFar,
     /// The STL would have 2^32 triangles or more, or the GLB 2^32 bytes or more.

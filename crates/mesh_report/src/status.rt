@@ -53,7 +53,8 @@ pub enum Status {
     /// The meshes don't fit on a grid with the given step. They are so long, and this is the finest
     /// step with which they fit.
     StepTooSmall(SceneExtent),
-    /// A corner of the result is too far from 0 for the numbers of the output's format.
+    /// A corner of the result is too far from 0 for the numbers of the output's format, or all of its
+    /// triangles vanish there.
     TooFar,
     OutOfMemory,
     /// No certified triangles were found for the result. It isn't proved that this never happens.

@@ -45,6 +45,7 @@ returns-clause-floats c =
       planes = omega arith;
       triangles = omega arith;
       vanished = omega (arith, written_are_fewer _ _ _ _ _ _ c.in_ok-written.ensures.rounded.rounded);
+      some = λ none. omega (arith, c.is_rounded_away.ensures.kept c.if-not-is_rounded_away.false (omega (arith, none)));
       count = omega arith;
       shared = subst (λ ws. AreWrittenClosed ws → IsSharedCount ws c.in_ok-shared.shared) c.deref.ensures.value c.in_ok-shared.ensures;
     }
