@@ -200,7 +200,7 @@ fn run_with<S: Shelf, O: Sink, E: Sink, C: Fn(u32, &Query) -> Result<Answer, Out
 
 /// Does what the words ask for, with one worker whatever they say: writes the output to `out`, and
 /// the report or the status's line to `err`. It waits for nobody, and accepts all words that `run`
-/// accepts. Only tests call this.
+/// accepts. Of the crates that aren't tests only ember_call calls this.
 pub fn run_one<S: Shelf, O: Sink, E: Sink, G: Gate>(
     alloc: Global,
     words: &[String],
