@@ -85,9 +85,8 @@ pub fn boole_output<S: Shelf, C: Fn(&Query) -> Result<Answer, OutOfMemory>>(
         Ok(scene) => scene,
         Err(status) => return Err(status),
     };
-    // The reply's text is that of one document (`IsSolidText`). By the lemma `solid_file` it is a file
-    // as the verdict wants it (`IsSolidFile`): see proofs/SolidFiles.antt. The proof of this function,
-    // in proofs/boole/boole_output, cites it.
+    // The reply's text is that of one document (`IsSolidText`). By the lemma `solid_file` of ember_verdict
+    // it is a file as the verdict wants it (`IsSolidFile`). The proof of this function cites it.
     let reply = reply_of_solid(alloc, &scene, &expr, reported, executor)?;
     Ok(reply)
 }
