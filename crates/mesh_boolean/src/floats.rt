@@ -1,5 +1,5 @@
 // The STL or the GLB of a mesh.
-ghost use Rattle.std.specs.Prelude.{◌≡◌, ◌×◌, ◌<◌, [], All, IfOk, IfErr, length, true, false};
+ghost use Rattle.std.specs.Prelude.{◌≡◌, ◌<◌, [], All, IfOk, IfErr, length, true, false};
 ghost use Rattle.mesh_certificate.specs.Certificate.Certificate.{IsProper};
 ghost use Rattle.ember_model.specs.Valid.{IsValidPlane};
 ghost use Rattle.mesh_grid.specs.Snap.Steps.{IsStep};
