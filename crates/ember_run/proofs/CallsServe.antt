@@ -17,7 +17,7 @@ use Rattle.ember_verdict.specs.Devices.{ShelfCall, SinkCall, HasShelfFailed, Has
 use Rattle.ember_verdict.specs.Held.{MayHold}
 use Rattle.ember_verdict.specs.Lines.{line_on_err, text_on_err}
 use Rattle.ember_verdict.specs.Messages.{AppendsUntilFault}
-use Rattle.ember_verdict.specs.Reported.{IsErrText, IsReportOfVerdictIfAsked, asks_report}
+use Rattle.ember_verdict.specs.Reported.{IsErrText, IsReported, IsReportOfVerdictIfAsked, asks_report}
 use Rattle.ember_run.specs.Serves.{IsReply, IsReplyTo, Serves}
 use Rattle.ember_verdict.specs.NoReplies.{IsFileIn, IsNoReply, with_others}
 use Rattle.ember_verdict.specs.Slices.{IsFaceFault, IsSliceRefusal, IsSliceable}
@@ -25,7 +25,7 @@ use Rattle.ember_verdict.specs.Verdict.{Contents, Verdict, Unknown, Refused, Wri
 use Rattle.ember_verdict.specs.declared.status.FaceFault.{FaceFault}
 use Rattle.ember_verdict.proofs.RefusedBeforeFiles.{refused_with_any, unknown_refused}
 use Rattle.ember_verdict.proofs.SliceFaults.{one_fault, slice_or_fault, sliceable_or_fault}
-use Rattle.ember_verdict.proofs.SolidVerdicts.{err_text, report_told}
+use Rattle.ember_verdict.proofs.SolidVerdicts.{err_text}
 use Rattle.ember_verdict.proofs.ToldVerdicts.{verdict_told}
 use Rattle.ember_verdict.proofs.Verdicts.{IsSameIfTold, refusal_if_told, refusal_then, text_told}
 use Rattle.ember_verdict.proofs.NoReplies.{before_is_refusal, file_is_refusal, length_told, none_some}
@@ -146,6 +146,8 @@ pub record Rows (command : Option Command) (shelf : ShelfCall) (out : SinkCall) 
   pub read_fault : (i : ℕ) → status ≡ ReadFault i →
       HasShelfFailed shelf × (shelf.fault_at ≡ i) × (verdict_before i command shelf.told ≡ Unknown) × IsFileIn
       (names_of command) i
+  pub read_fault_read : (i : ℕ) → status ≡ ReadFault i → MayHold shelf.told (names_of command)
+      (λ contents. verdict_of command (first_told (i - 1) contents) ≡ Unknown)
   pub words : status ≡ Words → command ≡ None
   pub before_files : is_before_files status ≡ true → verdict_before 1 command shelf.told ≡ Refused status
   pub in_file : (i : ℕ) → refused_file status ≡ Some i → (others : Contents) →
@@ -175,8 +177,11 @@ before_given command shelf out status rows refusal e =
 
 served : (command : Option Command) (shelf : ShelfCall) (out err : SinkCall) (status : Status) (text : List ℕ) →
     Rows command shelf out status → IsErrText command shelf.told status text →
-    AppendsUntilFault err.faults err.faults_after err.taken err.taken_after text → Serves command shelf out err status
-served command shelf out err status text rows is said =
+    AppendsUntilFault err.faults err.faults_after err.taken err.taken_after text →
+    (status ≡ Done → MayHold shelf.told (names_of command)
+    (λ contents. IsWritten (verdict_of command contents) out.taken out.taken_after ×
+    IsReported (asks_report command) (verdict_of command contents) err)) → Serves command shelf out err status
+served command shelf out err status text rows is said reported =
     let v = told_verdict command shelf.told in
     let owes : Owes v (HasShelfFailed shelf) (HasSinkFailed out) out.taken out.taken_after status =
     record {
@@ -192,6 +197,7 @@ served command shelf out err status text rows is said =
       out_later = rows.out_later;
       done = rows.done;
       done_read = rows.done_read;
+      reported_read = reported;
       refused = rows.refused;
       refused_read = rows.refused_read;
       words = rows.words;
@@ -203,6 +209,7 @@ served command shelf out err status text rows is said =
       one_of = rows.one_of;
       memory = rows.memory;
       read_fault = rows.read_fault;
+      read_fault_read = rows.read_fault_read;
       write_fault = rows.write_fault;
       begun_read = rows.begun_read;
       untouched = rows.untouched;
@@ -244,6 +251,12 @@ replied_call_serves command shelf out err status reply text line same later out_
     let same_told : IsSameIfTold verdict known = verdict_told (Some command) shelf.told held.0 held.1 in
     let known_text : IsText known text = subst (λ (bytes : List ℕ). IsText known bytes) (sym t) is.text in
     let is_text : IsTextIfTold verdict text = text_told text verdict known same_told known_text in
+    let asked = asks_report (Some command) in
+    let known_line : IsReportOfVerdictIfAsked asked known line =
+    subst (λ (bytes : List ℕ). IsReportOfVerdictIfAsked asked known bytes) (sym l) is.report in
+    let line_said : status ≡ Done → AppendsUntilFault err.faults err.faults_after err.taken err.taken_after line =
+    λ d. subst (λ (s : Status). AppendsUntilFault err.faults err.faults_after err.taken err.taken_after
+    (text_on_err (names_of (Some command)) s line)) d said in
     served (Some command) shelf out err status (text_on_err (names_of (Some command)) status line)
     (record {
       contents = same;
@@ -260,12 +273,13 @@ replied_call_serves command shelf out err status reply text line same later out_
       one_of = λ i e. absurd (not_refusal status either (file_is_refusal status i e));
       memory = ended_memory status either;
       read_fault = λ i e. absurd (not_read_fault status i either e);
+      read_fault_read = λ i e. absurd (not_read_fault status i either e);
       write_fault = λ e. let f = fault e in (f.0, (text, is_text, f.1));
       untouched = λ d w. absurd (touched status either d w);
     })
     (err_text (Some command) shelf.told status line
-    (λ d. subst (λ (bytes : List ℕ). IsReportOfVerdictIfAsked (asks_report (Some command)) verdict bytes) (sym l)
-    (report_told (asks_report (Some command)) reply.report.items verdict known same_told is.report))) said
+    (λ d. (held.0, held.1, known_line))) said
+    (λ d. (held.0, held.1, ((text, known_text, (done d).0), (line, known_line, line_said d))))
 
 -- ---- a call that has no answer
 pub stopped_call_serves : (command : Command) (shelf : ShelfCall) (out err : SinkCall) (status : Status) →
@@ -294,10 +308,12 @@ stopped_call_serves command shelf out err status same later out_later untouched 
       one_of = no_reply.one_of;
       memory = no_reply.memory;
       read_fault = no_reply.read_fault;
+      read_fault_read = no_reply.nothing_before;
       write_fault = λ e. absurd (no_reply.never.2 e);
       untouched = λ d w. untouched;
     })
     (err_text (Some command) shelf.told status [] (λ e. absurd (no_reply.never.0 e))) said
+    (λ e. absurd (no_reply.never.0 e))
 
 -- ---- a call that reads no command
 pub refused_words_serve : (command : Option Command) (shelf : ShelfCall) (out err : SinkCall) → command ≡ None →
@@ -322,7 +338,8 @@ refused_words_serve command shelf out err none same later out_later untouched sa
       one_of = λ i e. absurd (none_some e);
       memory = refl;
       read_fault = λ i e. absurd (cc);
+      read_fault_read = λ i e. absurd (cc);
       write_fault = λ e. absurd (cc);
       untouched = λ d w. untouched;
     })
-    refl said)
+    refl said (λ e. absurd (cc)))

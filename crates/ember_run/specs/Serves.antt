@@ -1,5 +1,5 @@
 -- What a call promises: which status it may end with, and what it then did to each device
-use Rattle.std.specs.Prelude.{◌≡◌, ◌≢◌, ◌≤◌, ◌⊎◌, Bool, true, false, ℕ, List, length, map, None, Some}
+use Rattle.std.specs.Prelude.{◌≡◌, ◌≢◌, ◌≤◌, ◌⊎◌, Bool, true, false, ℕ, ◌-◌, List, length, map, None, Some}
 use Rattle.std.specs.declared.option.Option.{Option}
 use Rattle.ember_io.specs.Sinks.{IsFlushed}
 use Rattle.ember_words.specs.declared.command.Command.{Command}
@@ -11,10 +11,10 @@ use Rattle.ember_verdict.specs.Statuses.{is_before_files, is_refusal, refused_fi
 use Rattle.ember_verdict.specs.Devices.{ShelfCall, SinkCall, HasShelfFailed, HasSinkFailed}
 use Rattle.ember_verdict.specs.Held.{MayHold}
 use Rattle.ember_verdict.specs.Messages.{AppendsUntilFault}
-use Rattle.ember_verdict.specs.Reported.{IsErrText, IsReportOfVerdictIfAsked, asks_report}
+use Rattle.ember_verdict.specs.Reported.{IsErrText, IsReported, IsReportOfVerdictIfAsked, asks_report}
 use Rattle.ember_verdict.specs.NoReplies.{IsFileIn, with_others}
 use Rattle.ember_verdict.specs.Verdict.{Contents, Verdict, Unknown, Refused, names_of, told_verdict, verdict_before}
-use Rattle.ember_verdict.specs.Verdict.{verdict_of}
+use Rattle.ember_verdict.specs.Verdict.{first_told, verdict_of}
 use Rattle.ember_run.specs.declared.reply.Reply.{Reply}
 use Rattle.ember_verdict.specs.declared.status.Status.{Status}
 use Rattle.ember_verdict.specs.declared.status.Status.TheVariants.{Done, Words, ReadFault, WriteFault, OutOfMemory}
@@ -50,6 +50,10 @@ pub record Serves (command : Option Command) (shelf : ShelfCall) (out err : Sink
   -- the output is that of contents that the files may have, told or not
   pub done_read : status ≡ Done → MayHold shelf.told (names_of command)
       (λ contents. IsWritten (verdict_of command contents) out.taken out.taken_after)
+  -- the output and the report, if one is asked for, are those of the same contents
+  pub reported_read : status ≡ Done → MayHold shelf.told (names_of command)
+      (λ contents. IsWritten (verdict_of command contents) out.taken out.taken_after ×
+      IsReported (asks_report command) (verdict_of command contents) err)
   -- a refusal is that of the verdict
   pub refused : is_refusal status ≡ true → IsRefusalIfTold status (told_verdict command shelf.told)
   -- a refusal is that of contents that the files may have, told or not
@@ -75,6 +79,9 @@ pub record Serves (command : Option Command) (shelf : ShelfCall) (out err : Sink
   -- a read fault: the shelf failed at file i of the command, and nothing before it is refused
   pub read_fault : (i : ℕ) → status ≡ ReadFault i → HasShelfFailed shelf × (shelf.fault_at ≡ i) ×
       (verdict_before i command shelf.told ≡ Unknown) × IsFileIn (names_of command) i
+  -- nothing before file i is refused, by contents that the files before it may have, told or not
+  pub read_fault_read : (i : ℕ) → status ≡ ReadFault i → MayHold shelf.told (names_of command)
+      (λ contents. verdict_of command (first_told (i - 1) contents) ≡ Unknown)
   -- a write fault: out failed, and took a prefix of the output
   pub write_fault : status ≡ WriteFault → HasSinkFailed out ×
       IsBegunIfTold (told_verdict command shelf.told) out.taken out.taken_after

@@ -29,6 +29,7 @@ use Rattle.ember_words.specs.declared.command.Command.TheVariants as command
 use Rattle.ember_words.specs.WordsCommand.{command_of}
 use Rattle.ember_words.specs.Within.{IsWithinLimits}
 use Rattle.ember_words.proofs.Limited.{read_limits}
+use Rattle.ember_verdict.specs.Held.{MayHold}
 use Rattle.ember_verdict.specs.OfScenes.{IsOfScene}
 use Rattle.ember_verdict.specs.Outputs.{Output, FaceTexts, Counts, MeetingPairs, Lattice, SolidFaces, SolidReport}
 use Rattle.ember_verdict.specs.Reported.{IsErrText, IsReportOfVerdictIfAsked, IsReportOfOutput, asks_report}
@@ -39,9 +40,11 @@ use Rattle.ember_verdict.specs.declared.status.LimitKind.TheVariants.{Bytes, Tri
 use Rattle.ember_verdict.specs.Verdict.{Contents, Verdict, Unknown, Refused, Writes, Slices, after_bytes}
 use Rattle.ember_verdict.specs.Verdict.{after_triangles, after_file, after_balance, after_files, after_scene}
 use Rattle.ember_verdict.specs.Verdict.{after_parse, after_given, after_bounded, after_bounded_expr, after_clear}
-use Rattle.ember_verdict.specs.Verdict.{told_verdict}
+use Rattle.ember_verdict.specs.Verdict.{names_of, told_verdict, verdict_of}
 use Rattle.ember_verdict.proofs.NoneLoose.{balanced_if_none}
 use Rattle.ember_verdict.proofs.OneTexts.{output_one, report_one, slice_one}
+use Rattle.ember_verdict.proofs.ToldVerdicts.{verdict_told}
+use Rattle.ember_verdict.proofs.Verdicts.{known_then}
 
 -- ---- the meshes of a scene, one after another
 -- the triangles of `count` closed meshes
@@ -212,11 +215,21 @@ report_if_one true (Refused status) one other s n a b = absurd a
 report_if_one true (Writes output) one other s n a b = line_one output one other s a b
 report_if_one true (Slices at bytes) one other s n a b = absurd a
 
+-- a report of contents that the files may have is that of the verdict by what is told, if that isn't unknown
+report_known : (given : Option Command) (told : List ℕ → Option (List ℕ)) (line : List ℕ) →
+    told_verdict given told ≢ Unknown → MayHold told (names_of given)
+    (λ contents. IsReportOfVerdictIfAsked (asks_report given) (verdict_of given contents) line) →
+    IsReportOfVerdictIfAsked (asks_report given) (told_verdict given told) line
+report_known given told line n h =
+    subst (λ (v : Verdict). IsReportOfVerdictIfAsked (asks_report given) v line)
+    (known_then (told_verdict given told) (verdict_of given (map Some h.0)) n (verdict_told given told h.0 h.1)) h.2
+
 err_text_one : (given : Option Command) (told : List ℕ → Option (List ℕ)) (status : Status) (one other : List ℕ) →
     HasScene (told_verdict given told) → told_verdict given told ≢ Unknown → IsErrText given told status one →
     IsErrText given told status other → one ≡ other
 err_text_one given told Done one other s n a b =
-    report_if_one (asks_report given) (told_verdict given told) one other s n a b
+    report_if_one (asks_report given) (told_verdict given told) one other s n (report_known given told one n a)
+    (report_known given told other n b)
 err_text_one given told status one other s n a b = a ∙ sym b
 
 -- an input and a status have one text on err

@@ -148,6 +148,7 @@ memory_is_no_reply_to_any verdict names shelf = record {
   in_file = λ i e. absurd (none_some e);
   one_of = λ i e. absurd (none_some e);
   read_fault = λ i e. absurd (cc);
+  nothing_before = λ i e. absurd (cc);
   memory = refl;
   never = (λ e. absurd (cc), λ e. absurd (cc), λ e. absurd (cc));
 }
@@ -218,6 +219,7 @@ expression_is_no_reply after next places m names shelf status count no_reply =
       in_file = λ i e. absurd (expression_no_file status i kind e);
       one_of = λ i e. absurd (expression_no_file status i kind e);
       read_fault = λ i e. absurd (subst (λ (status : Status). IsOfExpression status) e kind);
+      nothing_before = λ i e. absurd (subst (λ (status : Status). IsOfExpression status) e kind);
       memory = expression_memory status kind;
       never = (
         λ e. subst (λ (status : Status). IsOfExpression status) e kind,
@@ -238,6 +240,7 @@ expression_alone_is_no_reply verdict names shelf status no_reply =
       in_file = λ i e. absurd (expression_no_file status i kind e);
       one_of = λ i e. absurd (expression_no_file status i kind e);
       read_fault = λ i e. absurd (subst (λ (status : Status). IsOfExpression status) e kind);
+      nothing_before = λ i e. absurd (subst (λ (status : Status). IsOfExpression status) e kind);
       memory = expression_memory status kind;
       never = (
         λ e. subst (λ (status : Status). IsOfExpression status) e kind,
@@ -280,6 +283,11 @@ scene_is_no_reply after next places m names shelf status t count given no_reply 
             (length_told (i - 1) contents ∙ all ∙ count) ∙ f.2,
         f.3,
       );
+      nothing_before = λ i e.
+          held_then shelf.told names (λ contents. after_scene places (first_told (i - 1) contents) (next m t) ≡ Unknown)
+          (λ contents. asks after next places (first_told (i - 1) contents) ≡ Unknown)
+          (λ contents l h. scene_asked after next places m t given (first_told (i - 1) contents)
+          (length_told (i - 1) contents ∙ l ∙ count) ∙ h) (s.nothing_before i e);
       memory = s.memory;
       never = s.never;
     }
@@ -296,6 +304,7 @@ after_no_reply verdict names shelf status kind refused no_read_fault never = rec
   in_file = λ i e. absurd (none_some (sym kind.no_file ∙ e));
   one_of = λ i e. absurd (none_some (sym kind.no_file ∙ e));
   read_fault = λ i e. absurd (no_read_fault i e);
+  nothing_before = λ i e. absurd (no_read_fault i e);
   memory = kind.memory;
   never = never;
 }

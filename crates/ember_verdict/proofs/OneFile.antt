@@ -16,7 +16,7 @@ use Rattle.ember_verdict.specs.Slices.{IsSlice, IsSliceRefusal}
 use Rattle.ember_verdict.specs.Statuses.{IsRefusal, IsRefusalIfTold, IsText, hides_memory, is_refusal, refused_file}
 use Rattle.ember_verdict.specs.Verdict.{Verdict, Unknown, Refused, Writes, Slices, after_bytes, after_file, faces_verdict, file_at}
 use Rattle.ember_verdict.specs.Verdict.{first_told, slice_verdict}
-use Rattle.ember_verdict.proofs.HeldContents.{held_one_then, held_one_told, held_only}
+use Rattle.ember_verdict.proofs.HeldContents.{held_one_then, held_one_told, held_only, some_contents, told_or_empty}
 use Rattle.ember_verdict.proofs.NoReplies.{before_is_refusal, before_no_file, file_is_refusal, same_number}
 use Rattle.ember_verdict.proofs.Verdicts.{bytes_read, refusal_if_told, refusal_is}
 
@@ -51,6 +51,12 @@ one_is_no_reply after name shelf status none refused file memory read_fault neve
             a.2,
             subst (λ (i : ℕ). after (file_at (first_told (i - 1) (shelf.told name ∷ [])) 1) ≡ Unknown) (sym a.0) none,
             only_file name i a.0,
+          );
+      nothing_before = λ i f.
+          let bytes = told_or_empty (shelf.told name) in (
+            bytes ∷ [],
+            some_contents shelf.told (name ∷ []),
+            subst (λ (i : ℕ). after (file_at (first_told (i - 1) (Some bytes ∷ [])) 1) ≡ Unknown) (sym (read_fault i f).0) none,
           );
       memory = memory;
       never = never;

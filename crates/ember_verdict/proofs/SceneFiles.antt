@@ -233,6 +233,38 @@ part_refused_held places told files k number d name parts status next l h e n on
     (subst (λ (name : List ℕ). MayHoldOne (told name) (λ content. (next : List Tri → Verdict) →
     after_mesh places number content next ≡ Refused status)) n one)))
 
+-- only the contents before these files are told
+told_before : (read more : Contents) → first_told (length read) (read ++ more) ≡ read ++ first_told 0 more
+told_before [] more = refl
+told_before (content ∷ read) more = ap (λ (all : Contents). content ∷ all) (told_before read more)
+
+one_unread_held : (places : ℕ) (told : List ℕ → Option (List ℕ)) (names rest : List (List ℕ)) (name : List ℕ) (k : ℕ)
+    (parts : List Closed) (next : List Tri → Verdict) → length names ≡ k → HaveParts places told names parts →
+    MayHold told (names ++ name ∷ rest) (λ contents. after_scene places (first_told k contents) next ≡ Unknown)
+one_unread_held places told names rest name k parts next count h =
+    let others = map (λ name. told_or_empty (told name)) (name ∷ rest) in
+    let parted = h.2 in
+    let read = map Some h.0 in
+    let first : length read ≡ k = held_count told names h.0 h.1 ∙ count in (
+      h.0 ++ others,
+      contents_joined told names (name ∷ rest) h.0 others h.1 (some_contents told (name ∷ rest)),
+      ap (λ (contents : Contents). after_scene places (first_told k contents) next) (map-append Some h.0 others)
+          ∙ ap (λ (n : ℕ). after_scene places (first_told n (read ++ map Some others)) next) (sym first)
+          ∙ ap (λ (contents : Contents). after_scene places contents next) (told_before read (map Some others))
+          ∙ parted.same (first_told 0 (map Some others)) next,
+    )
+
+part_unread_held : (places : ℕ) (told : List ℕ → Option (List ℕ)) (files : List (List ℕ)) (k i : ℕ) (d : List ℕ)
+    (parts : List Closed) (next : List Tri → Verdict) → k < length files → HaveParts places told (take k files) parts →
+    i ≡ k + 1 → MayHold told files (λ contents. after_scene places (first_told (i - 1) contents) next ≡ Unknown)
+part_unread_held places told files k i d parts next l h e =
+    let r = files_after files k d l in
+    let n : i - 1 ≡ k = omega (arith, e) in
+    subst (λ (n : ℕ). MayHold told files (λ contents. after_scene places (first_told n contents) next ≡ Unknown)) (sym n)
+    (subst (λ (names : List (List ℕ)). MayHold told names (λ contents. after_scene places (first_told k contents) next ≡ Unknown))
+    (sym r.1)
+    (one_unread_held places told (take k files) r.0 (get_or files k d) k parts next (take_count files k l) h))
+
 -- a file that can't be read as a mesh stops the scene
 pub part_is_no_scene : (places : ℕ) (files : List (List ℕ)) (k number : ℕ) (d name : List ℕ) (parts : List Closed)
     (shelf : ShelfCall) (status : Status) → k < length files → HaveParts places shelf.told (take k files) parts →
@@ -253,6 +285,7 @@ part_is_no_scene places files k number d name parts shelf status l h e n no_file
       read_fault = λ i f.
           let a = no_file.read_fault i f in
           (a.1, a.2, part_unread places told files k i parts next l h (a.0 ∙ e), this_file files k i l (a.0 ∙ e));
+      nothing_before = λ i f. part_unread_held places told files k i d parts next l h ((no_file.read_fault i f).0 ∙ e);
       memory = no_file.memory;
       never = no_file.never;
     }

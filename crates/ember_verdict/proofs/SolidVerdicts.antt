@@ -13,6 +13,7 @@ use Rattle.ember_verdict.specs.declared.status.Status.TheVariants.{MeshRefused, 
 use Rattle.ember_verdict.specs.declared.status.Status.TheVariants.{FaceRefused, OutOfMemory}
 use Rattle.ember_verdict.specs.Outputs.{SolidFaces, SolidReport}
 use Rattle.ember_verdict.specs.Reported.{IsErrText, IsReportOfVerdict, IsReportOfVerdictIfAsked, asks_report}
+use Rattle.ember_verdict.specs.Held.{MayHold}
 use Rattle.ember_verdict.specs.Lines.{text_on_err}
 use Rattle.ember_words.specs.declared.command.Command.{Command}
 use Rattle.std.specs.declared.option.Option.{Option}
@@ -20,11 +21,10 @@ use Rattle.ember_verdict.specs.Statuses.{IsText}
 use Rattle.ember_verdict.specs.NoReplies.{IsNoReplyToExpression}
 use Rattle.ember_verdict.specs.Solids.{IsReportTextIfAsked, IsReportText, IsSolidFile, line_if_asked}
 use Rattle.ember_gen.specs.Scene.{scene_of}
-use Rattle.ember_verdict.specs.Verdict.{Contents, Verdict, Unknown, Refused, Writes, Slices, after_bounded, after_expr}
+use Rattle.ember_verdict.specs.Verdict.{Contents, Verdict, Refused, Writes, after_bounded, after_expr}
 use Rattle.ember_verdict.specs.Verdict.{after_scene, after_bounded_expr, bool_verdict, demo_verdict, names_of}
-use Rattle.ember_verdict.specs.Verdict.{told_verdict}
+use Rattle.ember_verdict.specs.Verdict.{verdict_of}
 use Rattle.ember_verdict.proofs.SceneVerdicts.{ExprRead, SceneRead, after_read, scene_text}
-use Rattle.ember_verdict.proofs.Verdicts.{IsSameIfTold}
 
 -- ---- bounded expressions
 not_true : (b : Bool) → true ≡ not b → b ≡ false
@@ -90,15 +90,6 @@ pub solid_written : (expr : List ℕ) (places m : ℕ) (contents : Contents) (fo
 solid_written expr places m contents formula tris bytes count given scene is =
     scene_text (after_bounded_expr expr) places m contents count formula tris bytes (λ formula tris. Writes (SolidFaces tris formula)) given scene is
 
--- a report of the verdict by all contents is one if only a part of them is known
-pub report_told : (asked : Bool) (line : List ℕ) (u v : Verdict) → IsSameIfTold u v →
-    IsReportOfVerdictIfAsked asked v line → IsReportOfVerdictIfAsked asked u line
-report_told false line u v e f = f
-report_told true line Unknown v e f = tt
-report_told true line (Refused refusal) v e f = subst (λ v. IsReportOfVerdict v line) (sym e) f
-report_told true line (Writes output) v e f = subst (λ v. IsReportOfVerdict v line) (sym e) f
-report_told true line (Slices at bytes) v e f = subst (λ v. IsReportOfVerdict v line) (sym e) f
-
 -- the report of the scene is the one that `bool` asks for
 pub solid_reported : (reported : Bool) (expr : List ℕ) (places m : ℕ) (contents : Contents) (formula : Formula)
     (tris : List Tri) (line : List ℕ) → length contents ≡ m → ExprRead (after_bounded_expr expr) m formula →
@@ -115,7 +106,8 @@ solid_reported false expr places m contents formula tris line count given scene 
 
 -- the text on standard error of a call with this status
 pub err_text : (command : Option Command) (told : List ℕ → Option (List ℕ)) (status : Status) (lines : List ℕ) →
-    (status ≡ Done → IsReportOfVerdictIfAsked (asks_report command) (told_verdict command told) lines) →
+    (status ≡ Done → MayHold told (names_of command)
+    (λ contents. IsReportOfVerdictIfAsked (asks_report command) (verdict_of command contents) lines)) →
     IsErrText command told status (text_on_err (names_of command) status lines)
 err_text command told Done lines h = h refl
 err_text command told Words lines h = refl

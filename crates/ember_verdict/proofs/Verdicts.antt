@@ -1,5 +1,5 @@
 -- What follows on a step of a verdict, and what the reading of a file says of it.
-use Rattle.std.proofs.Common.{◌≡◌, ℕ, ◌<◌, ◌≤◌, true, false, List, length, nat_le, Some, Result, Ok, Err, IfErr}
+use Rattle.std.proofs.Common.{◌≡◌, ◌≢◌, ℕ, ◌<◌, ◌≤◌, true, false, List, length, nat_le, Some, Result, Ok, Err, IfErr}
 use Rattle.std.proofs.Common.{refl, sym, ap, subst, arith, leb, ◌⊎◌, inl, inr, ◌∙◌}
 use Rattle.std.specs.Prelude.{⊤}
 use Rattle.std.proofs.lemmas.Bool.{le-leb}
@@ -58,6 +58,13 @@ untold_then Unknown v e f = refl
 untold_then (Refused refusal) v e f = e ∙ f
 untold_then (Writes output) v e f = e ∙ f
 untold_then (Slices at bytes) v e f = e ∙ f
+
+-- a verdict that is told is the same
+pub known_then : (u v : Verdict) → u ≢ Unknown → IsSameIfTold u v → v ≡ u
+known_then Unknown v n e = absurd (n refl)
+known_then (Refused refusal) v n e = sym e
+known_then (Writes output) v n e = sym e
+known_then (Slices at bytes) v n e = sym e
 
 -- a verdict that refuses is this refusal
 pub refusal_is : (status : Status) (v : Verdict) → v ≡ Refused status → IsRefusal status v

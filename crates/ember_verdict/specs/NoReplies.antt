@@ -47,6 +47,9 @@ pub record IsNoReply (verdict : Contents → Verdict) (names : List (List ℕ)) 
   -- if file i can't be read, nothing before it is refused: the first i - 1 files are told
   pub read_fault : (i : ℕ) → status ≡ ReadFault i → HasShelfFailed shelf × (shelf.fault_at ≡ i) ×
       (verdict (first_told (i - 1) (map shelf.told names)) ≡ Unknown) × IsFileIn names i
+  -- the same by contents that the files may have, told or not
+  pub nothing_before : (i : ℕ) → status ≡ ReadFault i → MayHold shelf.told names
+      (λ contents. verdict (first_told (i - 1) contents) ≡ Unknown)
   pub memory : hides_memory status ≡ false
   pub never : (status ≢ Done) × (status ≢ Words) × (status ≢ WriteFault)
 
