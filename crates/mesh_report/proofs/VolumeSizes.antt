@@ -1,5 +1,5 @@
 -- How large the numbers are of which a volume is shown, and its text
-use Rattle.std.proofs.Common.{◌≡◌, ℕ, ◌+◌, ◌*◌, ◌^◌, ◌<◌, ◌≤◌, Bool, true, false, if◌then◌else◌, codes, List, ℤ, pos, refl, ◌∙◌, mul-le-mul, arith}
+use Rattle.std.proofs.Common.{◌≡◌, ℕ, ◌+◌, ◌*◌, ◌^◌, ◌<◌, ◌≤◌, Bool, true, false, if◌then◌else◌, codes, ℤ, pos, refl, ◌∙◌, mul-le-mul, arith}
 use Rattle.std.specs.Prelude.{int_lt, nat_le, unsigned_abs}
 use Rattle.std.proofs.lemmas.Bool.Decides.{nat_tests}
 use Rattle.mesh_grid.specs.declared.snap.steps.GridStep.{GridStep}

@@ -1,4 +1,4 @@
-use Rattle.std.proofs.Common.{◌≡◌, ◌<◌, List, length, drop, drop-cons, ℤ, Vec, ℕ, Global, ap, sym, ◌∙◌, to_z, of_z, to_z-of_z, arith}
+use Rattle.std.proofs.Common.{◌≡◌, ◌<◌, length, drop, drop-cons, Vec, ℕ, Global, ap, sym, ◌∙◌, to_z, of_z, to_z-of_z, arith}
 use mir.Syntax.{w64}
 use Rattle.std.proofs.lemmas.Result.{IfOk-weaker}
 use Rattle.mesh_report.specs.ReportObjects.{first_volume, volume_value}

@@ -1,5 +1,4 @@
 use Rattle.std.proofs.Common.{◌≡◌, ℕ, List, Vec, Global, Some, None, option_map, ap, sym, ◌∙◌}
-use Rattle.std.specs.declared.option.Option.{Option}
 use Rattle.std.proofs.lemmas.Result.{IfOk-weaker}
 use Rattle.mesh_report.specs.Said.{place_known, said, status_said}
 use Rattle.mesh_report.proofs.said.status_said.Goals as goal

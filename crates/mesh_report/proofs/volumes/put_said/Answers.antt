@@ -1,4 +1,4 @@
-use Rattle.std.proofs.Common.{◌≡◌, ℕ, ℤ, pos, List, ◌++◌, Bool, true, if◌then◌else◌, ap, sym, ◌∙◌, to_z-of_z, rules}
+use Rattle.std.proofs.Common.{◌≡◌, ℤ, pos, ◌++◌, Bool, true, if◌then◌else◌, ap, sym, ◌∙◌, to_z-of_z, rules}
 use Rattle.std.specs.Prelude.{int_lt}
 use Rattle.mesh_report.specs.Volumes.{inside_out_text, plain_text}
 use Rattle.mesh_report.proofs.Appended.{on_ok_same}

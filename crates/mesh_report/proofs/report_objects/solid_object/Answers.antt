@@ -1,0 +1,26 @@
+use Rattle.std.proofs.Common.{◌≡◌, ℕ, ℤ, List, [], ◌∷◌, ◌++◌, Vec, Global, codes, ap, ◌∙◌}
+use Rattle.std.proofs.lemmas.Result.{IfOk-weaker}
+use Rattle.mesh_report.specs.Objects.{array, object_line, texts_of}
+use Rattle.mesh_report.specs.ReportObjects.{file_objects, rounding_warning, solid_object, turned_warnings}
+use Rattle.mesh_report.proofs.RefusalParts.{entry}
+use Rattle.mesh_report.proofs.report_objects.solid_object.Goals as goal
+
+pub returns : goal.returns
+returns c =
+    let names = c.args.names.now in
+    let out = c.args.output.now in
+    let volumes = c.as_slice-volumes.ensures.value in
+    let rounding = rounding_warning c.args.format out.written in
+    let files_are = c.in_ok-files.ensures
+    ∙ (λ k. array (file_objects names out.grid.step (c.deref.ensures.value k) (c.deref-2.ensures.value k) (volumes k))) in
+    let said = c.in_ok-put_rounding_warning.ensures ∙ ap (λ (ts : List (List ℕ)). ts ++ rounding) c.in_ok-texts.ensures
+    ∙ ap (λ (vs : List ℤ). turned_warnings 1 names out.grid.step vs ++ rounding) volumes in
+    let warnings_are = c.in_ok-warnings.ensures ∙ ap (λ (ts : List (Vec ℕ Global)). array (texts_of ts)) c.deref-3.ensures.value
+    ∙ ap array said in
+    let step = c.keyed.ensures ∙ ap (entry (codes "step")) c.in_ok-step.ensures in
+    let offset = c.keyed-2.ensures ∙ ap (entry (codes "offset")) c.in_ok-offset.ensures in
+    let files = c.keyed-3.ensures ∙ ap (entry (codes "files")) files_are in
+    let result = c.keyed-4.ensures ∙ ap (entry (codes "result")) c.in_ok-result.ensures in
+    let warnings = c.keyed-5.ensures ∙ ap (entry (codes "warnings")) warnings_are in
+    IfOk-weaker c.object_line.result _ (λ (text : Vec ℕ Global). text.items ≡ solid_object names c.args.format out)
+    (λ text is. is ∙ (λ k. object_line (step k ∷ offset k ∷ files k ∷ result k ∷ warnings k ∷ []))) c.object_line.ensures
