@@ -9,8 +9,8 @@ mod voxels;
 
 pub use ember_verdict::{
     FaceFault, LimitKind, Status, accepted_files_are_a_scene, accepted_inputs_have_one_text,
-    clear_points_are_found, counts_along_all_axes_agree, face_files_have_one_reading,
-    faces_of_closed_meshes_are_closed, faces_wind_as_read,
+    clear_points_are_found, counts_along_all_axes_agree, documents_of_solids_can_be_sliced,
+    face_files_have_one_reading, faces_of_closed_meshes_are_closed, faces_wind_as_read,
     inputs_are_accepted_where_they_have_an_output, lattices_sample_the_solid,
     outputs_have_one_text, slices_of_files_have_one_text, slices_of_solids_mean_the_expression,
     solids_are_closed, solids_are_one_where_expressions_agree, solids_have_one_document,

@@ -20,6 +20,7 @@ pub mod OneReading
 pub mod ClosedMeshes
 pub mod SolidFiles
 pub mod SliceFaults
+pub mod SlicedSolids
 pub mod OneTexts
 pub mod NoneLoose
 pub mod AcceptedScenes

@@ -20,7 +20,7 @@ ghost use Rattle.ember_verdict.specs.OfScenes.{IsOfScene};
 ghost use Rattle.ember_verdict.specs.Outputs.{FaceTexts, IsOutput, Output, SolidFaces};
 ghost use Rattle.ember_verdict.specs.Reported.{IsErrText};
 ghost use Rattle.ember_verdict.specs.Statuses.{IsTextIfTold};
-ghost use Rattle.ember_verdict.specs.Slices.{IsSlice};
+ghost use Rattle.ember_verdict.specs.Slices.{IsSlice, IsSliceable, IsSliceRefusal};
 ghost use Rattle.ember_verdict.specs.Solids.{IsClosedFile};
 ghost use Rattle.ember_verdict.specs.Verdict.{Unknown, told_verdict};
 ghost use Rattle.ember_verdict.specs.declared.status.Status.{Status};
@@ -114,4 +114,12 @@ pub fn counts_along_all_axes_agree()
     ensures { (tris : List Tri) (meshes : ℕ) → IsScene tris meshes → (point : Spot) → pos 0 <ℤ point.w →
         list_all (λ t. is_clear_of t point) tris ≡ true → (axis other : Axis) →
         vector axis tris point ≡ vector other tris point }
+{}
+
+/// `slice` never refuses the document of a solid: no face of it is endless at any level.
+pub fn documents_of_solids_can_be_sliced()
+    ensures sliceable { (tris : List Tri) (f : Formula) (bytes : List ℕ) → IsOutput (SolidFaces tris f) bytes →
+        (at : ℤ) → IsSliceable at bytes }
+    ensures accepted { (tris : List Tri) (f : Formula) (bytes : List ℕ) → IsOutput (SolidFaces tris f) bytes →
+        (at : ℤ) (status : Status) → IsSliceRefusal at bytes status → ⊥ }
 {}

@@ -21,9 +21,10 @@ pub use expression::{parse_bounded, parse_text, parse_union};
 pub use faces::faces_output;
 pub use law::{
     accepted_inputs_have_one_text, clear_points_are_found, counts_along_all_axes_agree,
-    face_files_have_one_reading, faces_of_closed_meshes_are_closed, faces_wind_as_read,
-    outputs_have_one_text, slices_of_files_have_one_text, solids_are_closed,
-    solids_have_one_document, workers_change_no_verdict,
+    documents_of_solids_can_be_sliced, face_files_have_one_reading,
+    faces_of_closed_meshes_are_closed, faces_wind_as_read, outputs_have_one_text,
+    slices_of_files_have_one_text, solids_are_closed, solids_have_one_document,
+    workers_change_no_verdict,
 };
 pub use lines::{say_out_of_memory, say_status, say_words_refused};
 pub use one_solid::{
