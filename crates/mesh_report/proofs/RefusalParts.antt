@@ -21,6 +21,7 @@ module _ (number : ℕ) (file known : Option (List ℕ)) (why : List ℕ) where
       f ≡ entry (codes "file") (optional file) → p ≡ entry (codes "place") (optional chosen) →
       r ≡ entry (codes "reason") (quoted reason) → m ≡ entry (codes "remedy") (optional remedy) →
       object_line (s ∷ f ∷ p ∷ r ∷ m ∷ []) ≡ refusal_object number file known why
+  unfolding refusal_object
   refusal_of_entries place remedy chosen rest reason s f p r m parts said is es ef ep er em =
       let place_is = ap (λ (x : Option (List ℕ) × List ℕ). x.0) parts in
       let rest_is = ap (λ (x : Option (List ℕ) × List ℕ). x.1) parts in

@@ -77,7 +77,7 @@ reason_and_remedy (remedy ∷ others) text =
 
 -- ---- the object
 -- of a line with this text: the exit status, the file, the place in the text or the known one, the reason and the remedy
-abbrev pub refusal_object : ℕ → Option (List ℕ) → Option (List ℕ) → List ℕ → List ℕ
+unfoldable pub refusal_object : ℕ → Option (List ℕ) → Option (List ℕ) → List ℕ → List ℕ
 refusal_object number file known why =
     let parts = parts_of file why in
     let said = reason_and_remedy remedies parts.1 in
