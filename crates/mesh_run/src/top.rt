@@ -1,11 +1,9 @@
 // The top call. `run_mesh` and `run_mesh_one` make the *executors*: the closure that runs the boxes of
 // a query (query.rt of ember_query), and the one that answers for lines and planes (query.rt of
 // mesh_triangles).
-ghost use Rattle.std.specs.Prelude.{◌≡◌, ◌≤◌, ℕ, List, false, None, Ok, IfOk, map, string_bytes};
+ghost use Rattle.std.specs.Prelude.{◌≡◌, ◌≤◌, ℕ, List, false, None, IfOk, map, string_bytes};
 ghost use Rattle.ember_query.specs.Queries.{IsAnswer, IsExecutorOfAny, IsQuery};
 ghost use Rattle.mesh_triangles.specs.PlaneQueries.{IsPlaneAnswer, IsPlaneExecutorOfAny, IsPlaneQuery};
-ghost use Rattle.mesh_words.specs.Arguments.{words_ask_json};
-ghost use Rattle.mesh_words.specs.Commands.{command_of};
 ghost use Rattle.mesh_run.specs.Calls.{TakesUntilFault, shelf_call, sink_call, target_call};
 ghost use Rattle.mesh_run.specs.Memory.{hides_memory};
 ghost use Rattle.mesh_run.specs.Serves.{IsWordsOutcome, MeshServes};
@@ -54,75 +52,10 @@ fn refuse_words<E: Sink>(
     }
 }
 
-// Does what a command asks for, by an executor with the workers that it asks for.
+// Does what the words ask for, by an executor with the workers that they ask for.
 //
 // The closures here fix the number of workers. In their clauses, `x.entry` is `x` as the closure was
 // given it, and `.now` is what a reference points to.
-fn serve<
-    S: Shelf,
-    T: Target,
-    O: Sink,
-    E: Sink,
-    P: Stages,
-    C: Fn(u32, &Query) -> Result<Answer, OutOfMemory>,
-    D: Fn(u32, &PlaneQuery) -> Result<PlaneAnswer, TrianglesFault>,
->(
-    alloc: Global,
-    json: bool,
-    words: &[String],
-    command: Command,
-    shelf: &mut S,
-    target: &mut T,
-    out: &mut O,
-    err: &mut E,
-    stages: &P,
-    executor: &C,
-    plane_executor: &D,
-) -> Status
-    requires json { json ≡ words_ask_json (map string_bytes words.now) }
-    requires command { command_of (map string_bytes words.now) ≡ Ok command }
-    requires begun { T.begun target.old ≡ None }
-    requires executor { IsExecutorOfAny C.pre C.post executor.now }
-    requires plane_executor { IsPlaneExecutorOfAny D.pre D.post plane_executor.now }
-    ensures { MeshServes (map string_bytes words.now)
-        (shelf_call S.contents S.faults S.fault_at S.fault_kind shelf.old shelf.new)
-        (target_call T.held T.begun T.faults target.old target.new)
-        (sink_call O.taken O.flushed O.faults out.old out.new)
-        (sink_call E.taken E.flushed E.faults err.old err.new)
-        result }
-{
-    match command {
-        Command::Boole(request) => {
-            let workers = request.workers;
-            serve_solid(
-                alloc,
-                json,
-                &request,
-                shelf,
-                target,
-                out,
-                err,
-                stages,
-                &|query: &Query| -> Result<Answer, OutOfMemory>
-                    requires { C.pre executor.now workers query }
-                    ensures { C.post executor.entry.now workers query.entry result }
-                { executor(workers, query) },
-                &|query: &PlaneQuery| -> Result<PlaneAnswer, TrianglesFault>
-                    requires { D.pre plane_executor.now workers query }
-                    ensures { D.post plane_executor.entry.now workers query.entry result }
-                { plane_executor(workers, query) },
-            )
-        }
-        Command::Snap(request) => serve_snap(alloc, json, &request, shelf, target, err, stages),
-        Command::Export(request) => serve_export(alloc, json, &request, shelf, target, out, err),
-        Command::Info(names) => serve_infos(alloc, json, &names, shelf, out, err),
-        Command::View(request) => serve_view(alloc, json, &request, shelf, target, err),
-        Command::Help => write_bytes(json, out, err, USAGE.as_bytes()),
-        Command::Version => write_bytes(json, out, err, VERSION.as_bytes()),
-    }
-}
-
-// Does what the words ask for, by an executor with the workers that they ask for.
 fn run_by<
     S: Shelf,
     T: Target,
@@ -154,19 +87,35 @@ fn run_by<
 {
     let json = words_ask_json(words);
     match read_words(alloc, words) {
-        Ok(command) => serve(
-            alloc,
-            json,
-            words,
-            command,
-            shelf,
-            target,
-            out,
-            err,
-            stages,
-            executor,
-            plane_executor,
+        Ok(Command::Boole(request)) => {
+            let workers = request.workers;
+            serve_solid(
+                alloc,
+                json,
+                &request,
+                shelf,
+                target,
+                out,
+                err,
+                stages,
+                &|query: &Query| -> Result<Answer, OutOfMemory>
+                    requires { C.pre executor.now workers query }
+                    ensures { C.post executor.entry.now workers query.entry result }
+                { executor(workers, query) },
+                &|query: &PlaneQuery| -> Result<PlaneAnswer, TrianglesFault>
+                    requires { D.pre plane_executor.now workers query }
+                    ensures { D.post plane_executor.entry.now workers query.entry result }
+                { plane_executor(workers, query) },
+            )
+        }
+        Ok(Command::Snap(request)) => serve_snap(alloc, json, &request, shelf, target, err, stages),
+        Ok(Command::Export(request)) => serve_export(
+            alloc, json, &request, shelf, target, out, err,
         ),
+        Ok(Command::Info(names)) => serve_infos(alloc, json, &names, shelf, out, err),
+        Ok(Command::View(request)) => serve_view(alloc, json, &request, shelf, target, err),
+        Ok(Command::Help) => write_bytes(json, out, err, USAGE.as_bytes()),
+        Ok(Command::Version) => write_bytes(json, out, err, VERSION.as_bytes()),
         Err(WordsFault::Refused(why)) => refuse_words(alloc, json, words, why, err),
         Err(WordsFault::OutOfMemory) => {
             say_out_of_memory(json, err);
@@ -176,7 +125,7 @@ fn run_by<
 }
 
 /// Does what the words ask for, with one worker whatever they say. It waits for nobody, and accepts
-/// all words that `run_mesh` accepts. Of the crates that aren't tests only ember_call calls this.
+/// all words that `run_mesh` accepts. Only tests call this.
 pub fn run_mesh_one<S: Shelf, T: Target, O: Sink, E: Sink, G: Gate + Stages>(
     alloc: Global,
     words: &[String],
