@@ -35,9 +35,7 @@ fn claim_stack(place: usize) -> bool {
 // Whether the words ask for silence, or for JSON, beside which no progress is shown. (A value that is
 // spelled so asks for it too: then no progress is shown, which nobody is promised.)
 fn are_quiet(words: &[String]) -> bool {
-    words
-        .iter()
-        .any(|word| word.as_str() == "--quiet" || word.as_str() == "--json")
+    words.iter().any(|word| word.as_str() == "--quiet" || word.as_str() == "--json")
 }
 
 // The toolchain passes `main` the runtime `rt`: the memory, threads, files and streams of the
