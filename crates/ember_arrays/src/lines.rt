@@ -10,7 +10,7 @@ use ember_words::{Text, Texts};
 use itoa::Buffer;
 use mesh_boolean::BooleanFault;
 use mesh_file::{FileFault, Format, put_reason};
-use mesh_report::{Status, line_of, refusal_line};
+use mesh_report::{Status, solid_said, words_said};
 use mesh_scene::SceneFault;
 use mesh_words::{Destination, OutputFormat, Request, WantedStep};
 use std::alloc::{AllocError, Global};
@@ -111,7 +111,7 @@ pub(crate) fn status_line(
     ensures { IfOk result (λ text. text.items ≡ status_text request.now status.now) }
 {
     match status {
-        Status::Words(why) => refusal_line(alloc, &[], *why),
-        _ => line_of(alloc, request, status),
+        Status::Words(why) => words_said(alloc, false, &[], *why),
+        _ => solid_said(alloc, false, request, status),
     }
 }

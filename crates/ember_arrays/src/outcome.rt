@@ -10,7 +10,7 @@ use crate::solid::{ArraySolid, array_solid};
 use mesh_boolean::BooleanFault;
 use mesh_file::FileFault;
 use mesh_ply::PlyFault;
-use mesh_report::{Status, report_of};
+use mesh_report::{Status, solid_report};
 use mesh_scene::SceneFault;
 use mesh_words::{Request, WantedStep};
 use std::alloc::{AllocError, Global};
@@ -132,7 +132,7 @@ fn reported(
     let Ok(words) = words_of(alloc, request, step) else {
         return no_memory(alloc);
     };
-    match report_of(alloc, &words, &solid.file) {
+    match solid_report(alloc, false, &words, &solid.file) {
         Ok(line) => ArrayOutcome {
             status: 0,
             mesh: 0,

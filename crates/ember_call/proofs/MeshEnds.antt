@@ -1,5 +1,5 @@
 -- How a call of `ember-mesh` ends over lent files, if no memory was lacking
-use Rattle.std.proofs.Common.{◌≡◌, ◌≢◌, ◌<◌, ℕ, List, [], Some, None, Ok, refl, sym, ap, ◌∙◌, subst, arith, unwrap_or, inl, inr}
+use Rattle.std.proofs.Common.{◌≡◌, ◌≢◌, ◌<◌, Bool, ℕ, List, [], Some, None, Ok, refl, sym, ap, ◌∙◌, subst, arith, unwrap_or, inl, inr}
 use Rattle.std.specs.Prelude.{Vec}
 use Rattle.std.specs.declared.alloc.Global.{Global}
 use Rattle.std.specs.declared.option.Option.{Option}
@@ -15,6 +15,7 @@ use Rattle.mesh_solid.specs.declared.mesh.fault.DocumentFault.{DocumentFault}
 use Rattle.mesh_solid.specs.declared.mesh.fault.DocumentFault.TheVariants as document
 use Rattle.mesh_triangles.specs.declared.fault.TrianglesFault.{TrianglesFault}
 use Rattle.mesh_triangles.specs.declared.fault.TrianglesFault.TheVariants as triangles
+use Rattle.mesh_words.specs.Arguments.{words_ask_json}
 use Rattle.mesh_words.specs.Commands.{command_of}
 use Rattle.mesh_words.specs.declared.command.Command.TheVariants.{Boole}
 use Rattle.mesh_words.specs.declared.command.Request.{Request}
@@ -63,15 +64,15 @@ ends_over words files after faults fault_at written begun out err out_flushed er
       fault_at = fault_at;
       out_flushed = out_flushed;
       outcome =
-          subst (λ said. IsOutcome words (command_of words) (mesh_shelf_over files faults fault_at) (target_with written)
+          subst (λ said. IsOutcome (words_ask_json words) words (command_of words) (mesh_shelf_over files faults fault_at) (target_with written)
           (mesh_sink_with out out_flushed) s said) (sym (all_is_said h.text err err_flushed err_faults e h.said))
-          (subst (λ n. IsOutcome words (command_of words) (mesh_shelf_over files faults fault_at) (target_with written)
+          (subst (λ n. IsOutcome (words_ask_json words) words (command_of words) (mesh_shelf_over files faults fault_at) (target_with written)
           (sink_after out out_flushed n) s h.text) o
-          (subst (λ n. IsOutcome words (command_of words) (mesh_shelf_over files faults fault_at) (target_after written None n)
+          (subst (λ n. IsOutcome (words_ask_json words) words (command_of words) (mesh_shelf_over files faults fault_at) (target_after written None n)
           (sink_after out out_flushed out_faults) s h.text) t
-          (subst (λ b. IsOutcome words (command_of words) (mesh_shelf_over files faults fault_at) (target_after written b target_faults)
+          (subst (λ b. IsOutcome (words_ask_json words) words (command_of words) (mesh_shelf_over files faults fault_at) (target_after written b target_faults)
           (sink_after out out_flushed out_faults) s h.text) h.none_begun
-          (subst (λ told. IsOutcome words (command_of words)
+          (subst (λ told. IsOutcome (words_ask_json words) words (command_of words)
           (record { told = contents_of files; told_after = told; faults = 0; faults_after = faults; fault_at = fault_at; fault_kind = NotFound })
           (target_after written begun target_faults) (sink_after out out_flushed out_faults) s h.text) h.contents.same h.outcome))));
       memory = h.memory;
@@ -207,20 +208,20 @@ is_done (status.Uncertified fault) e = absurd (cc)
 
 -- ---- a Boolean that is done
 -- standard output has what was sent to it, and nothing else; and what is said is the report
-sent_is_taken : (sent : Option (List ℕ)) (report said bytes : List ℕ) (flushed : ℕ) →
-    IsSent sent report (mesh_sink_with bytes flushed) status.Done said → (bytes ≡ unwrap_or sent []) × (said ≡ report)
-sent_is_taken None report said bytes flushed h = (ap (λ o. unwrap_or o []) h.2, h.1)
-sent_is_taken (Some mesh) report said bytes flushed h = (h.0.taken, h.1)
+sent_is_taken : (json : Bool) (sent : Option (List ℕ)) (report said bytes : List ℕ) (flushed : ℕ) →
+    IsSent json sent report (mesh_sink_with bytes flushed) status.Done said → (bytes ≡ unwrap_or sent []) × (said ≡ report)
+sent_is_taken json None report said bytes flushed h = (ap (λ o. unwrap_or o []) h.2, h.1)
+sent_is_taken json (Some mesh) report said bytes flushed h = (h.0.taken, h.1)
 
 done_has_solid : (words : List (List ℕ)) (files : List (List ℕ × List ℕ)) (outcome : Outcome) (request : Request) → IsMeshDone words files outcome
-    → command_of words ≡ Ok (Boole request) → HasSolid request files outcome
+    → command_of words ≡ Ok (Boole request) → HasSolid (words_ask_json words) request files outcome
 done_has_solid words files outcome request is e =
     let ends = is.ends in
-    let made = subst (λ c. IsOutcome words c (mesh_shelf_over files ends.faults ends.fault_at)
+    let made = subst (λ c. IsOutcome (words_ask_json words) words c (mesh_shelf_over files ends.faults ends.fault_at)
     (target_with (names_and_bytes outcome.files.items)) (mesh_sink_with outcome.out.items ends.out_flushed)
     status.Done outcome.err.items) e ends.outcome in
     let puts = made.puts in
-    let taken = sent_is_taken made.sent made.report outcome.err.items outcome.out.items ends.out_flushed made.is_sent in
+    let taken = sent_is_taken (words_ask_json words) made.sent made.report outcome.err.items outcome.out.items ends.out_flushed made.is_sent in
     record {
       there = told_files_are_there files request.files puts.is_output.of_files.files puts.is_output.of_files.are_files;
       output = puts.output;
@@ -236,7 +237,8 @@ done_has_solid words files outcome request is e =
 -- ---- outcomes
 -- with status 0 a Boolean has its solid
 pub outcome_has_solid : (words : List (List ℕ)) (files : List (List ℕ × List ℕ)) (outcome : Outcome) → IsMeshOutcome words files outcome →
-    outcome.status ≡ 0 → (request : Request) → command_of words ≡ Ok (Boole request) → HasSolid request files outcome
+    outcome.status ≡ 0 → (request : Request) → command_of words ≡ Ok (Boole request) →
+    HasSolid (words_ask_json words) request files outcome
 outcome_has_solid words files outcome (inl done) is_zero request e = done_has_solid words files outcome request done e
 outcome_has_solid words files outcome (inr (inl refused)) is_zero request e =
     absurd (refused.not_done (is_done refused.status (sym refused.refusal.number ∙ is_zero)))

@@ -1,5 +1,5 @@
 -- What a call of `ember-mesh` gives
-use Rattle.std.specs.Prelude.{◌≡◌, ◌≢◌, ◌⊎◌, ℕ, ◌+◌, ◌-◌, ◌^◌, min, List, [], All, IsSome, None, Some, false}
+use Rattle.std.specs.Prelude.{◌≡◌, ◌≢◌, ◌⊎◌, Bool, ℕ, ◌+◌, ◌-◌, ◌^◌, min, List, [], All, IsSome, None, Some, false}
 use Rattle.std.specs.Prelude.{Vec, unwrap_or}
 use Rattle.std.specs.declared.alloc.Global.{Global}
 use Rattle.ember_call.specs.declared.outcome.Outcome.{Outcome}
@@ -12,7 +12,7 @@ use Rattle.mesh_boolean.specs.declared.output.SolidFile.{SolidFile}
 use Rattle.mesh_outside.specs.declared.target.several.NamedFile.{NamedFile}
 use Rattle.mesh_outside.specs.Target.Several.{NamedBytes, PutsEach, names_and_bytes}
 use Rattle.mesh_report.specs.Numbers.{number_of}
-use Rattle.mesh_report.specs.Reports.{report_of}
+use Rattle.mesh_report.specs.Said.{solid_report}
 use Rattle.mesh_report.specs.declared.status.Status.{Status}
 use Rattle.mesh_report.specs.declared.status.Status.TheVariants.{Done, ReadFault, FileRefused, NotAScene}
 use Rattle.mesh_report.specs.declared.status.Status.TheVariants.{NotClosed, LongFile}
@@ -21,6 +21,7 @@ use Rattle.mesh_run.specs.Memory.{hides_memory}
 use Rattle.mesh_run.specs.Outputs.{IsOutputFor}
 use Rattle.mesh_run.specs.Serves.{IsOutcome}
 use Rattle.mesh_run.specs.Writes.{AreSolidFiles, sent_to}
+use Rattle.mesh_words.specs.Arguments.{words_ask_json}
 use Rattle.mesh_words.specs.Commands.{command_of}
 use Rattle.mesh_words.specs.declared.command.Request.{Request}
 
@@ -78,8 +79,8 @@ pub record MeshEndsWith (words : List (List ℕ)) (files : List (List ℕ × Lis
   pub faults : ℕ
   pub fault_at : ℕ
   pub out_flushed : ℕ
-  pub outcome : IsOutcome words (command_of words) (mesh_shelf_over files faults fault_at) (target_with written)
-      (mesh_sink_with out out_flushed) status said
+  pub outcome : IsOutcome (words_ask_json words) words (command_of words) (mesh_shelf_over files faults fault_at)
+      (target_with written) (mesh_sink_with out out_flushed) status said
   pub memory : hides_memory status ≡ false
 
 -- it does what the words ask for
@@ -151,8 +152,8 @@ IsMeshOutcome words files outcome = IsMeshDone words files outcome ⊎
 
 -- ---- a Boolean
 -- all files of the request are there; the files of the solid that it asks for are written, and nothing else; and
--- standard error has the report
-pub record HasSolid (request : Request) (files : List (List ℕ × List ℕ)) (outcome : Outcome) : Type 0 where
+-- standard error has the report, as lines or as an object
+pub record HasSolid (json : Bool) (request : Request) (files : List (List ℕ × List ℕ)) (outcome : Outcome) : Type 0 where
   pub there : All (λ name. IsSome (first_of files name)) request.files
   pub output : SolidFile
   pub is_output : IsOutputFor request (contents_of files) output
@@ -162,4 +163,4 @@ pub record HasSolid (request : Request) (files : List (List ℕ × List ℕ)) (o
   pub own_names : HaveOwnNames (names_and_bytes outcome.files.items)
   -- standard output has the mesh, if it goes there, and nothing else
   pub out : outcome.out.items ≡ unwrap_or (sent_to request.output output.written.bytes.items) []
-  pub report : outcome.err.items ≡ report_of request output
+  pub report : outcome.err.items ≡ solid_report json request output

@@ -1,5 +1,6 @@
 // The program `ember-mesh` as a function.
 ghost use Rattle.std.specs.Prelude.{◌≡◌, ◌≢◌, [], None, Ok, false, map, string_bytes};
+ghost use Rattle.mesh_words.specs.Arguments.{words_ask_json};
 ghost use Rattle.mesh_words.specs.Commands.{command_of};
 ghost use Rattle.mesh_words.specs.declared.command.Command.TheVariants.{Boole};
 ghost use Rattle.mesh_words.specs.declared.command.Request.{Request};
@@ -122,7 +123,8 @@ fn mesh_outcome_of(alloc: Global, words: &[String], files: &[LentFile]) -> Outco
 /// Does what `ember-mesh WORDS..` does in a folder with exactly these files: of those with one name the
 /// first counts. It uses one thread, whatever the words say.
 ///
-/// With a status above 0 nothing is written, and `err` has the line of the status; but not if a word
+/// With a status above 0 nothing is written, and `err` has the line of the status, or its object of JSON if a word is
+/// `--json`; but not if a word
 /// isn't text (status 13), and maybe not for want of memory (12).
 #[tactic(auto, using(crate::proofs::MeshEnds::outcome_has_solid, crate::proofs::MeshEnds::mesh_outcome_is_empty))]
 pub fn mesh_command(alloc: Global, words: &[Lent], files: &[LentFile]) -> Outcome
@@ -130,7 +132,8 @@ pub fn mesh_command(alloc: Global, words: &[Lent], files: &[LentFile]) -> Outcom
 
     // With status 0 a Boolean has the solid that its words ask for.
     ensures solid { result.status ≡ 0 → (request : Request) →
-        command_of (word_bytes words.now) ≡ Ok (Boole request) → HasSolid request (named_bytes files.now) result }
+        command_of (word_bytes words.now) ≡ Ok (Boole request) →
+        HasSolid (words_ask_json (word_bytes words.now)) request (named_bytes files.now) result }
 
     ensures nothing { result.status ≢ 0 → (result.out.items ≡ []) × (result.files.items ≡ []) }
 {
