@@ -1,5 +1,5 @@
 // Blocks that the caller owns.
-ghost use Rattle.std.specs.Prelude.{◌≡◌, IfOk, length, vec_len, vec_ptr};
+ghost use Rattle.std.specs.Prelude.{◌≡◌, IfOk, vec_len};
 
 use mesh_outside::NamedFile;
 use std::alloc::{AllocError, Global};

@@ -9,7 +9,7 @@ mod step;
 
 ghost use Rattle.std.specs.Prelude.{◌≡◌, ◌++◌, length, min, take, drop};
 ghost use Rattle.ember_c.specs.Answers.{AnswersCall, AnswersMeshCall};
-ghost use Rattle.ember_c.specs.Solids.{AnswersArrays};
+ghost use Rattle.ember_c.specs.Solids.{AnswersArrays, digits_of};
 ghost use Rattle.ember_call.specs.Lent.{named_bytes, word_bytes};
 
 use crate::answer::{Answer, answer_of};
@@ -64,6 +64,39 @@ pub extern "C" fn ember_command(
 /// `EMBER_DIGITS` of the header: the step decides how many decimal places there are.
 const DIGITS_OF_STEP: u32 = u32::MAX;
 
+// The decimal places of this number, if it is one of them.
+fn digits_in(digits: u32) -> Option<u32>
+    ensures { result ≡ digits_of digits }
+{
+    if digits == DIGITS_OF_STEP {
+        None
+    } else {
+        Some(digits)
+    }
+}
+
+// The solid of an expression over meshes in arrays, as C gets it.
+fn made_solid(
+    alloc: Global,
+    meshes: &[ArrayMesh],
+    expression: &[u8],
+    step: &[u8],
+    digits: u32,
+) -> Solid
+    ensures { AnswersArrays meshes.now expression.now step.now digits result }
+{
+    let request = ArrayRequest {
+        meshes,
+        expression,
+        digits: digits_in(digits),
+    };
+    match step_in(alloc, step) {
+        Ok(step) => solid_of(boolean(alloc, &request, step)),
+        Err(StepFault::NotUtf8) => nothing_made(NO_TEXT),
+        Err(StepFault::OutOfMemory) => nothing_made(NO_MEMORY),
+    }
+}
+
 /// Makes the solid of an expression over meshes in arrays, and returns the status. `step` is `nice`, `finest` or
 /// a decimal above 0; if it is empty, it stands for `nice`.
 #[unsafe(no_mangle)]
@@ -78,16 +111,7 @@ pub extern "C" fn ember_boolean_with(
     ensures status { result ≡ solid.new.status }
     ensures answer { AnswersArrays meshes.now expression.now step.now digits solid.new }
 {
-    let request = ArrayRequest {
-        meshes,
-        expression,
-        digits: (digits != DIGITS_OF_STEP).then_some(digits),
-    };
-    *solid = match step_in(alloc, step) {
-        Ok(step) => solid_of(boolean(alloc, &request, step)),
-        Err(StepFault::NotUtf8) => nothing_made(NO_TEXT),
-        Err(StepFault::OutOfMemory) => nothing_made(NO_MEMORY),
-    };
+    *solid = made_solid(alloc, meshes, expression, step, digits);
     solid.status
 }
 

@@ -32,10 +32,10 @@ pub fn step_in(alloc: Global, bytes: &[u8]) -> Result<WantedStep, StepFault>
     ensures step { IfOk result (IsStepText bytes.now) }
     ensures not_utf8 { IsErrOf result StepFault.NotUtf8 → ¬ (IsUtf8 bytes.now) }
 {
-    if bytes.is_empty() || bytes == b"nice" {
+    if bytes.is_empty() || bytes == b"nice".as_slice() {
         return Ok(WantedStep::Nice);
     }
-    if bytes == b"finest" {
+    if bytes == b"finest".as_slice() {
         return Ok(WantedStep::Finest);
     }
     let copy = Vec::from_slice(alloc, bytes)?;
