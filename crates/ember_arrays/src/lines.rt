@@ -7,7 +7,6 @@ ghost use Rattle.mesh_report.specs.Lines.{IsShown};
 ghost use Rattle.ember_arrays.specs.Lines.{IsRefusalStatus, IsStatusOf, NamesMesh, name_of, names_to, request_with, status_text};
 
 use ember_words::{Text, Texts};
-use itoa::Buffer;
 use mesh_boolean::BooleanFault;
 use mesh_file::{FileFault, Format, put_reason};
 use mesh_report::{Status, solid_said, words_said};
@@ -58,9 +57,7 @@ pub(crate) fn status_of(alloc: Global, fault: BooleanFault) -> Status
 fn name_of(alloc: Global, number: u32) -> Result<Text, AllocError>
     ensures { IfOk result (λ name. name ≡ name_of number) }
 {
-    let mut name = String::from_str(alloc, "mesh ")?;
-    let mut buffer = Buffer::new();
-    name.push_str(buffer.format(number))?;
+    let name = format!(in alloc; "mesh {number}")?;
     Ok(Text::of(name))
 }
 
