@@ -28,8 +28,8 @@ status_of-requires c =
     named_mesh_is_there c.args.request.now.meshes.now (formula_of c.in-Ok.asked.expr) c.in-Ok.asked.wanted c.args.request.now.digits
     c.in-Err-array_solid.fault c.in-Ok.ensures.asks.few c.in-Err-array_solid.ensures.fault
 
-pub returns-in-Err-array_solid-clause-stop : goal.returns-in-Err-array_solid-clause-stop
-returns-in-Err-array_solid-clause-stop c =
+pub returns-clause-stop : goal.returns-clause-stop
+returns-clause-stop c =
     inr (record {
       wanted = c.in-Ok.asked.wanted;
       formula = formula_of c.in-Ok.asked.expr;
@@ -40,7 +40,7 @@ returns-in-Err-array_solid-clause-stop c =
       place_is = c.place_of-place.ensures;
     })
 
-pub returns-in-Err-array_solid-clause-shown : goal.returns-in-Err-array_solid-clause-shown
-returns-in-Err-array_solid-clause-shown c =
+pub returns-clause-shown : goal.returns-clause-shown
+returns-clause-shown c =
     fault_status_is_shown c.args.request.now.meshes.now (formula_of c.in-Ok.asked.expr) c.in-Ok.asked.wanted c.args.request.now.digits
     c.in-Err-array_solid.fault c.status_of.result c.in-Ok.ensures.asks.few c.in-Err-array_solid.ensures.fault c.status_of.ensures
