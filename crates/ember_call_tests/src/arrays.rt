@@ -7,17 +7,19 @@ use mesh_words::WantedStep;
 use std::alloc::Global;
 use std::test::Fail;
 
+// The mesh with these vertices and triangles.
+fn mesh<'a>(vertices: &'a [[u64; 3]], triangles: &'a [[u32; 3]]) -> ArrayMesh<'a> {
+    ArrayMesh {
+        vertices,
+        triangles,
+    }
+}
+
 // Both boxes.
 fn boxes<'a>() -> [ArrayMesh<'a>; 2] {
     [
-        ArrayMesh {
-            vertices: &LOW_VERTICES,
-            triangles: &TRIANGLES,
-        },
-        ArrayMesh {
-            vertices: &HIGH_VERTICES,
-            triangles: &TRIANGLES,
-        },
+        mesh(&LOW_VERTICES, &TRIANGLES),
+        mesh(&HIGH_VERTICES, &TRIANGLES),
     ]
 }
 
@@ -66,8 +68,7 @@ fn is_refused(given: &ArrayOutcome, status: u32, line: &str) -> bool {
 fn a_coordinate_that_is_not_finite(rt: HostRuntime) -> Result<(), Fail> {
     let mut vertices = HIGH_VERTICES;
     vertices[3][1] = 0x7ff8_0000_0000_0000;
-    let mut meshes = boxes();
-    meshes[1].vertices = &vertices;
+    let meshes = [mesh(&LOW_VERTICES, &TRIANGLES), mesh(&vertices, &TRIANGLES)];
     let given = nice(rt.alloc(), &meshes, b"m1&m2");
     assert_eq!(rt; (given.status, given.mesh, given.place), (5u32, 2u32, 4u32));
     assert!(rt; given.line.starts_with(b"ember-mesh: mesh 2: vertex 4: "));
@@ -78,8 +79,10 @@ fn a_coordinate_that_is_not_finite(rt: HostRuntime) -> Result<(), Fail> {
 fn a_corner_that_is_no_vertex(rt: HostRuntime) -> Result<(), Fail> {
     let mut triangles = TRIANGLES;
     triangles[11][2] = 8;
-    let mut meshes = boxes();
-    meshes[0].triangles = &triangles;
+    let meshes = [
+        mesh(&LOW_VERTICES, &triangles),
+        mesh(&HIGH_VERTICES, &TRIANGLES),
+    ];
     let given = nice(rt.alloc(), &meshes, b"m1&m2");
     assert_eq!(rt;
         (given.status, given.mesh, given.place),
@@ -94,8 +97,7 @@ fn a_coordinate_that_is_too_large(rt: HostRuntime) -> Result<(), Fail> {
     // 10^15, and the double before it.
     let mut vertices = HIGH_VERTICES;
     vertices[0][0] = 0x430c_6bf5_2634_0000;
-    let mut meshes = boxes();
-    meshes[1].vertices = &vertices;
+    let meshes = [mesh(&LOW_VERTICES, &TRIANGLES), mesh(&vertices, &TRIANGLES)];
     let given = nice(rt.alloc(), &meshes, b"m1&m2");
     assert_eq!(rt; (given.status, given.mesh, given.place), (5u32, 2u32, 1u32));
     Ok(())

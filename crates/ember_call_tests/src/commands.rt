@@ -15,22 +15,27 @@ fn words_in<'a>(alloc: Global, line: &'a str) -> Result<Vec<Lent<'a>>, Fail> {
     Ok(words)
 }
 
-// Two boxes; the second file of a name doesn't count.
-fn boxes<'a>(alloc: Global) -> Result<Vec<LentFile<'a>>, Fail> {
+// Two meshes; the second file of a name doesn't count.
+fn meshes<'a>(alloc: Global, a: &'a [u8], b: &'a [u8]) -> Result<Vec<LentFile<'a>>, Fail> {
     let mut files = Vec::new(alloc);
     files.push(LentFile {
         name: b"a.obj",
-        bytes: LOW,
+        bytes: a,
     })?;
     files.push(LentFile {
         name: b"b.obj",
-        bytes: HIGH,
+        bytes: b,
     })?;
     files.push(LentFile {
         name: b"a.obj",
         bytes: b"no mesh",
     })?;
     Ok(files)
+}
+
+// Two boxes.
+fn boxes<'a>(alloc: Global) -> Result<Vec<LentFile<'a>>, Fail> {
+    meshes(alloc, LOW, HIGH)
 }
 
 // What ember-mesh gives for a line.
@@ -80,8 +85,7 @@ fn a_name_that_no_file_has(rt: HostRuntime) -> Result<(), Fail> {
 fn the_hole_of_a_mesh_has_a_place(rt: HostRuntime) -> Result<(), Fail> {
     let alloc = rt.alloc();
     let words = words_in(alloc, "union -o out.stl a.obj b.obj")?;
-    let mut files = boxes(alloc)?;
-    files[1].bytes = b"v 0 0 0\nv 1 0 0\nv 0 1 0\nf 1 2 3\n";
+    let files = meshes(alloc, LOW, b"v 0 0 0\nv 1 0 0\nv 0 1 0\nf 1 2 3\n")?;
     let given = mesh_command(alloc, &words, &files);
     assert_eq!(rt; given.status, 6);
     assert_eq!(rt; given.file, 2);
@@ -123,8 +127,7 @@ fn the_faces_of_a_box(rt: HostRuntime) -> Result<(), Fail> {
 fn a_line_of_an_obj_is_the_place(rt: HostRuntime) -> Result<(), Fail> {
     let alloc = rt.alloc();
     let words = words_in(alloc, "faces a.obj")?;
-    let mut files = boxes(alloc)?;
-    files[0].bytes = b"v 0 0 0\nv 1 0\n";
+    let files = meshes(alloc, b"v 0 0 0\nv 1 0\n", HIGH)?;
     let given = command(alloc, &words, &files);
     assert_eq!(rt; given.status, 5);
     assert_eq!(rt; given.file, 1);
