@@ -4,8 +4,9 @@
 #define COUNTED_MEMORY_H
 #include <stddef.h>
 
-/* How many further requests are met, or -1 for all; whether all requests behind them are refused, or only the next; how many blocks there are. */
-static _Thread_local long requests_left = -1, blocks;
+/* How many further requests are met, or -1 for all; whether all requests behind them are refused, or only the next; how many blocks there are.
+   They are volatile, since a compiler takes it for granted that malloc and free leave our variables alone. */
+static _Thread_local volatile long requests_left = -1, blocks;
 static int refuses_all;
 
 void *__real_malloc(size_t);
