@@ -1,22 +1,14 @@
 // Triangles that lie in one plane.
 ghost use Rattle.std.specs.Prelude.{◌≡◌, ◌&&◌, not};
 ghost use Rattle.ember_algebra.specs.Sign.{is_zero};
-ghost use Rattle.ember_model.specs.Valid.{IsValidCorner, IsValidTri};
-ghost use Rattle.ember_model.specs.Sizes.{IsSupportSized};
+ghost use Rattle.ember_model.specs.Limits.{broad_limit};
+ghost use Rattle.ember_model.specs.Within.{IsTriWithin};
+ghost use Rattle.ember_width.specs.Broad.{IsBroadPlane, most_floor};
 ghost use Rattle.ember_model.specs.Planes.{value_at};
 ghost use Rattle.ember_model.specs.Owners.{spot_of_corner, is_coplanar};
 
-use ember_model::{Corner, Plane, Tri, support_of};
-
-// The value of the plane at a corner.
-#[tactic(none)]
-fn value_at_corner(p: &Plane, c: &Corner) -> i64
-    requires plane { IsSupportSized p.now }
-    requires corner { IsValidCorner c.now }
-    ensures { result ≡ value_at p.now (spot_of_corner c.now) }
-{
-    p.a * c.x as i64 + p.b * c.y as i64 + p.c * c.z as i64 - p.d
-}
+use ember_model::{Plane, Tri, support_of};
+use ember_width::value_at_corner;
 
 // Whether a corner at which a plane has this value lies on it.
 fn is_on(value: i64) -> bool
@@ -34,8 +26,8 @@ fn has_normal(p: &Plane) -> bool
 
 // Whether all corners of the triangle lie on the plane.
 fn lies_on(p: &Plane, t: &Tri) -> bool
-    requires plane { IsSupportSized p.now }
-    requires tri { IsValidTri t.now }
+    requires plane { IsBroadPlane p.now }
+    requires tri { IsTriWithin most_floor t.now }
     ensures { result ≡ is_zero (value_at p.now (spot_of_corner t.now.a)) &&
         (is_zero (value_at p.now (spot_of_corner t.now.b)) && is_zero (value_at p.now (spot_of_corner t.now.c))) }
 {
@@ -45,8 +37,8 @@ fn lies_on(p: &Plane, t: &Tri) -> bool
 
 /// Whether neither triangle's normal is zero, and they lie in one plane. Only tests call this.
 pub fn same_plane(t: &Tri, u: &Tri) -> bool
-    requires t { IsValidTri t.now }
-    requires u { IsValidTri u.now }
+    requires t { IsTriWithin broad_limit t.now }
+    requires u { IsTriWithin broad_limit u.now }
     ensures { result ≡ is_coplanar t.now u.now }
 {
     let support = support_of(t);

@@ -2,6 +2,8 @@
 #![tactic(auto)]
 
 #[cfg(test)]
+mod broad_polygons;
+#[cfg(test)]
 mod coplanar;
 #[cfg(test)]
 mod faces;

@@ -7,6 +7,7 @@ ghost use Rattle.ember_model.specs.Planes.{opposite};
 ghost use Rattle.ember_model.specs.Faces.{is_flat, face_of};
 ghost use Rattle.ember_box.specs.Regions.{level, AreLeftByWall};
 ghost use Rattle.ember_box.specs.Regions as regions;
+ghost use Rattle.ember_point.specs.Points.{spot_of};
 ghost use Rattle.ember_poly.specs.Drafts.{face_in, HoldsRing};
 ghost use Rattle.ember_leaf.specs.Cutters.{common, common_of};
 ghost use Rattle.ember_leaf.specs.Walls.{wall_of, level_by, IsLowRemainder, IsHighRemainder, IsRemainder, IsClippedBy};
@@ -194,8 +195,8 @@ pub fn is_outside(walls: &[Wall], triangle: &NearTriangle) -> bool
 // Clips a face at the wall. Returns whether anything is left. A face in the plane of a wall belongs
 // to the box that has this wall as its low one.
 fn clip_at_wall(draft: &mut Draft, wall: &Wall) -> Result<bool, OutOfMemory>
-    requires { HoldsRing draft.old }
-    ensures ring { OnOk result (HoldsRing draft.new) }
+    requires { HoldsRing IsValidPlane spot_of draft.old }
+    ensures ring { OnOk result (HoldsRing IsValidPlane spot_of draft.new) }
     ensures left { IfOk result (λ some. AreLeftByWall (wall_of wall.now) (face_in draft.old) (if some
         then face_in draft.new ∷ [] else [])) }
 {
@@ -215,9 +216,9 @@ fn clip_at_walls(
     walls: &[Wall],
 ) -> Result<bool, OutOfMemory>
     requires normal { is_flat triangle.now.tri ≡ false }
-    requires ring { HoldsRing draft.old }
+    requires ring { HoldsRing IsValidPlane spot_of draft.old }
     requires whole { face_in draft.old ≡ face_of triangle.now.tri }
-    ensures ring { OnOk result (HoldsRing draft.new) }
+    ensures ring { OnOk result (HoldsRing IsValidPlane spot_of draft.new) }
     ensures left { IfOk result (λ some. IsClippedBy (map wall_of walls.now) triangle.now.tri (if some
         then face_in draft.new ∷ [] else [])) }
 {
@@ -244,7 +245,7 @@ pub fn clip_to_box(
     walls: &[Wall],
 ) -> Result<bool, OutOfMemory>
     requires { is_flat triangle.now.tri ≡ false }
-    ensures ring { OnOk result (HoldsRing draft.new) }
+    ensures ring { OnOk result (HoldsRing IsValidPlane spot_of draft.new) }
     ensures left { IfOk result (λ some. IsClippedBy (map wall_of walls.now) triangle.now.tri (if some
         then face_in draft.new ∷ [] else [])) }
 {

@@ -13,7 +13,6 @@ use Rattle.ember_model.specs.ClearTest.{none_positive, face_with}
 use Rattle.ember_model.specs.declared.face.Face.{Face}
 use Rattle.ember_model.specs.Faces.{Cuts, Meets as MeetsFace}
 use Rattle.ember_model.proofs.SignTests.{positive_nonzero}
-use Rattle.ember_point.specs.Points.{spot_of}
 use Rattle.ember_poly.specs.declared.passage.Passage.{Passage}
 use Rattle.ember_poly.specs.Rings.{with_start, closing_side, Side, IsBelow, IsNotAbove, IsNotBelow, IsInsideRing, IsMeet, IsConvexRing, Represents}
 use Rattle.ember_poly.specs.Passages.{Leaves, IsPassage}
@@ -191,78 +190,79 @@ inside_turned : (n : Plane) (v : Spot) (xs ys : List Side) → IsInsideRing n (x
 inside_turned n v xs ys k =
     record { flat = k.flat; weight = k.weight; within = each-turned (λ s. IsBelow s.plane v) xs ys k.within }
 
-module _ (n p : Plane) (gs : List Plane) (xs : List Side) (at : Passage) (q : IsPassage n p xs at) (st : Represents n gs xs) where
-  abbrev y : Spot
-  y = spot_of at.exit
+module _ {W M : Type 0} (spot : M → Spot) where
+  module _ (n p : Plane) (gs : List Plane) (xs : List Side) (at : Passage W M) (q : IsPassage spot n p xs at) (st : Represents n gs xs) where
+    abbrev y : Spot
+    y = spot at.exit
 
-  abbrev z : Spot
-  z = spot_of at.entry
+    abbrev z : Spot
+    z = spot at.entry
 
-  abbrev begun : List Side
-  begun = q.head ∷ (q.firsts ++ q.last ∷ []) ++ q.others
+    abbrev begun : List Side
+    begun = q.head ∷ (q.firsts ++ q.last ∷ []) ++ q.others
 
-  sound : IsConvexRing n begun
-  sound =
-      subst (λ zs. IsConvexRing n zs) q.turned (turned_by n (take at.entry_edge xs) (drop at.entry_edge xs)
-      (subst (λ zs. IsConvexRing n zs) (sym (take-append-drop at.entry_edge xs)) st.sound))
+    sound : IsConvexRing n begun
+    sound =
+        subst (λ zs. IsConvexRing n zs) q.turned (turned_by n (take at.entry_edge xs) (drop at.entry_edge xs)
+        (subst (λ zs. IsConvexRing n zs) (sym (take-append-drop at.entry_edge xs)) st.sound))
 
-  into : (v : Spot) → IsInsideRing n xs v → IsInsideRing n begun v
-  into v k =
-      subst (λ zs. IsInsideRing n zs v) q.turned
-      (inside_turned n v (take at.entry_edge xs) (drop at.entry_edge xs)
-      (subst (λ zs. IsInsideRing n zs v) (sym (take-append-drop at.entry_edge xs)) k))
+    into : (v : Spot) → IsInsideRing n xs v → IsInsideRing n begun v
+    into v k =
+        subst (λ zs. IsInsideRing n zs v) q.turned
+        (inside_turned n v (take at.entry_edge xs) (drop at.entry_edge xs)
+        (subst (λ zs. IsInsideRing n zs v) (sym (take-append-drop at.entry_edge xs)) k))
 
-  out : (v : Spot) → IsInsideRing n begun v → IsInsideRing n xs v
-  out v k =
-      subst (λ zs. IsInsideRing n zs v) (take-append-drop at.entry_edge xs)
-      (inside_turned n v (drop at.entry_edge xs) (take at.entry_edge xs)
-      (subst (λ zs. IsInsideRing n zs v) (sym q.turned) k))
+    out : (v : Spot) → IsInsideRing n begun v → IsInsideRing n xs v
+    out v k =
+        subst (λ zs. IsInsideRing n zs v) (take-append-drop at.entry_edge xs)
+        (inside_turned n v (drop at.entry_edge xs) (take at.entry_edge xs)
+        (subst (λ zs. IsInsideRing n zs v) (sym q.turned) k))
 
-  chord_line : IsLine n p y z
-  chord_line =
+    chord_line : IsLine n p y z
+    chord_line =
+        record {
+          flat_y = q.exit.first;
+          flat_z = q.entry.first;
+          on_y = q.exit.third;
+          on_z = q.entry.third;
+          weight_y =
+              q.exit.weight;
+          weight_z = q.entry.weight;
+          across = q.head.plane;
+          turns =
+              positive_nonzero (turns_of n p q.head q.last q.firsts q.others sound q.under q.enters q.leaves).1;
+        }
+
+    chord_meets : (hs : List Plane) → IsOpen hs y z → MeetsFace (record { support = n; edges = gs }) (face_with p hs)
+    chord_meets hs o =
+        let v = combination o.i o.j y z in
+        let k = out v (chord_inside n p q.head q.last q.firsts q.others y z q.entry q.exit sound q.under q.enters q.leaves o.i o.j o.from_y o.from_z) in
+        record {
+          at = v;
+          inside = seen_inside n p gs xs st v k;
+          holds =
+              closed_in (face_with p hs) v (record {
+                flat = flat_sum o.i o.j y z p q.exit.third q.entry.third;
+                weight =
+                    k.weight;
+                within = all_out hs v o.free;
+              });
+        }
+
+    meets_chord : (hs : List Plane) → MeetsFace (record { support = n; edges = gs }) (face_with p hs) → IsOpen hs y z
+    meets_chord hs m =
+        let k = into m.at (inside_seen n p gs xs st m.at m.inside) in
+        let c = closed_out (face_with p hs) m.at m.holds in
+        chord_open n p q.head q.last q.firsts q.others y z q.entry q.exit sound q.under q.enters q.leaves m.at k c.flat hs (all_in hs m.at c.within)
+
+  -- the chord of the ring's face
+  pub chord_of : (f : Face) (n p : Plane) (gs : List Plane) (xs : List Side) (at : Passage W M) → IsPassage spot n p xs at →
+      Represents n gs xs → record { support = n; edges = gs } ≡ f → Cuts f p →
+      IsChord f p (spot at.exit) (spot at.entry)
+  chord_of f n p gs xs at q s e k =
       record {
-        flat_y = q.exit.first;
-        flat_z = q.entry.first;
-        on_y = q.exit.third;
-        on_z = q.entry.third;
-        weight_y =
-            q.exit.weight;
-        weight_z = q.entry.weight;
-        across = q.head.plane;
-        turns =
-            positive_nonzero (turns_of n p q.head q.last q.firsts q.others sound q.under q.enters q.leaves).1;
+        cuts = k;
+        line = subst (λ g. IsLine g.support p (spot at.exit) (spot at.entry)) e (chord_line n p gs xs at q s);
+        meets = λ hs o. subst (λ g. MeetsFace g (face_with p hs)) e (chord_meets n p gs xs at q s hs o);
+        opens = λ hs m. meets_chord n p gs xs at q s hs (subst (λ g. MeetsFace g (face_with p hs)) (sym e) m);
       }
-
-  chord_meets : (hs : List Plane) → IsOpen hs y z → MeetsFace (record { support = n; edges = gs }) (face_with p hs)
-  chord_meets hs o =
-      let v = combination o.i o.j y z in
-      let k = out v (chord_inside n p q.head q.last q.firsts q.others y z q.entry q.exit sound q.under q.enters q.leaves o.i o.j o.from_y o.from_z) in
-      record {
-        at = v;
-        inside = seen_inside n p gs xs st v k;
-        holds =
-            closed_in (face_with p hs) v (record {
-              flat = flat_sum o.i o.j y z p q.exit.third q.entry.third;
-              weight =
-                  k.weight;
-              within = all_out hs v o.free;
-            });
-      }
-
-  meets_chord : (hs : List Plane) → MeetsFace (record { support = n; edges = gs }) (face_with p hs) → IsOpen hs y z
-  meets_chord hs m =
-      let k = into m.at (inside_seen n p gs xs st m.at m.inside) in
-      let c = closed_out (face_with p hs) m.at m.holds in
-      chord_open n p q.head q.last q.firsts q.others y z q.entry q.exit sound q.under q.enters q.leaves m.at k c.flat hs (all_in hs m.at c.within)
-
--- the chord of the ring's face
-pub chord_of : (f : Face) (n p : Plane) (gs : List Plane) (xs : List Side) (at : Passage) → IsPassage n p xs at →
-    Represents n gs xs → record { support = n; edges = gs } ≡ f → Cuts f p →
-    IsChord f p (spot_of at.exit) (spot_of at.entry)
-chord_of f n p gs xs at q s e k =
-    record {
-      cuts = k;
-      line = subst (λ g. IsLine g.support p (spot_of at.exit) (spot_of at.entry)) e (chord_line n p gs xs at q s);
-      meets = λ hs o. subst (λ g. MeetsFace g (face_with p hs)) e (chord_meets n p gs xs at q s hs o);
-      opens = λ hs m. meets_chord n p gs xs at q s hs (subst (λ g. MeetsFace g (face_with p hs)) (sym e) m);
-    }

@@ -1,24 +1,25 @@
 -- What a plane leaves of a face, by the side on which the face lies.
 use Rattle.std.proofs.Common.{◌≡◌, refl, subst, arith, ℕ, List, ℤ, pos, ◌<ℤ◌}
 use Rattle.ember_algebra.proofs.Laws.{linear}
+use Rattle.ember_model.specs.declared.point.Spot.{Spot}
 use Rattle.ember_model.specs.declared.plane.Plane.{Plane}
 use Rattle.ember_model.specs.declared.face.Face.{Face}
 use Rattle.ember_model.specs.Faces.{Cuts, below}
 use Rattle.ember_model.proofs.SignTests.{negative_out, positive_out, zero_out}
 use Rattle.ember_poly.specs.declared.reach_and_cut.Reach.{Reach}
 use Rattle.ember_poly.specs.declared.reach_and_cut.Reach.TheVariants.{Below, Above, On, Both}
-use Rattle.ember_point.specs.declared.meet_point.Meet.{Meet}
 use Rattle.ember_poly.specs.Cuts.{IsReach, IsClip}
 use Rattle.ember_poly.specs.Sides.{IsRing}
 use Rattle.ember_poly.specs.Passages.{AreSigns}
 use Rattle.ember_poly.proofs.ReachBySigns.{reach_is}
 
 -- ---- the side, from what a ring keeps
--- the signs at a ring's corners give its reach
-pub reach_seen : (f : Face) (n p : Plane) (gs es : List Plane) (ms : List Meet) (bs : List ℕ) (r : Reach) →
-    record { support = n; edges = gs } ≡ f → IsRing n gs es ms bs → AreSigns p ms r → IsReach f p r
-reach_seen f n p gs es ms bs r e v s =
-    subst (λ f. IsReach f p r) e (reach_is n p gs es ms bs r v.corners v.plane_indices v.represents s)
+module _ {M : Type 0} {IsPlane : Plane → Type 0} (spot : M → Spot) where
+  -- the signs at a ring's corners give its reach
+  pub reach_seen : (f : Face) (n p : Plane) (gs es : List Plane) (ms : List M) (bs : List ℕ) (r : Reach) →
+      record { support = n; edges = gs } ≡ f → IsRing IsPlane spot n gs es ms bs → AreSigns spot p ms r → IsReach f p r
+  reach_seen f n p gs es ms bs r e v s =
+      subst (λ f. IsReach f p r) e (reach_is spot n p gs es ms bs r v.corners v.plane_indices v.represents s)
 
 -- ---- what is left
 -- the whole of it

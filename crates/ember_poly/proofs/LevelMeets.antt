@@ -1,4 +1,4 @@
--- The meet of two planes with a level lies on the three planes.
+-- The meet of three planes lies on them, also if it is that of two planes with a level.
 use Rattle.std.proofs.Common.{◌≡◌, sym, subst, ap, ◌∙◌, Bool, true, false, ℤ, pos, negsuc, ◌-ℤ◌, ◌*ℤ◌, ◌<ℤ◌}
 use Rattle.ember_algebra.specs.Vector.{det}
 use Rattle.ember_algebra.proofs.Ring.{◌⊕◌, ◌⊖◌, ◌⊗◌, ◌≈◌, neg, num, solve, cancels}
@@ -8,9 +8,12 @@ use Rattle.ember_model.specs.declared.point.Spot.{Spot}
 use Rattle.ember_model.specs.declared.plane.Plane.{Plane}
 use Rattle.ember_model.specs.Planes.{value_at}
 use Rattle.ember_model.specs.Edges.{normal}
+use Rattle.ember_point.specs.Points.{meet_of}
+use Rattle.ember_point.proofs.Meets.{on_first as on_first_of, on_second as on_second_of, on_third as on_third_of}
 use Rattle.ember_poly.specs.Rings.{IsMeet, orientation}
-use Rattle.ember_poly.specs.Levels.{FacesAt, IsLevel, turn_at, level_meet}
-use Rattle.ember_poly.proofs.Along.{along_x, along_y, along_z}
+use Rattle.ember_width.specs.Levels.{turn_at, level_meet}
+use Rattle.ember_width.proofs.Along.{along_x, along_y, along_z}
+use Rattle.ember_poly.specs.Levels.{FacesAt, IsLevel}
 
 -- ---- on the first plane
 on_first : (k : Axis) (t : ℤ) (p q : Plane) → value_at p (level_meet k t p q) ≡ pos 0
@@ -109,5 +112,16 @@ meets_down k t up p q r v h e w =
       second = ap (value_at q) e ∙ on_first k t q p;
       third =
           ap (value_at r) e ∙ on_level k t up q p r h;
+      weight = w;
+    }
+
+-- the meet of any three planes
+pub meet_is : (p q r : Plane) (v : Spot) → v ≡ meet_of p q r → pos 0 <ℤ v.w → IsMeet p q r v
+meet_is p q r v e w =
+    record {
+      first = ap (value_at p) e ∙ on_first_of p q r;
+      second = ap (value_at q) e ∙ on_second_of p q r;
+      third =
+          ap (value_at r) e ∙ on_third_of p q r;
       weight = w;
     }

@@ -26,7 +26,6 @@ pub mod ReachBySigns
 pub mod Runs
 pub mod CornerSigns
 pub mod OldestPlane
-pub mod Along
 pub mod Classification
 pub mod PassageFound
 pub mod PassageSides

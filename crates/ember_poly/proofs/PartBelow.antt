@@ -10,11 +10,8 @@ use Rattle.std.specs.List.{AllByRecursion}
 use Rattle.ember_algebra.proofs.Ring.{◌⊕◌, ◌⊖◌, ◌⊗◌, ◌≈◌, num, solve, cancels}
 use Rattle.ember_model.specs.declared.plane.Plane.{Plane}
 use Rattle.ember_model.specs.declared.point.Spot.{Spot}
-use Rattle.ember_model.specs.Valid.{IsValidPlane}
 use Rattle.ember_model.specs.Planes.{value_at}
 use Rattle.ember_model.specs.Edges.{SamePoint}
-use Rattle.ember_point.specs.declared.meet_point.Meet.{Meet}
-use Rattle.ember_point.specs.Points.{spot_of}
 use Rattle.ember_poly.specs.declared.passage.Passage.{Passage}
 use Rattle.ember_poly.specs.Rings.{with_start, closing_side, Side, IsBelow, IsNotAbove, IsNotBelow, IsBelowAllButOne}
 use Rattle.ember_poly.specs.Rings.{IsMeet, IsConvexRing, IsInClosedRing, IsInPlanes, Represents}
@@ -41,19 +38,20 @@ take_front xs ys k e = ap (λ j. take j (xs ++ ys)) e ∙ by xs ys
     by [] ys = refl
     by (x ∷ xs) ys = ap (λ zs. x ∷ zs) (by xs ys)
 
--- the kept sides
-kept_sides : (n p : Plane) (xs : List Side) (at : Passage) (q : IsPassage n p xs at) →
-    take (at.below_count + 1) (rotated at.entry_edge xs) ≡ q.head ∷ (q.firsts ++ q.last ∷ [])
-kept_sides n p xs at q =
-    ap (λ zs. take (at.below_count + 1) zs) q.turned
-    ∙ take_front (q.head ∷ (q.firsts ++ q.last ∷ [])) q.others (at.below_count + 1)
-    (omega (arith, q.count, length_push q.firsts q.last))
+module _ {W M : Type 0} (spot : M → Spot) where
+  -- the kept sides
+  kept_sides : (n p : Plane) (xs : List Side) (at : Passage W M) (q : IsPassage spot n p xs at) →
+      take (at.below_count + 1) (rotated at.entry_edge xs) ≡ q.head ∷ (q.firsts ++ q.last ∷ [])
+  kept_sides n p xs at q =
+      ap (λ zs. take (at.below_count + 1) zs) q.turned
+      ∙ take_front (q.head ∷ (q.firsts ++ q.last ∷ [])) q.others (at.below_count + 1)
+      (omega (arith, q.count, length_push q.firsts q.last))
 
-part_is : (n p : Plane) (xs : List Side) (at : Passage) (q : IsPassage n p xs at) (b : ℕ) →
-    part_sides xs at p b ≡ with_start q.head (spot_of at.entry) ∷ (q.firsts ++ q.last ∷ [])
-    ++ closing_side p (spot_of at.exit) b ∷ []
-part_is n p xs at q b =
-    ap (λ zs. with_first_start (spot_of at.entry) zs ++ closing_side p (spot_of at.exit) b ∷ []) (kept_sides n p xs at q)
+  part_is : (n p : Plane) (xs : List Side) (at : Passage W M) (q : IsPassage spot n p xs at) (b : ℕ) →
+      part_sides spot xs at p b ≡ with_start q.head (spot at.entry) ∷ (q.firsts ++ q.last ∷ [])
+      ++ closing_side p (spot at.exit) b ∷ []
+  part_is n p xs at q b =
+      ap (λ zs. with_first_start (spot at.entry) zs ++ closing_side p (spot at.exit) b ∷ []) (kept_sides n p xs at q)
 
 -- ---- one place
 same_from : (u v : Spot) → ((e : Plane) → u.w *ℤ value_at e v ≡ v.w *ℤ value_at e u) → SamePoint u v
@@ -171,34 +169,35 @@ begun_counted : (n : Plane) (gs : List Plane) (k : ℕ) (xs : List Side) → Eac
 begun_counted n gs k xs c =
     counted_turned n gs (take k xs) (drop k xs) (subst (λ zs. EachHasSideOrNoEdge n gs zs) (sym (take-append-drop k xs)) c)
 
-module _ (n p : Plane) (gs : List Plane) (xs : List Side) (at : Passage) (q : IsPassage n p xs at)
-    (st : Represents n gs xs) (ct : EachHasSideOrNoEdge n gs xs) where
-  abbrev below_sides : List Side
-  below_sides = with_start q.head (spot_of at.entry) ∷ (q.firsts ++ q.last ∷ []) ++ closing_side p (spot_of at.exit) (length gs) ∷ []
+module _ {W M : Type 0} (spot : M → Spot) where
+  module _ (n p : Plane) (gs : List Plane) (xs : List Side) (at : Passage W M) (q : IsPassage spot n p xs at)
+      (st : Represents n gs xs) (ct : EachHasSideOrNoEdge n gs xs) where
+    abbrev below_sides : List Side
+    below_sides = with_start q.head (spot at.entry) ∷ (q.firsts ++ q.last ∷ []) ++ closing_side p (spot at.exit) (length gs) ∷ []
 
-  division : Division n p gs q.head q.last q.firsts (spot_of at.exit) (spot_of at.entry) q.entry q.exit q.under q.enters q.others
-  division =
-      divide n p gs q.head q.last q.firsts (spot_of at.exit) (spot_of at.entry) q.entry q.exit q.under q.enters q.others
-      (subst (λ zs. Represents n gs zs) q.turned (begun_stands n gs at.entry_edge xs st)) q.leaves
+    division : Division n p gs q.head q.last q.firsts (spot at.exit) (spot at.entry) q.entry q.exit q.under q.enters q.others
+    division =
+        divide n p gs q.head q.last q.firsts (spot at.exit) (spot at.entry) q.entry q.exit q.under q.enters q.others
+        (subst (λ zs. Represents n gs zs) q.turned (begun_stands n gs at.entry_edge xs st)) q.leaves
 
-  pub below_ring : (es : List Plane) (ms : List Meet) (bs : List ℕ) (k j : ℕ) (hs : List Plane) →
-      sides_of es ms bs ≡ rotated j (rotated k (part_sides xs at p (length gs))) → LeastFirst bs → length ms ≡ length es →
-      length bs ≡ length es → hs ≡ gs ++ p ∷ [] → IsValidPlane n → All IsValidPlane gs → IsValidPlane p →
-      IsRing n hs es ms bs
-  below_ring es ms bs k j hs et least em el eh vn vs vp =
-      let e : sides_of es ms bs ≡ rotated j (rotated k below_sides) = et ∙ ap (λ zs. rotated j (rotated k zs)) (part_is n p xs at q (length gs)) in
-      let s = begun_stands n (gs ++ p ∷ []) j (rotated k below_sides) (begun_stands n (gs ++ p ∷ []) k below_sides division.represents) in
-      let c = begun_counted n (gs ++ p ∷ []) j (rotated k below_sides)
-      (begun_counted n (gs ++ p ∷ []) k below_sides
-      (divide_counted n p gs q.head q.last q.firsts (spot_of at.exit) (spot_of at.entry) q.entry q.exit q.under
-      q.enters q.others (subst (λ zs. EachHasSideOrNoEdge n gs zs) q.turned (begun_counted n gs at.entry_edge xs ct))
-      division)) in
-      record {
-        represents = subst (λ us. Represents n us (sides_of es ms bs)) (sym eh) (subst (λ us. Represents n (gs ++ p ∷ []) us) (sym e) s);
-        oldest = oldest_first es ms bs least;
-        counted = subst (λ us. EachHasSideOrNoEdge n us (sides_of es ms bs)) (sym eh) (subst (λ us. EachHasSideOrNoEdge n (gs ++ p ∷ []) us) (sym e) c);
-        corners = em;
-        plane_indices = el;
-        support = vn;
-        planes = subst (λ us. All IsValidPlane us) (sym eh) (All-push IsValidPlane gs p vs vp);
-      }
+    pub below_ring : {IsPlane : Plane → Type 0} (es : List Plane) (ms : List M) (bs : List ℕ) (k j : ℕ) (hs : List Plane) →
+        sides_of spot es ms bs ≡ rotated j (rotated k (part_sides spot xs at p (length gs))) → LeastFirst bs → length ms ≡ length es →
+        length bs ≡ length es → hs ≡ gs ++ p ∷ [] → IsPlane n → All IsPlane gs → IsPlane p →
+        IsRing IsPlane spot n hs es ms bs
+    below_ring {IsPlane} es ms bs k j hs et least em el eh vn vs vp =
+        let e : sides_of spot es ms bs ≡ rotated j (rotated k below_sides) = et ∙ ap (λ zs. rotated j (rotated k zs)) (part_is spot n p xs at q (length gs)) in
+        let s = begun_stands n (gs ++ p ∷ []) j (rotated k below_sides) (begun_stands n (gs ++ p ∷ []) k below_sides division.represents) in
+        let c = begun_counted n (gs ++ p ∷ []) j (rotated k below_sides)
+        (begun_counted n (gs ++ p ∷ []) k below_sides
+        (divide_counted n p gs q.head q.last q.firsts (spot at.exit) (spot at.entry) q.entry q.exit q.under
+        q.enters q.others (subst (λ zs. EachHasSideOrNoEdge n gs zs) q.turned (begun_counted n gs at.entry_edge xs ct))
+        division)) in
+        record {
+          represents = subst (λ us. Represents n us (sides_of spot es ms bs)) (sym eh) (subst (λ us. Represents n (gs ++ p ∷ []) us) (sym e) s);
+          oldest = oldest_first spot es ms bs least;
+          counted = subst (λ us. EachHasSideOrNoEdge n us (sides_of spot es ms bs)) (sym eh) (subst (λ us. EachHasSideOrNoEdge n (gs ++ p ∷ []) us) (sym e) c);
+          corners = em;
+          plane_indices = el;
+          support = vn;
+          planes = subst (λ us. All IsPlane us) (sym eh) (All-push IsPlane gs p vs vp);
+        }

@@ -13,7 +13,6 @@ use Rattle.ember_model.specs.Planes.{value_at, opposite}
 use Rattle.ember_model.specs.Faces.{is_inside, Cuts}
 use Rattle.ember_model.proofs.SignTests.{negative_in, negative_out, positive_in, positive_out, zero_in}
 use Rattle.ember_model.proofs.PlaneValues.{value-opposite}
-use Rattle.ember_point.specs.declared.meet_point.Meet.{Meet}
 use Rattle.ember_poly.specs.declared.reach_and_cut.Reach.{Reach}
 use Rattle.ember_poly.specs.declared.reach_and_cut.Reach.TheVariants.{Below, Above, On, Both}
 use Rattle.ember_poly.specs.Rings.{Side, IsBelow, IsAbove, IsOnPlane, IsNotAbove, IsNotBelow, IsInsideRing, IsInClosedRing, IsConvexRing, Represents}
@@ -232,25 +231,26 @@ cuts_opposite f p c =
           };
     }
 
--- the signs of the corners give the reach of the face
-pub reach_is : (n p : Plane) (gs es : List Plane) (ms : List Meet) (bs : List ℕ) (r : Reach) → length ms ≡ length es →
-    length bs ≡ length es → Represents n gs (sides_of es ms bs) → AreSigns p ms r →
-    IsReach (record { support = n; edges = gs }) p r
-reach_is n p gs es ms bs Below em eb s q =
-    let xs = sides_of es ms bs in
-    whole n p gs xs s (λ v. is_negative (value_at p v) ≡ true)
-    (λ v i. negative_in (all_below n p v xs s.sound (each_corner (λ v. IsNotAbove p v) es ms bs q.0)
-    (has_corner (λ v. IsBelow p v) es ms bs em eb q.1) i).under)
-reach_is n p gs es ms bs Above em eb s q =
-    let xs = sides_of es ms bs in
-    whole n p gs xs s (λ v. is_positive (value_at p v) ≡ true)
-    (λ v i. positive_in (all_above n p v xs s.sound (each_corner (λ v. IsNotBelow p v) es ms bs q.0)
-    (has_corner (λ v. IsAbove p v) es ms bs em eb q.1) i).over)
-reach_is n p gs es ms bs On em eb s q =
-    let xs = sides_of es ms bs in
-    whole n p gs xs s (λ v. is_zero (value_at p v) ≡ true)
-    (λ v i. zero_in (all_on n p v xs s.sound (each_corner (λ v. IsOnPlane p v) es ms bs q)
-    (closed_from_inside n xs v i)).on_plane)
-reach_is n p gs es ms bs Both em eb s q =
-    corners_on_both_sides_are_cut n p gs (sides_of es ms bs) s (has_corner (λ v. IsBelow p v) es ms bs em eb q.0)
-    (has_corner (λ v. IsAbove p v) es ms bs em eb q.1)
+module _ {M : Type 0} (spot : M → Spot) where
+  -- the signs of the corners give the reach of the face
+  pub reach_is : (n p : Plane) (gs es : List Plane) (ms : List M) (bs : List ℕ) (r : Reach) → length ms ≡ length es →
+      length bs ≡ length es → Represents n gs (sides_of spot es ms bs) → AreSigns spot p ms r →
+      IsReach (record { support = n; edges = gs }) p r
+  reach_is n p gs es ms bs Below em eb s q =
+      let xs = sides_of spot es ms bs in
+      whole n p gs xs s (λ v. is_negative (value_at p v) ≡ true)
+      (λ v i. negative_in (all_below n p v xs s.sound (each_corner spot (λ v. IsNotAbove p v) es ms bs q.0)
+      (has_corner spot (λ v. IsBelow p v) es ms bs em eb q.1) i).under)
+  reach_is n p gs es ms bs Above em eb s q =
+      let xs = sides_of spot es ms bs in
+      whole n p gs xs s (λ v. is_positive (value_at p v) ≡ true)
+      (λ v i. positive_in (all_above n p v xs s.sound (each_corner spot (λ v. IsNotBelow p v) es ms bs q.0)
+      (has_corner spot (λ v. IsAbove p v) es ms bs em eb q.1) i).over)
+  reach_is n p gs es ms bs On em eb s q =
+      let xs = sides_of spot es ms bs in
+      whole n p gs xs s (λ v. is_zero (value_at p v) ≡ true)
+      (λ v i. zero_in (all_on n p v xs s.sound (each_corner spot (λ v. IsOnPlane p v) es ms bs q)
+      (closed_from_inside n xs v i)).on_plane)
+  reach_is n p gs es ms bs Both em eb s q =
+      corners_on_both_sides_are_cut n p gs (sides_of spot es ms bs) s (has_corner spot (λ v. IsBelow p v) es ms bs em eb q.0)
+      (has_corner spot (λ v. IsAbove p v) es ms bs em eb q.1)

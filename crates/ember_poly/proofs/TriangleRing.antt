@@ -1,6 +1,6 @@
 -- The edges of a triangle's face, with its corners, are a ring.
 use Rattle.std.proofs.Common.{◌≡◌, ◌≢◌, inl, refl, sym, ap, subst, ◌∙◌, ℕ, zero, suc, ◌≤◌, Bool, true, false, cond}
-use Rattle.std.proofs.Common.{◌&&◌, leb, None, Some, List, All, [], ◌∷◌, arith, ℤ, pos, ◌*ℤ◌, ◌<ℤ◌, unsigned_abs}
+use Rattle.std.proofs.Common.{◌&&◌, leb, None, Some, List, All, [], ◌∷◌, map, arith, ℤ, pos, ◌*ℤ◌, ◌<ℤ◌, unsigned_abs}
 use Rattle.std.proofs.lemmas.Int.{ints}
 use Rattle.std.proofs.lemmas.Bool.{leb-true, and_parts}
 use Rattle.std.proofs.Math.Dec.{leb-zero}
@@ -17,12 +17,9 @@ use Rattle.ember_model.specs.declared.tri.Tri.{Tri}
 use Rattle.ember_model.specs.Planes.{along, unit, main_axis, support_of, edge_planes}
 use Rattle.ember_model.specs.Faces.{is_flat, face_of, is_inside}
 use Rattle.ember_model.specs.Owners.{spot_of_corner}
-use Rattle.ember_model.specs.Valid.{IsValidTri, IsValidPlane}
 use Rattle.ember_model.specs.declared.point.Spot.{Spot}
-use Rattle.ember_model.proofs.PlaneSizes.{support_sized, support_valid}
-use Rattle.ember_point.specs.declared.meet_point.Meet.{Meet}
-use Rattle.ember_point.specs.Points.{spot_of}
 use Rattle.ember_poly.specs.Rings.{Side, Represents, IsInsideRing}
+use Rattle.ember_poly.specs.Boundaries.{tri_corners}
 use Rattle.ember_poly.specs.Sides.{sides_of, OldestFirst, EachHasSideOrNoEdge, IsRing}
 use Rattle.ember_poly.proofs.Triangle.{normal_of, side_along, triangle_stands}
 use Rattle.ember_poly.proofs.FaceTests.{inside_out}
@@ -102,43 +99,71 @@ counted t (suc (suc (suc i))) h e = absurd (none e)
     none : None ≡ Some h → ⊥
     none e = cc
 
-abbrev places : Meet → Meet → Meet → List Meet
-places u v w = u ∷ v ∷ w ∷ []
+-- a list of three corners
+record Three {M : Type 0} (spot : M → Spot) (ms : List M) (a b c : Spot) : Type 0 where
+  u : M
+  v : M
+  w : M
+  is : ms ≡ u ∷ v ∷ w ∷ []
+  at_u : spot u ≡ a
+  at_v : spot v ≡ b
+  at_w : spot w ≡ c
 
-same_sides : (t : Tri) (u v w : Meet) → spot_of u ≡ spot_of_corner t.a → spot_of v ≡ spot_of_corner t.b →
-    spot_of w ≡ spot_of_corner t.c → sides_of (tri_planes t) (places u v w) (0 ∷ 1 ∷ 2 ∷ []) ≡ tri_sides t
-same_sides t u v w eu ev ew =
-    let k = main_axis (support_of t) in let s = sign (along (support_of t) k) in
-    λ i. record { plane = (side_along s (unit k) t.a t.b 0).plane; corner = eu i; plane_index = 0 }
-    ∷ record { plane = (side_along s (unit k) t.b t.c 1).plane; corner = ev i; plane_index = 1 }
-    ∷ record { plane = (side_along s (unit k) t.c t.a 2).plane; corner = ew i; plane_index = 2 } ∷ []
+three : {M : Type 0} (spot : M → Spot) (ms : List M) (a b c : Spot) → map spot ms ≡ a ∷ b ∷ c ∷ [] → Three spot ms a b c
+three spot [] a b c e = cc
+three spot (u ∷ []) a b c e = cc
+three spot (u ∷ v ∷ []) a b c e = cc
+three spot (u ∷ v ∷ w ∷ []) a b c e =
+    record { u = u; v = v; w = w; is = refl; at_u = first e; at_v = second e; at_w = third e }
+  where
+    first : {x y z : Spot} → x ∷ y ∷ z ∷ [] ≡ a ∷ b ∷ c ∷ [] → x ≡ a
+    first q = cc
 
-ring_of : (t : Tri) (u v w : Meet) → is_flat t ≡ false → spot_of u ≡ spot_of_corner t.a →
-    spot_of v ≡ spot_of_corner t.b → spot_of w ≡ spot_of_corner t.c → IsValidPlane (support_of t) →
-    All IsValidPlane (tri_planes t) → IsRing (support_of t) (tri_planes t) (tri_planes t) (places u v w) (0 ∷ 1 ∷ 2 ∷ [])
-ring_of t u v w e eu ev ew vn vs =
-    let q = sym (same_sides t u v w eu ev ew) in
-    record {
-      represents = subst (λ xs. Represents (support_of t) (tri_planes t) xs) q (stands t e);
-      oldest =
-          subst (λ xs. OldestFirst xs) q (omega arith, (omega arith, tt));
-      counted =
-          subst (λ xs. EachHasSideOrNoEdge (support_of t) (tri_planes t) xs) q (counted t);
-      corners = refl;
-      plane_indices =
-          refl;
-      support = vn;
-      planes = vs;
-    }
+    second : {x y z : Spot} → x ∷ y ∷ z ∷ [] ≡ a ∷ b ∷ c ∷ [] → y ≡ b
+    second q = cc
 
--- from what the code holds
-pub tri_ring : (t : Tri) (n : Plane) (u v w : Meet) {fs gs es : List Plane} {ms : List Meet} {bs : List ℕ} →
-    is_flat t ≡ false → n ≡ support_of t → IsValidPlane n → fs ≡ tri_planes t → All IsValidPlane fs → gs ≡ fs → es ≡ fs →
-    ms ≡ places u v w → bs ≡ 0 ∷ 1 ∷ 2 ∷ [] → spot_of u ≡ spot_of_corner t.a → spot_of v ≡ spot_of_corner t.b →
-    spot_of w ≡ spot_of_corner t.c → IsRing n gs es ms bs
-tri_ring t n u v w {fs} {gs} {es} {ms} {bs} e en vn ef vs eg ee em eb eu ev ew =
-    let r = ring_of t u v w e eu ev ew (subst (λ p. IsValidPlane p) en vn) (subst (λ ps. All IsValidPlane ps) ef vs) in
-    rw (en, eg, ee, ef, em, eb) r
+    third : {x y z : Spot} → x ∷ y ∷ z ∷ [] ≡ a ∷ b ∷ c ∷ [] → z ≡ c
+    third q = cc
+three spot (u ∷ v ∷ w ∷ x ∷ ms) a b c e = cc
+
+module _ {M : Type 0} (spot : M → Spot) where
+  abbrev places : M → M → M → List M
+  places u v w = u ∷ v ∷ w ∷ []
+
+  same_sides : (t : Tri) (u v w : M) → spot u ≡ spot_of_corner t.a → spot v ≡ spot_of_corner t.b →
+      spot w ≡ spot_of_corner t.c → sides_of spot (tri_planes t) (places u v w) (0 ∷ 1 ∷ 2 ∷ []) ≡ tri_sides t
+  same_sides t u v w eu ev ew =
+      let k = main_axis (support_of t) in let s = sign (along (support_of t) k) in
+      λ i. record { plane = (side_along s (unit k) t.a t.b 0).plane; corner = eu i; plane_index = 0 }
+      ∷ record { plane = (side_along s (unit k) t.b t.c 1).plane; corner = ev i; plane_index = 1 }
+      ∷ record { plane = (side_along s (unit k) t.c t.a 2).plane; corner = ew i; plane_index = 2 } ∷ []
+
+  ring_of : {IsPlane : Plane → Type 0} (t : Tri) (u v w : M) → is_flat t ≡ false → spot u ≡ spot_of_corner t.a →
+      spot v ≡ spot_of_corner t.b → spot w ≡ spot_of_corner t.c → IsPlane (support_of t) →
+      All IsPlane (tri_planes t) → IsRing IsPlane spot (support_of t) (tri_planes t) (tri_planes t) (places u v w) (0 ∷ 1 ∷ 2 ∷ [])
+  ring_of {IsPlane} t u v w e eu ev ew vn vs =
+      let q = sym (same_sides t u v w eu ev ew) in
+      record {
+        represents = subst (λ xs. Represents (support_of t) (tri_planes t) xs) q (stands t e);
+        oldest =
+            subst (λ xs. OldestFirst xs) q (omega arith, (omega arith, tt));
+        counted =
+            subst (λ xs. EachHasSideOrNoEdge (support_of t) (tri_planes t) xs) q (counted t);
+        corners = refl;
+        plane_indices =
+            refl;
+        support = vn;
+        planes = vs;
+      }
+
+  -- from what the code holds
+  pub tri_ring : {IsPlane : Plane → Type 0} (t : Tri) (n : Plane) {fs gs es : List Plane} {ms : List M} {bs : List ℕ} → is_flat t ≡ false →
+      n ≡ support_of t → IsPlane n → fs ≡ tri_planes t → All IsPlane fs → gs ≡ fs → es ≡ fs →
+      map spot ms ≡ tri_corners t → bs ≡ 0 ∷ 1 ∷ 2 ∷ [] → IsRing IsPlane spot n gs es ms bs
+  tri_ring {IsPlane} t n {fs} {gs} {es} {ms} {bs} e en vn ef vs eg ee em eb =
+      let k = three spot ms (spot_of_corner t.a) (spot_of_corner t.b) (spot_of_corner t.c) em in
+      let r = ring_of t k.u k.v k.w e k.at_u k.at_v k.at_w (subst (λ p. IsPlane p) en vn) (subst (λ ps. All IsPlane ps) ef vs) in
+      rw (en, eg, ee, ef, k.is, eb) r
 
 -- ---- the test of the normal
 -- the test of the support plane's normal is whether the triangle is flat
@@ -159,10 +184,6 @@ face_is t n gs e en eg =
 pub tri_face : (t : Tri) (n : Plane) (gs : List Plane) → n ≡ support_of t → gs ≡ tri_planes t → record { support = n; edges = gs } ≡ face_of t
 unfolding face_of
 tri_face t n gs en eg = λ i. record { support = en i; edges = eg i }
-
--- the support plane of a valid triangle is valid
-pub tri_support : {t : Tri} {n : Plane} → n ≡ support_of t → IsValidTri t → IsValidPlane n
-tri_support {t} {n} e v = subst (λ p. IsValidPlane p) (sym e) (support_valid (support_sized t v))
 
 -- a point inside the face is inside the ring
 pub inside_ring : (t : Tri) (v : Spot) → is_inside (face_of t) v ≡ true → IsInsideRing (support_of t) (tri_sides t) v

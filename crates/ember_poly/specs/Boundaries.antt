@@ -3,18 +3,23 @@ use Rattle.std.specs.Prelude.{◌≡◌, ℕ, ◌+◌, ◌≤◌, List, [], ◌�
 use Rattle.std.specs.List.{AllByRecursion}
 use Rattle.ember_model.specs.declared.point.Spot.{Spot}
 use Rattle.ember_model.specs.declared.plane.Plane.{Plane}
-use Rattle.ember_point.specs.Points.{spot_of}
+use Rattle.ember_model.specs.declared.tri.Tri.{Tri}
+use Rattle.ember_model.specs.Owners.{spot_of_corner}
 use Rattle.ember_poly.specs.declared.boundary.Boundary.{Boundary}
 use Rattle.ember_poly.specs.declared.passage.Passage.{Passage}
 use Rattle.ember_poly.specs.Rings.{Side, with_start, closing_side}
 use Rattle.ember_poly.specs.Sides.{sides_of}
 
+-- the corners of a triangle as points
+abbrev pub tri_corners : Tri → List Spot
+tri_corners t = spot_of_corner t.a ∷ spot_of_corner t.b ∷ spot_of_corner t.c ∷ []
+
 -- the sides of a ring, from its three lists
-abbrev pub sides : Boundary → List Side
-sides r = sides_of r.edges.items r.corners.items r.plane_indices.items
+abbrev pub sides : {W M : Type 0} → (M → Spot) → Boundary W M → List Side
+sides spot r = sides_of spot r.edges.items r.corners.items r.plane_indices.items
 
 -- the three lists are equally long
-pub record HasEqualLengths (r : Boundary) : Type 0 where
+pub record HasEqualLengths {W M : Type 0} (r : Boundary W M) : Type 0 where
   pub corners : length r.corners.items ≡ length r.edges.items
   pub plane_indices : length r.plane_indices.items ≡ length r.edges.items
 
@@ -41,19 +46,19 @@ abbrev pub with_start_at : ℕ → Spot → List Side → List Side
 with_start_at k v xs = take k xs ++ with_first_start v (drop k xs)
 
 -- the sides below the plane, from the entry to the exit, and then the closing side
-abbrev pub part_sides : List Side → Passage → Plane → ℕ → List Side
-part_sides xs at p plane_index =
-    with_first_start (spot_of at.entry) (take (at.below_count + 1) (rotated at.entry_edge xs)) ++
-    closing_side p (spot_of at.exit) plane_index ∷ []
+abbrev pub part_sides : {W M : Type 0} → (M → Spot) → List Side → Passage W M → Plane → ℕ → List Side
+part_sides spot xs at p plane_index =
+    with_first_start (spot at.entry) (take (at.below_count + 1) (rotated at.entry_edge xs)) ++
+    closing_side p (spot at.exit) plane_index ∷ []
 
 -- these sides, rotated
-pub record IsPartOfBoundary (old : Boundary) (at : Passage) (p : Plane) (plane_index : ℕ)
-    (new : Boundary) : Type 0 where
+pub record IsPartOfBoundary {W M : Type 0} (spot : M → Spot) (old : Boundary W M) (at : Passage W M) (p : Plane)
+    (plane_index : ℕ) (new : Boundary W M) : Type 0 where
   pub index : ℕ
-  pub order : sides new ≡ rotated index (part_sides (sides old) at p plane_index)
+  pub order : sides spot new ≡ rotated index (part_sides spot (sides spot old) at p plane_index)
   pub paired : HasEqualLengths new
 
 -- the same sides, rotated
-pub record IsRotated (old new : Boundary) : Type 0 where
+pub record IsRotated {W M : Type 0} (spot : M → Spot) (old new : Boundary W M) : Type 0 where
   pub index : ℕ
-  pub order : sides new ≡ rotated index (sides old)
+  pub order : sides spot new ≡ rotated index (sides spot old)

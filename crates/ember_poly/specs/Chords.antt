@@ -8,7 +8,6 @@ use Rattle.ember_model.specs.declared.face.Face.{Face}
 use Rattle.ember_model.specs.Faces.{Somewhere, Cuts, Meets as MeetsFace}
 use Rattle.ember_model.specs.Owners.{spot_of_corner}
 use Rattle.ember_model.specs.ClearTest.{face_with, none_positive}
-use Rattle.ember_point.specs.Points.{spot_of}
 use Rattle.ember_poly.specs.declared.reach_and_cut.Reach.TheVariants as reach
 use Rattle.ember_poly.specs.declared.meeting.Crossing.{Crossing}
 use Rattle.ember_poly.specs.declared.meeting.Crossing.TheVariants as crossing
@@ -71,11 +70,11 @@ pub record IsChord (f : Face) (p : Plane) (y z : Spot) : Type 0 where
   pub opens : (hs : List Plane) → MeetsFace f (face_with p hs) → IsOpen hs y z
 
 -- on which sides of the plane f lies, and the chord if the plane cuts it
-abbrev pub IsCrossing : Face → Plane → Crossing → Type 0
-IsCrossing f p crossing.Below = IsReach f p reach.Below
-IsCrossing f p crossing.Above = IsReach f p reach.Above
-IsCrossing f p crossing.On = IsReach f p reach.On
-IsCrossing f p (crossing.Along y z) = IsChord f p (spot_of y) (spot_of z)
+abbrev pub IsCrossing : {W M : Type 0} → (M → Spot) → Face → Plane → Crossing W M → Type 0
+IsCrossing spot f p crossing.Below = IsReach f p reach.Below
+IsCrossing spot f p crossing.Above = IsReach f p reach.Above
+IsCrossing spot f p crossing.On = IsReach f p reach.On
+IsCrossing spot f p (crossing.Along y z) = IsChord f p (spot y) (spot z)
 
 -- whether f has an inside point above none of the planes, as far as it is known
 abbrev pub IsOverlap : Face → List Plane → Overlap → Type 0

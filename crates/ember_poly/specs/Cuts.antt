@@ -41,7 +41,7 @@ pub record AreParts (f : Face) (p : Plane) (low high : Face) : Type 0 where
   pub is_high : high ≡ above f p
 
 -- the side on which all of f lies, or its two parts
-abbrev pub IsCut : Face → Plane → Cut → Type 0
+abbrev pub IsCut : {W M : Type 0} → Face → Plane → Cut W M → Type 0
 IsCut f p cut.Below = IsReach f p reach.Below
 IsCut f p cut.Above = IsReach f p reach.Above
 IsCut f p cut.On = IsReach f p reach.On

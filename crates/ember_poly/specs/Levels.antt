@@ -1,11 +1,9 @@
--- Planes across an axis that have small numbers, and where other planes meet them
-use Rattle.std.specs.Prelude.{◌≡◌, ℤ, pos, negsuc, neg_ℤ, ◌-ℤ◌, ◌*ℤ◌, Bool, true, false}
+-- Levels: planes across an axis whose entry along it is 1 or -1
+use Rattle.std.specs.Prelude.{◌≡◌, ℤ, pos, negsuc, neg_ℤ, Bool, true, false}
 use Rattle.ember_model.specs.declared.point.Axis.{Axis}
-use Rattle.ember_model.specs.declared.point.Axis.TheVariants.{X, Y, Z}
-use Rattle.ember_model.specs.declared.point.Spot.{Spot}
 use Rattle.ember_model.specs.declared.plane.Plane.{Plane}
 use Rattle.ember_model.specs.Planes.{along}
-use Rattle.ember_poly.specs.Passages.{IsAlong}
+use Rattle.ember_width.specs.Levels.{IsAlong}
 
 -- the plane has the coordinate `at`: the entry of its normal is 1 or -1, by the side to which its front points
 abbrev pub FacesAt : Bool → ℤ → ℤ → ℤ → Type 0
@@ -15,33 +13,3 @@ FacesAt false at n d = (n ≡ negsuc 0) × (d ≡ neg_ℤ at)
 -- the points of p are those with this coordinate along the axis
 abbrev pub IsLevel : Axis → ℤ → Bool → Plane → Type 0
 IsLevel k at is_up p = IsAlong k p × FacesAt is_up at (along p k) p.d
-
--- ---- the line a u + b v = d w of a plane in the level
-abbrev pub line_a : Axis → Plane → ℤ
-line_a X p = p.b
-line_a Y p = p.c
-line_a Z p = p.a
-
-abbrev pub line_b : Axis → Plane → ℤ
-line_b X p = p.c
-line_b Y p = p.a
-line_b Z p = p.b
-
-abbrev pub line_d : Axis → ℤ → Plane → ℤ
-line_d k at p = p.d -ℤ along p k *ℤ at
-
--- greater than 0 if the line of p turns to that of q counter-clockwise, seen from above
-abbrev pub turn_at : Axis → Plane → Plane → ℤ
-turn_at k p q = line_a k p *ℤ line_b k q -ℤ line_b k p *ℤ line_a k q
-
--- the point with this coordinate along the axis and these along the next two
-abbrev pub point_at : Axis → ℤ → ℤ → ℤ → ℤ → Spot
-point_at X t u v w = record { x = t; y = u; z = v; w = w }
-point_at Y t u v w = record { x = v; y = t; z = u; w = w }
-point_at Z t u v w = record { x = u; y = v; z = t; w = w }
-
--- the meet of the two lines
-abbrev pub level_meet : Axis → ℤ → Plane → Plane → Spot
-level_meet k at p q =
-    point_at k (at *ℤ turn_at k p q) (line_d k at p *ℤ line_b k q -ℤ line_b k p *ℤ line_d k at q)
-    (line_d k at q *ℤ line_a k p -ℤ line_a k q *ℤ line_d k at p) (turn_at k p q)

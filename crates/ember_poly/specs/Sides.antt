@@ -5,18 +5,18 @@ use Rattle.ember_model.specs.declared.plane.Plane.{Plane}
 use Rattle.ember_model.specs.declared.point.Spot.{Spot}
 use Rattle.ember_model.specs.declared.face.Face.{Face}
 use Rattle.ember_model.specs.Planes.{value_at}
-use Rattle.ember_model.specs.Valid.{IsValidPlane}
 use Rattle.ember_model.specs.Edges.{SamePoint, RingEdge, IsOutline}
-use Rattle.ember_point.specs.declared.meet_point.Meet.{Meet}
-use Rattle.ember_point.specs.Points.{spot_of}
 use Rattle.ember_poly.specs.Rings.{Side, IsInClosedRing, Represents}
 
+-- here M is the type of corners, and spot gives the point that a corner represents
+
 -- the sides of three lists: edge planes, start corners and indices
-abbrev pub sides_of : List Plane → List Meet → List ℕ → List Side
-sides_of [] ms bs = []
-sides_of (e ∷ es) [] bs = []
-sides_of (e ∷ es) (m ∷ ms) [] = []
-sides_of (e ∷ es) (m ∷ ms) (b ∷ bs) = record { plane = e; corner = spot_of m; plane_index = b } ∷ sides_of es ms bs
+abbrev pub sides_of : {M : Type 0} → (M → Spot) → List Plane → List M → List ℕ → List Side
+sides_of spot [] ms bs = []
+sides_of spot (e ∷ es) [] bs = []
+sides_of spot (e ∷ es) (m ∷ ms) [] = []
+sides_of spot (e ∷ es) (m ∷ ms) (b ∷ bs) =
+    record { plane = e; corner = spot m; plane_index = b } ∷ sides_of spot es ms bs
 
 -- the first side is the oldest: its plane has the lowest index
 abbrev pub OldestFirst : List Side → Type 0
@@ -41,32 +41,34 @@ abbrev pub EachHasSideOrNoEdge : Plane → List Plane → List Side → Type 0
 EachHasSideOrNoEdge n gs xs =
     (i : ℕ) (h : Plane) → slice_get gs i ≡ Some h → HasPlaneIndex i xs ⊎ IsZeroAtOnePoint n xs h
 
--- what a ring keeps: the support plane, all planes, and the edges with their corners and plane indices
-pub record IsRing (n : Plane) (gs es : List Plane) (ms : List Meet) (bs : List ℕ) : Type 0 where
-  pub represents : Represents n gs (sides_of es ms bs)
-  pub oldest : OldestFirst (sides_of es ms bs)
-  pub counted : EachHasSideOrNoEdge n gs (sides_of es ms bs)
+-- what a ring keeps: the support plane, all planes, and the edges with their corners and plane indices. IsPlane says
+-- which planes are allowed
+pub record IsRing {M : Type 0} (IsPlane : Plane → Type 0) (spot : M → Spot) (n : Plane) (gs es : List Plane)
+    (ms : List M) (bs : List ℕ) : Type 0 where
+  pub represents : Represents n gs (sides_of spot es ms bs)
+  pub oldest : OldestFirst (sides_of spot es ms bs)
+  pub counted : EachHasSideOrNoEdge n gs (sides_of spot es ms bs)
   pub corners : length ms ≡ length es
   pub plane_indices : length bs ≡ length es
-  pub support : IsValidPlane n
-  pub planes : All IsValidPlane gs
+  pub support : IsPlane n
+  pub planes : All IsPlane gs
 
 -- ---- the edges with their start corners
-abbrev pub ring_edges : List Plane → List Meet → List RingEdge
-ring_edges [] ms = []
-ring_edges (e ∷ es) [] = []
-ring_edges (e ∷ es) (m ∷ ms) = record { plane = e; start = spot_of m } ∷ ring_edges es ms
+abbrev pub ring_edges : {M : Type 0} → (M → Spot) → List Plane → List M → List RingEdge
+ring_edges spot [] ms = []
+ring_edges spot (e ∷ es) [] = []
+ring_edges spot (e ∷ es) (m ∷ ms) = record { plane = e; start = spot m } ∷ ring_edges spot es ms
 
 -- the edge planes of the outline of f, in order
-pub record AreEdges (f : Face) (es : List Plane) : Type 0 where
-  pub starts : List Meet
-  pub outline : IsOutline f (ring_edges es starts)
+pub record AreEdges {M : Type 0} (spot : M → Spot) (f : Face) (es : List Plane) : Type 0 where
+  pub starts : List M
+  pub outline : IsOutline f (ring_edges spot es starts)
   pub paired : length starts ≡ length es
   pub three : 3 ≤ length es
 
 -- the start corners of the outline of f, in order
-pub record AreCorners (f : Face) (ms : List Meet) : Type 0 where
+pub record AreCorners {M : Type 0} (spot : M → Spot) (f : Face) (ms : List M) : Type 0 where
   pub planes : List Plane
-  pub outline : IsOutline f (ring_edges planes ms)
+  pub outline : IsOutline f (ring_edges spot planes ms)
   pub paired : length ms ≡ length planes
   pub three : 3 ≤ length ms

@@ -1,28 +1,28 @@
 // The sides of a ring.
-ghost use Rattle.std.specs.Prelude.{◌≡◌, ◌≤◌, ◌<◌, length, IfOk, OnOk};
-ghost use Rattle.ember_point.specs.Points.{spot_of};
+ghost use Rattle.std.specs.Prelude.{◌≡◌, ◌≤◌, ◌<◌, length, map, IfOk, OnOk};
+ghost use Rattle.ember_model.specs.Within.{IsTriWithin};
 ghost use Rattle.ember_poly.specs.Rings.{closing_side};
-ghost use Rattle.ember_poly.specs.Boundaries.{sides, rotated, replace_between, with_start_at, HasEqualLengths, IsPartOfBoundary, IsRotated, LeastFirst};
+ghost use Rattle.ember_poly.specs.Boundaries.{tri_corners, sides, rotated, replace_between, with_start_at, HasEqualLengths, IsPartOfBoundary, IsRotated, LeastFirst};
 
 use crate::passage::Passage;
-use ember_model::{OutOfMemory, Plane};
-use ember_point::Meet;
+use ember_model::{OutOfMemory, Plane, Tri};
+use ember_width::Width;
 use std::alloc::{AllocError, Global};
 
 /// The sides of a ring, in order around the face: for each edge that counts its plane, the corner
 /// at which it starts, and the index of its plane among all planes of the face.
 #[derive(Drop)]
-pub struct Boundary {
+pub struct Boundary<W: Width> {
     pub edges: Vec<Plane>,
-    pub corners: Vec<Meet>,
+    pub corners: Vec<W::Point>,
     pub plane_indices: Vec<usize>,
 }
 
 // The side that a plane adds to a ring.
-#[derive(Clone, Copy)]
-struct ClosingSide {
+#[derive(Drop)]
+struct ClosingSide<W: Width> {
     plane: Plane,
-    corner: Meet,
+    corner: W::Point,
     plane_index: usize,
 }
 
@@ -73,9 +73,21 @@ pub fn with_room<T: Copy>(alloc: Global, items: &[T], room: usize) -> Result<Vec
     Ok(list)
 }
 
-impl Boundary {
+/// Replaces the list by the triangle's corners. The only error is out-of-memory.
+pub fn put_corners<W: Width>(list: &mut Vec<W::Point>, t: &Tri) -> Result<(), AllocError>
+    requires { IsTriWithin W.corner t.now }
+    ensures { OnOk result (map W.spot list.new.items ≡ tri_corners t.now) }
+{
+    list.clear();
+    list.push(W::point_at(&t.a))?;
+    list.push(W::point_at(&t.b))?;
+    list.push(W::point_at(&t.c))?;
+    Ok(())
+}
+
+impl<W: Width> Boundary<W> {
     /// A boundary without sides.
-    pub fn new(alloc: Global) -> Boundary {
+    pub fn new(alloc: Global) -> Boundary<W> {
         Boundary {
             edges: Vec::new(alloc),
             corners: Vec::new(alloc),
@@ -84,7 +96,7 @@ impl Boundary {
     }
 
     /// A copy, with room for `room` more sides. The only error is out-of-memory.
-    pub fn copy(&self, alloc: Global, room: usize) -> Result<Boundary, OutOfMemory>
+    pub fn copy(&self, alloc: Global, room: usize) -> Result<Boundary<W>, OutOfMemory>
         ensures edges { IfOk result (λ r. r.edges.items ≡ self.now.edges.items) }
         ensures corners { IfOk result (λ r. r.corners.items ≡ self.now.corners.items) }
         ensures plane_indices { IfOk result (λ r. r.plane_indices.items ≡ self.now.plane_indices.items) }
@@ -103,7 +115,7 @@ impl Boundary {
     fn rotate(&mut self, index: usize)
         requires index { index ≤ length self.old.edges.items }
         requires paired { HasEqualLengths self.old }
-        ensures order { sides self.new ≡ rotated index (sides self.old) }
+        ensures order { sides W.spot self.new ≡ rotated index (sides W.spot self.old) }
         ensures plane_indices { self.new.plane_indices.items ≡ rotated index self.old.plane_indices.items }
         ensures count { length self.new.edges.items ≡ length self.old.edges.items }
         ensures paired { HasEqualLengths self.new }
@@ -117,10 +129,10 @@ impl Boundary {
     }
 
     // Lets an edge start at another corner.
-    fn set_start(&mut self, index: usize, corner: Meet)
+    fn set_start(&mut self, index: usize, corner: W::Point)
         requires index { index < length self.old.edges.items }
         requires paired { HasEqualLengths self.old }
-        ensures order { sides self.new ≡ with_start_at index (spot_of corner) (sides self.old) }
+        ensures order { sides W.spot self.new ≡ with_start_at index (W.spot corner) (sides W.spot self.old) }
         ensures edges { self.new.edges ≡ self.old.edges }
         ensures paired { HasEqualLengths self.new }
     {
@@ -128,13 +140,13 @@ impl Boundary {
     }
 
     // Puts a side in place of the sides with the indices `from` to `to - 1`.
-    fn put(&mut self, from: usize, to: usize, side: ClosingSide) -> Result<(), OutOfMemory>
+    fn put(&mut self, from: usize, to: usize, side: ClosingSide<W>) -> Result<(), OutOfMemory>
         requires order { from ≤ to }
         requires within { to ≤ length self.old.edges.items }
         requires paired { HasEqualLengths self.old }
-        ensures order { OnOk result (sides self.new ≡
-            replace_between from to (closing_side side.plane (spot_of side.corner) side.plane_index)
-            (sides self.old)) }
+        ensures order { OnOk result (sides W.spot self.new ≡
+            replace_between from to (closing_side side.plane (W.spot side.corner) side.plane_index)
+            (sides W.spot self.old)) }
         ensures some { OnOk result (0 < length self.new.edges.items) }
         ensures paired { OnOk result (HasEqualLengths self.new) }
     {
@@ -149,14 +161,14 @@ impl Boundary {
     /// The only error is out-of-memory.
     pub fn close(
         &mut self,
-        passage: &Passage,
+        passage: &Passage<W>,
         plane: Plane,
         plane_index: usize,
     ) -> Result<(), OutOfMemory>
         requires entry_edge { passage.now.entry_edge < length self.old.edges.items }
         requires below_count { passage.now.below_count < length self.old.edges.items }
         requires paired { HasEqualLengths self.old }
-        ensures part { OnOk result (IsPartOfBoundary self.old passage.now plane plane_index self.new) }
+        ensures part { OnOk result (IsPartOfBoundary W.spot self.old passage.now plane plane_index self.new) }
         ensures some { OnOk result (0 < length self.new.edges.items) }
     {
         let side = ClosingSide {
@@ -186,7 +198,7 @@ impl Boundary {
     pub fn rotate_to_oldest(&mut self)
         requires some { 0 < length self.old.edges.items }
         requires paired { HasEqualLengths self.old }
-        ensures order { IsRotated self.old self.new }
+        ensures order { IsRotated W.spot self.old self.new }
         ensures paired { HasEqualLengths self.new }
         ensures oldest { LeastFirst self.new.plane_indices.items }
     {

@@ -1,6 +1,6 @@
 // Rings cut by planes.
 ghost use Rattle.std.specs.Prelude.{◌≡◌, IfOk};
-ghost use Rattle.ember_model.specs.Valid.{IsValidPlane};
+ghost use Rattle.ember_width.specs.Broad.{IsBroadPlane};
 ghost use Rattle.ember_model.specs.Planes.{opposite};
 ghost use Rattle.ember_model.specs.Faces.{Cuts, below, above};
 ghost use Rattle.ember_poly.specs.Cuts.{AreParts, IsClip, IsCut};
@@ -10,13 +10,13 @@ use crate::reach_and_cut::{Cut, Reach};
 use crate::reaching::reach;
 use crate::ring::{Ring, copy};
 use ember_model::{OutOfMemory, Plane};
+use ember_width::Width;
 use std::alloc::Global;
 
 // The same plane with the opposite front.
 fn opposite(p: &Plane) -> Plane
-    requires { IsValidPlane p.now }
-    ensures value { result ≡ opposite p.now }
-    ensures valid { IsValidPlane result }
+    requires { IsBroadPlane p.now }
+    ensures { result ≡ opposite p.now }
 {
     Plane {
         a: -p.a,
@@ -28,8 +28,8 @@ fn opposite(p: &Plane) -> Plane
 
 /// What a plane leaves of a ring: the part below it if inside points are on both sides, the
 /// ring itself if they are on one side or on the plane, and which of these it is.
-pub fn clip(r: Ring, plane: &Plane) -> Result<(Reach, Ring), OutOfMemory>
-    requires { IsValidPlane plane.now }
+pub fn clip<W: Width>(r: Ring<W>, plane: &Plane) -> Result<(Reach, Ring<W>), OutOfMemory>
+    requires { W.IsPlane plane.now }
     ensures { IfOk result (λ left. IsClip r plane.now left.0 left.1) }
 {
     let mut draft = draft_of(r);
@@ -38,8 +38,8 @@ pub fn clip(r: Ring, plane: &Plane) -> Result<(Reach, Ring), OutOfMemory>
 }
 
 // The part below a plane that has inside points of the ring on both sides.
-fn below(r: Ring, p: &Plane) -> Result<Ring, OutOfMemory>
-    requires plane { IsValidPlane p.now }
+fn below<W: Width>(r: Ring<W>, p: &Plane) -> Result<Ring<W>, OutOfMemory>
+    requires plane { W.IsPlane p.now }
     requires cuts { Cuts r p.now }
     ensures { IfOk result (λ part. part ≡ below r p.now) }
 {
@@ -49,8 +49,8 @@ fn below(r: Ring, p: &Plane) -> Result<Ring, OutOfMemory>
 
 /// The part above a plane that has inside points of the ring on both sides: it has the opposite
 /// plane.
-pub fn above(r: Ring, p: &Plane) -> Result<Ring, OutOfMemory>
-    requires plane { IsValidPlane p.now }
+pub fn above<W: Width>(r: Ring<W>, p: &Plane) -> Result<Ring<W>, OutOfMemory>
+    requires plane { W.IsPlane p.now }
     requires cuts { Cuts r p.now }
     ensures { IfOk result (λ part. part ≡ above r p.now) }
 {
@@ -59,8 +59,12 @@ pub fn above(r: Ring, p: &Plane) -> Result<Ring, OutOfMemory>
 
 /// The parts below and above a plane that has inside points of the ring on both sides: the part
 /// above has the opposite plane.
-pub fn parts(alloc: Global, r: Ring, plane: &Plane) -> Result<(Ring, Ring), OutOfMemory>
-    requires plane { IsValidPlane plane.now }
+pub fn parts<W: Width>(
+    alloc: Global,
+    r: Ring<W>,
+    plane: &Plane,
+) -> Result<(Ring<W>, Ring<W>), OutOfMemory>
+    requires plane { W.IsPlane plane.now }
     requires cuts { Cuts r plane.now }
     ensures { IfOk result (λ both. AreParts r plane.now both.0 both.1) }
 {
@@ -71,8 +75,8 @@ pub fn parts(alloc: Global, r: Ring, plane: &Plane) -> Result<(Ring, Ring), OutO
 
 /// Cuts a ring by a plane: the part below has the plane as one more edge plane, the part above
 /// has its opposite. Only tests call this.
-pub fn cut(alloc: Global, r: &Ring, p: &Plane) -> Result<Cut, OutOfMemory>
-    requires { IsValidPlane p.now }
+pub fn cut<W: Width>(alloc: Global, r: &Ring<W>, p: &Plane) -> Result<Cut<W>, OutOfMemory>
+    requires { W.IsPlane p.now }
     ensures { IfOk result (λ c. IsCut r.now p.now c) }
 {
     match reach(r, p) {

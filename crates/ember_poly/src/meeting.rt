@@ -1,14 +1,12 @@
 // Rings and triangles that meet.
-ghost use Rattle.std.specs.Prelude.{◌≡◌, ◌↔◌, ◌^◌, IsTrue, true, false, All, ℤ, pos, ◌<ℤ◌};
-ghost use Rattle.ember_algebra.specs.Size.{Small};
+ghost use Rattle.std.specs.Prelude.{◌≡◌, ◌↔◌, IsTrue, true, false, All, ℤ, pos, ◌<ℤ◌};
 ghost use Rattle.ember_algebra.specs.Sign.{sgn, is_positive};
-ghost use Rattle.ember_model.specs.Valid.{IsValidCorner, IsValidTri, IsValidPlane};
+ghost use Rattle.ember_model.specs.Within.{IsTriWithin};
 ghost use Rattle.ember_model.specs.Planes.{value_at};
 ghost use Rattle.ember_model.specs.Faces.{Meets, Somewhere, is_flat, face_of};
 ghost use Rattle.ember_model.specs.ClearTest.{face_with, none_positive};
-ghost use Rattle.ember_point.specs.Points.{spot_of};
+ghost use Rattle.ember_width.specs.Broad.{IsBroadPlane, most_floor};
 ghost use Rattle.ember_poly.specs.Cuts.{HasInside};
-ghost use Rattle.ember_model.specs.Owners.{spot_of_corner};
 ghost use Rattle.ember_poly.specs.Chords.{IsOnOneSide, IsCrossing, IsOverlap, IsChordPart, IsLine, IsOpen, HasVertexWithin};
 
 use crate::passage::{classify, find_passage};
@@ -17,8 +15,8 @@ use crate::reaching::reach;
 use crate::ring;
 use crate::ring::{Ring, main_edges};
 use ember_algebra::Sign;
-use ember_model::{Corner, Plane, Tri, support_of};
-use ember_point::{Meet, meet, side};
+use ember_model::{Plane, Tri, support_of};
+use ember_width::{Width, value_at_corner};
 
 // What a plane leaves of the chord between two points.
 #[derive(Clone, Copy, PartialEq, Eq)]
@@ -52,20 +50,20 @@ fn chord_part_of(y: Sign, z: Sign) -> ChordPart
 }
 
 // Whether the point lies above the plane.
-fn is_above(edge: &Plane, m: &Meet) -> bool
-    requires { IsValidPlane edge.now }
-    ensures { result ≡ is_positive (value_at edge.now (spot_of m.now)) }
+fn is_above<W: Width>(edge: &Plane, m: &W::Point) -> bool
+    requires { W.IsPlane edge.now }
+    ensures { result ≡ is_positive (value_at edge.now (W.spot m.now)) }
 {
-    side(edge, m) == Sign::Pos
+    W::side(edge, m) == Sign::Pos
 }
 
 // Whether the point lies above none of the planes.
-fn none_above(edges: &[Plane], m: &Meet) -> bool
-    requires { All IsValidPlane edges.now }
-    ensures { result ≡ none_positive edges.now (spot_of m.now) }
+fn none_above<W: Width>(edges: &[Plane], m: &W::Point) -> bool
+    requires { All W.IsPlane edges.now }
+    ensures { result ≡ none_positive edges.now (W.spot m.now) }
 {
     for edge in edges {
-        if is_above(edge, m) {
+        if is_above::<W>(edge, m) {
             return false;
         }
     }
@@ -74,36 +72,36 @@ fn none_above(edges: &[Plane], m: &Meet) -> bool
 
 // Whether the planes `support`, `p` and `edge` meet in one point, and it is above none of the
 // planes of the list.
-fn has_vertex_within(support: &Plane, p: &Plane, edge: &Plane, edges: &[Plane]) -> bool
-    requires valid_support { IsValidPlane support.now }
-    requires valid_p { IsValidPlane p.now }
-    requires valid_edge { IsValidPlane edge.now }
-    requires valid { All IsValidPlane edges.now }
+fn has_vertex_within<W: Width>(support: &Plane, p: &Plane, edge: &Plane, edges: &[Plane]) -> bool
+    requires valid_support { W.IsPlane support.now }
+    requires valid_p { W.IsPlane p.now }
+    requires valid_edge { W.IsPlane edge.now }
+    requires valid { All W.IsPlane edges.now }
     ensures { IsTrue result ↔ HasVertexWithin support.now p.now edge.now edges.now }
 {
-    match meet(support, p, edge) {
-        Some(m) => none_above(edges, &m),
+    match W::meet(support, p, edge) {
+        Some(m) => none_above::<W>(edges, &m),
         None => false,
     }
 }
 
 // Whether some point between the chord's two ends is above none of the planes of the list.
-fn chord_has_point_within(
+fn chord_has_point_within<W: Width>(
     support: &Plane,
     p: &Plane,
-    from: &Meet,
-    to: &Meet,
+    from: &W::Point,
+    to: &W::Point,
     edges: &[Plane],
 ) -> bool
-    requires valid_support { IsValidPlane support.now }
-    requires valid_p { IsValidPlane p.now }
-    requires valid { All IsValidPlane edges.now }
-    requires line { IsLine support.now p.now (spot_of from.now) (spot_of to.now) }
-    ensures { IsTrue result ↔ IsOpen edges.now (spot_of from.now) (spot_of to.now) }
+    requires valid_support { W.IsPlane support.now }
+    requires valid_p { W.IsPlane p.now }
+    requires valid { All W.IsPlane edges.now }
+    requires line { IsLine support.now p.now (W.spot from.now) (W.spot to.now) }
+    ensures { IsTrue result ↔ IsOpen edges.now (W.spot from.now) (W.spot to.now) }
 {
     let mut free = true;
     for edge in edges {
-        match chord_part_of(side(edge, from), side(edge, to)) {
+        match chord_part_of(W::side(edge, from), W::side(edge, to)) {
             ChordPart::Whole => {}
             ChordPart::Empty => {
                 return false;
@@ -111,7 +109,7 @@ fn chord_has_point_within(
             ChordPart::Split => {
                 // If a part of the chord is left, it ends at the point of a splitting plane, and
                 // this point is above none of the planes. So only these points are tested.
-                if has_vertex_within(support, p, edge, edges) {
+                if has_vertex_within::<W>(support, p, edge, edges) {
                     return true;
                 }
                 free = false;
@@ -123,20 +121,20 @@ fn chord_has_point_within(
 
 // How a ring lies relative to a plane: on one side, in it, or cut by it along a chord between two
 // points.
-#[derive(Clone, Copy)]
-enum Crossing {
+#[derive(Drop)]
+enum Crossing<W: Width> {
     Below,
     Above,
     On,
-    Along(Meet, Meet),
+    Along(W::Point, W::Point),
 }
 
 // How the ring lies relative to the plane.
-fn cross(r: &Ring, p: &Plane) -> Crossing
-    requires { IsValidPlane p.now }
-    ensures { IsCrossing r.now p.now result }
+fn cross<W: Width>(r: &Ring<W>, p: &Plane) -> Crossing<W>
+    requires { W.IsPlane p.now }
+    ensures { IsCrossing W.spot r.now p.now result }
 {
-    let classified = classify(p, r.boundary.corners.as_slice());
+    let classified = classify::<W>(p, r.boundary.corners.as_slice());
     match classified.reach {
         Reach::Below => Crossing::Below,
         Reach::Above => Crossing::Above,
@@ -150,8 +148,8 @@ fn cross(r: &Ring, p: &Plane) -> Crossing
 }
 
 // Whether some inside point is above none of the planes, by the chords in which they cut the ring.
-fn has_point_within_by_chords(r: &Ring, edges: &[Plane]) -> bool
-    requires planes { All IsValidPlane edges.now }
+fn has_point_within_by_chords<W: Width>(r: &Ring<W>, edges: &[Plane]) -> bool
+    requires planes { All W.IsPlane edges.now }
     requires inside { HasInside r.now }
     ensures { IsTrue result ↔ Somewhere r.now (λ v. none_positive edges.now v ≡ true) }
 {
@@ -167,7 +165,7 @@ fn has_point_within_by_chords(r: &Ring, edges: &[Plane]) -> bool
             Crossing::Along(y, z) => {
                 // If some inside point is above none of the planes, then such a point is also on
                 // the chord of a plane that cuts the ring. So only the chords are tested.
-                if chord_has_point_within(&n, edge, &y, &z, edges) {
+                if chord_has_point_within::<W>(&n, edge, &y, &z, edges) {
                     return true;
                 }
                 free = false;
@@ -192,8 +190,8 @@ enum Overlap {
 
 // Whether the ring has an inside point above none of the planes, as far as one pass over the
 // corners for each plane shows. It computes no meet.
-fn overlap_of(r: &Ring, edges: &[Plane]) -> Overlap
-    requires planes { All IsValidPlane edges.now }
+fn overlap_of<W: Width>(r: &Ring<W>, edges: &[Plane]) -> Overlap
+    requires planes { All W.IsPlane edges.now }
     requires inside { HasInside r.now }
     ensures { IsOverlap r.now edges.now result }
 {
@@ -220,8 +218,8 @@ fn overlap_of(r: &Ring, edges: &[Plane]) -> Overlap
 }
 
 /// Whether some inside point of the ring is above none of the planes.
-pub fn has_point_within(r: &Ring, edges: &[Plane]) -> bool
-    requires planes { All IsValidPlane edges.now }
+pub fn has_point_within<W: Width>(r: &Ring<W>, edges: &[Plane]) -> bool
+    requires planes { All W.IsPlane edges.now }
     requires inside { HasInside r.now }
     ensures { IsTrue result ↔ Somewhere r.now (λ v. none_positive edges.now v ≡ true) }
 {
@@ -234,27 +232,17 @@ pub fn has_point_within(r: &Ring, edges: &[Plane]) -> bool
 
 /// Whether some inside point of the ring lies in the closed face of a support plane and edge
 /// planes.
-pub fn meets_face(r: &Ring, support: &Plane, edges: &[Plane]) -> bool
-    requires support { IsValidPlane support.now }
-    requires edges { All IsValidPlane edges.now }
+pub fn meets_face<W: Width>(r: &Ring<W>, support: &Plane, edges: &[Plane]) -> bool
+    requires support { W.IsPlane support.now }
+    requires edges { All W.IsPlane edges.now }
     ensures { IsTrue result ↔ Meets r.now (face_with support.now edges.now) }
 {
     let n = ring::support(r);
     match cross(r, support) {
         Crossing::Below | Crossing::Above => false,
         Crossing::On => has_point_within(r, edges),
-        Crossing::Along(y, z) => chord_has_point_within(&n, support, &y, &z, edges),
+        Crossing::Along(y, z) => chord_has_point_within::<W>(&n, support, &y, &z, edges),
     }
-}
-
-// The value of the plane at the corner.
-fn height(p: &Plane, u: &Corner) -> i64
-    requires plane { IsValidPlane p.now }
-    requires corner { IsValidCorner u.now }
-    ensures value { result ≡ value_at p.now (spot_of_corner u.now) }
-    ensures small { Small (2 ^ 40) result }
-{
-    p.a * u.x as i64 + p.b * u.y as i64 + p.c * u.z as i64 - p.d
 }
 
 // `true` only if all three values are positive.
@@ -273,19 +261,19 @@ fn are_below(a: i64, b: i64, c: i64) -> bool
 
 // `true` only if the triangle lies strictly on one side of the plane; `false` shows nothing.
 fn is_on_one_side(p: &Plane, t: &Tri) -> bool
-    requires plane { IsValidPlane p.now }
-    requires tri { IsValidTri t.now }
+    requires plane { IsBroadPlane p.now }
+    requires tri { IsTriWithin most_floor t.now }
     ensures { IsTrue result → IsOnOneSide p.now t.now }
 {
-    let a = height(p, &t.a);
-    let b = height(p, &t.b);
-    let c = height(p, &t.c);
+    let a = value_at_corner(p, &t.a);
+    let b = value_at_corner(p, &t.b);
+    let c = value_at_corner(p, &t.c);
     are_above(a, b, c) || are_below(a, b, c)
 }
 
 /// Whether some inside point of the ring lies in the closed face of the triangle.
-pub fn meets(r: &Ring, t: &Tri) -> bool
-    requires tri { IsValidTri t.now }
+pub fn meets<W: Width>(r: &Ring<W>, t: &Tri) -> bool
+    requires tri { IsTriWithin W.corner t.now }
     requires normal { is_flat t.now ≡ false }
     ensures { IsTrue result ↔ Meets r.now (face_of t.now) }
 {

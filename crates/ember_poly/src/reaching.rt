@@ -2,8 +2,6 @@
 ghost use Rattle.std.specs.Prelude.{◌≡◌, ◌++◌, ◌∷◌, [], List};
 ghost use Rattle.ember_algebra.specs.Sign.{sgn};
 ghost use Rattle.ember_model.specs.Planes.{value_at};
-ghost use Rattle.ember_point.specs.Points.{spot_of};
-ghost use Rattle.ember_model.specs.Valid.{IsValidPlane};
 ghost use Rattle.ember_poly.specs.Cuts.{IsReach};
 ghost use Rattle.ember_poly.specs.Passages.{AreSigns};
 
@@ -11,12 +9,12 @@ use crate::reach_and_cut::Reach;
 use crate::ring::Ring;
 use ember_algebra::Sign;
 use ember_model::Plane;
-use ember_point::{Meet, side};
+use ember_width::Width;
 
 // The reach of corners that have the reach `seen` and of one more, on the side `at`.
-fn with_corner(seen: Reach, at: Sign) -> Reach
-    ensures { (p : Plane) (ms : List Meet) (m : Meet) → AreSigns p ms seen → at ≡ sgn (value_at p (spot_of m)) →
-        AreSigns p (ms ++ m ∷ []) result }
+fn with_corner<W: Width>(seen: Reach, at: Sign) -> Reach
+    ensures { (p : Plane) (ms : List _) (m : _) → AreSigns W.spot p ms seen → at ≡ sgn (value_at p (W.spot m)) →
+        AreSigns W.spot p (ms ++ m ∷ []) result }
 {
     match at {
         Sign::Zero => seen,
@@ -36,13 +34,13 @@ fn with_corner(seen: Reach, at: Sign) -> Reach
 }
 
 // On which sides of the plane the corners are.
-fn reach_of_corners(p: &Plane, corners: &[Meet]) -> Reach
-    requires { IsValidPlane p.now }
-    ensures { AreSigns p.now corners.now result }
+fn reach_of_corners<W: Width>(p: &Plane, corners: &[W::Point]) -> Reach
+    requires { W.IsPlane p.now }
+    ensures { AreSigns W.spot p.now corners.now result }
 {
     let mut seen = Reach::On;
     for m in corners {
-        match with_corner(seen, side(p, m)) {
+        match with_corner::<W>(seen, W::side(p, m)) {
             Reach::Both => {
                 return Reach::Both;
             }
@@ -55,9 +53,9 @@ fn reach_of_corners(p: &Plane, corners: &[Meet]) -> Reach
 }
 
 /// On which sides of the plane the inside points of the ring lie.
-pub fn reach(r: &Ring, p: &Plane) -> Reach
-    requires { IsValidPlane p.now }
+pub fn reach<W: Width>(r: &Ring<W>, p: &Plane) -> Reach
+    requires { W.IsPlane p.now }
     ensures { IsReach r.now p.now result }
 {
-    reach_of_corners(p, r.boundary.corners.as_slice())
+    reach_of_corners::<W>(p, r.boundary.corners.as_slice())
 }

@@ -32,7 +32,7 @@ planes_of es = map (λ (e : RingEdge). e.plane) es
 -- the edges of a ring, with start corners in lowest terms
 record HasWrittenEdges (es : List Plane) (ms : List Meet) : Type 0 where
   edges : List RingEdge
-  moved : HaveSameStarts (ring_edges es ms) edges
+  moved : HaveSameStarts (ring_edges spot_of es ms) edges
   written : AllByRecursion IsWrittenEdge edges
   planes : planes_of edges ≡ es
 
@@ -101,13 +101,13 @@ written_turned (e ∷ d ∷ es) w =
 
 -- ---- the face of a ring
 module _ (f : Face) (n : Plane) (es : List Plane) (ms : List Meet) (support : n ≡ f.support)
-    (outline : IsOutline f (ring_edges es ms)) (paired : length ms ≡ length es) (three : 3 ≤ length es)
+    (outline : IsOutline f (ring_edges spot_of es ms)) (paired : length ms ≡ length es) (three : 3 ≤ length es)
     (valid : All IsValidPlane es) where
   found : HasWrittenEdges es ms
   found = written_edges es ms paired (recursion_from_All IsValidPlane es valid)
 
   found_outline : IsOutline f found.edges
-  found_outline = outline_moved f (ring_edges es ms) found.edges found.moved outline
+  found_outline = outline_moved f (ring_edges spot_of es ms) found.edges found.moved outline
 
   long : length found.edges ≡ length es
   long = sym (length-map found.edges (λ (e : RingEdge). e.plane)) ∙ ap (λ (ps : List Plane). length ps) found.planes

@@ -9,7 +9,7 @@ use Rattle.ember_poly.specs.Sides.{ring_edges}
 use Rattle.ember_text.specs.Texts.{edge_with}
 
 -- there are as many edges with corners as edges
-pub length-ring_edges : (es : List Plane) (ms : List Meet) → length ms ≡ length es → length (ring_edges es ms) ≡ length es
+pub length-ring_edges : (es : List Plane) (ms : List Meet) → length ms ≡ length es → length (ring_edges spot_of es ms) ≡ length es
 length-ring_edges [] ms p = refl
 length-ring_edges (e ∷ es) [] p = absurd (omega (arith, p))
 length-ring_edges (e ∷ es) (m ∷ ms) p = ap (λ n. suc n) (length-ring_edges es ms (omega (arith, p)))
@@ -18,7 +18,7 @@ abbrev pub zero_plane : Plane
 zero_plane = record { a = pos 0; b = pos 0; c = pos 0; d = pos 0 }
 
 ring_get : (es : List Plane) (ms : List Meet) (i : ℕ) (d : RingEdge) (e : Plane) (m : Meet) → length ms ≡ length es →
-    i < length es → get_or (ring_edges es ms) i d ≡ record { plane = get_or es i e; start = spot_of (get_or ms i m) }
+    i < length es → get_or (ring_edges spot_of es ms) i d ≡ record { plane = get_or es i e; start = spot_of (get_or ms i m) }
 ring_get [] ms i d e m p l = absurd (omega (arith, l))
 ring_get (f ∷ es) [] i d e m p l = absurd (omega (arith, p))
 ring_get (f ∷ es) (u ∷ ms) zero d e m p l = refl
@@ -26,6 +26,6 @@ ring_get (f ∷ es) (u ∷ ms) (suc i) d e m p l = ring_get es ms i d e m (omega
 
 -- the edge with index i has the plane and the corner with index i
 pub ring_at : (es : List Plane) (ms : List Meet) (i : ℕ) (d : RingEdge) (m : Meet) → length ms ≡ length es →
-    i < length es → m ≡ get_or ms i m → edge_with (get_or es i zero_plane) m ≡ get_or (ring_edges es ms) i d
+    i < length es → m ≡ get_or ms i m → edge_with (get_or es i zero_plane) m ≡ get_or (ring_edges spot_of es ms) i d
 ring_at es ms i d m p l h =
     ap (λ (u : Meet). edge_with (get_or es i zero_plane) u) h ∙ sym (ring_get es ms i d zero_plane m p l)

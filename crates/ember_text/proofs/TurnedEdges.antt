@@ -31,7 +31,7 @@ turned_all (e ∷ d ∷ es) t = refl
 
 -- ---- the last edge
 back_last : (end : Spot) (e : Plane) (es : List Plane) (u : Meet) (ms : List Meet) → length ms ≡ length es →
-    turn_back end (drop (length es) (ring_edges (e ∷ es) (u ∷ ms))) ≡ record {
+    turn_back end (drop (length es) (ring_edges spot_of (e ∷ es) (u ∷ ms))) ≡ record {
       plane =
           get_or (e ∷ es) (length es) zero_plane;
       start = end;
@@ -43,7 +43,7 @@ back_last end e (f ∷ es) u (v ∷ ms) p = back_last end f es v ms (omega (arit
 
 two_turned : (es : List Plane) (ms : List Meet) (n : ℕ) (u v : Meet) → length ms ≡ length es → 2 ≤ length es →
     suc n ≡ length es → u ≡ get_or ms 0 u → v ≡ get_or ms 1 v →
-    turned_from (ring_edges es ms) n ≡ edge_with (get_or es 0 zero_plane) v ∷ edge_with (get_or es n zero_plane) u ∷ []
+    turned_from (ring_edges spot_of es ms) n ≡ edge_with (get_or es 0 zero_plane) v ∷ edge_with (get_or es n zero_plane) u ∷ []
 two_turned [] ms n u v p t s a b = absurd (omega (arith, t))
 two_turned (e ∷ []) ms n u v p t s a b = absurd (omega (arith, t))
 two_turned (e ∷ f ∷ es) [] n u v p t s a b = absurd (omega (arith, p))
@@ -57,7 +57,7 @@ pub turned_begun : (es : List Plane) (ms : List Meet) (n : ℕ) (u v : Meet) (ol
     length ms ≡ length es → 2 ≤ length es → suc n ≡ length es → u ≡ get_or ms 0 u → v ≡ get_or ms 1 v →
     HasGrown (IsEdgeText (edge_with (get_or es 0 zero_plane) v)) old mid →
     HasGrown (IsEdgeText (edge_with (get_or es n zero_plane) u)) mid new →
-    HasGrown (Each IsEdgeText (turned_from (ring_edges es ms) n)) old new
+    HasGrown (Each IsEdgeText (turned_from (ring_edges spot_of es ms) n)) old new
 turned_begun es ms n u v old {mid} {new} p t s a b g h =
     let one = edge_with (get_or es 0 zero_plane) v in let two = edge_with (get_or es n zero_plane) u in
     subst (λ rs. HasGrown (Each IsEdgeText rs) old new) (sym (two_turned es ms n u v p t s a b))
@@ -65,19 +65,19 @@ turned_begun es ms n u v old {mid} {new} p t s a b g h =
 
 -- ---- one edge more
 back_more : (end : Spot) (es : List Plane) (ms : List Meet) (k : ℕ) (m : Meet) → length ms ≡ length es →
-    suc k < length es → m ≡ get_or ms (suc k) m → turn_back end (drop k (ring_edges es ms)) ≡ turn_back end
-    (drop (suc k) (ring_edges es ms)) ++ edge_with (get_or es k zero_plane) m ∷ []
+    suc k < length es → m ≡ get_or ms (suc k) m → turn_back end (drop k (ring_edges spot_of es ms)) ≡ turn_back end
+    (drop (suc k) (ring_edges spot_of es ms)) ++ edge_with (get_or es k zero_plane) m ∷ []
 back_more end [] ms k m p l h = absurd (omega (arith, l))
 back_more end (e ∷ []) ms k m p l h = absurd (omega (arith, l))
 back_more end (e ∷ f ∷ es) [] k m p l h = absurd (omega (arith, p))
 back_more end (e ∷ f ∷ es) (u ∷ []) k m p l h = absurd (omega (arith, p))
 back_more end (e ∷ f ∷ es) (u ∷ v ∷ ms) zero m p l h =
-    ap (λ (x : Meet). turn_back end (ring_edges (f ∷ es) (v ∷ ms)) ++ edge_with e x ∷ []) (sym h)
+    ap (λ (x : Meet). turn_back end (ring_edges spot_of (f ∷ es) (v ∷ ms)) ++ edge_with e x ∷ []) (sym h)
 back_more end (e ∷ f ∷ es) (u ∷ v ∷ ms) (suc k) m p l h =
     back_more end (f ∷ es) (v ∷ ms) k m (omega (arith, p)) (omega (arith, l)) h
 
 more_turned : (es : List Plane) (ms : List Meet) (k : ℕ) (m : Meet) → length ms ≡ length es → suc k < length es →
-    m ≡ get_or ms (suc k) m → turned_from (ring_edges es ms) k ≡ turned_from (ring_edges es ms) (suc k)
+    m ≡ get_or ms (suc k) m → turned_from (ring_edges spot_of es ms) k ≡ turned_from (ring_edges spot_of es ms) (suc k)
     ++ edge_with (get_or es k zero_plane) m ∷ []
 more_turned [] ms k m p l h = absurd (omega (arith, l))
 more_turned (e ∷ []) ms k m p l h = absurd (omega (arith, l))
@@ -89,14 +89,14 @@ more_turned (e ∷ f ∷ es) (u ∷ v ∷ ms) k m p l h =
 -- one more turned edge
 pub turned_more : (es : List Plane) (ms : List Meet) (n k j : ℕ) (m : Meet) (old : List ℕ) {mid new : List ℕ} →
     length ms ≡ length es → n < length es → n ≡ suc k → j ≡ suc k → m ≡ get_or ms j m →
-    HasGrown (Each IsEdgeText (turned_from (ring_edges es ms) n)) old mid →
+    HasGrown (Each IsEdgeText (turned_from (ring_edges spot_of es ms) n)) old mid →
     HasGrown (IsEdgeText (edge_with (get_or es k zero_plane) m)) mid new →
-    HasGrown (Each IsEdgeText (turned_from (ring_edges es ms) k)) old new
+    HasGrown (Each IsEdgeText (turned_from (ring_edges spot_of es ms) k)) old new
 turned_more es ms n k j m old {mid} {new} p l en ej h a b =
     let at : m ≡ get_or ms (suc k) m = subst (λ i. m ≡ get_or ms i m) ej h in
-    let begun = subst (λ i. HasGrown (Each IsEdgeText (turned_from (ring_edges es ms) i)) old mid) en a in
+    let begun = subst (λ i. HasGrown (Each IsEdgeText (turned_from (ring_edges spot_of es ms) i)) old mid) en a in
     subst (λ rs. HasGrown (Each IsEdgeText rs) old new) (sym (more_turned es ms k m p (omega (arith, l, en)) at))
-    (grown_push (turned_from (ring_edges es ms) (suc k)) (edge_with (get_or es k zero_plane) m) old begun b)
+    (grown_push (turned_from (ring_edges spot_of es ms) (suc k)) (edge_with (get_or es k zero_plane) m) old begun b)
 
 -- ---- all of them
 length-back : (end : Spot) (rs : List RingEdge) → length (turn_back end rs) ≡ length rs

@@ -4,6 +4,7 @@ ghost use Rattle.ember_algebra.specs.Relations.{Each};
 ghost use Rattle.ember_leaf.specs.Written.{HasGrown};
 ghost use Rattle.ember_model.specs.Valid.{IsValidPlane};
 ghost use Rattle.ember_model.specs.FaceFiles.{support_line};
+ghost use Rattle.ember_point.specs.Points.{spot_of};
 ghost use Rattle.ember_poly.specs.Sides.{ring_edges};
 ghost use Rattle.ember_text.specs.Texts.{Extends, IsEdgeText, edge_with, turned};
 
@@ -55,7 +56,7 @@ pub fn put_edges(edges: &[Plane], corners: &[Meet], out: &mut Vec<u8>) -> Result
     requires paired { length corners.now ≡ length edges.now }
     requires valid { All IsValidPlane edges.now }
     ensures ok { OnOk result (
-        HasGrown (Each IsEdgeText (ring_edges edges.now corners.now)) out.old.items out.new.items) }
+        HasGrown (Each IsEdgeText (ring_edges spot_of edges.now corners.now)) out.old.items out.new.items) }
     ensures fault { OnErr result (Extends out.old.items out.new.items) }
 {
     for i in 0..edges.len() {
@@ -76,7 +77,7 @@ pub fn put_turned_edges(
     requires two { 2 ≤ length edges.now }
     requires valid { All IsValidPlane edges.now }
     ensures ok { OnOk result (
-        HasGrown (Each IsEdgeText (turned (ring_edges edges.now corners.now))) out.old.items out.new.items) }
+        HasGrown (Each IsEdgeText (turned (ring_edges spot_of edges.now corners.now))) out.old.items out.new.items) }
     ensures fault { OnErr result (Extends out.old.items out.new.items) }
 {
     put_edge(&edges[0], &corners[1], out)?;

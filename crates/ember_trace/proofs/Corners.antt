@@ -361,16 +361,16 @@ pub record AreFirst (f : Face) (u v w : Spot) : Type 0 where
   pub apart : (p : Plane) → value_at p u ≡ pos 0 → value_at p v ≡ pos 0 → value_at p w ≡ pos 0 → along p (main_axis f.support) ≡ pos 0 → NoNormal p
 
 joined : (f : Face) (g h i : Plane) (ps : List Plane) (a b c : Meet) (ms : List Meet) →
-    IsOutline f (ring_edges (g ∷ h ∷ i ∷ ps) (a ∷ b ∷ c ∷ ms)) → AreFirst f (spot_of a) (spot_of b) (spot_of c)
+    IsOutline f (ring_edges spot_of (g ∷ h ∷ i ∷ ps) (a ∷ b ∷ c ∷ ms)) → AreFirst f (spot_of a) (spot_of b) (spot_of c)
 joined f g h i ps a b c ms o =
     let j : Joins f g h (spot_of a) (spot_of b) (spot_of c) = record { first = o.round.0; second = o.round.1.0; apart = o.once.0.0 } in
     record {
-      inside = λ k l. close_inside f g h (spot_of a) (spot_of b) (spot_of c) j (ring_edges (g ∷ h ∷ i ∷ ps) (a ∷ b ∷ c ∷ ms)) o k l;
+      inside = λ k l. close_inside f g h (spot_of a) (spot_of b) (spot_of c) j (ring_edges spot_of (g ∷ h ∷ i ∷ ps) (a ∷ b ∷ c ∷ ms)) o k l;
       apart = λ p x y z e. no_normal f g h (spot_of a) (spot_of b) (spot_of c) j p (record { first = x; second = y; third = z }) e;
     }
 
 -- the first three corners of a face
-pub first_corners : (f : Face) (ms : List Meet) (a b c : Meet) → AreCorners f ms → slice_get ms 0 ≡ Some a →
+pub first_corners : (f : Face) (ms : List Meet) (a b c : Meet) → AreCorners spot_of f ms → slice_get ms 0 ≡ Some a →
     slice_get ms 1 ≡ Some b → slice_get ms 2 ≡ Some c → AreFirst f (spot_of a) (spot_of b) (spot_of c)
 first_corners f ms a b c k ea eb ec = by k.planes ms ea eb ec k.paired k.outline
   where
@@ -381,7 +381,7 @@ first_corners f ms a b c k ea eb ec = by k.planes ms ea eb ec k.paired k.outline
     no e = cc
 
     by : (ps : List Plane) (ms : List Meet) → slice_get ms 0 ≡ Some a → slice_get ms 1 ≡ Some b →
-        slice_get ms 2 ≡ Some c → length ms ≡ length ps → IsOutline f (ring_edges ps ms) →
+        slice_get ms 2 ≡ Some c → length ms ≡ length ps → IsOutline f (ring_edges spot_of ps ms) →
         AreFirst f (spot_of a) (spot_of b) (spot_of c)
     by ps [] ea eb ec l o = absurd (no ea)
     by ps (x ∷ []) ea eb ec l o = absurd (no eb)

@@ -11,6 +11,7 @@ use Rattle.ember_model.specs.declared.tri.Tri.{Tri}
 use Rattle.ember_model.specs.declared.face.Face.{Face}
 use Rattle.ember_model.specs.Planes.{along, edge_planes, support_of, main_axis}
 use Rattle.ember_point.specs.declared.meet_point.Meet.{Meet}
+use Rattle.ember_point.specs.Points.{spot_of}
 use Rattle.ember_poly.specs.Sides.{AreCorners}
 use Rattle.ember_law.specs.Counts.{with_more}
 use Rattle.ember_box.specs.declared.aabb.Interval.{Interval}
@@ -170,7 +171,7 @@ ray_counts more ts counts = fold (λ (vs : List ℤ) (t : Tri). with_more vs t.m
 -- the counts of rays that begin directly before and after the region, near its first three corners
 pub record AreRayCounts (ts : List Tri) (r : Face) (s : Sides) : Type 0 where
   pub corners : List Meet
-  pub are_corners : AreCorners r corners
+  pub are_corners : AreCorners spot_of r corners
   pub first : Meet
   pub second : Meet
   pub third : Meet

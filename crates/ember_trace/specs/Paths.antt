@@ -86,7 +86,7 @@ pub record IsPathTo (c : Cell) (r : Face) (w : Path) : Type 0 where
   pub first : w.first_axis ≡ first_of (main_axis r.support)
   pub second : w.second_axis ≡ second_of (main_axis r.support)
   pub corners : List Meet
-  pub are_corners : AreCorners r corners
+  pub are_corners : AreCorners spot_of r corners
   pub first_corner : slice_get corners 0 ≡ Some w.first_corner
   pub second_corner : slice_get corners 1 ≡ Some w.second_corner
   pub third_corner : slice_get corners 2 ≡ Some w.third_corner

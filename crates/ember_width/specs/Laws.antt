@@ -1,8 +1,9 @@
 -- The laws of both widths.
-use Rattle.std.proofs.Common.{◌^◌, ◌<◌, pos, ◌*ℤ◌, ◌<ℤ◌, lit<, lit≤, arith}
+use Rattle.std.proofs.Common.{◌^◌, ◌<◌, ◌≤◌, pos, ◌*ℤ◌, ◌<ℤ◌, lit<, lit≤, arith}
 use borrow.Author.Differences.{ints}
-use Rattle.ember_algebra.proofs.Size.{small_within}
+use Rattle.ember_algebra.proofs.Size.{small_within, small_neg}
 use Rattle.ember_model.specs.declared.plane.Plane.{Plane}
+use Rattle.ember_model.specs.Planes.{opposite}
 use Rattle.ember_model.specs.Valid.{IsValidPlane}
 use Rattle.ember_model.specs.Limits.{narrow_limit, broad_limit}
 use Rattle.ember_model.specs.Within.{IsPlaneWithin, normal_limit}
@@ -31,6 +32,35 @@ broad_planes p s =
       c = small_within (lit≤ tt) s.c;
       d = small_within (lit≤ tt) s.d;
     }
+
+-- a valid plane with the opposite front is valid
+pub narrow_opposite : (p : Plane) → IsValidPlane p → IsValidPlane (opposite p)
+narrow_opposite p s = record { a = small_neg s.a; b = small_neg s.b; c = small_neg s.c; d = small_neg s.d }
+
+-- a plane of the broad grid with the opposite front is one
+pub broad_opposite : (p : Plane) → IsBroadPlane p → IsBroadPlane (opposite p)
+broad_opposite p s = record { a = small_neg s.a; b = small_neg s.b; c = small_neg s.c; d = small_neg s.d }
+
+-- valid planes are planes of the broad grid
+pub narrow_is_broad : (p : Plane) → IsValidPlane p → IsBroadPlane p
+narrow_is_broad p s =
+    record {
+      a = small_within (lit≤ tt) s.a;
+      b = small_within (lit≤ tt) s.b;
+      c = small_within (lit≤ tt) s.c;
+      d = small_within (lit≤ tt) s.d;
+    }
+
+pub broad_is_broad : (p : Plane) → IsBroadPlane p → IsBroadPlane p
+broad_is_broad p s = s
+
+-- ---- corners
+-- the narrow grid's corners are among those of the broad one
+pub narrow_limit_is_broad : narrow_limit ≤ broad_limit
+narrow_limit_is_broad = lit≤ tt
+
+pub broad_limit_is_broad : broad_limit ≤ broad_limit
+broad_limit_is_broad = lit≤ tt
 
 -- ---- the shifts
 -- normals of the narrow grid are below 2^27

@@ -1,10 +1,16 @@
 -- Levels: planes across an axis; where two other planes meet one
-use Rattle.std.specs.Prelude.{ℤ, ◌-ℤ◌, ◌*ℤ◌}
+use Rattle.std.specs.Prelude.{◌≡◌, ℤ, pos, ◌-ℤ◌, ◌*ℤ◌}
 use Rattle.ember_model.specs.declared.point.Axis.{Axis}
 use Rattle.ember_model.specs.declared.point.Axis.TheVariants.{X, Y, Z}
 use Rattle.ember_model.specs.declared.point.Spot.{Spot}
 use Rattle.ember_model.specs.declared.plane.Plane.{Plane}
 use Rattle.ember_model.specs.Planes.{along}
+
+-- the plane's normal lies along the axis, so the plane lies across it
+abbrev pub IsAlong : Axis → Plane → Type 0
+IsAlong X p = (p.b ≡ pos 0) × (p.c ≡ pos 0)
+IsAlong Y p = (p.a ≡ pos 0) × (p.c ≡ pos 0)
+IsAlong Z p = (p.a ≡ pos 0) × (p.b ≡ pos 0)
 
 -- ---- the line a u + b v = d w of a plane in the level, where u and v are the coordinates along the next two axes
 abbrev pub line_a : Axis → Plane → ℤ

@@ -1,4 +1,5 @@
 pub mod Broad
 pub mod BroadPoints
 pub mod Levels
+pub mod NarrowLevels
 pub mod Laws

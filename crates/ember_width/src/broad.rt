@@ -5,17 +5,19 @@ ghost use Rattle.ember_width.specs.Broad.{IsBroadPlane};
 ghost use Rattle.ember_width.specs.BroadPoints.{spot_of};
 
 use crate::broad_point::BroadPoint;
+use crate::corners::broad_point_at;
+use crate::levels::broad_level_point;
 use crate::meeting::broad_meet;
 use crate::sides::broad_side;
 use crate::width::Width;
 use ember_algebra::Sign;
-use ember_model::Plane;
+use ember_model::{Axis, Corner, Plane};
 
 /// The broad grid: corners of up to 524,287 in size, 1,048,575 positions along an axis.
 pub struct Broad;
 
 impl Width for Broad {
-    ghost use Rattle.ember_width.specs.Laws.{broad_planes, broad_normals, broad_root, broad_weighs};
+    ghost use Rattle.ember_width.specs.Laws.{broad_planes, broad_opposite, broad_is_broad, broad_limit_is_broad, broad_normals, broad_root, broad_weighs};
 
     type Point = BroadPoint;
 
@@ -35,6 +37,12 @@ impl Width for Broad {
 
     ghost takes = { broad_planes };
 
+    ghost turns_round = { broad_opposite };
+
+    ghost is_broad = { broad_is_broad };
+
+    ghost at_most_broad = { broad_limit_is_broad };
+
     ghost tells_apart = { broad_normals };
 
     ghost holds = { broad_root };
@@ -45,5 +53,21 @@ impl Width for Broad {
 
     fn side(p: &Plane, m: &BroadPoint) -> Sign {
         broad_side(p, m)
+    }
+
+    fn side_across(p: &Plane, _axis: Axis, m: &BroadPoint) -> Sign {
+        broad_side(p, m)
+    }
+
+    fn is_in_root(at: i64) -> bool {
+        -524288 <= at && at <= 524288
+    }
+
+    fn level_point(p: &Plane, q: &Plane, axis: Axis, at: i64) -> BroadPoint {
+        broad_level_point(p, q, axis, at)
+    }
+
+    fn point_at(c: &Corner) -> BroadPoint {
+        broad_point_at(c)
     }
 }

@@ -2,8 +2,10 @@
 //! narrow grid and on the broad one.
 #![tactic(auto)]
 
+mod across;
 mod broad;
 mod broad_point;
+mod corners;
 mod cross;
 mod far_point;
 mod floor_point;
@@ -12,6 +14,7 @@ mod law;
 mod levels;
 mod meeting;
 mod narrow;
+mod narrow_levels;
 mod points;
 mod short_point;
 mod sides;
@@ -25,4 +28,5 @@ pub use law::planes_of_triangles_are_within;
 pub use levels::broad_level_point;
 pub use narrow::Narrow;
 pub use short_point::ShortPoint;
+pub use sides::value_at_corner;
 pub use width::Width;

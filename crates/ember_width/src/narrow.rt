@@ -4,16 +4,19 @@ ghost use Rattle.ember_model.specs.Limits.{narrow_limit};
 ghost use Rattle.ember_model.specs.Valid.{IsValidPlane};
 ghost use Rattle.ember_point.specs.Points.{spot_of};
 
+use crate::across::narrow_side_across;
+use crate::corners::narrow_point_at;
+use crate::narrow_levels::narrow_level_point;
 use crate::width::Width;
 use ember_algebra::Sign;
-use ember_model::Plane;
+use ember_model::{Axis, Corner, Plane};
 use ember_point::Meet;
 
 /// The narrow grid: corners of up to 2047 in size, 4095 positions along an axis.
 pub struct Narrow;
 
 impl Width for Narrow {
-    ghost use Rattle.ember_width.specs.Laws.{narrow_planes, narrow_normals, narrow_root};
+    ghost use Rattle.ember_width.specs.Laws.{narrow_planes, narrow_opposite, narrow_is_broad, narrow_limit_is_broad, narrow_normals, narrow_root};
 
     type Point = Meet;
 
@@ -33,15 +36,43 @@ impl Width for Narrow {
 
     ghost takes = { narrow_planes };
 
+    ghost turns_round = { narrow_opposite };
+
+    ghost is_broad = { narrow_is_broad };
+
+    ghost at_most_broad = { narrow_limit_is_broad };
+
     ghost tells_apart = { narrow_normals };
 
     ghost holds = { narrow_root };
 
+    #[inline]
     fn meet(p: &Plane, q: &Plane, r: &Plane) -> Option<Meet> {
         ember_point::meet(p, q, r)
     }
 
+    #[inline]
     fn side(p: &Plane, m: &Meet) -> Sign {
         ember_point::side(p, m)
+    }
+
+    #[inline]
+    fn side_across(p: &Plane, axis: Axis, m: &Meet) -> Sign {
+        narrow_side_across(p, axis, m)
+    }
+
+    #[inline]
+    fn is_in_root(at: i64) -> bool {
+        -2048 <= at && at <= 2048
+    }
+
+    #[inline]
+    fn level_point(p: &Plane, q: &Plane, axis: Axis, at: i64) -> Meet {
+        narrow_level_point(p, q, axis, at)
+    }
+
+    #[inline]
+    fn point_at(c: &Corner) -> Meet {
+        narrow_point_at(c)
     }
 }

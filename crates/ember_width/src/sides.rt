@@ -2,6 +2,7 @@
 ghost use Rattle.std.specs.Prelude.{◌≡◌, ◌*◌, ◌+◌, ℤ, pos, ◌+ℤ◌, ◌-ℤ◌, ◌*ℤ◌, ◌≤ℤ◌};
 ghost use Rattle.ember_algebra.specs.Size.{Small};
 ghost use Rattle.ember_algebra.specs.Sign.{sgn};
+ghost use Rattle.ember_model.specs.Owners.{spot_of_corner};
 ghost use Rattle.ember_model.specs.Planes.{value_at};
 ghost use Rattle.ember_model.specs.Within.{IsCornerWithin};
 ghost use Rattle.ember_wide.specs.Whole.{value_of};
@@ -25,14 +26,15 @@ fn short_side(p: &Plane, m: &ShortPoint) -> Sign
     sign_of(front - p.d as i128 * m.w as i128)
 }
 
-// The value of the plane at the least corner of a unit cube.
-fn value_at_floor(p: &Plane, floor: &Corner) -> i64
+/// The value of the plane at a corner of the root or in it.
+pub fn value_at_corner(p: &Plane, c: &Corner) -> i64
     requires plane { IsBroadPlane p.now }
-    requires floor { IsCornerWithin most_floor floor.now }
-    ensures value { result ≡ p.now.a *ℤ floor.now.x +ℤ p.now.b *ℤ floor.now.y +ℤ p.now.c *ℤ floor.now.z -ℤ p.now.d }
+    requires corner { IsCornerWithin most_floor c.now }
+    ensures value { result ≡ value_at p.now (spot_of_corner c.now) }
+    ensures sum { result ≡ p.now.a *ℤ c.now.x +ℤ p.now.b *ℤ c.now.y +ℤ p.now.c *ℤ c.now.z -ℤ p.now.d }
     ensures small { Small most_value result }
 {
-    p.a * floor.x as i64 + p.b * floor.y as i64 + p.c * floor.z as i64 - p.d
+    p.a * c.x as i64 + p.b * c.y as i64 + p.c * c.z as i64 - p.d
 }
 
 // The least value of `a t` for `t` from 0 to 1.
@@ -73,7 +75,7 @@ fn floor_side(p: &Plane, m: &FloorPoint) -> Sign
     requires { IsBroadPlane p.now }
     ensures { result ≡ sgn (value_at p.now (floor_spot m.now)) }
 {
-    let v = value_at_floor(p, &m.floor);
+    let v = value_at_corner(p, &m.floor);
     let low = v + least(p.a) + least(p.b) + least(p.c);
     if low > 0 {
         return Sign::Pos;

@@ -1,14 +1,19 @@
 // The numbers that a grid needs.
-ghost use Rattle.std.specs.Prelude.{◌≡◌, ℕ, ◌*◌, ◌<◌, ℤ, pos, ◌*ℤ◌, ◌<ℤ◌, IfSome, IsNone, ◌↔◌};
+ghost use Rattle.std.specs.Prelude.{◌≡◌, ℕ, ◌+◌, ◌*◌, ◌<◌, ◌≤◌, ℤ, pos, ◌*ℤ◌, ◌<ℤ◌, IfSome, IsNone, IsTrue, ◌↔◌};
+ghost use Rattle.ember_algebra.specs.Size.{Small};
 ghost use Rattle.ember_algebra.specs.Sign.{sgn};
 ghost use Rattle.ember_model.specs.declared.plane.Plane.{Plane as PlaneView};
 ghost use Rattle.ember_model.specs.declared.point.Spot.{Spot};
-ghost use Rattle.ember_model.specs.Planes.{value_at};
-ghost use Rattle.ember_model.specs.Within.{IsPlaneWithin, normal_limit};
+ghost use Rattle.ember_model.specs.Limits.{broad_limit};
+ghost use Rattle.ember_model.specs.Owners.{spot_of_corner};
+ghost use Rattle.ember_model.specs.Planes.{value_at, opposite};
+ghost use Rattle.ember_model.specs.Within.{IsCornerWithin, IsPlaneWithin, normal_limit};
 ghost use Rattle.ember_point.specs.Points.{weight, meet_of};
+ghost use Rattle.ember_width.specs.Broad.{IsBroadPlane};
+ghost use Rattle.ember_width.specs.Levels.{IsAlong, turn_at, level_meet};
 
 use ember_algebra::Sign;
-use ember_model::Plane;
+use ember_model::{Axis, Corner, Plane};
 
 /// How fine a grid is, and the numbers in which its points are computed. Everything is exact.
 pub trait Width {
@@ -45,11 +50,44 @@ pub trait Width {
         requires { IsPlane p.now }
         ensures { result ≡ sgn (value_at p.now (spot m.now)) };
 
+    /// The side of a plane that lies across this axis: its normal has no entry along the others.
+    fn side_across(p: &Plane, axis: Axis, m: &Self::Point) -> Sign
+        requires plane { IsPlane p.now }
+        requires axis { IsAlong axis p.now }
+        ensures { result ≡ sgn (value_at p.now (spot m.now)) };
+
+    /// Whether the root reaches to this coordinate: whether a wall of a box can have it.
+    fn is_in_root(at: i64) -> bool
+        ensures { IsTrue result ↔ Small (corner + 1) at };
+
+    /// The point in which two planes meet the level with the coordinate `at` along the axis: a plane
+    /// across it. Requires that the line of `p` in the level turns to that of `q` counter-clockwise.
+    fn level_point(p: &Plane, q: &Plane, axis: Axis, at: i64) -> Self::Point
+        requires p { IsPlane p.now }
+        requires q { IsPlane q.now }
+        requires at { Small (corner + 1) at }
+        requires turns { pos 0 <ℤ turn_at axis p.now q.now }
+        ensures { spot result ≡ level_meet axis at p.now q.now };
+
+    /// The corner as a point with the weight 1.
+    fn point_at(c: &Corner) -> Self::Point
+        requires { IsCornerWithin corner c.now }
+        ensures { spot result ≡ spot_of_corner c.now };
+
     // weights are positive
     ghost weighs: { (m : Self.Point) → pos 0 <ℤ (spot m).w };
 
     // the planes of triangles on the grid, with up to two coordinates fixed
     ghost takes: { (p : PlaneView) → IsPlaneWithin corner p → IsPlane p };
+
+    // each of them with the opposite front
+    ghost turns_round: { (p : PlaneView) → IsPlane p → IsPlane (opposite p) };
+
+    // no plane is larger than those of the broad grid
+    ghost is_broad: { (p : PlaneView) → IsPlane p → IsBroadPlane p };
+
+    // nor is any corner
+    ghost at_most_broad: { corner ≤ broad_limit };
 
     // the shifts are smaller than what any plane of a triangle tells apart
     ghost tells_apart: { normal_limit corner < fine };

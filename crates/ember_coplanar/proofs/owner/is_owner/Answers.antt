@@ -10,12 +10,12 @@ use Rattle.ember_coplanar.proofs.owner.is_owner.Goals.{else-same_plane-via-then-
 use Rattle.ember_coplanar.proofs.owner.is_owner.Goals as goal
 
 pub contains-requires-clause-plane : goal.contains-requires-clause-plane
-contains-requires-clause-plane c =
+contains-requires-clause-plane g c =
     lies_on_both _ _ c.args.r.now (sym c.same_plane.ensures ∙ c.if-same_plane.true)
     (own_lies c.args.near.now c.args.i _ c.args.r.now c.requires.index c.requires.plane)
 
 pub returns-then-contains : goal.returns-then-contains
-returns-then-contains c =
+returns-then-contains g c =
     let ts = c.args.near.now in let l = c.loop-t-test.true in (
       λ e. absurd (clash e refl),
       λ o. absurd (o.first c.loop-t.t-index _ _
@@ -25,7 +25,7 @@ returns-then-contains c =
     )
 
 pub loop-t-preserved : goal.loop-t-preserved
-loop-t-preserved c j t u l p q e h =
+loop-t-preserved g c j t u l p q e h =
     let own = some_inj (sym q ∙ own_is c.args.near.now c.args.i _ c.requires.index) in
     next_place (λ (s : Tri). is_coplanar s u ≡ true → Contains (face_of s) c.args.r.now →
     ⊥) c.args.near.now c.args.i c.loop-t.t-index _ c.loop-t-test.true (λ k s m n. c.loop-t.invariant k s u m n q)

@@ -1,3 +1,7 @@
+use Rattle.std.proofs.Common.{lit≤}
+use Rattle.ember_model.specs.Limits.{broad_limit}
+use Rattle.ember_width.specs.Laws.{broad_planes}
+use Rattle.ember_width.proofs.TakenPlanes.{support_taken, tri_in_root}
 use Rattle.ember_coplanar.proofs.Coplanar.{has_normal_is, lies_on_is, by_all, by_place, by_normal}
 use Rattle.ember_coplanar.proofs.plane.same_plane.Goals as goal
 
@@ -18,3 +22,9 @@ returns-else-lies_on c =
 pub returns-else-has_normal : goal.returns-else-has_normal
 returns-else-has_normal c =
     by_normal c.args.t.now c.args.u.now (has_normal_is c.args.t.now c.support_of-support.ensures.value c.has_normal.ensures) c.if-has_normal.false
+
+pub lies_on-requires-clause-plane : goal.lies_on-requires-clause-plane
+lies_on-requires-clause-plane c = support_taken broad_planes (c.support_of-support.ensures.within broad_limit c.requires.t)
+
+pub lies_on-requires-clause-tri : goal.lies_on-requires-clause-tri
+lies_on-requires-clause-tri c = tri_in_root (lit≤ tt) c.requires.u

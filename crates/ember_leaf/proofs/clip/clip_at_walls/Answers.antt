@@ -1,5 +1,7 @@
 use Rattle.std.proofs.Common.{◌+◌, sym, subst, [], ◌∷◌, take, map, if◌then◌else◌}
 use Rattle.ember_box.specs.Regions.{AreLeftByWall}
+use Rattle.ember_model.specs.Valid.{IsValidPlane}
+use Rattle.ember_point.specs.Points.{spot_of}
 use Rattle.ember_poly.specs.Drafts.{face_in, HoldsRing}
 use Rattle.ember_leaf.specs.Walls.{wall_of, IsClippedBy}
 use Rattle.ember_leaf.proofs.WallClips.{left_begun, left_next, left_stay, left_ended, left_nothing}
@@ -28,7 +30,7 @@ loop-wall-preserved c =
     let t = c.args.triangle.now.tri in let ws = c.args.walls.now in let i = c.loop-wall.wall-index in let f =
     face_in c.loop-wall.draft in let r = c.loop-wall.invariant in
     elim c.match-remainder_at.branch [
-      | in-Whole w ↦ subst (λ d. HoldsRing d × IsClippedBy (map wall_of (take (i + 1) ws)) t (face_in d ∷ []))
+      | in-Whole w ↦ subst (λ d. HoldsRing IsValidPlane spot_of d × IsClippedBy (map wall_of (take (i + 1) ws)) t (face_in d ∷ []))
           (sym w.draft-is) (
             r.0,
             left_stay t ws i c.wall-item.result f c.loop-wall-test.true c.wall-item.is r.1
@@ -36,7 +38,7 @@ loop-wall-preserved c =
           )
       | in-Unknown+in_ok-clip_at_wall-in-Unknown+else-not-branch w ↦ let g = face_in w.clip_at_wall.new.draft in let k =
           w.in_ok-clip_at_wall-in-Unknown.ensures in
-          subst (λ d. HoldsRing d × IsClippedBy (map wall_of (take (i + 1) ws)) t (face_in d ∷ [])) (sym w.draft-is) (
+          subst (λ d. HoldsRing IsValidPlane spot_of d × IsClippedBy (map wall_of (take (i + 1) ws)) t (face_in d ∷ [])) (sym w.draft-is) (
             k.ring,
             left_next t ws i c.wall-item.result f c.loop-wall-test.true c.wall-item.is r.1 (g ∷ [])
                 (subst (λ b. AreLeftByWall (wall_of c.wall-item.result) f (if b then g ∷ [] else [])) w.if-not-branch.false

@@ -1,8 +1,10 @@
 use Rattle.std.proofs.Common.{[], ◌∷◌, map, take}
+use Rattle.ember_model.specs.Valid.{IsValidPlane}
+use Rattle.ember_point.specs.Points.{spot_of}
 use Rattle.ember_poly.specs.Drafts.{face_in, HoldsRing}
 use Rattle.ember_leaf.specs.Walls.{wall_of, IsClippedBy}
 use Rattle.ember_leaf.proofs.clip.clip_at_walls.Given as goal
 
 abbrev pub invariant-loop-wall : goal.invariant-loop-wall
 invariant-loop-wall l =
-    HoldsRing l.draft × IsClippedBy (map wall_of (take l.wall-index l.walls)) l.triangle.tri (face_in l.draft ∷ [])
+    HoldsRing IsValidPlane spot_of l.draft × IsClippedBy (map wall_of (take l.wall-index l.walls)) l.triangle.tri (face_in l.draft ∷ [])

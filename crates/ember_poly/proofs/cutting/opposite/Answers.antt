@@ -4,8 +4,8 @@ use Rattle.ember_algebra.proofs.Ring.{◌⊖◌, ◌≈◌, num, neg, solve, can
 use Rattle.ember_algebra.proofs.Exact.{input, number, stored, ◌⊟◌, ◌&◌, done, exact}
 use Rattle.ember_poly.proofs.cutting.opposite.Goals as goal
 
-pub returns-clause-value : goal.returns-clause-value
-returns-clause-value c =
+pub returns : goal.returns
+returns c =
     let p = c.args.p.now in
     let a = exact (c.requires.a & done) (stored w64 (number (pos 0) ⊟ stored w64 (input 0))) tt ∙ solve 1 (λ k. num (pos 0) ⊖ k ≈ neg k) cancels p.a in
     let b = exact (c.requires.b & done) (stored w64 (number (pos 0) ⊟ stored w64 (input 0))) tt ∙ solve 1 (λ k. num (pos 0) ⊖ k ≈ neg k) cancels p.b in

@@ -5,7 +5,7 @@ use Rattle.ember_poly.proofs.meeting.is_on_one_side.Goals as goal
 
 pub returns-then-are_above : goal.returns-then-are_above
 returns-then-are_above c =
-    let a = c.height-a.ensures in let b = c.height-b.ensures in let d = c.height-c.ensures in
+    let a = c.value_at_corner-a.ensures in let b = c.value_at_corner-b.ensures in let d = c.value_at_corner-c.ensures in
     let e = exact (a.small & done) (stored w64 (input 0)) tt ∙ a.value in
     let f = exact (b.small & done) (stored w64 (input 0)) tt ∙ b.value in
     let g = exact (d.small & done) (stored w64 (input 0)) tt ∙ d.value in
@@ -17,7 +17,7 @@ returns-then-are_above c =
 
 pub returns-else-are_above : goal.returns-else-are_above
 returns-else-are_above c =
-    let a = c.height-a.ensures in let b = c.height-b.ensures in let d = c.height-c.ensures in
+    let a = c.value_at_corner-a.ensures in let b = c.value_at_corner-b.ensures in let d = c.value_at_corner-c.ensures in
     let e = exact (a.small & done) (stored w64 (input 0)) tt ∙ a.value in
     let f = exact (b.small & done) (stored w64 (input 0)) tt ∙ b.value in
     let g = exact (d.small & done) (stored w64 (input 0)) tt ∙ d.value in

@@ -10,10 +10,10 @@ abbrev none : Plane
 none = record { a = pos 0; b = pos 0; c = pos 0; d = pos 0 }
 
 pub loop-edge-init : goal.loop-edge-init
-loop-edge-init c = counted_none c.args.r.now c.requires.inside
+loop-edge-init g c = counted_none c.args.r.now c.requires.inside
 
 pub loop-edge-preserved : goal.loop-edge-preserved
-loop-edge-preserved c =
+loop-edge-preserved g c =
     let f = c.args.r.now in let hs = c.args.edges.now in let i = c.loop-edge.edge-index in let h = get_or hs i none in
     let l = c.loop-edge-test.true in let v = c.loop-edge.invariant in let b = c.loop-edge.is_cut in let t = c.loop-edge.is_cut_twice in
     elim c.match-reach.branch [
@@ -29,6 +29,6 @@ loop-edge-preserved c =
     ]
 
 pub returns-in-Above : goal.returns-in-Above
-returns-in-Above c =
+returns-in-Above g c =
     let f = c.args.r.now in let hs = c.args.edges.now in let i = c.loop-edge.edge-index in let h = get_or hs i none in
     λ s. above_at f hs i none c.loop-edge-test.true (subst (λ r. IsReach f h r) c.in-Above.is c.reach.ensures) s

@@ -3,6 +3,6 @@ use Rattle.ember_poly.proofs.ListOutline.{are_edges}
 use Rattle.ember_poly.proofs.ring.edges.Goals as goal
 
 pub returns : goal.returns
-returns c = are_edges c.r.inside.support c.r.inside.planes.items c.r.inside.boundary.edges.items
+returns g c = are_edges g.W.Width.spot c.r.inside.support c.r.inside.planes.items c.r.inside.boundary.edges.items
     c.r.inside.boundary.corners.items c.r.inside.boundary.plane_indices.items c.r.invariant c.args.r.now (sym c.r.view_is)
     c.deref.ensures.value

@@ -21,7 +21,7 @@ pub loop-i-preserved : goal.loop-i-preserved
 loop-i-preserved c =
     let es = c.args.edges.now in let ms = c.args.corners.now in let m = c.index-corners-i.result in
     let d : RingEdge = record { plane = zero_plane; start = spot_of m } in
-    grown_take (ring_edges es ms) c.loop-i.i d c.args.out.now.items
+    grown_take (ring_edges spot_of es ms) c.loop-i.i d c.args.out.now.items
     (rw (length-ring_edges es ms c.requires.paired) c.loop-i-test.true) c.loop-i.invariant
     (subst (λ (e : RingEdge). HasGrown (IsEdgeText e) c.loop-i.out.items c.put_edge.new.out.items)
     (ring_at es ms c.loop-i.i d m c.requires.paired c.loop-i-test.true c.index-corners-i.is)
@@ -31,5 +31,5 @@ pub returns-clause-ok : goal.returns-clause-ok
 returns-clause-ok c =
     let es = c.args.edges.now in let ms = c.args.corners.now in
     subst (λ (rs : List RingEdge). HasGrown (Each IsEdgeText rs) c.args.out.now.items c.loop-i.out.items)
-    (take_all c.loop-i.i (ring_edges es ms) (rw (length-ring_edges es ms c.requires.paired)
+    (take_all c.loop-i.i (ring_edges spot_of es ms) (rw (length-ring_edges es ms c.requires.paired)
     (omega (arith, c.loop-i-test.false)))) c.loop-i.invariant

@@ -2,6 +2,7 @@ use Rattle.std.proofs.Common.{◌≡◌, ◌+◌, ◌-◌, arith, List, length, 
 use Rattle.ember_algebra.specs.Relations.{Each}
 use Rattle.ember_leaf.specs.Written.{HasGrown}
 use Rattle.ember_model.specs.Edges.{RingEdge}
+use Rattle.ember_point.specs.Points.{spot_of}
 use Rattle.ember_poly.specs.Sides.{ring_edges}
 use Rattle.ember_text.specs.Texts.{IsEdgeText}
 use Rattle.ember_text.proofs.Pairs.{length-ring_edges}
@@ -37,5 +38,5 @@ returns-clause-ok c =
     let one : l.next ≡ 1 = omega (arith, c.loop-next-test.false, l.invariant.first) in
     let long = length-ring_edges es ms c.requires.paired in
     subst (λ (rs : List RingEdge). HasGrown (Each IsEdgeText rs) c.args.out.now.items l.out.items)
-    (ap (turned_from (ring_edges es ms)) one ∙ turned_all (ring_edges es ms) (omega (arith, long, c.requires.two)))
+    (ap (turned_from (ring_edges spot_of es ms)) one ∙ turned_all (ring_edges spot_of es ms) (omega (arith, long, c.requires.two)))
     l.invariant.grown

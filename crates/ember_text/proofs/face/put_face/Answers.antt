@@ -1,4 +1,5 @@
 use Rattle.std.proofs.Common.{◌≡◌, arith, sym, length}
+use Rattle.ember_point.specs.Points.{spot_of}
 use Rattle.ember_poly.specs.Sides.{ring_edges}
 use Rattle.ember_text.proofs.GrownBytes.{on_ok_weaker}
 use Rattle.ember_text.proofs.Pairs.{length-ring_edges}
@@ -8,7 +9,7 @@ use Rattle.ember_text.proofs.face.put_face.Goals as goal
 pub returns-clause-ok : goal.returns-clause-ok
 returns-clause-ok c =
     let o = c.outline.ensures in let es = c.outline.result.0.now in let ms = c.outline.result.1.now in
-    let long : length (ring_edges es ms) ≡ length es = length-ring_edges es ms o.paired in
-    on_ok_weaker c.put_edges.result (λ g. face_is_written c.args.r.now c.support.result (ring_edges es ms) (length es)
+    let long : length (ring_edges spot_of es ms) ≡ length es = length-ring_edges es ms o.paired in
+    on_ok_weaker c.put_edges.result (λ g. face_is_written c.args.r.now c.support.result (ring_edges spot_of es ms) (length es)
     c.args.out.now.items c.support.ensures.value c.support.ensures.valid o.outline (omega (arith, long, o.three))
     (sym long) c.in_ok-put_support.ensures.ok g) c.put_edges.ensures.ok

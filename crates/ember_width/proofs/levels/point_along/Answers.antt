@@ -12,13 +12,19 @@ single : (a : ℤ) → a *ℤ pos 1 ≡ a
 single a = solve 1 (λ a. a ⊗ num (pos 1) ≈ a) cancels a
 
 pub point_of-requires-clause-x : goal.point_of-requires-clause-x
-point_of-requires-clause-x c = within c.product-x.result (c.product-x.ensures ∙ exact (c.requires.t & done) (kept 0 ⊠ number (pos 1)) tt ∙ single c.args.t) (small_within (lit≤ tt) c.requires.t)
+point_of-requires-clause-x c =
+    within c.product-x.result (c.product-x.ensures ∙ exact (c.requires.t & done) (kept 0 ⊠ number (pos 1)) tt ∙ single c.args.t)
+    (small_within (lit≤ tt) c.requires.t)
 
 pub point_of-requires-clause-y : goal.point_of-requires-clause-y
-point_of-requires-clause-y c = within c.product-y.result (c.product-y.ensures ∙ exact (c.requires.u & done) (kept 0 ⊠ number (pos 1)) tt ∙ single c.args.u) (small_within (lit≤ tt) c.requires.u)
+point_of-requires-clause-y c =
+    within c.product-y.result (c.product-y.ensures ∙ exact (c.requires.u & done) (kept 0 ⊠ number (pos 1)) tt ∙ single c.args.u)
+    (small_within (lit≤ tt) c.requires.u)
 
 pub point_of-requires-clause-z : goal.point_of-requires-clause-z
-point_of-requires-clause-z c = within c.product-z.result (c.product-z.ensures ∙ exact (c.requires.v & done) (kept 0 ⊠ number (pos 1)) tt ∙ single c.args.v) (small_within (lit≤ tt) c.requires.v)
+point_of-requires-clause-z c =
+    within c.product-z.result (c.product-z.ensures ∙ exact (c.requires.v & done) (kept 0 ⊠ number (pos 1)) tt ∙ single c.args.v)
+    (small_within (lit≤ tt) c.requires.v)
 
 pub point_of-requires-clause-w : goal.point_of-requires-clause-w
 point_of-requires-clause-w c = bounded (c.requires.w & done) most_weight (kept 0) tt
@@ -35,13 +41,19 @@ returns-in-X c =
     ∙ ap (λ k. point_at k a.t a.u a.v a.w) (sym c.in-X.is)
 
 pub point_of-requires-in-Y-clause-x : goal.point_of-requires-in-Y-clause-x
-point_of-requires-in-Y-clause-x c = within c.product-z.result (c.product-z.ensures ∙ exact (c.requires.v & done) (kept 0 ⊠ number (pos 1)) tt ∙ single c.args.v) (small_within (lit≤ tt) c.requires.v)
+point_of-requires-in-Y-clause-x c =
+    within c.product-z.result (c.product-z.ensures ∙ exact (c.requires.v & done) (kept 0 ⊠ number (pos 1)) tt ∙ single c.args.v)
+    (small_within (lit≤ tt) c.requires.v)
 
 pub point_of-requires-in-Y-clause-y : goal.point_of-requires-in-Y-clause-y
-point_of-requires-in-Y-clause-y c = within c.product-x.result (c.product-x.ensures ∙ exact (c.requires.t & done) (kept 0 ⊠ number (pos 1)) tt ∙ single c.args.t) (small_within (lit≤ tt) c.requires.t)
+point_of-requires-in-Y-clause-y c =
+    within c.product-x.result (c.product-x.ensures ∙ exact (c.requires.t & done) (kept 0 ⊠ number (pos 1)) tt ∙ single c.args.t)
+    (small_within (lit≤ tt) c.requires.t)
 
 pub point_of-requires-in-Y-clause-z : goal.point_of-requires-in-Y-clause-z
-point_of-requires-in-Y-clause-z c = within c.product-y.result (c.product-y.ensures ∙ exact (c.requires.u & done) (kept 0 ⊠ number (pos 1)) tt ∙ single c.args.u) (small_within (lit≤ tt) c.requires.u)
+point_of-requires-in-Y-clause-z c =
+    within c.product-y.result (c.product-y.ensures ∙ exact (c.requires.u & done) (kept 0 ⊠ number (pos 1)) tt ∙ single c.args.u)
+    (small_within (lit≤ tt) c.requires.u)
 
 pub point_of-requires-in-Y-clause-w : goal.point_of-requires-in-Y-clause-w
 point_of-requires-in-Y-clause-w c = bounded (c.requires.w & done) most_weight (kept 0) tt
@@ -58,13 +70,19 @@ returns-in-Y c =
     ∙ ap (λ k. point_at k a.t a.u a.v a.w) (sym c.in-Y.is)
 
 pub point_of-requires-in-Z-clause-x : goal.point_of-requires-in-Z-clause-x
-point_of-requires-in-Z-clause-x c = within c.product-y.result (c.product-y.ensures ∙ exact (c.requires.u & done) (kept 0 ⊠ number (pos 1)) tt ∙ single c.args.u) (small_within (lit≤ tt) c.requires.u)
+point_of-requires-in-Z-clause-x c =
+    within c.product-y.result (c.product-y.ensures ∙ exact (c.requires.u & done) (kept 0 ⊠ number (pos 1)) tt ∙ single c.args.u)
+    (small_within (lit≤ tt) c.requires.u)
 
 pub point_of-requires-in-Z-clause-y : goal.point_of-requires-in-Z-clause-y
-point_of-requires-in-Z-clause-y c = within c.product-z.result (c.product-z.ensures ∙ exact (c.requires.v & done) (kept 0 ⊠ number (pos 1)) tt ∙ single c.args.v) (small_within (lit≤ tt) c.requires.v)
+point_of-requires-in-Z-clause-y c =
+    within c.product-z.result (c.product-z.ensures ∙ exact (c.requires.v & done) (kept 0 ⊠ number (pos 1)) tt ∙ single c.args.v)
+    (small_within (lit≤ tt) c.requires.v)
 
 pub point_of-requires-in-Z-clause-z : goal.point_of-requires-in-Z-clause-z
-point_of-requires-in-Z-clause-z c = within c.product-x.result (c.product-x.ensures ∙ exact (c.requires.t & done) (kept 0 ⊠ number (pos 1)) tt ∙ single c.args.t) (small_within (lit≤ tt) c.requires.t)
+point_of-requires-in-Z-clause-z c =
+    within c.product-x.result (c.product-x.ensures ∙ exact (c.requires.t & done) (kept 0 ⊠ number (pos 1)) tt ∙ single c.args.t)
+    (small_within (lit≤ tt) c.requires.t)
 
 pub point_of-requires-in-Z-clause-w : goal.point_of-requires-in-Z-clause-w
 point_of-requires-in-Z-clause-w c = bounded (c.requires.w & done) most_weight (kept 0) tt

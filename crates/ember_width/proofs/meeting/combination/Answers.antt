@@ -40,5 +40,6 @@ returns c =
     c.plus-2.ensures ∙ rw (c.plus.ensures, e, f, h) refl in
     record {
       value = s;
-      small = within c.plus-2.result s (small_within (lit≤ tt) (small_add (small_add (small_mul r.small_a r.small_x) (small_mul r.small_b r.small_y)) (small_mul r.small_c r.small_z)));
+      small = within c.plus-2.result s (small_within (lit≤ tt)
+          (small_add (small_add (small_mul r.small_a r.small_x) (small_mul r.small_b r.small_y)) (small_mul r.small_c r.small_z)));
     }

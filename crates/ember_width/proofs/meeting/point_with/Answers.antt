@@ -70,8 +70,8 @@ pub returns-then-w-lt0-clause-some : goal.returns-then-w-lt0-clause-some
 returns-then-w-lt0-clause-some c =
     let e = sign_neg (negative c.requires.w c.if-w-lt0.true) in
     let m = exact (c.requires.w & done) (stored w128 (number (pos 0) ⊟ kept 0)) tt in
-    λ s i. c.point_of.ensures ∙ same_spot (turned _ _ _ e c.turned.ensures) (turned _ _ _ e c.turned-then-w-lt0.ensures) (turned _ _ _ e c.turned-then-w-lt0-2.ensures)
-    (turned _ _ _ e (omega (arith, linear, m))) ∙ i
+    λ s i. c.point_of.ensures ∙ same_spot (turned _ _ _ e c.turned.ensures) (turned _ _ _ e c.turned-then-w-lt0.ensures)
+    (turned _ _ _ e c.turned-then-w-lt0-2.ensures) (turned _ _ _ e (omega (arith, linear, m))) ∙ i
 
 pub returns-else-w-lt0-clause-some : goal.returns-else-w-lt0-clause-some
 returns-else-w-lt0-clause-some c =

@@ -9,9 +9,12 @@ use Rattle.ember_width.proofs.points.floor_point.Goals as goal
 
 pub invariant_of-result : goal.invariant_of-result
 invariant_of-result c =
-    let x = subst (λ (w : ℤ). IsPlace c.in_ok-x.x.floor c.in_ok-x.x.rest (value_of c.args.x.now) w) (exact (c.requires.w & done) (kept 0) tt) c.in_ok-x.ensures.place in
-    let y = subst (λ (w : ℤ). IsPlace c.in_ok-y.y.floor c.in_ok-y.y.rest (value_of c.args.y.now) w) (exact (c.requires.w & done) (kept 0) tt) c.in_ok-y.ensures.place in
-    let z = subst (λ (w : ℤ). IsPlace c.in_ok-z.z.floor c.in_ok-z.z.rest (value_of c.args.z.now) w) (exact (c.requires.w & done) (kept 0) tt) c.in_ok-z.ensures.place in
+    let x = subst (λ (w : ℤ). IsPlace c.in_ok-x.x.floor c.in_ok-x.x.rest (value_of c.args.x.now) w)
+    (exact (c.requires.w & done) (kept 0) tt) c.in_ok-x.ensures.place in
+    let y = subst (λ (w : ℤ). IsPlace c.in_ok-y.y.floor c.in_ok-y.y.rest (value_of c.args.y.now) w)
+    (exact (c.requires.w & done) (kept 0) tt) c.in_ok-y.ensures.place in
+    let z = subst (λ (w : ℤ). IsPlace c.in_ok-z.z.floor c.in_ok-z.z.rest (value_of c.args.z.now) w)
+    (exact (c.requires.w & done) (kept 0) tt) c.in_ok-z.ensures.place in
     record {
       valid = record {
         floors = record {
@@ -29,8 +32,11 @@ invariant_of-result c =
 
 pub returns : goal.returns
 returns c =
-    let x = subst (λ (w : ℤ). IsPlace c.in_ok-x.x.floor c.in_ok-x.x.rest (value_of c.args.x.now) w) (exact (c.requires.w & done) (kept 0) tt) c.in_ok-x.ensures.place in
-    let y = subst (λ (w : ℤ). IsPlace c.in_ok-y.y.floor c.in_ok-y.y.rest (value_of c.args.y.now) w) (exact (c.requires.w & done) (kept 0) tt) c.in_ok-y.ensures.place in
-    let z = subst (λ (w : ℤ). IsPlace c.in_ok-z.z.floor c.in_ok-z.z.rest (value_of c.args.z.now) w) (exact (c.requires.w & done) (kept 0) tt) c.in_ok-z.ensures.place in
+    let x = subst (λ (w : ℤ). IsPlace c.in_ok-x.x.floor c.in_ok-x.x.rest (value_of c.args.x.now) w)
+    (exact (c.requires.w & done) (kept 0) tt) c.in_ok-x.ensures.place in
+    let y = subst (λ (w : ℤ). IsPlace c.in_ok-y.y.floor c.in_ok-y.y.rest (value_of c.args.y.now) w)
+    (exact (c.requires.w & done) (kept 0) tt) c.in_ok-y.ensures.place in
+    let z = subst (λ (w : ℤ). IsPlace c.in_ok-z.z.floor c.in_ok-z.z.rest (value_of c.args.z.now) w)
+    (exact (c.requires.w & done) (kept 0) tt) c.in_ok-z.ensures.place in
     same_spot (kept_coordinate x c.requires.w) (kept_coordinate y c.requires.w) (kept_coordinate z c.requires.w)
     (exact (c.requires.w & done) (kept 0) tt)

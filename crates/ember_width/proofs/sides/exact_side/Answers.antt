@@ -36,7 +36,8 @@ plus-requires-3 c =
     let one = sum_within c.product-base.result c.product-x.result c.plus.result c.plus.ensures
     (within c.product-base.result base (small_mul c.requires.value m.w))
     (within c.product-x.result x (small_mul p.a (remainder_small m.x m.w))) in
-    let two = sum_within c.plus.result c.product-y.result c.plus-2.result c.plus-2.ensures one (within c.product-y.result y (small_mul p.b (remainder_small m.y m.w))) in
+    let two = sum_within c.plus.result c.product-y.result c.plus-2.result c.plus-2.ensures one
+    (within c.product-y.result y (small_mul p.b (remainder_small m.y m.w))) in
     sum_fits c.plus-2.result c.product-z.result two (within c.product-z.result z (small_mul p.c (remainder_small m.z m.w))) (lit< tt)
 
 pub returns : goal.returns

@@ -35,7 +35,8 @@ plus-requires-2 c =
     let x = c.times-x.ensures ∙ ap (λ (k : ℤ). value_of c.args.m.now.x *ℤ k) (exact (q.a & done) (wide 0) tt) in
     let y = c.times-y.ensures ∙ ap (λ (k : ℤ). value_of c.args.m.now.y *ℤ k) (exact (q.b & done) (wide 0) tt) in
     let z = c.times-z.ensures ∙ ap (λ (k : ℤ). value_of c.args.m.now.z *ℤ k) (exact (q.c & done) (wide 0) tt) in
-    let one = sum_within c.times-x.result c.times-y.result c.plus.result c.plus.ensures (within c.times-x.result x (small_mul m.x q.a)) (within c.times-y.result y (small_mul m.y q.b)) in
+    let one = sum_within c.times-x.result c.times-y.result c.plus.result c.plus.ensures
+    (within c.times-x.result x (small_mul m.x q.a)) (within c.times-y.result y (small_mul m.y q.b)) in
     sum_fits c.plus.result c.times-z.result one (within c.times-z.result z (small_mul m.z q.c)) (lit< tt)
 
 pub plus-requires-3 : goal.plus-requires-3
@@ -45,7 +46,8 @@ plus-requires-3 c =
     let y = c.times-y.ensures ∙ ap (λ (k : ℤ). value_of c.args.m.now.y *ℤ k) (exact (q.b & done) (wide 0) tt) in
     let z = c.times-z.ensures ∙ ap (λ (k : ℤ). value_of c.args.m.now.z *ℤ k) (exact (q.c & done) (wide 0) tt) in
     let d = c.product-d.ensures ∙ exact (q.d & m.w & done) (stored w128 (number (pos 0) ⊟ wide 0) ⊠ kept 1) tt in
-    let one = sum_within c.times-x.result c.times-y.result c.plus.result c.plus.ensures (within c.times-x.result x (small_mul m.x q.a)) (within c.times-y.result y (small_mul m.y q.b)) in
+    let one = sum_within c.times-x.result c.times-y.result c.plus.result c.plus.ensures
+    (within c.times-x.result x (small_mul m.x q.a)) (within c.times-y.result y (small_mul m.y q.b)) in
     let two = sum_within c.plus.result c.times-z.result c.plus-2.result c.plus-2.ensures one (within c.times-z.result z (small_mul m.z q.c)) in
     sum_fits c.plus-2.result c.product-d.result two (within c.product-d.result d (small_mul (small_sub nil q.d) m.w)) (lit< tt)
 
