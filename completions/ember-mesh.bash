@@ -8,12 +8,12 @@ _ember_mesh() {
         return
     fi
     case ${COMP_WORDS[1]} in
-        bool) options=' --expr -o --format --step --workers --digits --view --keep --quiet --help -h ' ;;
-        union | difference | intersection) options=' -o --format --step --workers --digits --view --keep --quiet --help -h ' ;;
-        snap) options=' -d --step --quiet --help -h ' ;;
-        export) options=' --scene -o --format --digits --view --quiet --help -h ' ;;
-        view) options=' -o --quiet --help -h ' ;;
-        info) options=' --help -h ' ;;
+        bool) options=' --expr -o --format --step --workers --digits --view --keep --json --quiet --help -h ' ;;
+        union | difference | intersection) options=' -o --format --step --workers --digits --view --keep --json --quiet --help -h ' ;;
+        snap) options=' -d --step --json --quiet --help -h ' ;;
+        export) options=' --scene -o --format --digits --view --json --quiet --help -h ' ;;
+        view) options=' -o --json --quiet --help -h ' ;;
+        info) options=' --json --help -h ' ;;
         *) return ;;
     esac
 
@@ -25,7 +25,7 @@ _ember_mesh() {
             option=''
         elif [[ $each == -?* ]]; then
             options=${options/" ${each%%=*} "/ }
-            [[ $each == --quiet || $each == --help || $each == -h || $each == *=* ]] || option=$each
+            [[ $each == --quiet || $each == --json || $each == --help || $each == -h || $each == *=* ]] || option=$each
         fi
     done
 

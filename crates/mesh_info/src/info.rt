@@ -11,3 +11,4 @@ mod volume;
 pub use bounds::BoundingBox;
 pub use corners::triangles_of;
 pub use info::{Info, info_of, put_info};
+pub use line::put_quoted;

@@ -4,5 +4,5 @@
 mod info;
 mod view;
 
-pub use info::{BoundingBox, Info, info_of, put_info, triangles_of};
+pub use info::{BoundingBox, Info, info_of, put_info, put_quoted, triangles_of};
 pub use view::view_of;

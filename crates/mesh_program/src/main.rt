@@ -32,10 +32,12 @@ fn claim_stack(place: usize) -> bool {
     room[place % STACK] == 0
 }
 
-// Whether the words ask for silence. (A value that is spelled so asks for it too: then no progress is
-// shown, which nobody is promised.)
+// Whether the words ask for silence, or for JSON, beside which no progress is shown. (A value that is
+// spelled so asks for it too: then no progress is shown, which nobody is promised.)
 fn are_quiet(words: &[String]) -> bool {
-    words.iter().any(|word| word.as_str() == "--quiet")
+    words
+        .iter()
+        .any(|word| word.as_str() == "--quiet" || word.as_str() == "--json")
 }
 
 // The toolchain passes `main` the runtime `rt`: the memory, threads, files and streams of the

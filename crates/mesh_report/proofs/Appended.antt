@@ -11,8 +11,12 @@ after3 a b c x0 x1 x2 e f = after2 b c x1 x2 f ∙ after2 a (b ++ c) x0 x1 e
 pub after4 : (a b c d x0 x1 x2 x3 : List ℕ) → x1 ≡ x0 ++ a → x2 ≡ x1 ++ b → x3 ≡ x2 ++ c → x3 ++ d ≡ x0 ++ (a ++ (b ++ (c ++ d)))
 after4 a b c d x0 x1 x2 x3 e f g = after2 c d x2 x3 g ∙ after3 a b (c ++ d) x0 x1 x2 e f
 
-after5 : (a b c d p x0 x1 x2 x3 x4 : List ℕ) → x1 ≡ x0 ++ a → x2 ≡ x1 ++ b → x3 ≡ x2 ++ c → x4 ≡ x3 ++ d → x4 ++ p ≡ x0 ++ (a ++ (b ++ (c ++ (d ++ p))))
+pub after5 : (a b c d p x0 x1 x2 x3 x4 : List ℕ) → x1 ≡ x0 ++ a → x2 ≡ x1 ++ b → x3 ≡ x2 ++ c → x4 ≡ x3 ++ d → x4 ++ p ≡ x0 ++ (a ++ (b ++ (c ++ (d ++ p))))
 after5 a b c d p x0 x1 x2 x3 x4 e f g h = after2 d p x3 x4 h ∙ after4 a b c (d ++ p) x0 x1 x2 x3 e f g
+
+pub after6 : (a b c d p q x0 x1 x2 x3 x4 x5 : List ℕ) → x1 ≡ x0 ++ a → x2 ≡ x1 ++ b → x3 ≡ x2 ++ c → x4 ≡ x3 ++ d → x5 ≡ x4 ++ p →
+    x5 ++ q ≡ x0 ++ (a ++ (b ++ (c ++ (d ++ (p ++ q)))))
+after6 a b c d p q x0 x1 x2 x3 x4 x5 e f g h i = after3 d p q x3 x4 x5 h i ∙ after4 a b c (d ++ (p ++ q)) x0 x1 x2 x3 e f g
 
 pub after7 : (a b c d p q r x0 x1 x2 x3 x4 x5 x6 : List ℕ) → x1 ≡ x0 ++ a → x2 ≡ x1 ++ b → x3 ≡ x2 ++ c → x4 ≡ x3 ++ d →
     x5 ≡ x4 ++ p → x6 ≡ x5 ++ q → x6 ++ r ≡ x0 ++ (a ++ (b ++ (c ++ (d ++ (p ++ (q ++ r))))))

@@ -6,3 +6,7 @@ pub mod Volumes
 pub mod Reports
 pub mod Messages
 pub mod Statuses
+pub mod Objects
+pub mod ReportObjects
+pub mod Refusals
+pub mod Said

@@ -68,14 +68,17 @@ name_of_format Glb = codes "GLB"
 abbrev pub rounding_text : Written → List ℕ
 rounding_text mesh = move_text (rounded_of mesh.effect.greatest)
 
--- whether this is much for the grid
+-- that this is much for the grid
+abbrev pub warning_text : OutputFormat → Written → List ℕ
+warning_text format mesh =
+    codes "rounding for " ++ (name_of_format format ++
+    (codes " moves corners by up to " ++ (rounding_text mesh ++
+    codes ", more than a hundredth of the step; write OBJ, PLY or OFF, or move the parts to the origin")))
+
+-- whether it is
 abbrev pub warning_line : OutputFormat → Written → List ℕ
 warning_line format mesh =
-    if mesh.effect.is_coarse then
-    line (codes "warning: rounding for " ++ (name_of_format format ++
-    (codes " moves corners by up to " ++ (rounding_text mesh ++
-    codes ", more than a hundredth of the step; write OBJ, PLY or OFF, or move the parts to the origin"))))
-    else []
+    if mesh.effect.is_coarse then line (codes "warning: " ++ warning_text format mesh) else []
 
 -- the mesh of so many faces
 abbrev pub mesh_text : ℕ → Written → List ℕ

@@ -24,11 +24,15 @@ volume_text step six_volumes =
 abbrev pub plain_text : List ℕ → GridStep → ℤ → List ℕ
 plain_text name step six_volumes = name ++ (codes ": volume " ++ volume_text step six_volumes)
 
--- the same as a warning, with what winds around the inside of this file if it is inside out
+-- the same of a volume below 0, with what winds around the inside of this file if it is inside out
+abbrev pub turned_text : ℕ → List ℕ → GridStep → ℤ → List ℕ
+turned_text number name step six_volumes =
+    name ++ (codes ": its volume is " ++ (volume_text step six_volumes ++
+    (codes ", so it may be inside out; use w" ++ (decimal number ++ codes "=-1"))))
+
+-- as a warning
 abbrev pub inside_out_text : ℕ → List ℕ → GridStep → ℤ → List ℕ
-inside_out_text number name step six_volumes =
-    codes "warning: " ++ (name ++ (codes ": its volume is " ++ (volume_text step six_volumes ++
-    (codes ", so it may be inside out; use w" ++ (decimal number ++ codes "=-1")))))
+inside_out_text number name step six_volumes = codes "warning: " ++ turned_text number name step six_volumes
 
 -- the warning if the volume is below 0
 abbrev pub said_text : ℕ → List ℕ → GridStep → ℤ → List ℕ

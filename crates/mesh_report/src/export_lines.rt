@@ -1,11 +1,10 @@
-// The line on standard error of a document that isn't exported.
+// Why a document isn't exported.
 ghost use Rattle.std.specs.Prelude.{◌≡◌, ◌++◌, ◌+◌, IfOk, OnOk, decimal};
 ghost use Rattle.mesh_report.specs.ExportLines.{document_text, export_why, face_text, named_text, names_read, table_text, uncut_document_text};
-ghost use Rattle.mesh_report.specs.Lines.{line};
 
 use crate::lines::{put_file, put_reading_why, put_uncut, too_far_text, too_many_text};
 use crate::status::Status;
-use crate::texts::{line, put_value};
+use crate::texts::put_value;
 use ember_model::OutOfMemory;
 use ember_words::{Text, Texts};
 use itoa::Buffer;
@@ -99,8 +98,8 @@ fn copied(alloc: Global, name: &Text) -> Result<Text, OutOfMemory>
     Ok(Text::of(copy))
 }
 
-// The names of the files in the order in which they are read.
-fn names_read(alloc: Global, request: &ExportRequest) -> Result<Texts, OutOfMemory>
+/// The names of the files in the order in which they are read.
+pub fn names_read(alloc: Global, request: &ExportRequest) -> Result<Texts, OutOfMemory>
     ensures { IfOk result (λ names. names ≡ names_read request.now) }
 {
     let mut names = Vec::new(alloc);
@@ -114,8 +113,8 @@ fn names_read(alloc: Global, request: &ExportRequest) -> Result<Texts, OutOfMemo
     Ok(Texts::of(names))
 }
 
-// Appends why a document isn't exported.
-fn put_export_why(
+/// Appends why a document isn't exported.
+pub fn put_export_why(
     alloc: Global,
     request: &ExportRequest,
     status: &Status,
@@ -132,17 +131,4 @@ fn put_export_why(
         Status::TooFar => text.extend_from_slice(too_far_text(request.format)),
         _ => put_reading_why(&names, status, text),
     }
-}
-
-/// The line of a document that isn't exported.
-pub fn export_line(
-    alloc: Global,
-    request: &ExportRequest,
-    status: &Status,
-) -> Result<Vec<u8>, OutOfMemory>
-    ensures { IfOk result (λ text. text.items ≡ line (export_why request.now status.now)) }
-{
-    let mut text = Vec::new(alloc);
-    put_export_why(alloc, request, status, &mut text)?;
-    line(alloc, &text)
 }

@@ -1,11 +1,11 @@
-// The line on standard error of a request that isn't met.
-ghost use Rattle.std.specs.Prelude.{◌≡◌, ◌++◌, ◌+◌, ◌<◌, codes, decimal, IfOk, OnOk};
+// Why a request isn't met.
+ghost use Rattle.std.specs.Prelude.{◌≡◌, ◌++◌, ◌+◌, ◌<◌, codes, decimal, OnOk};
 ghost use Rattle.mesh_grid.specs.Snap.Steps.{IsStep};
-ghost use Rattle.mesh_report.specs.Lines.{IsShown, expr_text, file_text, length_text, line, noun_of, not_found_text, open_text, place_text, reading_why, scene_why, snap_why, solid_text, step_text, too_far_text, too_many_text, uncut_text, unreadable_text, why_of};
+ghost use Rattle.mesh_report.specs.Lines.{IsShown, expr_text, file_text, length_text, noun_of, not_found_text, open_text, place_text, reading_why, scene_why, solid_text, step_text, too_far_text, too_many_text, uncut_text, unreadable_text, why_of};
 
 use crate::status::Status;
 use crate::texts::{
-    line, name_among, put_corner, put_count, put_length, put_step, put_value, wanted_text,
+    name_among, put_corner, put_count, put_length, put_step, put_value, wanted_text,
 };
 use ember_expr::ExprFault;
 use ember_io::FaultKind;
@@ -16,8 +16,7 @@ use mesh_grid::SceneExtent;
 use mesh_scene::Open;
 use mesh_solid::SolidFault;
 use mesh_triangles::TrianglesFault;
-use mesh_words::{OutputFormat, Request, SnapRequest, WantedStep};
-use std::alloc::Global;
+use mesh_words::{OutputFormat, Request, WantedStep};
 
 const NO_GRID_STEP: &[u8] =
     b": no grid has this step; give at most 12 digits and 12 decimal places";
@@ -87,8 +86,8 @@ pub fn put_file(
     text.extend_from_slice(said)
 }
 
-// What the number of a triangle's place counts.
-fn noun_of(format: Format) -> &'static [u8]
+/// What the number of a triangle's place counts.
+pub fn noun_of(format: Format) -> &'static [u8]
     ensures { result.now ≡ noun_of format }
 {
     match format {
@@ -240,15 +239,6 @@ pub fn put_reading_why(
     }
 }
 
-/// The line of files that aren't all read, or of one that isn't written.
-pub fn reading_line(alloc: Global, files: &Texts, status: &Status) -> Result<Vec<u8>, OutOfMemory>
-    ensures { IfOk result (λ text. text.items ≡ line (reading_why files.now status.now)) }
-{
-    let mut text = Vec::new(alloc);
-    put_reading_why(files, status, &mut text)?;
-    line(alloc, &text)
-}
-
 /// That there are too many triangles for this format.
 pub fn too_many_text(format: OutputFormat) -> &'static [u8]
     ensures { result.now ≡ too_many_text format }
@@ -261,8 +251,8 @@ pub fn too_many_text(format: OutputFormat) -> &'static [u8]
     }
 }
 
-// Appends why files aren't put on their grid.
-fn put_scene_why(
+/// Appends why files aren't put on their grid.
+pub fn put_scene_why(
     files: &Texts,
     step: &WantedStep,
     status: &Status,
@@ -281,22 +271,8 @@ fn put_scene_why(
     }
 }
 
-/// The line of meshes that aren't put on their grid.
-pub fn snap_line(
-    alloc: Global,
-    request: &SnapRequest,
-    status: &Status,
-) -> Result<Vec<u8>, OutOfMemory>
-    requires { IsShown status.now }
-    ensures { IfOk result (λ text. text.items ≡ line (snap_why request.now status.now)) }
-{
-    let mut text = Vec::new(alloc);
-    put_scene_why(&request.files, &request.step, status, &mut text)?;
-    line(alloc, &text)
-}
-
-// Appends why a request isn't met.
-fn put_why(request: &Request, status: &Status, text: &mut Vec<u8>) -> Result<(), OutOfMemory>
+/// Appends why a request isn't met.
+pub fn put_why(request: &Request, status: &Status, text: &mut Vec<u8>) -> Result<(), OutOfMemory>
     requires { IsShown status.now }
     ensures { OnOk result (text.new.items ≡ text.old.items ++ why_of request.now status.now) }
 {
@@ -308,14 +284,4 @@ fn put_why(request: &Request, status: &Status, text: &mut Vec<u8>) -> Result<(),
         Status::Uncertified(fault) => put_solid_fault(fault, text),
         _ => put_scene_why(&request.files, &request.step, status, text),
     }
-}
-
-/// The line of a request that isn't met.
-pub fn line_of(alloc: Global, request: &Request, status: &Status) -> Result<Vec<u8>, OutOfMemory>
-    requires { IsShown status.now }
-    ensures { IfOk result (λ text. text.items ≡ line (why_of request.now status.now)) }
-{
-    let mut text = Vec::new(alloc);
-    put_why(request, status, &mut text)?;
-    line(alloc, &text)
 }

@@ -36,11 +36,12 @@ options
   --keep DIR         also write what snap writes, and the document, doc.txt
   --scene SCENE      the scene.json of a document; without it the step is 1
                      and nothing is moved
+  --json             the report, or why nothing is written, as one JSON object
   --quiet            no report
 
 snap takes --step, export takes --format, --digits and --view, and view and info
-take none; all but info take --quiet. A folder is made if it isn't there. No page
-and no file of DIR may replace a file that is read; OUT may.
+take none; all take --json, and all but info --quiet. A folder is made if it isn't
+there. No page and no file of DIR may replace a file that is read; OUT may.
 
 FILE.. are 1 to 64 meshes in STL, OBJ, PLY or OFF files, which must be closed but
 for view and info. The name - is standard input, which is read once. Each file

@@ -3,7 +3,7 @@ ghost use Rattle.std.specs.Prelude.{◌≡◌, ◌++◌, ◌<◌, drop, IfOk, On
 ghost use Rattle.mesh_report.specs.Lines.{line};
 ghost use Rattle.mesh_grid.specs.Moves.Shown.{rounded_of};
 ghost use Rattle.mesh_grid.specs.Snap.Steps.{IsStep};
-ghost use Rattle.mesh_report.specs.Reports.{counts_line, counts_lines, empty_line, export_report, first_move, grid_line, losses_text, mesh_line, mesh_lines, mesh_text, name_of_format, report_of, scene_lines, snap_report, warning_line};
+ghost use Rattle.mesh_report.specs.Reports.{counts_line, counts_lines, empty_line, export_report, first_move, grid_line, losses_text, mesh_line, mesh_lines, mesh_text, name_of_format, report_of, scene_lines, snap_report, warning_line, warning_text};
 
 use crate::texts::{line, put_count, put_move, put_signed, put_step};
 use crate::volumes::put_volumes;
@@ -68,8 +68,8 @@ fn put_counts(
     put_line(alloc, &said, text)
 }
 
-// The move with this index, or 0 if there is none.
-fn move_at(moves: &[Length], index: usize) -> Length
+/// The move with this index, or 0 if there is none.
+pub fn move_at(moves: &[Length], index: usize) -> Length
     ensures { rounded_of result ≡ first_move (drop index moves.now) }
 {
     let Some(moved) = moves.get(index) else {
@@ -123,6 +123,21 @@ fn name_of_format(format: OutputFormat) -> &'static [u8]
     }
 }
 
+/// Appends that rounding moves corners far, and what helps.
+pub fn put_warning_text(
+    format: OutputFormat,
+    mesh: &Written,
+    text: &mut Vec<u8>,
+) -> Result<(), OutOfMemory>
+    ensures { OnOk result (text.new.items ≡ text.old.items ++ warning_text format mesh.now) }
+{
+    text.extend_from_slice(b"rounding for ")?;
+    text.extend_from_slice(name_of_format(format))?;
+    text.extend_from_slice(b" moves corners by up to ")?;
+    put_rounding_move(&mesh.effect.greatest, text)?;
+    text.extend_from_slice(ADVICE)
+}
+
 // Appends that rounding moves corners far, if it does.
 fn put_warning(
     alloc: Global,
@@ -135,11 +150,8 @@ fn put_warning(
     if !mesh.effect.is_coarse {
         return Ok(());
     }
-    let mut said = Vec::from_slice(alloc, b"warning: rounding for ")?;
-    said.extend_from_slice(name_of_format(format))?;
-    said.extend_from_slice(b" moves corners by up to ")?;
-    put_rounding_move(&mesh.effect.greatest, &mut said)?;
-    said.extend_from_slice(ADVICE)?;
+    let mut said = Vec::from_slice(alloc, b"warning: ")?;
+    put_warning_text(format, mesh, &mut said)?;
     put_line(alloc, &said, text)
 }
 

@@ -114,8 +114,8 @@ pub fn put_length(extent: &SceneExtent, text: &mut Vec<u8>) -> Result<(), OutOfM
     put_decimal(&numerator, 1_000_000_000_000, PLACES, text)
 }
 
-// Appends the size divided by 10 to the power of `places`.
-fn put_size(size: u128, places: u32, text: &mut Vec<u8>) -> Result<(), OutOfMemory>
+/// Appends the size divided by 10 to the power of `places`.
+pub fn put_size(size: u128, places: u32, text: &mut Vec<u8>) -> Result<(), OutOfMemory>
     requires size { size < 2 ^ 127 }
     requires places { places ≤ 12 }
     ensures { OnOk result (text.new.items ≡ text.old.items ++ size_text size places) }

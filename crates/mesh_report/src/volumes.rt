@@ -1,7 +1,7 @@
 // The volumes of the files' meshes.
 ghost use Rattle.std.specs.Prelude.{◌≡◌, ℤ, ◌++◌, ◌+◌, ◌*◌, ◌<◌, ◌^◌, length, get_or, drop, OnOk};
 ghost use Rattle.mesh_grid.specs.Snap.Steps.{IsStep};
-ghost use Rattle.mesh_report.specs.Volumes.{cube, inside_out_text, plain_text, said_text, volume_line, volume_lines, volume_text};
+ghost use Rattle.mesh_report.specs.Volumes.{cube, inside_out_text, plain_text, said_text, turned_text, volume_line, volume_lines, volume_text};
 
 use crate::report::put_line;
 use crate::texts::{PLACES, put_count};
@@ -61,7 +61,27 @@ fn put_plain(
     put_volume(six_volumes, step, text)
 }
 
-// Appends that a file may be inside out, and how it is used then. Files are numbered from 1.
+/// Appends that a file may be inside out, and how it is used then. Files are numbered from 1.
+pub fn put_turned(
+    number: u64,
+    name: &[u8],
+    six_volumes: i64,
+    step: &GridStep,
+    text: &mut Vec<u8>,
+) -> Result<(), OutOfMemory>
+    requires { IsStep step.now }
+    ensures { OnOk result (text.new.items ≡
+        text.old.items ++ turned_text number name.now step.now six_volumes) }
+{
+    text.extend_from_slice(name)?;
+    text.extend_from_slice(b": its volume is ")?;
+    put_volume(six_volumes, step, text)?;
+    text.extend_from_slice(b", so it may be inside out; use w")?;
+    put_count(number, text)?;
+    text.extend_from_slice(b"=-1")
+}
+
+// Appends the same as a warning.
 fn put_inside_out(
     number: u64,
     name: &[u8],
@@ -74,12 +94,7 @@ fn put_inside_out(
         text.old.items ++ inside_out_text number name.now step.now six_volumes) }
 {
     text.extend_from_slice(b"warning: ")?;
-    text.extend_from_slice(name)?;
-    text.extend_from_slice(b": its volume is ")?;
-    put_volume(six_volumes, step, text)?;
-    text.extend_from_slice(b", so it may be inside out; use w")?;
-    put_count(number, text)?;
-    text.extend_from_slice(b"=-1")
+    put_turned(number, name, six_volumes, step, text)
 }
 
 // Appends what is said of the volume of a file.
@@ -119,7 +134,8 @@ fn put_volume_line(
     put_line(alloc, &said, text)
 }
 
-fn volume_at(six_volumes: &[i64], index: usize) -> i64
+/// The volume with this index.
+pub fn volume_at(six_volumes: &[i64], index: usize) -> i64
     requires { index < length six_volumes.now }
     ensures { (other : ℤ) → result ≡ get_or six_volumes.now index other }
 {

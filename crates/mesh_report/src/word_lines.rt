@@ -1,10 +1,9 @@
-// The line on standard error of words that are refused.
-ghost use Rattle.std.specs.Prelude.{◌≡◌, ◌++◌, codes, map, IfOk, OnOk, string_bytes};
+// Why words are refused.
+ghost use Rattle.std.specs.Prelude.{◌≡◌, ◌++◌, codes, map, OnOk, string_bytes};
 ghost use Rattle.mesh_words.specs.Given.{input_given, output_given, step_given};
-ghost use Rattle.mesh_report.specs.Lines.{line};
 ghost use Rattle.mesh_report.specs.WordLines.{foreign_text, refusal_text, value_text, word_text, word_at};
 
-use crate::texts::{line, put_value};
+use crate::texts::put_value;
 use ember_model::OutOfMemory;
 use mesh_words::{Refusal, Setting, input_given, output_given, step_given, value_given};
 use std::alloc::Global;
@@ -139,8 +138,8 @@ fn put_over_output(
     )
 }
 
-// Appends why the words are refused.
-fn put_refusal(
+/// Appends why the words are refused.
+pub fn put_refusal(
     alloc: Global,
     words: &[String],
     why: Refusal,
@@ -180,13 +179,4 @@ fn put_refusal(
         Refusal::Workers => put_word(b"--workers", b"not a number from 1 to 64", text),
         Refusal::Digits => put_word(b"--digits", b"not a number from 0 to 17", text),
     }
-}
-
-/// The line of words that are refused.
-pub fn refusal_line(alloc: Global, words: &[String], why: Refusal) -> Result<Vec<u8>, OutOfMemory>
-    ensures { IfOk result (λ text. text.items ≡ line (refusal_text (map string_bytes words.now) why)) }
-{
-    let mut text = Vec::new(alloc);
-    put_refusal(alloc, words, why, &mut text)?;
-    line(alloc, &text)
 }

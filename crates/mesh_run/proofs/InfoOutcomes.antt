@@ -1,5 +1,5 @@
 -- What comes of meshes of which something is to be said
-use Rattle.std.proofs.Common.{◌≡◌, ◌<◌, ℕ, List, length, false, refl, get_or, take, sym, ap, subst, arith, ◌∙◌, ◌+◌, ◌++◌}
+use Rattle.std.proofs.Common.{◌≡◌, ◌<◌, ℕ, Bool, List, length, false, refl, get_or, take, sym, ap, subst, arith, ◌∙◌, ◌+◌, ◌++◌}
 use Rattle.std.proofs.lemmas.List.{length-map, get_or-map, take_all, take_more}
 use Rattle.std.specs.Prelude.{Result}
 use Rattle.ember_algebra.specs.Relations.{Each}
@@ -13,7 +13,7 @@ use Rattle.mesh_read.specs.Surface.Surfaces.{Content}
 use Rattle.mesh_run.specs.Calls.{ShelfCall, SinkCall}
 use Rattle.mesh_run.specs.Causes.{IsReadingCause, IsRefusalCause}
 use Rattle.mesh_run.specs.Infos.{AreInfoLines, IsFileLine}
-use Rattle.mesh_report.specs.Lines.{line, reading_why}
+use Rattle.mesh_report.specs.Said.{reading_said}
 use Rattle.mesh_run.specs.Memory.{hides_memory}
 use Rattle.mesh_run.specs.Serves.{IsInfoOutcome, IsMessageOutcome}
 use Rattle.mesh_report.specs.declared.status.Status.{Status}
@@ -99,11 +99,11 @@ module _ (names : List (List ℕ)) (shelf : ShelfCall) where
   reading_tells_memory OutOfMemory h = refl
   reading_tells_memory (Uncertified fault) h = absurd h
 
-module _ (names : List (List ℕ)) (shelf : ShelfCall) (out : SinkCall) where
+module _ (json : Bool) (names : List (List ℕ)) (shelf : ShelfCall) (out : SinkCall) where
   -- ---- outcomes
-  -- files that aren't all read have a line
+  -- of files that aren't all read this is said
   pub unread_outcome : (status : Status) (text : List ℕ) → IsReadingCause names shelf status →
-      out.taken_after ≡ out.taken → text ≡ line (reading_why names status) → IsInfoOutcome names shelf out status text
+      out.taken_after ≡ out.taken → text ≡ reading_said json names status → IsInfoOutcome json names shelf out status text
   unread_outcome Done text h same e = absurd h
   unread_outcome (Words refusal) text h same e = (h, same, e)
   unread_outcome StepOfNoGrid text h same e = (h, same, e)
@@ -127,7 +127,7 @@ module _ (names : List (List ℕ)) (shelf : ShelfCall) (out : SinkCall) where
 
   -- the lines are written, or aren't
   pub lines_outcome : (lines : List ℕ) (status : Status) (text : List ℕ) → AreInfoLines shelf.told names lines →
-      IsMessageOutcome lines out status text → IsInfoOutcome names shelf out status text
+      IsMessageOutcome json lines out status text → IsInfoOutcome json names shelf out status text
   lines_outcome lines Done text are h = record { lines = lines; are_lines = are; written = h }
   lines_outcome lines (Words refusal) text are h = absurd h
   lines_outcome lines StepOfNoGrid text are h = absurd h

@@ -1,11 +1,11 @@
 -- What comes of a request whose files aren't all written
 use Rattle.std.proofs.Common.{◌≡◌, inl, inr, ℕ, List, refl, sym, ap, subst, ◌∙◌}
 use Rattle.std.specs.declared.alloc.Global.{Global}
-use Rattle.std.specs.Prelude.{Result, Ok, Err, IfErr, IfOk, IsErrAnd, OnErr, String, Vec, codes, false, string_bytes}
+use Rattle.std.specs.Prelude.{Result, Ok, Err, IfErr, IfOk, IsErrAnd, OnErr, String, Vec, false, string_bytes}
 use Rattle.mesh_outside.specs.Target.Several.{NamedBytes, PutsBefore}
 use Rattle.mesh_outside.specs.declared.target.target.WriteEnd.{WriteEnd}
 use Rattle.mesh_run.specs.Calls.{SinkCall, TargetCall, HoldsAll, TakesUntilFault}
-use Rattle.mesh_report.specs.Lines.{IsShown, line}
+use Rattle.mesh_report.specs.Lines.{IsShown}
 use Rattle.mesh_run.specs.Memory.{hides_memory}
 use Rattle.mesh_run.specs.Unmet.{EndsAs, EndsOn, IsUnmet, IsUnwrittenStatus, IsWriteStop}
 use Rattle.mesh_report.specs.declared.status.Status.{Status}
@@ -170,97 +170,95 @@ module _ (IsCause : Status → Type 0) (AreFiles : List NamedBytes → Type 0) (
   unmet_is_shown shown (Uncertified fault) h = shown (Uncertified fault) h.0
 
   -- ---- outcomes
-  -- what isn't met has a line
-  unmet_ends : (Writes : List ℕ → Type 0) (why : Status → List ℕ) → (IsCause Done → ⊥) →
-      (status : Status) (text : List ℕ) → IsUnmet IsCause AreFiles target status → text ≡ line (why status) →
-      EndsAs Writes (IsUnmet IsCause AreFiles target) why status text
-  unmet_ends Writes why never Done text h e = absurd (never h.0)
-  unmet_ends Writes why never (Words refusal) text h e = (h, e)
-  unmet_ends Writes why never StepOfNoGrid text h e = (h, e)
-  unmet_ends Writes why never (ReadFault i kind) text h e = (h, e)
-  unmet_ends Writes why never WriteFault text h e = (h, e)
-  unmet_ends Writes why never (NotWritten file) text h e = (h, e)
-  unmet_ends Writes why never (FileRefused i reason) text h e = (h, e)
-  unmet_ends Writes why never NoTriangles text h e = (h, e)
-  unmet_ends Writes why never NotAScene text h e = (h, e)
-  unmet_ends Writes why never (NotClosed o format) text h e = (h, e)
-  unmet_ends Writes why never (ExprRefused fault) text h e = (h, e)
-  unmet_ends Writes why never Unbounded text h e = (h, e)
-  unmet_ends Writes why never (LongFile i) text h e = (h, e)
-  unmet_ends Writes why never (TooManyTriangles count) text h e = (h, e)
-  unmet_ends Writes why never TooManyWritten text h e = (h, e)
-  unmet_ends Writes why never (StepTooSmall extent) text h e = (h, e)
-  unmet_ends Writes why never TooFar text h e = (h, e)
-  unmet_ends Writes why never (DocumentRefused fault) text h e = (h, e)
-  unmet_ends Writes why never OutOfMemory text h e = (h, e)
-  unmet_ends Writes why never (Uncertified fault) text h e = (h, e)
+  -- of what isn't met this is said
+  unmet_ends : (Writes : List ℕ → Type 0) (says : Status → List ℕ) → (IsCause Done → ⊥) →
+      (status : Status) (text : List ℕ) → IsUnmet IsCause AreFiles target status → text ≡ says status →
+      EndsAs Writes (IsUnmet IsCause AreFiles target) says status text
+  unmet_ends Writes says never Done text h e = absurd (never h.0)
+  unmet_ends Writes says never (Words refusal) text h e = (h, e)
+  unmet_ends Writes says never StepOfNoGrid text h e = (h, e)
+  unmet_ends Writes says never (ReadFault i kind) text h e = (h, e)
+  unmet_ends Writes says never WriteFault text h e = (h, e)
+  unmet_ends Writes says never (NotWritten file) text h e = (h, e)
+  unmet_ends Writes says never (FileRefused i reason) text h e = (h, e)
+  unmet_ends Writes says never NoTriangles text h e = (h, e)
+  unmet_ends Writes says never NotAScene text h e = (h, e)
+  unmet_ends Writes says never (NotClosed o format) text h e = (h, e)
+  unmet_ends Writes says never (ExprRefused fault) text h e = (h, e)
+  unmet_ends Writes says never Unbounded text h e = (h, e)
+  unmet_ends Writes says never (LongFile i) text h e = (h, e)
+  unmet_ends Writes says never (TooManyTriangles count) text h e = (h, e)
+  unmet_ends Writes says never TooManyWritten text h e = (h, e)
+  unmet_ends Writes says never (StepTooSmall extent) text h e = (h, e)
+  unmet_ends Writes says never TooFar text h e = (h, e)
+  unmet_ends Writes says never (DocumentRefused fault) text h e = (h, e)
+  unmet_ends Writes says never OutOfMemory text h e = (h, e)
+  unmet_ends Writes says never (Uncertified fault) text h e = (h, e)
 
   -- the same where a mesh may go to out, which took nothing
-  unmet_ends_on : (out : SinkCall) (Writes : Status → List ℕ → Type 0) (why : Status → List ℕ) → (IsCause Done → ⊥) →
+  unmet_ends_on : (out : SinkCall) (Writes : Status → List ℕ → Type 0) (says : Status → List ℕ) → (IsCause Done → ⊥) →
       (IsCause WriteFault → ⊥) → out.taken_after ≡ out.taken →
-      (status : Status) (text : List ℕ) → IsUnmet IsCause AreFiles target status → text ≡ line (why status) →
-      EndsOn out Writes (IsUnmet IsCause AreFiles target) why status text
-  unmet_ends_on out Writes why never unmet same Done text h e = absurd (never h.0)
-  unmet_ends_on out Writes why never unmet same (Words refusal) text h e = (h, e, same)
-  unmet_ends_on out Writes why never unmet same StepOfNoGrid text h e = (h, e, same)
-  unmet_ends_on out Writes why never unmet same (ReadFault i kind) text h e = (h, e, same)
-  unmet_ends_on out Writes why never unmet same WriteFault text h e = absurd (unmet h.0)
-  unmet_ends_on out Writes why never unmet same (NotWritten file) text h e = (h, e, same)
-  unmet_ends_on out Writes why never unmet same (FileRefused i reason) text h e = (h, e, same)
-  unmet_ends_on out Writes why never unmet same NoTriangles text h e = (h, e, same)
-  unmet_ends_on out Writes why never unmet same NotAScene text h e = (h, e, same)
-  unmet_ends_on out Writes why never unmet same (NotClosed o format) text h e = (h, e, same)
-  unmet_ends_on out Writes why never unmet same (ExprRefused fault) text h e = (h, e, same)
-  unmet_ends_on out Writes why never unmet same Unbounded text h e = (h, e, same)
-  unmet_ends_on out Writes why never unmet same (LongFile i) text h e = (h, e, same)
-  unmet_ends_on out Writes why never unmet same (TooManyTriangles count) text h e = (h, e, same)
-  unmet_ends_on out Writes why never unmet same TooManyWritten text h e = (h, e, same)
-  unmet_ends_on out Writes why never unmet same (StepTooSmall extent) text h e = (h, e, same)
-  unmet_ends_on out Writes why never unmet same TooFar text h e = (h, e, same)
-  unmet_ends_on out Writes why never unmet same (DocumentRefused fault) text h e = (h, e, same)
-  unmet_ends_on out Writes why never unmet same OutOfMemory text h e = (h, e, same)
-  unmet_ends_on out Writes why never unmet same (Uncertified fault) text h e = (h, e, same)
+      (status : Status) (text : List ℕ) → IsUnmet IsCause AreFiles target status → text ≡ says status →
+      EndsOn out Writes (IsUnmet IsCause AreFiles target) says status text
+  unmet_ends_on out Writes says never unmet same Done text h e = absurd (never h.0)
+  unmet_ends_on out Writes says never unmet same (Words refusal) text h e = (h, e, same)
+  unmet_ends_on out Writes says never unmet same StepOfNoGrid text h e = (h, e, same)
+  unmet_ends_on out Writes says never unmet same (ReadFault i kind) text h e = (h, e, same)
+  unmet_ends_on out Writes says never unmet same WriteFault text h e = absurd (unmet h.0)
+  unmet_ends_on out Writes says never unmet same (NotWritten file) text h e = (h, e, same)
+  unmet_ends_on out Writes says never unmet same (FileRefused i reason) text h e = (h, e, same)
+  unmet_ends_on out Writes says never unmet same NoTriangles text h e = (h, e, same)
+  unmet_ends_on out Writes says never unmet same NotAScene text h e = (h, e, same)
+  unmet_ends_on out Writes says never unmet same (NotClosed o format) text h e = (h, e, same)
+  unmet_ends_on out Writes says never unmet same (ExprRefused fault) text h e = (h, e, same)
+  unmet_ends_on out Writes says never unmet same Unbounded text h e = (h, e, same)
+  unmet_ends_on out Writes says never unmet same (LongFile i) text h e = (h, e, same)
+  unmet_ends_on out Writes says never unmet same (TooManyTriangles count) text h e = (h, e, same)
+  unmet_ends_on out Writes says never unmet same TooManyWritten text h e = (h, e, same)
+  unmet_ends_on out Writes says never unmet same (StepTooSmall extent) text h e = (h, e, same)
+  unmet_ends_on out Writes says never unmet same TooFar text h e = (h, e, same)
+  unmet_ends_on out Writes says never unmet same (DocumentRefused fault) text h e = (h, e, same)
+  unmet_ends_on out Writes says never unmet same OutOfMemory text h e = (h, e, same)
+  unmet_ends_on out Writes says never unmet same (Uncertified fault) text h e = (h, e, same)
 
-  -- the line is made and said, or, for want of memory, that of out-of-memory is
-  pub said_status_ends : {E : Type 0} (Writes : List ℕ → Type 0) (why : Status → List ℕ) →
-      why OutOfMemory ≡ codes "out of memory" → (IsCause Done → ⊥) →
+  -- the text is made and said, or, for want of memory, that of out-of-memory is
+  pub said_status_ends : {E : Type 0} (Writes : List ℕ → Type 0) (says : Status → List ℕ)
+      (lacking : List ℕ) → says OutOfMemory ≡ lacking → (IsCause Done → ⊥) →
       (status result : Status) (err : SinkCall) (said : Result (Vec ℕ Global) E) →
-      IsUnmet IsCause AreFiles target status → IfOk said (λ text. text.items ≡ line (why status)) →
+      IsUnmet IsCause AreFiles target status → IfOk said (λ text. text.items ≡ says status) →
       IfOk said (λ text. (result ≡ status) × TakesUntilFault err text.items) →
-      OnErr said ((result ≡ OutOfMemory) × TakesUntilFault err (line (codes "out of memory"))) →
-      (text : List ℕ) × EndsAs Writes (IsUnmet IsCause AreFiles target) why result text × TakesUntilFault err text
-  said_status_ends Writes why memory never status result err (Ok text) unmet made told without = (
+      OnErr said ((result ≡ OutOfMemory) × TakesUntilFault err lacking) →
+      (text : List ℕ) × EndsAs Writes (IsUnmet IsCause AreFiles target) says result text × TakesUntilFault err text
+  said_status_ends Writes says lacking memory never status result err (Ok text) unmet made told without = (
     text.items,
-    subst (λ (s : Status). EndsAs Writes (IsUnmet IsCause AreFiles target) why s text.items) (sym told.0)
-        (unmet_ends Writes why never status text.items unmet made),
+    subst (λ (s : Status). EndsAs Writes (IsUnmet IsCause AreFiles target) says s text.items) (sym told.0)
+        (unmet_ends Writes says never status text.items unmet made),
     told.1,
   )
-  said_status_ends Writes why memory never status result err (Err e) unmet made told without = (
-    line (codes "out of memory"),
-    subst (λ (s : Status). EndsAs Writes (IsUnmet IsCause AreFiles target) why s
-        (line (codes "out of memory"))) (sym without.0) (unmet_lacks_memory status unmet, ap line (sym memory)),
+  said_status_ends Writes says lacking memory never status result err (Err e) unmet made told without = (
+    lacking,
+    subst (λ (s : Status). EndsAs Writes (IsUnmet IsCause AreFiles target) says s lacking) (sym without.0) (unmet_lacks_memory status unmet, sym memory),
     without.1,
   )
 
   -- the same where a mesh may go to out, which took nothing
-  pub said_status_ends_on : {E : Type 0} (out : SinkCall) (Writes : Status → List ℕ → Type 0) (why : Status → List ℕ) →
-      why OutOfMemory ≡ codes "out of memory" → (IsCause Done → ⊥) → (IsCause WriteFault → ⊥) →
+  pub said_status_ends_on : {E : Type 0} (out : SinkCall) (Writes : Status → List ℕ → Type 0) (says : Status → List ℕ)
+      (lacking : List ℕ) → says OutOfMemory ≡ lacking → (IsCause Done → ⊥) → (IsCause WriteFault → ⊥) →
       out.taken_after ≡ out.taken →
       (status result : Status) (err : SinkCall) (said : Result (Vec ℕ Global) E) →
-      IsUnmet IsCause AreFiles target status → IfOk said (λ text. text.items ≡ line (why status)) →
+      IsUnmet IsCause AreFiles target status → IfOk said (λ text. text.items ≡ says status) →
       IfOk said (λ text. (result ≡ status) × TakesUntilFault err text.items) →
-      OnErr said ((result ≡ OutOfMemory) × TakesUntilFault err (line (codes "out of memory"))) →
-      (text : List ℕ) × EndsOn out Writes (IsUnmet IsCause AreFiles target) why result text × TakesUntilFault err text
-  said_status_ends_on out Writes why memory never fault same status result err (Ok text) unmet made told without = (
+      OnErr said ((result ≡ OutOfMemory) × TakesUntilFault err lacking) →
+      (text : List ℕ) × EndsOn out Writes (IsUnmet IsCause AreFiles target) says result text × TakesUntilFault err text
+  said_status_ends_on out Writes says lacking memory never fault same status result err (Ok text) unmet made told without = (
     text.items,
-    subst (λ (s : Status). EndsOn out Writes (IsUnmet IsCause AreFiles target) why s text.items) (sym told.0)
-        (unmet_ends_on out Writes why never fault same status text.items unmet made),
+    subst (λ (s : Status). EndsOn out Writes (IsUnmet IsCause AreFiles target) says s text.items) (sym told.0)
+        (unmet_ends_on out Writes says never fault same status text.items unmet made),
     told.1,
   )
-  said_status_ends_on out Writes why memory never fault same status result err (Err e) unmet made told without = (
-    line (codes "out of memory"),
-    subst (λ (s : Status). EndsOn out Writes (IsUnmet IsCause AreFiles target) why s
-        (line (codes "out of memory"))) (sym without.0) (unmet_lacks_memory status unmet, ap line (sym memory), same),
+  said_status_ends_on out Writes says lacking memory never fault same status result err (Err e) unmet made told without = (
+    lacking,
+    subst (λ (s : Status). EndsOn out Writes (IsUnmet IsCause AreFiles target) says s lacking) (sym without.0) (unmet_lacks_memory status unmet, sym memory, same),
     without.1,
   )
 

@@ -1,5 +1,5 @@
 -- What a call promises
-use Rattle.std.specs.Prelude.{◌≡◌, ◌≤◌, ℕ, List, [], ◌∷◌, false, None, Some, Result, Ok, Err, codes}
+use Rattle.std.specs.Prelude.{◌≡◌, ◌≤◌, ℕ, Bool, List, [], ◌∷◌, false, None, Some, Result, Ok, Err}
 use Rattle.std.specs.declared.option.Option.{Option}
 use Rattle.mesh_boolean.specs.declared.output.SolidFile.{SolidFile}
 use Rattle.mesh_boolean.specs.declared.writing.Written.{Written}
@@ -10,6 +10,7 @@ use Rattle.mesh_words.specs.declared.command.Request.{Request}
 use Rattle.mesh_words.specs.declared.command.SnapRequest.{SnapRequest}
 use Rattle.mesh_words.specs.declared.command.ViewRequest.{ViewRequest}
 use Rattle.mesh_words.specs.declared.faults.Refusal.{Refusal}
+use Rattle.mesh_words.specs.Arguments.{words_ask_json}
 use Rattle.mesh_words.specs.Commands.{command_of}
 use Rattle.mesh_scene.specs.declared.scene.scene.PlacedScene.{PlacedScene}
 use Rattle.mesh_outside.specs.Target.Several.{NamedBytes, PutsEach}
@@ -17,49 +18,48 @@ use Rattle.mesh_outside.specs.Target.Targets.{Puts}
 use Rattle.mesh_run.specs.Calls.{ShelfCall, TargetCall, SinkCall, KeepsContents, HoldsAll}
 use Rattle.mesh_run.specs.Calls.{TakesAll, TakesSome, TakesUntilFault}
 use Rattle.mesh_run.specs.Causes.{IsReadingCause, IsSnapStop, IsStop}
-use Rattle.mesh_report.specs.ExportLines.{export_why}
 use Rattle.mesh_run.specs.Exports.{IsExport, IsExportStop}
 use Rattle.mesh_run.specs.Infos.{AreInfoLines}
-use Rattle.mesh_report.specs.Lines.{line, reading_why, snap_why, why_of}
 use Rattle.mesh_run.specs.Memory.{hides_memory}
 use Rattle.mesh_report.specs.Messages.{usage_text, version_text}
 use Rattle.mesh_run.specs.Outputs.{IsOutputFor, IsPlacedFor}
 use Rattle.mesh_run.specs.Pages.{IsPageOf}
-use Rattle.mesh_report.specs.Reports.{export_report, report_of, snap_report}
+use Rattle.mesh_report.specs.Said.{export_said, exported_report, memory_said, output_said, placed_report, reading_said}
+use Rattle.mesh_report.specs.Said.{snap_said, solid_report, solid_said, words_said}
 use Rattle.mesh_run.specs.Unmet.{EndsAs, EndsOn, IsUnmet}
-use Rattle.mesh_report.specs.WordLines.{refusal_text}
 use Rattle.mesh_run.specs.Writes.{AreMeshFiles, AreSceneFiles, AreSolidFiles, sent_to}
 use Rattle.mesh_report.specs.declared.status.Status.{Status}
 use Rattle.mesh_report.specs.declared.status.Status.TheVariants.{Done, Words, WriteFault, OutOfMemory}
 
+-- What err takes is a line or lines, or one object if the words ask for JSON: `json` says whether they do
+
 -- ---- a mesh to standard output
 -- all files are put. Then out takes the mesh, if it goes there, and err the report; or out fails
-abbrev pub IsSent : Option (List ℕ) → List ℕ → SinkCall → Status → List ℕ → Type 0
-IsSent None report out status text = (status ≡ Done) × (text ≡ report) × (out.taken_after ≡ out.taken)
-IsSent (Some mesh) report out Done text = TakesAll out mesh × (text ≡ report)
-IsSent (Some mesh) report out WriteFault text =
-    TakesSome out mesh × (text ≡ line (codes "cannot write to standard output"))
-IsSent (Some mesh) report out status text = ⊥
+abbrev pub IsSent : Bool → Option (List ℕ) → List ℕ → SinkCall → Status → List ℕ → Type 0
+IsSent json None report out status text = (status ≡ Done) × (text ≡ report) × (out.taken_after ≡ out.taken)
+IsSent json (Some mesh) report out Done text = TakesAll out mesh × (text ≡ report)
+IsSent json (Some mesh) report out WriteFault text = TakesSome out mesh × (text ≡ output_said json)
+IsSent json (Some mesh) report out status text = ⊥
 
 -- ---- a Boolean
 -- the output is that of the request, and its files are put, each in its turn; this goes to out, and this is the report
-pub record PutsSolid (request : Request) (shelf : ShelfCall) (target : TargetCall) (sent : Option (List ℕ))
-    (report : List ℕ) : Type 0 where
+pub record PutsSolid (json : Bool) (request : Request) (shelf : ShelfCall) (target : TargetCall)
+    (sent : Option (List ℕ)) (report : List ℕ) : Type 0 where
   pub output : SolidFile
   pub is_output : IsOutputFor request shelf.told output
   pub files : List NamedBytes
   pub are_files : AreSolidFiles request output files
   pub written : PutsEach files target.held target.held_after
   pub sent_is : sent ≡ sent_to request.output output.written.bytes.items
-  pub report_is : report ≡ report_of request output
+  pub report_is : report ≡ solid_report json request output
 
 -- out takes what goes there, and err the report; or out fails
-pub record WritesSolid (request : Request) (shelf : ShelfCall) (target : TargetCall) (out : SinkCall) (status : Status)
-    (text : List ℕ) : Type 0 where
+pub record WritesSolid (json : Bool) (request : Request) (shelf : ShelfCall) (target : TargetCall) (out : SinkCall)
+    (status : Status) (text : List ℕ) : Type 0 where
   pub sent : Option (List ℕ)
   pub report : List ℕ
-  pub puts : PutsSolid request shelf target sent report
-  pub is_sent : IsSent sent report out status text
+  pub puts : PutsSolid json request shelf target sent report
+  pub is_sent : IsSent json sent report out status text
 
 -- these are the files of an output of the request
 pub record AreFilesFor (request : Request) (told : List ℕ → Option (List ℕ)) (files : List NamedBytes) : Type 0 where
@@ -71,21 +71,23 @@ abbrev pub IsSolidUnmet : Request → ShelfCall → TargetCall → Status → Ty
 IsSolidUnmet request shelf target status =
     IsUnmet (IsStop request shelf) (AreFilesFor request shelf.told) target status
 
--- or the files aren't all written; err takes the line of the status
-abbrev pub IsSolidOutcome : Request → ShelfCall → TargetCall → SinkCall → Status → List ℕ → Type 0
-IsSolidOutcome request shelf target out status text =
-    EndsOn out (WritesSolid request shelf target out) (IsSolidUnmet request shelf target) (why_of request) status text
+-- or the files aren't all written; err takes what is said of the status
+abbrev pub IsSolidOutcome : Bool → Request → ShelfCall → TargetCall → SinkCall → Status → List ℕ → Type 0
+IsSolidOutcome json request shelf target out status text =
+    EndsOn out (WritesSolid json request shelf target out) (IsSolidUnmet request shelf target)
+    (solid_said json request) status text
 
 -- ---- meshes on their grid
 -- the files of the request are placed as it asks for, and the files of their scene are put, each in its turn; err takes
--- the lines of the grid and of the files
-pub record WritesScene (request : SnapRequest) (shelf : ShelfCall) (target : TargetCall) (text : List ℕ) : Type 0 where
+-- the report of the grid and of the files
+pub record WritesScene (json : Bool) (request : SnapRequest) (shelf : ShelfCall) (target : TargetCall)
+    (text : List ℕ) : Type 0 where
   pub placed : PlacedScene
   pub is_placed : IsPlacedFor request shelf.told placed
   pub files : List NamedBytes
   pub are_files : AreSceneFiles request.folder request.files placed files
   pub written : PutsEach files target.held target.held_after
-  pub text_is : text ≡ snap_report request placed
+  pub text_is : text ≡ placed_report json request placed
 
 -- these are the files of a scene that the request asks for
 pub record AreSnapFilesFor (request : SnapRequest) (told : List ℕ → Option (List ℕ)) (files : List NamedBytes) :
@@ -98,31 +100,31 @@ abbrev pub IsSnapUnmet : SnapRequest → ShelfCall → TargetCall → Status →
 IsSnapUnmet request shelf target status =
     IsUnmet (IsSnapStop request shelf) (AreSnapFilesFor request shelf.told) target status
 
--- or the files aren't all written; err takes the line of the status
-abbrev pub IsSnapOutcome : SnapRequest → ShelfCall → TargetCall → Status → List ℕ → Type 0
-IsSnapOutcome request shelf target status text =
-    EndsAs (WritesScene request shelf target) (IsSnapUnmet request shelf target) (snap_why request) status text
+-- or the files aren't all written; err takes what is said of the status
+abbrev pub IsSnapOutcome : Bool → SnapRequest → ShelfCall → TargetCall → Status → List ℕ → Type 0
+IsSnapOutcome json request shelf target status text =
+    EndsAs (WritesScene json request shelf target) (IsSnapUnmet request shelf target) (snap_said json request) status text
 
 -- ---- a document
--- the mesh is that of the document that is named, and its files are put, each in its turn; this goes to out, and these
--- are the lines of the mesh
-pub record PutsExport (request : ExportRequest) (shelf : ShelfCall) (target : TargetCall) (sent : Option (List ℕ))
-    (report : List ℕ) : Type 0 where
+-- the mesh is that of the document that is named, and its files are put, each in its turn; this goes to out, and this
+-- is the report of the mesh
+pub record PutsExport (json : Bool) (request : ExportRequest) (shelf : ShelfCall) (target : TargetCall)
+    (sent : Option (List ℕ)) (report : List ℕ) : Type 0 where
   pub mesh : Written
   pub is_export : IsExport request shelf.told mesh
   pub files : List NamedBytes
   pub are_files : AreMeshFiles request.view request.output mesh files
   pub written : PutsEach files target.held target.held_after
   pub sent_is : sent ≡ sent_to request.output mesh.bytes.items
-  pub report_is : report ≡ export_report request mesh
+  pub report_is : report ≡ exported_report json request mesh
 
--- out takes what goes there, and err the lines; or out fails
-pub record WritesExport (request : ExportRequest) (shelf : ShelfCall) (target : TargetCall) (out : SinkCall)
+-- out takes what goes there, and err the report; or out fails
+pub record WritesExport (json : Bool) (request : ExportRequest) (shelf : ShelfCall) (target : TargetCall) (out : SinkCall)
     (status : Status) (text : List ℕ) : Type 0 where
   pub sent : Option (List ℕ)
   pub report : List ℕ
-  pub puts : PutsExport request shelf target sent report
-  pub is_sent : IsSent sent report out status text
+  pub puts : PutsExport json request shelf target sent report
+  pub is_sent : IsSent json sent report out status text
 
 -- these are the files of a mesh that the request asks for
 pub record AreExportFilesFor (request : ExportRequest) (told : List ℕ → Option (List ℕ)) (files : List NamedBytes) :
@@ -135,36 +137,34 @@ abbrev pub IsExportUnmet : ExportRequest → ShelfCall → TargetCall → Status
 IsExportUnmet request shelf target status =
     IsUnmet (IsExportStop request shelf) (AreExportFilesFor request shelf.told) target status
 
--- or the files aren't all written; err takes the line of the status
-abbrev pub IsExportOutcome : ExportRequest → ShelfCall → TargetCall → SinkCall → Status → List ℕ → Type 0
-IsExportOutcome request shelf target out status text =
-    EndsOn out (WritesExport request shelf target out) (IsExportUnmet request shelf target) (export_why request) status
-    text
+-- or the files aren't all written; err takes what is said of the status
+abbrev pub IsExportOutcome : Bool → ExportRequest → ShelfCall → TargetCall → SinkCall → Status → List ℕ → Type 0
+IsExportOutcome json request shelf target out status text =
+    EndsOn out (WritesExport json request shelf target out) (IsExportUnmet request shelf target)
+    (export_said json request) status text
 
 -- ---- help and the version
 -- out takes this message, or fails
-abbrev pub IsMessageOutcome : List ℕ → SinkCall → Status → List ℕ → Type 0
-IsMessageOutcome message out Done text = TakesAll out message × (text ≡ [])
-IsMessageOutcome message out WriteFault text =
-    TakesSome out message × (text ≡ line (codes "cannot write to standard output"))
-IsMessageOutcome message out OutOfMemory text =
-    (out.taken_after ≡ out.taken) × (text ≡ line (codes "out of memory"))
-IsMessageOutcome message out status text = ⊥
+abbrev pub IsMessageOutcome : Bool → List ℕ → SinkCall → Status → List ℕ → Type 0
+IsMessageOutcome json message out Done text = TakesAll out message × (text ≡ [])
+IsMessageOutcome json message out WriteFault text = TakesSome out message × (text ≡ output_said json)
+IsMessageOutcome json message out OutOfMemory text = (out.taken_after ≡ out.taken) × (text ≡ memory_said json)
+IsMessageOutcome json message out status text = ⊥
 
 -- ---- what is said of meshes
 -- out takes the lines of the files, or fails
-pub record WritesInfos (names : List (List ℕ)) (shelf : ShelfCall) (out : SinkCall) (status : Status)
+pub record WritesInfos (json : Bool) (names : List (List ℕ)) (shelf : ShelfCall) (out : SinkCall) (status : Status)
     (text : List ℕ) : Type 0 where
   pub lines : List ℕ
   pub are_lines : AreInfoLines shelf.told names lines
-  pub written : IsMessageOutcome lines out status text
+  pub written : IsMessageOutcome json lines out status text
 
 -- or not all files are read, and out takes nothing
-abbrev pub IsInfoOutcome : List (List ℕ) → ShelfCall → SinkCall → Status → List ℕ → Type 0
-IsInfoOutcome names shelf out Done text = WritesInfos names shelf out Done text
-IsInfoOutcome names shelf out WriteFault text = WritesInfos names shelf out WriteFault text
-IsInfoOutcome names shelf out status text =
-    IsReadingCause names shelf status × (out.taken_after ≡ out.taken) × (text ≡ line (reading_why names status))
+abbrev pub IsInfoOutcome : Bool → List (List ℕ) → ShelfCall → SinkCall → Status → List ℕ → Type 0
+IsInfoOutcome json names shelf out Done text = WritesInfos json names shelf out Done text
+IsInfoOutcome json names shelf out WriteFault text = WritesInfos json names shelf out WriteFault text
+IsInfoOutcome json names shelf out status text =
+    IsReadingCause names shelf status × (out.taken_after ≡ out.taken) × (text ≡ reading_said json names status)
 
 -- ---- a page
 -- the name of the output holds the page of the files, and each other name what it held; err takes nothing
@@ -184,36 +184,38 @@ abbrev pub IsPageUnmet : ViewRequest → ShelfCall → TargetCall → Status →
 IsPageUnmet request shelf target status =
     IsUnmet (IsReadingCause request.files shelf) (IsPageFor request shelf.told) target status
 
--- or no page is written; err takes the line of the status
-abbrev pub IsViewOutcome : ViewRequest → ShelfCall → TargetCall → Status → List ℕ → Type 0
-IsViewOutcome request shelf target status text =
-    EndsAs (WritesPage request shelf target) (IsPageUnmet request shelf target) (reading_why request.files) status text
+-- or no page is written; err takes what is said of the status
+abbrev pub IsViewOutcome : Bool → ViewRequest → ShelfCall → TargetCall → Status → List ℕ → Type 0
+IsViewOutcome json request shelf target status text =
+    EndsAs (WritesPage request shelf target) (IsPageUnmet request shelf target) (reading_said json request.files) status
+    text
 
 -- ---- words that are refused
-abbrev pub IsWordsOutcome : List (List ℕ) → Refusal → Status → List ℕ → Type 0
-IsWordsOutcome words why (Words refusal) text = (refusal ≡ why) × (text ≡ line (refusal_text words why))
-IsWordsOutcome words why OutOfMemory text = text ≡ line (codes "out of memory")
-IsWordsOutcome words why status text = ⊥
+abbrev pub IsWordsOutcome : Bool → List (List ℕ) → Refusal → Status → List ℕ → Type 0
+IsWordsOutcome json words why (Words refusal) text = (refusal ≡ why) × (text ≡ words_said json words why)
+IsWordsOutcome json words why OutOfMemory text = text ≡ memory_said json
+IsWordsOutcome json words why status text = ⊥
 
 -- ---- all words
 -- what comes of words that give this command, or are refused; err takes the text
-abbrev pub IsOutcome : List (List ℕ) → Result Command Refusal → ShelfCall → TargetCall → SinkCall → Status → List ℕ →
-    Type 0
-IsOutcome words (Err why) shelf target out status text =
-    IsWordsOutcome words why status text × HoldsAll target × (out.taken_after ≡ out.taken)
-IsOutcome words (Ok (Info names)) shelf target out status text =
-    IsInfoOutcome names shelf out status text × HoldsAll target
-IsOutcome words (Ok (View request)) shelf target out status text =
-    IsViewOutcome request shelf target status text × (out.taken_after ≡ out.taken)
-IsOutcome words (Ok (Snap request)) shelf target out status text =
-    IsSnapOutcome request shelf target status text × (out.taken_after ≡ out.taken)
-IsOutcome words (Ok (Export request)) shelf target out status text =
-    IsExportOutcome request shelf target out status text
-IsOutcome words (Ok Help) shelf target out status text = IsMessageOutcome usage_text out status text × HoldsAll target
-IsOutcome words (Ok Version) shelf target out status text =
-    IsMessageOutcome version_text out status text × HoldsAll target
-IsOutcome words (Ok (Boole request)) shelf target out status text =
-    IsSolidOutcome request shelf target out status text
+abbrev pub IsOutcome : Bool → List (List ℕ) → Result Command Refusal → ShelfCall → TargetCall → SinkCall → Status →
+    List ℕ → Type 0
+IsOutcome json words (Err why) shelf target out status text =
+    IsWordsOutcome json words why status text × HoldsAll target × (out.taken_after ≡ out.taken)
+IsOutcome json words (Ok (Info names)) shelf target out status text =
+    IsInfoOutcome json names shelf out status text × HoldsAll target
+IsOutcome json words (Ok (View request)) shelf target out status text =
+    IsViewOutcome json request shelf target status text × (out.taken_after ≡ out.taken)
+IsOutcome json words (Ok (Snap request)) shelf target out status text =
+    IsSnapOutcome json request shelf target status text × (out.taken_after ≡ out.taken)
+IsOutcome json words (Ok (Export request)) shelf target out status text =
+    IsExportOutcome json request shelf target out status text
+IsOutcome json words (Ok Help) shelf target out status text =
+    IsMessageOutcome json usage_text out status text × HoldsAll target
+IsOutcome json words (Ok Version) shelf target out status text =
+    IsMessageOutcome json version_text out status text × HoldsAll target
+IsOutcome json words (Ok (Boole request)) shelf target out status text =
+    IsSolidOutcome json request shelf target out status text
 
 -- what a call with these words promises
 pub record MeshServes (words : List (List ℕ)) (shelf : ShelfCall) (target : TargetCall) (out err : SinkCall)
@@ -225,7 +227,7 @@ pub record MeshServes (words : List (List ℕ)) (shelf : ShelfCall) (target : Ta
   pub out_later : out.faults ≤ out.faults_after
   -- what was written or why not, and what err takes of it up to its first fault
   pub text : List ℕ
-  pub outcome : IsOutcome words (command_of words) shelf target out status text
+  pub outcome : IsOutcome (words_ask_json words) words (command_of words) shelf target out status text
   pub said : TakesUntilFault err text
   -- out-of-memory isn't hidden in another status
   pub memory : hides_memory status ≡ false

@@ -4,7 +4,6 @@ use Rattle.mesh_outside.specs.Target.Several.{NamedBytes, PutsBefore}
 use Rattle.mesh_outside.specs.declared.target.target.WriteEnd.{WriteEnd}
 use Rattle.mesh_outside.specs.declared.target.target.WriteEnd.TheVariants as write
 use Rattle.mesh_run.specs.Calls.{TargetCall, SinkCall, HoldsAll}
-use Rattle.mesh_report.specs.Lines.{line}
 use Rattle.mesh_run.specs.Memory.{hides_memory}
 use Rattle.mesh_report.specs.declared.status.Status.{Status}
 use Rattle.mesh_report.specs.declared.status.Status.TheVariants.{Done, WriteFault, NotWritten, OutOfMemory}
@@ -44,14 +43,14 @@ IsUnmet IsCause AreFiles target OutOfMemory =
     HoldsAll target ⊎ ((name : List ℕ) × (why : WriteEnd) × IsCutShort AreFiles target name why)
 IsUnmet IsCause AreFiles target status = IsCause status × HoldsAll target × (hides_memory status ≡ false)
 
--- the status, and what err takes: this if the files are written, or the line of the status
+-- the status, and what err takes: this if the files are written, or what is said of the status
 abbrev pub EndsAs : (List ℕ → Type 0) → (Status → Type 0) → (Status → List ℕ) → Status → List ℕ → Type 0
-EndsAs Writes Unmet why Done text = Writes text
-EndsAs Writes Unmet why status text = Unmet status × (text ≡ line (why status))
+EndsAs Writes Unmet said Done text = Writes text
+EndsAs Writes Unmet said status text = Unmet status × (text ≡ said status)
 
 -- the same where a mesh may go to out: if all files are written, out may still fail; otherwise it takes nothing
 abbrev pub EndsOn : SinkCall → (Status → List ℕ → Type 0) → (Status → Type 0) → (Status → List ℕ) → Status → List ℕ →
     Type 0
-EndsOn out Writes Unmet why Done text = Writes Done text
-EndsOn out Writes Unmet why WriteFault text = Writes WriteFault text
-EndsOn out Writes Unmet why status text = Unmet status × (text ≡ line (why status)) × (out.taken_after ≡ out.taken)
+EndsOn out Writes Unmet said Done text = Writes Done text
+EndsOn out Writes Unmet said WriteFault text = Writes WriteFault text
+EndsOn out Writes Unmet said status text = Unmet status × (text ≡ said status) × (out.taken_after ≡ out.taken)

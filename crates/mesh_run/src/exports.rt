@@ -17,7 +17,7 @@ use ember_words::Text;
 use mesh_boolean::{DocumentFileFault, Written, document_file};
 use mesh_grid::{Grid, GridStep, Offset};
 use mesh_outside::Target;
-use mesh_report::{Status, export_line, export_report};
+use mesh_report::{Status, export_said, exported_report};
 use mesh_scene::{SceneFileFault, read_scene};
 use mesh_words::ExportRequest;
 use std::alloc::Global;
@@ -138,6 +138,7 @@ fn mesh_for<S: Shelf>(
 // and the report, or the status that says why it isn't written.
 fn write_export<S: Shelf, T: Target>(
     alloc: Global,
+    json: bool,
     request: &ExportRequest,
     shelf: &mut S,
     target: &mut T,
@@ -147,7 +148,7 @@ fn write_export<S: Shelf, T: Target>(
     ensures contents { KeepsContents (shelf_call S.contents S.faults S.fault_at S.fault_kind shelf.old shelf.new) }
     ensures none_begun { T.begun target.new ≡ None }
     ensures later { T.faults target.old ≤ T.faults target.new }
-    ensures written { IfOk result (λ sending. PutsExport request.now
+    ensures written { IfOk result (λ sending. PutsExport json request.now
         (shelf_call S.contents S.faults S.fault_at S.fault_kind shelf.old shelf.new)
         (target_call T.held T.begun T.faults target.old target.new)
         (option_map (λ bytes. bytes.items) sending.sent) sending.report.items) }
@@ -159,7 +160,7 @@ fn write_export<S: Shelf, T: Target>(
         Ok(mesh) => mesh,
         Err(status) => return Err(status),
     };
-    let report = export_report(alloc, request, &mesh)?;
+    let report = exported_report(alloc, json, request, &mesh)?;
     let made = written_files(alloc, &request.view, &request.output, mesh)?;
     match write_files(alloc, target, None, &made.files) {
         Ok(()) => Ok(Sending {
@@ -170,10 +171,11 @@ fn write_export<S: Shelf, T: Target>(
     }
 }
 
-/// Writes the mesh of a document, to a file or to `out`, and the report or the line of the status
+/// Writes the mesh of a document, to a file or to `out`, and the report or what is said of the status
 /// to err.
 pub fn serve_export<S: Shelf, T: Target, O: Sink, E: Sink>(
     alloc: Global,
+    json: bool,
     request: &ExportRequest,
     shelf: &mut S,
     target: &mut T,
@@ -186,18 +188,18 @@ pub fn serve_export<S: Shelf, T: Target, O: Sink, E: Sink>(
     ensures none_begun { T.begun target.new ≡ None }
     ensures later { T.faults target.old ≤ T.faults target.new }
     ensures later_out { O.faults out.old ≤ O.faults out.new }
-    ensures outcome { (text : List ℕ) × IsExportOutcome request.now
+    ensures outcome { (text : List ℕ) × IsExportOutcome json request.now
         (shelf_call S.contents S.faults S.fault_at S.fault_kind shelf.old shelf.new)
         (target_call T.held T.begun T.faults target.old target.new)
         (sink_call O.taken O.flushed O.faults out.old out.new) result text ×
         TakesUntilFault (sink_call E.taken E.flushed E.faults err.old err.new) text }
     ensures memory { hides_memory result ≡ false }
 {
-    match write_export(alloc, request, shelf, target) {
-        Ok(sending) => send(out, err, &sending.sent, &sending.report),
+    match write_export(alloc, json, request, shelf, target) {
+        Ok(sending) => send(json, out, err, &sending.sent, &sending.report),
         Err(status) => {
-            let said = export_line(alloc, request, &status);
-            say_why(err, status, said)
+            let said = export_said(alloc, json, request, &status);
+            say_why(json, err, status, said)
         }
     }
 }

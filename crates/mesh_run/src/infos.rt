@@ -18,7 +18,7 @@ use ember_words::{Text, Texts};
 use mesh_boolean::{MeshFile, surfaces_in};
 use mesh_info::put_info;
 use mesh_read::Surface;
-use mesh_report::{Status, reading_line, status_of};
+use mesh_report::{Status, reading_said, status_of};
 use std::alloc::Global;
 use steal_pool::OpenGate;
 
@@ -75,10 +75,11 @@ fn infos_in<S: Shelf>(alloc: Global, shelf: &mut S, names: &[Text]) -> Result<Ve
     }
 }
 
-/// Writes what is said of the meshes in these files to `out`, or the line of the status to err. If
+/// Writes what is said of the meshes in these files to `out`, or what is said of the status to err. If
 /// a file is refused, nothing is written to `out`.
 pub fn serve_infos<S: Shelf, O: Sink, E: Sink>(
     alloc: Global,
+    json: bool,
     names: &Texts,
     shelf: &mut S,
     out: &mut O,
@@ -87,21 +88,21 @@ pub fn serve_infos<S: Shelf, O: Sink, E: Sink>(
     requires { length names.now ≤ 64 }
     ensures contents { KeepsContents (shelf_call S.contents S.faults S.fault_at S.fault_kind shelf.old shelf.new) }
     ensures later { O.faults out.old ≤ O.faults out.new }
-    ensures outcome { (text : List ℕ) × IsInfoOutcome names.now
+    ensures outcome { (text : List ℕ) × IsInfoOutcome json names.now
         (shelf_call S.contents S.faults S.fault_at S.fault_kind shelf.old shelf.new)
         (sink_call O.taken O.flushed O.faults out.old out.new) result text ×
         TakesUntilFault (sink_call E.taken E.flushed E.faults err.old err.new) text }
     ensures memory { hides_memory result ≡ false }
 {
     match infos_in(alloc, shelf, names.items()) {
-        Ok(lines) => write_bytes(out, err, &lines),
-        Err(status) => match reading_line(alloc, names, &status) {
-            Ok(line) => {
-                say(err, &line);
+        Ok(lines) => write_bytes(json, out, err, &lines),
+        Err(status) => match reading_said(alloc, json, names, &status) {
+            Ok(text) => {
+                say(err, &text);
                 status
             }
             Err(_) => {
-                say_out_of_memory(err);
+                say_out_of_memory(json, err);
                 Status::OutOfMemory
             }
         },

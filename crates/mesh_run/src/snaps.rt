@@ -19,7 +19,7 @@ use ember_words::Text;
 use mesh_boolean::placed_files;
 use mesh_grid::Wanted;
 use mesh_outside::{Stages, Target};
-use mesh_report::{Status, snap_line, snap_report, status_of};
+use mesh_report::{Status, placed_report, snap_said, status_of};
 use mesh_scene::PlacedScene;
 use mesh_words::SnapRequest;
 use std::alloc::Global;
@@ -76,6 +76,7 @@ fn placed_for<S: Shelf, P: Stages>(
 // says why they aren't written.
 fn write_scene<S: Shelf, T: Target, P: Stages>(
     alloc: Global,
+    json: bool,
     request: &SnapRequest,
     shelf: &mut S,
     target: &mut T,
@@ -86,7 +87,7 @@ fn write_scene<S: Shelf, T: Target, P: Stages>(
     ensures contents { KeepsContents (shelf_call S.contents S.faults S.fault_at S.fault_kind shelf.old shelf.new) }
     ensures none_begun { T.begun target.new ≡ None }
     ensures later { T.faults target.old ≤ T.faults target.new }
-    ensures written { IfOk result (λ report. WritesScene request.now
+    ensures written { IfOk result (λ report. WritesScene json request.now
         (shelf_call S.contents S.faults S.fault_at S.fault_kind shelf.old shelf.new)
         (target_call T.held T.begun T.faults target.old target.new) report.items) }
     ensures stop { IfErr result (IsSnapUnmet request.now
@@ -97,7 +98,7 @@ fn write_scene<S: Shelf, T: Target, P: Stages>(
         Ok(placed) => placed,
         Err(status) => return Err(status),
     };
-    let report = snap_report(alloc, request, &placed)?;
+    let report = placed_report(alloc, json, request, &placed)?;
     let files = scene_files(alloc, &request.folder, request.files.items(), &placed)?;
     match write_files(alloc, target, Some(&request.folder), &files) {
         Ok(()) => Ok(report),
@@ -105,10 +106,11 @@ fn write_scene<S: Shelf, T: Target, P: Stages>(
     }
 }
 
-/// Puts the meshes of a request on their grid and writes them and the grid, and the report or the
-/// line of the status to err.
+/// Puts the meshes of a request on their grid and writes them and the grid, and the report or what is
+/// said of the status to err.
 pub fn serve_snap<S: Shelf, T: Target, E: Sink, P: Stages>(
     alloc: Global,
+    json: bool,
     request: &SnapRequest,
     shelf: &mut S,
     target: &mut T,
@@ -120,20 +122,20 @@ pub fn serve_snap<S: Shelf, T: Target, E: Sink, P: Stages>(
     ensures contents { KeepsContents (shelf_call S.contents S.faults S.fault_at S.fault_kind shelf.old shelf.new) }
     ensures none_begun { T.begun target.new ≡ None }
     ensures later { T.faults target.old ≤ T.faults target.new }
-    ensures outcome { (text : List ℕ) × IsSnapOutcome request.now
+    ensures outcome { (text : List ℕ) × IsSnapOutcome json request.now
         (shelf_call S.contents S.faults S.fault_at S.fault_kind shelf.old shelf.new)
         (target_call T.held T.begun T.faults target.old target.new) result text ×
         TakesUntilFault (sink_call E.taken E.flushed E.faults err.old err.new) text }
     ensures memory { hides_memory result ≡ false }
 {
-    match write_scene(alloc, request, shelf, target, stages) {
+    match write_scene(alloc, json, request, shelf, target, stages) {
         Ok(report) => {
             say(err, &report);
             Status::Done
         }
         Err(status) => {
-            let said = snap_line(alloc, request, &status);
-            say_why(err, status, said)
+            let said = snap_said(alloc, json, request, &status);
+            say_why(json, err, status, said)
         }
     }
 }

@@ -24,7 +24,7 @@ use ember_query::{Answer, Query};
 use ember_words::Text;
 use mesh_boolean::{SolidFile, solid_file};
 use mesh_outside::{Stages, Target};
-use mesh_report::{Status, line_of, report_of, status_of};
+use mesh_report::{Status, solid_report, solid_said, status_of};
 use mesh_triangles::{PlaneAnswer, PlaneQuery, TrianglesFault};
 use mesh_words::Request;
 use std::alloc::Global;
@@ -127,6 +127,7 @@ fn write_solid<
     D: Fn(&PlaneQuery) -> Result<PlaneAnswer, TrianglesFault>,
 >(
     alloc: Global,
+    json: bool,
     request: &Request,
     shelf: &mut S,
     target: &mut T,
@@ -141,7 +142,7 @@ fn write_solid<
     ensures contents { KeepsContents (shelf_call S.contents S.faults S.fault_at S.fault_kind shelf.old shelf.new) }
     ensures none_begun { T.begun target.new ≡ None }
     ensures later { T.faults target.old ≤ T.faults target.new }
-    ensures written { IfOk result (λ sending. PutsSolid request.now
+    ensures written { IfOk result (λ sending. PutsSolid json request.now
         (shelf_call S.contents S.faults S.fault_at S.fault_kind shelf.old shelf.new)
         (target_call T.held T.begun T.faults target.old target.new)
         (option_map (λ bytes. bytes.items) sending.sent) sending.report.items) }
@@ -153,7 +154,7 @@ fn write_solid<
         Ok(output) => output,
         Err(status) => return Err(status),
     };
-    let report = report_of(alloc, request, &output)?;
+    let report = solid_report(alloc, json, request, &output)?;
     let made = solid_files(alloc, request, output)?;
     match write_files(alloc, target, request.keep.as_ref(), &made.files) {
         Ok(()) => Ok(Sending {
@@ -165,7 +166,7 @@ fn write_solid<
 }
 
 /// Writes the files that a request asks for, the solid to `out` if it goes there, and the report or
-/// the line of the status to err.
+/// what is said of the status to err.
 pub fn serve_solid<
     S: Shelf,
     T: Target,
@@ -176,6 +177,7 @@ pub fn serve_solid<
     D: Fn(&PlaneQuery) -> Result<PlaneAnswer, TrianglesFault>,
 >(
     alloc: Global,
+    json: bool,
     request: &Request,
     shelf: &mut S,
     target: &mut T,
@@ -193,7 +195,7 @@ pub fn serve_solid<
     ensures none_begun { T.begun target.new ≡ None }
     ensures later { T.faults target.old ≤ T.faults target.new }
     ensures later_out { O.faults out.old ≤ O.faults out.new }
-    ensures outcome { (text : List ℕ) × IsSolidOutcome request.now
+    ensures outcome { (text : List ℕ) × IsSolidOutcome json request.now
         (shelf_call S.contents S.faults S.fault_at S.fault_kind shelf.old shelf.new)
         (target_call T.held T.begun T.faults target.old target.new)
         (sink_call O.taken O.flushed O.faults out.old out.new) result text ×
@@ -202,6 +204,7 @@ pub fn serve_solid<
 {
     match write_solid(
         alloc,
+        json,
         request,
         shelf,
         target,
@@ -209,10 +212,10 @@ pub fn serve_solid<
         executor,
         plane_executor,
     ) {
-        Ok(sending) => send(out, err, &sending.sent, &sending.report),
+        Ok(sending) => send(json, out, err, &sending.sent, &sending.report),
         Err(status) => {
-            let said = line_of(alloc, request, &status);
-            say_why(err, status, said)
+            let said = solid_said(alloc, json, request, &status);
+            say_why(json, err, status, said)
         }
     }
 }

@@ -18,29 +18,35 @@ use ember_io::{Shelf, Sink};
 use ember_model::OutOfMemory;
 use ember_query::{Answer, Query, answer_alone, answer_by_workers};
 use mesh_outside::{Stage, Stages, Target};
-use mesh_report::{Status, USAGE, VERSION, refusal_line};
+use mesh_report::{Status, USAGE, VERSION, words_said};
 use mesh_triangles::{
     PlaneAnswer, PlaneQuery, TrianglesFault, answer_planes_alone, answer_planes_by_workers,
 };
-use mesh_words::{Command, Refusal, WordsFault, read_words};
+use mesh_words::{Command, Refusal, WordsFault, read_words, words_ask_json};
 use std::alloc::Global;
 use std::sync::Wait;
 use std::thread::Threads;
 use steal_pool::Gate;
 
-// Writes the line of refused words to err.
-fn refuse_words<E: Sink>(alloc: Global, words: &[String], why: Refusal, err: &mut E) -> Status
-    ensures outcome { (text : List ℕ) × IsWordsOutcome (map string_bytes words.now) why result text ×
+// Writes what is said of refused words to err.
+fn refuse_words<E: Sink>(
+    alloc: Global,
+    json: bool,
+    words: &[String],
+    why: Refusal,
+    err: &mut E,
+) -> Status
+    ensures outcome { (text : List ℕ) × IsWordsOutcome json (map string_bytes words.now) why result text ×
         TakesUntilFault (sink_call E.taken E.flushed E.faults err.old err.new) text }
     ensures memory { hides_memory result ≡ false }
 {
-    match refusal_line(alloc, words, why) {
-        Ok(line) => {
-            say(err, &line);
+    match words_said(alloc, json, words, why) {
+        Ok(text) => {
+            say(err, &text);
             Status::Words(why)
         }
         Err(_) => {
-            say_out_of_memory(err);
+            say_out_of_memory(json, err);
             Status::OutOfMemory
         }
     }
@@ -79,11 +85,13 @@ fn run_by<
         (sink_call E.taken E.flushed E.faults err.old err.new)
         result }
 {
+    let json = words_ask_json(words);
     match read_words(alloc, words) {
         Ok(Command::Boole(request)) => {
             let workers = request.workers;
             serve_solid(
                 alloc,
+                json,
                 &request,
                 shelf,
                 target,
@@ -100,15 +108,17 @@ fn run_by<
                 { plane_executor(workers, query) },
             )
         }
-        Ok(Command::Snap(request)) => serve_snap(alloc, &request, shelf, target, err, stages),
-        Ok(Command::Export(request)) => serve_export(alloc, &request, shelf, target, out, err),
-        Ok(Command::Info(names)) => serve_infos(alloc, &names, shelf, out, err),
-        Ok(Command::View(request)) => serve_view(alloc, &request, shelf, target, err),
-        Ok(Command::Help) => write_bytes(out, err, USAGE.as_bytes()),
-        Ok(Command::Version) => write_bytes(out, err, VERSION.as_bytes()),
-        Err(WordsFault::Refused(why)) => refuse_words(alloc, words, why, err),
+        Ok(Command::Snap(request)) => serve_snap(alloc, json, &request, shelf, target, err, stages),
+        Ok(Command::Export(request)) => serve_export(
+            alloc, json, &request, shelf, target, out, err,
+        ),
+        Ok(Command::Info(names)) => serve_infos(alloc, json, &names, shelf, out, err),
+        Ok(Command::View(request)) => serve_view(alloc, json, &request, shelf, target, err),
+        Ok(Command::Help) => write_bytes(json, out, err, USAGE.as_bytes()),
+        Ok(Command::Version) => write_bytes(json, out, err, VERSION.as_bytes()),
+        Err(WordsFault::Refused(why)) => refuse_words(alloc, json, words, why, err),
         Err(WordsFault::OutOfMemory) => {
-            say_out_of_memory(err);
+            say_out_of_memory(json, err);
             Status::OutOfMemory
         }
     }
@@ -162,7 +172,8 @@ pub fn run_mesh_one<S: Shelf, T: Target, O: Sink, E: Sink, G: Gate + Stages>(
 /// Does what the words ask for, with as many workers as they say. The files that they name are read
 /// from the shelf, and those of the result are written to the target, each whole or not at all.
 /// With `-o -` the mesh goes to `out`, behind all files. `help` and the version go to `out`, too;
-/// the report, or the line of the status, goes to `err`. The solid doesn't depend on the number of
+/// the report, or what is said of the status, goes to `err`: as lines, or as one object of JSON if one
+/// of the words is `--json`. The solid doesn't depend on the number of
 /// workers. With one worker, the calling thread does everything. The gate is told of the boxes and
 /// of the other stages.
 pub fn run_mesh<

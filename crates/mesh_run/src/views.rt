@@ -17,7 +17,7 @@ use ember_words::Text;
 use mesh_info::view_of;
 use mesh_outside::{NamedFile, Target};
 use mesh_read::Surface;
-use mesh_report::{Status, reading_line};
+use mesh_report::{Status, reading_said};
 use mesh_words::ViewRequest;
 use std::alloc::Global;
 
@@ -114,9 +114,10 @@ fn write_view<S: Shelf, T: Target>(
     write_files(alloc, target, None, &[file])
 }
 
-/// Writes the page that a request asks for, or the line of the status to err.
+/// Writes the page that a request asks for, or what is said of the status to err.
 pub fn serve_view<S: Shelf, T: Target, E: Sink>(
     alloc: Global,
+    json: bool,
     request: &ViewRequest,
     shelf: &mut S,
     target: &mut T,
@@ -127,7 +128,7 @@ pub fn serve_view<S: Shelf, T: Target, E: Sink>(
     ensures contents { KeepsContents (shelf_call S.contents S.faults S.fault_at S.fault_kind shelf.old shelf.new) }
     ensures none_begun { T.begun target.new ≡ None }
     ensures later { T.faults target.old ≤ T.faults target.new }
-    ensures outcome { (text : List ℕ) × IsViewOutcome request.now
+    ensures outcome { (text : List ℕ) × IsViewOutcome json request.now
         (shelf_call S.contents S.faults S.fault_at S.fault_kind shelf.old shelf.new)
         (target_call T.held T.begun T.faults target.old target.new) result text ×
         TakesUntilFault (sink_call E.taken E.flushed E.faults err.old err.new) text }
@@ -139,8 +140,8 @@ pub fn serve_view<S: Shelf, T: Target, E: Sink>(
             Status::Done
         }
         Err(status) => {
-            let said = reading_line(alloc, &request.files, &status);
-            say_why(err, status, said)
+            let said = reading_said(alloc, json, &request.files, &status);
+            say_why(json, err, status, said)
         }
     }
 }

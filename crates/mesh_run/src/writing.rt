@@ -1,8 +1,8 @@
 // What the target and the two streams get.
-ghost use Rattle.std.specs.Prelude.{◌≡◌, ◌≤◌, ℕ, List, codes, false, None, IfOk, IfErr, OnOk, OnErr, option_map};
+ghost use Rattle.std.specs.Prelude.{◌≡◌, ◌≤◌, ℕ, List, false, None, IfOk, IfErr, OnOk, OnErr, option_map};
 ghost use Rattle.mesh_outside.specs.Target.Several.{PutsEach, names_and_bytes};
 ghost use Rattle.mesh_run.specs.Calls.{HoldsAll, TakesUntilFault, sink_call, target_call};
-ghost use Rattle.mesh_report.specs.Lines.{line};
+ghost use Rattle.mesh_report.specs.Said.{memory_said};
 ghost use Rattle.mesh_run.specs.Memory.{hides_memory};
 ghost use Rattle.mesh_run.specs.Serves.{IsMessageOutcome, IsSent};
 ghost use Rattle.mesh_run.specs.Unmet.{IsUnwrittenStatus, IsWriteStop};
@@ -11,7 +11,7 @@ use ember_io::{Sink, write_all};
 use ember_model::OutOfMemory;
 use ember_words::Text;
 use mesh_outside::{NamedFile, Target, WriteEnd, write_each};
-use mesh_report::Status;
+use mesh_report::{Status, memory_said, output_said};
 use std::alloc::Global;
 
 /// What is left to do once the files of a mesh are written: the mesh goes to standard output, if
@@ -22,10 +22,6 @@ pub struct Sending {
     pub report: Vec<u8>,
 }
 
-const MEMORY_LINE: &[u8] = b"ember-mesh: out of memory\n";
-
-const NO_OUTPUT_LINE: &[u8] = b"ember-mesh: cannot write to standard output\n";
-
 /// Writes a text to err, up to its first fault, which changes nothing else.
 pub fn say<E: Sink>(err: &mut E, text: &[u8])
     ensures { TakesUntilFault (sink_call E.taken E.flushed E.faults err.old err.new) text.now }
@@ -33,18 +29,17 @@ pub fn say<E: Sink>(err: &mut E, text: &[u8])
     let _ = write_all(err, text);
 }
 
-/// Writes the line of out-of-memory to err. It allocates nothing.
-pub fn say_out_of_memory<E: Sink>(err: &mut E)
-    ensures { TakesUntilFault (sink_call E.taken E.flushed E.faults err.old err.new)
-        (line (codes "out of memory")) }
+/// Writes what is said of out-of-memory to err. It allocates nothing.
+pub fn say_out_of_memory<E: Sink>(json: bool, err: &mut E)
+    ensures { TakesUntilFault (sink_call E.taken E.flushed E.faults err.old err.new) (memory_said json) }
 {
-    say(err, MEMORY_LINE);
+    say(err, memory_said(json));
 }
 
-/// Writes bytes to `out`, or the line of a failure to err.
-pub fn write_bytes<O: Sink, E: Sink>(out: &mut O, err: &mut E, bytes: &[u8]) -> Status
+/// Writes bytes to `out`, or what is said of a failure to err.
+pub fn write_bytes<O: Sink, E: Sink>(json: bool, out: &mut O, err: &mut E, bytes: &[u8]) -> Status
     ensures later { O.faults out.old ≤ O.faults out.new }
-    ensures outcome { (text : List ℕ) × IsMessageOutcome bytes.now
+    ensures outcome { (text : List ℕ) × IsMessageOutcome json bytes.now
         (sink_call O.taken O.flushed O.faults out.old out.new) result text ×
         TakesUntilFault (sink_call E.taken E.flushed E.faults err.old err.new) text }
     ensures memory { hides_memory result ≡ false }
@@ -55,22 +50,23 @@ pub fn write_bytes<O: Sink, E: Sink>(out: &mut O, err: &mut E, bytes: &[u8]) -> 
             Status::Done
         }
         Err(_) => {
-            say(err, NO_OUTPUT_LINE);
+            say(err, output_said(json));
             Status::WriteFault
         }
     }
 }
 
-/// Writes a mesh to `out`, if it goes there, and then the report to err, or the line of a failure.
+/// Writes a mesh to `out`, if it goes there, and then the report to err, or what is said of a failure.
 pub fn send<O: Sink, E: Sink>(
+    json: bool,
     out: &mut O,
     err: &mut E,
     sent: &Option<Vec<u8>>,
     report: &[u8],
 ) -> Status
     ensures later { O.faults out.old ≤ O.faults out.new }
-    ensures outcome { (text : List ℕ) × IsSent (option_map (λ bytes. bytes.items) sent.now) report.now
-        (sink_call O.taken O.flushed O.faults out.old out.new) result text ×
+    ensures outcome { (text : List ℕ) × IsSent json (option_map (λ bytes. bytes.items) sent.now)
+        report.now (sink_call O.taken O.flushed O.faults out.old out.new) result text ×
         TakesUntilFault (sink_call E.taken E.flushed E.faults err.old err.new) text }
     ensures memory { hides_memory result ≡ false }
 {
@@ -85,20 +81,25 @@ pub fn send<O: Sink, E: Sink>(
                 Status::Done
             }
             Err(_) => {
-                say(err, NO_OUTPUT_LINE);
+                say(err, output_said(json));
                 Status::WriteFault
             }
         },
     }
 }
 
-/// Writes the line of a status to err. Without memory for the line, that of out-of-memory is
-/// written, and this is the status then.
-pub fn say_why<E: Sink>(err: &mut E, status: Status, said: Result<Vec<u8>, OutOfMemory>) -> Status
+/// Writes what is said of a status to err. Without memory for this, out-of-memory is said, and is the
+/// status then.
+pub fn say_why<E: Sink>(
+    json: bool,
+    err: &mut E,
+    status: Status,
+    said: Result<Vec<u8>, OutOfMemory>,
+) -> Status
     ensures said { IfOk said (λ text. (result ≡ status) ×
         TakesUntilFault (sink_call E.taken E.flushed E.faults err.old err.new) text.items) }
     ensures memory { OnErr said ((result ≡ Status.OutOfMemory) ×
-        TakesUntilFault (sink_call E.taken E.flushed E.faults err.old err.new) (line (codes "out of memory"))) }
+        TakesUntilFault (sink_call E.taken E.flushed E.faults err.old err.new) (memory_said json)) }
 {
     match said {
         Ok(text) => {
@@ -106,7 +107,7 @@ pub fn say_why<E: Sink>(err: &mut E, status: Status, said: Result<Vec<u8>, OutOf
             status
         }
         Err(_) => {
-            say_out_of_memory(err);
+            say_out_of_memory(json, err);
             Status::OutOfMemory
         }
     }

@@ -13,11 +13,11 @@ use Rattle.mesh_words.specs.declared.names.Operation.TheVariants as operation
 use Rattle.mesh_words.specs.declared.names.Setting.{Setting}
 use Rattle.mesh_words.specs.declared.names.Setting.TheVariants as setting
 use Rattle.mesh_words.specs.declared.arguments.Argument.{Argument}
-use Rattle.mesh_words.specs.declared.arguments.Argument.TheVariants.{File, Value, Quiet, Help}
+use Rattle.mesh_words.specs.declared.arguments.Argument.TheVariants.{File, Value, Quiet, Json, Help}
 use Rattle.mesh_words.specs.declared.arguments.WordMeaning.{WordMeaning}
 use Rattle.mesh_words.specs.declared.arguments.WordMeaning.TheVariants.{Whole, Waiting, Unknown}
 use Rattle.mesh_words.specs.Names.{Text, setting_of}
-use Rattle.mesh_words.specs.Arguments.{in_front, parts_of, with_value, attached_in, is_help, said, said_by}
+use Rattle.mesh_words.specs.Arguments.{in_front, parts_of, with_value, attached_in, is_help, is_json, said, said_by}
 use Rattle.mesh_words.specs.Arguments.{waiting_in, prepend, arguments_with, arguments_from}
 use Rattle.mesh_words.specs.Commands.{Reads, command_of, command_with, snap_command, export_command, view_command}
 use Rattle.mesh_words.specs.Spelling.{name_of, option_of, spelling_of, AreSpelled}
@@ -47,15 +47,16 @@ not_attached b bs h = go (b == 61) (parts_of bs)
     go false None = refl
     go false (Some p) = rw h refl
 
-no_option : (w : Text) (quiet help : Bool) (s : Option Setting) (a : Option (Setting × Text)) → quiet ≡ false → help ≡ false → s ≡ None → a ≡ None
-    → is_option_word w ≡ false → Whole (File w) ≡ cond quiet (Whole Quiet) (cond help (Whole Help) (said_by w s a))
-no_option w quiet help s a eq eh es ea m = rw (eq, eh, es, ea) (ap (λ (t : Bool). cond t Unknown (Whole (File w))) (sym m))
+no_option : (w : Text) (quiet json help : Bool) (s : Option Setting) (a : Option (Setting × Text)) →
+    quiet ≡ false → json ≡ false → help ≡ false → s ≡ None → a ≡ None
+    → is_option_word w ≡ false → Whole (File w) ≡ cond quiet (Whole Quiet) (cond json (Whole Json) (cond help (Whole Help) (said_by w s a)))
+no_option w quiet json help s a eq ej eh es ea m = rw (eq, ej, eh, es, ea) (ap (λ (t : Bool). cond t Unknown (Whole (File w))) (sym m))
 
 plain_is_whole : (name : Text) → is_minus name ≡ false → Whole (File name) ≡ said None name
 plain_is_whole [] h = refl
 plain_is_whole (b ∷ bs) h =
-    no_option (b ∷ bs) (bytes_eq (b ∷ bs) (codes "--quiet")) (is_help (b ∷ bs)) (setting_of (b ∷ bs)) (attached_in (b ∷ bs))
-    (rw h refl) (rw h refl) (rw h refl) (not_attached b bs h) (rw h refl)
+    no_option (b ∷ bs) (bytes_eq (b ∷ bs) (codes "--quiet")) (is_json (b ∷ bs)) (is_help (b ∷ bs)) (setting_of (b ∷ bs)) (attached_in (b ∷ bs))
+    (rw h refl) (rw h refl) (rw h refl) (rw h refl) (not_attached b bs h) (rw h refl)
 
 -- `-` itself
 stream_is_whole : (name : Text) → is_stream name ≡ true → Whole (File name) ≡ said None name
@@ -86,6 +87,7 @@ read_back : (is : List Argument) (n : ℕ) → AreSpelled is → arguments_from 
 read_back [] n h = refl
 read_back (File name ∷ is) n h = whole_behind n None name (spelling_of is) (File name) is (file_is_whole name h.0) (read_back is (n + 1) h.1)
 read_back (Quiet ∷ is) n h = whole_behind n None (codes "--quiet") (spelling_of is) Quiet is refl (read_back is (n + 1) h.1)
+read_back (Json ∷ is) n h = whole_behind n None (codes "--json") (spelling_of is) Json is refl (read_back is (n + 1) h.1)
 read_back (Help ∷ is) n h = whole_behind n None (codes "--help") (spelling_of is) Help is refl (read_back is (n + 1) h.1)
 read_back (Value s text ∷ is) n h =
     option_behind n (option_of s) (text ∷ spelling_of is) s (Value s text ∷ is) (option_waits s)

@@ -5,7 +5,7 @@ use Rattle.std.specs.Option.{option_or}
 use Rattle.mesh_words.specs.declared.names.Setting.{Setting}
 use Rattle.mesh_words.specs.declared.names.Setting.TheVariants as setting
 use Rattle.mesh_words.specs.declared.arguments.Argument.{Argument}
-use Rattle.mesh_words.specs.declared.arguments.Argument.TheVariants.{File, Value, Quiet, Help}
+use Rattle.mesh_words.specs.declared.arguments.Argument.TheVariants.{File, Value, Quiet, Json, Help}
 use Rattle.mesh_words.specs.Names.{rank}
 
 -- ---- the options with values that each command takes
@@ -33,6 +33,7 @@ abbrev pub setting_beside : List Setting → Argument → Option Setting
 setting_beside settings (Value s text) = if is_among settings s then None else Some s
 setting_beside settings (File name) = None
 setting_beside settings Quiet = None
+setting_beside settings Json = None
 setting_beside settings Help = None
 
 -- the first such option

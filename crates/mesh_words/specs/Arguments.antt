@@ -2,13 +2,14 @@
 use Rattle.std.specs.Prelude.{ℕ, ◌+◌, ◌==◌, ◌||◌, Bool, true, false, List, [], ◌∷◌, ◌++◌, Option, Some}
 use Rattle.std.specs.Prelude.{None, Result, Ok, Err, codes, option_map, option_and_then, if◌then◌else◌}
 use Rattle.std.specs.Option.{option_or}
+use Rattle.std.specs.List.{list_any}
 use Rattle.std.specs.Str.{bytes_eq}
 use Rattle.mesh_words.specs.declared.faults.Refusal.{Refusal}
 use Rattle.mesh_words.specs.declared.faults.Refusal.TheVariants.{UnknownOption, NoValue}
 use Rattle.mesh_words.specs.declared.names.Setting.{Setting}
 use Rattle.mesh_words.specs.declared.names.Setting.TheVariants as setting
 use Rattle.mesh_words.specs.declared.arguments.Argument.{Argument}
-use Rattle.mesh_words.specs.declared.arguments.Argument.TheVariants.{File, Value, Quiet, Help}
+use Rattle.mesh_words.specs.declared.arguments.Argument.TheVariants.{File, Value, Quiet, Json, Help}
 use Rattle.mesh_words.specs.declared.arguments.WordMeaning.{WordMeaning}
 use Rattle.mesh_words.specs.declared.arguments.WordMeaning.TheVariants.{Whole, Waiting, Unknown}
 use Rattle.mesh_words.specs.Names.{Text, setting_of, rank}
@@ -35,6 +36,14 @@ attached_in word = option_and_then (λ (p : Text × Text). with_value p.1 (setti
 abbrev pub is_help : Text → Bool
 is_help word = bytes_eq word (codes "--help") || bytes_eq word (codes "-h")
 
+-- the word asks for JSON
+abbrev pub is_json : Text → Bool
+is_json word = bytes_eq word (codes "--json")
+
+-- one of the words does, wherever it stands
+abbrev pub words_ask_json : List Text → Bool
+words_ask_json words = list_any is_json words
+
 -- a word that is no option without a value: an option whose value follows, one with its value, or a file name
 abbrev pub said_by : Text → Option Setting → Option (Setting × Text) → WordMeaning
 said_by word (Some s) a = Waiting s
@@ -44,8 +53,9 @@ said_by word None None = if is_option_word word then Unknown else Whole (File wo
 abbrev pub said_alone : Text → WordMeaning
 said_alone word =
     if bytes_eq word (codes "--quiet") then Whole Quiet
+    else (if is_json word then Whole Json
     else (if is_help word then Whole Help
-    else said_by word (setting_of word) (attached_in word))
+    else said_by word (setting_of word) (attached_in word)))
 
 -- what a word means after an option that wants its value, or without one
 abbrev pub said : Option Setting → Text → WordMeaning
@@ -84,6 +94,7 @@ abbrev pub value_for : Setting → Argument → Option Text
 value_for s (Value t text) = if rank t == rank s then Some text else None
 value_for s (File name) = None
 value_for s Quiet = None
+value_for s Json = None
 value_for s Help = None
 
 -- the last value of an option
@@ -95,6 +106,7 @@ abbrev pub name_in : Argument → List Text
 name_in (File name) = name ∷ []
 name_in (Value s text) = []
 name_in Quiet = []
+name_in Json = []
 name_in Help = []
 
 -- the file names
@@ -113,6 +125,7 @@ inputs_in arguments = names_in arguments ++ in_list (value_in setting.Scene argu
 
 abbrev pub is_quiet : Argument → Bool
 is_quiet Quiet = true
+is_quiet Json = false
 is_quiet Help = false
 is_quiet (File name) = false
 is_quiet (Value s text) = false
@@ -120,5 +133,6 @@ is_quiet (Value s text) = false
 abbrev pub asks_help : Argument → Bool
 asks_help Help = true
 asks_help Quiet = false
+asks_help Json = false
 asks_help (File name) = false
 asks_help (Value s text) = false

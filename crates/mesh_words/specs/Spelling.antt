@@ -5,7 +5,7 @@ use Rattle.mesh_words.specs.declared.names.Operation.TheVariants as operation
 use Rattle.mesh_words.specs.declared.names.Setting.{Setting}
 use Rattle.mesh_words.specs.declared.names.Setting.TheVariants as setting
 use Rattle.mesh_words.specs.declared.arguments.Argument.{Argument}
-use Rattle.mesh_words.specs.declared.arguments.Argument.TheVariants.{File, Value, Quiet, Help}
+use Rattle.mesh_words.specs.declared.arguments.Argument.TheVariants.{File, Value, Quiet, Json, Help}
 use Rattle.mesh_words.specs.Names.{Text}
 use Rattle.mesh_words.specs.Streams.{is_option_word}
 
@@ -34,6 +34,7 @@ abbrev pub words_of : Argument → List Text
 words_of (File name) = name ∷ []
 words_of (Value s text) = option_of s ∷ text ∷ []
 words_of Quiet = codes "--quiet" ∷ []
+words_of Json = codes "--json" ∷ []
 words_of Help = codes "--help" ∷ []
 
 -- the words of several arguments
@@ -46,6 +47,7 @@ abbrev pub IsSpelled : Argument → Type 0
 IsSpelled (File name) = is_option_word name ≡ false
 IsSpelled (Value s text) = ⊤
 IsSpelled Quiet = ⊤
+IsSpelled Json = ⊤
 IsSpelled Help = ⊤
 
 abbrev pub AreSpelled : List Argument → Type 0

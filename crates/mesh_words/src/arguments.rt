@@ -3,7 +3,7 @@ ghost use Rattle.std.specs.Prelude.{◌≡◌, IfOk, None, map, option_map, stri
 ghost use Rattle.std.specs.Result.{result_map_both};
 ghost use Rattle.std.specs.List.{list_any};
 ghost use Rattle.mesh_words.specs.Names.{setting_of};
-ghost use Rattle.mesh_words.specs.Arguments.{attached_in, said_by, said_alone, said, is_help, arguments_from, value_for, value_in, names_in, inputs_in, is_quiet, asks_help};
+ghost use Rattle.mesh_words.specs.Arguments.{attached_in, said_by, said_alone, said, is_help, is_json, words_ask_json, arguments_from, value_for, value_in, names_in, inputs_in, is_quiet, asks_help};
 ghost use Rattle.mesh_words.specs.Commands.{Reads};
 
 use crate::faults::{Refusal, WordsFault};
@@ -21,6 +21,7 @@ pub enum Argument {
     /// An option and its value.
     Value(Setting, Text),
     Quiet,
+    Json,
     Help,
 }
 
@@ -50,6 +51,13 @@ pub fn is_help(word: &str) -> bool
     word == "--help" || word == "-h"
 }
 
+/// Whether the word asks for JSON.
+pub fn is_json(word: &str) -> bool
+    ensures { result ≡ is_json word.now }
+{
+    word == "--json"
+}
+
 // A word that is no option without a value.
 fn said_by(alloc: Global, word: &str) -> Result<WordMeaning, AllocError>
     ensures { IfOk result (λ s. s ≡ said_by word.now (setting_of word.now) (attached_in word.now)) }
@@ -71,6 +79,9 @@ fn said_alone(alloc: Global, word: &str) -> Result<WordMeaning, AllocError>
 {
     if word == "--quiet" {
         return Ok(WordMeaning::Whole(Argument::Quiet));
+    }
+    if is_json(word) {
+        return Ok(WordMeaning::Whole(Argument::Json));
     }
     if is_help(word) {
         return Ok(WordMeaning::Whole(Argument::Help));
@@ -196,6 +207,19 @@ pub fn are_quiet(arguments: &[Argument]) -> bool
     ensures { result ≡ list_any is_quiet arguments.now }
 {
     arguments.iter().any(|argument| argument.is_quiet())
+}
+
+/// Whether one of the words is `--json`, wherever it stands: also as a value, and also if the words are
+/// refused.
+pub fn words_ask_json(words: &[String]) -> bool
+    ensures { result ≡ words_ask_json (map string_bytes words.now) }
+{
+    for word in words {
+        if is_json(word) {
+            return true;
+        }
+    }
+    false
 }
 
 /// Whether one of the arguments asks for help.

@@ -21,6 +21,7 @@ mod texts;
 mod values;
 mod views;
 
+pub use arguments::words_ask_json;
 pub use command::{
     Command, Destination, ExportRequest, OutputFormat, Request, SnapRequest, ViewRequest,
     WantedStep,

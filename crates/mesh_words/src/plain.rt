@@ -4,21 +4,21 @@ ghost use Rattle.std.specs.List.{list_any};
 ghost use Rattle.mesh_words.specs.Arguments.{is_help};
 ghost use Rattle.mesh_words.specs.Plain.{is_option, first_option, plain_names};
 
-use crate::arguments::is_help;
+use crate::arguments::{is_help, is_json};
 use crate::streams::is_option_word;
 use crate::texts::copied;
 use ember_words::Texts;
 use std::alloc::{AllocError, Global};
 
-// Whether the word begins with a hyphen, isn't `-` itself, and doesn't ask for help.
+// Whether the word begins with a hyphen, isn't `-` itself, and asks neither for help nor for JSON.
 fn is_option(word: &str) -> bool
     ensures { result ≡ is_option word.now }
 {
-    is_option_word(word) && !is_help(word)
+    is_option_word(word) && !is_help(word) && !is_json(word)
 }
 
-/// The number, from 1, of the first word that begins with a hyphen, isn't `-` itself, and doesn't
-/// ask for help. None if there is no such word.
+/// The number, from 1, of the first word that begins with a hyphen, isn't `-` itself, and asks neither
+/// for help nor for JSON. None if there is no such word.
 pub fn first_option(words: &[String]) -> Option<usize>
     ensures { result ≡ first_option 1 (map string_bytes words.now) }
 {

@@ -147,22 +147,23 @@ fn read(alloc: Global, words: &[String]) -> Result<Command, WordsFault>
 /// The command that the words after the program's name give.
 ///
 /// The first word names the command. Options and file names follow it in any order. An option's
-/// value is the next word, whatever this is, or follows an equals sign, as in `--step=0.02`. A
-/// second value of an option that names what is written (`-o`, `-d`, `--view`, `--keep`) is
-/// refused; of several values of another option the last one counts. Any other word that begins
-/// with a hyphen, but for `-` itself, is refused.
+/// value is the next word, whatever this is, or follows an equals sign, as in `--step=0.02`. A second
+/// value of an option that names what is written (`-o`, `-d`, `--view`, `--keep`) is refused; of
+/// several values of another option the last one counts. Any other word that begins with a hyphen,
+/// but for `-` itself, is refused.
 ///
 /// A page has a name that ends in `.html` or `.htm`. No page, and no file that `snap` and `--keep`
 /// write into their folder, may have the same path as a file that the command reads, or as the output
 /// beside it.
 ///
-/// `-` is a file name, of standard input, which can be read once; and `-o -` is standard output,
-/// for which `--format` names the format. Of a file the ending of its name shows it.
+/// `-` is a file name, of standard input, which can be read once; and `-o -` is standard output, for
+/// which `--format` names the format. Of a file the ending of its name shows it.
 ///
 /// A Boolean takes `--expr`, `-o`, `--format`, `--step`, `--workers`, `--digits`, `--view` and
 /// `--keep`; `snap` takes `-d` and `--step`; `export` takes `--scene`, `-o`, `--format`, `--digits`
-/// and `--view`; `view` takes `-o`. These take `--quiet` too, which means nothing for `view`.
-/// `info` has no options: its words are file names.
+/// and `--view`; `view` takes `-o`. These take `--quiet` too, which means nothing for `view`. Every
+/// command takes `--json`, which `words_ask_json` finds wherever it stands. `info` has no other
+/// option: its words are file names.
 ///
 /// `help`, `--help` and `-h` ask for help, as the first word or after the name of a command.
 /// `--version` is a first word alone. The words after these first words aren't read.

@@ -40,7 +40,8 @@ fn put_escaped(name: &[u8], text: &mut Vec<u8>) -> Result<(), AllocError>
     Ok(())
 }
 
-fn put_quoted(name: &[u8], text: &mut Vec<u8>) -> Result<(), AllocError>
+/// Appends a text between quotes, as a string of JSON. The text is UTF-8.
+pub fn put_quoted(name: &[u8], text: &mut Vec<u8>) -> Result<(), AllocError>
     ensures { OnOk result (text.new.items ≡ text.old.items ++ quoted name.now) }
 {
     text.push(b'"')?;

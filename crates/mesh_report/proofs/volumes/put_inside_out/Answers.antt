@@ -1,14 +1,11 @@
-use Rattle.std.proofs.Common.{ℕ, ℤ, List, ◌++◌, codes, decimal, ap, ◌∙◌, to_z-of_z}
-use Rattle.mesh_report.specs.Volumes.{volume_text}
-use Rattle.mesh_report.proofs.Appended.{after7, on_ok_if}
+use Rattle.std.proofs.Common.{ℕ, ℤ, List, ◌++◌, codes, ap, ◌∙◌, to_z-of_z}
+use Rattle.mesh_report.specs.Volumes.{turned_text}
+use Rattle.mesh_report.proofs.Appended.{after2, on_ok_same}
 use Rattle.mesh_report.proofs.volumes.put_inside_out.Goals as goal
 
 pub returns : goal.returns
 returns c =
-    let shown = ap (λ (v : ℤ). c.extend_from_slice-3.new.self.items ++ volume_text c.args.step.now v) (to_z-of_z c.ranges.six_volumes) in
-    on_ok_if _ _ c.extend_from_slice-5.result c.extend_from_slice-5.ensures.items
-    (after7 (codes "warning: ") c.args.name.now (codes ": its volume is ") (volume_text c.args.step.now c.args.six_volumes)
-    (codes ", so it may be inside out; use w") (decimal c.args.number) (codes "=-1") _ _ _ _ _ _ _
-    c.in_ok-extend_from_slice.ensures.items c.in_ok-extend_from_slice-2.ensures.items
-    c.in_ok-extend_from_slice-3.ensures.items (c.in_ok-put_volume.ensures ∙ shown) c.in_ok-extend_from_slice-4.ensures.items
-    c.in_ok-put_count.ensures)
+    let a = c.args in
+    let same = ap (λ (v : ℤ). c.extend_from_slice.new.self.items ++ turned_text a.number a.name.now a.step.now v) (to_z-of_z c.ranges.six_volumes) in
+    on_ok_same _ _ _ c.put_turned.result c.put_turned.ensures
+    (same ∙ after2 (codes "warning: ") (turned_text a.number a.name.now a.step.now a.six_volumes) _ _ c.in_ok-extend_from_slice.ensures.items)

@@ -1,14 +1,14 @@
 use Rattle.std.proofs.Common.{List, ℕ, refl, subst, arith}
 use Rattle.mesh_run.specs.Calls.{TakesUntilFault, shelf_call, sink_call, target_call}
 use Rattle.mesh_run.specs.Causes.{IsSnapStop}
-use Rattle.mesh_report.specs.Lines.{snap_why}
+use Rattle.mesh_report.specs.Said.{memory_said, snap_said}
 use Rattle.mesh_run.specs.Serves.{AreSnapFilesFor, WritesScene}
 use Rattle.mesh_run.proofs.Shown.{snap_stop_is_shown}
 use Rattle.mesh_run.proofs.UnmetRequests.{said_status_ends, said_status_tells_memory, unmet_is_shown}
 use Rattle.mesh_run.proofs.snaps.serve_snap.Goals as goal
 
-pub snap_line-said-requires : goal.snap_line-said-requires
-snap_line-said-requires g c =
+pub snap_said-said-requires : goal.snap_said-said-requires
+snap_said-said-requires g c =
     let shelf = shelf_call g.S.Shelf.contents g.S.Shelf.faults g.S.Shelf.fault_at g.S.Shelf.fault_kind c.args.shelf.now c.write_scene.new.shelf in
     let target = target_call g.T.Target.held g.T.Target.begun g.T.Target.faults c.args.target.now c.write_scene.new.target in
     let request = c.args.request.now in
@@ -27,8 +27,8 @@ returns-in-Err-clause-outcome g c =
     let err = sink_call g.E.Sink.taken g.E.Sink.flushed g.E.Sink.faults c.args.err.now c.say_why.new.err in
     let request = c.args.request.now in
     said_status_ends (IsSnapStop request shelf) (AreSnapFilesFor request shelf.told) target
-    (WritesScene request shelf target) (snap_why request) refl (λ h. h.cause) c.in-Err.status c.say_why.result err
-    c.snap_line-said.result c.in-Err.ensures.stop c.snap_line-said.ensures c.say_why.ensures.said
+    (WritesScene c.args.json request shelf target) (snap_said c.args.json request) (memory_said c.args.json) refl (λ h. h.cause) c.in-Err.status c.say_why.result err
+    c.snap_said-said.result c.in-Err.ensures.stop c.snap_said-said.ensures c.say_why.ensures.said
     c.say_why.ensures.memory
 
 pub returns-in-Err-clause-memory : goal.returns-in-Err-clause-memory
@@ -37,4 +37,4 @@ returns-in-Err-clause-memory g c =
     let target = target_call g.T.Target.held g.T.Target.begun g.T.Target.faults c.args.target.now c.write_scene.new.target in
     let request = c.args.request.now in
     said_status_tells_memory (IsSnapStop request shelf) (AreSnapFilesFor request shelf.told) target _ _ c.in-Err.status
-    c.say_why.result c.snap_line-said.result c.in-Err.ensures.stop c.say_why.ensures.said c.say_why.ensures.memory
+    c.say_why.result c.snap_said-said.result c.in-Err.ensures.stop c.say_why.ensures.said c.say_why.ensures.memory

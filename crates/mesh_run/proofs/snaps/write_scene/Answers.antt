@@ -13,8 +13,8 @@ use Rattle.mesh_run.proofs.KeptNames.{names_hold_the_same}
 use Rattle.mesh_run.proofs.UnmetRequests.{cause_is_unmet, memory_given, stop_is_unmet}
 use Rattle.mesh_run.proofs.snaps.write_scene.Goals as goal
 
-pub snap_report-requires : goal.snap_report-requires
-snap_report-requires g c = placed_step_is_shown c.args.request.now (g.S.Shelf.contents c.args.shelf.now) c.in-Ok.placed c.in-Ok.ensures.placed
+pub placed_report-requires : goal.placed_report-requires
+placed_report-requires g c = placed_step_is_shown c.args.request.now (g.S.Shelf.contents c.args.shelf.now) c.in-Ok.placed c.in-Ok.ensures.placed
 
 pub scene_files-requires-clause-step : goal.scene_files-requires-clause-step
 scene_files-requires-clause-step g c = placed_step_is_shown c.args.request.now (g.S.Shelf.contents c.args.shelf.now) c.in-Ok.placed c.in-Ok.ensures.placed

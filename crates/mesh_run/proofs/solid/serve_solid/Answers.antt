@@ -2,15 +2,15 @@ use Rattle.std.proofs.Common.{List, ℕ, Global, option_map, refl, subst, arith}
 use Rattle.std.specs.Prelude.{Vec}
 use Rattle.mesh_run.specs.Calls.{shelf_call, sink_call, target_call}
 use Rattle.mesh_run.specs.Causes.{IsStop}
-use Rattle.mesh_report.specs.Lines.{why_of}
+use Rattle.mesh_report.specs.Said.{memory_said, solid_said}
 use Rattle.mesh_run.specs.Serves.{AreFilesFor, IsSent, IsSolidUnmet, WritesSolid}
 use Rattle.mesh_run.proofs.Sent.{sent_status, written_ends}
 use Rattle.mesh_run.proofs.Shown.{stop_is_shown}
 use Rattle.mesh_run.proofs.UnmetRequests.{said_status_ends_on, said_status_tells_memory, unmet_is_shown}
 use Rattle.mesh_run.proofs.solid.serve_solid.Goals as goal
 
-pub line_of-said-requires : goal.line_of-said-requires
-line_of-said-requires g c =
+pub solid_said-said-requires : goal.solid_said-said-requires
+solid_said-said-requires g c =
     let shelf = shelf_call g.S.Shelf.contents g.S.Shelf.faults g.S.Shelf.fault_at g.S.Shelf.fault_kind c.args.shelf.now c.write_solid.new.shelf in
     let target = target_call g.T.Target.held g.T.Target.begun g.T.Target.faults c.args.target.now c.write_solid.new.target in
     let request = c.args.request.now in
@@ -27,10 +27,10 @@ returns-in-Ok-clause-outcome g c =
     let sent = option_map (λ (bytes : Vec ℕ Global). bytes.items) c.in-Ok.sending.sent in
     let status = c.send.result in
     let e = c.send.ensures.outcome in
-    let is = subst (λ (said : List ℕ). IsSent sent said out status e.0) c.deref.ensures.value e.1 in (
+    let is = subst (λ (said : List ℕ). IsSent c.args.json sent said out status e.0) c.deref.ensures.value e.1 in (
       e.0,
-      written_ends out (WritesSolid request shelf target out) (IsSolidUnmet request shelf target) (why_of request) status e.0
-          (sent_status sent report out status e.0 is)
+      written_ends out (WritesSolid c.args.json request shelf target out) (IsSolidUnmet request shelf target)
+          (solid_said c.args.json request) status e.0 (sent_status c.args.json sent report out status e.0 is)
           (record { sent = sent; report = report; puts = c.in-Ok.ensures.written; is_sent = is }),
       e.2,
     )
@@ -43,8 +43,8 @@ returns-in-Err-clause-outcome g c =
     let err = sink_call g.E.Sink.taken g.E.Sink.flushed g.E.Sink.faults c.args.err.now c.say_why.new.err in
     let request = c.args.request.now in
     said_status_ends_on (IsStop request shelf) (AreFilesFor request shelf.told) target out
-    (WritesSolid request shelf target out) (why_of request) refl (λ h. h) (λ h. h) refl c.in-Err.status c.say_why.result err c.line_of-said.result c.in-Err.ensures.stop
-    c.line_of-said.ensures c.say_why.ensures.said c.say_why.ensures.memory
+    (WritesSolid c.args.json request shelf target out) (solid_said c.args.json request) (memory_said c.args.json) refl (λ h. h) (λ h. h) refl c.in-Err.status c.say_why.result err c.solid_said-said.result c.in-Err.ensures.stop
+    c.solid_said-said.ensures c.say_why.ensures.said c.say_why.ensures.memory
 
 pub returns-in-Err-clause-memory : goal.returns-in-Err-clause-memory
 returns-in-Err-clause-memory g c =
@@ -52,4 +52,4 @@ returns-in-Err-clause-memory g c =
     let target = target_call g.T.Target.held g.T.Target.begun g.T.Target.faults c.args.target.now c.write_solid.new.target in
     let request = c.args.request.now in
     said_status_tells_memory (IsStop request shelf) (AreFilesFor request shelf.told) target _ _ c.in-Err.status
-    c.say_why.result c.line_of-said.result c.in-Err.ensures.stop c.say_why.ensures.said c.say_why.ensures.memory
+    c.say_why.result c.solid_said-said.result c.in-Err.ensures.stop c.say_why.ensures.said c.say_why.ensures.memory

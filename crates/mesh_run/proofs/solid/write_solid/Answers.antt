@@ -12,8 +12,8 @@ use Rattle.mesh_run.proofs.Stops.{stop_tells_memory}
 use Rattle.mesh_run.proofs.UnmetRequests.{cause_is_unmet, memory_given, stop_is_unmet}
 use Rattle.mesh_run.proofs.solid.write_solid.Goals as goal
 
-pub report_of-requires : goal.report_of-requires
-report_of-requires g c = output_step_is_shown c.args.request.now (g.S.Shelf.contents c.args.shelf.now) c.in-Ok.output c.in-Ok.ensures.output
+pub solid_report-requires : goal.solid_report-requires
+solid_report-requires g c = output_step_is_shown c.args.request.now (g.S.Shelf.contents c.args.shelf.now) c.in-Ok.output c.in-Ok.ensures.output
 
 pub solid_files-requires-clause-step : goal.solid_files-requires-clause-step
 solid_files-requires-clause-step g c = c.in-Ok.ensures.output.of_files.is_output.are_placed.on_grid.step

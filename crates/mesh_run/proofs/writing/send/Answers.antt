@@ -1,8 +1,8 @@
 use Rattle.std.proofs.Common.{ℕ, List, refl, subst}
-use Rattle.std.specs.Prelude.{codes}
 use Rattle.std.specs.Io.KnownBytes.{Appends}
 use Rattle.ember_io.specs.Sinks.{AppendsPrefix}
-use Rattle.mesh_report.specs.Lines.{line}
+use Rattle.mesh_report.specs.Said.{output_said}
+use Rattle.mesh_run.specs.Calls.{TakesUntilFault, sink_call}
 use Rattle.mesh_run.proofs.writing.send.Goals as goal
 
 pub returns-in-None-clause-outcome : goal.returns-in-None-clause-outcome
@@ -20,8 +20,9 @@ returns-in-Err-clause-outcome g c =
     let e = c.in-Err.ensures in
     let prefix = subst (λ (bytes : List ℕ). AppendsPrefix (g.O.Sink.taken c.args.out.now) (g.O.Sink.taken c.write_all.new.sink)
     bytes) c.deref.ensures.value e.prefix in
+    let err = sink_call g.E.Sink.taken g.E.Sink.flushed g.E.Sink.faults c.args.err.now c.say-in-Err.new.err in
     rw c.in-Some.is (
-      line (codes "cannot write to standard output"),
+      output_said c.args.json,
       (record { failed = e.cause.failed; prefix = prefix }, refl),
-      c.say-in-Err.ensures,
+      subst (λ (text : List ℕ). TakesUntilFault err text) c.output_said.ensures c.say-in-Err.ensures,
     )

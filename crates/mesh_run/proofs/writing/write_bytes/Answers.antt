@@ -1,6 +1,6 @@
-use Rattle.std.proofs.Common.{[], refl}
-use Rattle.std.specs.Prelude.{codes}
-use Rattle.mesh_report.specs.Lines.{line}
+use Rattle.std.proofs.Common.{ℕ, List, [], refl, subst}
+use Rattle.mesh_report.specs.Said.{output_said}
+use Rattle.mesh_run.specs.Calls.{TakesUntilFault, sink_call}
 use Rattle.mesh_run.proofs.writing.write_bytes.Goals as goal
 
 pub returns-in-Ok-clause-outcome : goal.returns-in-Ok-clause-outcome
@@ -11,4 +11,8 @@ returns-in-Ok-clause-outcome g c =
 pub returns-in-Err-clause-outcome : goal.returns-in-Err-clause-outcome
 returns-in-Err-clause-outcome g c =
     let e = c.in-Err.ensures in
-    (line (codes "cannot write to standard output"), (record { failed = e.cause.failed; prefix = e.prefix }, refl), c.say-in-Err.ensures)
+    let err = sink_call g.E.Sink.taken g.E.Sink.flushed g.E.Sink.faults c.args.err.now c.say-in-Err.new.err in (
+      output_said c.args.json,
+      (record { failed = e.cause.failed; prefix = e.prefix }, refl),
+      subst (λ (text : List ℕ). TakesUntilFault err text) c.output_said.ensures c.say-in-Err.ensures,
+    )

@@ -1,0 +1,106 @@
+-- The report as an object of JSON: the numbers of the lines, under keys
+use Rattle.std.specs.Prelude.{ℕ, ◌+◌, ℤ, pos, int_lt, ◌==◌, List, [], ◌∷◌, ◌++◌, codes, decimal, drop}
+use Rattle.std.specs.Prelude.{if◌then◌else◌}
+use Rattle.std.specs.Fmt.{signed_decimal}
+use Rattle.std.specs.Str.{bytes_eq}
+use Rattle.mesh_boolean.specs.declared.output.SolidFile.{SolidFile}
+use Rattle.mesh_boolean.specs.declared.writing.Written.{Written}
+use Rattle.mesh_boolean.specs.Volumes.{six_volumes_of_meshes}
+use Rattle.mesh_grid.specs.declared.grid.grid.Grid.{Grid}
+use Rattle.mesh_grid.specs.declared.moves.length.Length.{Length}
+use Rattle.mesh_grid.specs.declared.snap.steps.GridStep.{GridStep}
+use Rattle.mesh_grid.specs.Moves.Shown.{Rounded}
+use Rattle.mesh_info.specs.Info.Lines.{quoted}
+use Rattle.mesh_scene.specs.declared.scene.counts.Counts.{Counts}
+use Rattle.mesh_scene.specs.declared.scene.scene.PlacedScene.{PlacedScene}
+use Rattle.mesh_words.specs.declared.command.OutputFormat.{OutputFormat}
+use Rattle.mesh_report.specs.Lines.{size_text, step_text}
+use Rattle.mesh_report.specs.Objects.{array, object, object_line, truth_value}
+use Rattle.mesh_report.specs.Reports.{first_move, rounding_text, warning_text}
+use Rattle.mesh_report.specs.Volumes.{turned_text, volume_text}
+
+-- ---- the grid
+abbrev pub offset_value : Grid → List ℕ
+offset_value g =
+    array (signed_decimal g.offset.x ∷ signed_decimal g.offset.y ∷ signed_decimal g.offset.z ∷ [])
+
+-- ---- the files
+-- a volume, or null if it isn't shown
+abbrev pub volume_value : GridStep → ℤ → List ℕ
+volume_value step six_volumes =
+    if bytes_eq (volume_text step six_volumes) (codes "?") then codes "null" else volume_text step six_volumes
+
+-- the first volume, or null if there is none
+abbrev pub first_volume : GridStep → List ℤ → List ℕ
+first_volume step [] = codes "null"
+first_volume step (six_volumes ∷ others) = volume_value step six_volumes
+
+-- a file whose mesh is closed on the grid, how far its corners moved, and its volume
+abbrev pub file_object : List ℕ → Counts → Rounded → List ℕ → List ℕ
+file_object name c moved volume =
+    object (
+    (codes "file", quoted name) ∷ (codes "triangles", decimal c.triangles) ∷
+    (codes "vanished", decimal c.vanished) ∷ (codes "without area", decimal c.flat) ∷
+    (codes "greatest move", size_text moved.size moved.places) ∷ (codes "volume", volume) ∷ [])
+
+-- an object for each file
+abbrev pub file_objects : List (List ℕ) → GridStep → List Counts → List Length → List ℤ → List (List ℕ)
+file_objects [] step counts moves volumes = []
+file_objects (name ∷ names) step [] moves volumes = []
+file_objects (name ∷ names) step (c ∷ counts) moves volumes =
+    file_object name c (first_move moves) (first_volume step volumes)
+    ∷ file_objects names step counts (drop 1 moves) (drop 1 volumes)
+
+-- ---- the result
+-- the mesh of so many faces, and what rounding did to it
+abbrev pub result_object : ℕ → Written → List ℕ
+result_object faces mesh =
+    object (
+    (codes "empty", truth_value (mesh.triangles == mesh.vanished)) ∷ (codes "faces", decimal faces) ∷
+    (codes "triangles", decimal mesh.written) ∷ (codes "planes", decimal mesh.planes) ∷
+    (codes "greatest rounding move", rounding_text mesh) ∷ (codes "vanished", decimal mesh.vanished) ∷
+    (codes "without area", decimal mesh.effect.facings.without_area) ∷
+    (codes "turned over", decimal mesh.effect.facings.turned_over) ∷
+    (codes "edges of more than two triangles", decimal mesh.shared) ∷ [])
+
+-- ---- warnings, as the lines have them behind the word `warning`
+-- that the file with this number may be inside out, if its volume is below 0
+abbrev pub turned_warning : ℕ → List ℕ → GridStep → ℤ → List (List ℕ)
+turned_warning number name step six_volumes =
+    if int_lt six_volumes (pos 0) then quoted (turned_text number name step six_volumes) ∷ [] else []
+
+-- of each file, the first of which has this number
+abbrev pub turned_warnings : ℕ → List (List ℕ) → GridStep → List ℤ → List (List ℕ)
+turned_warnings number [] step volumes = []
+turned_warnings number (name ∷ names) step [] = []
+turned_warnings number (name ∷ names) step (six_volumes ∷ volumes) =
+    turned_warning number name step six_volumes ++ turned_warnings (number + 1) names step volumes
+
+-- that rounding moved corners far, if it did
+abbrev pub rounding_warning : OutputFormat → Written → List (List ℕ)
+rounding_warning format mesh = if mesh.effect.is_coarse then quoted (warning_text format mesh) ∷ [] else []
+
+-- ---- reports
+abbrev pub solid_object : List (List ℕ) → OutputFormat → SolidFile → List ℕ
+solid_object names format out =
+    let step = out.grid.step in
+    let files = file_objects names step out.counts.items out.moves.items out.six_volumes.items in
+    let warnings = turned_warnings 1 names step out.six_volumes.items ++ rounding_warning format out.written in
+    object_line (
+    (codes "step", step_text step) ∷ (codes "offset", offset_value out.grid) ∷ (codes "files", array files) ∷
+    (codes "result", result_object out.report.faces out.written) ∷ (codes "warnings", array warnings) ∷ [])
+
+abbrev pub scene_object : List (List ℕ) → PlacedScene → List ℕ
+scene_object names placed =
+    let step = placed.grid.step in
+    let volumes = six_volumes_of_meshes placed.scene.tris placed.scene.meshes in
+    let files = file_objects names step placed.counts.items placed.moves.items volumes in
+    object_line (
+    (codes "step", step_text step) ∷ (codes "offset", offset_value placed.grid) ∷ (codes "files", array files) ∷
+    (codes "warnings", array (turned_warnings 1 names step volumes)) ∷ [])
+
+abbrev pub mesh_object : OutputFormat → Written → List ℕ
+mesh_object format mesh =
+    object_line (
+    (codes "result", result_object mesh.faces mesh) ∷
+    (codes "warnings", array (rounding_warning format mesh)) ∷ [])

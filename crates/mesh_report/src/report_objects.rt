@@ -1,0 +1,351 @@
+// The report as an object of JSON.
+ghost use Rattle.std.specs.Prelude.{◌≡◌, ◌++◌, ◌<◌, drop, decimal, IfOk, OnOk};
+ghost use Rattle.std.specs.Fmt.{signed_decimal};
+ghost use Rattle.mesh_grid.specs.Moves.Shown.{rounded_of};
+ghost use Rattle.mesh_grid.specs.Snap.Steps.{IsStep};
+ghost use Rattle.mesh_report.specs.Lines.{size_text, step_text};
+ghost use Rattle.mesh_report.specs.Objects.{array, texts_of};
+ghost use Rattle.mesh_report.specs.ReportObjects.{file_object, file_objects, first_volume, mesh_object, offset_value, result_object, rounding_warning, scene_object, solid_object, turned_warning, turned_warnings, volume_value};
+ghost use Rattle.mesh_report.specs.Reports.{rounding_text};
+
+use crate::objects::{array, keyed, number, object, object_line, string, truth_value};
+use crate::report::{move_at, put_warning_text};
+use crate::texts::{put_signed, put_size, put_step};
+use crate::volumes::{put_turned, put_volume, volume_at};
+use ember_model::OutOfMemory;
+use ember_words::Text;
+use mesh_boolean::{SolidFile, Written, six_volumes_of_meshes};
+use mesh_effect::put_move as put_rounding_move;
+use mesh_grid::{Grid, GridStep, Length};
+use mesh_scene::{Counts, PlacedScene};
+use mesh_words::OutputFormat;
+use std::alloc::Global;
+
+// ---- numbers
+fn step_value(alloc: Global, step: &GridStep) -> Result<Vec<u8>, OutOfMemory>
+    requires { 0 < step.now.denominator }
+    ensures { IfOk result (λ text. text.items ≡ step_text step.now) }
+{
+    let mut text = Vec::new(alloc);
+    put_step(step, &mut text)?;
+    Ok(text)
+}
+
+fn signed(alloc: Global, number: i128) -> Result<Vec<u8>, OutOfMemory>
+    ensures { IfOk result (λ text. text.items ≡ signed_decimal number) }
+{
+    let mut text = Vec::new(alloc);
+    put_signed(number, &mut text)?;
+    Ok(text)
+}
+
+fn offset_value(alloc: Global, grid: &Grid) -> Result<Vec<u8>, OutOfMemory>
+    ensures { IfOk result (λ text. text.items ≡ offset_value grid.now) }
+{
+    let x = signed(alloc, grid.offset.x)?;
+    let y = signed(alloc, grid.offset.y)?;
+    let z = signed(alloc, grid.offset.z)?;
+    array(alloc, &[x, y, z])
+}
+
+fn move_value(alloc: Global, moved: &Length) -> Result<Vec<u8>, OutOfMemory>
+    ensures { IfOk result (λ text. text.items ≡ size_text (rounded_of moved.now).size (rounded_of moved.now).places) }
+{
+    let mut text = Vec::new(alloc);
+    put_size(moved.size, moved.places, &mut text)?;
+    Ok(text)
+}
+
+fn rounding_value(alloc: Global, mesh: &Written) -> Result<Vec<u8>, OutOfMemory>
+    ensures { IfOk result (λ text. text.items ≡ rounding_text mesh.now) }
+{
+    let mut text = Vec::new(alloc);
+    put_rounding_move(&mesh.effect.greatest, &mut text)?;
+    Ok(text)
+}
+
+// A volume, or null if it is too large to be shown.
+fn volume_value(alloc: Global, six_volumes: i64, step: &GridStep) -> Result<Vec<u8>, OutOfMemory>
+    requires { IsStep step.now }
+    ensures { IfOk result (λ text. text.items ≡ volume_value step.now six_volumes) }
+{
+    let mut text = Vec::new(alloc);
+    put_volume(six_volumes, step, &mut text)?;
+    if text.as_slice() == b"?".as_slice() {
+        return Vec::from_slice(alloc, b"null");
+    }
+    Ok(text)
+}
+
+// ---- the files
+// The volume with this index, or null if there is none.
+fn volume_of(
+    alloc: Global,
+    six_volumes: &[i64],
+    index: usize,
+    step: &GridStep,
+) -> Result<Vec<u8>, OutOfMemory>
+    requires { IsStep step.now }
+    ensures { IfOk result (λ text. text.items ≡ first_volume step.now (drop index six_volumes.now)) }
+{
+    if index >= six_volumes.len() {
+        return Vec::from_slice(alloc, b"null");
+    }
+    volume_value(alloc, volume_at(six_volumes, index), step)
+}
+
+// The object of a file.
+fn file_object(
+    alloc: Global,
+    name: &[u8],
+    counts: &Counts,
+    moved: &Length,
+    volume: Vec<u8>,
+) -> Result<Vec<u8>, OutOfMemory>
+    ensures { IfOk result (λ text. text.items ≡
+        file_object name.now counts.now (rounded_of moved.now) volume.items) }
+{
+    let name = string(alloc, name)?;
+    let triangles = number(alloc, counts.triangles)?;
+    let vanished = number(alloc, counts.vanished)?;
+    let flat = number(alloc, counts.flat)?;
+    let moved = move_value(alloc, moved)?;
+    let members = [
+        keyed(b"file", name),
+        keyed(b"triangles", triangles),
+        keyed(b"vanished", vanished),
+        keyed(b"without area", flat),
+        keyed(b"greatest move", moved),
+        keyed(b"volume", volume),
+    ];
+    object(alloc, &members)
+}
+
+// The object of each file.
+fn file_objects(
+    alloc: Global,
+    names: &[Text],
+    step: &GridStep,
+    counts: &[Counts],
+    moves: &[Length],
+    six_volumes: &[i64],
+) -> Result<Vec<Vec<u8>>, OutOfMemory>
+    requires { IsStep step.now }
+    ensures { IfOk result (λ texts. texts_of texts.items ≡
+        file_objects names.now step.now counts.now moves.now six_volumes.now) }
+{
+    let mut texts = Vec::new(alloc);
+    let mut file = 0;
+    for name in names {
+        let Some(counts) = counts.get(file) else {
+            return Ok(texts);
+        };
+        let name = name.as_str().as_bytes();
+        let moved = move_at(moves, file);
+        let volume = volume_of(alloc, six_volumes, file, step)?;
+        let object = file_object(alloc, name, counts, &moved, volume)?;
+        texts.push(object)?;
+        file += 1;
+    }
+    Ok(texts)
+}
+
+fn files_value(
+    alloc: Global,
+    names: &[Text],
+    step: &GridStep,
+    counts: &[Counts],
+    moves: &[Length],
+    six_volumes: &[i64],
+) -> Result<Vec<u8>, OutOfMemory>
+    requires { IsStep step.now }
+    ensures { IfOk result (λ text. text.items ≡
+        array (file_objects names.now step.now counts.now moves.now six_volumes.now)) }
+{
+    let texts = file_objects(alloc, names, step, counts, moves, six_volumes)?;
+    array(alloc, &texts)
+}
+
+// ---- the result
+// The object of the mesh of so many faces.
+fn result_object(alloc: Global, faces: u64, mesh: &Written) -> Result<Vec<u8>, OutOfMemory>
+    ensures { IfOk result (λ text. text.items ≡ result_object faces mesh.now) }
+{
+    let facings = &mesh.effect.facings;
+    let empty = truth_value(alloc, mesh.triangles == mesh.vanished)?;
+    let faces = number(alloc, faces)?;
+    let triangles = number(alloc, mesh.written)?;
+    let planes = number(alloc, mesh.planes)?;
+    let moved = rounding_value(alloc, mesh)?;
+    let vanished = number(alloc, mesh.vanished)?;
+    let without_area = number(alloc, facings.without_area)?;
+    let turned_over = number(alloc, facings.turned_over)?;
+    let shared = number(alloc, mesh.shared)?;
+    let members = [
+        keyed(b"empty", empty),
+        keyed(b"faces", faces),
+        keyed(b"triangles", triangles),
+        keyed(b"planes", planes),
+        keyed(b"greatest rounding move", moved),
+        keyed(b"vanished", vanished),
+        keyed(b"without area", without_area),
+        keyed(b"turned over", turned_over),
+        keyed(b"edges of more than two triangles", shared),
+    ];
+    object(alloc, &members)
+}
+
+// ---- warnings
+// Appends that a file may be inside out, if its volume is below 0. Files are numbered from 1.
+fn put_turned_warning(
+    alloc: Global,
+    number: u64,
+    name: &[u8],
+    six_volumes: i64,
+    step: &GridStep,
+    texts: &mut Vec<Vec<u8>>,
+) -> Result<(), OutOfMemory>
+    requires { IsStep step.now }
+    ensures { OnOk result (texts_of texts.new.items ≡
+        texts_of texts.old.items ++ turned_warning number name.now step.now six_volumes) }
+{
+    if six_volumes >= 0 {
+        return Ok(());
+    }
+    let mut said = Vec::new(alloc);
+    put_turned(number, name, six_volumes, step, &mut said)?;
+    texts.push(string(alloc, &said)?)?;
+    Ok(())
+}
+
+// The warnings of files that may be inside out.
+fn turned_warnings(
+    alloc: Global,
+    names: &[Text],
+    step: &GridStep,
+    six_volumes: &[i64],
+) -> Result<Vec<Vec<u8>>, OutOfMemory>
+    requires { IsStep step.now }
+    ensures { IfOk result (λ texts. texts_of texts.items ≡
+        turned_warnings 1 names.now step.now six_volumes.now) }
+{
+    let mut texts = Vec::new(alloc);
+    let mut file = 0;
+    for name in names {
+        if file >= six_volumes.len() {
+            return Ok(texts);
+        }
+        let of_file = volume_at(six_volumes, file);
+        file += 1;
+        let name = name.as_str().as_bytes();
+        put_turned_warning(alloc, file as u64, name, of_file, step, &mut texts)?;
+    }
+    Ok(texts)
+}
+
+// Appends that rounding moved corners far, if it did.
+fn put_rounding_warning(
+    alloc: Global,
+    format: OutputFormat,
+    mesh: &Written,
+    texts: &mut Vec<Vec<u8>>,
+) -> Result<(), OutOfMemory>
+    ensures { OnOk result (texts_of texts.new.items ≡
+        texts_of texts.old.items ++ rounding_warning format mesh.now) }
+{
+    if !mesh.effect.is_coarse {
+        return Ok(());
+    }
+    let mut said = Vec::new(alloc);
+    put_warning_text(format, mesh, &mut said)?;
+    texts.push(string(alloc, &said)?)?;
+    Ok(())
+}
+
+// ---- reports
+/// The report of a Boolean as an object: the grid, the files, the result and the warnings. It ends in a
+/// line feed.
+pub fn solid_object(
+    alloc: Global,
+    names: &[Text],
+    format: OutputFormat,
+    output: &SolidFile,
+) -> Result<Vec<u8>, OutOfMemory>
+    requires { IsStep output.now.grid.step }
+    ensures { IfOk result (λ text. text.items ≡ solid_object names.now format output.now) }
+{
+    let grid = &output.grid;
+    let volumes = output.six_volumes.as_slice();
+    let step = step_value(alloc, &grid.step)?;
+    let offset = offset_value(alloc, grid)?;
+    let files = files_value(
+        alloc,
+        names,
+        &grid.step,
+        &output.counts,
+        &output.moves,
+        volumes,
+    )?;
+    let result = result_object(alloc, output.report.faces, &output.written)?;
+    let mut texts = turned_warnings(alloc, names, &grid.step, volumes)?;
+    put_rounding_warning(alloc, format, &output.written, &mut texts)?;
+    let warnings = array(alloc, &texts)?;
+    let members = [
+        keyed(b"step", step),
+        keyed(b"offset", offset),
+        keyed(b"files", files),
+        keyed(b"result", result),
+        keyed(b"warnings", warnings),
+    ];
+    object_line(alloc, &members)
+}
+
+/// The report of placed files as an object: the grid, the files and the warnings. It ends in a line
+/// feed.
+pub fn scene_object(
+    alloc: Global,
+    names: &[Text],
+    placed: &PlacedScene,
+) -> Result<Vec<u8>, OutOfMemory>
+    requires { IsStep placed.now.grid.step }
+    ensures { IfOk result (λ text. text.items ≡ scene_object names.now placed.now) }
+{
+    let grid = &placed.grid;
+    let six_volumes = six_volumes_of_meshes(alloc, &placed.scene)?;
+    let volumes = six_volumes.as_slice();
+    let step = step_value(alloc, &grid.step)?;
+    let offset = offset_value(alloc, grid)?;
+    let files = files_value(
+        alloc,
+        names,
+        &grid.step,
+        &placed.counts,
+        &placed.moves,
+        volumes,
+    )?;
+    let texts = turned_warnings(alloc, names, &grid.step, volumes)?;
+    let warnings = array(alloc, &texts)?;
+    let members = [
+        keyed(b"step", step),
+        keyed(b"offset", offset),
+        keyed(b"files", files),
+        keyed(b"warnings", warnings),
+    ];
+    object_line(alloc, &members)
+}
+
+/// The report of a document's mesh as an object: the result and the warnings. It ends in a line feed.
+pub fn mesh_object(
+    alloc: Global,
+    format: OutputFormat,
+    mesh: &Written,
+) -> Result<Vec<u8>, OutOfMemory>
+    ensures { IfOk result (λ text. text.items ≡ mesh_object format mesh.now) }
+{
+    let result = result_object(alloc, mesh.faces, mesh)?;
+    let mut texts = Vec::new(alloc);
+    put_rounding_warning(alloc, format, mesh, &mut texts)?;
+    let warnings = array(alloc, &texts)?;
+    let members = [keyed(b"result", result), keyed(b"warnings", warnings)];
+    object_line(alloc, &members)
+}
