@@ -1,0 +1,5 @@
+pub mod InOrder
+pub mod Refusals
+pub mod Statuses
+pub mod SolidArrays
+pub mod Outcomes

@@ -1,0 +1,80 @@
+-- The arrays of the mesh of a scene are a solid, and mean its expression
+use Rattle.std.proofs.Common.{◌≡◌, ℕ, ℤ, List, None, false, length, refl, subst, ◌∙◌}
+use Rattle.std.specs.Global.{Vec}
+use Rattle.std.specs.declared.option.Option.{Option}
+use Rattle.ember_expr.specs.Formula.{Formula}
+use Rattle.ember_meaning.specs.Regions.Meaning.{IsFalseOutside}
+use Rattle.ember_model.specs.declared.tri.Tri.{Tri}
+use Rattle.mesh_arrays.specs.declared.mesh.ArrayMesh.{ArrayMesh}
+use Rattle.mesh_boolean.specs.Effects.{decimals_of}
+use Rattle.mesh_boolean.specs.Volumes.{six_volumes_of_meshes}
+use Rattle.mesh_grid.specs.declared.grid.choice.Wanted.{Wanted}
+use Rattle.mesh_grid.specs.declared.grid.grid.Grid.{Grid}
+use Rattle.mesh_scene.specs.Scene.Images.{images_of}
+use Rattle.mesh_scene.specs.declared.scene.scene.PlacedScene.{PlacedScene}
+use Rattle.mesh_solid.specs.Mesh.Meshes.{IsDocumentMesh, IsMeshedSolid}
+use Rattle.mesh_solid.specs.declared.mesh.mesh.SolidMesh.{SolidMesh}
+use Rattle.mesh_solid.specs.declared.mesh.solid.MeshedSolid.{MeshedSolid}
+use Rattle.mesh_solid.proofs.MeshMeaning.{mesh_means, mesh_winds_once_at_most}
+use Rattle.mesh_written.specs.Closed.{AreDecimalsClosed}
+use Rattle.mesh_written.specs.Digits.{written_places}
+use Rattle.mesh_written.proofs.DecimalsClosed.{decimals_are_closed}
+use Rattle.mesh_written.proofs.WrittenClosed.{certified_are_closed}
+use Rattle.ember_arrays.specs.Meshes.{IsPlaced}
+use Rattle.ember_arrays.specs.Solids.{AreArrays, IsArraySolid, MeansFormula}
+use Rattle.ember_arrays.specs.declared.arrays.Arrays.{Arrays}
+use Rattle.ember_arrays.specs.declared.solid.ArraySolid.{ArraySolid}
+
+-- the rounded triangles of a document's mesh are closed
+decimals_of_mesh_are_closed : (bytes : List ℕ) (digits : Option ℕ) (grid : Grid) (mesh : SolidMesh) → IsDocumentMesh bytes mesh →
+    AreDecimalsClosed (decimals_of digits grid mesh)
+decimals_of_mesh_are_closed bytes digits grid mesh is =
+    decimals_are_closed (written_places digits grid.step) grid.step grid.offset mesh.corners.items mesh.triangles.items
+    (certified_are_closed mesh.planes.items is.tables.lines.items mesh.corners.items is.tables.segments.items
+    mesh.triangles.items is.cut.certified)
+
+-- the arrays of the mesh of the meshes' scene are a solid
+module _ (meshes : List ArrayMesh) (formula : Formula) (wanted : Wanted) (digits : Option ℕ) (placed : PlacedScene)
+    (is : IsPlaced meshes wanted placed) where
+  pub arrays_are_solid : (meshed : MeshedSolid) → IsMeshedSolid placed.scene.tris formula false meshed → (arrays : Arrays) →
+      AreArrays digits placed.grid meshed.mesh arrays → (volumes : Vec ℤ) →
+      volumes.items ≡ six_volumes_of_meshes placed.scene.tris placed.scene.meshes →
+      IsArraySolid meshes formula wanted digits (record {
+        vertices = arrays.vertices;
+        triangles = arrays.triangles;
+        file = record {
+          written = arrays.numbers;
+          grid = placed.grid;
+          counts = placed.counts;
+          moves = placed.moves;
+          six_volumes = volumes;
+          report = meshed.report;
+          kept = None;
+        };
+      })
+  arrays_are_solid meshed solid arrays are volumes f =
+      let of_images = subst (λ (tris : List Tri). IsMeshedSolid tris formula false meshed) is.tris solid in
+      record {
+        surfaces = is.surfaces;
+        are_placed = is.are_placed;
+        counts = is.counts;
+        moves = is.moves;
+        six_volumes = f ∙ (λ i. six_volumes_of_meshes (is.tris i) (is.count i));
+        mesh = meshed.mesh;
+        is_mesh = of_images.mesh;
+        report = of_images.report;
+        arrays = arrays;
+        are_arrays = are;
+        vertices = refl;
+        triangles = refl;
+        numbers = refl;
+        closed = decimals_of_mesh_are_closed of_images.mesh.bytes digits placed.grid meshed.mesh of_images.mesh.of_document;
+      }
+
+-- a solid means its expression, if this is false outside all meshes
+pub solid_means_formula : (meshes : List ArrayMesh) (formula : Formula) (wanted : Wanted) (digits : Option ℕ) (solid : ArraySolid) →
+    IsFalseOutside formula → (is : IsArraySolid meshes formula wanted digits solid) → MeansFormula meshes formula wanted digits solid is
+solid_means_formula meshes formula wanted digits solid outside is = record {
+  means = mesh_means (images_of solid.file.grid is.surfaces) (length is.surfaces) formula is.mesh is.are_placed.scene outside is.is_mesh;
+  once = mesh_winds_once_at_most (images_of solid.file.grid is.surfaces) (length is.surfaces) formula is.mesh is.are_placed.scene outside is.is_mesh;
+}

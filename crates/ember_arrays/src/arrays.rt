@@ -1,0 +1,78 @@
+// The arrays of a mesh.
+ghost use Rattle.std.specs.Prelude.{◌≡◌, ◌≤◌, All, IfOk, IfErr, IfSome};
+ghost use Rattle.ember_model.specs.Valid.{IsValidPlane};
+ghost use Rattle.mesh_certificate.specs.Certificate.Certificate.{IsProper};
+ghost use Rattle.mesh_grid.specs.Snap.Steps.{IsStep};
+ghost use Rattle.ember_arrays.specs.Faults.{IsArraysFault, of_index_fault};
+ghost use Rattle.ember_arrays.specs.Solids.{AreArrays};
+
+use crate::effect::{decimals, effect_of};
+use crate::split::split_decimals;
+use mesh_arrays::{IndexFault, double_points, index_triples};
+use mesh_boolean::{WritingFault, Written};
+use mesh_grid::Grid;
+use mesh_solid::SolidMesh;
+use mesh_written::{shared_edges_by_index, written_places};
+use std::alloc::Global;
+
+// A mesh in arrays, with its numbers, as they are with its text. There are no bytes.
+#[derive(Drop)]
+pub(crate) struct Arrays {
+    pub(crate) vertices: Vec<[f64; 3]>,
+    pub(crate) triangles: Vec<[u32; 3]>,
+    pub(crate) numbers: Written,
+}
+
+// Why triangles have no array of indices.
+fn index_fault(fault: IndexFault) -> WritingFault
+    ensures { result ≡ of_index_fault fault }
+{
+    match fault {
+        IndexFault::TooManyVertices => WritingFault::TooManyTriangles,
+        IndexFault::OutOfMemory => WritingFault::OutOfMemory,
+    }
+}
+
+// The arrays of a mesh on a grid, rounded to decimals with so many places first.
+pub(crate) fn arrays_of(
+    alloc: Global,
+    mesh: &SolidMesh,
+    grid: &Grid,
+    digits: Option<u32>,
+) -> Result<Arrays, WritingFault>
+    requires step { IsStep grid.now.step }
+    requires proper { All (IsProper mesh.now.planes.items mesh.now.corners.items) mesh.now.triangles.items }
+    requires valid { All IsValidPlane mesh.now.planes.items }
+    requires digits { IfSome digits (λ n. n ≤ 17) }
+    ensures arrays { IfOk result (AreArrays digits grid.now mesh.now) }
+    ensures fault { IfErr result (IsArraysFault digits grid.now mesh.now) }
+{
+    let written = decimals(alloc, mesh, grid, digits)?;
+    let effect = effect_of(alloc, mesh, &written, grid, digits)?;
+    let indexed = written.mesh.triangles();
+    let vanished = mesh.triangles.len() as u64 - indexed.len() as u64;
+    let shared = shared_edges_by_index(alloc, indexed)?;
+    let split = split_decimals(alloc, &mesh.planes, &written)?;
+    let places = written_places(digits, &grid.step);
+    let vertices = double_points(alloc, &split.points, places)?;
+    let triangles = match index_triples(alloc, &split.triangles) {
+        Ok(triangles) => triangles,
+        Err(fault) => return Err(index_fault(fault)),
+    };
+    Ok(Arrays {
+        vertices,
+        numbers: Written {
+            bytes: Vec::new(alloc),
+            faces: mesh.faces,
+            planes: mesh.planes.len() as u64,
+            triangles: mesh.triangles.len() as u64,
+            vanished,
+            written: triangles.len() as u64,
+            shared,
+            is_manifold: split.is_manifold,
+            effect,
+            shown: None,
+        },
+        triangles,
+    })
+}

@@ -1,0 +1,5 @@
+mod OwnNames
+mod Known
+mod Ends
+mod MeshKnown
+mod MeshEnds

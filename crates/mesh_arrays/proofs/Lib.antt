@@ -1,0 +1,3 @@
+pub mod DoubleTexts
+pub mod InOrder
+pub mod Refused

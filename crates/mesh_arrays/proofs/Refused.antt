@@ -1,0 +1,63 @@
+-- The faults of the steps are those of a mesh in arrays
+use Rattle.std.proofs.Common.{◌≡◌, ℕ, List, [], ◌∷◌, All, IsSome, None, Some, length, map, refl, subst, sym, ◌∙◌}
+use Rattle.std.specs.Global.{Vec}
+use Rattle.std.specs.List.{find}
+use Rattle.std.specs.Option.{option_map}
+use Rattle.std.specs.declared.option.Option.{Option}
+use Rattle.mesh_ply.specs.ReadPly.{of_flaw}
+use Rattle.mesh_ply.specs.declared.fault.PlyFault.{PlyFault}
+use Rattle.mesh_ply.specs.declared.fault.PlyFault.TheVariants as fault
+use Rattle.mesh_read.proofs.FarPoints.{far_by_content}
+use Rattle.mesh_read.specs.Surface.Flaws.{flaw_in, flaw_with}
+use Rattle.mesh_read.specs.Surface.Surfaces.{Content, IsSurface, IsWithin, content_of, first_far, is_facet_too_large, point_of}
+use Rattle.mesh_read.specs.declared.surface.flaw.Flaw.{Flaw}
+use Rattle.mesh_read.specs.declared.surface.flaw.Flaw.TheVariants as flaw
+use Rattle.mesh_read.specs.declared.surface.surface.Facet.{Facet}
+use Rattle.mesh_read.specs.declared.surface.surface.Surface.{Surface}
+use Rattle.mesh_read.specs.declared.surface.surface.Vertex.{Vertex}
+use Rattle.mesh_arrays.specs.Arrays.{ArePointsOf, IsContentOf, IsSurfaceOf, facets_from, point_of_bits}
+use Rattle.mesh_arrays.specs.Faults.{AreWithin, IsMeshFault, IsTriangleFault, IsVertexFault}
+use Rattle.mesh_arrays.specs.declared.mesh.ArrayMesh.{ArrayMesh}
+
+-- a fault of the triangles, if all vertices are finite
+pub triangle_fault_is : (mesh : ArrayMesh) (count : ℕ) (why : PlyFault) → count ≡ length mesh.vertices.now →
+    All (λ bits. IsSome (point_of_bits bits)) mesh.vertices.now → IsTriangleFault mesh.triangles.now count why →
+    IsMeshFault mesh why
+triangle_fault_is mesh count fault.NoEnd e finite h = absurd h
+triangle_fault_is mesh count (fault.NotUnderstood line) e finite h = absurd h
+triangle_fault_is mesh count fault.NoFormat e finite h = absurd h
+triangle_fault_is mesh count (fault.ShortRow name row) e finite h = absurd h
+triangle_fault_is mesh count (fault.NotFinite number) e finite h = absurd h
+triangle_fault_is mesh count fault.NoCoordinates e finite h = absurd h
+triangle_fault_is mesh count fault.NoCorners e finite h = absurd h
+triangle_fault_is mesh count (fault.NoSuchVertex number) e finite h = record {
+  finite = finite;
+  first = subst (λ n. IsTriangleFault mesh.triangles.now n (fault.NoSuchVertex number)) e h;
+}
+triangle_fault_is mesh count (fault.FewCorners number) e finite h = absurd h
+triangle_fault_is mesh count fault.NoTriangles e finite h = absurd h
+triangle_fault_is mesh count (fault.TooLarge number) e finite h = absurd h
+triangle_fault_is mesh count fault.OutOfMemory e finite h = tt
+
+-- a flaw of what the mesh says
+pub flaw_is : (mesh : ArrayMesh) (content : Content) (why : Flaw) → IsContentOf mesh content →
+    All (AreWithin (length mesh.vertices.now)) mesh.triangles.now → flaw_in content ≡ Some why → IsMeshFault mesh (of_flaw why)
+flaw_is mesh content flaw.NoTriangles is within has = record { content = content; is_content = is; within = within; has = has }
+flaw_is mesh content (flaw.TooLarge place) is within has = record { content = content; is_content = is; within = within; has = has }
+
+-- ---- coordinates
+none_far : (far : Option ℕ) (facets : List Facet) → flaw_with far facets ≡ None → far ≡ None
+none_far None facets e = refl
+none_far (Some place) [] e = absurd (cc)
+none_far (Some place) (facet ∷ facets) e = absurd (cc)
+
+no_place : (found : Option Facet) → option_map (λ (f : Facet). f.place) found ≡ None → found ≡ None
+no_place None e = refl
+no_place (Some facet) e = absurd (cc)
+
+-- a surface without a flaw has no triangle that is too far out
+pub no_flaw_is_within : (s : Surface) → flaw_in (content_of s) ≡ None →
+    find (is_facet_too_large s.vertices.items) s.facets.items ≡ None
+no_flaw_is_within s e =
+    no_place (find (is_facet_too_large s.vertices.items) s.facets.items)
+    (sym (far_by_content s) ∙ none_far (first_far (content_of s)) s.facets.items e)

@@ -1,0 +1,181 @@
+/* What tests/check_library runs over the C library's Booleans of meshes in arrays. `cube` and `corner` are the boxes from 0 to 2 and from
+   1 to 3.
+
+   cases     each status that a call can be made to give, with its mesh, its place and its line; the last line is "N wrong"
+   memory    a Boolean again and again, first without any memory, then with one more request that is met each time, and each request alone
+             refused: a call ends with status 12, or as if nothing was refused, and leaves no block that the caller doesn't get
+   threads   the same in 8 threads with 256 KiB of stack each, 100 times in each: all give the same arrays
+
+   Linked with --wrap for malloc, realloc and free, it counts the library's blocks. */
+#define _XOPEN_SOURCE 700
+#include "counted_memory.h"
+#include "ember.h"
+#include <math.h>
+#include <pthread.h>
+#include <stdio.h>
+
+enum { THREADS = 8, CALLS = 100, STACK = 256 * 1024, MOST = 65 };
+
+static const uint32_t triangles[12][3] = {{0, 3, 2}, {0, 2, 1}, {4, 5, 6}, {4, 6, 7}, {0, 1, 5}, {0, 5, 4},
+                                          {1, 2, 6}, {1, 6, 5}, {2, 3, 7}, {2, 7, 6}, {3, 0, 4}, {3, 4, 7}};
+static double cube[8][3], corner[8][3];
+static ember_mesh meshes[MOST];
+
+static void make_box(double (*box)[3], double low) {
+  static const int at[8][3] = {{0, 0, 0}, {1, 0, 0}, {1, 1, 0}, {0, 1, 0}, {0, 0, 1}, {1, 0, 1}, {1, 1, 1}, {0, 1, 1}};
+  for (int i = 0; i < 8; i++)
+    for (int j = 0; j < 3; j++) box[i][j] = low + 2 * at[i][j];
+}
+
+static ember_mesh box_of(double (*box)[3]) {
+  ember_mesh mesh = {&box[0][0], 8, &triangles[0][0], 12};
+  return mesh;
+}
+
+static void begin(void) {
+  make_box(cube, 0);
+  make_box(corner, 1);
+  for (int i = 0; i < MOST; i++) meshes[i] = box_of(i % 2 ? corner : cube);
+}
+
+/* ---- cases */
+
+static int wrong;
+
+static void expect(const char *what, uint32_t status, uint32_t mesh, uint64_t place, size_t n_meshes, const char *expression, const char *step,
+                   uint32_t digits, const char *line) {
+  ember_options options = {ember_text(step), digits};
+  ember_solid solid;
+  ember_boolean(meshes, n_meshes, expression, &options, &solid);
+  int right = solid.status == status && solid.mesh == mesh && solid.place == place && solid.line.len >= strlen(line) &&
+              (solid.line.len == 0 || memcmp(solid.line.at, line, strlen(line)) == 0);
+  if (status) right = right && !solid.vertices && !solid.triangles && !solid.n_vertices && !solid.n_triangles;
+  if (!right)
+    printf("%s: status %u, mesh %u, place %llu, %.*s\n", what, solid.status, solid.mesh, (unsigned long long)solid.place, (int)solid.line.len,
+           solid.line.at ? (const char *)solid.line.at : "");
+  wrong += !right;
+  ember_solid_free(&solid);
+  begin();
+}
+
+static void expect_both(void) {
+  ember_solid solid;
+  ember_boolean(meshes, 2, "m1&m2", NULL, &solid);
+  int right = solid.status == EMBER_DONE && solid.n_vertices == 8 && solid.n_triangles == 12 && solid.is_manifold == 1;
+  for (size_t i = 0; right && i < 3 * solid.n_vertices; i++) right = solid.vertices[i] == 1 || solid.vertices[i] == 2;
+  for (size_t i = 0; right && i < 3 * solid.n_triangles; i++) right = solid.triangles[i] < 8;
+  if (!right) printf("both: status %u, %zu vertices\n", solid.status, solid.n_vertices);
+  wrong += !right;
+  ember_solid_free(&solid);
+}
+
+static int try_cases(void) {
+  static const uint64_t none = EMBER_NO_PLACE;
+  const double numbers[] = {NAN, INFINITY, -INFINITY};
+  uint32_t far_corner[12][3];
+  expect_both();
+  expect("nothing", 0, 0, none, 2, "m1&!m1", "finest", 17, "ember-mesh: step ");
+  expect("no meshes", 2, 0, none, 0, "m1", "nice", EMBER_DIGITS, "ember-mesh: no files");
+  expect("65 meshes", 2, 0, none, 65, "m1", "nice", EMBER_DIGITS, "ember-mesh: more than 64 files");
+  expect("64 meshes", 0, 0, none, 64, "m1|m2", "nice", EMBER_DIGITS, "ember-mesh: step ");
+  expect("18 digits", 2, 0, none, 2, "m1", "nice", 18, "ember-mesh: --digits: ");
+  expect("no step", 2, 0, none, 2, "m1", "seven", 3, "ember-mesh: --step seven: ");
+  expect("step 0", 2, 0, none, 2, "m1", "0", 3, "ember-mesh: --step 0: ");
+  expect("a step that is no text", 13, 0, none, 2, "m1", "\xff", 3, "");
+  expect("an expression that is no text", 7, 0, none, 2, "\xff", "nice", 3, "ember-mesh: expression: syntax at ");
+  expect("no expression", 7, 0, none, 2, "", "nice", 3, "ember-mesh: expression: syntax at ");
+  expect("mesh 3", 7, 0, none, 2, "m3", "nice", 3, "ember-mesh: expression: no mesh 3");
+  expect("outside", 8, 0, none, 2, "!m1", "nice", 3, "ember-mesh: expression holds outside all meshes");
+  expect("a small step", 10, 0, none, 2, "m1", "0.0001", 3, "ember-mesh: --step 0.0001: the scene is 3 long");
+  for (int i = 0; i < 3; i++) {
+    corner[i][i] = numbers[i];
+    expect("not finite", 5, 2, (uint64_t)i, 2, "m1", "nice", 3, "ember-mesh: mesh 2: vertex ");
+  }
+  corner[6][2] = 1e15;
+  expect("far out", 5, 2, 2, 2, "m1", "nice", 3, "ember-mesh: mesh 2: face 3: a coordinate of 1e15 or more");
+  corner[6][2] = nextafter(1e15, 0);
+  expect("almost far out", 0, 0, none, 2, "m1", "nice", 3, "ember-mesh: step ");
+  corner[0][0] = -0.0, corner[0][1] = 5e-324;
+  expect("least doubles", 0, 0, none, 2, "m1&m2", "nice", 3, "ember-mesh: step ");
+  memcpy(far_corner, triangles, sizeof triangles);
+  far_corner[11][0] = 8;
+  meshes[0].triangles = &far_corner[0][0];
+  expect("no vertex", 5, 1, 11, 2, "m1", "nice", 3, "ember-mesh: mesh 1: face 12: ");
+  meshes[1].n_triangles = 0;
+  expect("no triangles", 5, 2, none, 2, "m1", "nice", 3, "ember-mesh: mesh 2: no triangles");
+  meshes[1].n_triangles = 11;
+  expect("a hole", 6, 2, 10, 2, "m1", "nice", 3, "ember-mesh: mesh 2: not closed: 3 loose edges, the first from (1 1 3) to (1 3 1), in face 11");
+  printf("%d wrong\n", wrong);
+  return wrong != 0;
+}
+
+/* ---- want of memory */
+
+static int same_solid(const ember_solid *a, const ember_solid *b) {
+  if (a->status != b->status || a->n_vertices != b->n_vertices || a->n_triangles != b->n_triangles || a->line.len != b->line.len) return 0;
+  return memcmp(a->vertices, b->vertices, 24 * a->n_vertices) == 0 && memcmp(a->triangles, b->triangles, 12 * a->n_triangles) == 0 &&
+         memcmp(a->line.at, b->line.at, a->line.len) == 0;
+}
+
+static int try_memory(void) {
+  ember_solid whole, solid;
+  long requests = 0;
+  ember_boolean(meshes, 2, "m1&!m2", NULL, &whole);
+  long given = blocks;
+  for (refuses_all = 0; refuses_all < 2; refuses_all++) {
+    int is_met = 0;
+    for (requests = 0; !is_met; requests++) {
+      blocks = 0;
+      requests_left = requests;
+      ember_boolean(meshes, 2, "m1&!m2", NULL, &solid);
+      is_met = requests_left > 0;
+      requests_left = -1;
+      int right = solid.status == EMBER_NO_MEMORY ? !solid.vertices && !solid.triangles : same_solid(&solid, &whole);
+      ember_solid_free(&solid);
+      if (!right || blocks) printf("%ld requests: status %u, %ld blocks are left\n", requests, solid.status, blocks), wrong++;
+    }
+  }
+  blocks = given;
+  ember_solid_free(&whole);
+  printf("status %u, %ld requests for memory, %d wrong\n", whole.status, requests - 1, wrong);
+  return wrong || blocks;
+}
+
+/* ---- threads */
+
+static ember_solid wanted;
+
+static void *repeat(void *other) {
+  ember_solid solid;
+  for (int i = 0; i < CALLS; i++) {
+    ember_boolean(meshes, 2, "w1+w2=1", NULL, &solid);
+    *(int *)other += !same_solid(&solid, &wanted);
+    ember_solid_free(&solid);
+  }
+  return NULL;
+}
+
+static int try_threads(void) {
+  pthread_t threads[THREADS];
+  int other[THREADS] = {0};
+  pthread_attr_t room;
+  pthread_attr_init(&room);
+  pthread_attr_setstacksize(&room, STACK);
+  ember_boolean(meshes, 2, "w1+w2=1", NULL, &wanted);
+  for (int i = 0; i < THREADS; i++)
+    if (pthread_create(&threads[i], &room, repeat, &other[i])) return 125;
+  for (int i = 0; i < THREADS; i++) {
+    pthread_join(threads[i], NULL);
+    wrong += other[i];
+  }
+  printf("status %u, %d calls, %d others\n", wanted.status, THREADS * CALLS, wrong);
+  ember_solid_free(&wanted);
+  return wrong != 0;
+}
+
+int main(int argc, char **argv) {
+  if (!ember_runs_here() || ember_abi() != EMBER_ABI || argc != 2) return 125;
+  begin();
+  if (strcmp(argv[1], "cases") == 0) return try_cases();
+  return strcmp(argv[1], "memory") == 0 ? try_memory() : try_threads();
+}
