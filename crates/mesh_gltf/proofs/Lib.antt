@@ -1,2 +1,11 @@
-mod Parts
-mod Inside
+pub mod Parts
+pub mod Steps
+pub mod Inside
+pub mod Counts
+pub mod Decodings
+pub mod ItemSteps
+pub mod PointSteps
+pub mod CornerSteps
+pub mod NodeSteps
+pub mod Soundness
+pub mod Numbers

@@ -32,7 +32,7 @@ abbrev pub is_list : List Float → Option Items → Bool
 is_list numbers None = false
 is_list numbers (Some ds) = are_numbers numbers ds
 
-abbrev pub is_missing_or : List Float → Option Data → Bool
+unfoldable pub is_missing_or : List Float → Option Data → Bool
 is_missing_or numbers None = true
 is_missing_or numbers (Some value) = is_list numbers (as_array value)
 

@@ -1,5 +1,5 @@
 -- What a primitive of a mesh adds: points, and triangles over them
-use Rattle.std.specs.Prelude.{ℕ, zero, suc, ◌+◌, ◌*◌, ◌^◌, List, [], ◌++◌, length, codes, nat_le, if◌then◌else◌, ◌==◌}
+use Rattle.std.specs.Prelude.{◌≡◌, ℕ, zero, suc, ◌+◌, ◌*◌, ◌^◌, List, [], ◌++◌, length, codes, nat_le, if◌then◌else◌, ◌==◌}
 use Rattle.std.specs.Prelude.{Option, None, Some, option_and_then, Result, Ok, Err, slice_get}
 use Rattle.mesh_read.specs.Surface.Surfaces.{Point, Content}
 use Rattle.mesh_read.specs.Stl.Binary.{point_at}
@@ -9,6 +9,7 @@ use Rattle.mesh_gltf.specs.declared.corners.IndexSize.{IndexSize}
 use Rattle.mesh_gltf.specs.declared.triangles.Topology.{Topology}
 use Rattle.mesh_gltf.specs.declared.triangles.Topology.TheVariants.{Triangles, Strip, Fan}
 use Rattle.mesh_gltf.specs.declared.windows.Window.{Window}
+use Rattle.mesh_gltf.specs.declared.points.Elements as code
 use Rattle.mesh_gltf.specs.declared.fault.GltfFault.{GltfFault}
 use Rattle.mesh_gltf.specs.declared.fault.GltfFault.TheVariants.{Accessor, Mesh, NotFinite, NoSuchVertex, TooMany}
 use Rattle.mesh_gltf.specs.Bytes.{bytes_of}
@@ -33,6 +34,10 @@ or_fault fault (Some a) = Ok a
 pub record Elements : Type 0 where
   pub window : Window
   pub bytes : List ℕ
+
+-- the elements that code has in hand
+abbrev pub elements_seen : code.Elements → Elements
+elements_seen e = record { window = e.window; bytes = e.bytes.now }
 
 abbrev pub if_inside : ℕ → ℕ → Window → List ℕ → Result Elements GltfFault
 if_inside size index w bytes =
@@ -68,6 +73,13 @@ points_from e index (suc left) =
 -- all points of the accessor with this index
 unfoldable pub points_in : ℕ → Elements → Result (List Point) GltfFault
 points_in index e = or_fault (NotFinite index) (points_from e 0 e.window.count)
+
+-- `new` has all of them behind what `old` has
+pub record AreAdded (index : ℕ) (e : Elements) (old new : List Point) : Type 0 where
+  pub points : List Point
+  pub read : points_in index e ≡ Ok points
+  pub behind_old : new ≡ old ++ points
+  pub counted : length points ≡ e.window.count
 
 -- ---- corners
 -- the corners by an accessor of indices

@@ -10,7 +10,7 @@ use Rattle.serde_json.specs.Data.{Data, Items, no_items, item}
 use Rattle.serde_json.specs.Read.{read}
 use Rattle.serde_json.specs.Find.{get, as_array, as_str}
 use Rattle.mesh_gltf.specs.declared.fault.GltfFault.{GltfFault}
-use Rattle.mesh_gltf.specs.declared.fault.GltfFault.TheVariants.{NoJson, Draco, Meshopt, NoTriangles, TooLarge}
+use Rattle.mesh_gltf.specs.declared.fault.GltfFault.TheVariants.{NoJson, Draco, Meshopt, Instances, NoTriangles, TooLarge}
 use Rattle.mesh_gltf.specs.Chunks.{chunks_of}
 use Rattle.mesh_gltf.specs.Buffers.{buffers_of}
 use Rattle.mesh_gltf.specs.Primitives.{and_then, or_fault}
@@ -31,8 +31,8 @@ lists wanted None = false
 lists wanted (Some ds) = has_text wanted ds
 
 -- the document can't be read without this extension
-unfoldable pub requires : List ℕ → Data → Bool
-requires extension document =
+unfoldable pub needs : List ℕ → Data → Bool
+needs extension document =
     lists extension (option_and_then as_array (get (codes "extensionsRequired") document))
 
 -- ---- the document
@@ -42,9 +42,10 @@ nothing = record { points = []; facets = [] }
 -- the content of a document with this binary chunk
 unfoldable pub document_content : Option (List ℕ) → Data → Result Content GltfFault
 document_content chunk document =
-    if requires (codes "KHR_draco_mesh_compression") document then Err Draco
-    else (if requires (codes "EXT_meshopt_compression") document then Err Meshopt
-    else and_then (buffers_of chunk document) (λ buffers. scene_content document buffers nothing))
+    if needs (codes "KHR_draco_mesh_compression") document then Err Draco
+    else (if needs (codes "EXT_meshopt_compression") document then Err Meshopt
+    else (if needs (codes "EXT_mesh_gpu_instancing") document then Err Instances
+    else and_then (buffers_of chunk document) (λ buffers. scene_content document buffers nothing)))
 
 -- the value that a JSON text has, if its bytes are UTF-8
 abbrev pub json_value : List ℕ → Option Data

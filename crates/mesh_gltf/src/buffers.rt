@@ -1,6 +1,7 @@
 // The bytes of a document's buffers.
 ghost use Rattle.std.specs.Prelude.{◌≡◌, ◌⊎◌, map, Some, None, Ok, Err, IfOk, IfErr};
 ghost use Rattle.std.specs.Option.{option_map};
+ghost use Rattle.base64.specs.declared.decode.DecodeError.{DecodeError};
 ghost use Rattle.serde_json.specs.View.{view, items_view};
 ghost use Rattle.mesh_gltf.specs.Buffers.{bytes_seen, base64_in, bytes_of_uri, bytes_by_uri, buffer_in, buffers_from, buffers_of};
 
@@ -46,6 +47,17 @@ fn base64_in(uri: &[u8]) -> Option<&[u8]>
     None
 }
 
+// The fault of this buffer for that of its text.
+fn decoding_fault(index: usize, fault: DecodeAllocError) -> GltfFault
+    ensures failed { (d : DecodeError) → fault ≡ DecodeAllocError.DecodeError d → result ≡ GltfFault.NoBuffer index }
+    ensures memory { fault ≡ DecodeAllocError.OutOfMemory → result ≡ GltfFault.OutOfMemory }
+{
+    match fault {
+        DecodeAllocError::DecodeError(_) => GltfFault::NoBuffer(index),
+        DecodeAllocError::OutOfMemory => GltfFault::OutOfMemory,
+    }
+}
+
 // The bytes of a URI. The fault is that of this buffer.
 fn decoded<'a>(alloc: Global, index: usize, uri: &[u8]) -> Result<Buffer<'a>, GltfFault>
     ensures ok { IfOk result (λ b. bytes_of_uri uri.now ≡ Some (bytes_seen b)) }
@@ -57,8 +69,7 @@ fn decoded<'a>(alloc: Global, index: usize, uri: &[u8]) -> Result<Buffer<'a>, Gl
     };
     match STANDARD.decode(alloc, text) {
         Ok(bytes) => Ok(Buffer::Decoded(bytes)),
-        Err(DecodeAllocError::OutOfMemory) => Err(GltfFault::OutOfMemory),
-        Err(_) => Err(GltfFault::NoBuffer(index)),
+        Err(fault) => Err(decoding_fault(index, fault)),
     }
 }
 
@@ -70,9 +81,9 @@ fn buffer_in<'a>(
     value: &Value,
     chunk: Option<&'a [u8]>,
 ) -> Result<Buffer<'a>, GltfFault>
-    ensures ok { IfOk result (λ b. buffer_in (option_map (λ c. c.now) chunk) index (view value.now) ≡ Ok (bytes_seen b)) }
+    ensures ok { IfOk result (λ b. buffer_in (option_map (λ c. c.now) chunk.entry) index (view value.now) ≡ Ok (bytes_seen b)) }
     ensures fault { IfErr result (λ e. (e ≡ GltfFault.OutOfMemory)
-        ⊎ (buffer_in (option_map (λ c. c.now) chunk) index (view value.now) ≡ Err e)) }
+        ⊎ (buffer_in (option_map (λ c. c.now) chunk.entry) index (view value.now) ≡ Err e)) }
 {
     let Some(uri) = value.get("uri") else {
         return match chunk {
@@ -93,9 +104,9 @@ fn read_buffers<'a>(
     chunk: Option<&'a [u8]>,
 ) -> Result<Vec<Buffer<'a>>, GltfFault>
     ensures ok { IfOk result (λ bs.
-        buffers_from (option_map (λ c. c.now) chunk) 0 (items_view values.now) ≡ Ok (map bytes_seen bs.items)) }
+        buffers_from (option_map (λ c. c.now) chunk.entry) 0 (items_view values.now) ≡ Ok (map bytes_seen bs.items)) }
     ensures fault { IfErr result (λ e. (e ≡ GltfFault.OutOfMemory)
-        ⊎ (buffers_from (option_map (λ c. c.now) chunk) 0 (items_view values.now) ≡ Err e)) }
+        ⊎ (buffers_from (option_map (λ c. c.now) chunk.entry) 0 (items_view values.now) ≡ Err e)) }
 {
     let mut buffers = Vec::new(alloc);
     let mut rest = values;
@@ -117,9 +128,9 @@ pub(crate) fn buffers_of<'a>(
     chunk: Option<&'a [u8]>,
 ) -> Result<Vec<Buffer<'a>>, GltfFault>
     ensures ok { IfOk result (λ bs.
-        buffers_of (option_map (λ c. c.now) chunk) (view document.now) ≡ Ok (map bytes_seen bs.items)) }
+        buffers_of (option_map (λ c. c.now) chunk.entry) (view document.now) ≡ Ok (map bytes_seen bs.items)) }
     ensures fault { IfErr result (λ e. (e ≡ GltfFault.OutOfMemory)
-        ⊎ (buffers_of (option_map (λ c. c.now) chunk) (view document.now) ≡ Err e)) }
+        ⊎ (buffers_of (option_map (λ c. c.now) chunk.entry) (view document.now) ≡ Err e)) }
 {
     let Some(value) = document.get("buffers") else {
         return Ok(Vec::new(alloc));

@@ -24,6 +24,9 @@ pub enum GltfFault {
     /// The document requires the compression of meshoptimizer.
     #[error("meshopt compression")]
     Meshopt,
+    /// The document requires instances of meshes (`EXT_mesh_gpu_instancing`).
+    #[error("instances of meshes")]
+    Instances,
     /// This buffer isn't in the file, or its URI isn't base64.
     #[error("buffer {0} isn't in the file")]
     NoBuffer(usize),

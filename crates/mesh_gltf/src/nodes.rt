@@ -6,7 +6,7 @@ ghost use Rattle.serde_json.specs.Find.{get};
 ghost use Rattle.serde_json.specs.View.{view, items_view};
 ghost use Rattle.mesh_gltf.specs.Buffers.{bytes_seen};
 ghost use Rattle.mesh_gltf.specs.Members.{naturals, naturals_at};
-ghost use Rattle.mesh_gltf.specs.Nodes.{is_number, are_numbers, is_missing_or, is_still, primitives_of, with_primitives, with_mesh, with_node, children_of, with_nodes, nodes_count, roots_of, scene_content};
+ghost use Rattle.mesh_gltf.specs.Nodes.{is_number, are_numbers, is_missing_or, is_still, primitives_of, with_primitives, with_node, children_of, with_nodes, count_of, nodes_count, roots_of, scene_content};
 
 use crate::buffers::Buffer;
 use crate::fault::GltfFault;
@@ -39,6 +39,7 @@ fn is_number(number: f64, value: &Value) -> bool
 }
 
 // Whether the values are these numbers.
+#[tactic(auto, using(crate::proofs::Numbers::none_wanted))]
 fn are_numbers(numbers: &[f64], values: &[Value]) -> bool
     ensures { result ≡ are_numbers numbers.now (items_view values.now) }
 {
@@ -58,6 +59,7 @@ fn are_numbers(numbers: &[f64], values: &[Value]) -> bool
 }
 
 // Whether the member of this name is missing, or a list of these numbers.
+#[tactic(auto, unfolding(crate::specs::Nodes::is_missing_or))]
 fn is_missing_or(numbers: &[f64], node: &Value, key: &str) -> bool
     ensures { result ≡ is_missing_or numbers.now (get key.now (view node.now)) }
 {
@@ -209,14 +211,34 @@ fn fault_or(not_natural: GltfFault, fault: NoNumbers) -> GltfFault
     }
 }
 
+// How many items there are.
+#[tactic(auto, using(crate::proofs::Counts::items_counted))]
+fn count_of(values: &[Value]) -> usize
+    ensures { result ≡ count_of (items_view values.now) }
+{
+    values.len()
+}
+
 // How many nodes a document has.
 #[tactic(auto, unfolding(crate::specs::Nodes::nodes_count))]
 fn nodes_count(document: &Value) -> usize
     ensures { result ≡ nodes_count (view document.now) }
 {
     match document.get("nodes").and_then(Value::as_array) {
-        Some(values) => values.len(),
+        Some(values) => count_of(values.as_slice()),
         None => 0,
+    }
+}
+
+// Appends the children of the node with this index.
+fn push_children(waiting: &mut Vec<u32>, index: u32, node: &Value) -> Result<(), GltfFault>
+    ensures ok { OnOk result ((ns : List ℕ) × (children_of index (view node.now) ≡ Ok ns)
+        × (waiting.new.items ≡ waiting.old.items ++ ns)) }
+    ensures fault { IfErr result (λ e. (e ≡ GltfFault.OutOfMemory) ⊎ (children_of index (view node.now) ≡ Err e)) }
+{
+    match push_naturals_at(waiting, node, "children") {
+        Ok(()) => Ok(()),
+        Err(fault) => Err(fault_or(GltfFault::Node(index), fault)),
     }
 }
 
@@ -247,9 +269,7 @@ fn add_nodes<'a>(
             return Err(GltfFault::Node(index));
         };
         add_node(surface, corners, index, document, buffers, node)?;
-        if let Err(fault) = push_naturals_at(waiting, node, "children") {
-            return Err(fault_or(GltfFault::Node(index), fault));
-        }
+        push_children(waiting, index, node)?;
         done += 1;
     }
     Ok(())

@@ -4,7 +4,7 @@ ghost use Rattle.mesh_read.specs.Surface.Surfaces.{point_of};
 ghost use Rattle.serde_json.specs.View.{view};
 ghost use Rattle.mesh_gltf.specs.Buffers.{bytes_seen};
 ghost use Rattle.mesh_gltf.specs.Windows.{is_inside};
-ghost use Rattle.mesh_gltf.specs.Primitives.{and_then, elements_of, positions_at, points_in};
+ghost use Rattle.mesh_gltf.specs.Primitives.{elements_seen, elements_of, positions_at, points_in, AreAdded};
 
 use crate::buffers::Buffer;
 use crate::bytes::read_point;
@@ -37,7 +37,7 @@ pub(crate) fn elements_of<'b>(
     accessor: &Value,
 ) -> Result<Elements<'b>, GltfFault>
     ensures ok { IfOk result (λ e. elements_of size index (view document.now) (map bytes_seen buffers.now) (view accessor.now)
-        ≡ Ok (record { window = e.window; bytes = e.bytes.now })) }
+        ≡ Ok (elements_seen e)) }
     ensures inside { IfOk result (λ e. is_inside size e.window e.bytes.now ≡ true) }
     ensures fault { IfErr result (λ e.
         elements_of size index (view document.now) (map bytes_seen buffers.now) (view accessor.now) ≡ Err e) }
@@ -61,7 +61,7 @@ pub(crate) fn positions_at<'b>(
     buffers: &'b [Buffer],
 ) -> Result<Elements<'b>, GltfFault>
     ensures ok { IfOk result (λ e. positions_at index (view document.now) (map bytes_seen buffers.now)
-        ≡ Ok (record { window = e.window; bytes = e.bytes.now })) }
+        ≡ Ok (elements_seen e)) }
     ensures inside { IfOk result (λ e. is_inside 12 e.window e.bytes.now ≡ true) }
     ensures fault { IfErr result (λ e.
         positions_at index (view document.now) (map bytes_seen buffers.now) ≡ Err e) }
@@ -83,10 +83,10 @@ pub(crate) fn push_points<'a>(
     elements: Elements,
 ) -> Result<(), GltfFault>
     requires { is_inside 12 elements.window elements.bytes.now ≡ true }
-    ensures ok { OnOk result (and_then (points_in index (record { window = elements.window; bytes = elements.bytes.now }))
-        (λ ps. Ok (map point_of vertices.old.items ++ ps)) ≡ Ok (map point_of vertices.new.items)) }
+    ensures ok { OnOk result (AreAdded index (elements_seen elements.entry)
+        (map point_of vertices.old.items) (map point_of vertices.new.items)) }
     ensures fault { IfErr result (λ e. (e ≡ GltfFault.OutOfMemory)
-        ⊎ (points_in index (record { window = elements.window; bytes = elements.bytes.now }) ≡ Err e)) }
+        ⊎ (points_in index (elements_seen elements.entry) ≡ Err e)) }
 {
     let window = elements.window;
     let mut element = 0;

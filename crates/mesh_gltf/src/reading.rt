@@ -3,7 +3,7 @@ ghost use Rattle.std.specs.Prelude.{◌≡◌, ◌⊎◌, ◌≤◌, length, map
 ghost use Rattle.std.specs.Option.{option_map};
 ghost use Rattle.mesh_read.specs.Surface.Surfaces.{IsSurface, content_of};
 ghost use Rattle.serde_json.specs.View.{view, items_view};
-ghost use Rattle.mesh_gltf.specs.ReadGltf.{has_text, requires as needs, document_content, content_in, read_gltf_of};
+ghost use Rattle.mesh_gltf.specs.ReadGltf.{has_text, needs, document_content, content_in, read_gltf_of};
 
 use crate::buffers::buffers_of;
 use crate::chunks::chunks_of;
@@ -30,7 +30,7 @@ fn has_text(values: &[Value], wanted: &str) -> bool
 }
 
 // Whether the document can't be read without this extension.
-#[tactic(auto, unfolding(crate::specs::ReadGltf::requires))]
+#[tactic(auto, unfolding(crate::specs::ReadGltf::needs))]
 fn needs(document: &Value, extension: &str) -> bool
     ensures { result ≡ needs extension.now (view document.now) }
 {
@@ -48,15 +48,18 @@ fn read_document<'a>(
     chunk: Option<&[u8]>,
 ) -> Result<Surface<'a>, GltfFault>
     ensures ok { IfOk result (λ s.
-        document_content (option_map (λ c. c.now) chunk) (view document.now) ≡ Ok (content_of s)) }
+        document_content (option_map (λ c. c.now) chunk.entry) (view document.now) ≡ Ok (content_of s)) }
     ensures fault { IfErr result (λ e. (e ≡ GltfFault.OutOfMemory)
-        ⊎ (document_content (option_map (λ c. c.now) chunk) (view document.now) ≡ Err e)) }
+        ⊎ (document_content (option_map (λ c. c.now) chunk.entry) (view document.now) ≡ Err e)) }
 {
     if needs(document, "KHR_draco_mesh_compression") {
         return Err(GltfFault::Draco);
     }
     if needs(document, "EXT_meshopt_compression") {
         return Err(GltfFault::Meshopt);
+    }
+    if needs(document, "EXT_mesh_gpu_instancing") {
+        return Err(GltfFault::Instances);
     }
     let buffers = buffers_of(alloc, document, chunk)?;
     let mut surface = Surface {
@@ -82,6 +85,17 @@ fn read_content<'a>(alloc: Global, bytes: &[u8]) -> Result<Surface<'a>, GltfFaul
     }
 }
 
+// The surface of a file, if it is a mesh.
+#[tactic(auto, using(mesh_read::proofs::Flaws::mesh_found, mesh_read::proofs::Flaws::mesh_refused))]
+fn read_mesh<'a>(alloc: Global, bytes: &[u8]) -> Result<Surface<'a>, GltfFault>
+    requires { length bytes.now ≤ 268435456 }
+    ensures ok { IfOk result (λ s. read_gltf_of bytes.now ≡ Ok (content_of s)) }
+    ensures fault { IfErr result (λ e. (e ≡ GltfFault.OutOfMemory) ⊎ (read_gltf_of bytes.now ≡ Err e)) }
+{
+    let surface = read_content(alloc, bytes)?;
+    Ok(as_mesh(surface)?)
+}
+
 /// The vertices and triangles of a glTF 2.0 document, or its first fault.
 ///
 /// A file that begins with `glTF` is a GLB: a chunk of JSON, and maybe a binary chunk. Any other
@@ -94,14 +108,14 @@ fn read_content<'a>(alloc: Global, bytes: &[u8]) -> Result<Surface<'a>, GltfFaul
 /// that number is their place.
 ///
 /// A node with a transform other than the identity is refused, as are sparse accessors and documents
-/// that require the compression of Draco or meshoptimizer. Other extensions, normals, colours,
+/// that require the compression of Draco or meshoptimizer, or instances. Other extensions, normals, colours,
 /// textures, skins, cameras and animations are passed over. There are at most 2^24 points and 2^24
 /// corners of triangles, and at most 2^28 bytes.
 pub fn read_gltf<'a>(alloc: Global, bytes: &[u8]) -> Result<Surface<'a>, GltfFault>
     requires { length bytes.now ≤ 268435456 }
     ensures ok { IfOk result (λ s. read_gltf_of bytes.now ≡ Ok (content_of s)) }
+    ensures surface { IfOk result IsSurface }
     ensures fault { IfErr result (λ e. (e ≡ GltfFault.OutOfMemory) ⊎ (read_gltf_of bytes.now ≡ Err e)) }
 {
-    let surface = read_content(alloc, bytes)?;
-    Ok(as_mesh(surface)?)
+    read_mesh(alloc, bytes)
 }

@@ -6,7 +6,10 @@ use mesh_write::{FloatPoint, WrittenTriangle, glb_bytes};
 use std::alloc::{AllocError, Global};
 use std::test::Fail;
 
-// Four points, (0, 0, 0), (1, 0, 0), (0, 1, 0) and (0.5, 0.25, -3), and their indices as bytes.
+// Four points, (0, 0, 0), (1, 0, 0), (0, 1, 0) and (0.5, 0.25, -3), and their indices as bytes. In
+// Python the texts of the buffers are
+// base64.b64encode(struct.pack("<12f", 0, 0, 0, 1, 0, 0, 0, 1, 0, 0.5, 0.25, -3)) and
+// base64.b64encode(bytes([0, 1, 2, 3])).
 const DOCUMENT: &str = "{\"asset\":{\"version\":\"2.0\"},\"scenes\":[{\"nodes\":[1]}],\
     \"nodes\":[{\"mesh\":0,\"translation\":[0,0.0,-0.0]},{\"children\":[0],\"scale\":[1,1.0,1]}],\
     \"meshes\":[{\"primitives\":[{\"mode\":1},\
@@ -68,17 +71,16 @@ fn documents_that_are_read(rt: HostRuntime) -> Result<(), Fail> {
         ("\"mode\":5,", "\"mode\":6,", (4, 2)),
         ("\"mode\":5,", "", (4, 1)),
         ("\"indices\":1,", "", (4, 2)),
-        ("\"nodes\":[1]", "\"nodes\":[1,0]", (4, 2)),
-        ("5121,", "5123,", (4, 0)),
+        (
+            "\"byteLength\":4}",
+            "\"byteLength\":4,\"byteStride\":1}",
+            (4, 2),
+        ),
+        ("\"count\":4}]", "\"count\":3}]", (4, 1)),
     ];
     for (old, new, want) in rows {
         let text = changed(rt.alloc(), old, new)?;
-        let found = count(rt.alloc(), text.as_bytes());
-        if want.1 > 0 && old != "\"nodes\":[1]" {
-            assert_eq!(rt; found, Ok(want));
-        } else {
-            assert!(rt; found.is_err());
-        }
+        assert_eq!(rt; count(rt.alloc(), text.as_bytes()), Ok(want));
     }
     Ok(())
 }
@@ -97,6 +99,11 @@ fn documents_that_are_refused(rt: HostRuntime) -> Result<(), Fail> {
             "{\"extensionsRequired\":[\"EXT_meshopt_compression\"],\"asset\"",
             GltfFault::Meshopt,
         ),
+        (
+            "{\"asset\"",
+            "{\"extensionsRequired\":[\"EXT_mesh_gpu_instancing\"],\"asset\"",
+            GltfFault::Instances,
+        ),
         ("AAECAw==", "AAECA", GltfFault::NoBuffer(1)),
         (
             "application/gltf-buffer",
@@ -104,6 +111,14 @@ fn documents_that_are_refused(rt: HostRuntime) -> Result<(), Fail> {
             GltfFault::NoBuffer(1),
         ),
         ("\"scenes\"", "\"scene\":1,\"scenes\"", GltfFault::NoScene),
+        // There are two nodes, and three come.
+        (
+            "\"nodes\":[1]",
+            "\"nodes\":[1,0]",
+            GltfFault::TwiceInScene(0),
+        ),
+        // Indices of two bytes have no room in the buffer.
+        ("5121,", "5123,", GltfFault::Accessor(1)),
         ("\"children\":[0]", "\"children\":[2]", GltfFault::Node(2)),
         (
             "\"children\":[0]",
