@@ -5,7 +5,9 @@ pub mod Counts
 pub mod Decodings
 pub mod ItemSteps
 pub mod PointSteps
+pub mod PrimitiveSteps
+pub mod TriangleCounts
 pub mod CornerSteps
 pub mod NodeSteps
 pub mod Soundness
-pub mod Numbers
+pub mod Zeros

@@ -4,8 +4,8 @@ use Rattle.std.proofs.Common.{Option, None, Some, Result, Ok, Err, map}
 use Rattle.std.proofs.lemmas.List.{map-append, append-nil}
 use Rattle.mesh_gltf.specs.declared.fault.GltfFault.{GltfFault}
 use Rattle.mesh_gltf.specs.declared.buffers.Buffer.{Buffer}
-use Rattle.mesh_gltf.specs.Buffers.{bytes_seen, before}
-use Rattle.mesh_gltf.specs.Heads.{with_head}
+use Rattle.mesh_gltf.specs.Buffers.{bytes_seen}
+use Rattle.mesh_gltf.specs.Heads.{with_head, with_first}
 
 -- what was read, and then what is left to read
 abbrev pub behind : {A : Type 0} → List A → Option (List A) → Option (List A)
@@ -32,9 +32,15 @@ pub element_added : {A : Type 0} (items new : List A) (a : A) (more : Option (Li
 element_added items new a None is = refl
 element_added items new a (Some more) is = ap (λ xs. Some xs) (sym (append_assoc items (a ∷ []) more) ∙ ap (λ xs. xs ++ more) (sym is))
 
+-- the same where there may be faults
+pub element_added_ok : {A : Type 0} (items new : List A) (a : A) (more : Result (List A) GltfFault) → new ≡ items ++ a ∷ [] →
+    behind_ok items (with_first (Ok a) more) ≡ behind_ok new more
+element_added_ok items new a (Err fault) is = refl
+element_added_ok items new a (Ok more) is = ap (λ xs. Ok xs) (sym (append_assoc items (a ∷ []) more) ∙ ap (λ xs. xs ++ more) (sym is))
+
 -- one buffer more
 pub buffer_added : (items new : List Buffer) (b : Buffer) (more : Result (List (List ℕ)) GltfFault) → new ≡ items ++ b ∷ [] →
-    behind_ok (map bytes_seen items) (before (Ok (bytes_seen b)) more) ≡ behind_ok (map bytes_seen new) more
+    behind_ok (map bytes_seen items) (with_first (Ok (bytes_seen b)) more) ≡ behind_ok (map bytes_seen new) more
 buffer_added items new b (Err fault) is = refl
 buffer_added items new b (Ok more) is =
     ap (λ xs. Ok xs) (sym (append_assoc (map bytes_seen items) (bytes_seen b ∷ []) more)
@@ -57,3 +63,13 @@ read_behind items new (Some more) is = (more, refl, cc)
 pub none_behind : {A : Type 0} (items : List A) (o : Option (List A)) → behind items o ≡ None → o ≡ None
 none_behind items None is = refl
 none_behind items (Some more) is = cc
+
+-- the same where there may be faults
+pub read_behind_ok : {A : Type 0} (items new : List A) (r : Result (List A) GltfFault) → behind_ok items r ≡ Ok new →
+    (more : List A) × (r ≡ Ok more) × (new ≡ items ++ more)
+read_behind_ok items new (Err fault) is = cc
+read_behind_ok items new (Ok more) is = (more, refl, cc)
+
+pub fault_behind : {A : Type 0} (items : List A) (r : Result (List A) GltfFault) (fault : GltfFault) → behind_ok items r ≡ Err fault → r ≡ Err fault
+fault_behind items (Err e) fault is = is
+fault_behind items (Ok more) fault is = cc

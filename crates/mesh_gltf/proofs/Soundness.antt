@@ -13,8 +13,11 @@ use Rattle.mesh_gltf.specs.declared.corners.IndexSize.{IndexSize}
 use Rattle.mesh_gltf.specs.declared.triangles.Topology.{Topology}
 use Rattle.mesh_gltf.specs.declared.triangles.Topology.TheVariants.{Triangles, Strip, Fan}
 use Rattle.mesh_gltf.specs.declared.windows.Window.{Window}
+use Rattle.mesh_gltf.specs.declared.placing.Placement.{Placement}
+use Rattle.mesh_gltf.specs.declared.placing.Placement.TheVariants.{Plain}
+use Rattle.mesh_gltf.specs.declared.placing.Spot.{Spot}
 use Rattle.mesh_gltf.specs.declared.fault.GltfFault.{GltfFault}
-use Rattle.mesh_gltf.specs.declared.fault.GltfFault.TheVariants.{Accessor, Node, Mesh, Transform, NoScene, NoSuchVertex, TooMany, NoJson, Draco, Meshopt, Instances}
+use Rattle.mesh_gltf.specs.declared.fault.GltfFault.TheVariants.{Accessor, Node, Mesh, NoScene, NoSuchVertex, TooMany, NoJson, Draco, Meshopt, Instances}
 use Rattle.mesh_gltf.specs.Bytes.{bytes_of}
 use Rattle.mesh_gltf.specs.Heads.{with_head}
 use Rattle.mesh_gltf.specs.Members.{natural_at, natural_or, item_in}
@@ -24,7 +27,7 @@ use Rattle.mesh_gltf.specs.Corners.{corner_of, corners_from, corners_in, corners
 use Rattle.mesh_gltf.specs.Triangles.{triangle, of_list, of_strip, of_fan, triangles_of}
 use Rattle.mesh_gltf.specs.Primitives.{and_then, or_fault, elements_of, accessor_in, positions_at, points_in, component_of, indexed, corners_by, corners_of}
 use Rattle.mesh_gltf.specs.Primitives.{topology_of, unless_many, with_triangles, with_points, with_positions, with_topology, with_primitive}
-use Rattle.mesh_gltf.specs.Nodes.{is_still, with_primitives, primitives_of, with_mesh, by_mesh, with_node, children_of, with_nodes}
+use Rattle.mesh_gltf.specs.Nodes.{with_primitives, primitives_of, with_mesh, by_mesh, with_node, spot_of, below, children_of, with_nodes}
 use Rattle.mesh_gltf.specs.Nodes.{nodes_count, roots_of, scene_content}
 use Rattle.mesh_gltf.specs.ReadGltf.{needs, nothing, document_content, json_value, content_in}
 
@@ -181,66 +184,62 @@ points_sound mesh document buffers primitive topology content points h =
     unless_sound IsSound (length content.facets + length corners) (with_triangles content points topology corners)
     (triangles_sound content points topology corners h hs))
 
-positions_sound : (mesh index : ℕ) (document : Data) (buffers : List (List ℕ)) (primitive : Data) (topology : Topology)
+positions_sound : (mesh index : ℕ) (placement : Placement) (document : Data) (buffers : List (List ℕ)) (primitive : Data) (topology : Topology)
     (content : Content) → IsSound content →
-    IfOk (with_positions mesh index document buffers primitive topology content) IsSound
-positions_sound mesh index document buffers primitive topology content h =
+    IfOk (with_positions mesh index placement document buffers primitive topology content) IsSound
+positions_sound mesh index placement document buffers primitive topology content h =
     then_always IsSound (positions_at index document buffers) _ (λ e.
     then_always IsSound (unless_many (length content.points + e.window.count) e) _ (λ e.
-    then_always IsSound (points_in index e) _ (λ points.
+    then_always IsSound (points_in index placement e) _ (λ points.
     points_sound mesh document buffers primitive topology content points h)))
 
-topology_sound : (mesh : ℕ) (document : Data) (buffers : List (List ℕ)) (primitive : Data) (content : Content)
+topology_sound : (mesh : ℕ) (placement : Placement) (document : Data) (buffers : List (List ℕ)) (primitive : Data) (content : Content)
     (topology : Option Topology) → IsSound content →
-    IfOk (with_topology mesh document buffers primitive content topology) IsSound
+    IfOk (with_topology mesh placement document buffers primitive content topology) IsSound
 unfolding with_topology
-topology_sound mesh document buffers primitive content None h = h
-topology_sound mesh document buffers primitive content (Some topology) h =
+topology_sound mesh placement document buffers primitive content None h = h
+topology_sound mesh placement document buffers primitive content (Some topology) h =
     then_always IsSound (or_fault (Mesh mesh) (option_and_then (natural_at (codes "POSITION")) (get (codes "attributes") primitive))) _
-    (λ index. positions_sound mesh index document buffers primitive topology content h)
+    (λ index. positions_sound mesh index placement document buffers primitive topology content h)
 
-primitive_sound : (mesh : ℕ) (document : Data) (buffers : List (List ℕ)) (content : Content) (primitive : Data) →
-    IsSound content → IfOk (with_primitive mesh document buffers content primitive) IsSound
+primitive_sound : (mesh : ℕ) (placement : Placement) (document : Data) (buffers : List (List ℕ)) (content : Content) (primitive : Data) →
+    IsSound content → IfOk (with_primitive mesh placement document buffers content primitive) IsSound
 unfolding with_primitive
-primitive_sound mesh document buffers content primitive h =
+primitive_sound mesh placement document buffers content primitive h =
     then_always IsSound (or_fault (Mesh mesh) (option_and_then topology_of (natural_or 4 (codes "mode") primitive))) _
-    (λ topology. topology_sound mesh document buffers primitive content topology h)
+    (λ topology. topology_sound mesh placement document buffers primitive content topology h)
 
-primitives_sound : (mesh : ℕ) (document : Data) (buffers : List (List ℕ)) (content : Content) (ds : Items) →
-    IsSound content → IfOk (with_primitives mesh document buffers content ds) IsSound
-primitives_sound mesh document buffers content no_items h = h
-primitives_sound mesh document buffers content (item d ds) h =
-    then_holds IsSound IsSound (with_primitive mesh document buffers content d) (λ c. with_primitives mesh document buffers c ds)
-    (primitive_sound mesh document buffers content d h) (λ c hc. primitives_sound mesh document buffers c ds hc)
+primitives_sound : (mesh : ℕ) (placement : Placement) (document : Data) (buffers : List (List ℕ)) (content : Content) (ds : Items) →
+    IsSound content → IfOk (with_primitives mesh placement document buffers content ds) IsSound
+primitives_sound mesh placement document buffers content no_items h = h
+primitives_sound mesh placement document buffers content (item d ds) h =
+    then_holds IsSound IsSound (with_primitive mesh placement document buffers content d) (λ c. with_primitives mesh placement document buffers c ds)
+    (primitive_sound mesh placement document buffers content d h) (λ c hc. primitives_sound mesh placement document buffers c ds hc)
 
-by_mesh_sound : (index : ℕ) (document : Data) (buffers : List (List ℕ)) (content : Content) (member : Option Data) (mesh : Option ℕ) →
-    IsSound content → IfOk (by_mesh index document buffers content member mesh) IsSound
-by_mesh_sound index document buffers content None mesh h = h
-by_mesh_sound index document buffers content (Some member) None h = tt
-by_mesh_sound index document buffers content (Some member) (Some mesh) h =
+by_mesh_sound : (spot : Spot) (document : Data) (buffers : List (List ℕ)) (content : Content) (member : Option Data) (mesh : Option ℕ) →
+    IsSound content → IfOk (by_mesh spot document buffers content member mesh) IsSound
+by_mesh_sound spot document buffers content None mesh h = h
+by_mesh_sound spot document buffers content (Some member) None h = tt
+by_mesh_sound spot document buffers content (Some member) (Some mesh) h =
     then_always IsSound (or_fault (Mesh mesh) (primitives_of mesh document)) _
-    (λ ds. primitives_sound mesh document buffers content ds h)
+    (λ ds. primitives_sound mesh spot.placement document buffers content ds h)
 
-node_sound : (index : ℕ) (document : Data) (buffers : List (List ℕ)) (content : Content) (node : Data) →
-    IsSound content → IfOk (with_node index document buffers content node) IsSound
+node_sound : (spot : Spot) (document : Data) (buffers : List (List ℕ)) (content : Content) (node : Data) →
+    IsSound content → IfOk (with_node spot document buffers content node) IsSound
 unfolding with_node
-node_sound index document buffers content node h =
-    elim (is_still node) as (λ (t : Bool). IfOk (if t then by_mesh index document buffers content (get (codes "mesh") node)
-    (natural_at (codes "mesh") node) else Err (Transform index)) IsSound) [
-      | true ↦ by_mesh_sound index document buffers content (get (codes "mesh") node) (natural_at (codes "mesh") node) h
-      | false ↦ tt
-    ]
+node_sound spot document buffers content node h =
+    by_mesh_sound spot document buffers content (get (codes "mesh") node) (natural_at (codes "mesh") node) h
 
-nodes_sound : (left : ℕ) (document : Data) (buffers : List (List ℕ)) (waiting : List ℕ) (content : Content) →
+nodes_sound : (left : ℕ) (document : Data) (buffers : List (List ℕ)) (waiting : List Spot) (content : Content) →
     IsSound content → IfOk (with_nodes left document buffers waiting content) IsSound
 nodes_sound zero document buffers [] content h = h
 nodes_sound (suc left) document buffers [] content h = h
-nodes_sound zero document buffers (index ∷ waiting) content h = tt
-nodes_sound (suc left) document buffers (index ∷ waiting) content h =
-    then_always IsSound (or_fault (Node index) (item_in (codes "nodes") index document)) _ (λ node.
-    then_holds IsSound IsSound (with_node index document buffers content node) _
-    (node_sound index document buffers content node h) (λ c hc.
-    then_always IsSound (children_of index node) _ (λ children.
+nodes_sound zero document buffers (spot ∷ waiting) content h = tt
+nodes_sound (suc left) document buffers (spot ∷ waiting) content h =
+    then_always IsSound (or_fault (Node spot.node) (item_in (codes "nodes") spot.node document)) _ (λ node.
+    then_holds IsSound IsSound (with_node (spot_of spot node) document buffers content node) _
+    (node_sound (spot_of spot node) document buffers content node h) (λ c hc.
+    then_always IsSound (children_of (spot_of spot node) node) _ (λ children.
     nodes_sound left document buffers (waiting ++ children) c hc)))
 
 scene_sound : (document : Data) (buffers : List (List ℕ)) (content : Content) → IsSound content →
@@ -248,7 +247,7 @@ scene_sound : (document : Data) (buffers : List (List ℕ)) (content : Content) 
 unfolding scene_content
 scene_sound document buffers content h =
     then_always IsSound (or_fault NoScene (roots_of document)) _ (λ roots.
-    nodes_sound (nodes_count document) document buffers roots content h)
+    nodes_sound (nodes_count document) document buffers (below Plain roots) content h)
 
 required_sound : (required : Bool) (fault : GltfFault) (r : Result Content GltfFault) → IfOk r IsSound →
     IfOk (if required then Err fault else r) IsSound

@@ -10,6 +10,7 @@ use Rattle.mesh_gltf.specs.declared.buffers.Buffer.{Buffer}
 use Rattle.mesh_gltf.specs.declared.buffers.Buffer.TheVariants.{Chunk, Decoded}
 use Rattle.mesh_gltf.specs.declared.fault.GltfFault.{GltfFault}
 use Rattle.mesh_gltf.specs.declared.fault.GltfFault.TheVariants.{NoBuffer}
+use Rattle.mesh_gltf.specs.Heads.{with_first}
 
 -- the bytes of a buffer that code has in hand
 abbrev pub bytes_seen : Buffer → List ℕ
@@ -48,15 +49,10 @@ buffer_or_fault index (Some bytes) = Ok bytes
 unfoldable pub buffer_in : Option (List ℕ) → ℕ → Data → Result (List ℕ) GltfFault
 buffer_in chunk index buffer = buffer_or_fault index (bytes_by_uri chunk (get (codes "uri") buffer))
 
-abbrev pub before : Result (List ℕ) GltfFault → Result (List (List ℕ)) GltfFault → Result (List (List ℕ)) GltfFault
-before (Err fault) more = Err fault
-before (Ok bytes) (Err fault) = Err fault
-before (Ok bytes) (Ok more) = Ok (bytes ∷ more)
-
 -- the bytes of buffers, of which the first has this index
 abbrev pub buffers_from : Option (List ℕ) → ℕ → Items → Result (List (List ℕ)) GltfFault
 buffers_from chunk index no_items = Ok []
-buffers_from chunk index (item d ds) = before (buffer_in chunk index d) (buffers_from chunk (index + 1) ds)
+buffers_from chunk index (item d ds) = with_first (buffer_in chunk index d) (buffers_from chunk (index + 1) ds)
 
 abbrev pub buffers_or_fault : Option (List ℕ) → Option Items → Result (List (List ℕ)) GltfFault
 buffers_or_fault chunk None = Err (NoBuffer 0)

@@ -5,6 +5,9 @@ pub mod Members
 pub mod Buffers
 pub mod Windows
 pub mod Corners
+pub mod Exact
+pub mod Placings
+pub mod Transforms
 pub mod Triangles
 pub mod Primitives
 pub mod Nodes

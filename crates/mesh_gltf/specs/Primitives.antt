@@ -1,6 +1,7 @@
 -- What a primitive of a mesh adds: points, and triangles over them
 use Rattle.std.specs.Prelude.{◌≡◌, ℕ, zero, suc, ◌+◌, ◌*◌, ◌^◌, List, [], ◌++◌, length, codes, nat_le, if◌then◌else◌, ◌==◌}
 use Rattle.std.specs.Prelude.{Option, None, Some, option_and_then, Result, Ok, Err, slice_get}
+use Rattle.std.specs.Option.{option_map}
 use Rattle.mesh_read.specs.Surface.Surfaces.{Point, Content}
 use Rattle.mesh_read.specs.Stl.Binary.{point_at}
 use Rattle.serde_json.specs.Data.{Data}
@@ -10,11 +11,14 @@ use Rattle.mesh_gltf.specs.declared.triangles.Topology.{Topology}
 use Rattle.mesh_gltf.specs.declared.triangles.Topology.TheVariants.{Triangles, Strip, Fan}
 use Rattle.mesh_gltf.specs.declared.windows.Window.{Window}
 use Rattle.mesh_gltf.specs.declared.points.Elements as code
+use Rattle.mesh_gltf.specs.declared.placing.Placement.{Placement}
+use Rattle.mesh_gltf.specs.declared.placing.Placement.TheVariants.{Plain, At, Inexact}
 use Rattle.mesh_gltf.specs.declared.fault.GltfFault.{GltfFault}
-use Rattle.mesh_gltf.specs.declared.fault.GltfFault.TheVariants.{Accessor, Mesh, NotFinite, NoSuchVertex, TooMany}
+use Rattle.mesh_gltf.specs.declared.fault.GltfFault.TheVariants.{Accessor, Transform, Mesh, NotFinite, NoSuchVertex, TooMany}
 use Rattle.mesh_gltf.specs.Bytes.{bytes_of}
-use Rattle.mesh_gltf.specs.Heads.{with_head}
+use Rattle.mesh_gltf.specs.Heads.{with_first}
 use Rattle.mesh_gltf.specs.Members.{natural_at, natural_or, item_in}
+use Rattle.mesh_gltf.specs.Placings.{exact_point_of, exact_point_at, placed}
 use Rattle.mesh_gltf.specs.Windows.{is_kind, is_inside, dense_window}
 use Rattle.mesh_gltf.specs.Corners.{size_of_type, corners_in, corners_in_row}
 use Rattle.mesh_gltf.specs.Triangles.{triangles_of}
@@ -64,20 +68,29 @@ unfoldable pub positions_at : ℕ → Data → List (List ℕ) → Result Elemen
 positions_at index document buffers =
     and_then (accessor_in index document) (λ accessor. positions_of index document buffers accessor)
 
--- n points, from one on; none if a coordinate isn't finite
-abbrev pub points_from : Elements → ℕ → ℕ → Option (List Point)
-points_from e index zero = Some []
-points_from e index (suc left) =
-    with_head (point_at e.bytes (e.window.start + e.window.stride * index)) (points_from e (index + 1) left)
+-- a point of a node that is placed so
+abbrev pub point_in : ℕ → Placement → List ℕ → ℕ → Result Point GltfFault
+point_in index Plain bytes at = or_fault (NotFinite index) (point_at bytes at)
+point_in index (At node placing) bytes at =
+    and_then (or_fault (NotFinite index) (exact_point_at bytes at)) (λ p.
+    or_fault (Transform node) (option_map exact_point_of (placed placing p)))
+point_in index (Inexact node) bytes at = Err (Transform node)
+
+-- n points, from one on, or the fault of the first that has one
+abbrev pub points_from : ℕ → Placement → Elements → ℕ → ℕ → Result (List Point) GltfFault
+points_from index placement e element zero = Ok []
+points_from index placement e element (suc left) =
+    with_first (point_in index placement e.bytes (e.window.start + e.window.stride * element))
+    (points_from index placement e (element + 1) left)
 
 -- all points of the accessor with this index
-unfoldable pub points_in : ℕ → Elements → Result (List Point) GltfFault
-points_in index e = or_fault (NotFinite index) (points_from e 0 e.window.count)
+unfoldable pub points_in : ℕ → Placement → Elements → Result (List Point) GltfFault
+points_in index placement e = points_from index placement e 0 e.window.count
 
 -- `new` has all of them behind what `old` has
-pub record AreAdded (index : ℕ) (e : Elements) (old new : List Point) : Type 0 where
+pub record AreAdded (index : ℕ) (placement : Placement) (e : Elements) (old new : List Point) : Type 0 where
   pub points : List Point
-  pub read : points_in index e ≡ Ok points
+  pub read : points_in index placement e ≡ Ok points
   pub behind_old : new ≡ old ++ points
   pub counted : length points ≡ e.window.count
 
@@ -135,22 +148,22 @@ with_points mesh document buffers primitive topology content points =
     unless_many (length content.facets + length corners) (with_triangles content points topology corners))
 
 -- the content with the triangles of a primitive whose points are in the accessor with this index
-abbrev pub with_positions : ℕ → ℕ → Data → List (List ℕ) → Data → Topology → Content → Result Content GltfFault
-with_positions mesh index document buffers primitive topology content =
+abbrev pub with_positions : ℕ → ℕ → Placement → Data → List (List ℕ) → Data → Topology → Content → Result Content GltfFault
+with_positions mesh index placement document buffers primitive topology content =
     and_then (positions_at index document buffers) (λ e.
     and_then (unless_many (length content.points + e.window.count) e) (λ e.
-    and_then (points_in index e) (λ points.
+    and_then (points_in index placement e) (λ points.
     with_points mesh document buffers primitive topology content points)))
 
-unfoldable pub with_topology : ℕ → Data → List (List ℕ) → Data → Content → Option Topology → Result Content GltfFault
-with_topology mesh document buffers primitive content None = Ok content
-with_topology mesh document buffers primitive content (Some topology) =
+unfoldable pub with_topology : ℕ → Placement → Data → List (List ℕ) → Data → Content → Option Topology → Result Content GltfFault
+with_topology mesh placement document buffers primitive content None = Ok content
+with_topology mesh placement document buffers primitive content (Some topology) =
     and_then
     (or_fault (Mesh mesh) (option_and_then (natural_at (codes "POSITION")) (get (codes "attributes") primitive)))
-    (λ index. with_positions mesh index document buffers primitive topology content)
+    (λ index. with_positions mesh index placement document buffers primitive topology content)
 
 -- the content with a primitive of the mesh with this index
-unfoldable pub with_primitive : ℕ → Data → List (List ℕ) → Content → Data → Result Content GltfFault
-with_primitive mesh document buffers content primitive =
+unfoldable pub with_primitive : ℕ → Placement → Data → List (List ℕ) → Content → Data → Result Content GltfFault
+with_primitive mesh placement document buffers content primitive =
     and_then (or_fault (Mesh mesh) (option_and_then topology_of (natural_or 4 (codes "mode") primitive))) (λ topology.
-    with_topology mesh document buffers primitive content topology)
+    with_topology mesh placement document buffers primitive content topology)

@@ -39,8 +39,8 @@ pub enum GltfFault {
     /// This node has two parents, or is below itself.
     #[error("node {0}: twice in the scene")]
     TwiceInScene(u32),
-    /// This node moves, turns or scales its mesh.
-    #[error("node {0}: has a transform")]
+    /// The transform of this node isn't one of the axes, or a corner that it places isn't exact.
+    #[error("node {0}: has a transform that isn't exact")]
     Transform(u32),
     /// There is no mesh of this index, or its primitives aren't understood.
     #[error("mesh {0} not understood")]

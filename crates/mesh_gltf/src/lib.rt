@@ -6,12 +6,15 @@ mod buffers;
 mod bytes;
 mod chunks;
 mod corners;
+mod exact;
 mod fault;
 mod members;
 mod nodes;
+mod placing;
 mod points;
 mod primitives;
 mod reading;
+mod transforms;
 mod triangles;
 mod windows;
 

@@ -1,110 +1,50 @@
 // The nodes of a scene.
-ghost use Rattle.std.specs.Prelude.{◌≡◌, ◌⊎◌, ◌≤◌, ◌^◌, ◌++◌, ℕ, List, length, map, Some, None, Ok, Err, OnOk, IfErr};
+ghost use Rattle.std.specs.Prelude.{◌≡◌, ◌⊎◌, ◌≤◌, ◌^◌, ◌++◌, List, length, map, None, Ok, Err, OnOk, IfErr};
 ghost use Rattle.mesh_read.specs.Surface.Surfaces.{content_of};
 ghost use Rattle.std.specs.Option.{option_map};
-ghost use Rattle.serde_json.specs.Find.{get};
 ghost use Rattle.serde_json.specs.View.{view, items_view};
 ghost use Rattle.mesh_gltf.specs.Buffers.{bytes_seen};
 ghost use Rattle.mesh_gltf.specs.Members.{naturals, naturals_at};
-ghost use Rattle.mesh_gltf.specs.Nodes.{is_number, are_numbers, is_missing_or, is_still, primitives_of, with_primitives, with_node, children_of, with_nodes, count_of, nodes_count, roots_of, scene_content};
+ghost use Rattle.mesh_gltf.specs.declared.placing.Placement.TheVariants.{Plain};
+ghost use Rattle.mesh_gltf.specs.declared.placing.Spot.{Spot};
+ghost use Rattle.mesh_gltf.specs.Nodes.{primitives_of, with_primitives, with_node, spot_of, children_of, AreBelow, with_nodes, count_of, nodes_count, roots_of, scene_content};
 
 use crate::buffers::Buffer;
 use crate::fault::GltfFault;
 use crate::members::{item_in, natural, natural_at, natural_or};
+use crate::placing::{Placement, Spot, placement_by};
 use crate::primitives::add_primitive;
+use crate::transforms::transform_of;
 use mesh_read::Surface;
 use serde_json::Value;
 use std::alloc::Global;
 use thiserror::Error;
-
-// The columns of the identity.
-const IDENTITY: [f64; 16] = [
-    1.0, 0.0, 0.0, 0.0, 0.0, 1.0, 0.0, 0.0, 0.0, 0.0, 1.0, 0.0, 0.0, 0.0, 0.0, 1.0,
-];
-
-const NO_TRANSLATION: [f64; 3] = [0.0, 0.0, 0.0];
-
-const NO_ROTATION: [f64; 4] = [0.0, 0.0, 0.0, 1.0];
-
-const NO_SCALE: [f64; 3] = [1.0, 1.0, 1.0];
-
-// Whether the value is this number.
-fn is_number(number: f64, value: &Value) -> bool
-    ensures { result ≡ is_number number (view value.now) }
-{
-    match value.as_f64() {
-        Some(found) => found == number,
-        None => false,
-    }
-}
-
-// Whether the values are these numbers.
-#[tactic(auto, using(crate::proofs::Numbers::none_wanted))]
-fn are_numbers(numbers: &[f64], values: &[Value]) -> bool
-    ensures { result ≡ are_numbers numbers.now (items_view values.now) }
-{
-    let mut wanted = numbers;
-    let mut rest = values;
-    while let Some((number, more)) = wanted.split_first() {
-        let Some((value, after)) = rest.split_first() else {
-            return false;
-        };
-        if !is_number(*number, value) {
-            return false;
-        }
-        wanted = more;
-        rest = after;
-    }
-    rest.is_empty()
-}
-
-// Whether the member of this name is missing, or a list of these numbers.
-#[tactic(auto, unfolding(crate::specs::Nodes::is_missing_or))]
-fn is_missing_or(numbers: &[f64], node: &Value, key: &str) -> bool
-    ensures { result ≡ is_missing_or numbers.now (get key.now (view node.now)) }
-{
-    match node.get(key) {
-        None => true,
-        Some(value) => match value.as_array() {
-            Some(values) => are_numbers(numbers, values.as_slice()),
-            None => false,
-        },
-    }
-}
-
-// Whether the node leaves what is in it where it is.
-#[tactic(auto, unfolding(crate::specs::Nodes::is_still))]
-fn is_still(node: &Value) -> bool
-    ensures { result ≡ is_still (view node.now) }
-{
-    is_missing_or(&IDENTITY, node, "matrix")
-        && is_missing_or(&NO_TRANSLATION, node, "translation")
-        && is_missing_or(&NO_ROTATION, node, "rotation")
-        && is_missing_or(&NO_SCALE, node, "scale")
-}
 
 // Appends the points and the triangles of these primitives.
 fn add_primitives<'a>(
     surface: &mut Surface<'a>,
     corners: &mut Vec<u32>,
     mesh: u32,
+    placement: &Placement,
     document: &Value,
     buffers: &[Buffer],
     primitives: &[Value],
 ) -> Result<(), GltfFault>
     requires points { length surface.old.vertices.items ≤ 2 ^ 24 }
     requires corners { length surface.old.facets.items ≤ 2 ^ 24 }
-    ensures ok { OnOk result (with_primitives mesh (view document.now) (map bytes_seen buffers.now)
+    ensures ok { OnOk result (with_primitives mesh placement.now (view document.now) (map bytes_seen buffers.now)
         (content_of surface.old) (items_view primitives.now) ≡ Ok (content_of surface.new)) }
     ensures fault { IfErr result (λ e. (e ≡ GltfFault.OutOfMemory)
-        ⊎ (with_primitives mesh (view document.now) (map bytes_seen buffers.now)
+        ⊎ (with_primitives mesh placement.now (view document.now) (map bytes_seen buffers.now)
         (content_of surface.old) (items_view primitives.now) ≡ Err e)) }
     ensures points { OnOk result (length surface.new.vertices.items ≤ 2 ^ 24) }
     ensures corners { OnOk result (length surface.new.facets.items ≤ 2 ^ 24) }
 {
     let mut rest = primitives;
     while let Some((primitive, after)) = rest.split_first() {
-        add_primitive(surface, corners, mesh, document, buffers, primitive)?;
+        add_primitive(
+            surface, corners, mesh, placement, document, buffers, primitive,
+        )?;
         rest = after;
     }
     Ok(())
@@ -121,39 +61,39 @@ fn primitives_of(mesh: u32, document: &Value) -> Option<&[Value]>
     Some(values.as_slice())
 }
 
-// Appends the points and the triangles of the mesh of the node with this index, if it has one.
+// Appends the points and the triangles of the mesh of a node, if it has one.
 #[tactic(auto, unfolding(crate::specs::Nodes::with_node))]
 fn add_node<'a>(
     surface: &mut Surface<'a>,
     corners: &mut Vec<u32>,
-    index: u32,
+    spot: &Spot,
     document: &Value,
     buffers: &[Buffer],
     node: &Value,
 ) -> Result<(), GltfFault>
     requires points { length surface.old.vertices.items ≤ 2 ^ 24 }
     requires corners { length surface.old.facets.items ≤ 2 ^ 24 }
-    ensures ok { OnOk result (with_node index (view document.now) (map bytes_seen buffers.now)
+    ensures ok { OnOk result (with_node spot.now (view document.now) (map bytes_seen buffers.now)
         (content_of surface.old) (view node.now) ≡ Ok (content_of surface.new)) }
     ensures fault { IfErr result (λ e. (e ≡ GltfFault.OutOfMemory)
-        ⊎ (with_node index (view document.now) (map bytes_seen buffers.now)
+        ⊎ (with_node spot.now (view document.now) (map bytes_seen buffers.now)
         (content_of surface.old) (view node.now) ≡ Err e)) }
     ensures points { OnOk result (length surface.new.vertices.items ≤ 2 ^ 24) }
     ensures corners { OnOk result (length surface.new.facets.items ≤ 2 ^ 24) }
 {
-    if !is_still(node) {
-        return Err(GltfFault::Transform(index));
-    }
     if node.get("mesh").is_none() {
         return Ok(());
     }
     let Some(mesh) = natural_at(node, "mesh") else {
-        return Err(GltfFault::Node(index));
+        return Err(GltfFault::Node(spot.node));
     };
     let Some(primitives) = primitives_of(mesh, document) else {
         return Err(GltfFault::Mesh(mesh));
     };
-    add_primitives(surface, corners, mesh, document, buffers, primitives)
+    let placement = &spot.placement;
+    add_primitives(
+        surface, corners, mesh, placement, document, buffers, primitives,
+    )
 }
 
 // Why there are no numbers.
@@ -165,18 +105,23 @@ enum NoNumbers {
     OutOfMemory,
 }
 
-// Appends these values, if all of them are natural numbers.
-fn push_naturals(numbers: &mut Vec<u32>, values: &[Value]) -> Result<(), NoNumbers>
-    ensures ok { OnOk result ((ns : List ℕ) × (naturals (items_view values.now) ≡ Some ns)
-        × (numbers.new.items ≡ numbers.old.items ++ ns)) }
+// Appends the nodes with these indices, which are placed so, if all of them are natural numbers.
+fn push_spots(
+    spots: &mut Vec<Spot>,
+    placement: &Placement,
+    values: &[Value],
+) -> Result<(), NoNumbers>
+    ensures ok { OnOk result (AreBelow placement.now (naturals (items_view values.now))
+        spots.old.items spots.new.items) }
     ensures fault { IfErr result (λ e. (e ≡ NoNumbers.OutOfMemory) ⊎ (naturals (items_view values.now) ≡ None)) }
 {
     let mut rest = values;
     while let Some((value, after)) = rest.split_first() {
-        let Some(number) = natural(value) else {
+        let Some(node) = natural(value) else {
             return Err(NoNumbers::NotNatural);
         };
-        if numbers.push(number).is_err() {
+        let placement = *placement;
+        if spots.push(Spot { node, placement }).is_err() {
             return Err(NoNumbers::OutOfMemory);
         }
         rest = after;
@@ -184,19 +129,35 @@ fn push_naturals(numbers: &mut Vec<u32>, values: &[Value]) -> Result<(), NoNumbe
     Ok(())
 }
 
-// Appends the natural numbers in the member of this name, none where the member is missing.
+// Appends the nodes in the member of this name, which are placed so; none where it is missing.
 #[tactic(auto, unfolding(crate::specs::Members::naturals_at))]
-fn push_naturals_at(numbers: &mut Vec<u32>, value: &Value, key: &str) -> Result<(), NoNumbers>
-    ensures ok { OnOk result ((ns : List ℕ) × (naturals_at key.now (view value.now) ≡ Some ns)
-        × (numbers.new.items ≡ numbers.old.items ++ ns)) }
+fn push_spots_at(
+    spots: &mut Vec<Spot>,
+    placement: &Placement,
+    value: &Value,
+    key: &str,
+) -> Result<(), NoNumbers>
+    ensures ok { OnOk result (AreBelow placement.now (naturals_at key.now (view value.now))
+        spots.old.items spots.new.items) }
     ensures fault { IfErr result (λ e. (e ≡ NoNumbers.OutOfMemory) ⊎ (naturals_at key.now (view value.now) ≡ None)) }
 {
     match value.get(key) {
         None => Ok(()),
         Some(member) => match member.as_array() {
-            Some(values) => push_naturals(numbers, values.as_slice()),
+            Some(values) => push_spots(spots, placement, values.as_slice()),
             None => Err(NoNumbers::NotNatural),
         },
+    }
+}
+
+// The node as it is placed, whose parent is placed so.
+#[tactic(auto, unfolding(crate::specs::Nodes::spot_of))]
+fn spot_of(spot: Spot, node: &Value) -> Spot
+    ensures { result ≡ spot_of spot (view node.now) }
+{
+    Spot {
+        node: spot.node,
+        placement: placement_by(spot.placement, spot.node, transform_of(node)),
     }
 }
 
@@ -230,22 +191,23 @@ fn nodes_count(document: &Value) -> usize
     }
 }
 
-// Appends the children of the node with this index.
-fn push_children(waiting: &mut Vec<u32>, index: u32, node: &Value) -> Result<(), GltfFault>
-    ensures ok { OnOk result ((ns : List ℕ) × (children_of index (view node.now) ≡ Ok ns)
-        × (waiting.new.items ≡ waiting.old.items ++ ns)) }
-    ensures fault { IfErr result (λ e. (e ≡ GltfFault.OutOfMemory) ⊎ (children_of index (view node.now) ≡ Err e)) }
+// Appends the children of a node.
+fn push_children(waiting: &mut Vec<Spot>, spot: &Spot, node: &Value) -> Result<(), GltfFault>
+    ensures ok { OnOk result ((spots : List Spot) × (children_of spot.now (view node.now) ≡ Ok spots)
+        × (waiting.new.items ≡ waiting.old.items ++ spots)) }
+    ensures fault { IfErr result (λ e. (e ≡ GltfFault.OutOfMemory)
+        ⊎ (children_of spot.now (view node.now) ≡ Err e)) }
 {
-    match push_naturals_at(waiting, node, "children") {
+    match push_spots_at(waiting, &spot.placement, node, "children") {
         Ok(()) => Ok(()),
-        Err(fault) => Err(fault_or(GltfFault::Node(index), fault)),
+        Err(fault) => Err(fault_or(GltfFault::Node(spot.node), fault)),
     }
 }
 
 // Appends the points and the triangles of the waiting nodes and of those below them.
 fn add_nodes<'a>(
     surface: &mut Surface<'a>,
-    waiting: &mut Vec<u32>,
+    waiting: &mut Vec<Spot>,
     corners: &mut Vec<u32>,
     document: &Value,
     buffers: &[Buffer],
@@ -261,15 +223,17 @@ fn add_nodes<'a>(
     let count = nodes_count(document);
     let mut done = 0;
     while done < waiting.len() {
-        let index = waiting[done];
+        let spot = waiting[done];
+        let index = spot.node;
         if done >= count {
             return Err(GltfFault::TwiceInScene(index));
         }
         let Some(node) = item_in(document, "nodes", index) else {
             return Err(GltfFault::Node(index));
         };
-        add_node(surface, corners, index, document, buffers, node)?;
-        push_children(waiting, index, node)?;
+        let placed = spot_of(spot, node);
+        add_node(surface, corners, &placed, document, buffers, node)?;
+        push_children(waiting, &placed, node)?;
         done += 1;
     }
     Ok(())
@@ -277,9 +241,8 @@ fn add_nodes<'a>(
 
 // Appends the nodes of the document's scene, or else of its first one.
 #[tactic(auto, unfolding(crate::specs::Nodes::roots_of))]
-fn read_roots(roots: &mut Vec<u32>, document: &Value) -> Result<(), GltfFault>
-    ensures ok { OnOk result ((ns : List ℕ) × (roots_of (view document.now) ≡ Some ns)
-        × (roots.new.items ≡ roots.old.items ++ ns)) }
+fn read_roots(roots: &mut Vec<Spot>, document: &Value) -> Result<(), GltfFault>
+    ensures ok { OnOk result (AreBelow Plain (roots_of (view document.now)) roots.old.items roots.new.items) }
     ensures fault { IfErr result (λ e. (e ≡ GltfFault.OutOfMemory)
         ⊎ (roots_of (view document.now) ≡ None) × (e ≡ GltfFault.NoScene)) }
 {
@@ -289,7 +252,7 @@ fn read_roots(roots: &mut Vec<u32>, document: &Value) -> Result<(), GltfFault>
     let Some(scene) = item_in(document, "scenes", index) else {
         return Err(GltfFault::NoScene);
     };
-    match push_naturals_at(roots, scene, "nodes") {
+    match push_spots_at(roots, &Placement::Plain, scene, "nodes") {
         Ok(()) => Ok(()),
         Err(fault) => Err(fault_or(GltfFault::NoScene, fault)),
     }

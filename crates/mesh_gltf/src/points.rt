@@ -1,15 +1,16 @@
 // The elements of accessors, and the points of a primitive.
-ghost use Rattle.std.specs.Prelude.{◌≡◌, ◌⊎◌, ◌++◌, ◌≤◌, ◌<◌, ◌^◌, true, length, map, Some, None, Ok, Err, OnOk, IfOk, IfErr};
+ghost use Rattle.std.specs.Prelude.{◌≡◌, ◌⊎◌, ◌+◌, ◌≤◌, ◌<◌, ◌^◌, true, length, map, Some, None, Ok, Err, OnOk, IfOk, IfErr};
 ghost use Rattle.mesh_read.specs.Surface.Surfaces.{point_of};
 ghost use Rattle.serde_json.specs.View.{view};
 ghost use Rattle.mesh_gltf.specs.Buffers.{bytes_seen};
 ghost use Rattle.mesh_gltf.specs.Windows.{is_inside};
-ghost use Rattle.mesh_gltf.specs.Primitives.{elements_seen, elements_of, positions_at, points_in, AreAdded};
+ghost use Rattle.mesh_gltf.specs.Primitives.{elements_seen, elements_of, positions_at, point_in, points_in, AreAdded};
 
 use crate::buffers::Buffer;
 use crate::bytes::read_point;
 use crate::fault::GltfFault;
 use crate::members::item_in;
+use crate::placing::{Placement, exact_point_at, placed, vertex_of};
 use crate::windows::{Window, dense_window, is_inside, is_kind};
 use mesh_read::Vertex;
 use serde_json::Value;
@@ -75,26 +76,52 @@ pub(crate) fn positions_at<'b>(
     elements_of(POINT, index, document, buffers, accessor)
 }
 
-// Appends all points of the accessor with this index.
+// The point at this byte, of a mesh that is placed so.
+fn vertex_at(
+    bytes: &[u8],
+    at: usize,
+    index: u32,
+    placement: &Placement,
+) -> Result<Vertex<'static>, GltfFault>
+    requires { at + 12 ≤ length bytes.now }
+    ensures ok { IfOk result (λ v. point_in index placement.now bytes.now at ≡ Ok (point_of v)) }
+    ensures fault { IfErr result (λ e. point_in index placement.now bytes.now at ≡ Err e) }
+{
+    match placement {
+        Placement::Plain => match read_point(bytes, at) {
+            Some(vertex) => Ok(vertex),
+            None => Err(GltfFault::NotFinite(index)),
+        },
+        Placement::At(node, placing) => match exact_point_at(bytes, at) {
+            Some(point) => match placed(*placing, point) {
+                Some(point) => Ok(vertex_of(point)),
+                None => Err(GltfFault::Transform(*node)),
+            },
+            None => Err(GltfFault::NotFinite(index)),
+        },
+        Placement::Inexact(node) => Err(GltfFault::Transform(*node)),
+    }
+}
+
+// Appends all points of the accessor with this index, of a mesh that is placed so.
 #[tactic(auto, unfolding(crate::specs::Primitives::points_in))]
 pub(crate) fn push_points<'a>(
     vertices: &mut Vec<Vertex<'a>>,
     index: u32,
+    placement: &Placement,
     elements: Elements,
 ) -> Result<(), GltfFault>
     requires { is_inside 12 elements.window elements.bytes.now ≡ true }
-    ensures ok { OnOk result (AreAdded index (elements_seen elements.entry)
+    ensures ok { OnOk result (AreAdded index placement.now (elements_seen elements.entry)
         (map point_of vertices.old.items) (map point_of vertices.new.items)) }
     ensures fault { IfErr result (λ e. (e ≡ GltfFault.OutOfMemory)
-        ⊎ (points_in index (elements_seen elements.entry) ≡ Err e)) }
+        ⊎ (points_in index placement.now (elements_seen elements.entry) ≡ Err e)) }
 {
     let window = elements.window;
     let mut element = 0;
     while element < window.count {
         let at = window.start as usize + window.stride as usize * element as usize;
-        let Some(vertex) = read_point(elements.bytes, at) else {
-            return Err(GltfFault::NotFinite(index));
-        };
+        let vertex = vertex_at(elements.bytes, at, index, placement)?;
         if vertices.push(vertex).is_err() {
             return Err(GltfFault::OutOfMemory);
         }

@@ -9,6 +9,7 @@ use crate::buffers::Buffer;
 use crate::corners::{IndexSize, NoCorners, bytes_of, put_in_row, read_corners, size_of_type};
 use crate::fault::GltfFault;
 use crate::members::{item_in, natural_at, natural_or};
+use crate::placing::Placement;
 use crate::points::{elements_of, positions_at, push_points};
 use crate::triangles::{Topology, push_triangles};
 use mesh_read::Surface;
@@ -121,6 +122,7 @@ fn add_triangles<'a>(
     surface: &mut Surface<'a>,
     corners: &mut Vec<u32>,
     mesh: u32,
+    placement: &Placement,
     document: &Value,
     buffers: &[Buffer],
     primitive: &Value,
@@ -128,10 +130,10 @@ fn add_triangles<'a>(
 ) -> Result<(), GltfFault>
     requires points { length surface.old.vertices.items ≤ 2 ^ 24 }
     requires corners { length surface.old.facets.items ≤ 2 ^ 24 }
-    ensures ok { OnOk result (with_topology mesh (view document.now) (map bytes_seen buffers.now) (view primitive.now)
+    ensures ok { OnOk result (with_topology mesh placement.now (view document.now) (map bytes_seen buffers.now) (view primitive.now)
         (content_of surface.old) (Some topology) ≡ Ok (content_of surface.new)) }
     ensures fault { IfErr result (λ e. (e ≡ GltfFault.OutOfMemory)
-        ⊎ (with_topology mesh (view document.now) (map bytes_seen buffers.now) (view primitive.now)
+        ⊎ (with_topology mesh placement.now (view document.now) (map bytes_seen buffers.now) (view primitive.now)
         (content_of surface.old) (Some topology) ≡ Err e)) }
     ensures points { OnOk result (length surface.new.vertices.items ≤ 2 ^ 24) }
     ensures corners { OnOk result (length surface.new.facets.items ≤ 2 ^ 24) }
@@ -148,7 +150,7 @@ fn add_triangles<'a>(
     if base + points as usize > MOST {
         return Err(GltfFault::TooMany);
     }
-    push_points(&mut surface.vertices, index, elements)?;
+    push_points(&mut surface.vertices, index, placement, elements)?;
     let base = base as u32;
     let place = Place { mesh, base, points };
     corners_of(corners, place, document, buffers, primitive)?;
@@ -168,16 +170,17 @@ pub(crate) fn add_primitive<'a>(
     surface: &mut Surface<'a>,
     corners: &mut Vec<u32>,
     mesh: u32,
+    placement: &Placement,
     document: &Value,
     buffers: &[Buffer],
     primitive: &Value,
 ) -> Result<(), GltfFault>
     requires points { length surface.old.vertices.items ≤ 2 ^ 24 }
     requires corners { length surface.old.facets.items ≤ 2 ^ 24 }
-    ensures ok { OnOk result (with_primitive mesh (view document.now) (map bytes_seen buffers.now)
+    ensures ok { OnOk result (with_primitive mesh placement.now (view document.now) (map bytes_seen buffers.now)
         (content_of surface.old) (view primitive.now) ≡ Ok (content_of surface.new)) }
     ensures fault { IfErr result (λ e. (e ≡ GltfFault.OutOfMemory)
-        ⊎ (with_primitive mesh (view document.now) (map bytes_seen buffers.now)
+        ⊎ (with_primitive mesh placement.now (view document.now) (map bytes_seen buffers.now)
         (content_of surface.old) (view primitive.now) ≡ Err e)) }
     ensures points { OnOk result (length surface.new.vertices.items ≤ 2 ^ 24) }
     ensures corners { OnOk result (length surface.new.facets.items ≤ 2 ^ 24) }
@@ -190,7 +193,7 @@ pub(crate) fn add_primitive<'a>(
         Some(None) => Ok(()),
         Some(Some(topology)) => {
             add_triangles(
-                surface, corners, mesh, document, buffers, primitive, topology,
+                surface, corners, mesh, placement, document, buffers, primitive, topology,
             )
         }
     }

@@ -107,8 +107,11 @@ fn read_mesh<'a>(alloc: Global, bytes: &[u8]) -> Result<Surface<'a>, GltfFault>
 /// vertices of its own, again for each node that has its mesh. Triangles are numbered from 1, and
 /// that number is their place.
 ///
-/// A node with a transform other than the identity is refused, as are sparse accessors and documents
-/// that require the compression of Draco or meshoptimizer, or instances. Other extensions, normals, colours,
+/// Nodes are placed by transforms: scales, mirrors, turns by 90 or 180 degrees around an axis, and
+/// translations. All numbers are exact: a coordinate that isn't a whole number of 64 bits times a
+/// power of two after each product and each sum is refused, as is any other transform on the way to a
+/// mesh. Refused, too, are sparse accessors and documents that require the compression of Draco or
+/// meshoptimizer, or instances. Other extensions, normals, colours,
 /// textures, skins, cameras and animations are passed over. There are at most 2^24 points and 2^24
 /// corners of triangles, and at most 2^28 bytes.
 pub fn read_gltf<'a>(alloc: Global, bytes: &[u8]) -> Result<Surface<'a>, GltfFault>

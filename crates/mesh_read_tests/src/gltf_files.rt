@@ -85,6 +85,69 @@ fn documents_that_are_read(rt: HostRuntime) -> Result<(), Fail> {
     Ok(())
 }
 
+// The last of the four points, in hundredths, where the transforms of the nodes are these.
+fn placed(alloc: Global, old: &str, new: &str) -> Result<Option<[i128; 3]>, AllocError> {
+    let text = changed(alloc, old, new)?;
+    let Ok(surface) = read(alloc, text.as_bytes()) else {
+        return Ok(None);
+    };
+    let Some(vertex) = surface.vertices.get(3) else {
+        return Ok(None);
+    };
+    match (
+        floor_times(&vertex.x, 100),
+        floor_times(&vertex.y, 100),
+        floor_times(&vertex.z, 100),
+    ) {
+        (Some(x), Some(y), Some(z)) => Ok(Some([x, y, z])),
+        _ => Ok(None),
+    }
+}
+
+#[test]
+fn nodes_with_transforms(rt: HostRuntime) -> Result<(), Fail> {
+    let rows = [
+        ("[0,0.0,-0.0]", "[0.5,-0.25,0.125]", [100, 0, -288]),
+        ("[1,1.0,1]", "[2,-1,0.001]", [100, -25, -1]),
+        // A quarter of a turn around each axis, and half of one.
+        (
+            "\"translation\":[0,0.0,-0.0]",
+            "\"rotation\":[0.7071068,0,0,0.7071068]",
+            [50, 300, 25],
+        ),
+        (
+            "\"translation\":[0,0.0,-0.0]",
+            "\"rotation\":[0,-0.7071068,0,0.7071068]",
+            [300, 25, 50],
+        ),
+        (
+            "\"translation\":[0,0.0,-0.0]",
+            "\"rotation\":[0,0,1,1]",
+            [-25, 50, -300],
+        ),
+        (
+            "\"translation\":[0,0.0,-0.0]",
+            "\"rotation\":[0,1,0,0]",
+            [-50, 25, 300],
+        ),
+        // First the scale, then the turn, then the translation; and then the parent's scale.
+        (
+            "\"translation\":[0,0.0,-0.0]},{\"children\":[0],\"scale\":[1,1.0,1]",
+            "\"scale\":[2,4,8],\"rotation\":[1,0,0,1],\"translation\":[1,2,3]},{\"children\":[0],\"scale\":[1,-1,10]",
+            [200, -2600, 4000],
+        ),
+        (
+            "\"translation\":[0,0.0,-0.0]",
+            "\"matrix\":[0,1,0,0,-1,0,0,0,0,0,1,0,10,0,0,1]",
+            [975, 50, -300],
+        ),
+    ];
+    for (old, new, want) in rows {
+        assert_eq!(rt; placed(rt.alloc(), old, new)?, Some(want));
+    }
+    Ok(())
+}
+
 #[test]
 fn documents_that_are_refused(rt: HostRuntime) -> Result<(), Fail> {
     let rows = [
@@ -125,8 +188,35 @@ fn documents_that_are_refused(rt: HostRuntime) -> Result<(), Fail> {
             "\"children\":[1]",
             GltfFault::TwiceInScene(1),
         ),
-        ("[1,1.0,1]", "[1,1.5,1]", GltfFault::Transform(1)),
+        // A product of two floats of 53 bits has no room.
+        (
+            "\"translation\":[0,0.0,-0.0]},{\"children\":[0],\"scale\":[1,1.0,1]",
+            "\"scale\":[0.1,1,1]},{\"children\":[0],\"scale\":[0.1,1,1]",
+            GltfFault::Transform(0),
+        ),
+        ("[1,1.0,1]", "[1,1.5]", GltfFault::Transform(1)),
         ("[0,0.0,-0.0]", "[0,0]", GltfFault::Transform(0)),
+        (
+            "\"translation\":[0,0.0,-0.0]",
+            "\"rotation\":[0.6,0,0,0.8]",
+            GltfFault::Transform(0),
+        ),
+        (
+            "\"translation\":[0,0.0,-0.0]",
+            "\"matrix\":[1,1,0,0,0,1,0,0,0,0,1,0,0,0,0,1]",
+            GltfFault::Transform(0),
+        ),
+        (
+            "\"translation\":[0,0.0,-0.0]",
+            "\"matrix\":[1,0,0,0,0,1,0,0,0,0,1,0,0,0,0,2]",
+            GltfFault::Transform(0),
+        ),
+        // A translation that is far larger than a coordinate has no unit with it.
+        (
+            "[0,0.0,-0.0]",
+            "[0,0,1e30]",
+            GltfFault::Transform(0),
+        ),
         ("\"mesh\":0", "\"mesh\":1", GltfFault::Mesh(1)),
         ("\"POSITION\"", "\"NORMAL\"", GltfFault::Mesh(0)),
         ("\"mode\":5", "\"mode\":7", GltfFault::Mesh(0)),

@@ -150,7 +150,7 @@ gltf_reason gltf.NoScene = codes "glTF has no scene; export anew"
 gltf_reason (gltf.Node node) = at (codes "node") node (codes "not understood; export anew")
 gltf_reason (gltf.TwiceInScene node) = at (codes "node") node (codes "twice in the scene; export anew")
 gltf_reason (gltf.Transform node) =
-    at (codes "node") node (codes "is moved, turned or scaled; apply the transforms and export anew")
+    at (codes "node") node (codes "its transform isn't exact; apply the transforms and export anew")
 gltf_reason (gltf.Mesh mesh) = at (codes "mesh") mesh (codes "not understood; export anew")
 gltf_reason (gltf.Accessor accessor) = at (codes "accessor") accessor (codes "not understood; export anew")
 gltf_reason (gltf.Sparse accessor) =

@@ -78,7 +78,7 @@ pub(crate) const PART_NOT_UNDERSTOOD: &str = "not understood; export anew";
 pub(crate) const TWICE_IN_SCENE: &str = "twice in the scene; export anew";
 
 pub(crate) const TRANSFORM: &str =
-    "is moved, turned or scaled; apply the transforms and export anew";
+    "its transform isn't exact; apply the transforms and export anew";
 
 pub(crate) const SPARSE: &str = "sparse accessors aren't read; export as STL, OBJ, PLY or OFF";
 

@@ -7,8 +7,8 @@ use Rattle.mesh_gltf.proofs.nodes.add_primitives.Given as goal
 
 abbrev pub invariant-loop-primitive : goal.invariant-loop-primitive
 invariant-loop-primitive l = record {
-  same : with_primitives l.mesh (view l.document) (map bytes_seen l.buffers) (content_of l.fn.surface) (items_view l.primitives)
-      ≡ with_primitives l.mesh (view l.document) (map bytes_seen l.buffers) (content_of l.surface) (items_view l.rest);
+  same : with_primitives l.mesh l.placement (view l.document) (map bytes_seen l.buffers) (content_of l.fn.surface) (items_view l.primitives)
+      ≡ with_primitives l.mesh l.placement (view l.document) (map bytes_seen l.buffers) (content_of l.surface) (items_view l.rest);
   points : length l.surface.vertices.items ≤ 2 ^ 24;
   corners : length l.surface.facets.items ≤ 2 ^ 24;
 }
