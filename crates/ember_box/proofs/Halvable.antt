@@ -3,9 +3,9 @@ use Rattle.std.proofs.Common.{◌≡◌, ℕ, ◌*◌, ◌<◌, refl, arith, Boo
 use Rattle.ember_model.specs.declared.tri.Tri.{Tri}
 use Rattle.ember_model.specs.declared.point.Axis.{Axis}
 use Rattle.ember_model.specs.declared.point.Axis.TheVariants.{X, Y, Z}
-use Rattle.ember_box.specs.Boxes.{Cell}
+use Rattle.ember_box.specs.Boxes.{Cell, in_steps}
 use Rattle.ember_box.specs.Near.{near}
-use Rattle.ember_box.specs.Halving.{half_sum, halving_axis, is_leaf}
+use Rattle.ember_box.specs.Halving.{half_sum, halving_axis_on, is_leaf_on}
 use Rattle.ember_box.proofs.Lists.{positive}
 
 not_zero : (n : ℕ) → 0 < n → nat_lt 0 n ≡ false → ⊥
@@ -31,27 +31,27 @@ chosen P true true true true false false f g h n = h refl
 chosen P true true true false q true f g h n = g refl
 chosen P true true true false q false f g h n = h refl
 
-halvable : (ts : List Tri) (c : Cell) → (nat_lt 0 (c.log X) ≡ false → nat_lt 0 (c.log Y) ≡ false →
-    nat_lt 0 (c.log Z) ≡ false → ⊥) → 0 < c.log (halving_axis ts c)
-unfolding halving_axis
-halvable ts c none =
+halvable : (u : ℕ) (ts : List Tri) (c : Cell) → (nat_lt 0 (c.log X) ≡ false → nat_lt 0 (c.log Y) ≡ false →
+    nat_lt 0 (c.log Z) ≡ false → ⊥) → 0 < c.log (halving_axis_on u ts c)
+unfolding halving_axis_on
+halvable u ts c none =
     chosen (λ k. 0 < c.log k) (nat_lt 0 (c.log X)) (nat_lt 0 (c.log Y)) (nat_lt 0 (c.log Z))
-    (nat_le (half_sum ts c X) (half_sum ts c Y)) (nat_le (half_sum ts c X) (half_sum ts c Z))
-    (nat_le (half_sum ts c Y) (half_sum ts c Z)) (positive (c.log X)) (positive (c.log Y)) (positive (c.log Z)) none
+    (nat_le (half_sum ts (in_steps u c) X) (half_sum ts (in_steps u c) Y)) (nat_le (half_sum ts (in_steps u c) X) (half_sum ts (in_steps u c) Z))
+    (nat_le (half_sum ts (in_steps u c) Y) (half_sum ts (in_steps u c) Z)) (positive (c.log X)) (positive (c.log Y)) (positive (c.log Z)) none
 
 -- where some side is above 1
-pub halvable_along : (ts : List Tri) (c : Cell) (k : Axis) → 0 < c.log k → 0 < c.log (halving_axis ts c)
-halvable_along ts c X p = halvable ts c (λ x y z. not_zero (c.log X) p x)
-halvable_along ts c Y p = halvable ts c (λ x y z. not_zero (c.log Y) p y)
-halvable_along ts c Z p = halvable ts c (λ x y z. not_zero (c.log Z) p z)
+pub halvable_along : (u : ℕ) (ts : List Tri) (c : Cell) (k : Axis) → 0 < c.log k → 0 < c.log (halving_axis_on u ts c)
+halvable_along u ts c X p = halvable u ts c (λ x y z. not_zero (c.log X) p x)
+halvable_along u ts c Y p = halvable u ts c (λ x y z. not_zero (c.log Y) p y)
+halvable_along u ts c Z p = halvable u ts c (λ x y z. not_zero (c.log Z) p z)
 
 -- where the box isn't a leaf
-pub halvable_unless_leaf : (ts : List Tri) (c : Cell) → is_leaf ts c ≡ false → 0 < c.log (halving_axis ts c)
-unfolding is_leaf
-halvable_unless_leaf ts c e =
-    halvable ts c (λ x y z. clash (nat_le (length (near ts c)) 16)
-    (nat_le (7 * length (near ts c)) (4 * half_sum ts c X)) (nat_le (7 * length (near ts c)) (4 * half_sum ts c Y))
-    (nat_le (7 * length (near ts c)) (4 * half_sum ts c Z)) (nat_lt 0 (c.log X)) (nat_lt 0 (c.log Y))
+pub halvable_unless_leaf : (u : ℕ) (ts : List Tri) (c : Cell) → is_leaf_on u ts c ≡ false → 0 < c.log (halving_axis_on u ts c)
+unfolding is_leaf_on
+halvable_unless_leaf u ts c e =
+    halvable u ts c (λ x y z. clash (nat_le (length (near ts (in_steps u c))) 16)
+    (nat_le (7 * length (near ts (in_steps u c))) (4 * half_sum ts (in_steps u c) X)) (nat_le (7 * length (near ts (in_steps u c))) (4 * half_sum ts (in_steps u c) Y))
+    (nat_le (7 * length (near ts (in_steps u c))) (4 * half_sum ts (in_steps u c) Z)) (nat_lt 0 (c.log X)) (nat_lt 0 (c.log Y))
     (nat_lt 0 (c.log Z)) x y z e)
   where
     always : (few : Bool) → (few || true) ≡ false → ⊥

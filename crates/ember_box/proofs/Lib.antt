@@ -4,6 +4,7 @@ pub mod Orders
 pub mod Crossing
 pub mod FlatAlongAxis
 pub mod NearByAabbs
+pub mod InSteps
 pub mod HalvesMet
 pub mod HalfNearness
 pub mod Counting

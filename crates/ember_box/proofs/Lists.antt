@@ -8,10 +8,11 @@ use Rattle.std.proofs.lemmas.List.FromFn.{length-range_with_len, get_or-range_wi
 use Rattle.ember_model.specs.declared.tri.Tri.{Tri}
 use Rattle.ember_model.specs.declared.point.Axis.{Axis}
 use Rattle.ember_model.specs.declared.point.Axis.TheVariants.{X, Y, Z}
-use Rattle.ember_box.specs.Boxes.{Cell, left_half, right_half}
+use Rattle.ember_box.specs.Boxes.{Cell, left_half, right_half, in_steps}
 use Rattle.ember_box.specs.Near.{is_near, near, tri_at, listed, near_indices, all_indices}
-use Rattle.ember_box.specs.Halving.{half_sum, is_no_better, halving_axis, is_unprofitable, is_leaf}
+use Rattle.ember_box.specs.Halving.{half_sum, is_no_better_on, halving_axis_on, is_unprofitable_on, is_leaf_on}
 use Rattle.ember_box.proofs.NearByAabbs.{left_near, right_near}
+use Rattle.ember_box.proofs.InSteps.{above_in_steps}
 
 -- ---- filters
 -- what implies something false is false
@@ -72,38 +73,44 @@ pub positive : (n : ℕ) → nat_lt 0 n ≡ true → 0 < n
 positive n e = grind arith
 
 -- the near triangles alone decide along which axis a box is halved, and whether it is a leaf
-no_better_near : (ts : List Tri) (c : Cell) (j k : Axis) → is_no_better (near ts c) c j k ≡ is_no_better ts c j k
-no_better_near ts c j k =
-    by (nat_lt 0 (c.log k)) (nat_lt 0 (c.log j)) (λ e. half_sum_near ts c k (positive (c.log k) e)) (λ e. half_sum_near ts c j (positive (c.log j) e))
-  where
-    by : (p q : Bool) → (p ≡ true → half_sum (near ts c) c k ≡ half_sum ts c k) →
-        (q ≡ true → half_sum (near ts c) c j ≡ half_sum ts c j) →
-        (not p || (q && nat_le (half_sum (near ts c) c j) (half_sum (near ts c) c k)))
-        ≡ (not p || (q && nat_le (half_sum ts c j) (half_sum ts c k)))
-    by false q f g = refl
-    by true false f g = refl
-    by true true f g = λ i. nat_le (g refl i) (f refl i)
+module _ (u : ℕ) (ts : List Tri) (c : Cell) where
+  abbrev box : Cell
+  box = in_steps u c
 
-spreads_near : (ts : List Tri) (c : Cell) (k : Axis) → is_unprofitable (near ts c) c k ≡ is_unprofitable ts c k
-spreads_near ts c k = by (nat_lt 0 (c.log k)) (λ e. half_sum_near ts c k (positive (c.log k) e))
-  where
-    by : (p : Bool) → (p ≡ true → half_sum (near ts c) c k ≡ half_sum ts c k) →
-        (not p || nat_le (7 * length (near (near ts c) c)) (4 * half_sum (near ts c) c k))
-        ≡ (not p || nat_le (7 * length (near ts c)) (4 * half_sum ts c k))
-    by false f = refl
-    by true f = λ i. nat_le (7 * length (near_again ts c i)) (4 * f refl i)
+  same_sum : (k : Axis) → nat_lt 0 (c.log k) ≡ true → half_sum (near ts box) box k ≡ half_sum ts box k
+  same_sum k e = half_sum_near ts box k (above_in_steps u c k (positive (c.log k) e))
 
--- the near triangles give the halving axis that all triangles give
-pub halving_axis_near : (ts : List Tri) (c : Cell) → halving_axis (near ts c) c ≡ halving_axis ts c
-unfolding halving_axis
-halving_axis_near ts c =
-    λ i. if no_better_near ts c X Y i && no_better_near ts c X Z i then X else (if no_better_near ts c Y Z i then Y else Z)
+  no_better_near : (j k : Axis) → is_no_better_on u (near ts box) c j k ≡ is_no_better_on u ts c j k
+  no_better_near j k = by (nat_lt 0 (c.log k)) (nat_lt 0 (c.log j)) (same_sum k) (same_sum j)
+    where
+      by : (p q : Bool) → (p ≡ true → half_sum (near ts box) box k ≡ half_sum ts box k) →
+          (q ≡ true → half_sum (near ts box) box j ≡ half_sum ts box j) →
+          (not p || (q && nat_le (half_sum (near ts box) box j) (half_sum (near ts box) box k)))
+          ≡ (not p || (q && nat_le (half_sum ts box j) (half_sum ts box k)))
+      by false q f g = refl
+      by true false f g = refl
+      by true true f g = λ i. nat_le (g refl i) (f refl i)
 
--- the near triangles decide as all triangles whether the box is a leaf
-pub is_leaf_near : (ts : List Tri) (c : Cell) → is_leaf (near ts c) c ≡ is_leaf ts c
-unfolding is_leaf
-is_leaf_near ts c =
-    λ i. nat_le (length (near_again ts c i)) 16 || spreads_near ts c X i && spreads_near ts c Y i && spreads_near ts c Z i
+  spreads_near : (k : Axis) → is_unprofitable_on u (near ts box) c k ≡ is_unprofitable_on u ts c k
+  spreads_near k = by (nat_lt 0 (c.log k)) (same_sum k)
+    where
+      by : (p : Bool) → (p ≡ true → half_sum (near ts box) box k ≡ half_sum ts box k) →
+          (not p || nat_le (7 * length (near (near ts box) box)) (4 * half_sum (near ts box) box k))
+          ≡ (not p || nat_le (7 * length (near ts box)) (4 * half_sum ts box k))
+      by false f = refl
+      by true f = λ i. nat_le (7 * length (near_again ts box i)) (4 * f refl i)
+
+  -- the near triangles give the halving axis that all triangles give
+  pub halving_axis_near : halving_axis_on u (near ts box) c ≡ halving_axis_on u ts c
+  unfolding halving_axis_on
+  halving_axis_near =
+      λ i. if no_better_near X Y i && no_better_near X Z i then X else (if no_better_near Y Z i then Y else Z)
+
+  -- the near triangles decide as all triangles whether the box is a leaf
+  pub is_leaf_near : is_leaf_on u (near ts box) c ≡ is_leaf_on u ts c
+  unfolding is_leaf_on
+  is_leaf_near =
+      λ i. nat_le (length (near_again ts box i)) 16 || spreads_near X i && spreads_near Y i && spreads_near Z i
 
 -- ---- by places
 listed_near : (ts : List Tri) (c : Cell) (is : List ℕ) → listed ts (near_indices ts c is) ≡ near (listed ts is) c
@@ -129,12 +136,14 @@ pub listed_near_all : (ts : List Tri) (c : Cell) → listed ts (near_indices ts 
 listed_near_all ts c = listed_near ts c (all_indices ts) ∙ ap (λ us. near us c) (listed_all ts)
 
 -- the listed near triangles give the halving axis of the scene
-pub halving_axis_listed : (ts : List Tri) (c : Cell) → halving_axis (listed ts (near_indices ts c (all_indices ts))) c ≡ halving_axis ts c
-halving_axis_listed ts c = ap (λ us. halving_axis us c) (listed_near_all ts c) ∙ halving_axis_near ts c
+pub halving_axis_listed : (u : ℕ) (ts : List Tri) (c : Cell) →
+    halving_axis_on u (listed ts (near_indices ts (in_steps u c) (all_indices ts))) c ≡ halving_axis_on u ts c
+halving_axis_listed u ts c = ap (λ us. halving_axis_on u us c) (listed_near_all ts (in_steps u c)) ∙ halving_axis_near u ts c
 
 -- the listed near triangles decide as the scene whether the box is a leaf
-pub is_leaf_listed : (ts : List Tri) (c : Cell) → is_leaf (listed ts (near_indices ts c (all_indices ts))) c ≡ is_leaf ts c
-is_leaf_listed ts c = ap (λ us. is_leaf us c) (listed_near_all ts c) ∙ is_leaf_near ts c
+pub is_leaf_listed : (u : ℕ) (ts : List Tri) (c : Cell) →
+    is_leaf_on u (listed ts (near_indices ts (in_steps u c) (all_indices ts))) c ≡ is_leaf_on u ts c
+is_leaf_listed u ts c = ap (λ us. is_leaf_on u us c) (listed_near_all ts (in_steps u c)) ∙ is_leaf_near u ts c
 
 -- near indices are indices of the list
 pub near_in_range : (ts : List Tri) (c : Cell) (is : List ℕ) → All (λ i. i < length ts) is → All (λ i. i < length ts) (near_indices ts c is)

@@ -13,7 +13,7 @@ use Rattle.ember_box.specs.declared.half_boxes.HalfBoxes.{HalfBoxes}
 use Rattle.ember_box.specs.declared.near_parts.Middle.{Middle}
 use Rattle.ember_box.specs.declared.near_parts.NearPair.{NearPair}
 use Rattle.ember_box.specs.declared.near_parts.NearParts.{NearParts}
-use Rattle.ember_box.specs.Boxes.{Cell, low, left_half, right_half}
+use Rattle.ember_box.specs.Boxes.{Cell, low, left_half, right_half, in_steps}
 use Rattle.ember_box.specs.Near.{is_near, tri_at}
 use Rattle.ember_box.specs.Aabbs.{interval_along, aabb_of_cell, aabb_of_tri, aabbs_meet, crosses}
 use Rattle.ember_box.specs.Sums.{IsPlaneOf, AreHalves}
@@ -24,18 +24,19 @@ use Rattle.ember_box.proofs.HalvesMet.{left_meets, right_meets}
 use Rattle.ember_box.proofs.HalfNearness.{seen_low, seen_high}
 use Rattle.ember_box.proofs.HalfCrossing.{low_crossed, high_crossed}
 use Rattle.ember_box.proofs.Lists.{false_by}
+use Rattle.ember_box.proofs.InSteps.{above_in_steps, left_in_steps, right_in_steps}
 
 -- ---- a triangle that isn't near the box
 -- a triangle that isn't near a box isn't near its halves
-pub none_near : (c : Cell) (t : Tri) → is_near c t ≡ false → AreNearParts c t no_parts
-none_near c t e = record { whole = sym e; x = pair X; y = pair Y; z = pair Z }
+pub none_near : (n : ℕ) (c : Cell) (t : Tri) → is_near (in_steps n c) t ≡ false → AreNearParts n c t no_parts
+none_near n c t e = record { whole = sym e; x = pair X; y = pair Y; z = pair Z }
   where
-    pair : (k : Axis) → 0 < c.log k → IsNearPair c k t no_pair
+    pair : (k : Axis) → 0 < c.log k → IsNearPair (in_steps n c) k t no_pair
     pair k may =
+        let b = in_steps n c in let over = above_in_steps n c k may in
         record {
-          left = sym (false_by (is_near (left_half c k) t) (is_near c t) (left_near c k t may) e);
-          right =
-              sym (false_by (is_near (right_half c k) t) (is_near c t) (right_near c k t may) e);
+          left = sym (false_by (is_near (left_half b k) t) (is_near b t) (left_near b k t over) e);
+          right = sym (false_by (is_near (right_half b k) t) (is_near b t) (right_near b k t over) e);
         }
 
 -- ---- one whose bounding box meets the box
@@ -92,24 +93,34 @@ module _ (c : Cell) (t : Tri) (o : aabbs_meet (aabb_of_tri t) (aabb_of_cell c) �
             sym (right_meets c k (aabb_of_tri t) may) ∙ ap (λ b. b && int_le (low (right_half c k) k) (interval_along (aabb_of_tri t) k).high) o
 
 -- the near parts along an axis are the near pair of the axis
-pub pair_at : (c : Cell) (t : Tri) (p : NearParts) (k : Axis) → AreNearParts c t p → 0 < c.log k → IsNearPair c k t (pair_on k p)
-pair_at c t p X a may = a.x may
-pair_at c t p Y a may = a.y may
-pair_at c t p Z a may = a.z may
+pub pair_at : (n : ℕ) (c : Cell) (t : Tri) (p : NearParts) (k : Axis) → AreNearParts n c t p → 0 < c.log k →
+    IsNearPair (in_steps n c) k t (pair_on k p)
+pair_at n c t p X a may = a.x may
+pair_at n c t p Y a may = a.y may
+pair_at n c t p Z a may = a.z may
+
+-- the same of the halves in steps
+pub left_at : (n : ℕ) (c : Cell) (t : Tri) (p : NearParts) (k : Axis) → AreNearParts n c t p → 0 < c.log k →
+    (pair_on k p).left ≡ is_near (in_steps n (left_half c k)) t
+left_at n c t p k a may = (pair_at n c t p k a may).left ∙ ap (λ b. is_near b t) (left_in_steps n c k may)
+
+pub right_at : (n : ℕ) (c : Cell) (t : Tri) (p : NearParts) (k : Axis) → AreNearParts n c t p → 0 < c.log k →
+    (pair_on k p).right ≡ is_near (in_steps n (right_half c k)) t
+right_at n c t p k a may = (pair_at n c t p k a may).right ∙ ap (λ b. is_near b t) (right_in_steps n c k may)
 
 -- ---- one more place of a list
 -- the near parts of one triangle more
-pub parts_more : (ts : List Tri) (c : Cell) (is : List ℕ) (ps : List NearParts) (p : NearParts) →
-    AreNearPartsAt ts c is ps → AreNearParts c (tri_at ts (get_or is (length ps) 0)) p →
-    AreNearPartsAt ts c is (ps ++ p ∷ [])
-parts_more ts c is ps p h one = record { each = λ i l. by i l (cases_lt i (length ps)) }
+pub parts_more : (n : ℕ) (ts : List Tri) (c : Cell) (is : List ℕ) (ps : List NearParts) (p : NearParts) →
+    AreNearPartsAt n ts c is ps → AreNearParts n c (tri_at ts (get_or is (length ps) 0)) p →
+    AreNearPartsAt n ts c is (ps ++ p ∷ [])
+parts_more n ts c is ps p h one = record { each = λ i l. by i l (cases_lt i (length ps)) }
   where
-    by : (i : ℕ) → i < length (ps ++ p ∷ []) → (i < length ps) ⊎ (length ps ≤ i) → AreNearParts c (tri_at ts (get_or is i 0)) (get_or (ps ++ p ∷ []) i no_parts)
+    by : (i : ℕ) → i < length (ps ++ p ∷ []) → (i < length ps) ⊎ (length ps ≤ i) → AreNearParts n c (tri_at ts (get_or is i 0)) (get_or (ps ++ p ∷ []) i no_parts)
     by i l (inl m) = rw (get_or_append_left ps (p ∷ []) no_parts i m) (h.each i m)
     by i l (inr m) =
         let e : i ≡ length ps = omega (arith, length-append ps (p ∷ []), l, m) in
-        subst (λ (j : ℕ). AreNearParts c (tri_at ts (get_or is j 0)) (get_or (ps ++ p ∷ []) j no_parts)) (sym e) (rw (get_or-append_seam ps p [] no_parts) one)
+        subst (λ (j : ℕ). AreNearParts n c (tri_at ts (get_or is j 0)) (get_or (ps ++ p ∷ []) j no_parts)) (sym e) (rw (get_or-append_seam ps p [] no_parts) one)
 
 -- the near parts of no triangle
-pub parts_none : (ts : List Tri) (c : Cell) (is : List ℕ) → AreNearPartsAt ts c is []
-parts_none ts c is = record { each = λ i l. absurd (omega (arith, l)) }
+pub parts_none : (n : ℕ) (ts : List Tri) (c : Cell) (is : List ℕ) → AreNearPartsAt n ts c is []
+parts_none n ts c is = record { each = λ i l. absurd (omega (arith, l)) }

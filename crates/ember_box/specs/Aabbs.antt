@@ -1,5 +1,5 @@
 -- Bounding boxes of boxes and of triangles, and the tests on them
-use Rattle.std.specs.Prelude.{ℤ, ◌+ℤ◌, ◌*ℤ◌, Bool, ◌&&◌, ◌||◌, if◌then◌else◌, int_le}
+use Rattle.std.specs.Prelude.{ℕ, ◌*◌, ℤ, ◌+ℤ◌, ◌*ℤ◌, Bool, ◌&&◌, ◌||◌, if◌then◌else◌, int_le}
 use Rattle.std.specs.Int.{int_min, int_max}
 use Rattle.ember_algebra.specs.Size.{Small}
 use Rattle.ember_algebra.specs.Sign.{is_negative}
@@ -8,6 +8,8 @@ use Rattle.ember_model.specs.declared.plane.Plane.{Plane}
 use Rattle.ember_model.specs.declared.point.Corner.{Corner}
 use Rattle.ember_model.specs.declared.point.Axis.{Axis}
 use Rattle.ember_model.specs.declared.point.Axis.TheVariants.{X, Y, Z}
+use Rattle.ember_model.specs.Limits.{broad_limit}
+use Rattle.ember_model.specs.Within.{normal_limit}
 use Rattle.ember_box.specs.declared.aabb.Interval.{Interval}
 use Rattle.ember_box.specs.declared.aabb.Aabb.{Aabb}
 use Rattle.ember_box.specs.Boxes.{Cell, low, high}
@@ -105,12 +107,21 @@ unfoldable pub crosses : Plane → Aabb → Bool
 crosses p b = int_le (least_value p b) p.d && int_le p.d (greatest_value p b)
 
 -- ---- sizes
-pub record IsIntervalSized (s : Interval) : Type 0 where
-  pub low : Small 2048 s.low
-  pub high : Small 2048 s.high
+-- the greatest coordinate of a box on the grid of the finest steps: 2048 units of 256 steps
+abbrev pub most_wall : ℕ
+most_wall = 524288
 
--- all coordinates are at most 2048 in size
-pub record IsAabbSized (b : Aabb) : Type 0 where
-  pub x : IsIntervalSized b.x
-  pub y : IsIntervalSized b.y
-  pub z : IsIntervalSized b.z
+-- a plane's value at a point of such a box, without its constant
+abbrev pub most_sum : ℕ
+most_sum = 3 * (normal_limit broad_limit * most_wall)
+
+-- its ends are at most m in size
+pub record IsIntervalWithin (m : ℕ) (s : Interval) : Type 0 where
+  pub low : Small m s.low
+  pub high : Small m s.high
+
+-- all coordinates are at most m in size
+pub record IsAabbWithin (m : ℕ) (b : Aabb) : Type 0 where
+  pub x : IsIntervalWithin m b.x
+  pub y : IsIntervalWithin m b.y
+  pub z : IsIntervalWithin m b.z

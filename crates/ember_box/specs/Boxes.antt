@@ -1,5 +1,5 @@
 -- Boxes: the root, its halves, and the paths that name them.
-use Rattle.std.specs.Prelude.{◌≡◌, ℕ, pred, ◌+◌, ◌*◌, ◌^◌, ◌≤◌, List, ℤ, pos, ◌+ℤ◌, neg_ℤ, refl, slice_index_or}
+use Rattle.std.specs.Prelude.{◌≡◌, ℕ, zero, suc, pred, ◌+◌, ◌*◌, ◌^◌, ◌≤◌, List, ℤ, pos, ◌+ℤ◌, neg_ℤ, refl, slice_index_or}
 use Rattle.std.specs.Coded.{Coded, code_by, coded×, coded_ℕ, coded_ℤ}
 use Rattle.std.proofs.Common.{ap}
 use Rattle.std.proofs.Math.Path.{fun_ext}
@@ -74,6 +74,23 @@ right_half c k =
           c.path + 1;
     }
 
+-- ---- in steps
+-- the box measured in lengths half as long: each coordinate and each side is twice the number
+abbrev pub doubled : Cell → Cell
+doubled c =
+    record {
+      lo = record { x = c.lo.x +ℤ c.lo.x; y = c.lo.y +ℤ c.lo.y; z = c.lo.z +ℤ c.lo.z };
+      log = λ k. suc (c.log k);
+      path = c.path;
+    }
+
+-- the box measured in steps of a grid on which a unit is halved n times until it is one step, so a unit has 2^n steps.
+-- If n is 0, this is the box
+abbrev pub in_steps : ℕ → Cell → Cell
+in_steps zero c = c
+in_steps (suc n) c = doubled (in_steps n c)
+
+-- ---- what boxes keep
 -- along an axis, the box is one of the equal pieces of its size into which the root is divided
 pub record IsOnGrid (low : ℤ) (log : ℕ) : Type 0 where
   pub small : log ≤ 12

@@ -1,5 +1,5 @@
 -- Which halves of a box along each axis a triangle is near, and what decides it
-use Rattle.std.specs.Prelude.{◌≡◌, ℕ, ◌<◌, ℤ, ◌-ℤ◌, ◌*ℤ◌, neg_ℤ, false, if◌then◌else◌, List, length, slice_index_or}
+use Rattle.std.specs.Prelude.{◌≡◌, ℕ, ◌*◌, ◌<◌, ℤ, ◌-ℤ◌, ◌*ℤ◌, neg_ℤ, false, if◌then◌else◌, List, length, slice_index_or}
 use Rattle.ember_algebra.specs.Size.{Small}
 use Rattle.ember_algebra.specs.Sign.{is_negative}
 use Rattle.ember_model.specs.declared.tri.Tri.{Tri}
@@ -12,8 +12,8 @@ use Rattle.ember_box.specs.declared.near_parts.Middle.{Middle}
 use Rattle.ember_box.specs.declared.near_parts.Middles.{Middles}
 use Rattle.ember_box.specs.declared.near_parts.NearPair.{NearPair}
 use Rattle.ember_box.specs.declared.near_parts.NearParts.{NearParts}
-use Rattle.ember_box.specs.Boxes.{Cell, low, left_half, right_half}
-use Rattle.ember_box.specs.Aabbs.{aabb_of_cell, least_value, greatest_value, IsAabbSized}
+use Rattle.ember_box.specs.Boxes.{Cell, low, left_half, right_half, in_steps}
+use Rattle.ember_box.specs.Aabbs.{aabb_of_cell, least_value, greatest_value, most_wall, IsAabbWithin}
 use Rattle.ember_box.specs.Near.{is_near, tri_at}
 
 -- ---- the halves
@@ -22,18 +22,18 @@ pub record IsMiddle (c : Cell) (k : Axis) (m : Middle) : Type 0 where
   pub place : m.at ≡ low (right_half c k) k
   pub length : m.half ≡ low (right_half c k) k -ℤ low c k
 
--- the bounding box of a box, with its middle along each axis on which its side is above 1
-pub record AreMiddles (c : Cell) (b : Middles) : Type 0 where
-  pub whole : b.whole ≡ aabb_of_cell c
-  pub x : 0 < c.log X → IsMiddle c X b.x
-  pub y : 0 < c.log Y → IsMiddle c Y b.y
-  pub z : 0 < c.log Z → IsMiddle c Z b.z
+-- where a unit has 2^n steps: the bounding box of a box, with its middle along each axis on which its side is above 1
+pub record AreMiddles (n : ℕ) (c : Cell) (b : Middles) : Type 0 where
+  pub whole : b.whole ≡ aabb_of_cell (in_steps n c)
+  pub x : 0 < c.log X → IsMiddle (in_steps n c) X b.x
+  pub y : 0 < c.log Y → IsMiddle (in_steps n c) Y b.y
+  pub z : 0 < c.log Z → IsMiddle (in_steps n c) Z b.z
 
 pub record AreMiddlesSized (b : Middles) : Type 0 where
-  pub whole : IsAabbSized b.whole
-  pub x : Small 4096 b.x.half
-  pub y : Small 4096 b.y.half
-  pub z : Small 4096 b.z.half
+  pub whole : IsAabbWithin most_wall b.whole
+  pub x : Small (2 * most_wall) b.x.half
+  pub y : Small (2 * most_wall) b.y.half
+  pub z : Small (2 * most_wall) b.z.half
 
 -- ---- a plane
 -- how far its constant lies above its least value over a box, and below its greatest
@@ -58,12 +58,13 @@ pub record IsNearPair (c : Cell) (k : Axis) (t : Tri) (p : NearPair) : Type 0 wh
   pub left : p.left ≡ is_near (left_half c k) t
   pub right : p.right ≡ is_near (right_half c k) t
 
--- whether the triangle is near the box, and near its halves along each axis on which its side is above 1
-pub record AreNearParts (c : Cell) (t : Tri) (p : NearParts) : Type 0 where
-  pub whole : p.whole ≡ is_near c t
-  pub x : 0 < c.log X → IsNearPair c X t p.x
-  pub y : 0 < c.log Y → IsNearPair c Y t p.y
-  pub z : 0 < c.log Z → IsNearPair c Z t p.z
+-- where a unit has 2^n steps: whether the triangle is near the box, and near its halves along each axis on which its
+-- side is above 1
+pub record AreNearParts (n : ℕ) (c : Cell) (t : Tri) (p : NearParts) : Type 0 where
+  pub whole : p.whole ≡ is_near (in_steps n c) t
+  pub x : 0 < c.log X → IsNearPair (in_steps n c) X t p.x
+  pub y : 0 < c.log Y → IsNearPair (in_steps n c) Y t p.y
+  pub z : 0 < c.log Z → IsNearPair (in_steps n c) Z t p.z
 
 abbrev pub no_pair : NearPair
 no_pair = record { left = false; right = false }
@@ -78,6 +79,6 @@ pair_on Y p = p.y
 pair_on Z p = p.z
 
 -- item i of ps has the near parts of the triangle whose index is item i of the list `indices`
-pub record AreNearPartsAt (ts : List Tri) (c : Cell) (indices : List ℕ) (ps : List NearParts) : Type 0 where
+pub record AreNearPartsAt (n : ℕ) (ts : List Tri) (c : Cell) (indices : List ℕ) (ps : List NearParts) : Type 0 where
   pub each : (i : ℕ) → i < length ps →
-      AreNearParts c (tri_at ts (slice_index_or indices i 0)) (slice_index_or ps i no_parts)
+      AreNearParts n c (tri_at ts (slice_index_or indices i 0)) (slice_index_or ps i no_parts)

@@ -6,13 +6,14 @@ use Rattle.ember_model.specs.declared.plane.Plane.{Plane}
 use Rattle.ember_model.specs.declared.point.Axis.{Axis}
 use Rattle.ember_model.specs.declared.point.Axis.TheVariants.{X, Y, Z}
 use Rattle.ember_model.specs.Planes.{support_of}
-use Rattle.ember_model.specs.Sizes.{IsSupportSized}
+use Rattle.ember_model.specs.Limits.{broad_limit}
+use Rattle.ember_model.specs.Within.{IsSupportWithin}
 use Rattle.ember_box.specs.declared.aabb.Interval.{Interval}
 use Rattle.ember_box.specs.declared.aabb.Aabb.{Aabb}
 use Rattle.ember_box.specs.declared.half_boxes.HalfBoxes.{HalfBoxes}
 use Rattle.ember_box.specs.declared.sums.Sums.{Sums}
-use Rattle.ember_box.specs.Boxes.{Cell, low, left_half, right_half}
-use Rattle.ember_box.specs.Aabbs.{aabb_of_cell, aabb_of_tri, contains_aabb, is_level, crosses, IsAabbSized}
+use Rattle.ember_box.specs.Boxes.{Cell, low, left_half, right_half, in_steps}
+use Rattle.ember_box.specs.Aabbs.{aabb_of_cell, aabb_of_tri, contains_aabb, is_level, crosses, most_wall, IsAabbWithin}
 use Rattle.ember_box.specs.Near.{is_near, near}
 use Rattle.ember_box.specs.Halving.{half_sum}
 
@@ -28,7 +29,7 @@ IsPlaneOf whole t (Some p) = p ≡ support_of t
 
 abbrev pub IsPlaneSized : Option Plane → Type 0
 IsPlaneSized None = ⊤
-IsPlaneSized (Some p) = IsSupportSized p
+IsPlaneSized (Some p) = IsSupportWithin broad_limit p
 
 -- the plane to test crosses the bounding box, or there is no plane to test
 abbrev pub may_cross : Aabb → Option Plane → Bool
@@ -43,8 +44,8 @@ pub record AreHalves (c : Cell) (k : Axis) (h : HalfBoxes) : Type 0 where
   pub is_middle : h.middle ≡ low (right_half c k) k
 
 pub record AreHalvesSized (h : HalfBoxes) : Type 0 where
-  pub sized_left : IsAabbSized h.left
-  pub sized_right : IsAabbSized h.right
+  pub sized_left : IsAabbWithin most_wall h.left
+  pub sized_right : IsAabbWithin most_wall h.right
 
 -- what meets the box meets a half if its interval along the axis reaches the middle
 abbrev pub meets_left : HalfBoxes → Interval → Option Plane → Bool
@@ -59,13 +60,13 @@ meets_right h a (Some p) = int_le h.middle a.high && crosses p h.right
 unfoldable pub near_half_count : Cell → Axis → Tri → ℕ
 near_half_count c k t = number (is_near (left_half c k) t) + number (is_near (right_half c k) t)
 
--- ---- the sums of one triangle
+-- ---- the sums of one triangle, where a unit has 2^n steps
 -- how many of the box and of its halves along each axis the triangle is near
-pub record AreSumsOfOne (c : Cell) (t : Tri) (s : Sums) : Type 0 where
-  pub near : s.near ≡ number (is_near c t)
-  pub x : 0 < c.log X → s.x ≡ near_half_count c X t
-  pub y : 0 < c.log Y → s.y ≡ near_half_count c Y t
-  pub z : 0 < c.log Z → s.z ≡ near_half_count c Z t
+pub record AreSumsOfOne (n : ℕ) (c : Cell) (t : Tri) (s : Sums) : Type 0 where
+  pub near : s.near ≡ number (is_near (in_steps n c) t)
+  pub x : 0 < c.log X → s.x ≡ near_half_count (in_steps n c) X t
+  pub y : 0 < c.log Y → s.y ≡ near_half_count (in_steps n c) Y t
+  pub z : 0 < c.log Z → s.z ≡ near_half_count (in_steps n c) Z t
 
 pub record AreFew (s : Sums) : Type 0 where
   pub near : s.near ≤ 1
@@ -75,14 +76,14 @@ pub record AreFew (s : Sums) : Type 0 where
 
 -- ---- a list of triangles
 -- the sum of the axis, if the side along it is above 1
-pub record IsSumOf (ts : List Tri) (c : Cell) (k : Axis) (sum : ℕ) : Type 0 where
-  pub value : 0 < c.log k → sum ≡ half_sum ts c k
+pub record IsSumOf (n : ℕ) (ts : List Tri) (c : Cell) (k : Axis) (sum : ℕ) : Type 0 where
+  pub value : 0 < c.log k → sum ≡ half_sum ts (in_steps n c) k
   pub bound : sum ≤ 2 * length ts
 
 -- how many triangles are near the box, and the sum of each axis
-pub record AreSums (ts : List Tri) (c : Cell) (s : Sums) : Type 0 where
-  pub near : s.near ≡ length (near ts c)
+pub record AreSums (n : ℕ) (ts : List Tri) (c : Cell) (s : Sums) : Type 0 where
+  pub near : s.near ≡ length (near ts (in_steps n c))
   pub bound : s.near ≤ length ts
-  pub x : IsSumOf ts c X s.x
-  pub y : IsSumOf ts c Y s.y
-  pub z : IsSumOf ts c Z s.z
+  pub x : IsSumOf n ts c X s.x
+  pub y : IsSumOf n ts c Y s.y
+  pub z : IsSumOf n ts c Z s.z

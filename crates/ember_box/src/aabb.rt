@@ -1,13 +1,17 @@
 // Bounding boxes of boxes and of triangles.
-ghost use Rattle.std.specs.Prelude.{◌≡◌, ◌^◌, ◌&&◌, pos, ◌-ℤ◌, int_le};
+ghost use Rattle.std.specs.Prelude.{◌≡◌, ◌*◌, ◌^◌, ◌&&◌, pos, ◌-ℤ◌, int_le};
 ghost use Rattle.ember_algebra.specs.Size.{Small};
-ghost use Rattle.ember_model.specs.Sizes.{IsSupportSized};
+ghost use Rattle.ember_model.specs.Limits.{broad_limit};
+ghost use Rattle.ember_model.specs.Within.{IsSupportWithin};
 ghost use Rattle.ember_box.specs.Boxes as boxes;
+ghost use Rattle.ember_box.specs.Boxes.{in_steps};
 ghost use Rattle.ember_box.specs.NearParts.{AreMargins};
-ghost use Rattle.ember_box.specs.Aabbs.{interval_between, interval_over, interval_along, aabb_of_cell, aabb_of_tri, intervals_meet, aabbs_meet, aabbs_meet_beside, covers, contains_aabb, is_point, is_level, contains_coordinate, contains_corner, least_end, greatest_end, value_without_constant, least_value, greatest_value, crosses, IsIntervalSized, IsAabbSized};
+ghost use Rattle.ember_box.specs.Aabbs.{interval_between, interval_over, interval_along, aabb_of_cell, aabb_of_tri, intervals_meet, aabbs_meet, aabbs_meet_beside, covers, contains_aabb, is_point, is_level, contains_coordinate, contains_corner, least_end, greatest_end, value_without_constant, least_value, greatest_value, crosses, most_wall, most_sum, IsIntervalWithin, IsAabbWithin};
 
 use crate::cell::Cell;
+use crate::steps::in_steps;
 use ember_model::{Axis, Corner, Plane, Tri};
+use ember_width::{Narrow, Width};
 
 /// From a least coordinate to a greatest one, both ends included.
 #[derive(Clone, Copy)]
@@ -24,10 +28,10 @@ pub struct Aabb {
     pub z: Interval,
 }
 
-// The interval of the closed box along an axis.
+// The interval of the closed box along an axis, in units.
 fn span_along(c: &Cell, k: Axis) -> Interval
     ensures value { result ≡ interval_between (boxes.low c.now k) (boxes.high c.now k) }
-    ensures sized { IsIntervalSized result }
+    ensures within { IsIntervalWithin 2048 result }
 {
     let low = c.low(k);
     let side = c.side(k);
@@ -37,16 +41,40 @@ fn span_along(c: &Cell, k: Axis) -> Interval
     }
 }
 
-/// The bounding box of a box, with its upper walls.
-pub fn aabb_of_cell(c: &Cell) -> Aabb
-    ensures value { result ≡ aabb_of_cell c.now }
-    ensures sized { IsAabbSized result }
+// The same in steps of a grid.
+fn span_on<W: Width>(c: &Cell, k: Axis) -> Interval
+    ensures value { result
+        ≡ interval_between (boxes.low (in_steps W.scale c.now) k) (boxes.high (in_steps W.scale c.now) k) }
+    ensures within { IsIntervalWithin (2 ^ W.scale * 2048) result }
+    ensures sized { IsIntervalWithin most_wall result }
+{
+    let span = span_along(c, k);
+    Interval {
+        low: in_steps::<W>(span.low),
+        high: in_steps::<W>(span.high),
+    }
+}
+
+/// The bounding box of a box in steps of a grid, with its upper walls.
+pub fn aabb_on<W: Width>(c: &Cell) -> Aabb
+    ensures value { result ≡ aabb_of_cell (in_steps W.scale c.now) }
+    ensures within { IsAabbWithin (2 ^ W.scale * 2048) result }
+    ensures sized { IsAabbWithin most_wall result }
 {
     Aabb {
-        x: span_along(c, Axis::X),
-        y: span_along(c, Axis::Y),
-        z: span_along(c, Axis::Z),
+        x: span_on::<W>(c, Axis::X),
+        y: span_on::<W>(c, Axis::Y),
+        z: span_on::<W>(c, Axis::Z),
     }
+}
+
+/// The bounding box of a box, with its upper walls, where a unit is one step.
+pub fn aabb_of_cell(c: &Cell) -> Aabb
+    ensures value { result ≡ aabb_of_cell c.now }
+    ensures within { IsAabbWithin 2048 result }
+    ensures sized { IsAabbWithin most_wall result }
+{
+    aabb_on::<Narrow>(c)
 }
 
 // The interval from the least of three coordinates to the greatest.
@@ -173,18 +201,18 @@ pub fn contains_corner(aabb: &Aabb, u: &Corner) -> bool
 
 // The end of the interval at which `n` times the coordinate is least.
 fn least_end(n: i64, interval: &Interval) -> i32
-    requires { IsIntervalSized interval.now }
+    requires { IsIntervalWithin most_wall interval.now }
     ensures value { result ≡ least_end n interval.now }
-    ensures small { Small 2048 result }
+    ensures small { Small most_wall result }
 {
     if n < 0 { interval.high } else { interval.low }
 }
 
 // The end of the interval at which `n` times the coordinate is greatest.
 fn greatest_end(n: i64, interval: &Interval) -> i32
-    requires { IsIntervalSized interval.now }
+    requires { IsIntervalWithin most_wall interval.now }
     ensures value { result ≡ greatest_end n interval.now }
-    ensures small { Small 2048 result }
+    ensures small { Small most_wall result }
 {
     if n < 0 { interval.low } else { interval.high }
 }
@@ -192,22 +220,22 @@ fn greatest_end(n: i64, interval: &Interval) -> i32
 // The value of the plane at a point, without its constant.
 #[tactic(none)]
 fn value_without_constant(p: &Plane, x: i32, y: i32, z: i32) -> i64
-    requires plane { IsSupportSized p.now }
-    requires x { Small 2048 x }
-    requires y { Small 2048 y }
-    requires z { Small 2048 z }
+    requires plane { IsSupportWithin broad_limit p.now }
+    requires x { Small most_wall x }
+    requires y { Small most_wall y }
+    requires z { Small most_wall z }
     ensures value { result ≡ value_without_constant p.now x y z }
-    ensures small { Small (2 ^ 38) result }
+    ensures small { Small most_sum result }
 {
     p.a * x as i64 + p.b * y as i64 + p.c * z as i64
 }
 
 // The least value of the plane over the bounding box, without its constant.
 fn least_value(p: &Plane, aabb: &Aabb) -> i64
-    requires plane { IsSupportSized p.now }
-    requires sized { IsAabbSized aabb.now }
+    requires plane { IsSupportWithin broad_limit p.now }
+    requires sized { IsAabbWithin most_wall aabb.now }
     ensures value { result ≡ least_value p.now aabb.now }
-    ensures small { Small (2 ^ 38) result }
+    ensures small { Small most_sum result }
 {
     value_without_constant(
         p,
@@ -219,10 +247,10 @@ fn least_value(p: &Plane, aabb: &Aabb) -> i64
 
 // The greatest value of the plane over the bounding box, without its constant.
 fn greatest_value(p: &Plane, aabb: &Aabb) -> i64
-    requires plane { IsSupportSized p.now }
-    requires sized { IsAabbSized aabb.now }
+    requires plane { IsSupportWithin broad_limit p.now }
+    requires sized { IsAabbWithin most_wall aabb.now }
     ensures value { result ≡ greatest_value p.now aabb.now }
-    ensures small { Small (2 ^ 38) result }
+    ensures small { Small most_sum result }
 {
     value_without_constant(
         p,
@@ -236,8 +264,8 @@ fn greatest_value(p: &Plane, aabb: &Aabb) -> i64
 /// plane's least value at them isn't positive, and its greatest isn't negative.
 #[tactic(auto, unfolding(crate::specs::Aabbs::crosses))]
 pub fn crosses(p: &Plane, aabb: &Aabb) -> bool
-    requires plane { IsSupportSized p.now }
-    requires sized { IsAabbSized aabb.now }
+    requires plane { IsSupportWithin broad_limit p.now }
+    requires sized { IsAabbWithin most_wall aabb.now }
     ensures { result ≡ crosses p.now aabb.now }
 {
     least_value(p, aabb) <= p.d && p.d <= greatest_value(p, aabb)
@@ -254,8 +282,8 @@ pub struct Margins {
 // The difference `a - b`.
 #[tactic(none)]
 fn difference(a: i64, b: i64) -> i64
-    requires a { Small (2 ^ 38) a }
-    requires b { Small (2 ^ 38) b }
+    requires a { Small most_sum a }
+    requires b { Small most_sum b }
     ensures { result ≡ a -ℤ b }
 {
     a - b
@@ -263,8 +291,8 @@ fn difference(a: i64, b: i64) -> i64
 
 /// The margins of the plane over the bounding box.
 pub fn margins_of(p: &Plane, aabb: &Aabb) -> Margins
-    requires plane { IsSupportSized p.now }
-    requires sized { IsAabbSized aabb.now }
+    requires plane { IsSupportWithin broad_limit p.now }
+    requires sized { IsAabbWithin most_wall aabb.now }
     ensures { AreMargins p.now aabb.now result }
 {
     Margins {

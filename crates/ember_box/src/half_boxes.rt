@@ -2,8 +2,9 @@
 // for `near_halves`, which `voxels` uses. near_parts.rt does it for all axes at once, and uses only
 // `plane_to_test` of this file.
 ghost use Rattle.std.specs.Prelude.{◌≡◌, ◌<◌};
-ghost use Rattle.ember_model.specs.Valid.{IsValidTri};
-ghost use Rattle.ember_box.specs.Aabbs.{aabb_of_tri, IsAabbSized};
+ghost use Rattle.ember_model.specs.Limits.{broad_limit};
+ghost use Rattle.ember_model.specs.Within.{IsTriWithin};
+ghost use Rattle.ember_box.specs.Aabbs.{aabb_of_tri};
 ghost use Rattle.ember_box.specs.Sums.{IsPlaneOf, IsPlaneSized, meets_left, meets_right, AreHalves, AreHalvesSized};
 
 use crate::aabb::{Aabb, Interval, aabb_of_cell, contains_aabb, crosses, is_level};
@@ -14,7 +15,7 @@ use ember_model::{Axis, Plane, Tri, support_of};
 /// box, or in a plane perpendicular to an axis: then it is near each half that its bounding box
 /// meets, so bounding boxes alone decide.
 pub fn plane_to_test(whole: &Aabb, spans: &Aabb, t: &Tri) -> Option<Plane>
-    requires valid { IsValidTri t.now }
+    requires tri { IsTriWithin broad_limit t.now }
     requires spans { spans.now ≡ aabb_of_tri t.now }
     ensures value { IsPlaneOf whole.now t.now result }
     ensures sized { IsPlaneSized result }

@@ -1,19 +1,21 @@
 // A box with the triangles near its halves, found in one pass over the triangles near it.
 ghost use Rattle.std.specs.Prelude.{◌≡◌, ◌<◌, length, All, List, ℕ, None, Some, IfOk, IfSome, if◌then◌else◌};
-ghost use Rattle.ember_model.specs.Valid.{IsValidTri};
+ghost use Rattle.ember_model.specs.Limits.{broad_limit};
+ghost use Rattle.ember_model.specs.Within.{IsTriWithin};
 ghost use Rattle.ember_model.specs.declared.tri.Tri.{Tri};
 ghost use Rattle.ember_box.specs.Boxes.{Cell as CellView};
 ghost use Rattle.ember_box.specs.Near.{listed};
 ghost use Rattle.ember_box.specs.Sums.{AreSums};
 ghost use Rattle.ember_box.specs.NearParts.{AreNearPartsAt};
 ghost use Rattle.ember_box.specs.Halving as halvings;
-ghost use Rattle.ember_box.specs.Halved.{axis_of, AreNearLists};
+ghost use Rattle.ember_box.specs.Halved.{axis_of, AreNearLists, AreNearListsOn};
 
 use crate::cell::Cell;
 use crate::near_parts::{NearParts, middles_of, near_parts, pair_on};
 use crate::nearness::push_if;
 use crate::sums::{Sums, is_few, is_leaf_by, least_axis, sums_of};
 use ember_model::{Axis, OutOfMemory, Scene, Tri};
+use ember_width::{Narrow, Width};
 use std::alloc::Global;
 
 /// The axis along which a box is halved, and the triangles near its left and its right half.
@@ -31,20 +33,21 @@ struct PartsAndSums {
     parts: Vec<NearParts>,
 }
 
-// The parts of the triangles with the listed indices, for this box, and their sums.
-fn parts_and_sums(
+// The parts of the triangles with the listed indices, for this box in steps of a grid, and their
+// sums.
+fn parts_and_sums<W: Width>(
     alloc: Global,
     tris: &[Tri],
     list: &[u32],
     c: &Cell,
 ) -> Result<PartsAndSums, OutOfMemory>
-    requires valid { All IsValidTri tris.now }
+    requires within { All (IsTriWithin broad_limit) tris.now }
     requires places { All (λ i. i < length tris.now) list.now }
-    ensures sums { IfOk result (λ l. AreSums (listed tris.now list.now) c.now l.sums) }
-    ensures parts { IfOk result (λ l. AreNearPartsAt tris.now c.now list.now l.parts.items) }
+    ensures sums { IfOk result (λ l. AreSums W.scale (listed tris.now list.now) c.now l.sums) }
+    ensures parts { IfOk result (λ l. AreNearPartsAt W.scale tris.now c.now list.now l.parts.items) }
     ensures count { IfOk result (λ l. length l.parts.items ≡ length list.now) }
 {
-    let middles = middles_of(c);
+    let middles = middles_of::<W>(c);
     let mut parts = Vec::with_capacity(alloc, list.len())?;
     let mut near = 0;
     let mut x_sum = 0;
@@ -79,8 +82,8 @@ fn lists_of(
     axis: Axis,
 ) -> Result<(Vec<u32>, Vec<u32>), OutOfMemory>
     requires { length parts.now ≡ length list.now }
-    ensures { IfOk result (λ v. (ts : List Tri) (c : CellView) → 0 < c.log axis →
-        AreNearPartsAt ts c list.now parts.now → AreNearLists ts c axis list.now v.0.items v.1.items) }
+    ensures { IfOk result (λ v. (n : ℕ) (ts : List Tri) (c : CellView) → 0 < c.log axis →
+        AreNearPartsAt n ts c list.now parts.now → AreNearListsOn n ts c axis list.now v.0.items v.1.items) }
 {
     let mut left = Vec::with_capacity(alloc, list.len())?;
     let mut right = Vec::with_capacity(alloc, list.len())?;
@@ -92,26 +95,26 @@ fn lists_of(
     Ok((left, right))
 }
 
-/// The same as `halve_box`, for a list of triangles in place of a scene.
-pub fn halve_box_among(
+/// The same as `halve_box`, for a list of triangles in place of a scene, on any grid.
+pub fn halve_box_among<W: Width>(
     alloc: Global,
     tris: &[Tri],
     list: &[u32],
     c: &Cell,
 ) -> Result<Option<HalvedBox>, OutOfMemory>
-    requires valid { All IsValidTri tris.now }
+    requires within { All (IsTriWithin broad_limit) tris.now }
     requires places { All (λ i. i < length tris.now) list.now }
-    ensures answer { IfOk result (λ h. axis_of h ≡ (if halvings.is_leaf (listed tris.now list.now) c.now then None
-        else Some (halvings.halving_axis (listed tris.now list.now) c.now))) }
+    ensures answer { IfOk result (λ h. axis_of h ≡ (if halvings.is_leaf_on W.scale (listed tris.now list.now) c.now
+        then None else Some (halvings.halving_axis_on W.scale (listed tris.now list.now) c.now))) }
     ensures halvable { IfOk result (λ h. IfSome h (λ v. 0 < c.now.log v.axis)) }
     ensures lists { IfOk result (λ h.
-        IfSome h (λ v. AreNearLists tris.now c.now v.axis list.now v.left.items v.right.items)) }
+        IfSome h (λ v. AreNearListsOn W.scale tris.now c.now v.axis list.now v.left.items v.right.items)) }
 {
     // At most the listed triangles are near the box.
     if is_few(list.len() as u64) {
         return Ok(None);
     }
-    let noted = parts_and_sums(alloc, tris, list, c)?;
+    let noted = parts_and_sums::<W>(alloc, tris, list, c)?;
     if is_leaf_by(c, &noted.sums) {
         return Ok(None);
     }
@@ -136,5 +139,5 @@ pub fn halve_box(
     ensures lists { IfOk result (λ h.
         IfSome h (λ v. AreNearLists s.now.tris c.now v.axis list.now v.left.items v.right.items)) }
 {
-    halve_box_among(alloc, s.tris.items(), list, c)
+    halve_box_among::<Narrow>(alloc, s.tris.items(), list, c)
 }

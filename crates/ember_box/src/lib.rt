@@ -15,14 +15,17 @@ mod law;
 mod near_parts;
 mod nearness;
 mod one_triangle;
+mod steps;
 mod sums;
 
 pub use aabb::{
-    Aabb, Interval, aabb_of_cell, aabb_of_tri, aabbs_meet, aabbs_meet_beside, interval_along,
+    Aabb, Interval, aabb_of_cell, aabb_of_tri, aabb_on, aabbs_meet, aabbs_meet_beside,
+    interval_along,
 };
 pub use cell::{Cell, halves, root};
-pub use halved_box::{HalvedBox, halve_box};
+pub use halved_box::{HalvedBox, halve_box, halve_box_among};
 pub use law::near_triangles_decide_the_halving;
-pub use nearness::{near_halves, near_list};
+pub use nearness::{near_halves, near_list, near_list_among};
 pub use one_triangle::{near, near_tri};
+pub use steps::lo_on;
 pub use sums::{halving, is_leaf, split_axis};

@@ -1,20 +1,22 @@
 // Which halves of a box along each axis a triangle is near, found in one pass: the near parts.
-ghost use Rattle.std.specs.Prelude.{◌≡◌, ◌<◌, ◌&&◌, int_le, true, None, if◌then◌else◌};
+ghost use Rattle.std.specs.Prelude.{◌≡◌, ℕ, ◌*◌, ◌<◌, ◌&&◌, int_le, true, None, if◌then◌else◌};
 ghost use Rattle.ember_algebra.specs.Size.{Small};
 ghost use Rattle.ember_algebra.specs.Sign.{is_negative};
 ghost use Rattle.ember_model.specs.declared.tri.Tri.{Tri};
-ghost use Rattle.ember_model.specs.Valid.{IsValidTri};
+ghost use Rattle.ember_model.specs.Limits.{broad_limit};
 ghost use Rattle.ember_model.specs.Planes.{support_of};
-ghost use Rattle.ember_model.specs.Sizes.{IsSupportSized};
-ghost use Rattle.ember_box.specs.Boxes.{Cell as CellView};
-ghost use Rattle.ember_box.specs.Aabbs.{aabb_of_cell, aabb_of_tri, aabbs_meet, IsAabbSized};
+ghost use Rattle.ember_model.specs.Within.{normal_limit, IsTriWithin, IsSupportWithin};
+ghost use Rattle.ember_box.specs.Boxes.{Cell as CellView, in_steps};
+ghost use Rattle.ember_box.specs.Aabbs.{aabb_of_tri, aabbs_meet, most_wall};
 ghost use Rattle.ember_box.specs.Sums.{IsPlaneOf};
 ghost use Rattle.ember_box.specs.NearParts.{change_size, no_parts, pair_on, IsMiddle, AreMiddles, AreMiddlesSized, AreNearParts};
 
-use crate::aabb::{Aabb, Interval, Margins, aabb_of_cell, aabb_of_tri, aabbs_meet, margins_of};
+use crate::aabb::{Aabb, Interval, Margins, aabb_of_tri, aabb_on, aabbs_meet, margins_of};
 use crate::cell::{Cell, halves};
 use crate::half_boxes::plane_to_test;
+use crate::steps::in_steps;
 use ember_model::{Axis, Plane, Tri};
+use ember_width::Width;
 
 // The coordinate at which the halves of a box along an axis touch, and how long each half is along
 // it.
@@ -51,30 +53,30 @@ pub struct NearParts {
     pub z: NearPair,
 }
 
-// The middle of the box along an axis.
-fn middle_along(c: &Cell, k: Axis) -> Middle
-    ensures value { 0 < c.now.log k → IsMiddle c.now k result }
-    ensures sized { Small 4096 result.half }
+// The middle of the box along an axis, in steps of a grid.
+fn middle_along<W: Width>(c: &Cell, k: Axis) -> Middle
+    ensures value { 0 < c.now.log k → IsMiddle (in_steps W.scale c.now) k result }
+    ensures sized { Small (2 * most_wall) result.half }
 {
-    let low = c.low(k);
+    let low = in_steps::<W>(c.low(k));
     if c.log(k) == 0 {
         return Middle { at: low, half: 0 };
     }
     let (_, right) = halves(c, k);
-    let at = right.low(k);
+    let at = in_steps::<W>(right.low(k));
     Middle { at, half: at - low }
 }
 
-/// The bounding box of the box, with the middle along each axis.
-pub fn middles_of(c: &Cell) -> Middles
-    ensures value { AreMiddles c.now result }
+/// The bounding box of the box, with the middle along each axis, in steps of a grid.
+pub fn middles_of<W: Width>(c: &Cell) -> Middles
+    ensures value { AreMiddles W.scale c.now result }
     ensures sized { AreMiddlesSized result }
 {
     Middles {
-        whole: aabb_of_cell(c),
-        x: middle_along(c, Axis::X),
-        y: middle_along(c, Axis::Y),
-        z: middle_along(c, Axis::Z),
+        whole: aabb_on::<W>(c),
+        x: middle_along::<W>(c, Axis::X),
+        y: middle_along::<W>(c, Axis::Y),
+        z: middle_along::<W>(c, Axis::Z),
     }
 }
 
@@ -108,8 +110,8 @@ fn pair_by_span(middle: &Middle, span: &Interval) -> NearPair
 // The near parts of a triangle whose bounding box meets the box. Its plane crosses each half that
 // its bounding box meets, so bounding boxes alone decide.
 fn parts_by_spans(middles: &Middles, spans: &Aabb) -> NearParts
-    ensures { (c : CellView) (t : Tri) → AreMiddles c middles.now → spans.now ≡ aabb_of_tri t →
-        aabbs_meet spans.now middles.now.whole ≡ true → IsPlaneOf middles.now.whole t None → AreNearParts c t result }
+    ensures { (n : ℕ) (c : CellView) (t : Tri) → AreMiddles n c middles.now → spans.now ≡ aabb_of_tri t →
+        aabbs_meet spans.now middles.now.whole ≡ true → IsPlaneOf middles.now.whole t None → AreNearParts n c t result }
 {
     NearParts {
         whole: true,
@@ -130,8 +132,8 @@ struct Slope {
 // The slope of a plane whose normal has the entry `n` along the axis, over a half of this length.
 #[tactic(none)]
 fn slope_of(n: i64, half: i32) -> Slope
-    requires n { Small 33554431 n }
-    requires half { Small 4096 half }
+    requires n { Small (normal_limit broad_limit) n }
+    requires half { Small (2 * most_wall) half }
     ensures change_size { result.change_size ≡ change_size n half }
     ensures falls { result.falls ≡ is_negative n }
 {
@@ -195,9 +197,9 @@ fn pair_by_plane(middle: &Middle, span: &Interval, slope: &Slope, margins: &Marg
 // The near parts of a triangle with this plane, whose bounding box meets the box.
 fn parts_by_plane(middles: &Middles, spans: &Aabb, p: &Plane) -> NearParts
     requires sized { AreMiddlesSized middles.now }
-    requires plane { IsSupportSized p.now }
-    ensures { (c : CellView) (t : Tri) → AreMiddles c middles.now → spans.now ≡ aabb_of_tri t →
-        aabbs_meet spans.now middles.now.whole ≡ true → p.now ≡ support_of t → AreNearParts c t result }
+    requires plane { IsSupportWithin broad_limit p.now }
+    ensures { (n : ℕ) (c : CellView) (t : Tri) → AreMiddles n c middles.now → spans.now ≡ aabb_of_tri t →
+        aabbs_meet spans.now middles.now.whole ≡ true → p.now ≡ support_of t → AreNearParts n c t result }
 {
     let margins = margins_of(p, &middles.whole);
     if !margins.are_both() {
@@ -228,9 +230,9 @@ fn parts_by_plane(middles: &Middles, spans: &Aabb, p: &Plane) -> NearParts
 
 /// Whether the triangle is near the box, and near its halves along each axis.
 pub fn near_parts(middles: &Middles, t: &Tri) -> NearParts
-    requires valid { IsValidTri t.now }
+    requires tri { IsTriWithin broad_limit t.now }
     requires sized { AreMiddlesSized middles.now }
-    ensures { (c : CellView) → AreMiddles c middles.now → AreNearParts c t.now result }
+    ensures { (n : ℕ) (c : CellView) → AreMiddles n c middles.now → AreNearParts n c t.now result }
 {
     let spans = aabb_of_tri(t);
     if !aabbs_meet(&spans, &middles.whole) {

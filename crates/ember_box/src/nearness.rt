@@ -1,25 +1,28 @@
 // Which triangles are near a box. A call whose name ends in `_among` takes a list of triangles, and
 // the one without it takes a scene.
 ghost use Rattle.std.specs.Prelude.{◌≡◌, ◌+◌, ◌<◌, ◌≤◌, ◌++◌, [], ◌∷◌, true, length, All, IfOk, if◌then◌else◌, vec_len, vec_capacity};
-ghost use Rattle.ember_model.specs.Valid.{IsValidTri};
+ghost use Rattle.ember_model.specs.Limits.{broad_limit};
+ghost use Rattle.ember_model.specs.Within.{IsTriWithin};
 ghost use Rattle.ember_model.specs.Planes.{support_of};
-ghost use Rattle.ember_box.specs.Boxes.{Cell as CellView, left_half, right_half};
-ghost use Rattle.ember_box.specs.Aabbs.{aabb_of_cell, aabb_of_tri, aabbs_meet, crosses, IsAabbSized};
+ghost use Rattle.ember_box.specs.Boxes.{Cell as CellView, left_half, right_half, in_steps};
+ghost use Rattle.ember_box.specs.Aabbs.{aabb_of_cell, aabb_of_tri, aabbs_meet, crosses, most_wall, IsAabbWithin};
 ghost use Rattle.ember_box.specs.Near.{is_near, tri_at, near_indices};
 ghost use Rattle.ember_box.specs.Sums.{AreHalves, AreHalvesSized};
 
 use crate::aabb::{
-    Aabb, aabb_of_cell, aabb_of_tri, aabbs_meet, contains_corner, crosses, interval_along, is_level,
+    Aabb, aabb_of_cell, aabb_of_tri, aabb_on, aabbs_meet, contains_corner, crosses, interval_along,
+    is_level,
 };
 use crate::cell::Cell;
 use crate::half_boxes::{HalfBoxes, half_boxes_of, meets_left, meets_right, plane_to_test};
 use ember_model::{Axis, OutOfMemory, Scene, Tri, support_of};
+use ember_width::{Narrow, Width};
 use std::alloc::Global;
 
 /// Whether the triangle is near the box that has this bounding box.
 pub fn is_near(aabb: &Aabb, t: &Tri) -> bool
-    requires tri { IsValidTri t.now }
-    requires sized { IsAabbSized aabb.now }
+    requires tri { IsTriWithin broad_limit t.now }
+    requires sized { IsAabbWithin most_wall aabb.now }
     ensures { (c : CellView) → aabb.now ≡ aabb_of_cell c → result ≡ is_near c t.now }
 {
     let spans = aabb_of_tri(t);
@@ -30,9 +33,9 @@ pub fn is_near(aabb: &Aabb, t: &Tri) -> bool
 // computed if the triangle lies across an axis or has its first corner in the box: then a point of
 // its plane is in the box.
 fn is_crossed(aabb: &Aabb, spans: &Aabb, t: &Tri) -> bool
-    requires tri { IsValidTri t.now }
+    requires tri { IsTriWithin broad_limit t.now }
     requires spans { spans.now ≡ aabb_of_tri t.now }
-    requires sized { IsAabbSized aabb.now }
+    requires sized { IsAabbWithin most_wall aabb.now }
     ensures { (c : CellView) → aabb.now ≡ aabb_of_cell c → aabbs_meet (aabb_of_tri t.now) aabb.now ≡ true →
         result ≡ crosses (support_of t.now) aabb.now }
 {
@@ -44,26 +47,26 @@ fn is_crossed(aabb: &Aabb, spans: &Aabb, t: &Tri) -> bool
 
 /// Whether triangle `i` of the list is near the box that has this bounding box.
 pub fn is_near_at(tris: &[Tri], aabb: &Aabb, i: u32) -> bool
-    requires valid { All IsValidTri tris.now }
+    requires within { All (IsTriWithin broad_limit) tris.now }
     requires index { i < length tris.now }
-    requires sized { IsAabbSized aabb.now }
+    requires sized { IsAabbWithin most_wall aabb.now }
     ensures { (c : CellView) → aabb.now ≡ aabb_of_cell c → result ≡ is_near c (tri_at tris.now i) }
 {
     is_near(aabb, &tris[i as usize])
 }
 
-/// Those of the listed indices whose triangles are near the box, in order.
-pub fn near_list_among(
+/// Those of the listed indices whose triangles are near the box in steps of a grid, in order.
+pub fn near_list_among<W: Width>(
     alloc: Global,
     tris: &[Tri],
     list: &[u32],
     c: &Cell,
 ) -> Result<Vec<u32>, OutOfMemory>
-    requires valid { All IsValidTri tris.now }
+    requires within { All (IsTriWithin broad_limit) tris.now }
     requires places { All (λ i. i < length tris.now) list.now }
-    ensures { IfOk result (λ v. v.items ≡ near_indices tris.now c.now list.now) }
+    ensures { IfOk result (λ v. v.items ≡ near_indices tris.now (in_steps W.scale c.now) list.now) }
 {
-    let aabb = aabb_of_cell(c);
+    let aabb = aabb_on::<W>(c);
     let mut found = Vec::with_capacity(alloc, list.len())?;
     for i in list {
         if is_near_at(tris, &aabb, *i) {
@@ -79,7 +82,7 @@ pub fn near_list(alloc: Global, s: &Scene, list: &[u32], c: &Cell) -> Result<Vec
     requires { All (λ i. i < length s.now.tris) list.now }
     ensures { IfOk result (λ v. v.items ≡ near_indices s.now.tris c.now list.now) }
 {
-    near_list_among(alloc, s.tris.items(), list, c)
+    near_list_among::<Narrow>(alloc, s.tris.items(), list, c)
 }
 
 /// Appends the index `i` if `belongs` is true. Requires that the list has room for it, so it never
@@ -98,7 +101,7 @@ pub fn push_if(belongs: bool, i: u32, list: &mut Vec<u32>)
 // Whether the triangle is near the left half of a box along an axis, and whether it is near the
 // right one.
 fn is_near_halves(whole: &Aabb, halves: &HalfBoxes, k: Axis, t: &Tri) -> (bool, bool)
-    requires valid { IsValidTri t.now }
+    requires tri { IsTriWithin broad_limit t.now }
     requires sized { AreHalvesSized halves.now }
     ensures { (c : CellView) → 0 < c.log k → whole.now ≡ aabb_of_cell c → AreHalves c k halves.now →
         (result.0 ≡ is_near (left_half c k) t.now) × (result.1 ≡ is_near (right_half c k) t.now) }
@@ -125,7 +128,7 @@ pub fn near_halves_among(
     c: &Cell,
     axis: Axis,
 ) -> Result<(Vec<u32>, Vec<u32>), OutOfMemory>
-    requires valid { All IsValidTri tris.now }
+    requires within { All (IsTriWithin broad_limit) tris.now }
     requires places { All (λ i. i < length tris.now) list.now }
     requires side { 0 < c.now.log axis }
     ensures { IfOk result (λ v. (v.0.items ≡ near_indices tris.now (left_half c.now axis) list.now) ×

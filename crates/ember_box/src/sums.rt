@@ -1,6 +1,7 @@
 // Along which axis a box is halved, and where halving ends.
-ghost use Rattle.std.specs.Prelude.{◌≡◌, ◌+◌, ◌*◌, ◌<◌, ◌≤◌, ◌&&◌, ◌||◌, not, nat_le, nat_lt, length, All, List, None, Some, IfSome, if◌then◌else◌};
-ghost use Rattle.ember_model.specs.Valid.{IsValidTri};
+ghost use Rattle.std.specs.Prelude.{◌≡◌, ℕ, ◌+◌, ◌*◌, ◌<◌, ◌≤◌, ◌&&◌, ◌||◌, not, nat_le, nat_lt, length, All, List, None, Some, IfSome, if◌then◌else◌};
+ghost use Rattle.ember_model.specs.Limits.{broad_limit};
+ghost use Rattle.ember_model.specs.Within.{IsTriWithin};
 ghost use Rattle.ember_model.specs.declared.tri.Tri.{Tri};
 ghost use Rattle.ember_model.specs.declared.point.Axis.{Axis};
 ghost use Rattle.ember_model.specs.declared.point.Axis.TheVariants.{X, Y, Z};
@@ -13,6 +14,7 @@ ghost use Rattle.ember_box.specs.NearParts.{AreNearParts};
 use crate::cell::Cell;
 use crate::near_parts::{NearPair, NearParts, middles_of, near_parts};
 use ember_model::{Axis, Scene, Tri};
+use ember_width::Narrow;
 
 // A box with at most this many near triangles is a leaf.
 const FEW: u64 = 16;
@@ -46,7 +48,7 @@ pub struct Sums {
 
 /// The sums of one triangle: 0 or 1 for the box, and 0 to 2 for each axis.
 pub fn sums_of(parts: &NearParts) -> Sums
-    ensures sums { (c : CellView) (t : Tri) → AreNearParts c t parts.now → AreSumsOfOne c t result }
+    ensures sums { (n : ℕ) (c : CellView) (t : Tri) → AreNearParts n c t parts.now → AreSumsOfOne n c t result }
     ensures few { AreFew result }
 {
     Sums {
@@ -59,11 +61,11 @@ pub fn sums_of(parts: &NearParts) -> Sums
 
 // The sums of the triangles with the listed indices.
 fn half_sums(tris: &[Tri], list: &[u32], c: &Cell) -> Sums
-    requires valid { All IsValidTri tris.now }
+    requires within { All (IsTriWithin broad_limit) tris.now }
     requires places { All (λ i. i < length tris.now) list.now }
-    ensures { AreSums (listed tris.now list.now) c.now result }
+    ensures { AreSums 0 (listed tris.now list.now) c.now result }
 {
-    let middles = middles_of(c);
+    let middles = middles_of::<Narrow>(c);
     let mut near = 0;
     let mut x_sum = 0;
     let mut y_sum = 0;
@@ -107,7 +109,7 @@ fn chosen(x_before_y: bool, x_before_z: bool, y_before_z: bool) -> Axis
 /// The axis along which a box with these sums is halved: of the axes along which the side exceeds
 /// 1, the one with the least sum, and in a tie the earlier one.
 pub fn least_axis(c: &Cell, sums: &Sums) -> Axis
-    ensures { (ts : List Tri) → AreSums ts c.now sums.now → result ≡ halvings.halving_axis ts c.now }
+    ensures { (n : ℕ) (ts : List Tri) → AreSums n ts c.now sums.now → result ≡ halvings.halving_axis_on n ts c.now }
 {
     let x = c.log(Axis::X);
     let y = c.log(Axis::Y);
@@ -145,7 +147,7 @@ fn ends(is_few: bool, x_unprofitable: bool, y_unprofitable: bool, z_unprofitable
 /// Whether a box with these sums is a leaf: it has few near triangles, or no axis is worth a
 /// halving.
 pub fn is_leaf_by(c: &Cell, sums: &Sums) -> bool
-    ensures { (ts : List Tri) → AreSums ts c.now sums.now → result ≡ halvings.is_leaf ts c.now }
+    ensures { (n : ℕ) (ts : List Tri) → AreSums n ts c.now sums.now → result ≡ halvings.is_leaf_on n ts c.now }
 {
     ends(
         is_few(sums.near),
@@ -160,7 +162,6 @@ pub fn is_leaf_by(c: &Cell, sums: &Sums) -> bool
 /// near the left half plus the number near the right half. Some side is above 1. If the list has
 /// all triangles near the box, in order, this is the axis that all triangles of the scene give.
 /// Only tests call this.
-#[tactic(auto, using(crate::proofs::Halvable::halvable_along))]
 pub fn split_axis(s: &Scene, list: &[u32], c: &Cell) -> Axis
     requires { All (λ i. i < length s.now.tris) list.now }
     ensures axis { result ≡ halvings.halving_axis (listed s.now.tris list.now) c.now }
@@ -196,9 +197,8 @@ pub fn halving(s: &Scene, list: &[u32], c: &Cell) -> Option<Axis>
 }
 
 /// The same as `halving`, for a list of triangles in place of a scene.
-#[tactic(auto, using(crate::proofs::Halvable::halvable_unless_leaf))]
 pub fn halving_of(tris: &[Tri], list: &[u32], c: &Cell) -> Option<Axis>
-    requires valid { All IsValidTri tris.now }
+    requires within { All (IsTriWithin broad_limit) tris.now }
     requires places { All (λ i. i < length tris.now) list.now }
     ensures answer { result ≡ (if halvings.is_leaf (listed tris.now list.now) c.now then None
         else Some (halvings.halving_axis (listed tris.now list.now) c.now)) }

@@ -6,6 +6,8 @@ mod balance;
 #[cfg(test)]
 mod boxes;
 #[cfg(test)]
+mod broad_boxes;
+#[cfg(test)]
 mod generated;
 #[cfg(test)]
 mod known;

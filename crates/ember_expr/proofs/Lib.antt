@@ -8,6 +8,9 @@ pub mod Complete
 pub mod CompleteTrees
 pub mod OneTree
 pub mod Stops
+pub mod FirstTokenStops
+pub mod ChainStops
 pub mod SumStops
 pub mod TreeStops
 pub mod FirstBadToken
+pub mod FirstFault

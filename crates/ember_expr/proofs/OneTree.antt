@@ -4,7 +4,7 @@ use Rattle.std.proofs.Common.{refl, ap, sym, subst, ◌∙◌, arith, rules, Ok,
 use Rattle.ember_algebra.specs.Relations.{Every}
 use Rattle.ember_algebra.proofs.Relations.{every_map}
 use Rattle.ember_expr.specs.declared.fault.ExprFault.{ExprFault}
-use Rattle.ember_expr.specs.declared.fault.ExprFault.TheVariants.{Syntax, NoMesh, Long}
+use Rattle.ember_expr.specs.declared.fault.ExprFault.TheVariants.{Syntax, Deep, NoMesh, Long}
 use Rattle.ember_expr.specs.declared.fault.ExprFault.TheVariants as fault
 use Rattle.ember_expr.specs.declared.token.Word.{Word}
 use Rattle.ember_expr.specs.declared.token.Word.TheVariants as word
@@ -19,7 +19,7 @@ use Rattle.ember_expr.proofs.Derived.{IfReads}
 use Rattle.ember_expr.proofs.DerivedTrees.{IsWithin, whole_derived}
 use Rattle.ember_expr.proofs.Checked.{limits, no_limits, not_by, not_same}
 use Rattle.ember_expr.proofs.Complete.{Accepts, PassesAs, Passes}
-use Rattle.ember_expr.proofs.CompleteTrees.{text_accepts}
+use Rattle.ember_expr.proofs.CompleteTrees.{Shallow, text_accepts}
 
 abbrev Never : ExprFault → Type 0
 Never fault = ⊥
@@ -94,48 +94,72 @@ abbrev pub IsLimit : ExprFault → Type 0
 IsLimit (Syntax place) = ⊥
 IsLimit _ = Unit {0}
 
-limited_passes : (place n : ℕ) (small : Bool) → PassesAs IsLimit n (if small then Ok n else Err (fault.Number place))
-limited_passes place n true = refl
-limited_passes place n false = tt
+-- the faults that a number may have
+record AreOfNumbers (bad : ExprFault → Type 0) : Type 0 where
+  number : (place : ℕ) → bad (fault.Number place)
+  mesh : (n : ℕ) → bad (NoMesh n)
 
-existing_passes : (n : ℕ) (exists : Bool) → PassesAs IsLimit n (if exists then Ok n else Err (NoMesh n))
-existing_passes n true = refl
-existing_passes n false = tt
+limited_passes : (bad : ExprFault → Type 0) → AreOfNumbers bad → (place n : ℕ) (small : Bool) →
+    PassesAs bad n (if small then Ok n else Err (fault.Number place))
+limited_passes bad are place n true = refl
+limited_passes bad are place n false = are.number place
 
-mesh_limited : (scope : Scope) (place n : ℕ) (small exists : Bool) →
-    PassesAs IsLimit n ((if small then Ok n else Err (fault.Number place)) >>= λ k. existing scope k)
-mesh_limited scope place n true exists = existing_passes n _
-mesh_limited scope place n false exists = tt
+existing_passes : (bad : ExprFault → Type 0) → AreOfNumbers bad → (n : ℕ) (exists : Bool) →
+    PassesAs bad n (if exists then Ok n else Err (NoMesh n))
+existing_passes bad are n true = refl
+existing_passes bad are n false = are.mesh n
 
--- a word is refused here by a limit or not at all
-pub limits_pass : (scope : Scope) (w : Word) → Passes IsLimit (limits scope) w
-limits_pass scope (word.Number n) = λ place. limited_passes place n (nat_le n 1000000)
-limits_pass scope (word.Mesh n) = λ place. mesh_limited scope place n (nat_le n 1000000) true
-limits_pass scope (word.Wind n) = λ place. mesh_limited scope place n (nat_le n 1000000) true
-limits_pass scope _ = tt
+mesh_limited : (bad : ExprFault → Type 0) → AreOfNumbers bad → (scope : Scope) (place n : ℕ) (small : Bool) →
+    PassesAs bad n ((if small then Ok n else Err (fault.Number place)) >>= λ k. existing scope k)
+mesh_limited bad are scope place n true = existing_passes bad are n _
+mesh_limited bad are scope place n false = are.number place
 
-at_end : (f g : Formula) (rest : List Token) (place : ℕ) → words rest ≡ [] → ended g rest ≡ Err (Syntax place) → ⊥
-at_end f g [] place none e = cc
-at_end f g (t ∷ ts) place none e = cc
+-- a word is refused here by the limit of its number or not at all
+limits_pass : (bad : ExprFault → Type 0) → AreOfNumbers bad → (scope : Scope) (w : Word) → Passes bad (limits scope) w
+limits_pass bad are scope (word.Number n) = λ place. limited_passes bad are place n (nat_le n 1000000)
+limits_pass bad are scope (word.Mesh n) = λ place. mesh_limited bad are scope place n (nat_le n 1000000)
+limits_pass bad are scope (word.Wind n) = λ place. mesh_limited bad are scope place n (nat_le n 1000000)
+limits_pass bad are scope _ = tt
+
+at_end : (g : Formula) (rest : List Token) (fault : ExprFault) → words rest ≡ [] → ended g rest ≡ Err fault → ⊥
+at_end g [] fault none e = cc
+at_end g (t ∷ ts) fault none e = cc
 
 -- equal errors have equal faults
 pub err_same : (a b : ExprFault) → ◌≡◌ {A = Result Formula ExprFault} (Err a) (Err b) → a ≡ b
 err_same a b e = cc
 
-not_misplaced : (f : Formula) (place : ℕ) (r : Result (Read Formula) ExprFault) → Accepts IsLimit f [] r →
-    (r >>= λ e. ended e.part e.rest) ≡ Err (Syntax place) → ⊥
-not_misplaced f place (Ok x) h e = at_end f x.part x.rest place h.1 e
-not_misplaced f place (Err fault) h e = subst IsLimit (err_same fault (Syntax place) e) h
+not_faulty : (bad : ExprFault → Type 0) (f : Formula) (fault : ExprFault) (r : Result (Read Formula) ExprFault) →
+    Accepts bad f [] r → (r >>= λ e. ended e.part e.rest) ≡ Err fault → bad fault
+not_faulty bad f fault (Ok x) h e = absurd (at_end x.part x.rest fault h.1 e)
+not_faulty bad f fault (Err other) h e = subst bad (err_same other fault e) h
+
+whole_fault : (bad : ExprFault → Type 0) → AreOfNumbers bad → (scope : Scope) (left : ℕ) (ts : List Token) (f : Formula)
+    (fault : ExprFault) (d : IsExpression (words ts) f) → Shallow bad (depth d) left →
+    whole scope left ts ≡ Err fault → bad fault
+unfolding whole
+whole_fault bad are scope left ts f fault d shallow e =
+    not_faulty bad f fault (or (not scope left) ts)
+    (subst (λ rule. Accepts bad f [] (or rule ts)) (sym (not_same scope left))
+    (text_accepts bad (limits scope) scope left (words ts) f d shallow
+    (every_one (Passes bad (limits scope)) (limits_pass bad are scope) (words ts)) ts refl)) e
 
 -- a text that the grammar derives has no fault of syntax
 pub whole_no_syntax : (scope : Scope) (left : ℕ) (ts : List Token) (f : Formula) (place : ℕ) →
     IsExpression (words ts) f → whole scope left ts ≡ Err (Syntax place) → ⊥
-unfolding whole
 whole_no_syntax scope left ts f place d e =
-    not_misplaced f place (or (not scope left) ts)
-    (subst (λ rule. Accepts IsLimit f [] (or rule ts)) (sym (not_same scope left))
-    (text_accepts IsLimit (limits scope) scope left (words ts) f d (inr (λ place. tt))
-    (every_one (Passes IsLimit (limits scope)) (limits_pass scope) (words ts)) ts refl)) e
+    whole_fault IsLimit (record { number = λ p. tt; mesh = λ n. tt }) scope left ts f (Syntax place) d (inr (λ p. tt)) e
+
+abbrev IsOfNumber : ExprFault → Type 0
+IsOfNumber (NoMesh n) = Unit {0}
+IsOfNumber (fault.Number place) = Unit {0}
+IsOfNumber _ = ⊥
+
+-- nor is it too deep, if its depth is within what is left
+pub whole_not_deep : (scope : Scope) (left : ℕ) (ts : List Token) (f : Formula) (place : ℕ)
+    (d : IsExpression (words ts) f) → depth d ≤ left → whole scope left ts ≡ Err (Deep place) → ⊥
+whole_not_deep scope left ts f place d shallow e =
+    whole_fault IsOfNumber (record { number = λ p. tt; mesh = λ n. tt }) scope left ts f (Deep place) d (inl shallow) e
 
 no_syntax_by : (text : List ℕ) (meshes place : ℕ) (f : Formula) (short : Bool) →
     IsExpression (words (tokens_of text)) f → ◌≡◌ {A =

@@ -4,3 +4,4 @@ pub mod Tokens
 pub mod Grammar
 pub mod Derivation
 pub mod FirstBadToken
+pub mod FirstFault

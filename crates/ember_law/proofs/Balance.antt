@@ -2,11 +2,8 @@
 use Rattle.std.proofs.Common.{◌≡◌, List, ℤ, pos, neg_ℤ}
 use Rattle.ember_algebra.specs.Sums.{total}
 use Rattle.ember_algebra.proofs.Sums.{total_odd}
-use Rattle.ember_algebra.proofs.Booleans.{and_swapped}
 use Rattle.ember_model.specs.declared.tri.Tri.{Tri}
 use Rattle.ember_model.specs.Meshes.{Edge, reversed, edges_in, same_edge, IsBalanced}
-use Rattle.ember_model.proofs.SignTests.{is_zero-self}
-use Rattle.ember_model.proofs.SameEdges.{same_corner_out, same_corner-refl, same_edge_out, same_edge-refl}
 use Rattle.ember_model.proofs.SameEdges.{edges_are_equal, same_edge_reversed}
 
 -- over the edges of balanced triangles, a quantity that changes its sign with the direction adds up to 0

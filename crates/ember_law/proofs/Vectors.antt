@@ -6,7 +6,7 @@ use Rattle.ember_model.specs.declared.tri.Tri.{Tri}
 use Rattle.ember_model.specs.declared.face.Face.{Face}
 use Rattle.ember_model.specs.Faces.{is_flat, face_of}
 use Rattle.ember_model.specs.Clear.{IsClear}
-use Rattle.ember_model.specs.Meshes.{wind, faces_of, of_mesh, meshes, IsScene}
+use Rattle.ember_model.specs.Meshes.{wind, faces_of, of_mesh, meshes, IsBalanced, IsScene}
 use Rattle.ember_law.specs.Counts.{added, leg_wind}
 use Rattle.ember_law.specs.Laws.{AxesAgree, SegmentsGiveDifference, MissesFace, ClearSegmentsKeepVectors}
 use Rattle.ember_law.proofs.Axes.{axes_agree}
@@ -33,23 +33,38 @@ map_added f g h e [] = refl
 map_added f g h e (m ∷ ms) =
     let q = e m in let x : f m ≡ g m +ℤ h m = omega (arith, linear, q) in let r = map_added f g h e ms in λ i. x i ∷ r i
 
--- in a scene, winding numbers at clear points are the same along all axes
+-- ---- of balanced meshes
+module _ (ts : List Tri) (balanced : (m : ℕ) → IsBalanced (of_mesh m ts)) where
+  -- winding numbers at clear points are the same along all axes
+  pub balanced_axes : AxesAgree ts
+  balanced_axes p a b w c =
+      map_same (λ m. wind a (faces_of (of_mesh m ts)) p) (λ m. wind b (faces_of (of_mesh m ts)) p)
+      (λ m. axes_agree a b p (of_mesh m ts) (balanced m) w (of_mesh_all (λ f. IsClear f p) m ts c)) meshes
+
+  -- winding numbers change along a segment by its crossings
+  pub balanced_legs : SegmentsGiveDifference ts
+  balanced_legs a b p q wp wq d cp cq =
+      map_added (λ m. wind b (faces_of (of_mesh m ts)) p) (λ m. wind b (faces_of (of_mesh m ts)) q)
+      (λ m. leg_wind (faces_of (of_mesh m ts)) p q)
+      (λ m. path_law a b p q (of_mesh m ts) (balanced m) wp wq d (of_mesh_all (λ f. IsClear f p) m ts cp)
+      (of_mesh_all (λ f. IsClear f q) m ts cq)) meshes
+
+  -- segments between clear points that miss all faces keep the winding numbers
+  pub balanced_segments : ClearSegmentsKeepVectors ts
+  balanced_segments a b p q wp wq cp cq h =
+      map_same (λ m. wind a (faces_of (of_mesh m ts)) p) (λ m. wind b (faces_of (of_mesh m ts)) q)
+      (λ m. segment_law a b p q (of_mesh m ts) (balanced m) wp wq (of_mesh_all (λ f. IsClear f p) m ts cp)
+      (of_mesh_all (λ f. IsClear f q) m ts cq) (of_mesh_all (MissesFace p q) m ts h)) meshes
+
+-- ---- in a scene
+-- winding numbers at clear points are the same along all axes
 pub axes_law : (ts : List Tri) (n : ℕ) → IsScene ts n → AxesAgree ts
-axes_law ts n s p a b w c =
-    map_same (λ m. wind a (faces_of (of_mesh m ts)) p) (λ m. wind b (faces_of (of_mesh m ts)) p)
-    (λ m. axes_agree a b p (of_mesh m ts) (s.balanced m) w (of_mesh_all (λ f. IsClear f p) m ts c)) meshes
+axes_law ts n s = balanced_axes ts s.balanced
 
--- in a scene, winding numbers change along a segment by its crossings
+-- winding numbers change along a segment by its crossings
 pub legs_law : (ts : List Tri) (n : ℕ) → IsScene ts n → SegmentsGiveDifference ts
-legs_law ts n s a b p q wp wq d cp cq =
-    map_added (λ m. wind b (faces_of (of_mesh m ts)) p) (λ m. wind b (faces_of (of_mesh m ts)) q)
-    (λ m. leg_wind (faces_of (of_mesh m ts)) p q)
-    (λ m. path_law a b p q (of_mesh m ts) (s.balanced m) wp wq d (of_mesh_all (λ f. IsClear f p) m ts cp)
-    (of_mesh_all (λ f. IsClear f q) m ts cq)) meshes
+legs_law ts n s = balanced_legs ts s.balanced
 
--- in a scene, segments between clear points that miss all faces keep the winding numbers
+-- segments between clear points that miss all faces keep the winding numbers
 pub segments_law : (ts : List Tri) (n : ℕ) → IsScene ts n → ClearSegmentsKeepVectors ts
-segments_law ts n s a b p q wp wq cp cq h =
-    map_same (λ m. wind a (faces_of (of_mesh m ts)) p) (λ m. wind b (faces_of (of_mesh m ts)) q)
-    (λ m. segment_law a b p q (of_mesh m ts) (s.balanced m) wp wq (of_mesh_all (λ f. IsClear f p) m ts cp)
-    (of_mesh_all (λ f. IsClear f q) m ts cq) (of_mesh_all (MissesFace p q) m ts h)) meshes
+segments_law ts n s = balanced_segments ts s.balanced

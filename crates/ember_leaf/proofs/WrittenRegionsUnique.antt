@@ -19,7 +19,7 @@ use Rattle.ember_box.specs.Boxes.{Cell}
 use Rattle.ember_box.specs.Near.{near, no_tri}
 use Rattle.ember_box.specs.Regions.{IsRegions}
 use Rattle.ember_box.proofs.OneList.{regions_unique}
-use Rattle.ember_ref.proofs.NearPoints.{HasPoint}
+use Rattle.ember_ref.specs.ClosedBoxes.{HasPoint}
 use Rattle.ember_trace.specs.Boxed.{IsRegion}
 use Rattle.ember_trace.proofs.BoxedRegions.{regions_lie_in, region_inside}
 use Rattle.ember_trace.proofs.OneSides.{one_sides}

@@ -18,7 +18,8 @@ use Rattle.ember_model.specs.Valid.{IsValidTri}
 use Rattle.ember_model.specs.Faces.{is_in_closed, is_flat, face_of}
 use Rattle.ember_box.specs.Boxes.{Cell, low, high, root}
 use Rattle.ember_box.specs.Sums.{number}
-use Rattle.ember_ref.proofs.NearPoints.{HasPoint, past_corners}
+use Rattle.ember_ref.specs.ClosedBoxes.{HasPoint}
+use Rattle.ember_ref.proofs.NearPoints.{past_corners}
 use Rattle.ember_meaning.proofs.CountedPoints.{is_between, is_in_box}
 use Rattle.ember_meaning.proofs.Listed.{Without, ends, keeps, drops}
 use Rattle.ember_meaning.proofs.Lines.{In, here, there}

@@ -15,7 +15,7 @@ use Rattle.ember_model.specs.declared.point.Spot.{Spot}
 use Rattle.ember_model.specs.declared.point.Axis.{Axis}
 use Rattle.ember_model.specs.declared.point.Axis.TheVariants.{X, Y, Z}
 use Rattle.ember_box.specs.Boxes.{Cell, low, high, left_half, right_half}
-use Rattle.ember_box.specs.Halving.{halving_axis, is_leaf, leaves_within}
+use Rattle.ember_box.specs.Halving.{halving_axis, is_leaf, leaves_within, leaves_within_on}
 use Rattle.ember_box.specs.Sums.{number}
 use Rattle.ember_box.proofs.Halvable.{halvable_unless_leaf}
 use Rattle.ember_meaning.proofs.CountedPoints.{is_between, is_in_box}
@@ -97,5 +97,5 @@ leaves_count ts (suc n) c v w =
     by : (is_leaf ts c ≡ true) ⊎ (is_leaf ts c ≡ false) →
         ((d : Cell) → count_by (λ e. is_in_box e v) (leaves_within ts n d) ≡ number (is_in_box d v)) →
         count_by (λ d. is_in_box d v) (leaves_within ts (suc n) c) ≡ number (is_in_box c v)
-    by (inl e) f = rw (e, leaves_within) (omega arith)
-    by (inr e) f = rw (e, leaves_within) (of_halves ts n c v w f (halving_axis ts c) (halvable_unless_leaf ts c e))
+    by (inl e) f = rw (e, leaves_within_on) (omega arith)
+    by (inr e) f = rw (e, leaves_within_on) (of_halves ts n c v w f (halving_axis ts c) (halvable_unless_leaf 0 ts c e))

@@ -22,7 +22,8 @@ use Rattle.ember_box.specs.Halving.{halving_axis, is_leaf}
 use Rattle.ember_box.proofs.NearByAabbs.{halves_end}
 use Rattle.ember_box.proofs.HalfCells.{left_less}
 use Rattle.ember_box.proofs.Halvable.{halvable_unless_leaf}
-use Rattle.ember_ref.proofs.NearPoints.{IsAcross, HasPoint, near_point, past_corners}
+use Rattle.ember_ref.specs.ClosedBoxes.{IsAcross, HasPoint}
+use Rattle.ember_ref.proofs.NearPoints.{near_point, past_corners}
 use Rattle.ember_ref.proofs.RootOutside.{at_least}
 use Rattle.ember_job.specs.declared.job.Job.{Job}
 use Rattle.ember_job.specs.Works.{Shape, halved, leafed, passed}
@@ -102,7 +103,7 @@ leaf_under ts v many zero c few h = by (is_leaf ts c) refl
         ∙ ap (λ b. if b then leafed else halved (job_at ts (left_half c (halving_axis ts c)))
         (job_at ts (right_half c (halving_axis ts c)))) e)
     by false e =
-        absurd (omega (arith, few, left_less c (halving_axis ts c) (halvable_unless_leaf ts c e)))
+        absurd (omega (arith, few, left_less c (halving_axis ts c) (halvable_unless_leaf 0 ts c e)))
 leaf_under ts v many (suc n) c few h =
     by (is_leaf ts c) refl (λ d. leaf_under ts v many n d)
   where
@@ -113,7 +114,7 @@ leaf_under ts v many (suc n) c few h =
         ∙ ap (λ b. if b then leafed else halved (job_at ts (left_half c (halving_axis ts c)))
         (job_at ts (right_half c (halving_axis ts c)))) e)
     by false e f =
-        let p = halvable_unless_leaf ts c e in
+        let p = halvable_unless_leaf 0 ts c e in
         let low = job_at ts (left_half c (halving_axis ts c)) in let high = job_at ts (right_half c (halving_axis ts c)) in
         let s : pairs_shape ts (job_at ts c) ≡ halved low high = shape_of ts c (many c h) ∙ ap (λ b. if b then leafed else halved low high) e in
         let le = left_less c (halving_axis ts c) p in

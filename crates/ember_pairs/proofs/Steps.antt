@@ -51,12 +51,12 @@ some_axis false k j e = cc
 
 listed_leaf : (ts : List Tri) (job : Job) (list : List ℕ) → IsPairsJob ts job → list ≡ job.list → is_leaf (listed ts list) job.cell ≡ is_leaf ts job.cell
 listed_leaf ts job list v e =
-    ap (λ (is : List ℕ). is_leaf (listed ts is) job.cell) (e ∙ list_is ts job v) ∙ is_leaf_listed ts job.cell
+    ap (λ (is : List ℕ). is_leaf (listed ts is) job.cell) (e ∙ list_is ts job v) ∙ is_leaf_listed 0 ts job.cell
 
 listed_axis : (ts : List Tri) (job : Job) (list : List ℕ) → IsPairsJob ts job → list ≡ job.list →
     halving_axis (listed ts list) job.cell ≡ halving_axis ts job.cell
 listed_axis ts job list v e =
-    ap (λ (is : List ℕ). halving_axis (listed ts is) job.cell) (e ∙ list_is ts job v) ∙ halving_axis_listed ts job.cell
+    ap (λ (is : List ℕ). halving_axis (listed ts is) job.cell) (e ∙ list_is ts job v) ∙ halving_axis_listed 0 ts job.cell
 
 -- a job with fewer than two triangles is skipped
 pub answers_passed : (ts : List Tri) (job : Job) (list : List ℕ) → list ≡ job.list → length list < 2 → pairs_shape ts job ≡ passed

@@ -41,7 +41,7 @@ are_halves ts job low high e = by (nat_lt (length job.list) 2) (is_leaf ts job.c
     by false true q e = absurd (true≢false (sym (ap is_halved e)))
     by false false q e =
         record {
-          may_halve = halvable_unless_leaf ts job.cell q;
+          may_halve = halvable_unless_leaf 0 ts job.cell q;
           is_low = ap (low_of job) (sym e);
           is_high = ap
               (high_of job) (sym e);

@@ -1,6 +1,6 @@
 -- Points of a box: its own reference point and that of its right half, and with two points each
 -- point between them.
-use Rattle.std.proofs.Common.{◌≡◌, arith, ℕ, zero, suc, pred, ◌^◌, ◌<◌, ◌≤◌, ℤ, pos, ◌+ℤ◌, ◌*ℤ◌, ◌<ℤ◌, ◌≤ℤ◌}
+use Rattle.std.proofs.Common.{◌≡◌, lit<, arith, ℕ, zero, suc, pred, ◌^◌, ◌<◌, ◌≤◌, ℤ, pos, ◌+ℤ◌, ◌*ℤ◌, ◌<ℤ◌, ◌≤ℤ◌}
 use borrow.Author.Differences.{ints}
 use Rattle.std.proofs.Math.Nat.{pow-succ'}
 use Rattle.ember_algebra.specs.Vector.{Vector}
@@ -20,9 +20,9 @@ use Rattle.ember_box.specs.declared.aabb.Interval.{Interval}
 use Rattle.ember_box.specs.Boxes.{Cell, low, high, right_half}
 use Rattle.ember_box.specs.Near.{spot_of_vector}
 use Rattle.ember_box.specs.Aabbs.{interval_between, aabb_of_cell}
-use Rattle.ember_box.specs.Reference.{reference}
+use Rattle.ember_box.specs.Reference.{reference_beside, reference}
 use Rattle.ember_box.proofs.NearByAabbs.{halves_end}
-use Rattle.ember_ref.proofs.NearPoints.{IsAcross, HasPoint}
+use Rattle.ember_ref.specs.ClosedBoxes.{IsAcross, HasPoint}
 
 -- ---- reference points
 across_from : (l lo hi w e : ℤ) → lo ≤ℤ l → (l +ℤ pos 1) ≤ℤ hi → pos 0 ≤ℤ w → pos 0 ≤ℤ e → e ≤ℤ w → IsAcross (interval_between lo hi) (w *ℤ l +ℤ e) (w *ℤ pos 1)
@@ -104,13 +104,21 @@ half_unit c Z l =
     let u = own_unit c in let h = side_positive (pred (c.log Z)) in let e = halves_end c.lo.z (c.log Z) l in
     record { from_x = u.from_x; from_y = u.from_y; from_z = omega (arith, linear, h); to_x = u.to_x; to_y = u.to_y; to_z = omega (arith, linear, h, e) }
 
--- a box contains its reference point
-pub has_reference : (c : Cell) → HasPoint c (reference c)
-has_reference c = has_shifted (pos (2 ^ 27)) c c.lo (omega (arith, ints)) (own_unit c)
+-- a box in steps contains its reference point
+pub has_beside : (f : ℕ) (c : Cell) → 0 < f → HasPoint c (reference_beside f c.lo)
+has_beside f c above = has_shifted (pos f) c c.lo (omega (arith, ints, above)) (own_unit c)
 
--- a box contains the reference point of its right half
+-- a box in steps contains the reference point of its right half
+pub has_half_beside : (f : ℕ) (c : Cell) (k : Axis) → 0 < f → 0 < c.log k → HasPoint c (reference_beside f (right_half c k).lo)
+has_half_beside f c k above l = has_shifted (pos f) c (right_half c k).lo (omega (arith, ints, above)) (half_unit c k l)
+
+-- on the narrow grid: its own
+pub has_reference : (c : Cell) → HasPoint c (reference c)
+has_reference c = has_beside (2 ^ 27) c (lit< tt)
+
+-- and that of its right half
 pub has_half_reference : (c : Cell) (k : Axis) → 0 < c.log k → HasPoint c (reference (right_half c k))
-has_half_reference c k l = has_shifted (pos (2 ^ 27)) c (right_half c k).lo (omega (arith, ints)) (half_unit c k l)
+has_half_reference c k l = has_half_beside (2 ^ 27) c k (lit< tt) l
 
 -- ---- points between two of them
 combined : (s : Interval) (k m x y v w : ℤ) → pos 0 ≤ℤ k → pos 0 ≤ℤ m → IsAcross s x v → IsAcross s y w → IsAcross s (k *ℤ x +ℤ m *ℤ y) (k *ℤ v +ℤ m *ℤ w)

@@ -25,7 +25,8 @@ use Rattle.ember_law.proofs.Segments.{segment_law}
 use Rattle.ember_law.proofs.Tallies.{tally_filter}
 use Rattle.ember_box.specs.Boxes.{Cell}
 use Rattle.ember_box.specs.Near.{is_near, near}
-use Rattle.ember_ref.proofs.NearPoints.{HasPoint, near_point}
+use Rattle.ember_ref.specs.ClosedBoxes.{HasPoint}
+use Rattle.ember_ref.proofs.NearPoints.{near_point}
 use Rattle.ember_ref.proofs.BoxPoints.{has_combination, has_between}
 
 -- ---- crossings

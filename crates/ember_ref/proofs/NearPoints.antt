@@ -23,24 +23,13 @@ use Rattle.ember_box.specs.Boxes.{Cell, entry_along, low, high}
 use Rattle.ember_box.specs.Near.{spans_meet, is_near}
 use Rattle.ember_box.specs.Aabbs.{aabb_of_cell, least_end, greatest_end, least_value, greatest_value, crosses}
 use Rattle.ember_box.proofs.Crossing.{crosses_is}
+use Rattle.ember_ref.specs.ClosedBoxes.{IsAcross, HasPoint}
 
 -- the coordinate of a point, times its weight
 abbrev pub coordinate : Axis → Spot → ℤ
 coordinate X v = v.x
 coordinate Y v = v.y
 coordinate Z v = v.z
-
--- x / w lies in the interval
-pub record IsAcross (s : Interval) (x w : ℤ) : Type 0 where
-  pub from : (s.low *ℤ w) ≤ℤ x
-  pub to : x ≤ℤ (s.high *ℤ w)
-
--- the point lies in the closed box
-pub record HasPoint (c : Cell) (v : Spot) : Type 0 where
-  pub weight : pos 0 <ℤ v.w
-  pub on_x : IsAcross (aabb_of_cell c).x v.x v.w
-  pub on_y : IsAcross (aabb_of_cell c).y v.y v.w
-  pub on_z : IsAcross (aabb_of_cell c).z v.z v.w
 
 -- ---- the support plane
 -- n is not below 0: its part is least at the lower end, and greatest at the upper one

@@ -1,5 +1,5 @@
 -- Reference points given by a box's least corner, and the winding numbers shifted to that of a half
-use Rattle.std.specs.Prelude.{◌≡◌, ℤ, pos, List, slice_index_or}
+use Rattle.std.specs.Prelude.{◌≡◌, ℕ, ◌^◌, ℤ, pos, List, slice_index_or}
 use Rattle.ember_algebra.specs.Vector.{Vector}
 use Rattle.ember_algebra.specs.Size.{Small}
 use Rattle.ember_algebra.specs.declared.Sign.{Sign}
@@ -10,7 +10,7 @@ use Rattle.ember_model.specs.declared.plane.Plane.{Plane}
 use Rattle.ember_model.specs.declared.tri.Tri.{Tri}
 use Rattle.ember_law.specs.Counts.{added, leg_vector}
 use Rattle.ember_box.specs.Boxes.{Cell, right_half}
-use Rattle.ember_box.specs.Reference.{reference_at, reference, vector_at, Fits}
+use Rattle.ember_box.specs.Reference.{reference_beside, vector_beside, FitsWithin, vector_at, Fits}
 
 -- the vector of three coordinates that are listed in the order of the axes
 abbrev pub vector_of_list : List ℤ → Vector
@@ -20,15 +20,23 @@ vector_of_list cs = record {
   z = slice_index_or cs 2 (pos 0);
 }
 
--- the coordinates of boxes' corners are at most 2048 in size
-pub record IsBoxCorner (v : Vector) : Type 0 where
-  pub x : Small 2048 v.x
-  pub y : Small 2048 v.y
-  pub z : Small 2048 v.z
+-- the coordinates of a box's corner are at most m in size
+pub record IsBoxCornerWithin (m : ℕ) (v : Vector) : Type 0 where
+  pub x : Small m v.x
+  pub y : Small m v.y
+  pub z : Small m v.z
 
--- the reference point of a box with this least corner
-unfoldable pub reference_at_list : List ℤ → Spot
-reference_at_list lo = reference_at (vector_of_list lo)
+-- where a unit is one step they are at most 2048
+abbrev pub IsBoxCorner : Vector → Type 0
+IsBoxCorner v = IsBoxCornerWithin 2048 v
+
+-- the reference point of a box in steps with this least corner, by the shifts 1/f, 1/f^2 and 1/f^3
+unfoldable pub reference_of_list : ℕ → List ℤ → Spot
+reference_of_list f lo = reference_beside f (vector_of_list lo)
+
+-- on the narrow grid
+abbrev pub reference_at_list : List ℤ → Spot
+reference_at_list lo = reference_of_list (2 ^ 27) lo
 
 -- the first of two signs that isn't zero
 abbrev pub or_sign : Sign → Sign → Sign
@@ -36,14 +44,31 @@ or_sign Neg s = Neg
 or_sign Zero s = s
 or_sign Pos s = Pos
 
+-- each entry of the normal is at most m in size
+pub record HasNormalWithin (m : ℕ) (p : Plane) : Type 0 where
+  pub a : Small m p.a
+  pub b : Small m p.b
+  pub c : Small m p.c
+
 -- the normal is zero
 abbrev pub HasNoNormal : Plane → Type 0
 HasNoNormal p = (p.a ≡ pos 0) × (p.b ≡ pos 0) × (p.c ≡ pos 0)
 
--- the counts at the reference point of a box's right half: those at the box's point, plus the signed
--- crossings of the segment from the half's point back to the box's
+-- ---- of a box in steps
+-- the counts at the reference point of the right half: those at the box's point, plus the signed crossings of the
+-- segment from the half's point back to the box's
+abbrev pub counts_beside : ℕ → List Tri → Cell → Axis → List ℤ → List ℤ
+counts_beside f near c k counts =
+    added counts (leg_vector near (reference_beside f (right_half c k).lo) (reference_beside f c.lo))
+
+-- in each scene within m that fits, the vector at the reference point of the right half is the new one
+abbrev pub ShiftsAllWithin : ℕ → ℕ → List Tri → Cell → Axis → List ℤ → List ℤ → Type 0
+ShiftsAllWithin m f near c k old new =
+    (scene : List Tri) → FitsWithin m f scene near c old → vector_beside f scene (right_half c k) ≡ new
+
+-- ---- on the narrow grid
 abbrev pub counts_at_right_half : List Tri → Cell → Axis → List ℤ → List ℤ
-counts_at_right_half near c k counts = added counts (leg_vector near (reference (right_half c k)) (reference c))
+counts_at_right_half near c k counts = counts_beside (2 ^ 27) near c k counts
 
 -- in each scene that fits, the vector at the reference point of the right half is the new one
 abbrev pub ShiftsAll : List Tri → Cell → Axis → List ℤ → List ℤ → Type 0

@@ -1,12 +1,11 @@
 -- The segment from the reference point of a box's right half back to that of the box
-use Rattle.std.specs.Prelude.{◌≡◌}
+use Rattle.std.specs.Prelude.{◌≡◌, ℕ}
 use Rattle.ember_model.specs.declared.point.Axis.{Axis}
 use Rattle.ember_model.specs.Points.{DifferAlong}
 use Rattle.ember_box.specs.Boxes.{Cell, put, right_half}
-use Rattle.ember_box.specs.Aabbs.{aabb_of_cell}
-use Rattle.ember_box.specs.Reference.{reference}
+use Rattle.ember_box.specs.Aabbs.{aabb_of_cell, most_wall}
 use Rattle.ember_ref.specs.declared.shifting.AxisSegment.{AxisSegment}
-use Rattle.ember_ref.specs.References.{vector_of_list, reference_at_list, IsBoxCorner}
+use Rattle.ember_ref.specs.References.{vector_of_list, reference_of_list, IsBoxCornerWithin}
 
 -- the box that has the side 1 along all axes but this one
 abbrev pub column : Cell → Axis → Cell
@@ -14,12 +13,12 @@ column c k = record { lo = c.lo; log = put k (c.log k) (λ j. 0); path = c.path 
 
 -- its ends are reference points of boxes, and it runs along its axis
 pub record IsAlongAxis (w : AxisSegment) : Type 0 where
-  pub from : IsBoxCorner (vector_of_list w.from)
-  pub to : IsBoxCorner (vector_of_list w.to)
-  pub line : DifferAlong w.axis (reference_at_list w.from) (reference_at_list w.to)
+  pub from : IsBoxCornerWithin most_wall (vector_of_list w.from)
+  pub to : IsBoxCornerWithin most_wall (vector_of_list w.to)
+  pub line : (f : ℕ) → DifferAlong w.axis (reference_of_list f w.from) (reference_of_list f w.to)
 
--- the segment from the reference point of the box's right half to that of the box, with a bounding box of it
+-- the segment from the reference point of the right half of a box in steps to that of the box, with a bounding box of it
 pub record IsSegmentBack (c : Cell) (k : Axis) (w : AxisSegment) : Type 0 where
-  pub from : reference_at_list w.from ≡ reference (right_half c k)
-  pub to : reference_at_list w.to ≡ reference c
+  pub from : vector_of_list w.from ≡ (right_half c k).lo
+  pub to : vector_of_list w.to ≡ c.lo
   pub aabb : w.aabb ≡ aabb_of_cell (column c k)

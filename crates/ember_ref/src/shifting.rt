@@ -2,23 +2,26 @@
 ghost use Rattle.std.specs.Prelude.{◌≡◌, ℕ, ◌+◌, ◌≤◌, ◌<◌, pos, ◌+ℤ◌, All, length, if◌then◌else◌};
 ghost use Rattle.ember_algebra.specs.Size.{Small};
 ghost use Rattle.ember_algebra.specs.Sign.{number, times, is_neg};
+ghost use Rattle.ember_model.specs.Limits.{broad_limit};
 ghost use Rattle.ember_model.specs.Valid.{IsValidTri};
+ghost use Rattle.ember_model.specs.Within.{normal_limit, IsTriWithin};
 ghost use Rattle.ember_model.specs.Points.{DifferAlong};
 ghost use Rattle.ember_model.specs.Faces.{face_of, leg};
 ghost use Rattle.ember_model.specs.Meshes.{HasMesh};
 ghost use Rattle.ember_law.specs.Counts.{HasRoom, with_more};
-ghost use Rattle.ember_box.specs.Boxes.{Cell as CellView, right_half};
+ghost use Rattle.ember_box.specs.Boxes.{Cell as CellView, right_half, in_steps};
 ghost use Rattle.ember_box.specs.Near.{listed};
-ghost use Rattle.ember_box.specs.Reference.{reference};
-ghost use Rattle.ember_box.specs.Aabbs.{interval_between, aabb_of_cell};
-ghost use Rattle.ember_ref.specs.References.{vector_of_list, reference_at_list, IsBoxCorner, counts_at_right_half, ShiftsAll};
+ghost use Rattle.ember_box.specs.Reference.{reference_beside};
+ghost use Rattle.ember_box.specs.Aabbs.{interval_between, aabb_of_cell, most_wall};
+ghost use Rattle.ember_ref.specs.References.{vector_of_list, reference_of_list, IsBoxCornerWithin, counts_beside, counts_at_right_half, ShiftsAll, ShiftsAllWithin};
 ghost use Rattle.ember_ref.specs.Segments.{column, IsAlongAxis, IsSegmentBack};
 
-use crate::signs::{lex_side, projects_inside};
+use crate::signs::{projects_inside, side_beside};
 use ember_algebra::Sign;
-use ember_box::{Aabb, Cell, Interval, aabb_of_cell, aabbs_meet_beside, halves};
+use ember_box::{Aabb, Cell, Interval, aabb_on, aabbs_meet_beside, halves, lo_on};
 use ember_law::add_count;
 use ember_model::{Axis, Tri, Vector, support_of};
+use ember_width::{Narrow, Width};
 
 // The signed crossing of a segment with a plane that has the signs `start` and `end` at its ends:
 // 1 from behind to the front, -1 back, otherwise 0.
@@ -42,15 +45,16 @@ fn signed_crossing(start: Sign, end: Sign) -> i32
 // The signed crossing of the segment from one reference point to another, given by the least
 // corners `p` and `q` of their boxes, with the inside of the triangle's face.
 fn crossing_between(t: &Tri, p: [i32; 3], q: [i32; 3], k: Axis) -> i32
-    requires tri { IsValidTri t.now }
-    requires from { IsBoxCorner (vector_of_list p) }
-    requires to { IsBoxCorner (vector_of_list q) }
-    requires line { DifferAlong k (reference_at_list p) (reference_at_list q) }
-    ensures value { result ≡ leg (face_of t.now) (reference_at_list p) (reference_at_list q) }
+    requires tri { IsTriWithin broad_limit t.now }
+    requires from { IsBoxCornerWithin most_wall (vector_of_list p) }
+    requires to { IsBoxCornerWithin most_wall (vector_of_list q) }
+    ensures value { (m f : ℕ) → IsTriWithin m t.now → normal_limit m < f →
+        DifferAlong k (reference_of_list f p) (reference_of_list f q) →
+        result ≡ leg (face_of t.now) (reference_of_list f p) (reference_of_list f q) }
     ensures small { Small 1 result }
 {
     let n = support_of(t);
-    let passes = signed_crossing(lex_side(&n, p), lex_side(&n, q));
+    let passes = signed_crossing(side_beside(&n, p), side_beside(&n, q));
     // If the segment passes through the support plane, the edge planes along it bound the same
     // triangle in that plane as those of its face, which are along its main axis. And each of them
     // has one value on the whole segment, so one end of it suffices.
@@ -71,13 +75,13 @@ struct AxisSegment {
     aabb: Aabb,
 }
 
-// A bounding box of the segment between the reference points of the box's halves: as long as the
-// box along the axis, and of length 1 from its least corner along the others, since a reference
-// point is less than 1 from its corner along each axis.
-fn column(c: &Cell, k: Axis) -> Aabb
-    ensures { result ≡ aabb_of_cell (column c.now k) }
+// A bounding box of the segment between the reference points of the box's halves, in steps of a
+// grid: as long as the box along the axis, and of length 1 from its least corner along the others,
+// since a reference point is less than 1 from its corner along each axis.
+fn column<W: Width>(c: &Cell, k: Axis) -> Aabb
+    ensures { result ≡ aabb_of_cell (column (in_steps W.scale c.now) k) }
 {
-    let whole = aabb_of_cell(c);
+    let whole = aabb_on::<W>(c);
     match k {
         Axis::X => Aabb {
             x: whole.x,
@@ -99,35 +103,38 @@ fn column(c: &Cell, k: Axis) -> Aabb
 
 // The interval of length 1 from `low`.
 fn unit(low: i32) -> Interval
-    requires { Small 2048 low }
+    requires { Small most_wall low }
     ensures { result ≡ interval_between low (low +ℤ pos 1) }
 {
     Interval { low, high: low + 1 }
 }
 
-// The segment from the reference point of a box's right half to that of the box.
-fn segment_back(c: &Cell, k: Axis) -> AxisSegment
+// The segment from the reference point of a box's right half to that of the box, in steps of a
+// grid.
+fn segment_back<W: Width>(c: &Cell, k: Axis) -> AxisSegment
     requires { 0 < c.now.log k }
-    ensures back { IsSegmentBack c.now k result }
+    ensures back { IsSegmentBack (in_steps W.scale c.now) k result }
     ensures straight { IsAlongAxis result }
 {
-    let to = c.lo();
-    let from = halves(c, k).1.lo();
+    let to = lo_on::<W>(c);
+    let (_, right) = halves(c, k);
+    let from = lo_on::<W>(&right);
     AxisSegment {
         from,
         to,
         axis: k,
-        aabb: column(c, k),
+        aabb: column::<W>(c, k),
     }
 }
 
 // The signed crossing of the segment with the inside of the triangle's face. There is none if the
 // triangle's bounding box lies beside the segment.
 fn crossing_on(t: &Tri, segment: &AxisSegment) -> i32
-    requires tri { IsValidTri t.now }
+    requires tri { IsTriWithin broad_limit t.now }
     requires straight { IsAlongAxis segment.now }
-    ensures value { (c : CellView) (k : Axis) → 0 < c.log k → IsSegmentBack c k segment.now →
-        result ≡ leg (face_of t.now) (reference (right_half c k)) (reference c) }
+    ensures value { (m f : ℕ) (c : CellView) (k : Axis) → IsTriWithin m t.now → normal_limit m < f → 0 < c.log k →
+        IsSegmentBack c k segment.now →
+        result ≡ leg (face_of t.now) (reference_beside f (right_half c k).lo) (reference_beside f c.lo) }
     ensures small { Small 1 result }
 {
     if aabbs_meet_beside(t, &segment.aabb, segment.axis) {
@@ -139,13 +146,13 @@ fn crossing_on(t: &Tri, segment: &AxisSegment) -> i32
 
 // Adds the crossing of one triangle to the count of its mesh.
 fn add_crossing(t: &Tri, segment: &AxisSegment, v: &mut Vector)
-    requires tri { IsValidTri t.now }
+    requires tri { IsTriWithin broad_limit t.now }
     requires numbered { HasMesh 64 t.now }
     requires straight { IsAlongAxis segment.now }
     requires room { All (Small 1073741823) v.old.counts }
-    ensures value { (c : CellView) (k : Axis) → 0 < c.log k → IsSegmentBack c k segment.now →
-        v.new.counts ≡ with_more v.old.counts t.now.mesh
-        (leg (face_of t.now) (reference (right_half c k)) (reference c)) }
+    ensures value { (m f : ℕ) (c : CellView) (k : Axis) → IsTriWithin m t.now → normal_limit m < f → 0 < c.log k →
+        IsSegmentBack c k segment.now → v.new.counts ≡ with_more v.old.counts t.now.mesh
+        (leg (face_of t.now) (reference_beside f (right_half c k).lo) (reference_beside f c.lo)) }
     ensures within { (m : ℕ) → All (Small m) v.old.counts → All (Small (m + 1)) v.new.counts }
 {
     add_count(v, t.mesh, crossing_on(t, segment));
@@ -167,9 +174,30 @@ pub fn shift(near: &[Tri], c: &Cell, k: Axis, v: &mut Vector)
     ensures law { ShiftsAll near.now c.now k v.old.counts v.new.counts }
     ensures within { (m : ℕ) → All (Small m) v.old.counts → All (Small (m + length near.now)) v.new.counts }
 {
-    let segment = segment_back(c, k);
+    let segment = segment_back::<Narrow>(c, k);
     for t in near {
         add_crossing(t, &segment, v);
+    }
+}
+
+/// The same as `shift`, of a box in steps of a grid; `list` has the indices of the near triangles in
+/// `tris`.
+pub fn shift_listed_on<W: Width>(tris: &[Tri], list: &[u32], c: &Cell, axis: Axis, v: &mut Vector)
+    requires within { All (IsTriWithin W.corner) tris.now }
+    requires numbered { All (HasMesh 64) tris.now }
+    requires places { All (λ i. i < length tris.now) list.now }
+    requires few { length list.now ≤ 262144 }
+    requires side { 0 < c.now.log axis }
+    requires room { HasRoom v.old.counts }
+    ensures value { v.new.counts
+        ≡ counts_beside W.fine (listed tris.now list.now) (in_steps W.scale c.now) axis v.old.counts }
+    ensures law { ShiftsAllWithin W.corner W.fine (listed tris.now list.now) (in_steps W.scale c.now) axis
+        v.old.counts v.new.counts }
+    ensures within { (m : ℕ) → All (Small m) v.old.counts → All (Small (m + length list.now)) v.new.counts }
+{
+    let segment = segment_back::<W>(c, axis);
+    for i in list {
+        add_crossing(&tris[*i as usize], &segment, v);
     }
 }
 
@@ -185,8 +213,5 @@ pub fn shift_listed(tris: &[Tri], list: &[u32], c: &Cell, axis: Axis, v: &mut Ve
     ensures law { ShiftsAll (listed tris.now list.now) c.now axis v.old.counts v.new.counts }
     ensures within { (m : ℕ) → All (Small m) v.old.counts → All (Small (m + length list.now)) v.new.counts }
 {
-    let segment = segment_back(c, axis);
-    for i in list {
-        add_crossing(&tris[*i as usize], &segment, v);
-    }
+    shift_listed_on::<Narrow>(tris, list, c, axis, v);
 }

@@ -1,15 +1,19 @@
 // Signs of planes at reference points.
-ghost use Rattle.std.specs.Prelude.{◌≡◌, ◌^◌, ◌<◌};
-ghost use Rattle.ember_algebra.specs.Size.{Small};
+ghost use Rattle.std.specs.Prelude.{◌≡◌, ℕ, ◌<◌};
 ghost use Rattle.ember_algebra.specs.Sign.{sgn, is_negative};
-ghost use Rattle.ember_model.specs.Valid.{IsValidPlane, IsValidTri};
+ghost use Rattle.ember_model.specs.Limits.{broad_limit};
+ghost use Rattle.ember_model.specs.Valid.{IsValidPlane};
+ghost use Rattle.ember_model.specs.Within.{normal_limit, IsTriWithin};
 ghost use Rattle.ember_model.specs.Planes.{value_at, edge_planes};
 ghost use Rattle.ember_model.specs.ClearTest.{all_negative};
+ghost use Rattle.ember_width.specs.Broad.{IsBroadPlane};
 ghost use Rattle.ember_box.specs.Near.{spot_of_vector};
-ghost use Rattle.ember_ref.specs.References.{vector_of_list, reference_at_list, or_sign, IsBoxCorner, HasNoNormal};
+ghost use Rattle.ember_box.specs.Aabbs.{most_wall};
+ghost use Rattle.ember_ref.specs.References.{vector_of_list, reference_of_list, reference_at_list, or_sign, HasNormalWithin, IsBoxCorner, IsBoxCornerWithin, HasNoNormal};
 
 use ember_algebra::{Sign, sign_of};
-use ember_model::{Axis, Plane, Tri, edge_plane};
+use ember_model::{Axis, Corner, Plane, Tri, edge_plane};
+use ember_width::value_at_corner;
 
 /// The first of two signs that isn't zero.
 pub fn or_sign(first: Sign, second: Sign) -> Sign
@@ -21,15 +25,14 @@ pub fn or_sign(first: Sign, second: Sign) -> Sign
     }
 }
 
-// The value of a plane at a box's corner.
-fn value_at_corner(p: &Plane, at: [i32; 3]) -> i64
-    requires plane { IsValidPlane p.now }
-    requires corner { IsBoxCorner (vector_of_list at) }
-    ensures value { result ≡ value_at p.now (spot_of_vector (vector_of_list at)) }
-    ensures small { Small (2 ^ 40) result }
+// The sign of a plane at a box's corner.
+fn side_of_corner(p: &Plane, at: [i32; 3]) -> Sign
+    requires plane { IsBroadPlane p.now }
+    requires corner { IsBoxCornerWithin most_wall (vector_of_list at) }
+    ensures { result ≡ sgn (value_at p.now (spot_of_vector (vector_of_list at))) }
 {
     let [x, y, z] = at;
-    p.a * x as i64 + p.b * y as i64 + p.c * z as i64 - p.d
+    sign_of(value_at_corner(p, &Corner { x, y, z }) as i128)
 }
 
 // The sign of the first entry of the normal that isn't 0.
@@ -53,6 +56,21 @@ fn or_lead(at: Sign, p: &Plane) -> Sign
     }
 }
 
+/// The sign of the plane at the reference point of a box in steps of any grid, with the least
+/// corner `lo`: that of the first number that isn't 0 among the plane's value at the corner and the
+/// entries a, b and c of its normal. It is `Zero` only if the plane has no normal. The reference
+/// point is above the corner by 1/f, 1/f^2 and 1/f^3, and the entries are below f in size, so each
+/// of these numbers outweighs all after it.
+pub fn side_beside(p: &Plane, lo: [i32; 3]) -> Sign
+    requires plane { IsBroadPlane p.now }
+    requires corner { IsBoxCornerWithin most_wall (vector_of_list lo) }
+    ensures value { (m f : ℕ) → HasNormalWithin m p.now → m < f →
+        result ≡ sgn (value_at p.now (reference_of_list f lo)) }
+    ensures normal { result ≡ Sign.Zero → HasNoNormal p.now }
+{
+    or_lead(side_of_corner(p, lo), p)
+}
+
 /// The sign of the plane at the reference point of a box with the least corner `lo`: that of the
 /// first number that isn't 0 among the plane's value at the corner and the entries a, b and c of
 /// its normal. It is `Zero` only if the plane has no normal. The reference point is above the
@@ -64,24 +82,26 @@ pub fn lex_side(p: &Plane, lo: [i32; 3]) -> Sign
     ensures value { result ≡ sgn (value_at p.now (reference_at_list lo)) }
     ensures normal { result ≡ Sign.Zero → HasNoNormal p.now }
 {
-    or_lead(sign_of(value_at_corner(p, lo) as i128), p)
+    side_beside(p, lo)
 }
 
-// Whether the reference point of a box with the least corner `at` is below the plane.
+// Whether the reference point of a box in steps with the least corner `at` is below the plane.
 fn is_below(p: &Plane, at: [i32; 3]) -> bool
-    requires plane { IsValidPlane p.now }
-    requires corner { IsBoxCorner (vector_of_list at) }
-    ensures { result ≡ is_negative (value_at p.now (reference_at_list at)) }
+    requires plane { IsBroadPlane p.now }
+    requires corner { IsBoxCornerWithin most_wall (vector_of_list at) }
+    ensures { (m f : ℕ) → HasNormalWithin m p.now → m < f →
+        result ≡ is_negative (value_at p.now (reference_of_list f at)) }
 {
-    matches!(lex_side(p, at), Sign::Neg)
+    matches!(side_beside(p, at), Sign::Neg)
 }
 
-/// Whether the reference point of a box with the least corner `at` lies, seen along the axis,
-/// inside the triangle: all edge planes parallel to that axis are negative there.
+/// Whether the reference point of a box in steps with the least corner `at` lies, seen along the
+/// axis, inside the triangle: all edge planes parallel to that axis are negative there.
 pub fn projects_inside(t: &Tri, k: Axis, at: [i32; 3]) -> bool
-    requires tri { IsValidTri t.now }
-    requires corner { IsBoxCorner (vector_of_list at) }
-    ensures { result ≡ all_negative (edge_planes t.now k) (reference_at_list at) }
+    requires tri { IsTriWithin broad_limit t.now }
+    requires corner { IsBoxCornerWithin most_wall (vector_of_list at) }
+    ensures { (m f : ℕ) → IsTriWithin m t.now → normal_limit m < f →
+        result ≡ all_negative (edge_planes t.now k) (reference_of_list f at) }
 {
     is_below(&edge_plane(t, 0, k), at)
         && (is_below(&edge_plane(t, 1, k), at) && is_below(&edge_plane(t, 2, k), at))

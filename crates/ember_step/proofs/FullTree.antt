@@ -16,12 +16,12 @@ use Rattle.ember_expr.specs.Formula.{Formula, IsFit}
 use Rattle.ember_box.specs.Boxes.{Cell, halvings_left, left_half, right_half}
 use Rattle.ember_box.specs.Aabbs.{interval_between}
 use Rattle.ember_box.specs.Near.{near}
-use Rattle.ember_box.specs.Halving.{halving_axis, is_leaf, leaves_within}
+use Rattle.ember_box.specs.Halving.{halving_axis, is_leaf, leaves_within, leaves_within_on}
 use Rattle.ember_box.proofs.Halvable.{halvable_unless_leaf}
 use Rattle.ember_box.proofs.NearByAabbs.{halves_end}
 use Rattle.ember_box.proofs.HalfCells.{left_less}
 use Rattle.ember_box.proofs.Lists.{halving_axis_near, is_leaf_near}
-use Rattle.ember_ref.proofs.NearPoints.{IsAcross, HasPoint}
+use Rattle.ember_ref.specs.ClosedBoxes.{IsAcross, HasPoint}
 use Rattle.ember_leaf.specs.declared.kept.Kept.{Kept}
 use Rattle.ember_leaf.specs.Written.{IsWrittenIn}
 use Rattle.ember_leaf.specs.Scenes.{HasOneValue, LeafGives, regions, nothing, IsWritten}
@@ -85,7 +85,7 @@ module _ (ts : List Tri) (f : Formula) where
           ]) []
       by true e below = more (nothing h) none
       by false e below =
-          let k = halving_axis ts c in let may = halvable_unless_leaf ts c e in
+          let k = halving_axis ts c in let may = halvable_unless_leaf 0 ts c e in
           each_append (below (left_half c k) (record {
             value = h.value;
             beside =
@@ -150,7 +150,7 @@ module _ (ts : List Tri) (count : ℕ) (scene : IsScene ts count) (f : Formula) 
     where
       by : (depth : ℕ) → Each (LeafGives ts f) (j.cell ∷ []) ks → Each (LeafGives ts f) (leaves_within ts depth j.cell) ks
       by zero r = r
-      by (suc n) r = rw (e, leaves_within) r
+      by (suc n) r = rw (e, leaves_within_on) r
 
   gives : (depth : ℕ) (j : Job) → halvings_left j.cell ≤ depth → IsJob ts j → Gives depth j
   gives zero j few is = by (box_value ts f j) (is_leaf ts j.cell) refl refl
@@ -158,30 +158,30 @@ module _ (ts : List Tri) (count : ℕ) (scene : IsScene ts count) (f : Formula) 
       by : (v : Option Bool) (l : Bool) → box_value ts f j ≡ v → is_leaf ts j.cell ≡ l → Gives zero j
       by (Some known) l e q = passed_gives zero j is known e
           (by_shape j (Some known) l e (ap (λ (us : List Tri). is_leaf us j.cell) (sym (near_listed ts j is))
-          ∙ is_leaf_near ts j.cell ∙ q))
+          ∙ is_leaf_near 0 ts j.cell ∙ q))
       by None true e q = leafed_gives zero j q (by_shape j None true e
-          (ap (λ (us : List Tri). is_leaf us j.cell) (sym (near_listed ts j is)) ∙ is_leaf_near ts j.cell ∙ q))
+          (ap (λ (us : List Tri). is_leaf us j.cell) (sym (near_listed ts j is)) ∙ is_leaf_near 0 ts j.cell ∙ q))
       by None false e q =
-          absurd (omega (arith, few, left_less j.cell (halving_axis ts j.cell) (halvable_unless_leaf ts j.cell q)))
+          absurd (omega (arith, few, left_less j.cell (halving_axis ts j.cell) (halvable_unless_leaf 0 ts j.cell q)))
   gives (suc depth) j few is = by (box_value ts f j) (is_leaf ts j.cell) refl refl (gives depth)
     where
       by : (v : Option Bool) (l : Bool) → box_value ts f j ≡ v → is_leaf ts j.cell ≡ l →
           ((half : Job) → halvings_left half.cell ≤ depth → IsJob ts half → Gives depth half) → Gives (suc depth) j
       by (Some known) l e q half = passed_gives (suc depth) j is known e
           (by_shape j (Some known) l e (ap (λ (us : List Tri). is_leaf us j.cell) (sym (near_listed ts j is))
-          ∙ is_leaf_near ts j.cell ∙ q))
+          ∙ is_leaf_near 0 ts j.cell ∙ q))
       by None true e q half = leafed_gives (suc depth) j q
           (by_shape j None true e (ap (λ (us : List Tri). is_leaf us j.cell) (sym (near_listed ts j is))
-          ∙ is_leaf_near ts j.cell ∙ q))
+          ∙ is_leaf_near 0 ts j.cell ∙ q))
       by None false e q half = λ ks r.
           let k = halving_axis ts j.cell in let low = left_job ts j (halving_axis (near_of ts j) j.cell) in let high =
           right_job ts j (halving_axis (near_of ts j) j.cell) in
           let same : halving_axis (near_of ts j) j.cell ≡ k =
-          ap (λ (us : List Tri). halving_axis us j.cell) (sym (near_listed ts j is)) ∙ halving_axis_near ts j.cell in
+          ap (λ (us : List Tri). halving_axis us j.cell) (sym (near_listed ts j is)) ∙ halving_axis_near 0 ts j.cell in
           let s : of j ≡ halved low high = by_shape j None false e
-          (ap (λ (us : List Tri). is_leaf us j.cell) (sym (near_listed ts j is)) ∙ is_leaf_near ts j.cell ∙ q) in
+          (ap (λ (us : List Tri). is_leaf us j.cell) (sym (near_listed ts j is)) ∙ is_leaf_near 0 ts j.cell ∙ q) in
           let both = halves_are_jobs ts f j low high count scene is s in
-          let less = left_less j.cell k (halvable_unless_leaf ts j.cell q) in
+          let less = left_less j.cell k (halvable_unless_leaf 0 ts j.cell q) in
           let fewer : halvings_left low.cell ≤ depth = omega (arith, few, less, ap (λ (k : Axis). halvings_left (left_half j.cell k)) same) in
           let fewer_too : halvings_left high.cell ≤ depth = omega (arith, few, less, ap (λ (k : Axis). halvings_left (left_half j.cell k)) same) in
           let p = parted (under of depth low) (under of depth high) ks (subst (λ (js : List Job). Each Writes js ks) (under_halved of depth j low high s) r) in
@@ -189,7 +189,7 @@ module _ (ts : List Tri) (count : ℕ) (scene : IsScene ts count) (f : Formula) 
           (half low fewer both.0 p.first p.firsts) in
           let b = subst (λ (k : Axis). Each (LeafGives ts f) (leaves_within ts depth (right_half j.cell k)) p.second)
           same (half high fewer_too both.1 p.second p.seconds) in
-          rw (q, leaves_within) (subst (λ (ls : List Kept). Each (LeafGives ts f)
+          rw (q, leaves_within_on) (subst (λ (ls : List Kept). Each (LeafGives ts f)
           (leaves_within ts depth (left_half j.cell k) ++ leaves_within ts depth (right_half j.cell k)) ls) (sym p.is)
           (each_append a b))
 

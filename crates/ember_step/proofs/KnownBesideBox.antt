@@ -29,7 +29,7 @@ use Rattle.ember_law.proofs.Separation.{missed_face_has_separating_edge}
 use Rattle.ember_law.proofs.Vectors.{of_mesh_all}
 use Rattle.ember_box.specs.Near.{is_near, near}
 use Rattle.ember_box.specs.Reference.{reference}
-use Rattle.ember_ref.proofs.NearPoints.{HasPoint}
+use Rattle.ember_ref.specs.ClosedBoxes.{HasPoint}
 use Rattle.ember_ref.proofs.BoxPoints.{has_reference}
 use Rattle.ember_ref.proofs.ClearReferences.{clear_references}
 use Rattle.ember_ref.proofs.FarTriangles.{misses_far}

@@ -34,7 +34,7 @@ use Rattle.ember_box.specs.Boxes.{Cell, low, high}
 use Rattle.ember_box.specs.Aabbs.{interval_between}
 use Rattle.ember_box.specs.Reference.{reference_at}
 use Rattle.ember_ref.proofs.ReferenceSigns.{sign_at_reference, level_from, both_zero}
-use Rattle.ember_ref.proofs.NearPoints.{HasPoint, IsAcross}
+use Rattle.ember_ref.specs.ClosedBoxes.{HasPoint, IsAcross}
 use Rattle.ember_trace.proofs.PathVertices.{with_along}
 use Rattle.ember_trace.proofs.VertexSides.{IsClose, AreStops, stop_at_start, stop_after_first}
 use Rattle.ember_trace.proofs.VertexSides.{stop_after_second, start_sign, first_sign, second_sign}

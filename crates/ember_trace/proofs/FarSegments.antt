@@ -29,7 +29,8 @@ use Rattle.ember_point.specs.declared.meet_point.Meet.{Meet}
 use Rattle.ember_box.specs.Boxes.{Cell}
 use Rattle.ember_box.specs.Near.{is_near}
 use Rattle.ember_ref.specs.References.{or_sign}
-use Rattle.ember_ref.proofs.NearPoints.{HasPoint, near_point}
+use Rattle.ember_ref.specs.ClosedBoxes.{HasPoint}
+use Rattle.ember_ref.proofs.NearPoints.{near_point}
 use Rattle.ember_ref.proofs.FarTriangles.{inside_closed, misses_far}
 use Rattle.ember_trace.specs.Paths.{inside_side, first_of, second_of}
 use Rattle.ember_trace.proofs.PathVertices.{differ_last}

@@ -36,7 +36,7 @@ use Rattle.ember_law.proofs.Vectors.{segments_law}
 use Rattle.ember_law.proofs.CornerSides.{main_entry}
 use Rattle.ember_box.specs.Boxes.{Cell}
 use Rattle.ember_box.specs.Near.{is_near, near, no_tri, tri_at}
-use Rattle.ember_ref.proofs.NearPoints.{HasPoint}
+use Rattle.ember_ref.specs.ClosedBoxes.{HasPoint}
 use Rattle.ember_ref.proofs.FarTriangles.{misses_far}
 use Rattle.ember_trace.specs.Boxed.{IsRegion}
 use Rattle.ember_trace.proofs.FlatPlanes.{shared_face}

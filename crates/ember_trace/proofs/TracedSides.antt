@@ -32,7 +32,8 @@ use Rattle.ember_box.specs.Near.{is_near}
 use Rattle.ember_box.specs.Reference.{reference_at, Fits}
 use Rattle.ember_box.specs.Regions.{walls, level}
 use Rattle.ember_ref.specs.References.{or_sign}
-use Rattle.ember_ref.proofs.NearPoints.{HasPoint, IsAcross, coordinate as along_point}
+use Rattle.ember_ref.specs.ClosedBoxes.{HasPoint, IsAcross}
+use Rattle.ember_ref.proofs.NearPoints.{coordinate as along_point}
 use Rattle.ember_ref.proofs.ReferenceLegs.{weight_at}
 use Rattle.ember_ref.proofs.FarTriangles.{legs_near}
 use Rattle.ember_trace.specs.declared.near_triangle.NearTriangle.{NearTriangle}

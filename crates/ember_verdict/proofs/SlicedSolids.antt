@@ -16,7 +16,6 @@ use Rattle.ember_box.specs.Boxes.{Cell, root}
 use Rattle.ember_box.specs.Aabbs.{aabb_of_cell}
 use Rattle.ember_box.specs.Near.{near}
 use Rattle.ember_box.specs.Halving.{leaves}
-use Rattle.ember_box.specs.Regions.{IsRegions}
 use Rattle.ember_leaf.specs.declared.kept.Kept.{Kept}
 use Rattle.ember_leaf.specs.Scenes.{LeafGives, regions, nothing, IsWritten}
 use Rattle.ember_leaf.specs.Written.{IsWrittenOfRegion, unowned, same_value, written, IsWrittenOf, regional, hidden, front}
@@ -32,9 +31,9 @@ use Rattle.ember_model.specs.declared.tri.Tri.{Tri}
 use Rattle.ember_model.proofs.SignTests.{negative_out}
 use Rattle.ember_poly.specs.Cuts.{HasInside}
 use Rattle.ember_poly.proofs.OutlinePoints.{outline_has_its_points}
-use Rattle.ember_ref.proofs.NearPoints.{HasPoint}
+use Rattle.ember_ref.specs.ClosedBoxes.{HasPoint}
 use Rattle.ember_slice.specs.Lines.{IsFlat, along_line, ahead, is_before, is_on_line}
-use Rattle.ember_slice.specs.Segments.{IsEndless, IsFirstEndless, IsUnboundedAhead, IsUnboundedBack, is_cut}
+use Rattle.ember_slice.specs.Segments.{IsEndless, IsUnboundedAhead, IsUnboundedBack, is_cut}
 use Rattle.ember_slice.proofs.Along.{on_line_in, square, square_above}
 use Rattle.ember_text.specs.Documents.{written_face}
 use Rattle.ember_text.specs.Texts.{IsTextInRange, oriented_face}

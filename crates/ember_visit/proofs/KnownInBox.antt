@@ -24,7 +24,7 @@ use Rattle.ember_box.specs.Boxes.{Cell, low, high}
 use Rattle.ember_box.specs.Near.{is_near, near}
 use Rattle.ember_box.specs.Aabbs.{interval_between}
 use Rattle.ember_box.specs.Reference.{reference_at, reference}
-use Rattle.ember_ref.proofs.NearPoints.{IsAcross, HasPoint}
+use Rattle.ember_ref.specs.ClosedBoxes.{IsAcross, HasPoint}
 use Rattle.ember_ref.proofs.BoxPoints.{has_reference}
 use Rattle.ember_ref.proofs.ClearReferences.{clear_references}
 use Rattle.ember_ref.proofs.FarTriangles.{winds_far}

@@ -65,7 +65,7 @@ module _ (ts : List Tri) (f : Formula) (j low high : Job) where
   pub halves_are_jobs : (n : ℕ) → IsScene ts n → IsJob ts j → shape ts f j ≡ halved low high → IsJob ts low × IsJob ts high
   halves_are_jobs n s h e =
       let i = into e in
-      let may = halvable_unless_leaf (near_of ts j) j.cell i.not_leaf in
+      let may = halvable_unless_leaf 0 (near_of ts j) j.cell i.not_leaf in
       (subst (IsJob ts) i.is_low (left_is_job ts n s j h axis may), subst (IsJob ts) i.is_high (right_is_job ts n s j h axis may))
 
   -- the halves of a job are jobs of the two halves of its box
@@ -73,7 +73,7 @@ module _ (ts : List Tri) (f : Formula) (j low high : Job) where
   halves_are_split e =
       let i = into e in record {
         axis = axis;
-        may_halve = halvable_unless_leaf (near_of ts j) j.cell i.not_leaf;
+        may_halve = halvable_unless_leaf 0 (near_of ts j) j.cell i.not_leaf;
         is_low = ap (λ (x : Job). x.cell) (sym i.is_low);
         is_high = ap (λ (x : Job). x.cell) (sym i.is_high);
       }

@@ -6,3 +6,4 @@ pub mod Slides
 pub mod TakenPlanes
 pub mod ShortNumbers
 pub mod Places
+pub mod FloorValues

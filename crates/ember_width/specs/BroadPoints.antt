@@ -1,5 +1,5 @@
 -- Points of the broad grid as rational points
-use Rattle.std.specs.Prelude.{◌+ℤ◌, ◌*ℤ◌}
+use Rattle.std.specs.Prelude.{Bool, true, false, ◌+ℤ◌, ◌*ℤ◌}
 use Rattle.ember_algebra.specs.Vector.{Vector}
 use Rattle.ember_model.specs.declared.point.Spot.{Spot}
 use Rattle.ember_wide.specs.Whole.{value_of}
@@ -31,6 +31,12 @@ abbrev pub spot_of : BroadPoint → Spot
 spot_of (Short m) = short_spot m
 spot_of (Floored m) = floor_spot m
 spot_of (Far m) = far_spot m
+
+-- the point has short numbers
+abbrev pub is_short : BroadPoint → Bool
+is_short (Short m) = true
+is_short (Floored m) = false
+is_short (Far m) = false
 
 -- the cross product
 abbrev pub cross_of : Cross → Vector

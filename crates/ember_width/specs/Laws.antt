@@ -1,5 +1,5 @@
 -- The laws of both widths.
-use Rattle.std.proofs.Common.{◌^◌, ◌<◌, ◌≤◌, pos, ◌*ℤ◌, ◌<ℤ◌, lit<, lit≤, arith}
+use Rattle.std.proofs.Common.{◌≡◌, refl, ◌^◌, ◌<◌, ◌≤◌, pos, ◌*ℤ◌, ◌<ℤ◌, lit<, lit≤, arith}
 use borrow.Author.Differences.{ints}
 use Rattle.ember_algebra.proofs.Size.{small_within, small_neg}
 use Rattle.ember_model.specs.declared.plane.Plane.{Plane}
@@ -70,6 +70,21 @@ narrow_normals = lit< tt
 -- normals of the broad grid are below 2^43
 pub broad_normals : normal_limit broad_limit < 2 ^ 43
 broad_normals = lit< tt
+
+-- ---- the unit of the boxes
+-- on the narrow grid it is a step
+pub narrow_unit : pos 1 ≡ pos (2 ^ 0)
+narrow_unit = refl
+
+pub narrow_steps : 0 ≤ 8
+narrow_steps = lit≤ tt
+
+-- on the broad grid it has 256 steps
+pub broad_unit : pos 256 ≡ pos (2 ^ 8)
+broad_unit = refl
+
+pub broad_steps : 8 ≤ 8
+broad_steps = lit≤ tt
 
 -- ---- the root
 -- the root holds the narrow grid

@@ -3,3 +3,5 @@ pub mod BroadPoints
 pub mod Levels
 pub mod NarrowLevels
 pub mod Laws
+pub mod Scenes
+pub mod RootFloors

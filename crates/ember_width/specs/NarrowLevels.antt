@@ -1,5 +1,5 @@
 -- Levels of the narrow grid: how large the numbers there are
-use Rattle.std.specs.Prelude.{ℕ, ◌+◌, ◌*◌}
+use Rattle.std.specs.Prelude.{ℕ, ◌*◌}
 use Rattle.ember_model.specs.Limits.{valid_normal_limit}
 
 -- the coordinate of a level: the root's half side, 2^11

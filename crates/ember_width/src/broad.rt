@@ -2,12 +2,15 @@
 ghost use Rattle.std.specs.Prelude.{◌^◌, pos};
 ghost use Rattle.ember_model.specs.Limits.{broad_limit};
 ghost use Rattle.ember_width.specs.Broad.{IsBroadPlane};
-ghost use Rattle.ember_width.specs.BroadPoints.{spot_of};
+ghost use Rattle.ember_width.specs.BroadPoints.{spot_of, is_short};
 
 use crate::broad_point::BroadPoint;
 use crate::corners::broad_point_at;
 use crate::levels::broad_level_point;
 use crate::meeting::broad_meet;
+use crate::root_floors::broad_floor_in_root;
+use crate::short_numbers::{is_short, numbers_of_short};
+use crate::short_point::ShortPoint;
 use crate::sides::broad_side;
 use crate::width::Width;
 use ember_algebra::Sign;
@@ -17,13 +20,15 @@ use ember_model::{Axis, Corner, Plane};
 pub struct Broad;
 
 impl Width for Broad {
-    ghost use Rattle.ember_width.specs.Laws.{broad_planes, broad_opposite, broad_is_broad, broad_limit_is_broad, broad_normals, broad_root, broad_weighs};
+    ghost use Rattle.ember_width.specs.Laws.{broad_planes, broad_opposite, broad_is_broad, broad_limit_is_broad, broad_normals, broad_unit, broad_steps, broad_root, broad_weighs};
 
     type Point = BroadPoint;
 
     const UNIT: i32 = 256;
 
     ghost UNIT = { pos 256 };
+
+    ghost scale = { 8 };
 
     ghost corner = { broad_limit };
 
@@ -32,6 +37,8 @@ impl Width for Broad {
     ghost IsPlane = { IsBroadPlane };
 
     ghost spot = { spot_of };
+
+    ghost short = { is_short };
 
     ghost weighs = { broad_weighs };
 
@@ -45,6 +52,10 @@ impl Width for Broad {
 
     ghost tells_apart = { broad_normals };
 
+    ghost unit_is = { broad_unit };
+
+    ghost few_steps = { broad_steps };
+
     ghost holds = { broad_root };
 
     fn meet(p: &Plane, q: &Plane, r: &Plane) -> Option<BroadPoint> {
@@ -57,6 +68,22 @@ impl Width for Broad {
 
     fn side_across(p: &Plane, _axis: Axis, m: &BroadPoint) -> Sign {
         broad_side(p, m)
+    }
+
+    fn is_short(m: &BroadPoint) -> bool {
+        is_short(m)
+    }
+
+    fn short_side(p: &Plane, m: &BroadPoint) -> Sign {
+        broad_side(p, m)
+    }
+
+    fn numbers(m: &BroadPoint) -> ShortPoint {
+        numbers_of_short(m)
+    }
+
+    fn floor_in_root(m: &BroadPoint, axis: Axis) -> i32 {
+        broad_floor_in_root(m, axis)
     }
 
     fn is_in_root(at: i64) -> bool {

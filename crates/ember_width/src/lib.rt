@@ -16,6 +16,8 @@ mod meeting;
 mod narrow;
 mod narrow_levels;
 mod points;
+mod root_floors;
+mod short_numbers;
 mod short_point;
 mod sides;
 mod width;

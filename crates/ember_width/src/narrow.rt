@@ -2,11 +2,14 @@
 ghost use Rattle.std.specs.Prelude.{◌^◌, pos};
 ghost use Rattle.ember_model.specs.Limits.{narrow_limit};
 ghost use Rattle.ember_model.specs.Valid.{IsValidPlane};
-ghost use Rattle.ember_point.specs.Points.{spot_of};
+ghost use Rattle.ember_point.specs.Points.{spot_of, is_narrow};
 
 use crate::across::narrow_side_across;
 use crate::corners::narrow_point_at;
 use crate::narrow_levels::narrow_level_point;
+use crate::root_floors::narrow_floor_in_root;
+use crate::short_numbers::numbers_of_narrow;
+use crate::short_point::ShortPoint;
 use crate::width::Width;
 use ember_algebra::Sign;
 use ember_model::{Axis, Corner, Plane};
@@ -16,13 +19,15 @@ use ember_point::Meet;
 pub struct Narrow;
 
 impl Width for Narrow {
-    ghost use Rattle.ember_width.specs.Laws.{narrow_planes, narrow_opposite, narrow_is_broad, narrow_limit_is_broad, narrow_normals, narrow_root};
+    ghost use Rattle.ember_width.specs.Laws.{narrow_planes, narrow_opposite, narrow_is_broad, narrow_limit_is_broad, narrow_normals, narrow_unit, narrow_steps, narrow_root};
 
     type Point = Meet;
 
     const UNIT: i32 = 1;
 
     ghost UNIT = { pos 1 };
+
+    ghost scale = { 0 };
 
     ghost corner = { narrow_limit };
 
@@ -31,6 +36,8 @@ impl Width for Narrow {
     ghost IsPlane = { IsValidPlane };
 
     ghost spot = { spot_of };
+
+    ghost short = { λ m. is_narrow (spot_of m) };
 
     ghost weighs = { λ m. m.valid.weight };
 
@@ -43,6 +50,10 @@ impl Width for Narrow {
     ghost at_most_broad = { narrow_limit_is_broad };
 
     ghost tells_apart = { narrow_normals };
+
+    ghost unit_is = { narrow_unit };
+
+    ghost few_steps = { narrow_steps };
 
     ghost holds = { narrow_root };
 
@@ -59,6 +70,26 @@ impl Width for Narrow {
     #[inline]
     fn side_across(p: &Plane, axis: Axis, m: &Meet) -> Sign {
         narrow_side_across(p, axis, m)
+    }
+
+    #[inline]
+    fn is_short(m: &Meet) -> bool {
+        ember_point::is_narrow(m)
+    }
+
+    #[inline]
+    fn short_side(p: &Plane, m: &Meet) -> Sign {
+        ember_point::narrow_side(p, m)
+    }
+
+    #[inline]
+    fn numbers(m: &Meet) -> ShortPoint {
+        numbers_of_narrow(m)
+    }
+
+    #[inline]
+    fn floor_in_root(m: &Meet, axis: Axis) -> i32 {
+        narrow_floor_in_root(m, axis)
     }
 
     #[inline]

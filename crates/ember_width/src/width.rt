@@ -1,5 +1,5 @@
 // The numbers that a grid needs.
-ghost use Rattle.std.specs.Prelude.{◌≡◌, ℕ, ◌+◌, ◌*◌, ◌<◌, ◌≤◌, ℤ, pos, ◌*ℤ◌, ◌<ℤ◌, IfSome, IsNone, IsTrue, ◌↔◌};
+ghost use Rattle.std.specs.Prelude.{◌≡◌, ℕ, ◌+◌, ◌*◌, ◌^◌, ◌<◌, ◌≤◌, ℤ, pos, ◌*ℤ◌, ◌<ℤ◌, IfSome, IsNone, IsTrue, ◌↔◌, Bool, true};
 ghost use Rattle.ember_algebra.specs.Size.{Small};
 ghost use Rattle.ember_algebra.specs.Sign.{sgn};
 ghost use Rattle.ember_model.specs.declared.plane.Plane.{Plane as PlaneView};
@@ -10,8 +10,11 @@ ghost use Rattle.ember_model.specs.Planes.{value_at, opposite};
 ghost use Rattle.ember_model.specs.Within.{IsCornerWithin, IsPlaneWithin, normal_limit};
 ghost use Rattle.ember_point.specs.Points.{weight, meet_of};
 ghost use Rattle.ember_width.specs.Broad.{IsBroadPlane};
+ghost use Rattle.ember_width.specs.BroadPoints.{short_spot};
 ghost use Rattle.ember_width.specs.Levels.{IsAlong, turn_at, level_meet};
+ghost use Rattle.ember_width.specs.RootFloors.{floor_along, moved_within};
 
+use crate::short_point::ShortPoint;
 use ember_algebra::Sign;
 use ember_model::{Axis, Corner, Plane};
 
@@ -25,6 +28,9 @@ pub trait Width {
 
     ghost UNIT: { ℤ };
 
+    // a unit is halved this often until it is one step
+    ghost scale: { ℕ };
+
     // the greatest coordinate of a corner
     ghost corner: { ℕ };
 
@@ -36,6 +42,9 @@ pub trait Width {
 
     // the point as a rational one
     ghost spot: { Self.Point → Spot };
+
+    // the point's four numbers are below 2^62 in size
+    ghost short: { Self.Point → Bool };
 
     /// The one point of three planes, or `None` if there is none or more than one.
     fn meet(p: &Plane, q: &Plane, r: &Plane) -> Option<Self::Point>
@@ -55,6 +64,26 @@ pub trait Width {
         requires plane { IsPlane p.now }
         requires axis { IsAlong axis p.now }
         ensures { result ≡ sgn (value_at p.now (spot m.now)) };
+
+    /// Whether the point's numbers are short. Then sides are found in fewer steps.
+    fn is_short(m: &Self::Point) -> bool
+        ensures { result ≡ short m.now };
+
+    /// The side of the plane on which a short point lies.
+    fn short_side(p: &Plane, m: &Self::Point) -> Sign
+        requires plane { IsPlane p.now }
+        requires short { short m.now ≡ true }
+        ensures { result ≡ sgn (value_at p.now (spot m.now)) };
+
+    /// The numbers of a short point.
+    fn numbers(m: &Self::Point) -> ShortPoint
+        requires { short m.now ≡ true }
+        ensures { short_spot result ≡ spot m.now };
+
+    /// The floor of the point's coordinate along an axis, in steps. If it lies outside of the root,
+    /// the nearest whole number from one wall of the root to the other.
+    fn floor_in_root(m: &Self::Point, axis: Axis) -> i32
+        ensures { result ≡ moved_within (pos 2048 *ℤ UNIT) (floor_along axis (spot m.now)) };
 
     /// Whether the root reaches to this coordinate: whether a wall of a box can have it.
     fn is_in_root(at: i64) -> bool
@@ -91,6 +120,12 @@ pub trait Width {
 
     // the shifts are smaller than what any plane of a triangle tells apart
     ghost tells_apart: { normal_limit corner < fine };
+
+    // a unit has this many steps
+    ghost unit_is: { UNIT ≡ pos (2 ^ scale) };
+
+    // and at most 256
+    ghost few_steps: { scale ≤ 8 };
 
     // the root, 2048 units to each side of the origin, holds all corners
     ghost holds: { pos corner <ℤ (pos 2048 *ℤ UNIT) };

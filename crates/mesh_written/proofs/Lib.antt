@@ -3,6 +3,7 @@ pub mod Ratios
 pub mod Points
 pub mod Proper
 pub mod Signs
+pub mod NearestUnits
 pub mod Kept
 pub mod StepPlaces
 pub mod Closings

@@ -1,5 +1,5 @@
 // Certified triangles can be written, and are closed; rounded numbers have their decimals.
-ghost use Rattle.std.specs.Prelude.{◌≡◌, true, ℕ, pos, int_lt, unsigned_abs, List, All, length, map};
+ghost use Rattle.std.specs.Prelude.{◌≡◌, true, ℕ, ◌*◌, ◌^◌, ◌<◌, pos, int_lt, unsigned_abs, List, All, length, map};
 ghost use Rattle.std.specs.List.{list_all};
 ghost use Rattle.ember_model.specs.declared.plane.Plane.{Plane};
 ghost use Rattle.mesh_certificate.specs.declared.key.lines.LineKey.{LineKey};
@@ -7,8 +7,9 @@ ghost use Rattle.mesh_certificate.specs.declared.certificate.segment.Segment.{Se
 ghost use Rattle.mesh_certificate.specs.declared.certificate.space_point.SpacePoint.{SpacePoint};
 ghost use Rattle.mesh_certificate.specs.declared.certificate.triangle.Triangle.{Triangle};
 ghost use Rattle.mesh_certificate.specs.Certificate.Certificate.{IsProper, IsCertified};
-ghost use Rattle.mesh_number.specs.Number.Fractions.{Fraction};
+ghost use Rattle.mesh_number.specs.Number.Fractions.{Fraction, signed_whole};
 ghost use Rattle.mesh_number.specs.Round.Decimals.{decimal_text};
+ghost use Rattle.mesh_number.specs.Round.Nearest.{IsNearest};
 ghost use Rattle.mesh_grid.specs.declared.snap.steps.GridStep.{GridStep};
 ghost use Rattle.mesh_grid.specs.declared.snap.offsets.Offset.{Offset};
 ghost use Rattle.mesh_write.specs.Vertices.Vertices.{vertices_of, indexed};
@@ -44,8 +45,14 @@ pub fn decimal_triangles_are_closed()
         (decimal_triangles places step offset corners ts)) }
 {}
 
-/// A number that is rounded to units of the last place has the decimal that is nearest to it.
+/// A number that is rounded to units of the last place has the decimal that is nearest to it: the
+/// text of the units is that of the number, their size is nearest to the number's size in units (of
+/// two equally near, the even one), and they have its sign.
 pub fn units_have_the_nearest_decimal()
-    ensures { (places : ℕ) (v : Fraction) → decimal_text (int_lt (units_of places v) (pos 0))
+    ensures text { (places : ℕ) (v : Fraction) → decimal_text (int_lt (units_of places v) (pos 0))
         (unsigned_abs (units_of places v)) places ≡ decimal_of v places }
+    ensures nearest { (places : ℕ) (v : Fraction) → 0 < v.denominator →
+        IsNearest (unsigned_abs v.numerator * 10 ^ places) v.denominator (unsigned_abs (units_of places v)) }
+    ensures sign { (places : ℕ) (v : Fraction) →
+        units_of places v ≡ signed_whole (int_lt v.numerator (pos 0)) (unsigned_abs (units_of places v)) }
 {}

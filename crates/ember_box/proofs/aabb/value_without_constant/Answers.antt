@@ -1,7 +1,8 @@
 use mir.Syntax.{w32, w64}
 use Rattle.ember_algebra.proofs.Exact.{Code, input, stored, ◌⊠◌, ◌⊞◌, ◌&◌, done, exact, bounded, no_overflow}
 use Rattle.ember_box.proofs.aabb.value_without_constant.Goals as goal
-use Rattle.std.proofs.Common.{ℕ, ◌^◌}
+use Rattle.std.proofs.Common.{ℕ}
+use Rattle.ember_box.specs.Aabbs.{most_sum}
 
 -- a coefficient times a coordinate
 abbrev times : ℕ → ℕ → Code
@@ -43,5 +44,5 @@ returns-clause-value c =
 pub returns-clause-small : goal.returns-clause-small
 returns-clause-small c =
     bounded (c.requires.plane.a & c.requires.x & c.requires.plane.b & c.requires.y & c.requires.plane.c & c.requires.z &
-    done) (2 ^ 38) (stored w64 (stored w64 (stored w64 (times 0 1) ⊞ stored w64 (times 2 3)) ⊞ stored w64
+    done) most_sum (stored w64 (stored w64 (stored w64 (times 0 1) ⊞ stored w64 (times 2 3)) ⊞ stored w64
     (times 4 5))) tt

@@ -1,4 +1,5 @@
 use Rattle.std.proofs.Common.{◌≡◌, sym, ap, ◌∙◌, true}
+use Rattle.ember_model.specs.Limits.{broad_limit}
 use Rattle.ember_model.specs.Planes.{support_of}
 use Rattle.ember_box.specs.Aabbs.{aabb_of_tri, aabbs_meet, is_level, contains_corner, crosses}
 use Rattle.ember_box.proofs.NearByAabbs.{crossed_a, inside_out}
@@ -18,3 +19,6 @@ returns-then-is_level c =
           sym w.contains_corner.ensures ∙ w.if-contains_corner.true in
           λ box e o. sym (crossed_a t b (inside_out b t.a h)))
     ]
+
+pub crosses-requires-clause-plane : goal.crosses-requires-clause-plane
+crosses-requires-clause-plane c = c.support_of.ensures.within broad_limit c.requires.tri

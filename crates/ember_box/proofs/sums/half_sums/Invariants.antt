@@ -6,4 +6,4 @@ use Rattle.ember_box.proofs.sums.half_sums.Given as goal
 
 abbrev pub invariant-loop-i : goal.invariant-loop-i
 invariant-loop-i l =
-    AreSums (take l.i-index (listed l.tris l.list)) l.c (sums_of l.near l.x_sum l.y_sum l.z_sum)
+    AreSums 0 (take l.i-index (listed l.tris l.list)) l.c (sums_of l.near l.x_sum l.y_sum l.z_sum)

@@ -10,4 +10,4 @@ returns-clause-leaf c = search rules
 pub returns-clause-near : goal.returns-clause-near
 returns-clause-near c e =
     let ts = c.args.s.now.tris in let cell = c.args.c.now in
-    returns-clause-leaf c ∙ ap (λ list. halvings.is_leaf (listed ts list) cell) e ∙ is_leaf_listed ts cell
+    returns-clause-leaf c ∙ ap (λ list. halvings.is_leaf (listed ts list) cell) e ∙ is_leaf_listed 0 ts cell

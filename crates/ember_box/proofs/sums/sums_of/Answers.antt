@@ -4,7 +4,7 @@ use Rattle.ember_box.proofs.sums.sums_of.Goals as goal
 
 pub returns-clause-sums : goal.returns-clause-sums
 unfolding near_half_count
-returns-clause-sums c box t a =
+returns-clause-sums c n box t a =
     record {
       near = c.number.ensures.value ∙ ap number a.whole;
       x = λ may. c.number_of.ensures.value ∙ (λ i. number ((a.x may).left i) + number ((a.x may).right i));

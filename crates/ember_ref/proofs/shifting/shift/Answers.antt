@@ -1,6 +1,7 @@
-use Rattle.std.proofs.Common.{List, take_all, ◌+◌, sym, ap, ◌∙◌, arith, get_or}
+use Rattle.std.proofs.Common.{◌^◌, lit<, List, take_all, ◌+◌, sym, ap, ◌∙◌, arith, get_or}
 use Rattle.ember_model.specs.declared.tri.Tri.{Tri}
 use Rattle.ember_model.specs.Faces.{face_of, leg}
+use Rattle.ember_model.specs.Limits.{narrow_limit}
 use Rattle.ember_law.specs.Counts.{with_more}
 use Rattle.ember_law.proofs.FlatTriangles.{flat_leg}
 use Rattle.ember_law.proofs.Tallies.{no_tri, tally_more, tally_none}
@@ -29,7 +30,7 @@ loop-t-preserved c =
     let ts = c.args.near.now in let i = c.loop-t.t-index in let t = get_or ts i no_tri in
     let l = c.loop-t-test.true in
     record {
-      value = c.add_crossing.ensures.value b k c.requires.side c.segment_back-segment.ensures.back
+      value = c.add_crossing.ensures.value narrow_limit (2 ^ 27) b k (c.requires.valid i no_tri l) (lit< tt) c.requires.side c.segment_back-segment.ensures.back
           ∙ ap (λ old. with_more old t.mesh (leg (face_of t) p q)) c.loop-t.invariant.value
           ∙ sym (tally_more (λ f. leg f p q) (flat_leg p q) ts i no_tri l (c.requires.numbered i no_tri l)
           c.args.v.now.counts);

@@ -1,0 +1,33 @@
+// Boxes measured in the steps of a grid.
+ghost use Rattle.std.specs.Prelude.{◌≡◌, ◌*◌, ◌^◌, pos, ◌*ℤ◌, [], ◌∷◌, All};
+ghost use Rattle.ember_algebra.specs.Size.{Small};
+ghost use Rattle.ember_box.specs.Boxes.{in_steps};
+ghost use Rattle.ember_box.specs.Aabbs.{most_wall};
+
+use crate::cell::Cell;
+use ember_model::Axis;
+use ember_width::Width;
+
+/// A coordinate of a box, in steps. It is given in units.
+pub fn in_steps<W: Width>(x: i32) -> i32
+    requires { Small 2048 x }
+    ensures value { result ≡ pos (2 ^ W.scale) *ℤ x }
+    ensures within { Small (2 ^ W.scale * 2048) result }
+    ensures small { Small most_wall result }
+{
+    W::UNIT * x
+}
+
+/// The least corner of a box, in steps of a grid.
+pub fn lo_on<W: Width>(c: &Cell) -> [i32; 3]
+    ensures value { result
+        ≡ (in_steps W.scale c.now).lo.x ∷ (in_steps W.scale c.now).lo.y ∷ (in_steps W.scale c.now).lo.z ∷ [] }
+    ensures within { All (Small (2 ^ W.scale * 2048)) result }
+    ensures small { All (Small most_wall) result }
+{
+    [
+        in_steps::<W>(c.low(Axis::X)),
+        in_steps::<W>(c.low(Axis::Y)),
+        in_steps::<W>(c.low(Axis::Z)),
+    ]
+}
