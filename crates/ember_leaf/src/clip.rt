@@ -2,7 +2,7 @@
 ghost use Rattle.std.specs.Prelude.{◌≡◌, true, false, [], ◌∷◌, map, if◌then◌else◌, IfOk, OnOk};
 ghost use Rattle.ember_algebra.specs.Size.{Small};
 ghost use Rattle.ember_model.specs.Valid.{IsValidPlane};
-ghost use Rattle.ember_box.specs.Aabbs.{IsIntervalSized};
+ghost use Rattle.ember_box.specs.Aabbs.{IsIntervalWithin};
 ghost use Rattle.ember_model.specs.Planes.{opposite};
 ghost use Rattle.ember_model.specs.Faces.{is_flat, face_of};
 ghost use Rattle.ember_box.specs.Regions.{level, AreLeftByWall};
@@ -42,7 +42,7 @@ pub fn common_spans(first: &Aabb, second: &Aabb) -> Aabb
 
 // The wall at the low end of a box's interval along an axis.
 fn low_wall(interval: &Interval, axis: Axis) -> Wall
-    requires { IsIntervalSized interval.now }
+    requires { IsIntervalWithin 2048 interval.now }
     ensures { wall_of result ≡ record { plane = opposite (level axis interval.now.low); is_high = false } }
 {
     Wall {
@@ -54,7 +54,7 @@ fn low_wall(interval: &Interval, axis: Axis) -> Wall
 
 // The wall at the high end of a box's interval along an axis.
 fn high_wall(interval: &Interval, axis: Axis) -> Wall
-    requires { IsIntervalSized interval.now }
+    requires { IsIntervalWithin 2048 interval.now }
     ensures { wall_of result ≡ record { plane = level axis interval.now.high; is_high = true } }
 {
     Wall {
