@@ -48,7 +48,7 @@ def boolean(
                - a pair of arrays: (n, 3) vertices in any unit, and (m, 3) indices of them from 0, counter-clockwise from outside.
                  Vertices of float64, float32 and integers below 2^53 are taken as they are
                - an object with `.vertices` and `.faces` (ember, trimesh), or with `.vert_properties` and `.tri_verts` (manifold3d)
-               - a path of an STL, OBJ, PLY or OFF file, or the bytes of one
+               - a path of an STL, OBJ, PLY, OFF or glTF file, or the bytes of one
     operation  "union", "difference" (the first without all others), "intersection", or an expression over the meshes, which count
                from 1 in it: "m1&!m2" is the first without the second, "w1+w2>=2" holds where their winding numbers are 2 together
     step       the distance of grid points, in the unit of the vertices. All corners are moved to a grid with 4,095 points along each

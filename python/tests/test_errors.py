@@ -80,7 +80,7 @@ def test_a_folder_and_a_file_that_nobody_may_read(engine, tmp_path):
     ("data", "said"),
     [
         (b"PK\3\4 and more", "3MF and other zip archives aren't read; export as STL, OBJ, PLY or OFF"),
-        (b"glTF\2\0\0\0", "GLB isn't read; export as STL, OBJ, PLY or OFF"),
+        (b"glTF\2\0\0\0", "GLB is cut off; export anew"),
         (b"\x1f\x8b\x08 and more", "gzip isn't read; unpack the file"),
         (b"<!DOCTYPE html>", "an HTML page and no mesh; download the mesh itself"),
     ],

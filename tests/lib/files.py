@@ -1,5 +1,7 @@
 """Meshes as files of each format that ember-mesh reads. A mesh is its corners and its faces, as in meshes.py; corners may be
 whole numbers, floats or decimals, and text shows each as Python does."""
+import base64
+import json
 import struct
 
 
@@ -58,6 +60,56 @@ def off(mesh, head="OFF # made by a test\n", more=""):
     return head.encode() + "\n".join([f"{len(corners)} {len(faces)} 0", *rows, ""]).encode()
 
 
+def _document(positions, indices, kind, buffer):
+    """A glTF of one mesh, and of a list of points, which a reader of meshes passes over. Its one buffer holds the positions, and then the indices."""
+    size = len(positions) + len(indices)
+    views = [{"buffer": 0, "byteLength": len(positions)}, {"buffer": 0, "byteOffset": len(positions), "byteLength": len(indices)}]
+    width = {"B": (5121, 1), "H": (5123, 2), "I": (5125, 4)}[kind]
+    accessors = [
+        {"bufferView": 0, "componentType": 5126, "type": "VEC3", "count": len(positions) // 12},
+        {"bufferView": 1, "componentType": width[0], "type": "SCALAR", "count": len(indices) // width[1]},
+    ]
+    points = {"mode": 0, "attributes": {"POSITION": 0}}
+    return {
+        "asset": {"version": "2.0", "generator": "a test"},
+        "scene": 0,
+        "scenes": [{"nodes": [1]}],
+        "nodes": [{"mesh": 0, "translation": [0, 0, 0]}, {"children": [0], "name": "root"}],
+        "meshes": [{"primitives": [points, {"attributes": {"POSITION": 0}, "indices": 1}]}],
+        "accessors": accessors,
+        "bufferViews": views,
+        "buffers": [{"byteLength": size, **buffer}],
+    }
+
+
+def _numbers(mesh, kind):
+    corners, faces = mesh
+    indices = [n for face in faces for i in range(1, len(face) - 1) for n in (face[0], face[i], face[i + 1])]
+    return (
+        b"".join(struct.pack("<3f", *map(float, it)) for it in corners),
+        struct.pack(f"<{len(indices)}{kind}", *indices),
+    )
+
+
+def _chunk(kind, data, filler):
+    data += filler * (-len(data) % 4)
+    return struct.pack("<I4s", len(data), kind) + data
+
+
+def glb(mesh, kind="I"):
+    positions, indices = _numbers(mesh, kind)
+    text = json.dumps(_document(positions, indices, kind, {})).encode()
+    body = _chunk(b"JSON", text, b" ") + _chunk(b"BIN\0", positions + indices, b"\0")
+    return struct.pack("<4sII", b"glTF", 2, 12 + len(body)) + body
+
+
+def gltf(mesh, kind="H"):
+    positions, indices = _numbers(mesh, kind)
+    text = base64.b64encode(positions + indices).decode()
+    document = _document(positions, indices, kind, {"uri": f"data:application/octet-stream;base64,{text}"})
+    return json.dumps(document, indent=1).encode()
+
+
 FORMATS = {
     "binary.stl": binary_stl,
     "ascii.stl": ascii_stl,
@@ -68,4 +120,6 @@ FORMATS = {
     "off": off,
     "marked.off": lambda mesh: off(mesh, "\ufeff# made by a test\n\nstCnOFF # in any case\n", " 0.5 0.5 255 0 0 255 0 0 1"),
     "bare.off": lambda mesh: off(mesh, "# made by a test\n"),
+    "glb": glb,
+    "gltf": gltf,
 }

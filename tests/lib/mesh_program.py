@@ -12,7 +12,7 @@ REASONS = r"""
 no triangles in it; is it a mesh\?
 line \d+: coordinate 'W' is not a number; export anew
 line \d+: fewer than three coordinates; export anew
-(?:line|facet|face) \d+: a coordinate of 1e15 or more; export in another unit
+(?:line|facet|face|triangle) \d+: a coordinate of 1e15 or more; export in another unit
 neither ASCII STL nor binary STL: \d+ bytes, but \d+ facets need \d+; it is cut off, export anew
 facet \d+: coordinate is not a finite number; remove the facet or export anew
 line \d+: vertex outside a facet; export anew
@@ -34,7 +34,21 @@ line \d+: vertices of four coordinates \(4OFF\) aren't read; export as OFF
 OFF has no counts; export anew
 fewer lines than the counts say; it is cut off, export anew
 line \d+: face not understood; export anew
-(?:3MF and other zip archives aren't|(?:GLB|FBX|STEP|VRML|COLLADA|AMF) isn't) read; export as STL, OBJ, PLY or OFF
+GLB is cut off; export anew
+GLB of version \d+, and not 2; export anew
+glTF isn't JSON; export anew
+glTF with (?:Draco|meshopt)'s compression isn't read; export without compression
+glTF with EXT_mesh_gpu_instancing isn't read; export as STL, OBJ, PLY or OFF
+buffer \d+: isn't in the file; export as GLB
+glTF has no scene; export anew
+(?:node|mesh|accessor) \d+: not understood; export anew
+node \d+: twice in the scene; export anew
+node \d+: is moved, turned or scaled; apply the transforms and export anew
+accessor \d+: sparse accessors aren't read; export as STL, OBJ, PLY or OFF
+accessor \d+: coordinate is not a finite number; export anew
+mesh \d+: names a vertex that isn't there; export anew
+more than 16777216 points or corners of triangles; simplify the mesh
+(?:3MF and other zip archives aren't|(?:FBX|STEP|VRML|COLLADA|AMF) isn't) read; export as STL, OBJ, PLY or OFF
 gzip isn't read; unpack the file
 an HTML page and no mesh; download the mesh itself
 """.strip().replace("W", "[!-~]*").split("\n")

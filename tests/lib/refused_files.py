@@ -74,7 +74,6 @@ _UNREAD = (
     # What is behind the first bytes doesn't count, even if it is a bad line of an OBJ.
     (b"PK\x03\x04\nf 1\n", f"3MF and other zip archives aren't read; {_EXPORT}"),
     (b"\x1f\x8b\x08", "gzip isn't read; unpack the file"),
-    (b"glTF\x02\x00", f"GLB isn't read; {_EXPORT}"),
     (b"Kaydara FBX Binary  \x00", f"FBX isn't read; {_EXPORT}"),
     (b"; FBX 7.3.0 project file\n", f"FBX isn't read; {_EXPORT}"),
     (b"ISO-10303-21;\nHEADER;\n", f"STEP isn't read; {_EXPORT}"),
@@ -85,6 +84,37 @@ _UNREAD = (
     (b"<html lang='en'>", "an HTML page and no mesh; download the mesh itself"),
 )
 
+def _scene(nodes, more=""):
+    return f'{{"asset":{{"version":"2.0"}},"scenes":[{{"nodes":[0]}}],"nodes":[{nodes}]{more}}}'.encode()
+
+
+_PRIMITIVE = ',"meshes":[{"primitives":[{"attributes":{"POSITION":0}}]}]'
+_REQUIRED = ',"extensionsRequired":["%s"]'
+
+_GLTF = (
+    (b'{"asset":', "glTF isn't JSON; export anew"),
+    (b"{}", "glTF has no scene; export anew"),
+    (_scene("{}"), "no triangles in it; is it a mesh?"),
+    (_scene(""), "node 0: not understood; export anew"),
+    (_scene('{"children":[0]}'), "node 0: twice in the scene; export anew"),
+    (_scene('{"scale":[1,1,2]}'), "node 0: is moved, turned or scaled; apply the transforms and export anew"),
+    (_scene('{"mesh":3}'), "mesh 3: not understood; export anew"),
+    (_scene('{"mesh":0}', _PRIMITIVE), "accessor 0: not understood; export anew"),
+    (
+        _scene('{"mesh":0}', _PRIMITIVE + ',"accessors":[{"componentType":5126,"type":"VEC3","count":3,"sparse":{}}]'),
+        f"accessor 0: sparse accessors aren't read; {_EXPORT}",
+    ),
+    (_scene("{}", ',"buffers":[{"byteLength":4,"uri":"a.bin"}]'), "buffer 0: isn't in the file; export as GLB"),
+    (_scene("{}", _REQUIRED % "KHR_draco_mesh_compression"), "glTF with Draco's compression isn't read; export without compression"),
+    (_scene("{}", _REQUIRED % "EXT_meshopt_compression"), "glTF with meshopt's compression isn't read; export without compression"),
+    (_scene("{}", _REQUIRED % "EXT_mesh_gpu_instancing"), f"glTF with EXT_mesh_gpu_instancing isn't read; {_EXPORT}"),
+)
+
+_GLB = (
+    (b"glTF\x02\0\0\0", "GLB is cut off; export anew"),
+    (b"glTF\x01\0\0\0\x0c\0\0\0", "GLB of version 1, and not 2; export anew"),
+)
+
 REFUSED = (
     *(("a.b.stl", *row) for row in _STL),
     # The name decides what is neither kind of STL.
@@ -92,6 +122,10 @@ REFUSED = (
     *(("a.ply", *row) for row in _PLY),
     *(("a.off", *row) for row in _OFF),
     *(("a.obj", *row) for row in _OBJ),
+    *((name, *row) for name in ("a.gltf", "a.GLB") for row in _GLTF),
+    *((name, *row) for name in ("a.glb", "a.obj", "a.stl") for row in _GLB),
+    # JSON is taken for glTF by the name alone.
+    ("a.json", b"{}", "no triangles in it; is it a mesh?"),
     *((name, *row) for name in ("a.obj", "a.stl", "a.3mf") for row in _UNREAD),
     # An element is looked for in the first 4,096 bytes, and in markup alone.
     ("a.dae", b"<?xml?>" + b" " * 4089 + b"<COLLADA", "no triangles in it; is it a mesh?"),

@@ -59,6 +59,11 @@ file_fault_is file index (file_fault.Off fault) h plain =
   where
     other : file_fault.Off fault ≡ file_fault.OutOfMemory → ⊥
     other e = cc
+file_fault_is file index (file_fault.Gltf fault) h plain =
+    (refl, has_fault file (file_fault.Gltf fault) other h plain)
+  where
+    other : file_fault.Gltf fault ≡ file_fault.OutOfMemory → ⊥
+    other e = cc
 file_fault_is file index (file_fault.Wavefront fault) h plain =
     (refl, has_fault file (file_fault.Wavefront fault) other h plain)
   where

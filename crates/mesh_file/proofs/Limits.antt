@@ -17,6 +17,7 @@ use Rattle.mesh_read.specs.Stl.ReadStl as stl
 use Rattle.mesh_ply.specs.ReadPly as ply
 use Rattle.mesh_read.specs.Off.Rows as off_rows
 use Rattle.mesh_read.specs.Off.ReadOff as off
+use Rattle.mesh_gltf.specs.ReadGltf as gltf
 use Rattle.mesh_read.specs.Wavefront.Faults.{of_flaw}
 use Rattle.mesh_read.specs.Wavefront.Rows as wavefront_rows
 use Rattle.mesh_read.specs.Wavefront.ReadWavefront as wavefront
@@ -37,6 +38,11 @@ ply_is_within bytes s e = within s (mesh_near ply.of_flaw (ply.content_of_file b
 pub off_is_within : (bytes : List ℕ) (s : Surface) → off.read_off_of bytes ≡ Ok (content_of s) →
     find (is_facet_too_large s.vertices.items) s.facets.items ≡ None
 off_is_within bytes s e = within s (mesh_near off.of_flaw (off.content_in (off_rows.rows_of bytes)) (content_of s) e)
+
+-- a glTF that is read has no far triangle
+pub gltf_is_within : (bytes : List ℕ) (s : Surface) → gltf.read_gltf_of bytes ≡ Ok (content_of s) →
+    find (is_facet_too_large s.vertices.items) s.facets.items ≡ None
+gltf_is_within bytes s e = within s (mesh_near gltf.of_flaw (gltf.content_in bytes) (content_of s) e)
 
 -- an OBJ file that is read has no far triangle
 pub wavefront_is_within : (bytes : List ℕ) (s : Surface) → wavefront.read_wavefront_of bytes ≡ Ok (content_of s) →

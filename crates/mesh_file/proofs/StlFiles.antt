@@ -8,23 +8,23 @@ use Rattle.mesh_read.specs.Stl.Ascii.{ascii_of}
 use Rattle.mesh_read.specs.Stl.Binary.{binary_of}
 use Rattle.mesh_read.specs.Stl.ReadStl.{is_binary, is_ascii, facets_said, read_stl_of, checked}
 use Rattle.mesh_file.specs.declared.format.format.Format.{Format}
-use Rattle.mesh_file.specs.declared.format.format.Format.TheVariants.{Ply, BinaryStl, AsciiStl, Off, CutOffStl, Obj}
-use Rattle.mesh_file.specs.Format.Formats.{is_ply, is_off_file, has_stl_name, format_said}
+use Rattle.mesh_file.specs.declared.format.format.Format.TheVariants.{Ply, BinaryStl, AsciiStl, Off, Gltf, CutOffStl, Obj}
+use Rattle.mesh_file.specs.Format.Formats.{is_ply, is_off_file, is_gltf_file, has_stl_name, format_said}
 use Rattle.mesh_file.specs.File.Faults.{CutOff, of_stl}
 use Rattle.mesh_file.specs.File.ReadFile.{with_faults, or_unread, reading_in, reading_of}
 
-neither : (p b a o s : Bool) (x y : Result Content StlFault) (n : ℕ) →
-    (if p then Ply else (if b then BinaryStl else (if a then AsciiStl else (if o then Off else (if s then CutOffStl else Obj))))) ≡ CutOffStl →
+neither : (p b a o g s : Bool) (x y : Result Content StlFault) (n : ℕ) →
+    (if p then Ply else (if b then BinaryStl else (if a then AsciiStl else (if o then Off else (if g then Gltf else (if s then CutOffStl else Obj)))))) ≡ CutOffStl →
     (if b then checked true x else (if a then checked false y else Err (stl.CutOff n))) ≡ Err (stl.CutOff n)
-neither true b a o s x y n e = cc
-neither false true a o s x y n e = cc
-neither false false true o s x y n e = cc
-neither false false false o s x y n e = refl
+neither true b a o g s x y n e = cc
+neither false true a o g s x y n e = cc
+neither false false true o g s x y n e = cc
+neither false false false o g s x y n e = refl
 
 cut_off : (name bytes : List ℕ) → format_said name bytes ≡ CutOffStl → with_faults of_stl (read_stl_of bytes) ≡ Err (CutOff (facets_said bytes))
 cut_off name bytes e =
     let refused : read_stl_of bytes ≡ Err (stl.CutOff (facets_said bytes)) =
-    neither (is_ply bytes) (is_binary bytes) (is_ascii bytes) (is_off_file name bytes) (has_stl_name name) (binary_of bytes)
+    neither (is_ply bytes) (is_binary bytes) (is_ascii bytes) (is_off_file name bytes) (is_gltf_file name bytes) (has_stl_name name) (binary_of bytes)
     (ascii_of bytes) (facets_said bytes) e in
     ap (with_faults of_stl) refused
 

@@ -14,6 +14,8 @@ mod formats;
 #[cfg(test)]
 mod glb;
 #[cfg(test)]
+mod gltf_files;
+#[cfg(test)]
 mod grids;
 #[cfg(test)]
 mod numbers;

@@ -43,8 +43,8 @@ snap takes --step, export takes --format, --digits and --view, and view and info
 take none; all take --json, and all but info --quiet. A folder is made if it isn't
 there. No page and no file of DIR may replace a file that is read; OUT may.
 
-FILE.. are 1 to 64 meshes in STL, OBJ, PLY or OFF files, which must be closed but
-for view and info. The name - is standard input, which is read once. Each file
+FILE.. are 1 to 64 meshes in STL, OBJ, PLY, OFF or glTF files, which must be closed
+but for view and info. The name - is standard input, which is read once. Each file
 is written whole or stays as it was, OUT as the last.
 The report, or why nothing is written, goes to standard error.
 ";

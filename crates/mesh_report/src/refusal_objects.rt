@@ -9,7 +9,7 @@ use ember_model::OutOfMemory;
 use std::alloc::Global;
 
 // What helps, as lines end.
-const REMEDIES: [&[u8]; 20] = [
+const REMEDIES: [&[u8]; 23] = [
     b"export anew",
     b"it is cut off, export anew",
     b"remove the facet or export anew",
@@ -17,6 +17,9 @@ const REMEDIES: [&[u8]; 20] = [
     b"export as triangles",
     b"export as OFF",
     b"export as STL, OBJ, PLY or OFF",
+    b"export as GLB",
+    b"export without compression",
+    b"apply the transforms and export anew",
     b"unpack the file",
     b"download the mesh itself",
     b"remove it",

@@ -6,6 +6,8 @@ use Rattle.mesh_ply.specs.declared.fault.PlyFault.{PlyFault}
 use Rattle.mesh_ply.specs.declared.fault.PlyFault.TheVariants as ply
 use Rattle.mesh_read.specs.declared.off.fault.OffFault.{OffFault}
 use Rattle.mesh_read.specs.declared.off.fault.OffFault.TheVariants as off
+use Rattle.mesh_gltf.specs.declared.fault.GltfFault.{GltfFault}
+use Rattle.mesh_gltf.specs.declared.fault.GltfFault.TheVariants as gltf
 use Rattle.mesh_read.specs.declared.wavefront.fault.WavefrontFault.{WavefrontFault}
 use Rattle.mesh_read.specs.declared.wavefront.fault.WavefrontFault.TheVariants as error
 use Rattle.mesh_read.specs.Wavefront.Faults as wavefront
@@ -20,6 +22,7 @@ pub data Fault : Type 0 where
   Stl : StlFault → Fault
   Ply : PlyFault → Fault
   Off : OffFault → Fault
+  Gltf : GltfFault → Fault
   Wavefront : wavefront.Fault → Fault
   Unread : UnreadFormat → Fault
   OutOfMemory : Fault
@@ -30,6 +33,7 @@ fault_of (file.CutOff facets) = CutOff facets
 fault_of (file.Stl fault) = Stl fault
 fault_of (file.Ply fault) = Ply fault
 fault_of (file.Off fault) = Off fault
+fault_of (file.Gltf fault) = Gltf fault
 fault_of (file.Wavefront fault) = Wavefront (wavefront.fault_of fault)
 fault_of (file.Unread format) = Unread format
 fault_of file.OutOfMemory = OutOfMemory
@@ -49,6 +53,10 @@ of_ply fault = Ply fault
 abbrev pub of_off : OffFault → Fault
 of_off off.OutOfMemory = OutOfMemory
 of_off fault = Off fault
+
+abbrev pub of_gltf : GltfFault → Fault
+of_gltf gltf.OutOfMemory = OutOfMemory
+of_gltf fault = Gltf fault
 
 abbrev pub of_wavefront : wavefront.Fault → Fault
 of_wavefront wavefront.OutOfMemory = OutOfMemory
@@ -81,6 +89,10 @@ abbrev pub is_plain_off : OffFault → Bool
 is_plain_off off.OutOfMemory = false
 is_plain_off fault = true
 
+abbrev pub is_plain_gltf : GltfFault → Bool
+is_plain_gltf gltf.OutOfMemory = false
+is_plain_gltf fault = true
+
 abbrev pub is_plain_wavefront : WavefrontFault → Bool
 is_plain_wavefront error.OutOfMemory = false
 is_plain_wavefront fault = true
@@ -91,6 +103,7 @@ is_plain (file.CutOff facets) = true
 is_plain (file.Stl fault) = is_plain_stl fault
 is_plain (file.Ply fault) = is_plain_ply fault
 is_plain (file.Off fault) = is_plain_off fault
+is_plain (file.Gltf fault) = is_plain_gltf fault
 is_plain (file.Wavefront fault) = is_plain_wavefront fault
 is_plain (file.Unread format) = true
 is_plain file.OutOfMemory = true

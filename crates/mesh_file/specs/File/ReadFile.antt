@@ -4,11 +4,12 @@ use Rattle.mesh_read.specs.Surface.Surfaces.{Content}
 use Rattle.mesh_read.specs.Stl.ReadStl.{read_stl_of, facets_said}
 use Rattle.mesh_ply.specs.ReadPly.{read_ply_of}
 use Rattle.mesh_read.specs.Off.ReadOff.{read_off_of}
+use Rattle.mesh_gltf.specs.ReadGltf.{read_gltf_of}
 use Rattle.mesh_read.specs.Wavefront.ReadWavefront.{read_wavefront_of}
 use Rattle.mesh_file.specs.declared.format.format.Format.{Format}
 use Rattle.mesh_file.specs.declared.format.format.Format.TheVariants as format
 use Rattle.mesh_file.specs.Format.Formats.{format_said}
-use Rattle.mesh_file.specs.File.Faults.{Fault, CutOff, of_stl, of_ply, of_off, of_wavefront, with_unread}
+use Rattle.mesh_file.specs.File.Faults.{Fault, CutOff, of_stl, of_ply, of_off, of_gltf, of_wavefront, with_unread}
 
 -- the same reading, whose fault becomes one of a file
 abbrev pub with_faults : {F : Type 0} → (F → Fault) → Result Content F → Result Content Fault
@@ -26,6 +27,7 @@ reading_in format.Ply bytes = with_faults of_ply (read_ply_of bytes)
 reading_in format.BinaryStl bytes = with_faults of_stl (read_stl_of bytes)
 reading_in format.AsciiStl bytes = with_faults of_stl (read_stl_of bytes)
 reading_in format.Off bytes = with_faults of_off (read_off_of bytes)
+reading_in format.Gltf bytes = with_faults of_gltf (read_gltf_of bytes)
 reading_in format.CutOffStl bytes = or_unread bytes (Err (CutOff (facets_said bytes)))
 reading_in format.Obj bytes = or_unread bytes (with_faults of_wavefront (read_wavefront_of bytes))
 

@@ -7,10 +7,12 @@ use Rattle.mesh_ply.specs.declared.fault.PlyFault.{PlyFault}
 use Rattle.mesh_ply.specs.declared.fault.PlyFault.TheVariants as ply
 use Rattle.mesh_read.specs.declared.off.fault.OffFault.{OffFault}
 use Rattle.mesh_read.specs.declared.off.fault.OffFault.TheVariants as off
+use Rattle.mesh_gltf.specs.declared.fault.GltfFault.{GltfFault}
+use Rattle.mesh_gltf.specs.declared.fault.GltfFault.TheVariants as gltf
 use Rattle.mesh_read.specs.Wavefront.Faults as wavefront
 use Rattle.mesh_file.specs.declared.file.unread.UnreadFormat.{UnreadFormat}
 use Rattle.mesh_file.specs.declared.file.unread.UnreadFormat.TheVariants as unread
-use Rattle.mesh_file.specs.File.Faults.{Fault, CutOff, Stl, Ply, Off, Wavefront, Unread, OutOfMemory}
+use Rattle.mesh_file.specs.File.Faults.{Fault, CutOff, Stl, Ply, Off, Gltf, Wavefront, Unread, OutOfMemory}
 
 -- ---- words
 -- the bytes from one place to another
@@ -134,6 +136,33 @@ off_reason bytes off.NoTriangles = no_triangles
 off_reason bytes (off.TooLarge line) = too_large (codes "line") line
 off_reason bytes off.OutOfMemory = out_of_memory
 
+-- ---- glTF
+-- the faults of glTF files; nodes, meshes, accessors and buffers are counted from 0, as in the document
+abbrev pub gltf_reason : GltfFault → List ℕ
+gltf_reason gltf.CutOff = codes "GLB is cut off; export anew"
+gltf_reason (gltf.Version version) = codes "GLB of version " ++ decimal version ++ codes ", and not 2; export anew"
+gltf_reason gltf.NoJson = codes "glTF isn't JSON; export anew"
+gltf_reason gltf.Draco = codes "glTF with Draco's compression isn't read; export without compression"
+gltf_reason gltf.Meshopt = codes "glTF with meshopt's compression isn't read; export without compression"
+gltf_reason gltf.Instances = codes "glTF with EXT_mesh_gpu_instancing isn't read; export as STL, OBJ, PLY or OFF"
+gltf_reason (gltf.NoBuffer buffer) = codes "buffer " ++ decimal buffer ++ codes ": isn't in the file; export as GLB"
+gltf_reason gltf.NoScene = codes "glTF has no scene; export anew"
+gltf_reason (gltf.Node node) = at (codes "node") node (codes "not understood; export anew")
+gltf_reason (gltf.TwiceInScene node) = at (codes "node") node (codes "twice in the scene; export anew")
+gltf_reason (gltf.Transform node) =
+    at (codes "node") node (codes "is moved, turned or scaled; apply the transforms and export anew")
+gltf_reason (gltf.Mesh mesh) = at (codes "mesh") mesh (codes "not understood; export anew")
+gltf_reason (gltf.Accessor accessor) = at (codes "accessor") accessor (codes "not understood; export anew")
+gltf_reason (gltf.Sparse accessor) =
+    at (codes "accessor") accessor (codes "sparse accessors aren't read; export as STL, OBJ, PLY or OFF")
+gltf_reason (gltf.NotFinite accessor) =
+    at (codes "accessor") accessor (codes "coordinate is not a finite number; export anew")
+gltf_reason (gltf.NoSuchVertex mesh) = at (codes "mesh") mesh (codes "names a vertex that isn't there; export anew")
+gltf_reason gltf.TooMany = codes "more than 16777216 points or corners of triangles; simplify the mesh"
+gltf_reason gltf.NoTriangles = no_triangles
+gltf_reason (gltf.TooLarge triangle) = too_large (codes "triangle") triangle
+gltf_reason gltf.OutOfMemory = out_of_memory
+
 -- ---- OBJ
 -- the first 30 bytes of a reference are shown
 abbrev pub unknown_vertex : ℕ → List ℕ → List ℕ
@@ -155,7 +184,6 @@ wavefront_reason wavefront.OutOfMemory = out_of_memory
 abbrev pub unread_reason : UnreadFormat → List ℕ
 unread_reason unread.Zip = codes "3MF and other zip archives aren't read; export as STL, OBJ, PLY or OFF"
 unread_reason unread.Gzip = codes "gzip isn't read; unpack the file"
-unread_reason unread.Glb = codes "GLB isn't read; export as STL, OBJ, PLY or OFF"
 unread_reason unread.Fbx = codes "FBX isn't read; export as STL, OBJ, PLY or OFF"
 unread_reason unread.Step = codes "STEP isn't read; export as STL, OBJ, PLY or OFF"
 unread_reason unread.Vrml = codes "VRML isn't read; export as STL, OBJ, PLY or OFF"
@@ -170,6 +198,7 @@ reason_of bytes (CutOff facets) = cut_off (length bytes) facets
 reason_of bytes (Stl fault) = stl_reason bytes fault
 reason_of bytes (Ply fault) = ply_reason bytes fault
 reason_of bytes (Off fault) = off_reason bytes fault
+reason_of bytes (Gltf fault) = gltf_reason fault
 reason_of bytes (Wavefront fault) = wavefront_reason fault
 reason_of bytes (Unread format) = unread_reason format
 reason_of bytes OutOfMemory = out_of_memory

@@ -5,7 +5,7 @@ use Rattle.std.specs.List.{starts_with}
 use Rattle.mesh_read.specs.Scan.Parts.{Piece, is_space, words_by}
 use Rattle.mesh_read.specs.Stl.ReadStl.{has_name}
 use Rattle.mesh_file.specs.declared.file.unread.UnreadFormat.{UnreadFormat}
-use Rattle.mesh_file.specs.declared.file.unread.UnreadFormat.TheVariants.{Zip, Gzip, Glb, Fbx, Step, Vrml, Collada}
+use Rattle.mesh_file.specs.declared.file.unread.UnreadFormat.TheVariants.{Zip, Gzip, Fbx, Step, Vrml, Collada}
 use Rattle.mesh_file.specs.declared.file.unread.UnreadFormat.TheVariants.{Amf, Html}
 
 -- ---- formats with bytes of their own in front
@@ -17,11 +17,10 @@ abbrev pub signed_format : List ℕ → Option UnreadFormat
 signed_format bytes =
     if starts_with nat_eq bytes (80 ∷ 75 ∷ 3 ∷ 4 ∷ []) then Some Zip
     else (if starts_with nat_eq bytes (31 ∷ 139 ∷ []) then Some Gzip
-    else (if starts_with nat_eq bytes (codes "glTF") then Some Glb
     else (if is_fbx bytes then Some Fbx
     else (if starts_with nat_eq bytes (codes "ISO-10303-21") then Some Step
     else (if starts_with nat_eq bytes (codes "#VRML") then Some Vrml
-    else None)))))
+    else None))))
 
 -- ---- markup
 -- a word begins a tag, with or without the byte order mark of UTF-8 before it

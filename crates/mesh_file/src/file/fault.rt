@@ -1,5 +1,6 @@
 // What makes a file no mesh.
 use crate::file::unread::UnreadFormat;
+use mesh_gltf::GltfFault;
 use mesh_ply::PlyFault;
 use mesh_read::{OffFault, StlFault, WavefrontFault};
 use thiserror::Error;
@@ -18,6 +19,8 @@ pub enum FileFault<'a> {
     Ply(PlyFault),
     #[error("{0}")]
     Off(OffFault),
+    #[error("{0}")]
+    Gltf(GltfFault),
     #[error("{0}")]
     Wavefront(WavefrontFault<'a>),
     /// It is of no format that is read, and begins as a file of this one does.

@@ -53,13 +53,43 @@ pub(crate) const FACE_NOT_UNDERSTOOD: &str = "face not understood; export anew";
 // OBJ
 pub(crate) const FACE_OF_FEW_CORNERS: &str = "face with fewer than three corners; remove it";
 
+// glTF
+pub(crate) const GLB_CUT_OFF: &str = "GLB is cut off; export anew";
+
+pub(crate) const GLB_VERSION: &str = ", and not 2; export anew";
+
+pub(crate) const NO_JSON: &str = "glTF isn't JSON; export anew";
+
+pub(crate) const DRACO: &str =
+    "glTF with Draco's compression isn't read; export without compression";
+
+pub(crate) const MESHOPT: &str =
+    "glTF with meshopt's compression isn't read; export without compression";
+
+pub(crate) const INSTANCES: &str =
+    "glTF with EXT_mesh_gpu_instancing isn't read; export as STL, OBJ, PLY or OFF";
+
+pub(crate) const NO_BUFFER: &str = ": isn't in the file; export as GLB";
+
+pub(crate) const NO_SCENE: &str = "glTF has no scene; export anew";
+
+pub(crate) const PART_NOT_UNDERSTOOD: &str = "not understood; export anew";
+
+pub(crate) const TWICE_IN_SCENE: &str = "twice in the scene; export anew";
+
+pub(crate) const TRANSFORM: &str =
+    "is moved, turned or scaled; apply the transforms and export anew";
+
+pub(crate) const SPARSE: &str = "sparse accessors aren't read; export as STL, OBJ, PLY or OFF";
+
+pub(crate) const TOO_MANY: &str =
+    "more than 16777216 points or corners of triangles; simplify the mesh";
+
 // Formats that aren't read
 pub(crate) const ZIP: &str =
     "3MF and other zip archives aren't read; export as STL, OBJ, PLY or OFF";
 
 pub(crate) const GZIP: &str = "gzip isn't read; unpack the file";
-
-pub(crate) const GLB: &str = "GLB isn't read; export as STL, OBJ, PLY or OFF";
 
 pub(crate) const FBX: &str = "FBX isn't read; export as STL, OBJ, PLY or OFF";
 

@@ -5,14 +5,16 @@ ghost use Rattle.mesh_read.specs.Surface.Surfaces.{IsSurface, content_of, is_fac
 ghost use Rattle.mesh_read.specs.Stl.ReadStl.{read_stl_of};
 ghost use Rattle.mesh_ply.specs.ReadPly.{read_ply_of};
 ghost use Rattle.mesh_read.specs.Off.ReadOff.{read_off_of};
+ghost use Rattle.mesh_gltf.specs.ReadGltf.{read_gltf_of};
 ghost use Rattle.mesh_read.specs.Wavefront.ReadWavefront.{read_wavefront_of};
 ghost use Rattle.mesh_read.specs.Wavefront.Faults as wavefront;
-ghost use Rattle.mesh_file.specs.File.Faults.{fault_of, is_plain, of_stl, of_ply, of_off, of_wavefront, with_unread};
+ghost use Rattle.mesh_file.specs.File.Faults.{fault_of, is_plain, of_stl, of_ply, of_off, of_gltf, of_wavefront, with_unread};
 ghost use Rattle.mesh_file.specs.File.ReadFile.{with_faults, or_unread, reading_of};
 
 use crate::file::fault::FileFault;
 use crate::file::unread::unread_format;
 use crate::format::{Format, format_of};
+use mesh_gltf::{GltfFault, read_gltf};
 use mesh_ply::{PlyFault, read_ply};
 use mesh_read::{OffFault, StlFault, Surface, WavefrontFault, read_off, read_stl, read_wavefront};
 use std::alloc::Global;
@@ -49,6 +51,17 @@ fn off_fault<'a>(fault: OffFault) -> FileFault<'a>
     match fault {
         OffFault::OutOfMemory => FileFault::OutOfMemory,
         other => FileFault::Off(other),
+    }
+}
+
+fn gltf_fault<'a>(fault: GltfFault) -> FileFault<'a>
+    ensures fault { fault_of result ≡ of_gltf fault }
+    ensures memory { fault ≡ GltfFault.OutOfMemory → result ≡ FileFault.OutOfMemory }
+    ensures plain { is_plain result ≡ true }
+{
+    match fault {
+        GltfFault::OutOfMemory => FileFault::OutOfMemory,
+        other => FileFault::Gltf(other),
     }
 }
 
@@ -126,6 +139,21 @@ fn read_off_file<'a>(alloc: Global, bytes: &'a [u8]) -> Result<Surface<'a>, File
     }
 }
 
+fn read_gltf_file<'a>(alloc: Global, bytes: &'a [u8]) -> Result<Surface<'a>, FileFault<'a>>
+    requires { length bytes.now ≤ 268435456 }
+    ensures ok { IfOk result (λ s. with_faults of_gltf (read_gltf_of bytes.now) ≡ Ok (content_of s)) }
+    ensures surface { IfOk result IsSurface }
+    ensures within { IfOk result (λ s. find (is_facet_too_large s.vertices.items) s.facets.items ≡ None) }
+    ensures fault { IfErr result (λ e. (e ≡ FileFault.OutOfMemory)
+        ⊎ (with_faults of_gltf (read_gltf_of bytes.now) ≡ Err (fault_of e))) }
+    ensures plain { IfErr result (λ e. is_plain e ≡ true) }
+{
+    match read_gltf(alloc, bytes) {
+        Ok(surface) => Ok(surface),
+        Err(fault) => Err(gltf_fault(fault)),
+    }
+}
+
 fn read_wavefront_file<'a>(alloc: Global, bytes: &'a [u8]) -> Result<Surface<'a>, FileFault<'a>>
     requires { length bytes.now ≤ 268435456 }
     ensures ok { IfOk result (λ s. with_faults of_wavefront (read_wavefront_of bytes.now) ≡ Ok (content_of s)) }
@@ -179,10 +207,11 @@ fn read_other_file<'a>(alloc: Global, bytes: &'a [u8]) -> Result<Surface<'a>, Fi
 ///
 /// [`format_of`](crate::format::format_of) says which format it has. Each format has its own reader,
 /// which says what is read and where a triangle's place is: [`read_ply`](mesh_ply::read_ply),
-/// [`read_stl`](mesh_read::read_stl), [`read_off`](mesh_read::read_off) and
-/// [`read_wavefront`](mesh_read::read_wavefront). A file that is STL by its name alone is
-/// [`CutOff`](FileFault::CutOff). A file that is refused as STL by its name alone or as OBJ, and
-/// begins as a file of another format does, is [`Unread`](FileFault::Unread).
+/// [`read_stl`](mesh_read::read_stl), [`read_off`](mesh_read::read_off),
+/// [`read_gltf`](mesh_gltf::read_gltf) and [`read_wavefront`](mesh_read::read_wavefront). A file that
+/// is STL by its name alone is [`CutOff`](FileFault::CutOff). A file that is refused as STL by its
+/// name alone or as OBJ, and begins as a file of another format does, is
+/// [`Unread`](FileFault::Unread).
 ///
 /// All coordinates of triangles are below 10^15 in size. They may borrow their digits from `bytes`,
 /// and a fault its bad word. There are at most 2^28 bytes.
@@ -203,6 +232,7 @@ pub fn read_file<'a>(
         Format::Ply => read_ply_file(alloc, bytes),
         Format::BinaryStl | Format::AsciiStl => read_stl_file(alloc, bytes),
         Format::Off => read_off_file(alloc, bytes),
+        Format::Gltf => read_gltf_file(alloc, bytes),
         Format::CutOffStl => read_cut_off_file(alloc, bytes),
         Format::Obj => read_other_file(alloc, bytes),
     }

@@ -2,20 +2,22 @@
 ghost use Rattle.std.specs.Prelude.{◌≡◌, ◌++◌, OnOk, string_bytes};
 ghost use Rattle.mesh_read.specs.Wavefront.Faults as wavefront;
 ghost use Rattle.mesh_file.specs.File.Faults.{fault_of};
-ghost use Rattle.mesh_file.specs.File.Reasons.{not_a_number, unknown_word, short_row, unknown_vertex, stl_reason, ply_reason, off_reason, wavefront_reason, unread_reason, reason_of};
+ghost use Rattle.mesh_file.specs.File.Reasons.{not_a_number, unknown_word, short_row, unknown_vertex, stl_reason, ply_reason, off_reason, gltf_reason, wavefront_reason, unread_reason, reason_of};
 
 use crate::file::fault::FileFault;
 use crate::file::phrases::{
-    AMF, COLLADA, ENDS_IN_FACET, FACE_NOT_UNDERSTOOD, FACE_OF_FEW_CORNERS, FACET_NOT_FINITE, FBX,
-    FEW_COORDINATES, FEW_CORNERS, FEW_LINES, GLB, GZIP, HTML, MORE_COORDINATES, NO_COORDINATES,
-    NO_CORNERS, NO_COUNTS, NO_END, NO_FORMAT, NO_OFF, NO_SUCH_VERTEX, NO_TRIANGLES,
-    NOT_THREE_VERTICES, NOT_UNDERSTOOD, OUT_OF_MEMORY, SHORT_ROW, STEP, TOO_LARGE,
-    VERTEX_NOT_FINITE, VERTEX_OUTSIDE, VRML, ZIP,
+    AMF, COLLADA, DRACO, ENDS_IN_FACET, FACE_NOT_UNDERSTOOD, FACE_OF_FEW_CORNERS, FACET_NOT_FINITE,
+    FBX, FEW_COORDINATES, FEW_CORNERS, FEW_LINES, GLB_CUT_OFF, GLB_VERSION, GZIP, HTML, INSTANCES,
+    MESHOPT, MORE_COORDINATES, NO_BUFFER, NO_COORDINATES, NO_CORNERS, NO_COUNTS, NO_END, NO_FORMAT,
+    NO_JSON, NO_OFF, NO_SCENE, NO_SUCH_VERTEX, NO_TRIANGLES, NOT_THREE_VERTICES, NOT_UNDERSTOOD,
+    OUT_OF_MEMORY, PART_NOT_UNDERSTOOD, SHORT_ROW, SPARSE, STEP, TOO_LARGE, TOO_MANY, TRANSFORM,
+    TWICE_IN_SCENE, VERTEX_NOT_FINITE, VERTEX_OUTSIDE, VRML, ZIP,
 };
 use crate::file::reason_parts::{
-    between, front, put_at, put_cut_off, put_numbered, put_with_word, put_word,
+    between, front, put_at, put_between, put_cut_off, put_numbered, put_with_word, put_word,
 };
 use crate::file::unread::UnreadFormat;
+use mesh_gltf::GltfFault;
 use mesh_ply::PlyFault;
 use mesh_read::{OffFault, StlFault, WavefrontFault};
 use std::alloc::AllocError;
@@ -110,6 +112,37 @@ fn put_off_reason(bytes: &[u8], fault: &OffFault, text: &mut String) -> Result<(
     }
 }
 
+fn put_gltf_reason(fault: &GltfFault, text: &mut String) -> Result<(), AllocError>
+    ensures { OnOk result (string_bytes text.new ≡ string_bytes text.old ++ gltf_reason fault.now) }
+{
+    match fault {
+        GltfFault::CutOff => text.push_str(GLB_CUT_OFF),
+        GltfFault::Version(version) => {
+            put_between("GLB of version ", u64::from(*version), GLB_VERSION, text)
+        }
+        GltfFault::NoJson => text.push_str(NO_JSON),
+        GltfFault::Draco => text.push_str(DRACO),
+        GltfFault::Meshopt => text.push_str(MESHOPT),
+        GltfFault::Instances => text.push_str(INSTANCES),
+        GltfFault::NoBuffer(buffer) => put_between("buffer ", *buffer as u64, NO_BUFFER, text),
+        GltfFault::NoScene => text.push_str(NO_SCENE),
+        GltfFault::Node(node) => put_at("node", *node, PART_NOT_UNDERSTOOD, text),
+        GltfFault::TwiceInScene(node) => put_at("node", *node, TWICE_IN_SCENE, text),
+        GltfFault::Transform(node) => put_at("node", *node, TRANSFORM, text),
+        GltfFault::Mesh(mesh) => put_at("mesh", *mesh, PART_NOT_UNDERSTOOD, text),
+        GltfFault::Accessor(accessor) => {
+            put_at("accessor", *accessor, PART_NOT_UNDERSTOOD, text)
+        }
+        GltfFault::Sparse(accessor) => put_at("accessor", *accessor, SPARSE, text),
+        GltfFault::NotFinite(accessor) => put_at("accessor", *accessor, VERTEX_NOT_FINITE, text),
+        GltfFault::NoSuchVertex(mesh) => put_at("mesh", *mesh, NO_SUCH_VERTEX, text),
+        GltfFault::TooMany => text.push_str(TOO_MANY),
+        GltfFault::NoTriangles => text.push_str(NO_TRIANGLES),
+        GltfFault::TooLarge(triangle) => put_at("triangle", *triangle, TOO_LARGE, text),
+        GltfFault::OutOfMemory => text.push_str(OUT_OF_MEMORY),
+    }
+}
+
 fn put_unknown_vertex(line: u32, reference: &[u8], text: &mut String) -> Result<(), AllocError>
     ensures { OnOk result (string_bytes text.new ≡ string_bytes text.old ++ unknown_vertex line reference.now) }
 {
@@ -141,7 +174,6 @@ fn unread_reason(format: UnreadFormat) -> &'static str
     match format {
         UnreadFormat::Zip => ZIP,
         UnreadFormat::Gzip => GZIP,
-        UnreadFormat::Glb => GLB,
         UnreadFormat::Fbx => FBX,
         UnreadFormat::Step => STEP,
         UnreadFormat::Vrml => VRML,
@@ -152,8 +184,9 @@ fn unread_reason(format: UnreadFormat) -> &'static str
 }
 
 /// Appends why a file with these bytes is refused: `PLACE: REASON; REMEDY`, without the place where
-/// the fault has none. The place is a line, a facet, a face or a vertex with its number from 1, or
-/// the name of an element of a PLY file with the number of its row. Out-of-memory is
+/// the fault has none. The place is a line, a facet, a face or a vertex with its number from 1, the
+/// name of an element of a PLY file with the number of its row, or a node, a mesh, an accessor or a
+/// buffer of a glTF with its index from 0. Out-of-memory is
 /// `out of memory`.
 ///
 /// A word of the file is shown with a question mark for each byte that isn't a visible ASCII
@@ -168,6 +201,7 @@ pub fn put_reason(bytes: &[u8], fault: &FileFault, text: &mut String) -> Result<
         FileFault::Stl(fault) => put_stl_reason(bytes, fault, text),
         FileFault::Ply(fault) => put_ply_reason(bytes, fault, text),
         FileFault::Off(fault) => put_off_reason(bytes, fault, text),
+        FileFault::Gltf(fault) => put_gltf_reason(fault, text),
         FileFault::Wavefront(fault) => put_wavefront_reason(fault, text),
         FileFault::Unread(format) => text.push_str(unread_reason(*format)),
         FileFault::OutOfMemory => text.push_str(OUT_OF_MEMORY),

@@ -61,6 +61,20 @@ fn put_counted(before: &str, number: u64, text: &mut String) -> Result<(), Alloc
     text.push_str(buffer.format(number))
 }
 
+// Appends a number between two texts.
+pub(crate) fn put_between(
+    before: &str,
+    number: u64,
+    behind: &str,
+    text: &mut String,
+) -> Result<(), AllocError>
+    ensures { OnOk result (string_bytes text.new
+        ≡ string_bytes text.old ++ (before.now ++ decimal number ++ behind.now)) }
+{
+    put_counted(before, number, text)?;
+    text.push_str(behind)
+}
+
 // Appends the number of a place, and a reason.
 pub(crate) fn put_numbered(number: u32, reason: &str, text: &mut String) -> Result<(), AllocError>
     ensures { OnOk result (string_bytes text.new ≡ string_bytes text.old ++ numbered number reason.now) }

@@ -15,7 +15,6 @@ pub enum UnreadFormat {
     /// A zip archive, as a 3MF file is.
     Zip,
     Gzip,
-    Glb,
     Fbx,
     Step,
     Vrml,
@@ -32,8 +31,6 @@ fn signed_format(bytes: &[u8]) -> Option<UnreadFormat>
         Some(UnreadFormat::Zip)
     } else if bytes.starts_with(b"\x1f\x8b") {
         Some(UnreadFormat::Gzip)
-    } else if bytes.starts_with(b"glTF") {
-        Some(UnreadFormat::Glb)
     } else if bytes.starts_with(b"Kaydara FBX") || bytes.starts_with(b"; FBX") {
         Some(UnreadFormat::Fbx)
     } else if bytes.starts_with(b"ISO-10303-21") {

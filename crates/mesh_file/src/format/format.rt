@@ -2,7 +2,7 @@
 ghost use Rattle.std.specs.Prelude.{◌≡◌, ◌≤◌, length};
 ghost use Rattle.mesh_file.specs.Format.Formats.{format_said};
 
-use crate::format::signs::{is_off_file, is_ply_file, is_stl_name};
+use crate::format::signs::{is_gltf_file, is_off_file, is_ply_file, is_stl_name};
 use mesh_read::{is_ascii_stl, is_binary_stl};
 
 /// How the triangles of a file are written.
@@ -12,6 +12,8 @@ pub enum Format {
     BinaryStl,
     AsciiStl,
     Off,
+    /// A GLB, or glTF as JSON.
+    Gltf,
     /// An STL by its name, but not by its bytes.
     CutOffStl,
     /// Every other file.
@@ -29,6 +31,8 @@ pub enum Format {
 ///   bytes, in any case.
 /// - OFF, if its first word is a keyword of OFF ([`is_off`](mesh_read::is_off)), or a natural number
 ///   and its name ends in `.off`, in any case.
+/// - glTF, if it begins with `glTF` ([`is_glb`](mesh_gltf::is_glb)), or its first word begins with `{`
+///   and its name ends in `.gltf` or `.glb`, in any case.
 /// - an STL that is cut off, if its name ends in `.stl`, in any case.
 /// - OBJ.
 pub fn format_of(name: &[u8], bytes: &[u8]) -> Format
@@ -43,6 +47,8 @@ pub fn format_of(name: &[u8], bytes: &[u8]) -> Format
         Format::AsciiStl
     } else if is_off_file(name, bytes) {
         Format::Off
+    } else if is_gltf_file(name, bytes) {
+        Format::Gltf
     } else if is_stl_name(name) {
         Format::CutOffStl
     } else {

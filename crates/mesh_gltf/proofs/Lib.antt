@@ -1,0 +1,12 @@
+pub mod Parts
+pub mod Steps
+pub mod Inside
+pub mod Counts
+pub mod Decodings
+pub mod ItemSteps
+pub mod PointSteps
+pub mod CornerSteps
+pub mod NodeSteps
+pub mod Soundness
+pub mod Numbers
+pub mod TriangleCounts

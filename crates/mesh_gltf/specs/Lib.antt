@@ -1,0 +1,11 @@
+pub mod Bytes
+pub mod Heads
+pub mod Chunks
+pub mod Members
+pub mod Buffers
+pub mod Windows
+pub mod Corners
+pub mod Triangles
+pub mod Primitives
+pub mod Nodes
+pub mod ReadGltf
