@@ -7,6 +7,8 @@ pub mod ItemSteps
 pub mod PointSteps
 pub mod CornerSteps
 pub mod NodeSteps
+pub mod ListSteps
+pub mod Texts
 pub mod Soundness
 pub mod Numbers
 pub mod TriangleCounts

@@ -12,7 +12,7 @@ fn format_in(name: &[u8], bytes: &[u8]) -> Option<Format> {
     Some(format_of(name, bytes))
 }
 
-static FORMATS: [(&[u8], &[u8], Format); 19] = [
+static FORMATS: [(&[u8], &[u8], Format); 23] = [
     (b"a.obj", b"ply\nformat ascii 1.0\n", Format::Ply),
     (b"a", b"ply\r\n", Format::Ply),
     (b"a.ply", b"ply", Format::Ply),
@@ -30,6 +30,10 @@ static FORMATS: [(&[u8], &[u8], Format); 19] = [
     (b"a.obj", b"3 1 0\n", Format::Obj),
     (b"a", b"\xEF\xBB\xBF# a\n\nstnOFF\n", Format::Off),
     (b"a.obj", b"4off", Format::Off),
+    (b"a.stl", b"glTF\x02\0\0\0", Format::Gltf),
+    (b"a.GLTF", b"\n {\"asset\":", Format::Gltf),
+    (b"a.glb", b"{}", Format::Gltf),
+    (b"a.json", b"{}", Format::Obj),
     (b".stl", b"", Format::CutOffStl),
     (b"", b"", Format::Obj),
 ];

@@ -130,6 +130,7 @@ file_text names i text = name_of names i ++ (codes ": " ++ text)
 abbrev pub noun_of : Format → List ℕ
 noun_of formats.BinaryStl = codes "facet"
 noun_of formats.Ply = codes "face"
+noun_of formats.Gltf = codes "triangle"
 noun_of formats.AsciiStl = codes "line"
 noun_of formats.Off = codes "line"
 noun_of formats.CutOffStl = codes "line"

@@ -93,6 +93,7 @@ pub fn noun_of(format: Format) -> &'static [u8]
     match format {
         Format::BinaryStl => b"facet",
         Format::Ply => b"face",
+        Format::Gltf => b"triangle",
         Format::AsciiStl | Format::Off | Format::CutOffStl | Format::Obj => b"line",
     }
 }
