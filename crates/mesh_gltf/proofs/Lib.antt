@@ -7,6 +7,7 @@ pub mod ItemSteps
 pub mod PointSteps
 pub mod CornerSteps
 pub mod NodeSteps
+pub mod StillNodes
 pub mod ListSteps
 pub mod Texts
 pub mod Soundness
