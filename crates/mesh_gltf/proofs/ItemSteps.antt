@@ -1,5 +1,5 @@
 -- The items of an array of JSON, one after another
-use Rattle.std.proofs.Common.{◌≡◌, ℕ, ◌+◌, List, [], ◌∷◌, ◌++◌, length, map, refl, sym, ap, ◌∙◌, arith, length-append}
+use Rattle.std.proofs.Common.{◌≡◌, ℕ, ◌+◌, List, [], ◌∷◌, ◌++◌, length, map, sym, ap, ◌∙◌, arith, length-append}
 use Rattle.std.proofs.Common.{Option, None, Some, Result, Ok, Err}
 use Rattle.mesh_read.specs.Surface.Surfaces.{Content}
 use Rattle.serde_json.specs.Data.{Data}
@@ -10,7 +10,7 @@ use Rattle.mesh_gltf.specs.declared.buffers.Buffer.{Buffer}
 use Rattle.mesh_gltf.specs.Heads.{with_head}
 use Rattle.mesh_gltf.specs.Members.{natural, naturals}
 use Rattle.mesh_gltf.specs.Buffers.{bytes_seen, before, buffer_in, buffers_from}
-use Rattle.mesh_gltf.specs.Primitives.{and_then, with_primitive}
+use Rattle.mesh_gltf.specs.Primitives.{with_primitive}
 use Rattle.mesh_gltf.specs.Nodes.{with_primitives}
 use Rattle.mesh_gltf.proofs.Parts.{behind, behind_ok, element_added, buffer_added}
 use Rattle.mesh_gltf.proofs.Steps.{first_read, first_fault}

@@ -1,6 +1,6 @@
 -- The nodes of a scene, one after another
 use Rattle.std.proofs.Common.{◌≡◌, ◌⊎◌, inl, inr, ℕ, zero, suc, ◌<◌, ◌≤◌, ◌+◌, ◌-◌, List, [], ◌∷◌, ◌++◌, get_or, drop, length, codes, refl, sym, ap, ◌∙◌, arith}
-use Rattle.std.proofs.Common.{Option, None, Some, Result, Ok, Err}
+use Rattle.std.proofs.Common.{None, Some, Result, Ok, Err}
 use Rattle.std.proofs.Math.Seq.{drop-cons}
 use Rattle.std.proofs.lemmas.List.{drop-append-le, drop_all}
 use Rattle.mesh_read.specs.Surface.Surfaces.{Content}
@@ -8,7 +8,7 @@ use Rattle.serde_json.specs.Data.{Data}
 use Rattle.mesh_gltf.specs.declared.fault.GltfFault.{GltfFault}
 use Rattle.mesh_gltf.specs.declared.fault.GltfFault.TheVariants.{Node, TwiceInScene, OutOfMemory}
 use Rattle.mesh_gltf.specs.Members.{item_in}
-use Rattle.mesh_gltf.specs.Primitives.{and_then, or_fault}
+use Rattle.mesh_gltf.specs.Primitives.{and_then}
 use Rattle.mesh_gltf.specs.Nodes.{with_node, children_of, with_nodes}
 use Rattle.mesh_gltf.proofs.Steps.{first_read, first_fault, there, not_there}
 

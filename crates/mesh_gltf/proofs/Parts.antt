@@ -1,5 +1,5 @@
 -- Lists that are read one element after another
-use Rattle.std.proofs.Common.{◌≡◌, ℕ, ◌+◌, ◌-◌, List, [], ◌∷◌, ◌++◌, refl, sym, ap, ◌∙◌, append_assoc}
+use Rattle.std.proofs.Common.{◌≡◌, ℕ, List, [], ◌∷◌, ◌++◌, refl, sym, ap, ◌∙◌, append_assoc}
 use Rattle.std.proofs.Common.{Option, None, Some, Result, Ok, Err, map}
 use Rattle.std.proofs.lemmas.List.{map-append, append-nil}
 use Rattle.mesh_gltf.specs.declared.fault.GltfFault.{GltfFault}

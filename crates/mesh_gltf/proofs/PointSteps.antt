@@ -1,11 +1,10 @@
 -- The points of an accessor, one after another
 use Rattle.std.proofs.Common.{◌≡◌, ℕ, zero, suc, ◌<◌, ◌≤◌, ◌+◌, ◌-◌, ◌*◌, List, [], ◌∷◌, ◌++◌, length, map, refl, sym, ap, ◌∙◌, arith}
-use Rattle.std.proofs.Common.{Option, None, Some, Result, Ok, Err}
+use Rattle.std.proofs.Common.{Option, None, Some, Ok, Err}
 use Rattle.std.proofs.lemmas.List.{map-append}
 use Rattle.mesh_read.specs.declared.surface.surface.Vertex.{Vertex}
 use Rattle.mesh_read.specs.Surface.Surfaces.{Point, point_of}
 use Rattle.mesh_read.specs.Stl.Binary.{point_at}
-use Rattle.mesh_gltf.specs.declared.fault.GltfFault.{GltfFault}
 use Rattle.mesh_gltf.specs.declared.fault.GltfFault.TheVariants.{NotFinite}
 use Rattle.mesh_gltf.specs.Heads.{with_head}
 use Rattle.mesh_gltf.specs.Primitives.{or_fault, Elements, points_from, points_in, AreAdded}

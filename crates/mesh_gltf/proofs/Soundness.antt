@@ -24,7 +24,7 @@ use Rattle.mesh_gltf.specs.Corners.{corner_of, corners_from, corners_in, corners
 use Rattle.mesh_gltf.specs.Triangles.{triangle, of_list, of_strip, of_fan, triangles_of}
 use Rattle.mesh_gltf.specs.Primitives.{and_then, or_fault, elements_of, accessor_in, positions_at, points_in, component_of, indexed, corners_by, corners_of}
 use Rattle.mesh_gltf.specs.Primitives.{topology_of, unless_many, with_triangles, with_points, with_positions, with_topology, with_primitive}
-use Rattle.mesh_gltf.specs.Nodes.{is_still, with_primitives, primitives_of, with_mesh, by_mesh, with_node, children_of, with_nodes}
+use Rattle.mesh_gltf.specs.Nodes.{is_still, with_primitives, primitives_of, by_mesh, with_node, children_of, with_nodes}
 use Rattle.mesh_gltf.specs.Nodes.{nodes_count, roots_of, scene_content}
 use Rattle.mesh_gltf.specs.ReadGltf.{needs, nothing, document_content, json_value, content_in}
 

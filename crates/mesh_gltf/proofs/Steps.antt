@@ -1,5 +1,5 @@
 -- What is read step by step
-use Rattle.std.proofs.Common.{◌≡◌, ℕ, zero, suc, ◌<◌, ◌+◌, ◌-◌, List, [], ◌∷◌, ◌++◌, sym, ap, ◌∙◌, arith, Option, None, Some, Result, Ok, Err, map, refl}
+use Rattle.std.proofs.Common.{◌≡◌, ap, Option, None, Some, Result, Ok, Err}
 use Rattle.mesh_gltf.specs.declared.fault.GltfFault.{GltfFault}
 use Rattle.mesh_gltf.specs.Primitives.{and_then, or_fault}
 

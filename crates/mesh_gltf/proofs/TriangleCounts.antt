@@ -1,5 +1,5 @@
 -- How many triangles corners have
-use Rattle.std.proofs.Common.{◌≡◌, ℕ, suc, ◌≤◌, ◌+◌, ◌^◌, Bool, true, false, not, List, [], ◌∷◌, ◌++◌, length, length-append, refl, ap, arith}
+use Rattle.std.proofs.Common.{◌≡◌, ℕ, suc, ◌≤◌, ◌+◌, ◌^◌, Bool, false, not, List, [], ◌∷◌, ◌++◌, length, length-append, refl, ap, arith}
 use Rattle.mesh_read.specs.declared.surface.surface.Facet.{Facet}
 use Rattle.mesh_gltf.specs.declared.triangles.Topology.{Topology}
 use Rattle.mesh_gltf.specs.declared.triangles.Topology.TheVariants.{Triangles, Strip, Fan}

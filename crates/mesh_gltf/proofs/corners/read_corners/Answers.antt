@@ -1,4 +1,4 @@
-use Rattle.std.proofs.Common.{◌≡◌, ◌+◌, ◌*◌, ◌≤◌, ◌<◌, length, inr, arith}
+use Rattle.std.proofs.Common.{inr, arith}
 use Rattle.mesh_gltf.specs.Bytes.{bytes_of}
 use Rattle.mesh_gltf.specs.Corners.{corners_in}
 use Rattle.mesh_gltf.proofs.Inside.{element_inside}

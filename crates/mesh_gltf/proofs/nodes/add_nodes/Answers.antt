@@ -1,5 +1,4 @@
 use Rattle.std.proofs.Common.{rules, ◌≡◌, ◌⊎◌, map, inr, sym, arith, Err}
-use Rattle.std.proofs.lemmas.Grind.{common_steps}
 use Rattle.mesh_read.specs.Surface.Surfaces.{content_of}
 use Rattle.serde_json.specs.View.{view}
 use Rattle.mesh_gltf.specs.declared.fault.GltfFault.TheVariants.{OutOfMemory}

@@ -1,4 +1,4 @@
-use Rattle.std.proofs.Common.{◌+◌, ◌++◌, arith}
+use Rattle.std.proofs.Common.{◌++◌, arith}
 use Rattle.mesh_gltf.specs.Triangles.{of_list}
 use Rattle.mesh_gltf.proofs.ListSteps.{triangle_added}
 use Rattle.mesh_gltf.proofs.triangles.push_list.Goals as goal
