@@ -24,16 +24,12 @@ use Rattle.mesh_solid.specs.declared.mesh.solid.MeshedSolid.{MeshedSolid}
 use Rattle.mesh_solid.specs.Mesh.Asked.{IsThereIf}
 use Rattle.mesh_solid.specs.Mesh.Meshes.{IsDocumentMesh, IsMeshedSolid}
 use Rattle.mesh_write.specs.declared.stl.triangle.WrittenTriangle.{WrittenTriangle}
-use Rattle.mesh_manifold.specs.declared.split.SplitMesh.{SplitMesh}
-use Rattle.mesh_manifold.specs.Splits.{AreSplitOf}
-use Rattle.mesh_manifold.specs.Cuts.{AreCutOf}
-use Rattle.mesh_manifold.specs.Paired.{IsManifold}
 use Rattle.mesh_write.specs.declared.text.format.TextFormat.{TextFormat}
 use Rattle.mesh_write.specs.Text.Texts.{text_of}
 use Rattle.mesh_write.specs.declared.vertices.point.DecimalPoint.{DecimalPoint}
 use Rattle.mesh_write.specs.declared.vertices.point.DecimalTriangle.{DecimalTriangle}
 use Rattle.mesh_write.specs.declared.vertices.point.IndexedTriangle.{IndexedTriangle}
-use Rattle.mesh_write.specs.Vertices.Vertices.{vertices_of, indexed, point_at}
+use Rattle.mesh_write.specs.Vertices.Vertices.{vertices_of, indexed}
 use Rattle.mesh_written.specs.Decimals.{decimal_point}
 use Rattle.mesh_written.specs.DecimalTriangles as decimal
 use Rattle.mesh_written.specs.Triangles.{has_corners, vanishes, kept, triangle_at, AreWritten}
@@ -48,10 +44,12 @@ use Rattle.mesh_boolean.specs.declared.wanted.MeshFormat.{MeshFormat}
 use Rattle.mesh_boolean.specs.declared.wanted.FloatFormat.{FloatFormat}
 use Rattle.mesh_boolean.specs.declared.wanted.MeshFormat.TheVariants.{Floats, Text}
 use Rattle.mesh_boolean.specs.declared.wanted.WantedFile.{WantedFile}
+use Rattle.mesh_boolean.specs.declared.split.SplitDecimals.{SplitDecimals}
 use Rattle.mesh_boolean.specs.declared.writing.Written.{Written}
 use Rattle.mesh_boolean.specs.Files.{IsPlaced}
 use Rattle.mesh_boolean.specs.Volumes.{six_volumes_of_meshes}
-use Rattle.mesh_boolean.specs.Effects.{over_vertices, decimals_of}
+use Rattle.mesh_boolean.specs.Effects.{decimals_of}
+use Rattle.mesh_boolean.specs.Splits.{AreDecimalsOver}
 use Rattle.mesh_boolean.specs.Outputs.{AreKept, AreRounded, AreShownIf, IsTextOver, IsOfFloats, IsText, IsWritten}
 use Rattle.mesh_boolean.specs.Outputs.{IsClosedOfFloats, IsClosedText, IsClosedAs, IsOutput}
 
@@ -114,23 +112,20 @@ fewer_decimals digits grid mesh =
 pub shown_are_written : (ts : List DecimalTriangle) (shown : List IndexedTriangle) → shown ≡ map (indexed (vertices_of ts)) ts → length shown ≡ length ts
 shown_are_written ts shown e = ap length e ∙ length-map ts (indexed (vertices_of ts))
 
--- the text of a split mesh, by lists that equal its own
-pub split_is_text : (format : TextFormat) (places : ℕ) (ts cut : List DecimalTriangle) (split : SplitMesh)
-    (faces : List IndexedTriangle) (points vertices written : List DecimalPoint) (origins : List ℕ) (bytes : List ℕ)
-    (count : ℕ) (is_manifold : Bool) → AreCutOf ts cut → points ≡ vertices_of cut → AreSplitOf split (over_vertices cut) →
-    (is_manifold ≡ true → IsManifold split.triangles.items) → (is_manifold ≡ false → cut ≡ ts) →
-    origins ≡ split.origins.items → vertices ≡ map (point_at points) origins → written ≡ vertices →
-    faces ≡ split.triangles.items → bytes ≡ text_of format places written faces → count ≡ length split.triangles.items →
-    IsTextOver format places ts bytes count is_manifold
-split_is_text format places ts cut split faces points vertices written origins bytes count is_manifold are_cut b are manifold whole d e f g h k = record {
-  cut = cut;
-  are_cut = are_cut;
-  split = split;
-  are_split = are;
-  is = h ∙ (λ i. text_of format places ((f ∙ e) i) (g i)) ∙ (λ i. text_of format places (map (point_at (b i)) (d i)) split.triangles.items);
-  count_is = k;
-  manifold = manifold;
-  whole = whole;
+-- the text of triangles over points, by lists that equal its own
+pub over_is_text : (format : TextFormat) (places : ℕ) (ts : List DecimalTriangle) (over : SplitDecimals)
+    (points : List DecimalPoint) (triangles : List IndexedTriangle) (bytes : List ℕ) (count : ℕ) → AreDecimalsOver ts over →
+    points ≡ over.points.items → triangles ≡ over.triangles.items → bytes ≡ text_of format places points triangles →
+    count ≡ length over.triangles.items → IsTextOver format places ts bytes count over.is_manifold
+over_is_text format places ts over points triangles bytes count are f g h k = record {
+  cut = are.cut;
+  are_cut = are.are_cut;
+  split = are.split;
+  are_split = are.are_split;
+  is = h ∙ (λ i. text_of format places ((f ∙ are.points) i) ((g ∙ are.triangles) i));
+  count_is = k ∙ ap length are.triangles;
+  manifold = are.manifold;
+  whole = are.whole;
 }
 
 -- ---- planes

@@ -12,7 +12,7 @@ use Rattle.mesh_write.specs.declared.stl.triangle.FloatPoint.{FloatPoint}
 use Rattle.mesh_write.specs.declared.vertices.point.DecimalTriangle.{DecimalTriangle}
 use Rattle.mesh_write.specs.declared.vertices.point.IndexedTriangle.{IndexedTriangle}
 use Rattle.mesh_write.specs.Vertices.Vertices.{vertices_of, indexed}
-use Rattle.mesh_written.specs.DecimalTriangles.{decimal_planes, decimal_triangles}
+use Rattle.mesh_written.specs.DecimalTriangles.{decimal_origins, decimal_planes, decimal_triangles}
 use Rattle.mesh_written.specs.Digits.{written_places}
 use Rattle.mesh_boolean.specs.declared.effect.RoundingEffect.{RoundingEffect}
 
@@ -26,6 +26,11 @@ decimals_of digits grid mesh =
 abbrev pub planes_of_decimals : Option ℕ → Grid → SolidMesh → List ℕ
 planes_of_decimals digits grid mesh =
     decimal_planes (written_places digits grid.step) grid.step grid.offset mesh.corners.items mesh.triangles.items
+
+-- and their indices among the mesh's triangles
+abbrev pub origins_of_decimals : Option ℕ → Grid → SolidMesh → List ℕ
+origins_of_decimals digits grid mesh =
+    decimal_origins (written_places digits grid.step) grid.step grid.offset mesh.corners.items mesh.triangles.items
 
 -- triangles by the indices of their corners, where each point is one vertex
 abbrev pub over_vertices : List DecimalTriangle → List IndexedTriangle

@@ -1,6 +1,7 @@
 pub mod Files
 pub mod Volumes
 pub mod Effects
+pub mod Splits
 pub mod Outputs
 pub mod WritingFaults
 pub mod Faults

@@ -59,8 +59,9 @@ pub(crate) fn float_effect(
     })
 }
 
-// What rounding to decimals did to a mesh, of which these are the rounded triangles.
-pub(crate) fn decimal_effect(
+/// What rounding to decimals did to a mesh, of which these are the rounded triangles: see
+/// [`decimals`](crate::decimals). A corner of the mesh that is 10^21 or more from zero is a fault.
+pub fn decimal_effect(
     alloc: Global,
     mesh: &SolidMesh,
     written: &DecimalMesh,

@@ -12,6 +12,7 @@ mod output;
 mod placing;
 mod rounding;
 mod solid;
+mod split;
 mod text;
 mod volumes;
 mod wanted;
@@ -19,7 +20,7 @@ mod writing;
 mod writing_fault;
 
 pub use document::{DocumentFileFault, document_file};
-pub use effect::RoundingEffect;
+pub use effect::{RoundingEffect, decimal_effect};
 pub use fault::BooleanFault;
 pub use files::{MeshFile, surfaces_in};
 pub use laws::{
@@ -28,7 +29,9 @@ pub use laws::{
 };
 pub use output::{KeptDocument, SolidFile};
 pub use placing::placed_files;
+pub use rounding::decimals;
 pub use solid::solid_file;
+pub use split::{SplitDecimals, split_decimals};
 pub use volumes::six_volumes_of_meshes;
 pub use wanted::{FloatFormat, MeshFormat, WantedFile};
 pub use writing::Written;

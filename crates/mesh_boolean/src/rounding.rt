@@ -7,7 +7,7 @@ ghost use Rattle.mesh_write.specs.Vertices.Vertices.{IsMeshOf};
 ghost use Rattle.mesh_written.specs.Decimals.{IsDecimalFault};
 ghost use Rattle.mesh_written.specs.Digits.{written_places};
 ghost use Rattle.mesh_written.specs.Floats.{IsFloatFault};
-ghost use Rattle.mesh_boolean.specs.Effects.{decimals_of, planes_of_decimals};
+ghost use Rattle.mesh_boolean.specs.Effects.{decimals_of, origins_of_decimals, planes_of_decimals};
 ghost use Rattle.mesh_boolean.specs.Outputs.{AreRounded, AreRoundedWith, AreShownIf};
 
 use crate::effect::{RoundingEffect, float_effect};
@@ -85,8 +85,10 @@ pub(crate) fn shown_if(
     Ok(Some(shown))
 }
 
-// The triangles of a mesh on a grid, in the user's unit and rounded to decimals.
-pub(crate) fn decimals(
+/// The triangles of a mesh on a grid, in the user's unit and rounded to decimals: see
+/// [`decimal_mesh`]. There are at most 17 places. A corner of the mesh that is 10^21 or more from
+/// zero is a fault.
+pub fn decimals(
     alloc: Global,
     mesh: &SolidMesh,
     grid: &Grid,
@@ -97,6 +99,7 @@ pub(crate) fn decimals(
     requires digits { IfSome digits (λ n. n ≤ 17) }
     ensures mesh { IfOk result (λ written. IsMeshOf (decimals_of digits grid.now mesh.now) written.mesh) }
     ensures planes { IfOk result (λ written. written.planes.items ≡ planes_of_decimals digits grid.now mesh.now) }
+    ensures origins { IfOk result (λ written. written.origins.items ≡ origins_of_decimals digits grid.now mesh.now) }
     ensures fault { IfErr result (IsDecimalFault grid.now.step grid.now.offset mesh.now.corners.items) }
 {
     let places = written_places(digits, &grid.step);

@@ -1,21 +1,32 @@
 -- Pieces of triangles, one after another.
-use Rattle.std.proofs.Common.{◌≡◌, ℕ, ◌+◌, ◌<◌, Bool, true, false, if◌then◌else◌, List, [], ◌∷◌, ◌++◌, map, length}
-use Rattle.std.proofs.Common.{take, get_or, append_assoc, append-nil, flat_map, refl, sym, ap, subst, ◌∙◌}
+use Rattle.std.proofs.Common.{◌≡◌, ℕ, suc, ◌+◌, ◌<◌, Bool, true, false, if◌then◌else◌, List, [], ◌∷◌, ◌++◌, map, length}
+use Rattle.std.proofs.Common.{take, get_or, append_assoc, append-nil, flat_map, refl, sym, ap, subst, ◌∙◌, arith}
 use Rattle.std.proofs.lemmas.Grind.{flat_map-append}
-use Rattle.std.proofs.lemmas.List.{map-append, take_more}
+use Rattle.std.proofs.lemmas.List.{length-map, length-take-le, map-append, take_more}
 use Rattle.mesh_write.specs.declared.vertices.point.DecimalPoint.{DecimalPoint}
 use Rattle.mesh_write.specs.declared.vertices.point.DecimalTriangle.{DecimalTriangle}
 use Rattle.mesh_write.specs.declared.vertices.point.IndexedTriangle.{IndexedTriangle}
 use Rattle.mesh_write.specs.declared.vertices.mesh.IndexedMesh.{IndexedMesh}
 use Rattle.mesh_write.specs.Vertices.Vertices.{vertices_of, indexed, over, IsMeshOf}
 use Rattle.mesh_write.proofs.Meshes.{corners_are_back}
+use Rattle.mesh_manifold.specs.declared.cut.CutMesh.{CutMesh}
+use Rattle.mesh_manifold.specs.declared.cut.Pieces.{Pieces}
 use Rattle.mesh_manifold.specs.declared.edge_set.PointEdge.{PointEdge}
 use Rattle.mesh_manifold.specs.Middles.{middle}
-use Rattle.mesh_manifold.specs.Cuts.{triangle, is_cut, halves_at, halves, pieces, AreCutOf, IsCutMesh}
+use Rattle.mesh_manifold.specs.Cuts.{triangle, is_cut, halves_at, halves, pieces, origins_from, plane_of, ArePutBehind, AreCutOf, IsCutMesh}
 
 -- ---- triangles that are put in one after another
-pub put_after : {mesh : IndexedMesh} (before xs ys : List DecimalTriangle) → IsMeshOf ((before ++ xs) ++ ys) mesh → IsMeshOf (before ++ (xs ++ ys)) mesh
-put_after {mesh} before xs ys h = subst (λ (ts : List DecimalTriangle). IsMeshOf ts mesh) (append_assoc before xs ys) h
+pub put_after : (xs ys : List DecimalTriangle) (origin : ℕ) (first second third : Pieces) →
+    ArePutBehind xs origin first second → ArePutBehind ys origin second third → ArePutBehind (xs ++ ys) origin first third
+put_after xs ys origin first second third a b = record {
+  mesh = λ before is. subst (λ (ts : List DecimalTriangle). IsMeshOf ts third.mesh) (append_assoc before xs ys) (b.mesh (before ++ xs) (a.mesh before is));
+  origins =
+      let same = map (λ (piece : DecimalTriangle). origin) in
+      b.origins
+      ∙ ap (λ (ns : List ℕ). ns ++ same ys) a.origins
+      ∙ append_assoc first.origins.items (same xs) (same ys)
+      ∙ ap (λ (ns : List ℕ). first.origins.items ++ ns) (sym (map-append (λ (piece : DecimalTriangle). origin) xs ys));
+}
 
 -- ---- the halves of a triangle
 module _ (es : List PointEdge) (u v w : DecimalPoint) where
@@ -64,17 +75,48 @@ pieces_more es ps ts i d one mesh l at h =
     ∙ ap (flat_map (pieces es)) (sym (map-append (over ps) (take i ts) (get_or ts i d ∷ [])) ∙ ap (map (over ps)) (sym (take_more ts i d l))) in
     subst (λ (us : List DecimalTriangle). IsMeshOf us mesh) is h
 
+-- ---- the origins of the pieces of one triangle more
+origins_more : (es : List PointEdge) (n m : ℕ) (ts : List DecimalTriangle) (t : DecimalTriangle) → n + length ts ≡ m →
+    origins_from es n (ts ++ t ∷ []) ≡ origins_from es n ts ++ map (λ (piece : DecimalTriangle). m) (pieces es t)
+origins_more es n m [] t is =
+    let none : n + 0 ≡ m = is in
+    let at : n ≡ m = omega (arith, none) in
+    append-nil (map (λ (piece : DecimalTriangle). n) (pieces es t)) ∙ ap (λ (k : ℕ). map (λ (piece : DecimalTriangle). k) (pieces es t)) at
+origins_more es n m (u ∷ us) t is =
+    let one : n + suc (length us) ≡ m = is in
+    let next : (n + 1) + length us ≡ m = omega (arith, one) in
+    let here : List ℕ = map (λ (piece : DecimalTriangle). n) (pieces es u) in
+    ap (λ (ns : List ℕ). here ++ ns) (origins_more es (n + 1) m us t next)
+    ∙ sym (append_assoc here (origins_from es (n + 1) us) (map (λ (piece : DecimalTriangle). m) (pieces es t)))
+
+pub origins_of_more : (es : List PointEdge) (ps : List DecimalPoint) (ts : List IndexedTriangle) (i : ℕ)
+    (d : IndexedTriangle) (one : DecimalTriangle) (before after : List ℕ) → i < length ts → one ≡ over ps (get_or ts i d) →
+    before ≡ origins_from es 0 (map (over ps) (take i ts)) → after ≡ before ++ map (λ (piece : DecimalTriangle). i) (pieces es one) →
+    after ≡ origins_from es 0 (map (over ps) (take (i + 1) ts))
+origins_of_more es ps ts i d one before after l at is e =
+    let us = map (over ps) (take i ts) in
+    let last = over ps (get_or ts i d) in
+    let count : length us ≡ i = length-map (take i ts) (over ps) ∙ length-take-le i ts (omega (arith, l)) in
+    let many : 0 + length us ≡ i = omega (arith, count) in
+    e
+    ∙ (λ k. is k ++ map (λ (piece : DecimalTriangle). i) (pieces es (at k)))
+    ∙ sym (origins_more es 0 i us last many)
+    ∙ ap (origins_from es 0) (sym (map-append (over ps) (take i ts) (get_or ts i d ∷ [])) ∙ ap (map (over ps)) (sym (take_more ts i d l)))
+
 -- ---- the whole mesh
-pub mesh_is_cut : (es : List PointEdge) (ts : List DecimalTriangle) (ps : List DecimalPoint)
-    (shown : List IndexedTriangle) (mesh : IndexedMesh) → ps ≡ vertices_of ts →
-    shown ≡ map (indexed (vertices_of ts)) ts → IsMeshOf (flat_map (pieces es) (map (over ps) shown)) mesh →
-    IsCutMesh ts mesh
-mesh_is_cut es ts ps shown mesh at all h =
+pub mesh_is_cut : (es : List PointEdge) (planes : List ℕ) (ts : List DecimalTriangle) (ps : List DecimalPoint)
+    (shown : List IndexedTriangle) (mesh : CutMesh) → ps ≡ vertices_of ts → shown ≡ map (indexed (vertices_of ts)) ts →
+    IsMeshOf (flat_map (pieces es) (map (over ps) shown)) mesh.mesh →
+    mesh.origins.items ≡ origins_from es 0 (map (over ps) shown) →
+    mesh.planes.items ≡ map (plane_of planes) mesh.origins.items → IsCutMesh planes ts mesh
+mesh_is_cut es planes ts ps shown mesh at all h origins planes_are =
     let back : map (over ps) shown ≡ ts = (λ i. map (over (at i)) (all i)) ∙ corners_are_back ts in
     record {
       cut = flat_map (pieces es) ts;
       are_cut = record { edges = es; is = refl };
-      is = subst (λ (us : List DecimalTriangle). IsMeshOf (flat_map (pieces es) us) mesh) back h;
+      is = subst (λ (us : List DecimalTriangle). IsMeshOf (flat_map (pieces es) us) mesh.mesh) back h;
+      origins = origins ∙ ap (origins_from es 0) back;
+      planes_are = planes_are;
     }
 
 -- ---- triangles that aren't cut

@@ -1,10 +1,11 @@
 -- Triangles that are cut at the middles of edges
-use Rattle.std.specs.Prelude.{◌≡◌, Bool, not, ◌&&◌, ◌||◌, if◌then◌else◌, List, [], ◌∷◌, ◌++◌, flat_map}
+use Rattle.std.specs.Prelude.{◌≡◌, ℕ, ◌+◌, Bool, not, ◌&&◌, ◌||◌, if◌then◌else◌, List, [], ◌∷◌, ◌++◌, flat_map, map, slice_index_or}
 use Rattle.std.specs.List.{list_any}
 use Rattle.mesh_write.specs.declared.vertices.point.DecimalPoint.{DecimalPoint}
 use Rattle.mesh_write.specs.declared.vertices.point.DecimalTriangle.{DecimalTriangle}
-use Rattle.mesh_write.specs.declared.vertices.mesh.IndexedMesh.{IndexedMesh}
 use Rattle.mesh_write.specs.Vertices.Vertices.{same_point, IsMeshOf}
+use Rattle.mesh_manifold.specs.declared.cut.CutMesh.{CutMesh}
+use Rattle.mesh_manifold.specs.declared.cut.Pieces.{Pieces}
 use Rattle.mesh_manifold.specs.declared.edge_set.PointEdge.{PointEdge}
 use Rattle.mesh_manifold.specs.Middles.{middle}
 
@@ -49,14 +50,30 @@ pieces es t =
     then triangle t.b t.c (middle t.c t.a) ∷ halves es t.a t.b (middle t.c t.a)
     else halves es t.a t.b t.c
 
+-- for each of the pieces the index of the triangle that it is cut of, if the first of the triangles has the index n
+abbrev pub origins_from : List PointEdge → ℕ → List DecimalTriangle → List ℕ
+origins_from es n [] = []
+origins_from es n (t ∷ ts) = map (λ piece. n) (pieces es t) ++ origins_from es (n + 1) ts
+
+-- the triangles are put behind those that were there, and each has this origin
+pub record ArePutBehind (us : List DecimalTriangle) (origin : ℕ) (old new : Pieces) : Type 0 where
+  pub mesh : (before : List DecimalTriangle) → IsMeshOf before old.mesh → IsMeshOf (before ++ us) new.mesh
+  pub origins : new.origins.items ≡ old.origins.items ++ map (λ piece. origin) us
+
 -- ---- meshes
 -- the triangles, some of them cut at the middles of their edges
 pub record AreCutOf (ts us : List DecimalTriangle) : Type 0 where
   pub edges : List PointEdge
   pub is : us ≡ flat_map (pieces edges) ts
 
--- a mesh of such triangles
-pub record IsCutMesh (ts : List DecimalTriangle) (mesh : IndexedMesh) : Type 0 where
+-- the number at the origin's index; what has none gets one that no plane has
+abbrev pub plane_of : List ℕ → ℕ → ℕ
+plane_of planes origin = slice_index_or planes origin 4294967295
+
+-- a mesh of such triangles; for each of them the index of the triangle that it is cut of, and the plane of this one
+pub record IsCutMesh (planes : List ℕ) (ts : List DecimalTriangle) (mesh : CutMesh) : Type 0 where
   pub cut : List DecimalTriangle
   pub are_cut : AreCutOf ts cut
-  pub is : IsMeshOf cut mesh
+  pub is : IsMeshOf cut mesh.mesh
+  pub origins : mesh.origins.items ≡ origins_from are_cut.edges 0 ts
+  pub planes_are : mesh.planes.items ≡ map (plane_of planes) mesh.origins.items

@@ -1,5 +1,5 @@
 -- Triangles of decimals
-use Rattle.std.specs.Prelude.{◌≡◌, ℕ, Bool, not, ◌||◌, List, map, filter}
+use Rattle.std.specs.Prelude.{◌≡◌, ℕ, ◌+◌, Bool, not, ◌||◌, if◌then◌else◌, List, [], ◌∷◌, map, filter}
 use Rattle.mesh_grid.specs.declared.snap.steps.GridStep.{GridStep}
 use Rattle.mesh_grid.specs.declared.snap.offsets.Offset.{Offset}
 use Rattle.mesh_write.specs.declared.vertices.point.DecimalPoint.{DecimalPoint}
@@ -26,6 +26,12 @@ vanishes t = same_point t.a t.b || (same_point t.b t.c || same_point t.c t.a)
 abbrev pub kept : List DecimalPoint → List Triangle → List Triangle
 kept ps ts = filter (λ t. not (vanishes (triangle_at ps t))) ts
 
+-- the indices of these, if the first triangle of the list has the index n
+abbrev pub indices_from : ℕ → List DecimalPoint → List Triangle → List ℕ
+indices_from n ps [] = []
+indices_from n ps (t ∷ ts) =
+    if vanishes (triangle_at ps t) then indices_from (n + 1) ps ts else n ∷ indices_from (n + 1) ps ts
+
 abbrev pub plane_of : Triangle → ℕ
 plane_of t = t.first.plane
 
@@ -38,7 +44,12 @@ decimal_triangles places s o cs ts =
 abbrev pub decimal_planes : ℕ → GridStep → Offset → List SpacePoint → List Triangle → List ℕ
 decimal_planes places s o cs ts = map plane_of (kept (map (decimal_point places s o) cs) ts)
 
+-- and their indices among the triangles
+abbrev pub decimal_origins : ℕ → GridStep → Offset → List SpacePoint → List Triangle → List ℕ
+decimal_origins places s o cs ts = indices_from 0 (map (decimal_point places s o) cs) ts
+
 -- the mesh of triangles over these points
 pub record IsMeshOver (ps : List DecimalPoint) (ts : List Triangle) (written : DecimalMesh) : Type 0 where
   pub mesh : IsMeshOf (map (triangle_at ps) (kept ps ts)) written.mesh
   pub planes : written.planes.items ≡ map plane_of (kept ps ts)
+  pub origins : written.origins.items ≡ indices_from 0 ps ts

@@ -5,7 +5,7 @@ ghost use Rattle.mesh_grid.specs.Snap.Steps.{IsStep};
 ghost use Rattle.mesh_certificate.specs.declared.certificate.triangle.Triangle.{Triangle};
 ghost use Rattle.mesh_write.specs.Vertices.Vertices.{same_point, point_at, IsMeshOf};
 ghost use Rattle.mesh_written.specs.Decimals.{IsDecimalFault};
-ghost use Rattle.mesh_written.specs.DecimalTriangles.{triangle_at, vanishes, IsMeshOver, decimal_triangles, decimal_planes};
+ghost use Rattle.mesh_written.specs.DecimalTriangles.{triangle_at, vanishes, IsMeshOver, decimal_triangles, decimal_planes, decimal_origins};
 ghost use Rattle.mesh_written.specs.Triangles.{has_corners};
 
 use crate::decimal_points::decimal_points;
@@ -46,21 +46,24 @@ fn vanishes(t: &DecimalTriangle) -> bool
     is_same_point(&t.a, &t.b) || (is_same_point(&t.b, &t.c) || is_same_point(&t.c, &t.a))
 }
 
-/// Triangles of decimals, and the number of the plane of each.
+/// Triangles of decimals, and for each the number of its plane and the triangle that was rounded.
 #[derive(Drop)]
 pub struct DecimalMesh {
     pub mesh: IndexedMesh,
     pub planes: Vec<u32>,
+    /// The indices of the triangles that were rounded.
+    pub origins: Vec<usize>,
 }
 
-// Adds a triangle, unless two of its corners became equal.
+// Adds the triangle with this index, unless two of its corners became equal.
 fn push_kept(
     written: &mut DecimalMesh,
     points: &[DecimalPoint],
     triangle: &Triangle,
+    index: usize,
 ) -> Result<(), AllocError>
     requires { has_corners (length points.now) triangle.now ≡ true }
-    ensures { (before : List Triangle) → IsMeshOver points.now before written.old →
+    ensures { (before : List Triangle) → length before ≡ index → IsMeshOver points.now before written.old →
         OnOk result (IsMeshOver points.now (before ++ triangle.now ∷ []) written.new) }
 {
     let rounded = triangle_at(points, triangle);
@@ -69,6 +72,7 @@ fn push_kept(
     }
     written.mesh.push(&rounded)?;
     written.planes.push(triangle.first.plane)?;
+    written.origins.push(index)?;
     Ok(())
 }
 
@@ -83,9 +87,10 @@ fn mesh_over(
     let mut written = DecimalMesh {
         mesh: IndexedMesh::new(alloc),
         planes: Vec::new(alloc),
+        origins: Vec::new(alloc),
     };
-    for triangle in triangles {
-        push_kept(&mut written, points, triangle)?;
+    for (index, triangle) in triangles.iter().enumerate() {
+        push_kept(&mut written, points, triangle, index)?;
     }
     Ok(written)
 }
@@ -114,6 +119,8 @@ pub fn decimal_mesh(
         (decimal_triangles places step.now offset.now corners.now triangles.now) written.mesh) }
     ensures planes { IfOk result (λ written. written.planes.items ≡
         decimal_planes places step.now offset.now corners.now triangles.now) }
+    ensures origins { IfOk result (λ written. written.origins.items ≡
+        decimal_origins places step.now offset.now corners.now triangles.now) }
     ensures fault { IfErr result (IsDecimalFault step.now offset.now corners.now) }
 {
     let points = decimal_points(alloc, corners, step, offset, places)?;

@@ -248,14 +248,11 @@ fn two_triangles_of_four_vanish_as_decimals(rt: HostRuntime) -> Result<(), Fail>
         triangle(3, 1, 2, 3),
     ];
     assert!(rt; have_corners(&triangles, corners.len()));
-    let DecimalMesh { mesh, planes } = decimal_mesh(
-        rt.alloc(),
-        &corners,
-        &triangles,
-        &TENTH,
-        &AT_ZERO,
-        0,
-    )?;
+    let DecimalMesh {
+        mesh,
+        planes,
+        origins,
+    } = decimal_mesh(rt.alloc(), &corners, &triangles, &TENTH, &AT_ZERO, 0)?;
     let vertices = [point(0, 0, 0), point(0, 1, 0), point(1, 0, 0)];
     let written = [
         IndexedTriangle { a: 0, b: 1, c: 2 },
@@ -264,6 +261,7 @@ fn two_triangles_of_four_vanish_as_decimals(rt: HostRuntime) -> Result<(), Fail>
     assert!(rt; mesh.vertices() == vertices.as_slice());
     assert!(rt; mesh.triangles() == written.as_slice());
     assert!(rt; planes.as_slice() == [0, 3].as_slice());
+    assert!(rt; origins.as_slice() == [0, 3].as_slice());
     Ok(())
 }
 

@@ -4,8 +4,8 @@ use Rattle.mesh_certificate.specs.declared.certificate.space_point.SpacePoint.{S
 use Rattle.mesh_write.specs.declared.vertices.point.DecimalTriangle.{DecimalTriangle}
 use Rattle.mesh_write.specs.Vertices.Vertices.{IsMeshOf}
 use Rattle.mesh_written.specs.Decimals.{IsDecimalFault}
-use Rattle.mesh_written.specs.DecimalTriangles.{decimal_planes, decimal_triangles}
-use Rattle.mesh_boolean.specs.Effects.{decimals_of, planes_of_decimals}
+use Rattle.mesh_written.specs.DecimalTriangles.{decimal_origins, decimal_planes, decimal_triangles}
+use Rattle.mesh_boolean.specs.Effects.{decimals_of, origins_of_decimals, planes_of_decimals}
 use Rattle.mesh_boolean.proofs.Outputs.{corners_are_there}
 use Rattle.mesh_boolean.proofs.rounding.decimals.Goals as goal
 
@@ -37,3 +37,12 @@ returns-clause-planes c =
     ≡ planes_of_decimals c.args.digits g c.args.mesh.now =
     λ i. decimal_planes (p i) g.step g.offset (c.deref.ensures.value i) (c.deref-2.ensures.value i) in
     IfOk-weaker c.decimal_mesh.result _ _ (λ written e. e ∙ same) c.decimal_mesh.ensures.planes
+
+pub returns-clause-origins : goal.returns-clause-origins
+returns-clause-origins c =
+    let g = c.args.grid.now in
+    let p = c.written_places-places.ensures.value in
+    let same : decimal_origins c.written_places-places.result g.step g.offset c.deref.result.now c.deref-2.result.now
+    ≡ origins_of_decimals c.args.digits g c.args.mesh.now =
+    λ i. decimal_origins (p i) g.step g.offset (c.deref.ensures.value i) (c.deref-2.ensures.value i) in
+    IfOk-weaker c.decimal_mesh.result _ _ (λ written e. e ∙ same) c.decimal_mesh.ensures.origins

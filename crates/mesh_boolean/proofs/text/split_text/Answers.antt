@@ -1,21 +1,8 @@
-use Rattle.std.proofs.Common.{true≢false, refl, sym, subst, ◌∙◌}
-use Rattle.mesh_manifold.specs.Splits.{AreSplitOf}
-use Rattle.mesh_manifold.proofs.Cuts.{uncut}
+use Rattle.std.proofs.Common.{arith}
+use Rattle.mesh_boolean.proofs.Outputs.{over_is_text}
 use Rattle.mesh_boolean.proofs.text.split_text.Goals as goal
-
-pub returns-then-split : goal.returns-then-split
-returns-then-split c = λ ts is.
-    c.text_over.ensures ts ts (uncut ts) is (subst (AreSplitOf c.in_ok-split.split.mesh) (c.triangles.ensures ts is)
-    c.in_ok-split.ensures.corners) c.in_ok-split.ensures.manifold (λ no. refl)
-
-pub returns-then-again : goal.returns-then-again
-returns-then-again c = λ ts is.
-    let cut = c.in_ok-cut.ensures ts is in
-    c.text_over-then-again.ensures ts cut.cut cut.are_cut cut.is
-    (subst (AreSplitOf c.in_ok-again.again.mesh) (c.triangles-2.ensures cut.cut cut.is) c.in_ok-again.ensures.corners)
-    c.in_ok-again.ensures.manifold (λ no. absurd (true≢false (sym c.if-again.true ∙ no)))
 
 pub returns : goal.returns
 returns c = λ ts is.
-    c.text_over-2.ensures ts ts (uncut ts) is (subst (AreSplitOf c.in_ok-split.split.mesh) (c.triangles.ensures ts is)
-    c.in_ok-split.ensures.corners) c.in_ok-split.ensures.manifold (λ no. refl)
+    over_is_text c.args.format c.args.places ts c.in_ok-split.split _ _ c.in_ok-bytes.bytes.items _
+    (c.in_ok-split.ensures ts is) c.deref.ensures.value c.deref-2.ensures.value c.in_ok-bytes.ensures (omega arith)

@@ -4,7 +4,7 @@ use Rattle.std.proofs.lemmas.List.{length-map}
 use Rattle.mesh_write.specs.declared.vertices.point.DecimalPoint.{DecimalPoint}
 use Rattle.mesh_write.specs.Vertices.Vertices.{IsMeshOf}
 use Rattle.mesh_written.specs.Decimals.{decimal_point}
-use Rattle.mesh_written.specs.DecimalTriangles.{triangle_at, kept, plane_of}
+use Rattle.mesh_written.specs.DecimalTriangles.{triangle_at, kept, indices_from, plane_of}
 use Rattle.mesh_written.specs.Triangles.{has_corners}
 use Rattle.mesh_written.proofs.decimal_triangles.decimal_mesh.Goals as goal
 
@@ -24,3 +24,8 @@ pub returns-clause-planes : goal.returns-clause-planes
 returns-clause-planes c =
     c.in_ok-written.ensures.planes
     ∙ ap (λ (ps : List DecimalPoint). map plane_of (kept ps c.args.triangles.now)) (c.deref.ensures.value ∙ c.in_ok-points.ensures.points)
+
+pub returns-clause-origins : goal.returns-clause-origins
+returns-clause-origins c =
+    c.in_ok-written.ensures.origins
+    ∙ ap (λ (ps : List DecimalPoint). indices_from 0 ps c.args.triangles.now) (c.deref.ensures.value ∙ c.in_ok-points.ensures.points)

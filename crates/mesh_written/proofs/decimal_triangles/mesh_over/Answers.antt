@@ -1,9 +1,12 @@
-use Rattle.std.proofs.Common.{take}
+use Rattle.std.proofs.Common.{take, arith}
+use Rattle.std.proofs.lemmas.List.{length-take-le}
 use Rattle.mesh_written.proofs.Kept.{mesh_more}
 use Rattle.mesh_written.proofs.decimal_triangles.mesh_over.Goals as goal
 
-pub loop-triangle-preserved : goal.loop-triangle-preserved
-loop-triangle-preserved c =
-    mesh_more c.args.points.now c.args.triangles.now c.loop-triangle.triangle-index c.triangle-item.result
-    c.push_kept.new.written c.loop-triangle-test.true c.triangle-item.is
-    (c.in_ok-push_kept.ensures (take c.loop-triangle.triangle-index c.args.triangles.now) c.loop-triangle.invariant)
+pub loop-index-preserved : goal.loop-index-preserved
+loop-index-preserved c =
+    let ts = c.args.triangles.now in
+    let i = c.loop-index.index in
+    let below = c.loop-index-test.true in
+    mesh_more c.args.points.now ts i c.index-triangles-index.result c.push_kept.new.written below c.index-triangles-index.is
+    (c.in_ok-push_kept.ensures (take i ts) (length-take-le i ts (omega (arith, below))) c.loop-index.invariant)
