@@ -1,7 +1,7 @@
 -- The outcomes of a call over arrays
 use Rattle.std.proofs.Common.{◌≡◌, ◌≢◌, ℕ, None, sym, ap, ◌∙◌, arith, inl, inr}
-use Rattle.mesh_report.specs.Numbers.{number_of}
-use Rattle.mesh_report.specs.declared.status.Status.{Status}
+use Rattle.mesh_refusal.specs.Numbers.{number_of}
+use Rattle.mesh_refusal.specs.declared.status.Status.{Status}
 use Rattle.mesh_words.specs.declared.command.WantedStep.{WantedStep}
 use Rattle.ember_arrays.specs.declared.asked.ArrayRequest.{ArrayRequest}
 use Rattle.ember_arrays.specs.declared.outcome.ArrayOutcome.{ArrayOutcome}

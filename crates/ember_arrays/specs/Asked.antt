@@ -4,8 +4,8 @@ use Rattle.ember_expr.specs.Formula.{Formula}
 use Rattle.mesh_arrays.specs.Arrays.{IsShort}
 use Rattle.mesh_arrays.specs.declared.mesh.ArrayMesh.{ArrayMesh}
 use Rattle.mesh_grid.specs.declared.grid.choice.Wanted.{Wanted}
-use Rattle.mesh_report.specs.declared.status.Status.{Status}
-use Rattle.mesh_report.specs.declared.status.Status.TheVariants.{LongFile, StepOfNoGrid, Words}
+use Rattle.mesh_refusal.specs.declared.status.Status.{Status}
+use Rattle.mesh_refusal.specs.declared.status.Status.TheVariants.{LongFile, StepOfNoGrid, Words}
 use Rattle.mesh_run.specs.Asked.{IsExpression, IsExpressionCause, IsStepOfNoGrid, IsWanted}
 use Rattle.mesh_words.specs.declared.command.WantedStep.{WantedStep}
 use Rattle.mesh_words.specs.declared.faults.Refusal.{Refusal}

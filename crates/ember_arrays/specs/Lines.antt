@@ -8,12 +8,13 @@ use Rattle.mesh_file.specs.File.Faults.{fault_of}
 use Rattle.mesh_file.specs.File.Reasons.{reason_of}
 use Rattle.mesh_file.specs.declared.file.fault.FileFault.{FileFault}
 use Rattle.mesh_file.specs.declared.format.format.Format.TheVariants.{Ply}
-use Rattle.mesh_report.specs.Lines.{line, why_of}
-use Rattle.mesh_report.specs.WordLines.{refusal_text}
-use Rattle.mesh_report.specs.declared.status.Status.{Status}
-use Rattle.mesh_report.specs.declared.status.Status.TheVariants.{FileRefused, NoTriangles, NotClosed, OutOfMemory}
-use Rattle.mesh_report.specs.declared.status.Status.TheVariants.{StepTooSmall, TooFar, TooManyTriangles}
-use Rattle.mesh_report.specs.declared.status.Status.TheVariants.{TooManyWritten, Uncertified, Words}
+use Rattle.mesh_texts.specs.Texts.{line}
+use Rattle.mesh_refusal.specs.Lines.{why_of}
+use Rattle.mesh_refusal.specs.WordLines.{refusal_text}
+use Rattle.mesh_refusal.specs.declared.status.Status.{Status}
+use Rattle.mesh_refusal.specs.declared.status.Status.TheVariants.{FileRefused, NoTriangles, NotClosed, OutOfMemory}
+use Rattle.mesh_refusal.specs.declared.status.Status.TheVariants.{StepTooSmall, TooFar, TooManyTriangles}
+use Rattle.mesh_refusal.specs.declared.status.Status.TheVariants.{TooManyWritten, Uncertified, Words}
 use Rattle.mesh_scene.specs.declared.scene.fault.SceneFault.TheVariants as scene
 use Rattle.mesh_words.specs.declared.command.Destination.TheVariants.{StandardOutput}
 use Rattle.mesh_words.specs.declared.command.OutputFormat.TheVariants.{Off}

@@ -8,10 +8,10 @@ use Rattle.mesh_file.specs.declared.file.fault.FileFault.TheVariants as file_fau
 use Rattle.mesh_grid.specs.declared.grid.choice.Wanted.{Wanted}
 use Rattle.mesh_ply.specs.declared.fault.PlyFault.{PlyFault}
 use Rattle.mesh_ply.specs.declared.fault.PlyFault.TheVariants.{NoSuchVertex, NotFinite, TooLarge}
-use Rattle.mesh_report.specs.Numbers.{number_of}
+use Rattle.mesh_refusal.specs.Numbers.{number_of}
 use Rattle.mesh_report.specs.Reports.{report_of}
-use Rattle.mesh_report.specs.declared.status.Status.{Status}
-use Rattle.mesh_report.specs.declared.status.Status.TheVariants.{Done, FileRefused, LongFile, NotClosed}
+use Rattle.mesh_refusal.specs.declared.status.Status.{Status}
+use Rattle.mesh_refusal.specs.declared.status.Status.TheVariants.{Done, FileRefused, LongFile, NotClosed}
 use Rattle.mesh_scene.specs.declared.scene.fault.SceneFault.TheVariants.{Open}
 use Rattle.mesh_words.specs.declared.command.Request.{Request}
 use Rattle.mesh_words.specs.declared.command.WantedStep.{WantedStep}

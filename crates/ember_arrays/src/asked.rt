@@ -9,7 +9,7 @@ ghost use Rattle.ember_arrays.specs.Asked.{Asks, IsAskingCause, IsFirstLong, IsL
 use ember_expr::{Expr, ExprFault, bounded, parse};
 use mesh_arrays::ArrayMesh;
 use mesh_grid::{Wanted, step_of};
-use mesh_report::Status;
+use mesh_refusal::Status;
 use mesh_words::{Refusal, WantedStep};
 use std::alloc::Global;
 

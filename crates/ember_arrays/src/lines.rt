@@ -3,13 +3,13 @@
 ghost use Rattle.std.specs.Prelude.{◌≡◌, ◌<◌, ◌≤◌, [], IfOk, string_bytes};
 ghost use Rattle.mesh_file.specs.File.Faults.{fault_of};
 ghost use Rattle.mesh_file.specs.File.Reasons.{reason_of};
-ghost use Rattle.mesh_report.specs.Lines.{IsShown};
+ghost use Rattle.mesh_refusal.specs.Lines.{IsShown};
 ghost use Rattle.ember_arrays.specs.Lines.{IsRefusalStatus, IsStatusOf, NamesMesh, name_of, names_to, request_with, status_text};
 
 use ember_words::{Text, Texts};
 use mesh_boolean::BooleanFault;
 use mesh_file::{FileFault, Format, put_reason};
-use mesh_report::{Status, solid_said, words_said};
+use mesh_refusal::{Status, solid_said, words_said};
 use mesh_scene::SceneFault;
 use mesh_words::{Destination, OutputFormat, Request, WantedStep};
 use std::alloc::{AllocError, Global};

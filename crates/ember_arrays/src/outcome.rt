@@ -1,7 +1,7 @@
 // What a call over arrays gives.
 ghost use Rattle.std.specs.Prelude.{◌≡◌, ◌≢◌, IfErr, IfOk, None};
 ghost use Rattle.mesh_grid.specs.Snap.Steps.{IsStep};
-ghost use Rattle.mesh_report.specs.Lines.{IsShown};
+ghost use Rattle.mesh_refusal.specs.Lines.{IsShown};
 ghost use Rattle.ember_arrays.specs.Outcomes.{HasSolid, IsArrayOutcome, IsArrayStop, IsNothing, IsRefusalWith, IsReportedWith, IsSolidFor, mesh_of, place_of, words_of};
 
 use crate::asked::{ArrayRequest, asked_by};
@@ -10,7 +10,8 @@ use crate::solid::{ArraySolid, array_solid};
 use mesh_boolean::BooleanFault;
 use mesh_file::FileFault;
 use mesh_ply::PlyFault;
-use mesh_report::{Status, solid_report};
+use mesh_refusal::Status;
+use mesh_report::solid_report;
 use mesh_scene::SceneFault;
 use mesh_words::{Request, WantedStep};
 use std::alloc::{AllocError, Global};

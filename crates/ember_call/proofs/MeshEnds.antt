@@ -6,9 +6,9 @@ use Rattle.std.specs.declared.option.Option.{Option}
 use Rattle.ember_io.specs.declared.shelf.FaultKind.TheVariants.{NotFound}
 use Rattle.mesh_outside.specs.declared.target.several.NamedFile.{NamedFile}
 use Rattle.mesh_outside.specs.Target.Several.{NamedBytes, names_and_bytes}
-use Rattle.mesh_report.specs.Numbers.{document_number, number_of, uncut_number}
-use Rattle.mesh_report.specs.declared.status.Status.{Status}
-use Rattle.mesh_report.specs.declared.status.Status.TheVariants as status
+use Rattle.mesh_refusal.specs.Numbers.{document_number, number_of, uncut_number}
+use Rattle.mesh_refusal.specs.declared.status.Status.{Status}
+use Rattle.mesh_refusal.specs.declared.status.Status.TheVariants as status
 use Rattle.mesh_run.specs.Calls.{ShelfCall, SinkCall, TakesUntilFault, TargetCall, shelf_call, sink_call, target_call}
 use Rattle.mesh_run.specs.Serves.{IsOutcome, IsSent, MeshServes}
 use Rattle.mesh_solid.specs.declared.mesh.fault.DocumentFault.{DocumentFault}

@@ -11,11 +11,11 @@ use Rattle.ember_io.specs.declared.shelf.FaultKind.TheVariants.{NotFound}
 use Rattle.mesh_boolean.specs.declared.output.SolidFile.{SolidFile}
 use Rattle.mesh_outside.specs.declared.target.several.NamedFile.{NamedFile}
 use Rattle.mesh_outside.specs.Target.Several.{NamedBytes, PutsEach, names_and_bytes}
-use Rattle.mesh_report.specs.Numbers.{number_of}
+use Rattle.mesh_refusal.specs.Numbers.{number_of}
 use Rattle.mesh_report.specs.Said.{solid_report}
-use Rattle.mesh_report.specs.declared.status.Status.{Status}
-use Rattle.mesh_report.specs.declared.status.Status.TheVariants.{Done, ReadFault, FileRefused, NotAScene}
-use Rattle.mesh_report.specs.declared.status.Status.TheVariants.{NotClosed, LongFile}
+use Rattle.mesh_refusal.specs.declared.status.Status.{Status}
+use Rattle.mesh_refusal.specs.declared.status.Status.TheVariants.{Done, ReadFault, FileRefused, NotAScene}
+use Rattle.mesh_refusal.specs.declared.status.Status.TheVariants.{NotClosed, LongFile}
 use Rattle.mesh_run.specs.Calls.{ShelfCall, SinkCall, TargetCall}
 use Rattle.mesh_run.specs.Memory.{hides_memory}
 use Rattle.mesh_run.specs.Outputs.{IsOutputFor}

@@ -13,7 +13,7 @@ use std::process::ExitCode;
 use std::{env, io};
 
 // The exit status if a word of the command line isn't text. All others are those of
-// `Status::number` in mesh_report.
+// `Status::number` in mesh_refusal.
 const WORDS_ARE_NO_TEXT: u8 = 13;
 
 // The exit status of `Status::OutOfMemory`, for the time before `run_mesh`.

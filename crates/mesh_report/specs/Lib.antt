@@ -1,12 +1,5 @@
-pub mod Numbers
-pub mod Lines
-pub mod WordLines
-pub mod ExportLines
 pub mod Volumes
 pub mod Reports
 pub mod Messages
-pub mod Statuses
-pub mod Objects
 pub mod ReportObjects
-pub mod Refusals
 pub mod Said

@@ -14,8 +14,8 @@ use Rattle.mesh_info.specs.Info.Lines.{quoted}
 use Rattle.mesh_scene.specs.declared.scene.counts.Counts.{Counts}
 use Rattle.mesh_scene.specs.declared.scene.scene.PlacedScene.{PlacedScene}
 use Rattle.mesh_words.specs.declared.command.OutputFormat.{OutputFormat}
-use Rattle.mesh_report.specs.Lines.{size_text, step_text}
-use Rattle.mesh_report.specs.Objects.{array, object, object_line, truth_value}
+use Rattle.mesh_texts.specs.Texts.{size_text, step_text}
+use Rattle.mesh_texts.specs.Objects.{array, object, object_line, truth_value}
 use Rattle.mesh_report.specs.Reports.{first_move, rounding_text, warning_text}
 use Rattle.mesh_report.specs.Volumes.{turned_text, volume_text}
 

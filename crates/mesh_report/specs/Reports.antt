@@ -16,8 +16,8 @@ use Rattle.mesh_effect.specs.Rounding.Shown.{rounded_of}
 use Rattle.mesh_effect.specs.Rounding.Texts.{move_text}
 use Rattle.mesh_scene.specs.declared.scene.counts.Counts.{Counts}
 use Rattle.mesh_scene.specs.declared.scene.scene.PlacedScene.{PlacedScene}
-use Rattle.mesh_report.specs.Lines.{line, step_text}
-use Rattle.mesh_report.specs.Lines as lines
+use Rattle.mesh_texts.specs.Texts.{line, step_text}
+use Rattle.mesh_texts.specs.Texts as texts
 use Rattle.mesh_report.specs.Volumes.{volume_lines}
 
 -- the grid
@@ -33,7 +33,7 @@ counts_line name c moved =
     line (name ++ (codes ": " ++ (decimal c.triangles ++
     (codes " triangles, " ++ (decimal c.vanished ++
     (codes " vanished, " ++ (decimal c.flat ++
-    (codes " without area; greatest move " ++ (lines.move_text moved ++ codes "; closed")))))))))
+    (codes " without area; greatest move " ++ (texts.move_text moved ++ codes "; closed")))))))))
 
 -- the first move, or 0 if there is none
 abbrev pub first_move : List Length → moves.Rounded

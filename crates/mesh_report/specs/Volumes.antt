@@ -4,7 +4,7 @@ use Rattle.std.specs.Prelude.{List, [], ◌∷◌, ◌++◌, codes, decimal}
 use Rattle.mesh_grid.specs.declared.snap.steps.GridStep.{GridStep}
 use Rattle.mesh_number.specs.Round.Decimals.{decimal_text}
 use Rattle.mesh_number.specs.Round.Nearest.{nearest_whole}
-use Rattle.mesh_report.specs.Lines.{line}
+use Rattle.mesh_texts.specs.Texts.{line}
 
 abbrev pub cube : ℕ → ℕ
 cube n = n * n * n

@@ -1,11 +1,10 @@
 // The reports.
 ghost use Rattle.std.specs.Prelude.{◌≡◌, ◌++◌, ◌<◌, drop, IfOk, OnOk};
-ghost use Rattle.mesh_report.specs.Lines.{line};
+ghost use Rattle.mesh_texts.specs.Texts.{line};
 ghost use Rattle.mesh_grid.specs.Moves.Shown.{rounded_of};
 ghost use Rattle.mesh_grid.specs.Snap.Steps.{IsStep};
 ghost use Rattle.mesh_report.specs.Reports.{counts_line, counts_lines, empty_line, export_report, first_move, grid_line, losses_text, mesh_line, mesh_lines, mesh_text, name_of_format, report_of, scene_lines, snap_report, warning_line, warning_text};
 
-use crate::texts::{line, put_count, put_move, put_signed, put_step};
 use crate::volumes::put_volumes;
 use ember_model::OutOfMemory;
 use ember_words::Text;
@@ -13,6 +12,7 @@ use mesh_boolean::{SolidFile, Written, six_volumes_of_meshes};
 use mesh_effect::put_move as put_rounding_move;
 use mesh_grid::{Grid, Length};
 use mesh_scene::{Counts, PlacedScene};
+use mesh_texts::{line, put_count, put_move, put_signed, put_step};
 use mesh_words::{ExportRequest, OutputFormat, Request, SnapRequest};
 use std::alloc::Global;
 

@@ -3,14 +3,12 @@ ghost use Rattle.std.specs.Prelude.{◌≡◌, ◌++◌, ◌<◌, drop, decimal,
 ghost use Rattle.std.specs.Fmt.{signed_decimal};
 ghost use Rattle.mesh_grid.specs.Moves.Shown.{rounded_of};
 ghost use Rattle.mesh_grid.specs.Snap.Steps.{IsStep};
-ghost use Rattle.mesh_report.specs.Lines.{size_text, step_text};
-ghost use Rattle.mesh_report.specs.Objects.{array, texts_of};
+ghost use Rattle.mesh_texts.specs.Texts.{size_text, step_text};
+ghost use Rattle.mesh_texts.specs.Objects.{array, texts_of};
 ghost use Rattle.mesh_report.specs.ReportObjects.{file_object, file_objects, first_volume, mesh_object, offset_value, result_object, rounding_warning, scene_object, solid_object, turned_warning, turned_warnings, volume_value};
 ghost use Rattle.mesh_report.specs.Reports.{rounding_text};
 
-use crate::objects::{array, keyed, number, object, object_line, string, truth_value};
 use crate::report::{move_at, put_warning_text};
-use crate::texts::{put_signed, put_size, put_step};
 use crate::volumes::{put_turned, put_volume, volume_at};
 use ember_model::OutOfMemory;
 use ember_words::Text;
@@ -18,6 +16,9 @@ use mesh_boolean::{SolidFile, Written, six_volumes_of_meshes};
 use mesh_effect::put_move as put_rounding_move;
 use mesh_grid::{Grid, GridStep, Length};
 use mesh_scene::{Counts, PlacedScene};
+use mesh_texts::{
+    array, keyed, number, object, object_line, put_signed, put_size, put_step, string, truth_value,
+};
 use mesh_words::OutputFormat;
 use std::alloc::Global;
 

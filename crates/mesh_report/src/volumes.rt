@@ -4,11 +4,11 @@ ghost use Rattle.mesh_grid.specs.Snap.Steps.{IsStep};
 ghost use Rattle.mesh_report.specs.Volumes.{cube, inside_out_text, plain_text, said_text, turned_text, volume_line, volume_lines, volume_text};
 
 use crate::report::put_line;
-use crate::texts::{PLACES, put_count};
 use ember_model::OutOfMemory;
 use ember_words::Text;
 use mesh_grid::GridStep;
 use mesh_number::{Magnitude, Wide, put_decimal};
+use mesh_texts::{PLACES, put_count};
 use std::alloc::Global;
 use std::cmp::Ordering;
 

@@ -18,16 +18,16 @@ use Rattle.mesh_run.specs.Asked.{format_asked}
 use Rattle.mesh_run.specs.Calls.{ShelfCall}
 use Rattle.mesh_run.specs.Exports.{IsExportStop, IsFileLong, IsFileUnread, IsGridGiven, IsNoGrid, IsScene}
 use Rattle.mesh_run.specs.Exports.{IsSceneFile, IsUnreadFile, document_index, index_behind, status_of_document, unit_grid}
-use Rattle.mesh_report.specs.ExportLines.{names_read, with_document}
+use Rattle.mesh_refusal.specs.ExportLines.{names_read, with_document}
 use Rattle.mesh_run.specs.Files.{AreBytes, IsFileIn}
-use Rattle.mesh_report.specs.Lines.{name_of}
+use Rattle.mesh_texts.specs.Texts.{name_of}
 use Rattle.mesh_run.specs.Memory.{hides_memory}
-use Rattle.mesh_report.specs.declared.status.Status.{Status}
-use Rattle.mesh_report.specs.declared.status.Status.TheVariants.{Done, Words, StepOfNoGrid, ReadFault, WriteFault}
-use Rattle.mesh_report.specs.declared.status.Status.TheVariants.{NotWritten, FileRefused, NoTriangles, NotAScene}
-use Rattle.mesh_report.specs.declared.status.Status.TheVariants.{NotClosed, ExprRefused, Unbounded, LongFile}
-use Rattle.mesh_report.specs.declared.status.Status.TheVariants.{TooManyTriangles, TooManyWritten, StepTooSmall}
-use Rattle.mesh_report.specs.declared.status.Status.TheVariants.{TooFar, DocumentRefused, OutOfMemory, Uncertified}
+use Rattle.mesh_refusal.specs.declared.status.Status.{Status}
+use Rattle.mesh_refusal.specs.declared.status.Status.TheVariants.{Done, Words, StepOfNoGrid, ReadFault, WriteFault}
+use Rattle.mesh_refusal.specs.declared.status.Status.TheVariants.{NotWritten, FileRefused, NoTriangles, NotAScene}
+use Rattle.mesh_refusal.specs.declared.status.Status.TheVariants.{NotClosed, ExprRefused, Unbounded, LongFile}
+use Rattle.mesh_refusal.specs.declared.status.Status.TheVariants.{TooManyTriangles, TooManyWritten, StepTooSmall}
+use Rattle.mesh_refusal.specs.declared.status.Status.TheVariants.{TooFar, DocumentRefused, OutOfMemory, Uncertified}
 
 -- ---- a file that isn't read
 -- what is seen of a later part of a call is seen of the whole of it

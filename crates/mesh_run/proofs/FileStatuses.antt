@@ -22,15 +22,15 @@ use Rattle.ember_io.specs.Shelves.{TellsMore}
 use Rattle.mesh_run.specs.Calls.{ShelfCall, HasShelfFailed}
 use Rattle.mesh_run.specs.Causes.{end_status, IsEndAt, IsFilesCause, IsPlacingCause, IsReadingCause, IsRefusalCause, IsRefused}
 use Rattle.mesh_run.specs.Files.{AreFiles, AreRead, IsFileIn}
-use Rattle.mesh_report.specs.Lines.{name_of}
-use Rattle.mesh_report.specs.Statuses.{HasReason, IsStatusOf, NamesFile}
+use Rattle.mesh_texts.specs.Texts.{name_of}
+use Rattle.mesh_refusal.specs.Statuses.{HasReason, IsStatusOf, NamesFile}
 use Rattle.mesh_run.proofs.ToldFiles.{file_up_to, files_are_as_many, files_up_to}
-use Rattle.mesh_report.specs.declared.status.Status.{Status}
-use Rattle.mesh_report.specs.declared.status.Status.TheVariants.{Done, Words, StepOfNoGrid, ReadFault, WriteFault}
-use Rattle.mesh_report.specs.declared.status.Status.TheVariants.{NotWritten, FileRefused, NoTriangles, NotAScene}
-use Rattle.mesh_report.specs.declared.status.Status.TheVariants.{NotClosed, ExprRefused, Unbounded, LongFile}
-use Rattle.mesh_report.specs.declared.status.Status.TheVariants.{TooManyTriangles, TooManyWritten, StepTooSmall}
-use Rattle.mesh_report.specs.declared.status.Status.TheVariants.{TooFar, DocumentRefused, OutOfMemory, Uncertified}
+use Rattle.mesh_refusal.specs.declared.status.Status.{Status}
+use Rattle.mesh_refusal.specs.declared.status.Status.TheVariants.{Done, Words, StepOfNoGrid, ReadFault, WriteFault}
+use Rattle.mesh_refusal.specs.declared.status.Status.TheVariants.{NotWritten, FileRefused, NoTriangles, NotAScene}
+use Rattle.mesh_refusal.specs.declared.status.Status.TheVariants.{NotClosed, ExprRefused, Unbounded, LongFile}
+use Rattle.mesh_refusal.specs.declared.status.Status.TheVariants.{TooManyTriangles, TooManyWritten, StepTooSmall}
+use Rattle.mesh_refusal.specs.declared.status.Status.TheVariants.{TooFar, DocumentRefused, OutOfMemory, Uncertified}
 
 -- the files before one that can't be read are read
 pub read_before : (told : List ℕ → Option (List ℕ)) (names : List (List ℕ)) (n : ℕ) → AreRead told (take n names) → AreRead told (take (n + 1 - 1) names)

@@ -7,11 +7,11 @@ use Rattle.mesh_words.specs.declared.faults.Refusal.{Refusal}
 use Rattle.mesh_words.specs.Arguments.{words_ask_json}
 use Rattle.mesh_words.specs.Commands.{command_of}
 use Rattle.mesh_run.specs.Calls.{ShelfCall, TargetCall, SinkCall, HoldsAll, KeepsContents, TakesUntilFault}
-use Rattle.mesh_report.specs.Said.{memory_said}
+use Rattle.mesh_refusal.specs.Said.{memory_said}
 use Rattle.mesh_run.specs.Memory.{hides_memory}
 use Rattle.mesh_run.specs.Serves.{IsOutcome, MeshServes}
-use Rattle.mesh_report.specs.declared.status.Status.{Status}
-use Rattle.mesh_report.specs.declared.status.Status.TheVariants.{OutOfMemory}
+use Rattle.mesh_refusal.specs.declared.status.Status.{Status}
+use Rattle.mesh_refusal.specs.declared.status.Status.TheVariants.{OutOfMemory}
 
 -- want of memory for the words themselves
 pub words_without_memory : (json : Bool) (words : List (List ℕ)) (command : Result Command Refusal) (shelf : ShelfCall)

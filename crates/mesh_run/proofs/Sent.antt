@@ -5,12 +5,12 @@ use Rattle.std.specs.declared.option.Option.{Option}
 use Rattle.mesh_run.specs.Calls.{SinkCall}
 use Rattle.mesh_run.specs.Serves.{IsSent}
 use Rattle.mesh_run.specs.Unmet.{EndsOn}
-use Rattle.mesh_report.specs.declared.status.Status.{Status}
-use Rattle.mesh_report.specs.declared.status.Status.TheVariants.{Done, Words, StepOfNoGrid, ReadFault, WriteFault}
-use Rattle.mesh_report.specs.declared.status.Status.TheVariants.{NotWritten, FileRefused, NoTriangles, NotAScene}
-use Rattle.mesh_report.specs.declared.status.Status.TheVariants.{NotClosed, ExprRefused, Unbounded, LongFile}
-use Rattle.mesh_report.specs.declared.status.Status.TheVariants.{TooManyTriangles, TooManyWritten, StepTooSmall}
-use Rattle.mesh_report.specs.declared.status.Status.TheVariants.{TooFar, DocumentRefused, OutOfMemory, Uncertified}
+use Rattle.mesh_refusal.specs.declared.status.Status.{Status}
+use Rattle.mesh_refusal.specs.declared.status.Status.TheVariants.{Done, Words, StepOfNoGrid, ReadFault, WriteFault}
+use Rattle.mesh_refusal.specs.declared.status.Status.TheVariants.{NotWritten, FileRefused, NoTriangles, NotAScene}
+use Rattle.mesh_refusal.specs.declared.status.Status.TheVariants.{NotClosed, ExprRefused, Unbounded, LongFile}
+use Rattle.mesh_refusal.specs.declared.status.Status.TheVariants.{TooManyTriangles, TooManyWritten, StepTooSmall}
+use Rattle.mesh_refusal.specs.declared.status.Status.TheVariants.{TooFar, DocumentRefused, OutOfMemory, Uncertified}
 
 -- it ends well, or out fails
 pub sent_status : (json : Bool) (sent : Option (List ℕ)) (report : List ℕ) (out : SinkCall) (status : Status) (text : List ℕ) →

@@ -16,15 +16,15 @@ use Rattle.mesh_grid.specs.declared.snap.steps.GridStep.{GridStep}
 use Rattle.mesh_grid.specs.Snap.Steps.{IsStep, fine_decade}
 use Rattle.mesh_run.specs.Calls.{ShelfCall}
 use Rattle.mesh_run.specs.Causes.{HaveOpen, HaveSceneFault, IsSnapStop, IsStop}
-use Rattle.mesh_report.specs.Lines.{IsShown}
+use Rattle.mesh_refusal.specs.Lines.{IsShown}
 use Rattle.mesh_run.specs.Outputs.{IsOutputFor, IsPlacedFor}
 use Rattle.mesh_run.proofs.ToldFiles.{files_are_as_many}
-use Rattle.mesh_report.specs.declared.status.Status.{Status}
-use Rattle.mesh_report.specs.declared.status.Status.TheVariants.{Done, Words, StepOfNoGrid, ReadFault, WriteFault}
-use Rattle.mesh_report.specs.declared.status.Status.TheVariants.{NotWritten, FileRefused, NoTriangles, NotAScene}
-use Rattle.mesh_report.specs.declared.status.Status.TheVariants.{NotClosed, ExprRefused, Unbounded, LongFile}
-use Rattle.mesh_report.specs.declared.status.Status.TheVariants.{TooManyTriangles, TooManyWritten, StepTooSmall}
-use Rattle.mesh_report.specs.declared.status.Status.TheVariants.{TooFar, DocumentRefused, OutOfMemory, Uncertified}
+use Rattle.mesh_refusal.specs.declared.status.Status.{Status}
+use Rattle.mesh_refusal.specs.declared.status.Status.TheVariants.{Done, Words, StepOfNoGrid, ReadFault, WriteFault}
+use Rattle.mesh_refusal.specs.declared.status.Status.TheVariants.{NotWritten, FileRefused, NoTriangles, NotAScene}
+use Rattle.mesh_refusal.specs.declared.status.Status.TheVariants.{NotClosed, ExprRefused, Unbounded, LongFile}
+use Rattle.mesh_refusal.specs.declared.status.Status.TheVariants.{TooManyTriangles, TooManyWritten, StepTooSmall}
+use Rattle.mesh_refusal.specs.declared.status.Status.TheVariants.{TooFar, DocumentRefused, OutOfMemory, Uncertified}
 
 -- the file that isn't closed is one of them
 open_is_few : (told : List ℕ → Option (List ℕ)) (names : List (List ℕ)) (wanted : Wanted) (o : Open) (format : Format) →

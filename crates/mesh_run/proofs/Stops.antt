@@ -11,12 +11,12 @@ use Rattle.mesh_run.specs.Asked.{Asks, IsWordsCause}
 use Rattle.mesh_run.specs.Calls.{ShelfCall}
 use Rattle.mesh_run.specs.Causes.{IsAskedCause, IsFilesCause, IsReadingCause, IsStop}
 use Rattle.mesh_run.specs.Memory.{hides_memory}
-use Rattle.mesh_report.specs.declared.status.Status.{Status}
-use Rattle.mesh_report.specs.declared.status.Status.TheVariants.{Done, Words, StepOfNoGrid, ReadFault, WriteFault}
-use Rattle.mesh_report.specs.declared.status.Status.TheVariants.{NotWritten, FileRefused, NoTriangles, NotAScene}
-use Rattle.mesh_report.specs.declared.status.Status.TheVariants.{NotClosed, ExprRefused, Unbounded, LongFile}
-use Rattle.mesh_report.specs.declared.status.Status.TheVariants.{TooManyTriangles, TooManyWritten, StepTooSmall}
-use Rattle.mesh_report.specs.declared.status.Status.TheVariants.{TooFar, DocumentRefused, OutOfMemory, Uncertified}
+use Rattle.mesh_refusal.specs.declared.status.Status.{Status}
+use Rattle.mesh_refusal.specs.declared.status.Status.TheVariants.{Done, Words, StepOfNoGrid, ReadFault, WriteFault}
+use Rattle.mesh_refusal.specs.declared.status.Status.TheVariants.{NotWritten, FileRefused, NoTriangles, NotAScene}
+use Rattle.mesh_refusal.specs.declared.status.Status.TheVariants.{NotClosed, ExprRefused, Unbounded, LongFile}
+use Rattle.mesh_refusal.specs.declared.status.Status.TheVariants.{TooManyTriangles, TooManyWritten, StepTooSmall}
+use Rattle.mesh_refusal.specs.declared.status.Status.TheVariants.{TooFar, DocumentRefused, OutOfMemory, Uncertified}
 
 -- a request whose words or expression are refused
 pub words_stop : (request : Request) (shelf : ShelfCall) (status : Status) → IsWordsCause request status → IsStop request shelf status

@@ -5,15 +5,15 @@ use Rattle.std.specs.Prelude.{Result, Ok, Err, IfErr, IfOk, IsErrAnd, OnErr, Str
 use Rattle.mesh_outside.specs.Target.Several.{NamedBytes, PutsBefore}
 use Rattle.mesh_outside.specs.declared.target.target.WriteEnd.{WriteEnd}
 use Rattle.mesh_run.specs.Calls.{SinkCall, TargetCall, HoldsAll, TakesUntilFault}
-use Rattle.mesh_report.specs.Lines.{IsShown}
+use Rattle.mesh_refusal.specs.Lines.{IsShown}
 use Rattle.mesh_run.specs.Memory.{hides_memory}
 use Rattle.mesh_run.specs.Unmet.{EndsAs, EndsOn, IsUnmet, IsUnwrittenStatus, IsWriteStop}
-use Rattle.mesh_report.specs.declared.status.Status.{Status}
-use Rattle.mesh_report.specs.declared.status.Status.TheVariants.{Done, Words, StepOfNoGrid, ReadFault, WriteFault}
-use Rattle.mesh_report.specs.declared.status.Status.TheVariants.{NotWritten, FileRefused, NoTriangles, NotAScene}
-use Rattle.mesh_report.specs.declared.status.Status.TheVariants.{NotClosed, ExprRefused, Unbounded, LongFile}
-use Rattle.mesh_report.specs.declared.status.Status.TheVariants.{TooManyTriangles, TooManyWritten, StepTooSmall}
-use Rattle.mesh_report.specs.declared.status.Status.TheVariants.{TooFar, DocumentRefused, OutOfMemory, Uncertified}
+use Rattle.mesh_refusal.specs.declared.status.Status.{Status}
+use Rattle.mesh_refusal.specs.declared.status.Status.TheVariants.{Done, Words, StepOfNoGrid, ReadFault, WriteFault}
+use Rattle.mesh_refusal.specs.declared.status.Status.TheVariants.{NotWritten, FileRefused, NoTriangles, NotAScene}
+use Rattle.mesh_refusal.specs.declared.status.Status.TheVariants.{NotClosed, ExprRefused, Unbounded, LongFile}
+use Rattle.mesh_refusal.specs.declared.status.Status.TheVariants.{TooManyTriangles, TooManyWritten, StepTooSmall}
+use Rattle.mesh_refusal.specs.declared.status.Status.TheVariants.{TooFar, DocumentRefused, OutOfMemory, Uncertified}
 
 -- what holds of want of memory holds of an error that it made
 pub memory_given : {T : Type 0} (P : Status → Type 0) (result : Result T Status) →

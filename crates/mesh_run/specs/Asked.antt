@@ -20,8 +20,8 @@ use Rattle.mesh_words.specs.declared.command.WantedStep.{WantedStep}
 use Rattle.mesh_words.specs.declared.command.WantedStep.TheVariants as step
 use Rattle.mesh_grid.specs.declared.snap.steps.GridStep.{GridStep}
 use Rattle.mesh_grid.specs.Snap.Decimals.{IsStepOf, IsLeastStepOf}
-use Rattle.mesh_report.specs.declared.status.Status.{Status}
-use Rattle.mesh_report.specs.declared.status.Status.TheVariants.{StepOfNoGrid, ExprRefused, Unbounded, OutOfMemory}
+use Rattle.mesh_refusal.specs.declared.status.Status.{Status}
+use Rattle.mesh_refusal.specs.declared.status.Status.TheVariants.{StepOfNoGrid, ExprRefused, Unbounded, OutOfMemory}
 
 -- ---- steps
 -- the step that is asked for

@@ -19,18 +19,18 @@ use Rattle.mesh_scene.specs.declared.scene.fault.Open.{Open}
 use Rattle.mesh_scene.specs.declared.scene.fault.SceneFault.{SceneFault}
 use Rattle.mesh_scene.specs.declared.scene.fault.SceneFault.TheVariants as scene
 use Rattle.mesh_run.specs.Asked.{Asks, IsStepOfNoGrid, IsWanted, IsWordsCause}
-use Rattle.mesh_report.specs.Statuses.{HasFormat, HasReason}
+use Rattle.mesh_refusal.specs.Statuses.{HasFormat, HasReason}
 use Rattle.mesh_run.specs.Calls.{ShelfCall, HasShelfFailed}
 use Rattle.mesh_run.specs.Files.{AreFiles, AreRead, IsFileIn}
-use Rattle.mesh_report.specs.Lines.{name_of}
-use Rattle.mesh_report.specs.declared.status.Status.{Status}
-use Rattle.mesh_report.specs.declared.status.Status.TheVariants.{Done, Words, StepOfNoGrid, ReadFault}
-use Rattle.mesh_report.specs.declared.status.Status.TheVariants.{WriteFault, NotWritten, FileRefused}
-use Rattle.mesh_report.specs.declared.status.Status.TheVariants.{NoTriangles, NotClosed, ExprRefused}
-use Rattle.mesh_report.specs.declared.status.Status.TheVariants.{Unbounded, LongFile}
-use Rattle.mesh_report.specs.declared.status.Status.TheVariants.{TooManyTriangles, TooManyWritten}
-use Rattle.mesh_report.specs.declared.status.Status.TheVariants.{StepTooSmall, TooFar, OutOfMemory}
-use Rattle.mesh_report.specs.declared.status.Status.TheVariants.{Uncertified}
+use Rattle.mesh_texts.specs.Texts.{name_of}
+use Rattle.mesh_refusal.specs.declared.status.Status.{Status}
+use Rattle.mesh_refusal.specs.declared.status.Status.TheVariants.{Done, Words, StepOfNoGrid, ReadFault}
+use Rattle.mesh_refusal.specs.declared.status.Status.TheVariants.{WriteFault, NotWritten, FileRefused}
+use Rattle.mesh_refusal.specs.declared.status.Status.TheVariants.{NoTriangles, NotClosed, ExprRefused}
+use Rattle.mesh_refusal.specs.declared.status.Status.TheVariants.{Unbounded, LongFile}
+use Rattle.mesh_refusal.specs.declared.status.Status.TheVariants.{TooManyTriangles, TooManyWritten}
+use Rattle.mesh_refusal.specs.declared.status.Status.TheVariants.{StepTooSmall, TooFar, OutOfMemory}
+use Rattle.mesh_refusal.specs.declared.status.Status.TheVariants.{Uncertified}
 
 -- ---- a file and those before it
 -- the shelf failed at file i, by a fault of this kind, and no file before it is refused

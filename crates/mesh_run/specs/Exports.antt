@@ -13,12 +13,12 @@ use Rattle.mesh_scene.specs.SceneFile.Scenes.{IsSceneOf}
 use Rattle.mesh_run.specs.Asked.{format_asked}
 use Rattle.mesh_run.specs.Calls.{ShelfCall, HasShelfFailed}
 use Rattle.mesh_run.specs.Files.{AreBytes, IsFileIn}
-use Rattle.mesh_report.specs.ExportLines.{names_read}
-use Rattle.mesh_report.specs.Lines.{name_of}
-use Rattle.mesh_report.specs.declared.status.Status.{Status}
-use Rattle.mesh_report.specs.declared.status.Status.TheVariants.{ReadFault, LongFile, NotAScene}
-use Rattle.mesh_report.specs.declared.status.Status.TheVariants.{TooManyWritten, TooFar, OutOfMemory}
-use Rattle.mesh_report.specs.declared.status.Status.TheVariants.{DocumentRefused}
+use Rattle.mesh_refusal.specs.ExportLines.{names_read}
+use Rattle.mesh_texts.specs.Texts.{name_of}
+use Rattle.mesh_refusal.specs.declared.status.Status.{Status}
+use Rattle.mesh_refusal.specs.declared.status.Status.TheVariants.{ReadFault, LongFile, NotAScene}
+use Rattle.mesh_refusal.specs.declared.status.Status.TheVariants.{TooManyWritten, TooFar, OutOfMemory}
+use Rattle.mesh_refusal.specs.declared.status.Status.TheVariants.{DocumentRefused}
 
 -- ---- the grid
 -- the file of this name is a scene with this grid

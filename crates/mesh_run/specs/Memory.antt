@@ -5,8 +5,8 @@ use Rattle.mesh_solid.specs.declared.mesh.fault.DocumentFault.TheVariants as doc
 use Rattle.mesh_solid.specs.declared.mesh.fault.SolidFault.TheVariants as solid
 use Rattle.mesh_solid.specs.declared.tables.fault.TableFault.TheVariants as table
 use Rattle.mesh_triangles.specs.declared.fault.TrianglesFault.TheVariants as mesh
-use Rattle.mesh_report.specs.declared.status.Status.{Status}
-use Rattle.mesh_report.specs.declared.status.Status.TheVariants.{DocumentRefused, ExprRefused, Uncertified}
+use Rattle.mesh_refusal.specs.declared.status.Status.{Status}
+use Rattle.mesh_refusal.specs.declared.status.Status.TheVariants.{DocumentRefused, ExprRefused, Uncertified}
 
 -- whether out-of-memory is hidden in another status
 abbrev pub hides_memory : Status → Bool

@@ -24,12 +24,13 @@ use Rattle.mesh_run.specs.Memory.{hides_memory}
 use Rattle.mesh_report.specs.Messages.{usage_text, version_text}
 use Rattle.mesh_run.specs.Outputs.{IsOutputFor, IsPlacedFor}
 use Rattle.mesh_run.specs.Pages.{IsPageOf}
-use Rattle.mesh_report.specs.Said.{export_said, exported_report, memory_said, output_said, placed_report, reading_said}
-use Rattle.mesh_report.specs.Said.{snap_said, solid_report, solid_said, words_said}
+use Rattle.mesh_refusal.specs.Said.{export_said, memory_said, output_said, reading_said}
+use Rattle.mesh_refusal.specs.Said.{snap_said, solid_said, words_said}
+use Rattle.mesh_report.specs.Said.{exported_report, placed_report, solid_report}
 use Rattle.mesh_run.specs.Unmet.{EndsAs, EndsOn, IsUnmet}
 use Rattle.mesh_run.specs.Writes.{AreMeshFiles, AreSceneFiles, AreSolidFiles, sent_to}
-use Rattle.mesh_report.specs.declared.status.Status.{Status}
-use Rattle.mesh_report.specs.declared.status.Status.TheVariants.{Done, Words, WriteFault, OutOfMemory}
+use Rattle.mesh_refusal.specs.declared.status.Status.{Status}
+use Rattle.mesh_refusal.specs.declared.status.Status.TheVariants.{Done, Words, WriteFault, OutOfMemory}
 
 -- What err takes is a line or lines, or one object if the words ask for JSON: `json` says whether they do
 

@@ -5,8 +5,8 @@ use Rattle.mesh_outside.specs.declared.target.target.WriteEnd.{WriteEnd}
 use Rattle.mesh_outside.specs.declared.target.target.WriteEnd.TheVariants as write
 use Rattle.mesh_run.specs.Calls.{TargetCall, SinkCall, HoldsAll}
 use Rattle.mesh_run.specs.Memory.{hides_memory}
-use Rattle.mesh_report.specs.declared.status.Status.{Status}
-use Rattle.mesh_report.specs.declared.status.Status.TheVariants.{Done, WriteFault, NotWritten, OutOfMemory}
+use Rattle.mesh_refusal.specs.declared.status.Status.{Status}
+use Rattle.mesh_refusal.specs.declared.status.Status.TheVariants.{Done, WriteFault, NotWritten, OutOfMemory}
 
 -- ---- writing
 -- the status of a file of this name that isn't written for this reason: want of memory is its own status, and may come

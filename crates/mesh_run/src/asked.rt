@@ -10,7 +10,7 @@ use ember_expr::{Expr, ExprFault, bounded, parse};
 use ember_words::Text;
 use mesh_boolean::{FloatFormat, MeshFormat, WantedFile};
 use mesh_grid::{Wanted, step_of};
-use mesh_report::Status;
+use mesh_refusal::Status;
 use mesh_words::{OutputFormat, Request, WantedStep};
 use mesh_write::TextFormat;
 use std::alloc::Global;

@@ -18,7 +18,7 @@ use ember_words::{Text, Texts};
 use mesh_boolean::{MeshFile, surfaces_in};
 use mesh_info::put_info;
 use mesh_read::Surface;
-use mesh_report::{Status, reading_said, status_of};
+use mesh_refusal::{Status, reading_said, status_of};
 use std::alloc::Global;
 use steal_pool::OpenGate;
 

@@ -13,5 +13,5 @@ mod top;
 mod views;
 mod writing;
 
-pub use mesh_report::Status;
+pub use mesh_refusal::Status;
 pub use top::{run_mesh, run_mesh_one};

@@ -10,7 +10,7 @@ use ember_model::OutOfMemory;
 use ember_words::Text;
 use mesh_boolean::{MeshFile, surfaces_in};
 use mesh_read::Surface;
-use mesh_report::{Status, status_of};
+use mesh_refusal::{Status, status_of};
 use std::alloc::Global;
 use steal_pool::OpenGate;
 

@@ -18,7 +18,8 @@ use ember_io::{Shelf, Sink};
 use ember_model::OutOfMemory;
 use ember_query::{Answer, Query, answer_alone, answer_by_workers};
 use mesh_outside::{Stage, Stages, Target};
-use mesh_report::{Status, USAGE, VERSION, words_said};
+use mesh_refusal::{Status, words_said};
+use mesh_report::{USAGE, VERSION};
 use mesh_triangles::{
     PlaneAnswer, PlaneQuery, TrianglesFault, answer_planes_alone, answer_planes_by_workers,
 };

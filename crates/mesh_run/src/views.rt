@@ -17,7 +17,7 @@ use ember_words::Text;
 use mesh_info::view_of;
 use mesh_outside::{NamedFile, Target};
 use mesh_read::Surface;
-use mesh_report::{Status, reading_said};
+use mesh_refusal::{Status, reading_said};
 use mesh_words::ViewRequest;
 use std::alloc::Global;
 

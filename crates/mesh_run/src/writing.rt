@@ -2,7 +2,7 @@
 ghost use Rattle.std.specs.Prelude.{◌≡◌, ◌≤◌, ℕ, List, false, None, IfOk, IfErr, OnOk, OnErr, option_map};
 ghost use Rattle.mesh_outside.specs.Target.Several.{PutsEach, names_and_bytes};
 ghost use Rattle.mesh_run.specs.Calls.{HoldsAll, TakesUntilFault, sink_call, target_call};
-ghost use Rattle.mesh_report.specs.Said.{memory_said};
+ghost use Rattle.mesh_refusal.specs.Said.{memory_said};
 ghost use Rattle.mesh_run.specs.Memory.{hides_memory};
 ghost use Rattle.mesh_run.specs.Serves.{IsMessageOutcome, IsSent};
 ghost use Rattle.mesh_run.specs.Unmet.{IsUnwrittenStatus, IsWriteStop};
@@ -11,7 +11,7 @@ use ember_io::{Sink, write_all};
 use ember_model::OutOfMemory;
 use ember_words::Text;
 use mesh_outside::{NamedFile, Target, WriteEnd, write_each};
-use mesh_report::{Status, memory_said, output_said};
+use mesh_refusal::{Status, memory_said, output_said};
 use std::alloc::Global;
 
 /// What is left to do once the files of a mesh are written: the mesh goes to standard output, if

@@ -2,8 +2,8 @@ use Rattle.std.proofs.Common.{◌≡◌, codes, List, ℕ, ℤ, ◌++◌, ap, �
 use mir.Syntax.{w128}
 use mir.Val.{to_z, of_z}
 use Rattle.std.specs.Fmt.{signed_decimal}
-use Rattle.mesh_report.specs.Lines.{line, step_text}
-use Rattle.mesh_report.proofs.Appended.{after7, on_ok_same}
+use Rattle.mesh_texts.specs.Texts.{line, step_text}
+use Rattle.mesh_texts.proofs.Appended.{after7, on_ok_same}
 use Rattle.mesh_report.proofs.report.put_grid.Goals as goal
 
 pub returns : goal.returns

@@ -1,6 +1,6 @@
 use Rattle.std.proofs.Common.{codes, List, ℕ, ◌++◌, ap, ◌∙◌}
 use Rattle.mesh_report.specs.Reports.{name_of_format, rounding_text}
-use Rattle.mesh_report.proofs.Appended.{after5, on_ok_if}
+use Rattle.mesh_texts.proofs.Appended.{after5, on_ok_if}
 use Rattle.mesh_report.proofs.report.put_warning_text.Goals as goal
 
 pub returns : goal.returns

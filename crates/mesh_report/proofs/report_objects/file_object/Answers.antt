@@ -1,9 +1,9 @@
 use Rattle.std.proofs.Common.{◌≡◌, ℕ, [], ◌∷◌, Vec, Global, codes, ap, ◌∙◌}
 use Rattle.std.proofs.lemmas.Result.{IfOk-weaker}
 use Rattle.mesh_grid.specs.Moves.Shown.{rounded_of}
-use Rattle.mesh_report.specs.Objects.{object}
+use Rattle.mesh_texts.specs.Objects.{object}
 use Rattle.mesh_report.specs.ReportObjects.{file_object}
-use Rattle.mesh_report.proofs.RefusalParts.{entry}
+use Rattle.mesh_texts.proofs.Entries.{entry}
 use Rattle.mesh_report.proofs.report_objects.file_object.Goals as goal
 
 pub returns : goal.returns

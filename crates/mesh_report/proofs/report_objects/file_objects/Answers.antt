@@ -2,7 +2,7 @@ use Rattle.std.proofs.Common.{List, [], ◌∷◌, length, drop, ◌<◌, ◌+�
 use Rattle.std.proofs.lemmas.Bool.Decides.{nat_tests}
 use Rattle.std.proofs.lemmas.List.{map-append}
 use Rattle.mesh_grid.specs.Moves.Shown.{Rounded, rounded_of}
-use Rattle.mesh_report.specs.Objects.{texts_of}
+use Rattle.mesh_texts.specs.Objects.{texts_of}
 use Rattle.mesh_report.specs.ReportObjects.{file_object, file_objects}
 use Rattle.mesh_report.specs.Reports.{first_move}
 use Rattle.mesh_report.proofs.FileObjects.{one_object_more}

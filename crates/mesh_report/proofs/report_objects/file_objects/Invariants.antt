@@ -1,5 +1,5 @@
 use Rattle.std.proofs.Common.{◌≡◌, ◌++◌, drop}
-use Rattle.mesh_report.specs.Objects.{texts_of}
+use Rattle.mesh_texts.specs.Objects.{texts_of}
 use Rattle.mesh_report.specs.ReportObjects.{file_objects}
 use Rattle.mesh_report.proofs.report_objects.file_objects.Given as goal
 

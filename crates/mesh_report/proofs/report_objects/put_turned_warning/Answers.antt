@@ -3,7 +3,7 @@ use Rattle.std.specs.Prelude.{int_lt}
 use Rattle.std.proofs.lemmas.List.{map-append}
 use Rattle.mesh_info.specs.Info.Lines.{quoted}
 use Rattle.mesh_report.specs.Volumes.{turned_text}
-use Rattle.mesh_report.specs.Objects.{texts_of}
+use Rattle.mesh_texts.specs.Objects.{texts_of}
 use Rattle.mesh_report.proofs.report_objects.put_turned_warning.Goals as goal
 
 pub returns : goal.returns

@@ -1,8 +1,8 @@
 use Rattle.std.proofs.Common.{◌≡◌, ℕ, ℤ, List, [], ◌∷◌, Vec, Global, codes, ap, ◌∙◌}
 use Rattle.std.proofs.lemmas.Result.{IfOk-weaker}
-use Rattle.mesh_report.specs.Objects.{array, object_line, texts_of}
+use Rattle.mesh_texts.specs.Objects.{array, object_line, texts_of}
 use Rattle.mesh_report.specs.ReportObjects.{file_objects, scene_object, turned_warnings}
-use Rattle.mesh_report.proofs.RefusalParts.{entry}
+use Rattle.mesh_texts.proofs.Entries.{entry}
 use Rattle.mesh_report.proofs.report_objects.scene_object.Goals as goal
 
 pub returns : goal.returns

@@ -1,6 +1,6 @@
 use Rattle.std.proofs.Common.{◌≡◌, List, length, ◌+◌, ◌<◌, ℕ, ℤ, ◌++◌, ap, ◌∙◌, to_z, of_z, to_z-of_z, arith}
 use mir.Syntax.{w64}
-use Rattle.mesh_report.specs.Objects.{texts_of}
+use Rattle.mesh_texts.specs.Objects.{texts_of}
 use Rattle.mesh_report.specs.ReportObjects.{turned_warning}
 use Rattle.mesh_report.proofs.FileObjects.{one_warning_more}
 use Rattle.mesh_report.proofs.report_objects.turned_warnings.Goals as goal

@@ -1,5 +1,5 @@
 use Rattle.std.proofs.Common.{◌≡◌, ◌+◌, ◌++◌, drop}
-use Rattle.mesh_report.specs.Objects.{texts_of}
+use Rattle.mesh_texts.specs.Objects.{texts_of}
 use Rattle.mesh_report.specs.ReportObjects.{turned_warnings}
 use Rattle.mesh_report.proofs.report_objects.turned_warnings.Given as goal
 

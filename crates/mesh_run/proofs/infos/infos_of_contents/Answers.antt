@@ -6,7 +6,7 @@ use Rattle.mesh_boolean.specs.Faults.{IsReadFault}
 use Rattle.mesh_boolean.specs.Files.{AreReadings, IsSmall}
 use Rattle.mesh_read.specs.declared.surface.surface.Surface.{Surface}
 use Rattle.mesh_run.specs.Infos.{IsFileLine}
-use Rattle.mesh_report.specs.Statuses.{IsStatusOf}
+use Rattle.mesh_refusal.specs.Statuses.{IsStatusOf}
 use Rattle.mesh_run.proofs.FileStatuses.{refusal_caused, unread_file_is_there}
 use Rattle.mesh_run.proofs.ToldFiles.{all_names, files_are_of_contents, files_are_small, files_are_told}
 use Rattle.mesh_run.proofs.infos.infos_of_contents.Goals as goal

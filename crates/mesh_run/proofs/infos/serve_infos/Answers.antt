@@ -2,7 +2,7 @@ use Rattle.std.proofs.Common.{ℕ, List, refl, subst}
 use Rattle.mesh_run.specs.Calls.{TakesUntilFault, shelf_call, sink_call}
 use Rattle.mesh_run.specs.Causes.{IsReadingCause}
 use Rattle.mesh_run.specs.Infos.{AreInfoLines}
-use Rattle.mesh_report.specs.Said.{memory_said}
+use Rattle.mesh_refusal.specs.Said.{memory_said}
 use Rattle.mesh_run.specs.Serves.{IsMessageOutcome}
 use Rattle.mesh_run.proofs.InfoOutcomes.{lines_outcome, reading_tells_memory, unread_outcome}
 use Rattle.mesh_run.proofs.infos.serve_infos.Goals as goal

@@ -3,7 +3,7 @@ use Rattle.std.specs.List.{All}
 use Rattle.mesh_boolean.specs.declared.files.MeshFile.{MeshFile}
 use Rattle.mesh_boolean.specs.Faults.{IsReadFault}
 use Rattle.mesh_boolean.specs.Files.{AreReadings, IsSmall}
-use Rattle.mesh_report.specs.Statuses.{IsStatusOf, NamesFile}
+use Rattle.mesh_refusal.specs.Statuses.{IsStatusOf, NamesFile}
 use Rattle.mesh_run.proofs.FileStatuses.{cause_among_more, refusal_caused, unread_file_is_there}
 use Rattle.mesh_run.proofs.ToldFiles.{files_are_of_contents, files_are_read, files_are_small, files_are_told}
 use Rattle.mesh_run.proofs.reading.surfaces_of.Goals as goal

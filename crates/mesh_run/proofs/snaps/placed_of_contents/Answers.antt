@@ -3,7 +3,7 @@ use Rattle.std.specs.List.{All}
 use Rattle.mesh_boolean.specs.declared.files.MeshFile.{MeshFile}
 use Rattle.mesh_boolean.specs.Faults.{IsPlacingFault}
 use Rattle.mesh_boolean.specs.Files.{IsPlaced, IsSmall}
-use Rattle.mesh_report.specs.Statuses.{IsStatusOf, NamesFile}
+use Rattle.mesh_refusal.specs.Statuses.{IsStatusOf, NamesFile}
 use Rattle.mesh_run.proofs.FileStatuses.{placing_caused, unplaced_file_is_there}
 use Rattle.mesh_run.proofs.ToldFiles.{all_names, files_are_of_contents, files_are_small, files_are_told}
 use Rattle.mesh_run.proofs.snaps.placed_of_contents.Goals as goal

@@ -1,7 +1,7 @@
 use Rattle.std.proofs.Common.{List, ℕ, refl, subst, arith}
 use Rattle.mesh_run.specs.Calls.{TakesUntilFault, shelf_call, sink_call, target_call}
 use Rattle.mesh_run.specs.Causes.{IsSnapStop}
-use Rattle.mesh_report.specs.Said.{memory_said, snap_said}
+use Rattle.mesh_refusal.specs.Said.{memory_said, snap_said}
 use Rattle.mesh_run.specs.Serves.{AreSnapFilesFor, WritesScene}
 use Rattle.mesh_run.proofs.Shown.{snap_stop_is_shown}
 use Rattle.mesh_run.proofs.UnmetRequests.{said_status_ends, said_status_tells_memory, unmet_is_shown}

@@ -5,7 +5,7 @@ use Rattle.mesh_boolean.specs.Faults.{IsBooleanFault}
 use Rattle.mesh_boolean.specs.Files.{IsSmall}
 use Rattle.mesh_boolean.specs.Outputs.{IsOutput}
 use Rattle.ember_expr.specs.Formula.{formula_of}
-use Rattle.mesh_report.specs.Statuses.{IsStatusOf, NamesFile}
+use Rattle.mesh_refusal.specs.Statuses.{IsStatusOf, NamesFile}
 use Rattle.mesh_run.proofs.FileStatuses.{faulty_file_is_there, status_caused}
 use Rattle.mesh_run.proofs.ToldFiles.{all_names, files_are_of_contents, files_are_small, files_are_told}
 use Rattle.mesh_run.proofs.solid.output_of_contents.Goals as goal

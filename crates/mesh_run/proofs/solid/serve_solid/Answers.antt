@@ -2,7 +2,7 @@ use Rattle.std.proofs.Common.{List, ℕ, Global, option_map, refl, subst, arith}
 use Rattle.std.specs.Prelude.{Vec}
 use Rattle.mesh_run.specs.Calls.{shelf_call, sink_call, target_call}
 use Rattle.mesh_run.specs.Causes.{IsStop}
-use Rattle.mesh_report.specs.Said.{memory_said, solid_said}
+use Rattle.mesh_refusal.specs.Said.{memory_said, solid_said}
 use Rattle.mesh_run.specs.Serves.{AreFilesFor, IsSent, IsSolidUnmet, WritesSolid}
 use Rattle.mesh_run.proofs.Sent.{sent_status, written_ends}
 use Rattle.mesh_run.proofs.Shown.{stop_is_shown}

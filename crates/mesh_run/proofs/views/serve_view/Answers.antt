@@ -1,7 +1,7 @@
 use Rattle.std.proofs.Common.{[], refl}
 use Rattle.mesh_run.specs.Calls.{shelf_call, sink_call, target_call}
 use Rattle.mesh_run.specs.Causes.{IsReadingCause}
-use Rattle.mesh_report.specs.Said.{memory_said, reading_said}
+use Rattle.mesh_refusal.specs.Said.{memory_said, reading_said}
 use Rattle.mesh_run.specs.Serves.{IsPageFor, WritesPage}
 use Rattle.mesh_run.proofs.UnmetRequests.{said_status_ends, said_status_tells_memory}
 use Rattle.mesh_run.proofs.views.serve_view.Goals as goal

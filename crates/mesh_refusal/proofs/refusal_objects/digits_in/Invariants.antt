@@ -1,0 +1,11 @@
+use Rattle.std.proofs.Common.{◌≡◌, ◌+◌, drop}
+use Rattle.std.specs.Char.{is_ascii_digit}
+use Rattle.std.specs.List.{prefix_len}
+use Rattle.mesh_refusal.proofs.refusal_objects.digits_in.Given as goal
+
+abbrev pub invariant-loop-byte : goal.invariant-loop-byte
+invariant-loop-byte l =
+    record {
+      counted : l.count ≡ l.byte-index;
+      value : l.count + prefix_len is_ascii_digit (drop l.byte-index l.text) ≡ prefix_len is_ascii_digit l.text;
+    }

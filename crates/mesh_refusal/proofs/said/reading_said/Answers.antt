@@ -1,0 +1,13 @@
+use Rattle.std.proofs.Common.{◌≡◌, ℕ, List, ◌++◌, Vec, Global, ap, ◌∙◌}
+use Rattle.std.proofs.lemmas.Result.{IfOk-weaker}
+use Rattle.mesh_refusal.specs.Lines.{reading_why}
+use Rattle.mesh_refusal.specs.Said.{reading_said, status_said}
+use Rattle.mesh_refusal.proofs.said.reading_said.Goals as goal
+
+pub returns : goal.returns
+returns c =
+    let a = c.args in
+    let why = reading_why a.names.now a.status.now in
+    let said = c.deref.ensures.value ∙ c.in_ok-put_reading_why.ensures ∙ ap (λ (xs : List ℕ). xs ++ why) c.new-why.ensures.items in
+    IfOk-weaker c.status_said.result _ (λ (text : Vec ℕ Global). text.items ≡ reading_said a.json a.names.now a.status.now)
+    (λ text is. is ∙ ap (status_said a.json a.names.now a.status.now) said) c.status_said.ensures

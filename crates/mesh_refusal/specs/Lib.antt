@@ -1,0 +1,7 @@
+pub mod Numbers
+pub mod Lines
+pub mod WordLines
+pub mod ExportLines
+pub mod Statuses
+pub mod Refusals
+pub mod Said

@@ -1,4 +1,0 @@
-use Rattle.mesh_report.proofs.refusals.status_of.Goals as goal
-
-pub returns-in-File : goal.returns-in-File
-returns-in-File c = rw c.in-File.is c.refused.ensures

@@ -1,0 +1,4 @@
+pub mod ShownSteps
+pub mod Appended
+pub mod OneLines
+pub mod Entries
