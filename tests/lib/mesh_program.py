@@ -74,7 +74,9 @@ FORMS[0] = re.compile(
         rf"(?:ember-mesh: (?:{_NAME}: volume {_VOLUME}|warning: {_NAME}: its volume is {_VOLUME}, so it may be inside out; use w\d+=-1)\n)+"
         r"(?:ember-mesh: the result is empty\n)?"
         r"(?:ember-mesh: warning: rounding for (?:STL|OBJ|PLY|OFF|GLB) moves corners by up to \d[\d.e-]*, more than a hundredth of the step; "
-        r"write OBJ, PLY or OFF, or move the parts to the origin\n)?"
+        r"(?:write OBJ, PLY or OFF, or move the parts to the origin|raise --digits, or leave it out)\n)?"
+        r"(?:ember-mesh: warning: some edges of the (?:OBJ|PLY|OFF) don't have two triangles, so it isn't a 2-manifold; "
+        r"let touching parts overlap, or raise --digits\n)?"
         r"ember-mesh: \d+ faces -> \d+ triangles in \d+ planes; greatest rounding move \d[\d.e-]*; "
         r"\d+ vanished, \d+ without area, \d+ turned over; \d+ edges of more than two triangles\n"
     ).encode()

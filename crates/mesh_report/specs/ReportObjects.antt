@@ -16,7 +16,7 @@ use Rattle.mesh_scene.specs.declared.scene.scene.PlacedScene.{PlacedScene}
 use Rattle.mesh_words.specs.declared.command.OutputFormat.{OutputFormat}
 use Rattle.mesh_texts.specs.Texts.{size_text, step_text}
 use Rattle.mesh_texts.specs.Objects.{array, object, object_line, truth_value}
-use Rattle.mesh_report.specs.Reports.{first_move, rounding_text, warning_text}
+use Rattle.mesh_report.specs.Reports.{coarse_text, first_move, is_text, is_unpaired, rounding_text, unpaired_text}
 use Rattle.mesh_report.specs.Volumes.{turned_text, volume_text}
 
 -- ---- the grid
@@ -52,16 +52,21 @@ file_objects (name ∷ names) step (c ∷ counts) moves volumes =
     ∷ file_objects names step counts (drop 1 moves) (drop 1 volumes)
 
 -- ---- the result
+-- whether a text is a 2-manifold; null for another format
+abbrev pub manifold_value : OutputFormat → Written → List ℕ
+manifold_value format mesh = if is_text format then truth_value mesh.is_manifold else codes "null"
+
 -- the mesh of so many faces, and what rounding did to it
-abbrev pub result_object : ℕ → Written → List ℕ
-result_object faces mesh =
+abbrev pub result_object : OutputFormat → ℕ → Written → List ℕ
+result_object format faces mesh =
     object (
     (codes "empty", truth_value (mesh.triangles == mesh.vanished)) ∷ (codes "faces", decimal faces) ∷
     (codes "triangles", decimal mesh.written) ∷ (codes "planes", decimal mesh.planes) ∷
     (codes "greatest rounding move", rounding_text mesh) ∷ (codes "vanished", decimal mesh.vanished) ∷
     (codes "without area", decimal mesh.effect.facings.without_area) ∷
     (codes "turned over", decimal mesh.effect.facings.turned_over) ∷
-    (codes "edges of more than two triangles", decimal mesh.shared) ∷ [])
+    (codes "edges of more than two triangles", decimal mesh.shared) ∷
+    (codes "2-manifold", manifold_value format mesh) ∷ [])
 
 -- ---- warnings, as the lines have them behind the word `warning`
 -- that the file with this number may be inside out, if its volume is below 0
@@ -77,18 +82,26 @@ turned_warnings number (name ∷ names) step (six_volumes ∷ volumes) =
     turned_warning number name step six_volumes ++ turned_warnings (number + 1) names step volumes
 
 -- that rounding moved corners far, if it did
-abbrev pub rounding_warning : OutputFormat → Written → List (List ℕ)
-rounding_warning format mesh = if mesh.effect.is_coarse then quoted (warning_text format mesh) ∷ [] else []
+abbrev pub coarse_warning : OutputFormat → Written → List (List ℕ)
+coarse_warning format mesh = if mesh.effect.is_coarse then quoted (coarse_text format mesh) ∷ [] else []
+
+-- that a text isn't a 2-manifold, if some edge of it doesn't have two triangles
+abbrev pub unpaired_warning : OutputFormat → Written → List (List ℕ)
+unpaired_warning format mesh = if is_unpaired format mesh then quoted (unpaired_text format) ∷ [] else []
+
+-- both
+abbrev pub mesh_warnings : OutputFormat → Written → List (List ℕ)
+mesh_warnings format mesh = coarse_warning format mesh ++ unpaired_warning format mesh
 
 -- ---- reports
 abbrev pub solid_object : List (List ℕ) → OutputFormat → SolidFile → List ℕ
 solid_object names format out =
     let step = out.grid.step in
     let files = file_objects names step out.counts.items out.moves.items out.six_volumes.items in
-    let warnings = turned_warnings 1 names step out.six_volumes.items ++ rounding_warning format out.written in
+    let warnings = turned_warnings 1 names step out.six_volumes.items ++ mesh_warnings format out.written in
     object_line (
     (codes "step", step_text step) ∷ (codes "offset", offset_value out.grid) ∷ (codes "files", array files) ∷
-    (codes "result", result_object out.report.faces out.written) ∷ (codes "warnings", array warnings) ∷ [])
+    (codes "result", result_object format out.report.faces out.written) ∷ (codes "warnings", array warnings) ∷ [])
 
 abbrev pub scene_object : List (List ℕ) → PlacedScene → List ℕ
 scene_object names placed =
@@ -102,5 +115,5 @@ scene_object names placed =
 abbrev pub mesh_object : OutputFormat → Written → List ℕ
 mesh_object format mesh =
     object_line (
-    (codes "result", result_object mesh.faces mesh) ∷
-    (codes "warnings", array (rounding_warning format mesh)) ∷ [])
+    (codes "result", result_object format mesh.faces mesh) ∷
+    (codes "warnings", array (mesh_warnings format mesh)) ∷ [])

@@ -1,5 +1,6 @@
 -- What is reported
-use Rattle.std.specs.Prelude.{ℕ, ℤ, ◌==◌, List, [], ◌∷◌, ◌++◌, codes, decimal, drop, if◌then◌else◌}
+use Rattle.std.specs.Prelude.{ℕ, ℤ, Bool, true, false, ◌&&◌, not, ◌==◌, List, [], ◌∷◌, ◌++◌, codes, decimal, drop}
+use Rattle.std.specs.Prelude.{if◌then◌else◌}
 use Rattle.std.specs.Fmt.{signed_decimal}
 use Rattle.mesh_boolean.specs.declared.output.SolidFile.{SolidFile}
 use Rattle.mesh_boolean.specs.declared.writing.Written.{Written}
@@ -64,21 +65,50 @@ name_of_format Ply = codes "PLY"
 name_of_format Off = codes "OFF"
 name_of_format Glb = codes "GLB"
 
+-- a text has vertices that its triangles share, and as many digits as are asked for
+abbrev pub is_text : OutputFormat → Bool
+is_text Stl = false
+is_text Obj = true
+is_text Ply = true
+is_text Off = true
+is_text Glb = false
+
 -- how far corners moved at most when they were rounded
 abbrev pub rounding_text : Written → List ℕ
 rounding_text mesh = move_text (rounded_of mesh.effect.greatest)
 
--- that this is much for the grid
-abbrev pub warning_text : OutputFormat → Written → List ℕ
-warning_text format mesh =
+-- what helps if this is much for the grid
+abbrev pub remedy : OutputFormat → List ℕ
+remedy format =
+    if is_text format then codes "raise --digits, or leave it out"
+    else codes "write OBJ, PLY or OFF, or move the parts to the origin"
+
+-- that it is
+abbrev pub coarse_text : OutputFormat → Written → List ℕ
+coarse_text format mesh =
     codes "rounding for " ++ (name_of_format format ++
     (codes " moves corners by up to " ++ (rounding_text mesh ++
-    codes ", more than a hundredth of the step; write OBJ, PLY or OFF, or move the parts to the origin")))
+    (codes ", more than a hundredth of the step; " ++ remedy format))))
 
--- whether it is
-abbrev pub warning_line : OutputFormat → Written → List ℕ
-warning_line format mesh =
-    if mesh.effect.is_coarse then line (codes "warning: " ++ warning_text format mesh) else []
+-- if it is
+abbrev pub coarse_line : OutputFormat → Written → List ℕ
+coarse_line format mesh =
+    if mesh.effect.is_coarse then line (codes "warning: " ++ coarse_text format mesh) else []
+
+-- a text has an edge without two triangles
+abbrev pub is_unpaired : OutputFormat → Written → Bool
+is_unpaired format mesh = is_text format && not mesh.is_manifold
+
+-- that it has
+abbrev pub unpaired_text : OutputFormat → List ℕ
+unpaired_text format =
+    codes "some edges of the " ++ (name_of_format format ++
+    codes " don't have two triangles, so it isn't a 2-manifold; let touching parts overlap, or raise --digits")
+
+-- if it has
+abbrev pub unpaired_line : OutputFormat → Written → List ℕ
+unpaired_line format mesh =
+    if is_unpaired format mesh then line (codes "warning: " ++ unpaired_text format) else []
 
 -- the mesh of so many faces
 abbrev pub mesh_text : ℕ → Written → List ℕ
@@ -99,7 +129,8 @@ abbrev pub mesh_line : ℕ → Written → List ℕ
 mesh_line faces mesh = line (mesh_text faces mesh ++ (codes "; " ++ losses_text mesh))
 
 abbrev pub mesh_lines : OutputFormat → ℕ → Written → List ℕ
-mesh_lines format faces mesh = empty_line mesh ++ (warning_line format mesh ++ mesh_line faces mesh)
+mesh_lines format faces mesh =
+    empty_line mesh ++ (coarse_line format mesh ++ (unpaired_line format mesh ++ mesh_line faces mesh))
 
 -- all lines of a Boolean
 abbrev pub report_lines : List (List ℕ) → OutputFormat → SolidFile → List ℕ

@@ -3,7 +3,7 @@ ghost use Rattle.std.specs.Prelude.{◌≡◌, ◌++◌, ◌<◌, drop, IfOk, On
 ghost use Rattle.mesh_texts.specs.Texts.{line};
 ghost use Rattle.mesh_grid.specs.Moves.Shown.{rounded_of};
 ghost use Rattle.mesh_grid.specs.Snap.Steps.{IsStep};
-ghost use Rattle.mesh_report.specs.Reports.{counts_line, counts_lines, empty_line, export_report, first_move, grid_line, losses_text, mesh_line, mesh_lines, mesh_text, name_of_format, report_of, scene_lines, snap_report, warning_line, warning_text};
+ghost use Rattle.mesh_report.specs.Reports.{coarse_line, coarse_text, counts_line, counts_lines, empty_line, export_report, first_move, grid_line, is_text, is_unpaired, losses_text, mesh_line, mesh_lines, mesh_text, name_of_format, remedy, report_of, scene_lines, snap_report, unpaired_line, unpaired_text};
 
 use crate::volumes::put_volumes;
 use ember_model::OutOfMemory;
@@ -16,9 +16,9 @@ use mesh_texts::{line, put_count, put_move, put_signed, put_step};
 use mesh_words::{ExportRequest, OutputFormat, Request, SnapRequest};
 use std::alloc::Global;
 
-// What a warning ends with.
-const ADVICE: &[u8] =
-    b", more than a hundredth of the step; write OBJ, PLY or OFF, or move the parts to the origin";
+// How a warning of edges without two triangles ends.
+const UNPAIRED: &[u8] =
+    b" don't have two triangles, so it isn't a 2-manifold; let touching parts overlap, or raise --digits";
 
 /// Appends a line with this text.
 pub fn put_line(alloc: Global, said: &[u8], text: &mut Vec<u8>) -> Result<(), OutOfMemory>
@@ -123,35 +123,90 @@ fn name_of_format(format: OutputFormat) -> &'static [u8]
     }
 }
 
+/// Whether the format is a text. A text has vertices that its triangles share.
+pub fn is_text(format: OutputFormat) -> bool
+    ensures { result ≡ is_text format }
+{
+    match format {
+        OutputFormat::Stl | OutputFormat::Glb => false,
+        OutputFormat::Obj | OutputFormat::Ply | OutputFormat::Off => true,
+    }
+}
+
+// What helps against a large rounding.
+fn remedy(format: OutputFormat) -> &'static [u8]
+    ensures { result.now ≡ remedy format }
+{
+    if is_text(format) {
+        b"raise --digits, or leave it out"
+    } else {
+        b"write OBJ, PLY or OFF, or move the parts to the origin"
+    }
+}
+
 /// Appends that rounding moves corners far, and what helps.
-pub fn put_warning_text(
+pub fn put_coarse_text(
     format: OutputFormat,
     mesh: &Written,
     text: &mut Vec<u8>,
 ) -> Result<(), OutOfMemory>
-    ensures { OnOk result (text.new.items ≡ text.old.items ++ warning_text format mesh.now) }
+    ensures { OnOk result (text.new.items ≡ text.old.items ++ coarse_text format mesh.now) }
 {
     text.extend_from_slice(b"rounding for ")?;
     text.extend_from_slice(name_of_format(format))?;
     text.extend_from_slice(b" moves corners by up to ")?;
     put_rounding_move(&mesh.effect.greatest, text)?;
-    text.extend_from_slice(ADVICE)
+    text.extend_from_slice(b", more than a hundredth of the step; ")?;
+    text.extend_from_slice(remedy(format))
 }
 
 // Appends that rounding moves corners far, if it does.
-fn put_warning(
+fn put_coarse(
     alloc: Global,
     format: OutputFormat,
     mesh: &Written,
     text: &mut Vec<u8>,
 ) -> Result<(), OutOfMemory>
-    ensures { OnOk result (text.new.items ≡ text.old.items ++ warning_line format mesh.now) }
+    ensures { OnOk result (text.new.items ≡ text.old.items ++ coarse_line format mesh.now) }
 {
     if !mesh.effect.is_coarse {
         return Ok(());
     }
     let mut said = Vec::from_slice(alloc, b"warning: ")?;
-    put_warning_text(format, mesh, &mut said)?;
+    put_coarse_text(format, mesh, &mut said)?;
+    put_line(alloc, &said, text)
+}
+
+/// Whether a text has an edge without two triangles.
+pub fn is_unpaired(format: OutputFormat, mesh: &Written) -> bool
+    ensures { result ≡ is_unpaired format mesh.now }
+{
+    is_text(format) && !mesh.is_manifold
+}
+
+/// Appends that a text has such an edge, and what helps.
+pub fn put_unpaired_text(format: OutputFormat, text: &mut Vec<u8>) -> Result<(), OutOfMemory>
+    ensures { OnOk result (text.new.items ≡ text.old.items ++ unpaired_text format) }
+{
+    text.extend_from_slice(b"some edges of the ")?;
+    text.extend_from_slice(name_of_format(format))?;
+    text.extend_from_slice(UNPAIRED)
+}
+
+// Appends that a text has such an edge, if it has.
+fn put_unpaired(
+    alloc: Global,
+    format: OutputFormat,
+    mesh: &Written,
+    text: &mut Vec<u8>,
+) -> Result<(), OutOfMemory>
+    ensures { OnOk result (text.new.items ≡ text.old.items ++ unpaired_line format mesh.now) }
+{
+    if !is_unpaired(format, mesh) {
+        return Ok(());
+    }
+    let mut said = Vec::from_slice(alloc, b"warning: ")?;
+    put_unpaired_text(format, &mut said)?;
     put_line(alloc, &said, text)
 }
 
@@ -209,7 +264,8 @@ fn put_mesh_lines(
     ensures { OnOk result (text.new.items ≡ text.old.items ++ mesh_lines format faces mesh.now) }
 {
     put_empty(alloc, mesh, text)?;
-    put_warning(alloc, format, mesh, text)?;
+    put_coarse(alloc, format, mesh, text)?;
+    put_unpaired(alloc, format, mesh, text)?;
     put_mesh(alloc, faces, mesh, text)
 }
 
@@ -234,7 +290,8 @@ fn put_scene(
 
 /// The report of an output; empty if the request wants none. It has a line for the grid, a line for
 /// each file, one for the volume of each, which is a warning if the volume is below 0, one that the
-/// result is empty, if it is, and one with the numbers of the result.
+/// result is empty, if it is, warnings of a coarse rounding and of a text that isn't a 2-manifold, and
+/// one with the numbers of the result.
 pub fn report_of(
     alloc: Global,
     request: &Request,
@@ -295,8 +352,8 @@ pub fn snap_report(
     Ok(text)
 }
 
-/// The report of a document's mesh, unless the request wants none: that it is empty, if it is, and
-/// its numbers.
+/// The report of a document's mesh, unless the request wants none: that it is empty, if it is, the
+/// same warnings, and its numbers.
 pub fn export_report(
     alloc: Global,
     request: &ExportRequest,

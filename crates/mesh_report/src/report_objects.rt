@@ -5,10 +5,10 @@ ghost use Rattle.mesh_grid.specs.Moves.Shown.{rounded_of};
 ghost use Rattle.mesh_grid.specs.Snap.Steps.{IsStep};
 ghost use Rattle.mesh_texts.specs.Texts.{size_text, step_text};
 ghost use Rattle.mesh_texts.specs.Objects.{array, texts_of};
-ghost use Rattle.mesh_report.specs.ReportObjects.{file_object, file_objects, first_volume, mesh_object, offset_value, result_object, rounding_warning, scene_object, solid_object, turned_warning, turned_warnings, volume_value};
+ghost use Rattle.mesh_report.specs.ReportObjects.{coarse_warning, file_object, file_objects, first_volume, manifold_value, mesh_object, mesh_warnings, offset_value, result_object, scene_object, solid_object, turned_warning, turned_warnings, unpaired_warning, volume_value};
 ghost use Rattle.mesh_report.specs.Reports.{rounding_text};
 
-use crate::report::{move_at, put_warning_text};
+use crate::report::{is_text, is_unpaired, move_at, put_coarse_text, put_unpaired_text};
 use crate::volumes::{put_turned, put_volume, volume_at};
 use ember_model::OutOfMemory;
 use ember_words::Text;
@@ -168,9 +168,28 @@ fn files_value(
 }
 
 // ---- the result
+// Whether a text is a 2-manifold, or null for another format.
+fn manifold_value(
+    alloc: Global,
+    format: OutputFormat,
+    mesh: &Written,
+) -> Result<Vec<u8>, OutOfMemory>
+    ensures { IfOk result (λ text. text.items ≡ manifold_value format mesh.now) }
+{
+    if !is_text(format) {
+        return Vec::from_slice(alloc, b"null");
+    }
+    truth_value(alloc, mesh.is_manifold)
+}
+
 // The object of the mesh of so many faces.
-fn result_object(alloc: Global, faces: u64, mesh: &Written) -> Result<Vec<u8>, OutOfMemory>
-    ensures { IfOk result (λ text. text.items ≡ result_object faces mesh.now) }
+fn result_object(
+    alloc: Global,
+    format: OutputFormat,
+    faces: u64,
+    mesh: &Written,
+) -> Result<Vec<u8>, OutOfMemory>
+    ensures { IfOk result (λ text. text.items ≡ result_object format faces mesh.now) }
 {
     let facings = &mesh.effect.facings;
     let empty = truth_value(alloc, mesh.triangles == mesh.vanished)?;
@@ -182,6 +201,7 @@ fn result_object(alloc: Global, faces: u64, mesh: &Written) -> Result<Vec<u8>, O
     let without_area = number(alloc, facings.without_area)?;
     let turned_over = number(alloc, facings.turned_over)?;
     let shared = number(alloc, mesh.shared)?;
+    let manifold = manifold_value(alloc, format, mesh)?;
     let members = [
         keyed(b"empty", empty),
         keyed(b"faces", faces),
@@ -192,6 +212,7 @@ fn result_object(alloc: Global, faces: u64, mesh: &Written) -> Result<Vec<u8>, O
         keyed(b"without area", without_area),
         keyed(b"turned over", turned_over),
         keyed(b"edges of more than two triangles", shared),
+        keyed(b"2-manifold", manifold),
     ];
     object(alloc, &members)
 }
@@ -245,22 +266,55 @@ fn turned_warnings(
 }
 
 // Appends that rounding moved corners far, if it did.
-fn put_rounding_warning(
+fn put_coarse_warning(
     alloc: Global,
     format: OutputFormat,
     mesh: &Written,
     texts: &mut Vec<Vec<u8>>,
 ) -> Result<(), OutOfMemory>
     ensures { OnOk result (texts_of texts.new.items ≡
-        texts_of texts.old.items ++ rounding_warning format mesh.now) }
+        texts_of texts.old.items ++ coarse_warning format mesh.now) }
 {
     if !mesh.effect.is_coarse {
         return Ok(());
     }
     let mut said = Vec::new(alloc);
-    put_warning_text(format, mesh, &mut said)?;
+    put_coarse_text(format, mesh, &mut said)?;
     texts.push(string(alloc, &said)?)?;
     Ok(())
+}
+
+// Appends that a text isn't a 2-manifold, if some edge of it doesn't have two triangles.
+fn put_unpaired_warning(
+    alloc: Global,
+    format: OutputFormat,
+    mesh: &Written,
+    texts: &mut Vec<Vec<u8>>,
+) -> Result<(), OutOfMemory>
+    ensures { OnOk result (texts_of texts.new.items ≡
+        texts_of texts.old.items ++ unpaired_warning format mesh.now) }
+{
+    if !is_unpaired(format, mesh) {
+        return Ok(());
+    }
+    let mut said = Vec::new(alloc);
+    put_unpaired_text(format, &mut said)?;
+    texts.push(string(alloc, &said)?)?;
+    Ok(())
+}
+
+// Appends the warnings of the mesh that is written.
+fn put_mesh_warnings(
+    alloc: Global,
+    format: OutputFormat,
+    mesh: &Written,
+    texts: &mut Vec<Vec<u8>>,
+) -> Result<(), OutOfMemory>
+    ensures { OnOk result (texts_of texts.new.items ≡
+        texts_of texts.old.items ++ mesh_warnings format mesh.now) }
+{
+    put_coarse_warning(alloc, format, mesh, texts)?;
+    put_unpaired_warning(alloc, format, mesh, texts)
 }
 
 // ---- reports
@@ -287,9 +341,9 @@ pub fn solid_object(
         &output.moves,
         volumes,
     )?;
-    let result = result_object(alloc, output.report.faces, &output.written)?;
+    let result = result_object(alloc, format, output.report.faces, &output.written)?;
     let mut texts = turned_warnings(alloc, names, &grid.step, volumes)?;
-    put_rounding_warning(alloc, format, &output.written, &mut texts)?;
+    put_mesh_warnings(alloc, format, &output.written, &mut texts)?;
     let warnings = array(alloc, &texts)?;
     let members = [
         keyed(b"step", step),
@@ -343,9 +397,9 @@ pub fn mesh_object(
 ) -> Result<Vec<u8>, OutOfMemory>
     ensures { IfOk result (λ text. text.items ≡ mesh_object format mesh.now) }
 {
-    let result = result_object(alloc, mesh.faces, mesh)?;
+    let result = result_object(alloc, format, mesh.faces, mesh)?;
     let mut texts = Vec::new(alloc);
-    put_rounding_warning(alloc, format, mesh, &mut texts)?;
+    put_mesh_warnings(alloc, format, mesh, &mut texts)?;
     let warnings = array(alloc, &texts)?;
     let members = [keyed(b"result", result), keyed(b"warnings", warnings)];
     object_line(alloc, &members)

@@ -126,7 +126,7 @@ fn run_by<
 }
 
 /// Does what the words ask for, with one worker whatever they say. It waits for nobody, and accepts
-/// all words that `run_mesh` accepts. Only tests call this.
+/// all words that `run_mesh` accepts. The C library, which starts no threads, calls this.
 pub fn run_mesh_one<S: Shelf, T: Target, O: Sink, E: Sink, G: Gate + Stages>(
     alloc: Global,
     words: &[String],

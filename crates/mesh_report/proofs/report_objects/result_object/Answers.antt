@@ -16,7 +16,8 @@ returns c =
     let without_area = c.keyed-7.ensures ∙ ap (entry (codes "without area")) c.in_ok-without_area.ensures in
     let turned_over = c.keyed-8.ensures ∙ ap (entry (codes "turned over")) c.in_ok-turned_over.ensures in
     let shared = c.keyed-9.ensures ∙ ap (entry (codes "edges of more than two triangles")) c.in_ok-shared.ensures in
+    let manifold = c.keyed-10.ensures ∙ ap (entry (codes "2-manifold")) c.in_ok-manifold.ensures in
     IfOk-weaker c.object.result _
-    (λ (text : Vec ℕ Global). text.items ≡ result_object c.args.faces c.args.mesh.now)
+    (λ (text : Vec ℕ Global). text.items ≡ result_object c.args.format c.args.faces c.args.mesh.now)
     (λ text is. is ∙ (λ k. object (empty k ∷ faces k ∷ triangles k ∷ planes k ∷ moved k ∷ vanished k ∷ without_area k
-    ∷ turned_over k ∷ shared k ∷ []))) c.object.ensures
+    ∷ turned_over k ∷ shared k ∷ manifold k ∷ []))) c.object.ensures

@@ -1,7 +1,7 @@
 use Rattle.std.proofs.Common.{◌≡◌, ℕ, ℤ, List, [], ◌∷◌, ◌++◌, Vec, Global, codes, ap, ◌∙◌}
 use Rattle.std.proofs.lemmas.Result.{IfOk-weaker}
 use Rattle.mesh_texts.specs.Objects.{array, object_line, texts_of}
-use Rattle.mesh_report.specs.ReportObjects.{file_objects, rounding_warning, solid_object, turned_warnings}
+use Rattle.mesh_report.specs.ReportObjects.{file_objects, mesh_warnings, solid_object, turned_warnings}
 use Rattle.mesh_texts.proofs.Entries.{entry}
 use Rattle.mesh_report.proofs.report_objects.solid_object.Goals as goal
 
@@ -10,11 +10,11 @@ returns c =
     let names = c.args.names.now in
     let out = c.args.output.now in
     let volumes = c.as_slice-volumes.ensures.value in
-    let rounding = rounding_warning c.args.format out.written in
+    let rest = mesh_warnings c.args.format out.written in
     let files_are = c.in_ok-files.ensures
     ∙ (λ k. array (file_objects names out.grid.step (c.deref.ensures.value k) (c.deref-2.ensures.value k) (volumes k))) in
-    let said = c.in_ok-put_rounding_warning.ensures ∙ ap (λ (ts : List (List ℕ)). ts ++ rounding) c.in_ok-texts.ensures
-    ∙ ap (λ (vs : List ℤ). turned_warnings 1 names out.grid.step vs ++ rounding) volumes in
+    let said = c.in_ok-put_mesh_warnings.ensures ∙ ap (λ (ts : List (List ℕ)). ts ++ rest) c.in_ok-texts.ensures
+    ∙ ap (λ (vs : List ℤ). turned_warnings 1 names out.grid.step vs ++ rest) volumes in
     let warnings_are = c.in_ok-warnings.ensures ∙ ap (λ (ts : List (Vec ℕ Global)). array (texts_of ts)) c.deref-3.ensures.value
     ∙ ap array said in
     let step = c.keyed.ensures ∙ ap (entry (codes "step")) c.in_ok-step.ensures in

@@ -43,8 +43,8 @@ returns-in-Err-clause-outcome g c =
     let err = sink_call g.E.Sink.taken g.E.Sink.flushed g.E.Sink.faults c.args.err.now c.say_why.new.err in
     let request = c.args.request.now in
     said_status_ends_on (IsStop request shelf) (AreFilesFor request shelf.told) target out
-    (WritesSolid c.args.json request shelf target out) (solid_said c.args.json request) (memory_said c.args.json) refl (λ h. h) (λ h. h) refl c.in-Err.status c.say_why.result err c.solid_said-said.result c.in-Err.ensures.stop
-    c.solid_said-said.ensures c.say_why.ensures.said c.say_why.ensures.memory
+    (WritesSolid c.args.json request shelf target out) (solid_said c.args.json request) (memory_said c.args.json) refl (λ h. h) (λ h. h) refl c.in-Err.status
+    c.say_why.result err c.solid_said-said.result c.in-Err.ensures.stop c.solid_said-said.ensures c.say_why.ensures.said c.say_why.ensures.memory
 
 pub returns-in-Err-clause-memory : goal.returns-in-Err-clause-memory
 returns-in-Err-clause-memory g c =
