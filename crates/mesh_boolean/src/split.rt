@@ -9,7 +9,7 @@ ghost use Rattle.mesh_write.specs.Vertices.Vertices.{IsMeshOf};
 ghost use Rattle.mesh_write.specs.declared.vertices.point.DecimalTriangle.{DecimalTriangle};
 
 use ember_model::Plane;
-use mesh_manifold::{CheckedSplit, SplitMesh, cut_pinched, points_of, split_vertices};
+use mesh_manifold::{CheckedSplit, CutMesh, SplitMesh, cut_pinched, points_of, split_vertices};
 use mesh_write::{DecimalPoint, IndexedMesh, IndexedTriangle};
 use mesh_written::DecimalMesh;
 use std::alloc::{AllocError, Global};
@@ -71,16 +71,20 @@ pub fn split_decimals(
     if split.is_manifold {
         return split_over(alloc, mesh, split, None);
     }
-    let cut = cut_pinched(alloc, mesh, &written.planes, &split.mesh)?;
+    let CutMesh {
+        mesh: pieces,
+        origins,
+        planes: numbers,
+    } = cut_pinched(alloc, mesh, &written.planes, &split.mesh)?;
     let again = split_vertices(
         alloc,
         planes,
-        &cut.planes,
-        cut.mesh.vertices(),
-        cut.mesh.triangles(),
+        &numbers,
+        pieces.vertices(),
+        pieces.triangles(),
     )?;
     if again.is_manifold {
-        return split_over(alloc, &cut.mesh, again, Some(cut.origins));
+        return split_over(alloc, &pieces, again, Some(origins));
     }
     split_over(alloc, mesh, split, None)
 }

@@ -10,7 +10,7 @@ returns-then-split c = λ ts is.
 
 pub returns-then-again : goal.returns-then-again
 returns-then-again c = λ ts is.
-    let cut = c.in_ok-cut.ensures ts is in
+    let cut = c.in_ok-pieces.ensures ts is in
     c.split_over-then-again.ensures ts cut.cut cut.are_cut cut.is
     (subst (AreSplitOf c.in_ok-again.again.mesh) (c.triangles-2.ensures cut.cut cut.is) c.in_ok-again.ensures.corners)
     c.in_ok-again.ensures.manifold (λ no. absurd (true≢false (sym c.if-again.true ∙ no))) cut.origins
