@@ -1,3 +1,4 @@
+pub mod GltfReasons
 pub mod Limits
 pub mod NamedFormats
 pub mod StlFiles
