@@ -13,7 +13,7 @@ TOP = Path(__file__).resolve().parent.parent.parent
 # The crate of each program, by the program's place in a package.
 PROGRAMS = {"bin/ember": "ember", "bin/ember-mesh": "mesh_program"}
 # What a package is made of.
-SOURCES = ["crates", "crates.txt", "HANDLES", "docs", "completions", "examples", "tools", "packages", "python", "Makefile", "LICENSE", "CHANGELOG.md"]
+SOURCES = ["crates", "crates.txt", "HANDLES", "docs", "completions", "examples", "tools", "packages", "python", "include", "web", "Makefile", "LICENSE", "CHANGELOG.md"]
 
 
 def loaded(script):

@@ -1,0 +1,27 @@
+// A worker computes one call, and is then thrown away with its memory.
+
+const lineOf = words => utf8.encode(`ember-mesh: ${words}\n`);
+
+// What the page shows if there is no answer. An answer is never made up: want of memory is said by the status of the program.
+function answerOfFault(fault) {
+  if (fault instanceof OutOfMemory || (fault instanceof RangeError && /memory|allocat/i.test(fault.message)))
+    return { status: NO_MEMORY, out: new Uint8Array(), err: lineOf('out of memory'), files: [] };
+  return { fault: fault instanceof WebAssembly.CompileError ? `This browser can't run the module: ${fault.message}` : `It stopped: ${fault.message}` };
+}
+
+async function answerTo({ module, words, files }) {
+  try {
+    const { instance } = await WebAssembly.instantiate(module, {});
+    const began = performance.now();
+    const answer = command(instance.exports, words, files);
+    return { ...answer, seconds: (performance.now() - began) / 1000 };
+  } catch (fault) {
+    return answerOfFault(fault);
+  }
+}
+
+onmessage = async ({ data }) => {
+  const answer = await answerTo(data);
+  const blocks = answer.fault ? [] : [answer.out, answer.err, ...answer.files.map(([, bytes]) => bytes)];
+  postMessage(answer, blocks.map(bytes => bytes.buffer));
+};
