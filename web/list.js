@@ -90,7 +90,7 @@ function showList() {
 // ---- what is known of a file
 let measured = Promise.resolve();
 
-// One after the other, so that many files don't take the memory of many modules.
+// Measures one file after the other, so that many files don't need the memory of many modules.
 function measureLater(file) {
   measured = measured.then(() => files.includes(file) && measure(file));
 }
@@ -103,19 +103,29 @@ async function measure(file) {
   showList();
 }
 
-// Adds these files, and returns why others of them can't be added.
-async function addFiles(list) {
+// Adds a file, and returns why it can't, or nothing.
+async function addFile(chosen) {
+  const why = refusalOf(chosen, files.map(file => file.name));
+  if (why) return why;
+  const bytes = await chosen.arrayBuffer().catch(() => null);
+  if (!bytes) return `${chosen.name}: cannot be read`;
+  const file = { name: chosen.name, bytes: new Uint8Array(bytes) };
+  setFiles([...files, file]);
+  measureLater(file);
+  return '';
+}
+
+async function addInOrder(list) {
   const refused = [];
-  for (const it of list) {
-    const why = refusalOf(it, files.map(file => file.name));
-    const bytes = why ? null : await it.arrayBuffer().catch(() => null);
-    if (!bytes) {
-      refused.push(why || `${it.name}: cannot be read`);
-      continue;
-    }
-    const file = { name: it.name, bytes: new Uint8Array(bytes) };
-    setFiles([...files, file]);
-    measureLater(file);
-  }
-  return refused;
+  for (const it of list) refused.push(await addFile(it));
+  return refused.filter(Boolean);
+}
+
+let added = Promise.resolve();
+
+// Adds these files, and returns why others of them can't be added. Files of a later drop wait: two of one name would be taken while the
+// first is read.
+function addFiles(list) {
+  added = added.then(() => addInOrder(list));
+  return added;
 }

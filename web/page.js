@@ -68,7 +68,7 @@ function showLink(link, name, bytes) {
   Object.assign(link, { href: url, download: name });
 }
 
-// In a frame the panel of a view leaves room for the mesh; the report has the counts.
+// Makes the panel of the view small, so that it leaves room for the mesh in the frame. The report has the counts.
 const SMALL = `<style>
 #name, #counts { display: none }
 #panel { left: 8px; top: 8px; padding: 4px 10px }
@@ -81,7 +81,7 @@ function showView(name, bytes) {
   find('save-view').hidden = find('view').hidden = false;
 }
 
-// The view of a result is made after the result, which is there sooner so.
+// Makes the view after the result, so that the result can be saved sooner.
 async function makeView(call, bytes) {
   viewing = begin(['view', '-o', call.view, call.result], [[call.result, bytes]]);
   find('view-state').textContent = 'Making the view';
@@ -150,7 +150,7 @@ function listen() {
   window.onunhandledrejection = event => showFault(`It stopped: ${event.reason.message}`);
   onListChange = showExpression;
   listenForFiles();
-  // A browser may keep what was chosen before a page is loaded again.
+  // Some browsers restore the form when the page is loaded again.
   showNumber();
   showExpression();
 }

@@ -8,7 +8,7 @@ function expressionOf(operation, count) {
   return Array.from({ length: count }, (_, i) => `m${i + 1}`).join(JOINED_BY[operation]);
 }
 
-// A word that names this file: a name that begins with a hyphen would be an option, or standard input.
+// A word that names this file. Without ./ a name that begins with a hyphen would be an option, or standard input.
 const wordOf = name => (name.startsWith('-') ? `./${name}` : name);
 
 // A name with this ending that none of these files has.
@@ -19,8 +19,8 @@ function freeName(ending, names) {
   }
 }
 
-// The call for these files, each a name and bytes: its words and files, and the names of the result and of its view. A view takes a
-// while, so the call makes one only if none can be made of the result.
+// The call for these files, each a name and bytes: its words and files, and the names of the result and of its view. The view of a GLB is
+// made by the same call, since `view` doesn't read a GLB. Any other is made later, so that the result doesn't wait for it.
 function callFor({ expression, step, format }, files) {
   const names = files.map(([name]) => wordOf(name));
   const result = freeName(format, names), view = freeName('html', names), looks = format === 'glb' ? ['--view', view] : [];
@@ -43,9 +43,11 @@ function moved(list, from, to) {
 
 const counted = (count, unit) => `${count.toLocaleString('en')} ${unit}${count === 1 ? '' : 's'}`;
 
+const toThreeDigits = value => value.toLocaleString('en', { minimumSignificantDigits: 3, maximumSignificantDigits: 3 });
+
 function sizeText(bytes) {
   if (bytes < 1000) return counted(bytes, 'byte');
-  return bytes < 1e6 ? `${(bytes / 1e3).toPrecision(3)} kB` : `${(bytes / 1e6).toPrecision(3)} MB`;
+  return bytes < 1e6 ? `${toThreeDigits(bytes / 1e3)} kB` : `${toThreeDigits(bytes / 1e6)} MB`;
 }
 
 // What `ember-mesh info` says of a mesh, in short.

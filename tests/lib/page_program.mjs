@@ -5,6 +5,8 @@
 //
 // node page_program.mjs --memory PAGE WORDS..: the call again and again, with 1 page more of memory each time, until it is met. Each call ends
 // with status 12 and the one line of it, or as the last does. Prints how many were tried.
+//
+// node page_program.mjs --least PAGE MODULE: writes the page's module with a memory that can't grow.
 import { readFileSync, readdirSync, statSync, writeFileSync, mkdirSync, writeSync } from 'node:fs';
 import { dirname } from 'node:path';
 import { gunzipSync } from 'node:zlib';
@@ -98,8 +100,13 @@ async function tryMemory({ worker, module }, request) {
 }
 
 async function main([first, ...rest]) {
-  const [page, ...words] = first === '--memory' ? rest : [first, ...rest];
-  const parts = partsOf(page), files = filesIn('.');
+  const [page, ...words] = first.startsWith('--') ? rest : [first, ...rest];
+  const parts = partsOf(page);
+  if (first === '--least') {
+    writeFileSync(words[0], withMemory(parts.module, 0)[1]);
+    return 0;
+  }
+  const files = filesIn('.');
   if (first === '--memory') return tryMemory(parts, { words, files });
   files.push(['-', new Uint8Array(readFileSync(0))]);
   const answer = await answerTo(parts.worker, { module: parts.module, words, files });

@@ -33,6 +33,7 @@ const rows = [
   [it.sizeText(1), '1 byte'],
   [it.sizeText(999), '999 bytes'],
   [it.sizeText(13684), '13.7 kB'],
+  [it.sizeText(999999), '1,000 kB'],
   [it.sizeText(3369384), '3.37 MB'],
   [it.factsOf(info), ['1 triangle', '1.5 × 2 × 1.1', '3 loose edges']],
   [it.factsOf({ ...info, 'loose edges': 0, from: null }), ['1 triangle']],

@@ -1,8 +1,9 @@
 """The WebAssembly module of the page, made of the LLVM module that the toolchain makes of the proved library.
 
-The toolchain has no way of its own to do this: it compiles no crate for WebAssembly that asks for memory. So it builds the library for x86-64 once
-more, by a clang that keeps a copy of what it is given. That copy is changed in its target lines, its attributes of processors, and a few
-calls that WebAssembly hasn't; then the same compiler makes WebAssembly of it. docs/trust/TRUST.md says what this means for the proof.
+The toolchain has no way of its own to do this: it compiles no crate for WebAssembly that asks for memory. So this module has the toolchain build
+the library for x86-64 once more, with a clang that keeps a copy of its input. It changes that copy: its target lines, its attributes of
+processors, and a few calls that WebAssembly lacks. Then the same compiler makes WebAssembly of it. docs/trust/TRUST.md says what this means for
+the proof.
 """
 import hashlib
 import re
@@ -15,7 +16,7 @@ from lib import package
 
 CRATE = "ember_c"
 EXPORTS = ["ember_abi", "ember_mesh_command", "malloc"]
-# The compiler by which all this was tried. Another may give other types or calls to the module.
+# The compiler that was tried. Another may give the module other types or calls.
 COMPILER_SUM = "22b657c8ab338a03324a4b8bae6cf44babb20ceb764b54b83d7e0574fe37c044"
 OPTIONS = ["--target=wasm64-unknown-unknown", "-O3", "-mbulk-memory", "-mbulk-memory-opt", "-msign-ext", "-mnontrapping-fptoint"]
 FEATURES = ["--enable-memory64", "--enable-bulk-memory", "--enable-sign-ext", "--enable-nontrapping-float-to-int"]
@@ -31,7 +32,7 @@ CLANG = """#!/bin/sh
 for word in "$@"; do case "$word" in *.bc) cp "$word" '{keep}/module.bc';; esac; done
 exec '{clang}' "$@"
 """
-# What the module may call of x86-64 or not have on WebAssembly, and what stands for it.
+# What the library may call that WebAssembly lacks, and what replaces it.
 FENCE = """define internal {type} @ember.fence.{name}({type} %it) alwaysinline {{
   ret {type} %it
 }}
@@ -49,7 +50,7 @@ def run(words, **more):
 
 
 def refuse_other_compiler():
-    """Ends unless the compiler is the one by which this way was tried."""
+    """Ends unless the compiler is the one that was tried."""
     found = hashlib.sha256((kit() / "toolchain/bin/clang").read_bytes()).hexdigest()
     if found != COMPILER_SUM:
         package.fail(
@@ -106,7 +107,7 @@ def build_module(room, jobs):
 
 # ---- its text for WebAssembly
 def shuffle():
-    """A text of LLVM for the shuffle of bytes of x86-64: 0 where the top bit of an index is set, else the byte that its low four bits name."""
+    """The shuffle of bytes of x86-64 as LLVM text: 0 if the top bit of an index is set, else the byte that its low four bits name."""
     lines = ["define internal <16 x i8> @ember.shuffle(<16 x i8> %bytes, <16 x i8> %indices) alwaysinline {"]
     made = "zeroinitializer"
     for i in range(16):
@@ -130,7 +131,7 @@ def target_lines():
 
 
 def without_calls(text):
-    """The text without calls that WebAssembly hasn't."""
+    """The text without calls that WebAssembly lacks."""
     for name, kind in (("f32", "float"), ("f64", "double")):
         if f"@llvm.arithmetic.fence.{name}" in text:
             text = re.sub(rf"^declare .*@llvm\.arithmetic\.fence\.{name}\(.*\n", "", text, flags=re.M)
