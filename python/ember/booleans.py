@@ -14,6 +14,10 @@ if TYPE_CHECKING:
     from typing_extensions import Unpack
 
 
+# What a triangle takes in a binary STL, in bytes.
+_TRIANGLE = 50
+
+
 class Options(TypedDict, total=False):
     """The options of `boolean`, which describes them."""
 
@@ -59,7 +63,8 @@ def boolean(
     exact      whether `exact` of the result is wanted
     workers    threads of the program, 1 to 64. None is the number of processors that this process may use
     timeout    seconds after which the program is stopped. None is any time
-    engine     "program", or "auto", which is the same: the only engine is the program ember-mesh
+    engine     "program", "library", or "auto": the program if it is there and the meshes have more than 20,000 triangles, and
+               otherwise the library. Both give the same result
 
     `sources` has for each triangle of the result the first input triangle, in the order of the meshes, on which a part of it lies:
     `mesh` and `triangle`, both from 0; `turned` if it faces the other way, as where a mesh was cut away; `several` if parts of it lie
@@ -69,7 +74,7 @@ def boolean(
 
     Raises an EmberError, whose text says why and what helps: InputError (a mesh can't be read), NotClosedError, ExpressionError,
     LimitError (too many triangles, too small a step), UsageError, OutOfMemory, Stopped, Uncertified. TypeError for arrays of types
-    that would be rounded, and FileNotFoundError if ember-mesh isn't there. Gives an EmberWarning for a mesh that may be inside out.
+    that would be rounded, and FileNotFoundError if no engine is there. Gives an EmberWarning for a mesh that may be inside out.
 
     Two calls choose two grids, so give one `step` to all calls of a chain; better, write one expression over all meshes.
     """
@@ -107,10 +112,13 @@ def info(*meshes: MeshLike) -> List[Dict[str, Any]]:
 def command(words: Sequence[str], files: Optional[Mapping[str, bytes]] = None, *, engine: str = "auto", timeout: Optional[float] = None) -> Answer:
     """Does what `ember-mesh WORDS..` does in a folder that has just these files, and returns what it leaves.
 
-    words    the words behind `ember-mesh`, such as ["snap", "-d", "kept", "a.stl"]. Words that are whole paths name files of the system
+    words    the words behind `ember-mesh`, such as ["snap", "-d", "kept", "a.stl"]. With the program, words that are whole paths name
+             files of the system; with the library nothing of the system is read or written
     files    the bytes of each file, by its name in the folder
     timeout  seconds after which the program is stopped. None is any time
 
     No status is an exception here. Raises Stopped if the time is over, and UsageError for files with names out of the folder.
     """
-    return run(list(words), dict(files or {}), engine=engine, timeout=timeout)
+    given = dict(files or {})
+    size = sum(map(len, given.values()))
+    return run(list(words), given, engine=engine, triangles=size // _TRIANGLE, timeout=timeout)

@@ -61,7 +61,8 @@ def answered(words: List[str], inputs: Tuple[Input, ...], engine: str, timeout: 
     """Does what the words say with the meshes behind them. Raises what a status above 0 stands for."""
     names = [it.name for it in inputs]
     files = {it.name: it.data for it in inputs if it.data is not None}
-    answer = run([*words, *names], files, engine=engine, timeout=timeout)
+    paths = [it.name for it in inputs if it.data is None]
+    answer = run([*words, *names], files, paths=paths, engine=engine, triangles=sum(it.triangles for it in inputs), timeout=timeout)
     if answer.status:
         raise error_of(answer.status, said(answer), names)
     return answer

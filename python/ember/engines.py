@@ -1,11 +1,16 @@
-"""The engine of a call: the program ember-mesh."""
+"""Which engine does a call: the program ember-mesh, or the library."""
 from __future__ import annotations
 
 from dataclasses import dataclass
 from typing import Dict, Mapping, Optional, Sequence
 
-from . import program
+from . import library, program
 from .errors import UsageError
+
+ENGINES = ("auto", "program", "library")
+# From how many triangles on the threads of the program are worth its start and its files.
+_MANY = 20_000
+_NO_ENGINE = "no engine: install the wheel of ember-mesh, or set EMBER_MESH to the program or EMBER_LIBRARY to libember.so.1"
 
 
 @dataclass(frozen=True)
@@ -23,17 +28,27 @@ class Answer:
     files: Dict[str, bytes]
 
 
-def _refuse_other(engine: str) -> None:
-    if engine == "library":
-        raise UsageError(2, "engine 'library': this version of the package has no C library; leave it out, or take 'program'")
-    if engine not in ("auto", "program"):
-        raise UsageError(2, f"engine {engine!r}: is none of auto, program")
+def _chosen(engine: str, triangles: int, timeout: Optional[float]) -> str:
+    if engine not in ENGINES:
+        raise UsageError(2, f"engine {engine!r}: is none of {', '.join(ENGINES)}")
+    if engine == "library" and timeout is not None:
+        raise UsageError(2, "timeout: a call of the library can't be stopped; leave it out, or take the engine 'program'")
+    if engine != "auto":
+        return engine
+    has_program, has_library = program.found() is not None, library.found() is not None
+    if not has_program and not has_library:
+        raise FileNotFoundError(_NO_ENGINE)
+    wants_program = timeout is not None or triangles > _MANY
+    return "program" if has_program and (wants_program or not has_library) else "library"
 
 
-def run(words: Sequence[str], files: Mapping[str, bytes], *, engine: str, timeout: Optional[float]) -> Answer:
-    """Does what `ember-mesh WORDS..` does in a folder with these files."""
-    _refuse_other(engine)
+def run(
+    words: Sequence[str], files: Mapping[str, bytes], *, paths: Sequence[str] = (), engine: str, triangles: int, timeout: Optional[float]
+) -> Answer:
+    """Does what `ember-mesh WORDS..` does in a folder with these files. Some words may be paths of other files."""
     zero = next((it for it in (*words, *files) if "\0" in it), None)
     if zero is not None:
         raise UsageError(2, f"{zero!r}: no command line can have a zero byte")
-    return Answer(*program.run(words, files, timeout))
+    if _chosen(engine, triangles, timeout) == "program":
+        return Answer(*program.run(words, files, timeout))
+    return Answer(*library.run(words, {**files, **library.read(paths)}))

@@ -15,6 +15,10 @@ if TYPE_CHECKING:
     from .meshes import Faces, Vertices
 
 
+# What a triangle takes in a binary STL, in bytes.
+_TRIANGLE = 50
+
+
 @dataclass(frozen=True, eq=False)
 class Input:
     """A mesh of a call.
@@ -29,6 +33,14 @@ class Input:
     data: Optional[bytes] = None
     arrays: Optional[Tuple[Vertices, Faces]] = None
     stamp: Optional[Tuple[int, int]] = None
+
+    @property
+    def triangles(self) -> int:
+        """About how many triangles it has."""
+        if self.arrays:
+            return len(self.arrays[1])
+        size = self.stamp[1] if self.stamp else len(self.data or b"")
+        return size // _TRIANGLE
 
     def refuse_change(self) -> None:
         """Raises InputError if the file isn't the one that it was."""

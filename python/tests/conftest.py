@@ -1,22 +1,33 @@
-"""What the tests have in common. EMBER_MESH names the program, unless the package has it."""
+"""What the tests have in common. EMBER_MESH and EMBER_LIBRARY name the engines, unless the package has them."""
 import os
 import signal
 import stat
 
 import pytest
 
-from ember import program
+from ember import library, program
+
+ENGINES = {"program": program.found, "library": library.found}
+
+
+@pytest.fixture(params=ENGINES)
+def engine(request):
+    """Each engine that is there."""
+    if ENGINES[request.param]() is None:
+        pytest.skip(f"the engine {request.param} isn't there")
+    return request.param
 
 # Where the tests are started in the background, SIGINT is ignored, and none of them could be interrupted.
 signal.signal(signal.SIGINT, signal.default_int_handler)
 
 
 @pytest.fixture
-def engine():
-    """The program, where it is there."""
-    if program.found() is None:
-        pytest.skip("ember-mesh isn't there")
-    return "program"
+def both_engines():
+    """Both engines, where both are there."""
+    lacking = [name for name, found in ENGINES.items() if found() is None]
+    if lacking:
+        pytest.skip(f"the engine {', '.join(lacking)} isn't there")
+    return list(ENGINES)
 
 
 @pytest.fixture

@@ -1,5 +1,6 @@
-"""How the program is started and stopped."""
+"""How an engine is chosen, started and stopped."""
 import os
+import shutil
 import signal
 import subprocess
 import sys
@@ -10,23 +11,42 @@ from pathlib import Path
 import pytest
 
 import ember
-from ember import processor, program
+from ember import engines, library, processor, program
 from scenes import box
 
 A, B = box((0, 0, 0), (1, 1, 1)), box((0.25, 0.25, 0.25), (0.75, 0.75, 2))
+CHOICES = [
+    # has the program, has the library, triangles, timeout, which is taken
+    (True, True, 20_000, None, "library"),
+    (True, True, 20_001, None, "program"),
+    (True, True, 1, 5, "program"),
+    (True, False, 1, None, "program"),
+    (False, True, 99_999, None, "library"),
+]
 
 
-def test_no_program_is_there(monkeypatch):
+@pytest.mark.parametrize(("has_program", "has_library", "triangles", "timeout", "taken"), CHOICES)
+def test_auto(monkeypatch, has_program, has_library, triangles, timeout, taken):
+    monkeypatch.setattr(program, "found", lambda: "there" if has_program else None)
+    monkeypatch.setattr(library, "found", lambda: "there" if has_library else None)
+    monkeypatch.setattr(program, "run", lambda *_: (0, b"program", b"", {}))
+    monkeypatch.setattr(library, "run", lambda *_: (0, b"library", b"", {}))
+    assert engines.run([], {}, engine="auto", triangles=triangles, timeout=timeout).out.decode() == taken
+
+
+def test_no_engine_is_there(monkeypatch):
     monkeypatch.setattr(program, "found", lambda: None)
-    with pytest.raises(FileNotFoundError, match="install the wheel of ember-mesh, or set EMBER_MESH"):
-        ember.union(A)
+    monkeypatch.setattr(library, "found", lambda: None)
+    for engine, said in (("auto", "no engine"), ("program", "EMBER_MESH"), ("library", "EMBER_LIBRARY")):
+        with pytest.raises(FileNotFoundError, match=said):
+            ember.union(A, engine=engine)
 
 
 def test_engines_that_are_refused():
-    with pytest.raises(ember.UsageError, match="is none of auto, program"):
+    with pytest.raises(ember.UsageError, match="is none of auto, program, library"):
         ember.union(A, engine="other")
-    with pytest.raises(ember.UsageError, match="this version of the package has no C library"):
-        ember.union(A, engine="library")
+    with pytest.raises(ember.UsageError, match="can't be stopped"):
+        ember.union(A, engine="library", timeout=1)
 
 
 def test_the_engine_by_itself(engine):
@@ -162,6 +182,59 @@ def test_files_out_of_the_folder(false_program, name):
     false_program("exit 0")
     with pytest.raises(ember.UsageError, match="names nothing in the folder"):
         ember.command(["info"], {name: b""}, engine="program")
+
+
+@pytest.fixture
+def made_library(tmp_path, monkeypatch):
+    """Compiles a library in C, and puts it into the place of ember's."""
+
+    def make(source):
+        made = tmp_path / "made.so"
+        include = Path(__file__).resolve().parent.parent.parent / "include"
+        if not shutil.which("cc"):
+            pytest.skip("there is no C compiler")
+        subprocess.run(["cc", "-shared", "-fPIC", f"-I{include}", "-o", made, source], check=True)
+        monkeypatch.setenv("EMBER_LIBRARY", str(made))
+
+    return make
+
+
+def test_what_is_lent_comes_back(made_library):
+    """The structs are those of the header: a library that is compiled against it gets the words and files, and gives them back."""
+    made_library(Path(__file__).parent / "false_library.c")
+    words, files = ["3", "", "a b", "ä" * 999], {"mesh 1": b"\0a\0", "none": b"", "long/ü": bytes(range(256)) * 4096}
+    answer = ember.command(words, files, engine="library")
+    assert (answer.status, answer.err, answer.files) == (3, b"4 words, 3 files", files)
+    assert answer.out.decode() == "".join(f"{it}\n" for it in words)
+    empty = ember.command([], engine="library")
+    assert (empty.status, empty.out, empty.err, empty.files) == (0, b"", b"0 words, 0 files", {})
+
+
+def test_the_library_is_lent_the_files_of_paths(made_library, tmp_path):
+    made_library(Path(__file__).parent / "false_library.c")
+    (tmp_path / "a.stl").write_bytes(b"solid")
+    given = {"paths": [str(tmp_path / "a.stl"), str(tmp_path / "none.stl")], "engine": "library", "triangles": 0, "timeout": None}
+    assert engines.run(["0"], {"mesh 2": b"ply"}, **given).files == {"mesh 2": b"ply", str(tmp_path / "a.stl"): b"solid"}
+
+
+def test_a_library_of_another_interface(made_library, tmp_path):
+    (tmp_path / "other.c").write_text("unsigned ember_abi(void) { return 7; }")
+    made_library(tmp_path / "other.c")
+    with pytest.raises(ImportError, match="has version 7 of its interface, and not 1"):
+        ember.union(A, engine="library")
+
+
+def test_many_calls_at_once():
+    if library.found() is None:
+        pytest.skip("the engine library isn't there")
+    wanted = ember.union(A, B, engine="library").export("stl")
+    found = []
+    threads = [threading.Thread(target=lambda: found.extend(ember.union(A, B, engine="library").export("stl") for _ in range(20))) for _ in range(8)]
+    for it in threads:
+        it.start()
+    for it in threads:
+        it.join()
+    assert found == [wanted] * 160
 
 
 def test_processors():
