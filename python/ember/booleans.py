@@ -4,7 +4,7 @@ from __future__ import annotations
 import json
 from typing import TYPE_CHECKING, Any, Dict, List, Mapping, Optional, Sequence, TypedDict
 
-from .calls import Call, Step, answered, words_of
+from .calls import Call, Step, answered, operation_of, step_of, workers_of
 from .engines import Answer, run
 from .inputs import inputs_of
 from .meshes import MeshLike
@@ -28,6 +28,7 @@ class Options(TypedDict, total=False):
     workers: Optional[int]
     timeout: Optional[float]
     engine: str
+
 
 def boolean(
     meshes: Sequence[MeshLike],
@@ -78,7 +79,8 @@ def boolean(
 
     Two calls choose two grids, so give one `step` to all calls of a chain; better, write one expression over all meshes.
     """
-    call = Call(words_of(operation, step, digits, workers), tuple(inputs_of(meshes)), digits, engine, timeout)
+    wanted = operation_of(operation), step_of(step)
+    call = Call(*wanted, tuple(inputs_of(meshes)), digits, workers_of(workers), engine, timeout)
     return computed(call, sources=sources, exact=exact)
 
 

@@ -9,43 +9,105 @@ from dataclasses import dataclass
 from decimal import Decimal
 from fractions import Fraction
 from numbers import Integral
-from typing import Any, List, Optional, Tuple, Union
+from typing import TYPE_CHECKING, Any, List, Mapping, Optional, Tuple, Union
 
 import numpy as np
 
-from .engines import Answer, run
-from .errors import EmberWarning, UsageError, error_of
+from . import library
+from .engines import Answer, chosen, run
+from .errors import EmberWarning, UsageError, error_at, error_of
 from .inputs import Input
 from .kept import FOLDER
+from .off import arrays_of_off
+
+if TYPE_CHECKING:
+    from .meshes import Faces, Vertices
 
 Step = Union[str, int, float, Decimal, Fraction]
 
-_COMMANDS = ("union", "difference", "intersection")
+# The commands, with what they put between the meshes of their expression.
+_COMMANDS = {"union": "|", "difference": "&!", "intersection": "&"}
 _MOST_WORKERS = 64
+_MOST_MESHES = 64
+_MOST_DIGITS = 17
 _PROGRAM = re.compile("^ember-mesh: ", re.M)
 # A format of decimals rounds corners far only where the user wants few digits.
 _WARNING = re.compile("^warning: (?!rounding for (?:OBJ|PLY|OFF) )(.*)$", re.M)
 
 
 @dataclass(frozen=True, eq=False)
-class Call:
-    """The words of a Boolean but those of its output, its meshes, and how it is done."""
+class Solid:
+    """What a Boolean makes.
 
-    words: Tuple[str, ...]
+    vertices, faces  its arrays
+    report           the lines of ember-mesh
+    files            the files of `--keep`, if they are wanted
+    """
+
+    vertices: Vertices
+    faces: Faces
+    report: str
+    files: Mapping[str, bytes]
+
+
+@dataclass(frozen=True, eq=False)
+class Call:
+    """A Boolean: what of which meshes, on which grid, and how it is done."""
+
+    operation: str
+    step: str
     inputs: Tuple[Input, ...]
     digits: Optional[int]
+    workers: int
     engine: str
     timeout: Optional[float]
 
+    @property
+    def triangles(self) -> int:
+        """About how many triangles the meshes have."""
+        return sum(it.triangles for it in self.inputs)
+
     def answer(self, ending: str, *, keep: bool = False) -> Answer:
         """Computes the solid, as a file `out.ENDING`. Raises what `boolean` raises."""
-        words = [*self.words, "-o", f"out.{ending}", *(["--keep", FOLDER] if keep else [])]
+        words = [self.operation] if self.operation in _COMMANDS else ["bool", "--expr", self.operation]
+        words += ["--step", self.step, "--workers", str(self.workers)]
+        words += ["--digits", str(self.digits)] if self.digits is not None else []
+        words += ["-o", f"out.{ending}", *(["--keep", FOLDER] if keep else [])]
         return answered(words, self.inputs, self.engine, self.timeout)
 
+    def solid(self, *, keep: bool = False) -> Solid:
+        """Computes the solid, with the files of `--keep` if they are wanted. Raises what `boolean` raises."""
+        if not keep and chosen(self.engine, self.triangles, self.timeout) == "library" and self._is_of_arrays():
+            return self._solid_of_arrays()
+        answer = self.answer("off", keep=keep)
+        return Solid(*arrays_of_off(answer.files["out.off"]), said(answer.err), answer.files)
 
-def said(answer: Answer) -> str:
-    """Returns the lines of an answer, without the program's name."""
-    return _PROGRAM.sub("", answer.err.decode("utf-8", "replace")).strip()
+    def _is_of_arrays(self) -> bool:
+        """Whether the library can be asked for just this by its call over arrays. Its call with words says what is wrong with the rest."""
+        return (
+            0 < len(self.inputs) <= _MOST_MESHES
+            and all(it.arrays for it in self.inputs)
+            and all(it.isascii() and it and "\0" not in it for it in (self.operation, self.step))
+            and (self.digits is None or _is_between(self.digits, 0, _MOST_DIGITS))
+            and _is_between(self.workers, 1, _MOST_WORKERS)
+        )
+
+    def _solid_of_arrays(self) -> Solid:
+        between = _COMMANDS.get(self.operation)
+        expression = self.operation if between is None else between.join(f"m{it + 1}" for it in range(len(self.inputs)))
+        made = library.boolean([it.arrays for it in self.inputs if it.arrays], expression, self.step, self.digits)
+        if made.status:
+            raise error_at(made.status, said(made.line), made.mesh, made.place)
+        return Solid(made.vertices, made.faces, said(made.line), {})
+
+
+def _is_between(number: Any, least: int, most: int) -> bool:
+    return isinstance(number, Integral) and not isinstance(number, bool) and least <= number <= most
+
+
+def said(lines: bytes) -> str:
+    """Returns what ember-mesh says, without the program's name."""
+    return _PROGRAM.sub("", lines.decode("utf-8", "replace")).strip()
 
 
 def warn_of(lines: str) -> None:
@@ -64,11 +126,17 @@ def answered(words: List[str], inputs: Tuple[Input, ...], engine: str, timeout: 
     paths = [it.name for it in inputs if it.data is None]
     answer = run([*words, *names], files, paths=paths, engine=engine, triangles=sum(it.triangles for it in inputs), timeout=timeout)
     if answer.status:
-        raise error_of(answer.status, said(answer), names)
+        raise error_of(answer.status, said(answer.err), names)
     return answer
 
 
-def step_word(step: Any) -> str:
+def operation_of(operation: Any) -> str:
+    if not isinstance(operation, str):
+        raise TypeError(f"operation is a {type(operation).__name__}, and not a text")
+    return operation
+
+
+def step_of(step: Any) -> str:
     """Returns a step as ember-mesh reads it. A float counts as its shortest decimal."""
     if isinstance(step, str):
         return step
@@ -90,14 +158,5 @@ def _decimal_of(step: Fraction) -> Decimal:
     return Decimal(step.numerator * 10**places // step.denominator).scaleb(-places)
 
 
-def _workers_of(workers: Optional[int]) -> int:
+def workers_of(workers: Optional[int]) -> int:
     return min(_MOST_WORKERS, len(os.sched_getaffinity(0))) if workers is None else workers
-
-
-def words_of(operation: str, step: Any, digits: Optional[int], workers: Optional[int]) -> Tuple[str, ...]:
-    """Returns the words of a Boolean."""
-    if not isinstance(operation, str):
-        raise TypeError(f"operation is a {type(operation).__name__}, and not a text")
-    words = [operation] if operation in _COMMANDS else ["bool", "--expr", operation]
-    words += ["--step", step_word(step), "--workers", str(_workers_of(workers))]
-    return (*words, *(["--digits", str(digits)] if digits is not None else []))

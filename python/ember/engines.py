@@ -1,7 +1,7 @@
 """Which engine does a call: the program ember-mesh, or the library."""
 from __future__ import annotations
 
-from dataclasses import dataclass
+from dataclasses import dataclass, replace
 from typing import Dict, Mapping, Optional, Sequence
 
 from . import library, program
@@ -10,7 +10,7 @@ from .errors import UsageError
 ENGINES = ("auto", "program", "library")
 # From how many triangles on the threads of the program are worth its start and its files.
 _MANY = 20_000
-_NO_ENGINE = "no engine: install the wheel of ember-mesh, or set EMBER_MESH to the program or EMBER_LIBRARY to libember.so.1"
+_NO_ENGINE = "no engine: install the wheel of ember-mesh, or set EMBER_MESH to the program or EMBER_LIBRARY to libember.so"
 
 
 @dataclass(frozen=True)
@@ -28,7 +28,8 @@ class Answer:
     files: Dict[str, bytes]
 
 
-def _chosen(engine: str, triangles: int, timeout: Optional[float]) -> str:
+def chosen(engine: str, triangles: int, timeout: Optional[float]) -> str:
+    """Returns the engine that does a call over about so many triangles."""
     if engine not in ENGINES:
         raise UsageError(2, f"engine {engine!r}: is none of {', '.join(ENGINES)}")
     if engine == "library" and timeout is not None:
@@ -49,6 +50,18 @@ def run(
     zero = next((it for it in (*words, *files) if "\0" in it), None)
     if zero is not None:
         raise UsageError(2, f"{zero!r}: no command line can have a zero byte")
-    if _chosen(engine, triangles, timeout) == "program":
+    if chosen(engine, triangles, timeout) == "program":
         return Answer(*program.run(words, files, timeout))
-    return Answer(*library.run(words, {**files, **library.read(paths)}))
+    return _in_memory(words, files, paths)
+
+
+def _in_memory(words: Sequence[str], files: Mapping[str, bytes], paths: Sequence[str]) -> Answer:
+    """Does it by the library, which is lent the bytes of the files."""
+    more, faults = library.read(paths)
+    answer = Answer(*library.run(words, {**files, **more}))
+    if answer.status == 3:
+        # The library knows only that it wasn't lent the file.
+        for path, why in faults.items():
+            if answer.err.startswith(f"ember-mesh: {path}: ".encode("utf-8", "surrogateescape")):
+                return replace(answer, err=f"ember-mesh: {path}: cannot be read ({why})\n".encode("utf-8", "surrogateescape"))
+    return answer

@@ -107,6 +107,10 @@ def _fault_of(line: str, names: Sequence[str]) -> Tuple[Optional[int], Optional[
 
 def error_of(status: int, line: str, names: Sequence[str]) -> EmberError:
     """Returns the exception for a status above 0, and the line that came with it. `names` are those of the meshes."""
-    mesh, place = _fault_of(line, names)
+    return error_at(status, line, *_fault_of(line, names))
+
+
+def error_at(status: int, line: str, mesh: Optional[int], place: Optional[int]) -> EmberError:
+    """Returns the exception for a status above 0, its line, and the indices of the mesh at fault and of the place in it."""
     line = line or _WITHOUT_LINE.get(status, f"ember-mesh ended with status {status}")
     return _KINDS.get(status, EmberError)(status, line + (_REPORT if status == 14 else ""), mesh, place)

@@ -24,27 +24,32 @@ class Input:
     """A mesh of a call.
 
     name    what the words and lines call it: its whole path, or `mesh N`
-    data    the bytes of its file; None if its name is a path
-    arrays  its vertices and faces, if it came as arrays
+    file    the bytes of its file, if it came as such
+    arrays  its vertices and faces, if it came as arrays. Nobody can write them
     stamp   when the file of the path was changed last, and its size; None if it isn't there
     """
 
     name: str
-    data: Optional[bytes] = None
+    file: Optional[bytes] = None
     arrays: Optional[Tuple[Vertices, Faces]] = None
     stamp: Optional[Tuple[int, int]] = None
+
+    @property
+    def data(self) -> Optional[bytes]:
+        """The bytes of its file; None if its name is a path."""
+        return ply_of(*self.arrays) if self.arrays else self.file
 
     @property
     def triangles(self) -> int:
         """About how many triangles it has."""
         if self.arrays:
             return len(self.arrays[1])
-        size = self.stamp[1] if self.stamp else len(self.data or b"")
+        size = self.stamp[1] if self.stamp else len(self.file or b"")
         return size // _TRIANGLE
 
     def refuse_change(self) -> None:
         """Raises InputError if the file isn't the one that it was."""
-        if self.data is None and _stamp_of(self.name) != self.stamp:
+        if self.arrays is None and self.file is None and _stamp_of(self.name) != self.stamp:
             raise InputError(5, f"{self.name}: has changed since the result was computed; compute it anew")
 
 
@@ -75,8 +80,7 @@ def _input_of(mesh: Any, index: int) -> Input:
     if isinstance(mesh, (str, os.PathLike)):
         path = os.path.abspath(os.fsdecode(Path(mesh)))
         return Input(path, stamp=_stamp_of(path))
-    arrays = arrays_of(mesh, index)
-    return Input(name, ply_of(*arrays), arrays)
+    return Input(name, arrays=arrays_of(mesh, index))
 
 
 def inputs_of(meshes: Iterable[Any]) -> List[Input]:

@@ -1,49 +1,38 @@
-"""The engine `library`: libember.so.1 is called in this process, by the declarations of ember.h."""
+"""The engine `library`: libember.so is called in this process. Python's lock is free during a call."""
 from __future__ import annotations
 
 import ctypes
-import functools
 import os
+from dataclasses import dataclass
 from pathlib import Path
-from typing import Any, Dict, Iterable, Mapping, Optional, Sequence, Tuple
+from typing import TYPE_CHECKING, Any, Dict, Iterable, Mapping, Optional, Sequence, Tuple
 
-# EMBER_ABI of the header that the types below are those of.
-_ABI = 1
+import numpy as np
+
+from . import declared
+
+if TYPE_CHECKING:
+    from .meshes import Faces, Vertices
+
 # Where a wheel has the library.
-_PACKED = Path(__file__).resolve().parent / "_lib/libember.so.1"
+_PACKED = Path(__file__).resolve().parent / "_lib/libember.so"
 
 
-class _Bytes(ctypes.Structure):
-    """ember_bytes: lent for the call."""
+@dataclass(frozen=True, eq=False)
+class Made:
+    """What a call over arrays gives.
 
-    _fields_ = [("at", ctypes.c_char_p), ("len", ctypes.c_size_t)]
+    status, line    as ember-mesh ends for the same meshes, and says: the report, or why there is no solid
+    mesh, place     the index of the mesh at fault, and that of its vertex or triangle, both from 0; None if none is known
+    vertices, faces  read-only arrays of the shapes (n, 3) and (m, 3), both empty with a status above 0
+    """
 
-
-class _Block(ctypes.Structure):
-    """ember_block: owned after the call."""
-
-    _fields_ = [("at", ctypes.c_void_p), ("len", ctypes.c_size_t)]
-
-
-class _File(ctypes.Structure):
-    """ember_file."""
-
-    _fields_ = [("name", _Bytes), ("bytes", _Bytes)]
-
-
-class _Named(ctypes.Structure):
-    """ember_named."""
-
-    _fields_ = [("name", _Block), ("bytes", _Block)]
-
-
-class _Answer(ctypes.Structure):
-    """ember_answer."""
-
-    _fields_ = [
-        ("status", ctypes.c_uint32), ("file", ctypes.c_uint32), ("place", ctypes.c_uint64), ("out", _Block), ("err", _Block),
-        ("files", ctypes.POINTER(_Named)), ("n_files", ctypes.c_size_t),
-    ]  # fmt: skip
+    status: int
+    line: bytes
+    mesh: Optional[int]
+    place: Optional[int]
+    vertices: Vertices
+    faces: Faces
 
 
 def found() -> Optional[str]:
@@ -54,64 +43,90 @@ def found() -> Optional[str]:
     return str(_PACKED) if _PACKED.exists() else None
 
 
-@functools.lru_cache(maxsize=None)
-def _loaded(path: str) -> Any:
-    opened = ctypes.CDLL(path)
-    opened.ember_abi.restype = ctypes.c_uint32
-    if opened.ember_abi() != _ABI:
-        raise ImportError(f"{path} has version {opened.ember_abi()} of its interface, and not {_ABI}; install the one of this package")
-    counts = (ctypes.POINTER(_Bytes), ctypes.c_size_t, ctypes.POINTER(_File), ctypes.c_size_t)
-    opened.ember_mesh_command.argtypes = [*counts, ctypes.POINTER(_Answer)]
-    opened.ember_mesh_command.restype = ctypes.c_uint32
-    return opened
+def _loaded() -> Any:
+    path = found()
+    if path is None:
+        raise FileNotFoundError("libember.so isn't in this package; set EMBER_LIBRARY to its path")
+    return declared.loaded(path)
 
 
-@functools.lru_cache(maxsize=None)
-def _free() -> Any:
-    free = ctypes.CDLL(None).free
-    free.argtypes, free.restype = [ctypes.c_void_p], None
-    return free
+def _bytes_at(at: Optional[int], size: int) -> bytes:
+    # ctypes.string_at takes sizes of 31 bits alone.
+    return (ctypes.c_char * size).from_address(at).raw if at else b""
 
 
-def _lent(data: bytes) -> _Bytes:
-    return _Bytes(data, len(data))
+def _copied(block: declared.Block) -> bytes:
+    return _bytes_at(block.at, block.len)
 
 
-def _copied(block: _Block) -> bytes:
-    return ctypes.string_at(block.at, block.len) if block.at else b""
+def _array(at: Optional[int], count: int, kind: str) -> Any:
+    """Returns a copy of a C array of triples, which nobody can write."""
+    dtype = np.dtype(kind)
+    data = _bytes_at(at, 3 * count * dtype.itemsize)
+    array = np.frombuffer(data, dtype=dtype).reshape(-1, 3) if data else np.empty((0, 3), dtype=dtype)
+    array.flags.writeable = False
+    return array
 
 
-def _free_answer(answer: _Answer) -> None:
+def _free_answer(answer: declared.Answer) -> None:
     """Does what ember_answer_free does."""
+    free = declared.free()
     named = [answer.files[index] for index in range(answer.n_files)]
     for block in (answer.out, answer.err, *(it.name for it in named), *(it.bytes for it in named)):
-        _free()(block.at)
-    _free()(ctypes.cast(answer.files, ctypes.c_void_p))
+        free(block.at)
+    free(ctypes.cast(answer.files, ctypes.c_void_p))
 
 
-def read(paths: Iterable[str]) -> Dict[str, bytes]:
-    """Returns the bytes of the files that can be read, by their paths."""
-    files = {}
+def _free_solid(solid: declared.Solid) -> None:
+    """Does what ember_solid_free does."""
+    for at in (solid.line.at, solid.vertices, solid.triangles):
+        declared.free()(at)
+
+
+def boolean(meshes: Sequence[Tuple[Vertices, Faces]], expression: str, step: str, digits: Optional[int]) -> Made:
+    """Returns the solid of an expression over contiguous arrays, which nobody may write meanwhile."""
+    call = _loaded().ember_boolean_with
+    lent = (declared.Mesh * len(meshes))(*((it.ctypes.data, len(it), to.ctypes.data, len(to)) for it, to in meshes))
+    texts = [part for it in (expression.encode(), step.encode()) for part in (it, len(it))]
+    solid = declared.Solid()
+    try:
+        status = call(lent, len(meshes), *texts, declared.DIGITS_OF_STEP if digits is None else digits, ctypes.byref(solid))
+        return Made(
+            status,
+            _copied(solid.line),
+            solid.mesh - 1 if solid.mesh else None,
+            None if solid.place == declared.NO_PLACE else solid.place,
+            _array(solid.vertices, solid.n_vertices, "<f8"),
+            _array(solid.triangles, solid.n_triangles, "<u4"),
+        )
+    finally:
+        _free_solid(solid)
+
+
+def _lent(data: bytes) -> declared.Bytes:
+    return declared.Bytes(data, len(data))
+
+
+def read(paths: Iterable[str]) -> Tuple[Dict[str, bytes], Dict[str, str]]:
+    """Returns the bytes of the files that can be read, and why the others can't be, both by their paths."""
+    files, faults = {}, {}
     for path in paths:
         try:
             files[path] = Path(path).read_bytes()
-        except OSError:
-            continue  # The library says that it can't be read.
-    return files
+        except OSError as fault:
+            faults[path] = str(fault.strerror)
+    return files, faults
 
 
 def run(words: Sequence[str], files: Mapping[str, bytes]) -> Tuple[int, bytes, bytes, Dict[str, bytes]]:
-    """Returns the exit status, both streams, and the files that would be written. Python's lock is free during the call."""
-    path = found()
-    if path is None:
-        raise FileNotFoundError("libember.so.1 isn't in this package; set EMBER_LIBRARY to its path")
+    """Returns the exit status, both streams, and the files that would be written."""
+    call = _loaded().ember_mesh_command
     texts = [os.fsencode(it) for it in words]
-    names = [os.fsencode(it) for it in files]
-    lent_words = (_Bytes * len(texts))(*map(_lent, texts))
-    lent_files = (_File * len(names))(*(_File(_lent(name), _lent(data)) for name, data in zip(names, files.values())))
-    answer = _Answer()
-    status = _loaded(path).ember_mesh_command(lent_words, len(texts), lent_files, len(names), ctypes.byref(answer))
+    lent = [declared.File(_lent(os.fsencode(name)), _lent(bytes(data))) for name, data in files.items()]
+    answer = declared.Answer()
     try:
+        parts = (declared.Bytes * len(texts))(*map(_lent, texts)), len(texts), (declared.File * len(lent))(*lent), len(lent)
+        status = call(*parts, ctypes.byref(answer))
         named = [answer.files[index] for index in range(answer.n_files)]
         written = {os.fsdecode(_copied(it.name)): _copied(it.bytes) for it in named}
         return status, _copied(answer.out), _copied(answer.err), written

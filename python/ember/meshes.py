@@ -50,8 +50,7 @@ class Mesh:
     """
 
     def __init__(self, vertices: Any, faces: Any) -> None:
-        places, corners = checked(vertices, faces, None)
-        self._vertices, self._faces = _frozen(places), _frozen(corners)
+        self._vertices, self._faces = checked(vertices, faces, None)
 
     @property
     def vertices(self) -> Vertices:
@@ -65,8 +64,9 @@ class Mesh:
         return f"<ember.{type(self).__name__} of {len(self.faces)} triangles>"
 
 
-def _frozen(array: NDArray[Any]) -> NDArray[Any]:
-    array = array.copy()
+def _frozen(array: NDArray[Any], dtype: str) -> NDArray[Any]:
+    """Returns a copy that nobody can write: a call may take long, and other threads run meanwhile."""
+    array = np.array(array, dtype=dtype, order="C")
     array.flags.writeable = False
     return array
 
@@ -92,7 +92,7 @@ def _checked_vertices(vertices: Any, index: Optional[int]) -> Vertices:
         raise TypeError(_line(index, f"vertices are of the type {found.dtype}, which float64 can't hold; convert them"))
     if found.ndim != 2 or found.shape[1] != 3:
         raise _fault(index, f"vertices have the shape {found.shape}, and not (n, 3)")
-    return np.ascontiguousarray(found, dtype="<f8")
+    return _frozen(found, "<f8")
 
 
 def _checked_faces(faces: Any, count: int, index: Optional[int]) -> Faces:
@@ -104,17 +104,19 @@ def _checked_faces(faces: Any, count: int, index: Optional[int]) -> Faces:
     wrong = np.flatnonzero(((found < 0) | (found >= count)).any(axis=1))
     if len(wrong):
         raise _fault(index, f"face {wrong[0] + 1}: names a vertex that isn't there", int(wrong[0]))
-    return np.ascontiguousarray(found, dtype="<u4")
+    return _frozen(found, "<u4")
 
 
 def checked(vertices: Any, faces: Any, index: Optional[int]) -> Tuple[Vertices, Faces]:
-    """Returns both as contiguous arrays of float64 and uint32. `index` is that of the mesh in the list, from 0."""
+    """Returns both as read-only copies of float64 and uint32, in C's order. `index` is that of the mesh in the list, from 0."""
     places = _checked_vertices(vertices, index)
     return places, _checked_faces(faces, len(places), index)
 
 
 def arrays_of(mesh: Any, index: int) -> Tuple[Vertices, Faces]:
     """Returns the arrays of whatever has some."""
+    if isinstance(mesh, Mesh):
+        return mesh.vertices, mesh.faces
     if hasattr(mesh, "vertices") and hasattr(mesh, "faces"):
         return checked(mesh.vertices, mesh.faces, index)
     if hasattr(mesh, "vert_properties") and hasattr(mesh, "tri_verts"):

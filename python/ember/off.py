@@ -6,6 +6,7 @@ from typing import TYPE_CHECKING, List, Tuple
 import numpy as np
 
 from .exact import Units, units_of_text
+from .meshes import checked
 
 if TYPE_CHECKING:
     from .meshes import Faces, Vertices
@@ -19,11 +20,11 @@ def _parts(data: bytes) -> Tuple[int, int, bytes]:
 
 
 def arrays_of_off(data: bytes) -> Tuple[Vertices, Faces]:
-    """Returns the vertices as the nearest doubles, and the triangles."""
+    """Returns the vertices as the nearest doubles, and the triangles. Nobody can write them."""
     count, triangles, body = _parts(data)
     numbers = np.fromstring(body, dtype=np.float64, sep=" ")
     faces = numbers[3 * count :].reshape(triangles, 4)[:, 1:]
-    return numbers[: 3 * count].reshape(count, 3), faces.astype(np.uint32)
+    return checked(numbers[: 3 * count].reshape(count, 3), faces.astype(np.uint32), None)
 
 
 def units_of_off(data: bytes, places: int) -> List[Units]:

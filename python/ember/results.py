@@ -8,12 +8,10 @@ from typing import TYPE_CHECKING, Any, List, Optional, Tuple, Union
 
 import numpy as np
 
-from .calls import Call, said, warn_of
-from .engines import Answer
+from .calls import Call, Solid, said, warn_of
 from .errors import UsageError
 from .kept import Kept, exact_arrays
 from .meshes import Mesh
-from .off import arrays_of_off
 from .report import report_of
 
 if TYPE_CHECKING:
@@ -56,9 +54,9 @@ class Result(Mesh):
     sources: Optional[NDArray[Any]]
     exact: Optional[Tuple[NDArray[Any], ...]]
 
-    def __init__(self, call: Call, answer: Answer) -> None:
-        super().__init__(*arrays_of_off(answer.files["out.off"]))
-        self._call, self.report = call, said(answer)
+    def __init__(self, call: Call, solid: Solid) -> None:
+        self._vertices, self._faces = solid.vertices, solid.faces
+        self._call, self.report = call, solid.report
         report = report_of(self.report)
         self.step, self.offset = report.step, report.offset
         self.moves, self.volumes, self.rounding_move = report.moves, report.volumes, report.rounding_move
@@ -94,7 +92,7 @@ class Result(Mesh):
         for it in self._call.inputs:
             it.refuse_change()
         answer = self._call.answer(ending)
-        warn_of("\n".join(it for it in said(answer).splitlines() if it not in self.report.splitlines()))
+        warn_of("\n".join(it for it in said(answer.err).splitlines() if it not in self.report.splitlines()))
         return answer.files[f"out.{ending}"]
 
     def to_trimesh(self, process: bool = False) -> Any:
@@ -106,11 +104,12 @@ class Result(Mesh):
 
 def computed(call: Call, *, sources: bool, exact: bool) -> Result:
     """Returns the result of a call. Raises what `boolean` raises."""
-    answer = call.answer("off", keep=sources or exact)
-    result = Result(call, answer)
+    # The library's call over arrays gives neither of both, so the files of `--keep` are read.
+    solid = call.solid(keep=sources or exact)
+    result = Result(call, solid)
     warn_of(result.report)
     if sources or exact:
-        kept = Kept(answer.files, report_of(result.report), call.inputs)
+        kept = Kept(solid.files, report_of(result.report), call.inputs)
         vertices = kept.vertices(result.faces, call.digits)
         result.exact = exact_arrays(vertices) if exact else None
         result.sources = kept.sources(vertices, result.faces) if sources else None

@@ -84,15 +84,6 @@ def test_workers_change_nothing(engine):
     assert (one.vertices == four.vertices).all() and (one.faces == four.faces).all()
 
 
-def test_both_engines_agree(both_engines):
-    for meshes in ([A, B], [EXAMPLES / "plate.stl", EXAMPLES / "label.stl"], [EXAMPLES / "cube.obj", EXAMPLES / "wedge.obj"]):
-        for operation in ("union", "difference", "intersection", "m1^m2"):
-            one, other = (ember.boolean(meshes, operation, sources=True, exact=True, engine=it) for it in both_engines)
-            assert (one.vertices == other.vertices).all() and (one.faces == other.faces).all() and (one.sources == other.sources).all()
-            assert one.report == other.report
-            assert all((p == q).all() for p, q in zip(one.exact, other.exact))
-
-
 def test_volumes_of_meshes(engine):
     """They are those on the grid: a shell that is there twice counts twice, and corners have moved."""
     twice = np.vstack([A[0], B[0]]), np.vstack([A[1], B[1] + 8])

@@ -8,11 +8,12 @@ import threading
 import time
 from pathlib import Path
 
+import numpy as np
 import pytest
 
 import ember
 from ember import engines, library, processor, program
-from scenes import box
+from scenes import EXAMPLES, box
 
 A, B = box((0, 0, 0), (1, 1, 1)), box((0.25, 0.25, 0.25), (0.75, 0.75, 2))
 CHOICES = [
@@ -185,48 +186,73 @@ def test_files_out_of_the_folder(false_program, name):
 
 
 @pytest.fixture
-def made_library(tmp_path, monkeypatch):
-    """Compiles a library in C, and puts it into the place of ember's."""
+def false_library(tmp_path, monkeypatch):
+    """Compiles a library that lacks memory, and puts it into the place of ember's."""
 
-    def make(source):
+    def put(*options):
         made = tmp_path / "made.so"
-        include = Path(__file__).resolve().parent.parent.parent / "include"
+        here = Path(__file__).resolve().parent
         if not shutil.which("cc"):
             pytest.skip("there is no C compiler")
-        subprocess.run(["cc", "-shared", "-fPIC", f"-I{include}", "-o", made, source], check=True)
+        subprocess.run(["cc", "-shared", "-fPIC", *options, f"-I{here.parent.parent / 'include'}", "-o", made, here / "false_library.c"], check=True)
         monkeypatch.setenv("EMBER_LIBRARY", str(made))
 
-    return make
+    return put
 
 
-def test_what_is_lent_comes_back(made_library):
-    """The structs are those of the header: a library that is compiled against it gets the words and files, and gives them back."""
-    made_library(Path(__file__).parent / "false_library.c")
-    words, files = ["3", "", "a b", "ä" * 999], {"mesh 1": b"\0a\0", "none": b"", "long/ü": bytes(range(256)) * 4096}
-    answer = ember.command(words, files, engine="library")
-    assert (answer.status, answer.err, answer.files) == (3, b"4 words, 3 files", files)
-    assert answer.out.decode() == "".join(f"{it}\n" for it in words)
-    empty = ember.command([], engine="library")
-    assert (empty.status, empty.out, empty.err, empty.files) == (0, b"", b"0 words, 0 files", {})
+def test_a_library_without_memory(false_library, tmp_path):
+    false_library()
+    for mesh in (A, tmp_path / "a.stl"):
+        with pytest.raises(ember.OutOfMemory, match="^out of memory$") as caught:
+            ember.union(mesh, engine="library")
+        assert (caught.value.status, caught.value.mesh, caught.value.place) == (12, None, None)
 
 
-def test_the_library_is_lent_the_files_of_paths(made_library, tmp_path):
-    made_library(Path(__file__).parent / "false_library.c")
-    (tmp_path / "a.stl").write_bytes(b"solid")
-    given = {"paths": [str(tmp_path / "a.stl"), str(tmp_path / "none.stl")], "engine": "library", "triangles": 0, "timeout": None}
-    assert engines.run(["0"], {"mesh 2": b"ply"}, **given).files == {"mesh 2": b"ply", str(tmp_path / "a.stl"): b"solid"}
-
-
-def test_a_library_of_another_interface(made_library, tmp_path):
-    (tmp_path / "other.c").write_text("unsigned ember_abi(void) { return 7; }")
-    made_library(tmp_path / "other.c")
+def test_a_library_of_another_interface(false_library):
+    false_library("-DABI=7")
     with pytest.raises(ImportError, match="has version 7 of its interface, and not 1"):
         ember.union(A, engine="library")
 
 
-def test_many_calls_at_once():
+def library_or_skip():
     if library.found() is None:
         pytest.skip("the engine library isn't there")
+
+
+def test_arrays_go_to_the_library_as_they_are(monkeypatch):
+    """No file is made of them, unless sources or exact corners are wanted."""
+    library_or_skip()
+    calls = []
+    whole = library.run
+    monkeypatch.setattr(library, "run", lambda words, files: (calls.append(words[0]), whole(words, files))[1])
+    ember.difference(A, B, engine="library")
+    assert calls == []
+    ember.difference(A, B, engine="library", exact=True)
+    ember.difference(A, EXAMPLES / "cube.obj", engine="library")
+    assert calls == ["difference"] * 2
+
+
+def test_what_is_lent_is_a_copy():
+    """Whoever writes the arrays later, or in another thread, changes no result."""
+    library_or_skip()
+    vertices, faces = A[0].copy(), A[1].astype(np.uint32)
+    found = ember.union((vertices, faces), engine="library")
+    before = found.export("off")
+    vertices += 1
+    faces[:] = 0
+    assert found.export("off") == before
+
+
+def test_arrays_that_are_not_aligned():
+    library_or_skip()
+    data = b"\0" + A[0].astype("<f8").tobytes()
+    vertices = np.frombuffer(data, dtype="<f8", offset=1).reshape(-1, 3)
+    assert not vertices.flags.aligned
+    assert len(ember.union((vertices, A[1]), engine="library").faces) == 12
+
+
+def test_many_calls_at_once():
+    library_or_skip()
     wanted = ember.union(A, B, engine="library").export("stl")
     found = []
     threads = [threading.Thread(target=lambda: found.extend(ember.union(A, B, engine="library").export("stl") for _ in range(20))) for _ in range(8)]
