@@ -1,4 +1,4 @@
-"""What the packages have in common: whose version and commit they are, the programs that the build proved, and the files beside them."""
+"""What the packages have in common: whose version and commit they are, what the build proved, and the files beside it."""
 import importlib.machinery
 import importlib.util
 import os
@@ -6,12 +6,15 @@ import re
 import shutil
 import subprocess
 import sys
+import tempfile
 import time
 from pathlib import Path
 
 TOP = Path(__file__).resolve().parent.parent.parent
-# The crate of each program, by the program's place in a package.
+# The crate of each program and library, by its place in a package.
 PROGRAMS = {"bin/ember": "ember", "bin/ember-mesh": "mesh_program"}
+LIBRARIES = {"lib/libember.a": "ember_c", "lib/libember.so.1": "ember_c"}
+BUILT = {**PROGRAMS, **LIBRARIES}
 # What a package is made of.
 SOURCES = ["crates", "crates.txt", "HANDLES", "docs", "completions", "examples", "tools", "packages", "python", "include", "web", "Makefile", "LICENSE", "CHANGELOG.md"]
 
@@ -64,46 +67,45 @@ def refuse_changes():
 
 
 def build(jobs, crates=None):
-    """Proves and builds the programs. Ends if a source was changed meanwhile: the program may be that of another text then."""
+    """Proves and builds these crates. Ends if a source was changed meanwhile: what was built may be that of another text then."""
     refuse_changes()
     begun = time.time()
-    for crate in crates or PROGRAMS.values():
+    for crate in dict.fromkeys(crates or BUILT.values()):
         build = [TOP / "tools/build", "--program", crate, *(["--jobs", str(jobs)] if jobs else [])]
         if subprocess.run(build, check=False).returncode:
-            fail("there is no package without its programs")
+            fail("there is no package without what it is of")
     refuse_changes()
     sources = [TOP / "crates.txt", TOP / "HANDLES", *(it for it in (TOP / "crates").rglob("*") if "out" not in it.parts and it.is_file())]
     for newer in (it for it in sources if it.stat().st_mtime > begun):
-        fail(f"{newer.relative_to(TOP)} was changed while the programs were built: make the package anew")
+        fail(f"{newer.relative_to(TOP)} was changed during the build: make the package anew")
 
 
-def crates_of(programs):
-    """Returns the crates that the programs use, lowest first."""
+def crates_of(built):
+    """Returns the crates that these programs and libraries use, lowest first."""
     crates = builder.listed()
-    names = set().union(*(builder.below(crates, it) for it in programs.values()))
+    names = set().union(*(builder.below(crates, it) for it in built.values()))
     return [it for it in crates if it in names]
 
 
 def last_line_of_check(crate):
-    """Returns what the toolchain said last of the proof of a program. The build keeps it, since it is said only when the program is proved."""
+    """Returns what the toolchain said last of the proof of a crate. The build keeps it, since it is said only when the crate is proved."""
     path = Path(builder.room(), f"{crate}.proved")
     if not path.exists():
         fail(f"there is no {path}, which has what the toolchain said of the proof")
     return path.read_text(encoding="utf-8").strip()
 
 
-def proved(folder, programs=None):
-    """Returns the text of PROVED: what the programs in the folder are, and what was proved of them."""
-    programs = programs or PROGRAMS
-    sums = subprocess.run(["sha256sum", *programs], cwd=folder, stdout=subprocess.PIPE, text=True, check=True).stdout
-    checks = [f"{place}: {last_line_of_check(crate)}\n" for place, crate in programs.items()]
-    libraries = len(crates_of(programs)) - len(programs)
+def proved(folder, built):
+    """Returns the text of PROVED: what the programs and libraries in the folder are, and what was proved of them."""
+    sums = subprocess.run(["sha256sum", *built], cwd=folder, stdout=subprocess.PIPE, text=True, check=True).stdout
+    checks = [f"{place}: {last_line_of_check(crate)}\n" for place, crate in built.items()]
+    below = len(set(crates_of(built)) - set(built.values()))
     return (
-        f"ember {version()}: what these programs are, and what was proved of them\n\n"
+        f"ember {version()}: what these files are, and what was proved of them\n\n"
         f"commit {output_of('git', 'rev-parse', 'HEAD')}\n"
         f"toolchain {output_of('rt', 'version')}\n\n"
-        f"The SHA-256 of each program, as the build made it:\n\n{sums}\n"
-        f"They use {libraries} crates of this commit, each of which the build proved before. The last line of the check of each program:\n\n"
+        f"The SHA-256 of each file, as the build made it:\n\n{sums}\n"
+        f"They use {below} crates of this commit, each of which the build proved before. The last line of the check of each file:\n\n"
         f"{''.join(checks)}"
     )
 
@@ -113,10 +115,10 @@ def kit():
     return Path(os.path.realpath(shutil.which("rt"))).parent.parent / "rattle"
 
 
-def libraries(programs):
-    """Returns the toolchain's libraries that the programs use, directly or below others."""
+def libraries(built):
+    """Returns the toolchain's libraries that these programs and libraries use, directly or below others."""
     open_, found = {"std"}, set()
-    for crate in crates_of(programs):
+    for crate in crates_of(built):
         line = builder.listed()[crate][0]
         open_ |= set(line.partition("#")[0].partition(":")[2].split())
     while open_:
@@ -129,10 +131,10 @@ def libraries(programs):
     return sorted(found)
 
 
-def licences(programs=None):
-    """Returns the text of LIBRARIES: the licences of the libraries whose code is in the programs."""
-    text = "The programs contain code of these libraries of the toolchain, under their own licences.\n"
-    for name in libraries(programs or PROGRAMS):
+def licences(built):
+    """Returns the text of LIBRARIES: the licences of the toolchain's libraries whose code is in these files."""
+    text = f"The files {', '.join(built)} contain code of these libraries of the toolchain, under their own licences.\n"
+    for name in libraries(built):
         files = sorted((kit() / name).glob("LICENSE*"))
         # Where the user may choose, it is this one.
         files = [it for it in files if it.name == "LICENSE-MIT"] or files
@@ -141,16 +143,20 @@ def licences(programs=None):
     return text
 
 
-def install(room, prefix, **places):
-    """Puts what `make install` and `make install-mesh` install below the prefix into the folder. Other places are variables of the Makefile."""
-    words = [f"{name}={place}" for name, place in {"DESTDIR": room, "PREFIX": prefix, "doc": "$(mesh_doc)", **places}.items()]
-    # They are built already, and not to be built again.
-    subprocess.run(["make", "-s", "-C", TOP, "-o", "build", "-o", "mesh", "install", "install-mesh", *words], check=True)
+def install(room, prefix, goals, **places):
+    """Puts what these goals of the Makefile install below the prefix into the folder. Other places are variables of the Makefile."""
+    with tempfile.TemporaryDirectory() as library:
+        if "install-library" in goals:
+            subprocess.run([TOP / "tools/library", "--built", library], stdout=subprocess.DEVNULL, check=True)
+        places = {"DESTDIR": room, "PREFIX": prefix, "LIBRARY": library, "doc": "$(mesh_doc)", **places}
+        words = [f"{name}={place}" for name, place in places.items()]
+        # All is built already, and not to be built again.
+        subprocess.run(["make", "-s", "-C", TOP, "-o", "build", "-o", "mesh", "-o", "library", *goals, *words], check=True)
 
 
-def needed_libc(folder, programs=None):
-    """Returns the least version of the C library with which the programs in the folder start."""
-    versions = [it for program in programs or PROGRAMS for it in re.findall(rb"GLIBC_([\d.]+)\0", (folder / program).read_bytes())]
+def needed_libc(folder, built):
+    """Returns the least version of the C library with which the programs and shared libraries in the folder start."""
+    versions = [it for place in built for it in re.findall(rb"GLIBC_([\d.]+)\0", (folder / place).read_bytes())]
     return max((it.decode() for it in versions), key=lambda it: [int(part) for part in it.split(".")])
 
 
@@ -163,5 +169,6 @@ def settle(room):
     """Gives all files the time of the commit and the usual permissions, whatever the user's are."""
     when = commit_time()
     for path in [room, *room.rglob("*")]:
-        path.chmod(0o755 if path.is_dir() or path.parent.name == "bin" else 0o644)
-        os.utime(path, (when, when))
+        if not path.is_symlink():
+            path.chmod(0o755 if path.is_dir() or path.parent.name == "bin" else 0o644)
+        os.utime(path, (when, when), follow_symlinks=False)
