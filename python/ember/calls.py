@@ -30,6 +30,7 @@ _COMMANDS = {"union": "|", "difference": "&!", "intersection": "&"}
 _MOST_WORKERS = 64
 _MOST_MESHES = 64
 _MOST_DIGITS = 17
+_PLAIN_STEP = re.compile(r"nice|finest|(?=.*[1-9])[0-9]+(?:\.[0-9]+)?")
 _PROGRAM = re.compile("^ember-mesh: ", re.M)
 # A format of decimals rounds corners far only where the user wants few digits.
 _WARNING = re.compile("^warning: (?!rounding for (?:OBJ|PLY|OFF) )(.*)$", re.M)
@@ -83,11 +84,13 @@ class Call:
         return Solid(*arrays_of_off(answer.files["out.off"]), said(answer.err), answer.files)
 
     def _is_of_arrays(self) -> bool:
-        """Whether the library can be asked for just this by its call over arrays. Its call with words says what is wrong with the rest."""
+        """Whether the library can be asked for just this by its call over arrays. Its call with words says what is wrong with all else."""
         return (
             0 < len(self.inputs) <= _MOST_MESHES
             and all(it.arrays for it in self.inputs)
-            and all(it.isascii() and it and "\0" not in it for it in (self.operation, self.step))
+            and self.operation.isascii()
+            and "\0" not in self.operation
+            and bool(_PLAIN_STEP.fullmatch(self.step))
             and (self.digits is None or _is_between(self.digits, 0, _MOST_DIGITS))
             and _is_between(self.workers, 1, _MOST_WORKERS)
         )

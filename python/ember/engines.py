@@ -1,6 +1,7 @@
 """Which engine does a call: the program ember-mesh, or the library."""
 from __future__ import annotations
 
+import os
 from dataclasses import dataclass, replace
 from typing import Dict, Mapping, Optional, Sequence
 
@@ -58,8 +59,10 @@ def run(
 def _in_memory(words: Sequence[str], files: Mapping[str, bytes], paths: Sequence[str]) -> Answer:
     """Does it by the library, which is lent the bytes of the files."""
     more, faults = library.read(paths)
-    answer = Answer(*library.run(words, {**files, **more}))
-    if answer.status == 3:
+    # Standard input is empty, as it is for the program.
+    status, out, err, written = library.run(words, {**files, **more, "-": b""})
+    answer = Answer(status, out, err, {os.path.normpath(name): data for name, data in written.items()})
+    if status == 3:
         # The library knows only that it wasn't lent the file.
         for path, why in faults.items():
             if answer.err.startswith(f"ember-mesh: {path}: ".encode("utf-8", "surrogateescape")):
