@@ -4,7 +4,7 @@
    memory PROGRAM WORDS..   the call again and again, first without any memory, then with one more request that is met each time, and each
                             request alone refused: a call ends with status 12 and a line at most, or as if nothing was refused, and
                             leaves no block that the caller doesn't get
-   threads PROGRAM WORDS..  the call in 8 threads with 256 KiB of stack each, 20 times in each: all give the same bytes
+   threads PROGRAM WORDS..  the call in 8 threads with 256 KiB of stack each, 100 times in each: all give the same bytes
 
    Linked with --wrap for malloc, realloc and free, it counts the library's blocks. */
 #define _XOPEN_SOURCE 700
@@ -15,7 +15,7 @@
 #include <stdio.h>
 #include <sys/stat.h>
 
-enum { MOST_FILES = 256, THREADS = 8, CALLS = 20, STACK = 256 * 1024 };
+enum { MOST_FILES = 256, THREADS = 8, CALLS = 100, STACK = 256 * 1024 };
 
 typedef uint32_t command(const ember_bytes *, size_t, const ember_file *, size_t, ember_answer *);
 
