@@ -23,7 +23,7 @@ mesh_documents = trust/TRUST.md use/FORMATS.md use/MESHES.md
 library_documents = trust/TRUST.md use/EMBED.md use/FORMATS.md use/LIBRARY.md use/MESHES.md
 examples = cube.obj tetra.obj tetra.txt wedge.obj
 mesh_examples = export.obj label.stl plate.stl
-library_examples = arrays.c difference.c difference.cpp difference.rs
+library_examples = arrays.c arrays.rs difference.c difference.cpp difference.rs
 
 build:
 	tools/build
