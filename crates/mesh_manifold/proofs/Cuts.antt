@@ -121,9 +121,9 @@ mesh_is_cut es planes ts ps shown mesh at all h origins planes_are =
 
 -- ---- triangles that aren't cut
 -- without edges each triangle stays as it is
-nothing_cut : (ts : List DecimalTriangle) → ts ≡ flat_map (pieces []) ts
+pub nothing_cut : (ts : List DecimalTriangle) → ts ≡ flat_map (pieces []) ts
 nothing_cut [] = refl
 nothing_cut (t ∷ ts) = ap (λ (us : List DecimalTriangle). t ∷ us) (nothing_cut ts)
 
-pub uncut : (ts : List DecimalTriangle) → AreCutOf ts ts
+unfoldable pub uncut : (ts : List DecimalTriangle) → AreCutOf ts ts
 uncut ts = record { edges = []; is = nothing_cut ts }
