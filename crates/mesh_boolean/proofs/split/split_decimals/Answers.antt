@@ -4,6 +4,7 @@ use Rattle.mesh_manifold.proofs.Cuts.{uncut}
 use Rattle.mesh_boolean.proofs.split.split_decimals.Goals as goal
 
 pub returns-then-split : goal.returns-then-split
+unfolding uncut
 returns-then-split c = λ ts is.
     c.split_over.ensures ts ts (uncut ts) is (subst (AreSplitOf c.in_ok-split.split.mesh) (c.triangles.ensures ts is)
     c.in_ok-split.ensures.corners) c.in_ok-split.ensures.manifold (λ no. refl) refl
@@ -16,6 +17,7 @@ returns-then-again c = λ ts is.
     c.in_ok-again.ensures.manifold (λ no. absurd (true≢false (sym c.if-again.true ∙ no))) cut.origins
 
 pub returns : goal.returns
+unfolding uncut
 returns c = λ ts is.
     c.split_over-2.ensures ts ts (uncut ts) is (subst (AreSplitOf c.in_ok-split.split.mesh) (c.triangles.ensures ts is)
     c.in_ok-split.ensures.corners) c.in_ok-split.ensures.manifold (λ no. refl) refl
