@@ -1,0 +1,11 @@
+pub mod Outside
+pub mod Floors
+pub mod BoxesApart
+pub mod SamePlanes
+pub mod Bounded
+pub mod Placed
+pub mod NodeLists
+pub mod Found
+pub mod ItemLists
+pub mod Skipped
+pub mod Sourced

@@ -1,0 +1,45 @@
+// Three points of space.
+ghost use Rattle.std.specs.Prelude.{◌≡◌};
+ghost use Rattle.ember_model.specs.Valid.{IsValidCorner, IsValidTri};
+ghost use Rattle.mesh_certificate.specs.Certificate.Facing.{spot_of};
+ghost use Rattle.mesh_sources.specs.Places.{spot_at, spots_of, spots_turned};
+
+use ember_model::{Corner, Tri};
+use mesh_certificate::SpacePoint;
+
+/// Three points, the corners of a triangle.
+#[derive(Clone, Copy)]
+pub struct Corners {
+    pub u: SpacePoint,
+    pub v: SpacePoint,
+    pub w: SpacePoint,
+}
+
+fn point_at(c: &Corner) -> SpacePoint
+    requires { IsValidCorner c.now }
+    ensures { spot_of result ≡ spot_at c.now }
+{
+    SpacePoint {
+        x: c.x as i128,
+        y: c.y as i128,
+        z: c.z as i128,
+        w: 1,
+    }
+}
+
+/// The corners of a triangle of the scene, in the opposite order if it is turned.
+pub fn corners_of(t: &Tri, is_turned: bool) -> Corners
+    requires { IsValidTri t.now }
+    ensures { spots_of result ≡ spots_turned is_turned t.now }
+{
+    let (second, third) = if is_turned {
+        (&t.c, &t.b)
+    } else {
+        (&t.b, &t.c)
+    };
+    Corners {
+        u: point_at(&t.a),
+        v: point_at(second),
+        w: point_at(third),
+    }
+}
