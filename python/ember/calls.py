@@ -105,7 +105,7 @@ class Call:
 
 
 def _is_between(number: Any, least: int, most: int) -> bool:
-    return isinstance(number, Integral) and not isinstance(number, bool) and least <= number <= most
+    return isinstance(number, Integral) and not isinstance(number, bool) and least <= int(number) <= most
 
 
 def said(lines: bytes) -> str:

@@ -86,7 +86,7 @@ def _free_solid(solid: declared.Solid) -> None:
 def boolean(meshes: Sequence[Tuple[Vertices, Faces]], expression: str, step: str, digits: Optional[int]) -> Made:
     """Returns the solid of an expression over contiguous arrays, which nobody may write meanwhile."""
     call = _loaded().ember_boolean_with
-    lent = (declared.Mesh * len(meshes))(*((it.ctypes.data, len(it), to.ctypes.data, len(to)) for it, to in meshes))
+    lent = (declared.Mesh * len(meshes))(*(declared.Mesh(it.ctypes.data, len(it), to.ctypes.data, len(to)) for it, to in meshes))
     texts = [part for it in (expression.encode(), step.encode()) for part in (it, len(it))]
     solid = declared.Solid()
     try:

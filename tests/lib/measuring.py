@@ -68,9 +68,12 @@ class Watch(threading.Thread):
             time.sleep(0.002)
 
 
-def instructions(program, words, folder, seconds=1800):
-    """How many instructions callgrind counts in user space, or None where it took too long or there is no valgrind."""
-    command = ["valgrind", "--tool=callgrind", "--callgrind-out-file=/dev/null", program, *words]
+def instructions(program, words, folder, seconds=1800, options=()):
+    """How many instructions callgrind counts in user space, or None where it took too long or there is no valgrind.
+
+    With options of callgrind it counts only what they say.
+    """
+    command = ["valgrind", "--tool=callgrind", "--callgrind-out-file=/dev/null", *options, program, *words]
     try:
         done = subprocess.run(command, cwd=folder, stdin=subprocess.DEVNULL, stdout=subprocess.DEVNULL, stderr=subprocess.PIPE, timeout=seconds)
     except (subprocess.TimeoutExpired, FileNotFoundError):
