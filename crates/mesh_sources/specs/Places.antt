@@ -42,8 +42,8 @@ abbrev pub AreOn : Plane → Spots → Type 0
 AreOn p s = EachSpot (λ x. value_at p x ≡ pos 0) s
 
 -- ---- triangles of the scene
--- positive if the triangle t, which lies in the plane p, faces the plane's front, negative if it faces the back, and 0 if
--- t has no area
+-- positive if the triangle t, which lies in the plane p, faces the plane's front, negative if it faces the back, and 0
+-- if t has no area
 abbrev pub facing : Plane → Tri → ℤ
 facing p t = dot (normal p) (normal (support_of t))
 

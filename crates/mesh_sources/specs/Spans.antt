@@ -45,8 +45,8 @@ abbrev pub IsBoxAround : SpaceBox → Tri → Type 0
 IsBoxAround b t = EachAxis (λ k. IsSpanAround k (span_along k b) (spots_in_order t))
 
 -- ---- the box around three rational points
--- a whole number of at most 2047 in size is at most the end exactly if it is at most some of the points, and at least the
--- start exactly if it is at least some of them
+-- a whole number of at most 2047 in size is at most the end exactly if it is at most some of the points, and at least
+-- the start exactly if it is at least some of them
 pub record IsSpanOver (k : Axis) (s : Span) (r : Spots) : Type 0 where
   pub to : (z : ℤ) → Small 2047 z → (z ≤ℤ s.high) ↔ SomeSpot (λ v. (v.w *ℤ z) ≤ℤ coordinate k v) r
   pub from : (z : ℤ) → Small 2047 z → (s.low ≤ℤ z) ↔ SomeSpot (λ v. coordinate k v ≤ℤ (v.w *ℤ z)) r

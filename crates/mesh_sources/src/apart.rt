@@ -69,8 +69,8 @@ fn are_outside(plane: &Plane, a: &SpacePoint, b: &SpacePoint, s: &Corners) -> bo
     is_outside(plane, a, b, &s.u) && is_outside(plane, a, b, &s.v) && is_outside(plane, a, b, &s.w)
 }
 
-/// Whether the line of some edge of the first triangle has the second one on its outer side or on it. Both lie in the
-/// plane and go round counter-clockwise, seen from its front.
+/// Whether the line of some edge of the first triangle has the second one on its outer side or on it.
+/// Both lie in the plane and go round counter-clockwise, seen from its front.
 pub fn has_outer(plane: &Plane, r: &Corners, s: &Corners) -> bool
     requires r { AreOn plane.now (spots_of r.now) }
     requires s { AreOn plane.now (spots_of s.now) }

@@ -2,7 +2,8 @@
 ghost use Rattle.std.specs.Prelude.{◌≡◌, ◌⊎◌, ◌↔◌, ℤ, ◌*ℤ◌, ◌≤ℤ◌, IsTrue};
 ghost use Rattle.ember_algebra.specs.Size.{Small};
 ghost use Rattle.mesh_sources.specs.Places.{coordinate, spot_at, spots_of};
-ghost use Rattle.mesh_sources.specs.Spans.{IsSpanAround, IsSpanOver, IsBoxAround, IsBoxOver, IsBoxWithin, HaveCommonBox};
+ghost use Rattle.mesh_sources.specs.Spans.{IsSpanAround, IsSpanOver, IsBoxAround, IsBoxOver};
+ghost use Rattle.mesh_sources.specs.Spans.{IsBoxWithin, HaveCommonBox};
 ghost use Rattle.mesh_sources.specs.Places.{spots_in_order};
 ghost use Rattle.mesh_certificate.specs.Certificate.Facing.{spot_of};
 

@@ -1,7 +1,7 @@
 // Where triangles come from.
 
-/// Where a triangle of a mesh comes from: the first triangle of the scene, in its order, that lies in its plane and isn't
-/// apart from it.
+/// Where a triangle of a mesh comes from: the first triangle of the scene, in its order, that lies in
+/// its plane and isn't apart from it.
 #[derive(Clone, Copy, Debug, PartialEq, Eq)]
 pub struct Source {
     /// The number of this triangle in the scene, from 0.

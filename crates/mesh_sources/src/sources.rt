@@ -33,9 +33,9 @@ fn source_of(
     first_place(nodes, &facet, &bounds_over(&facet))
 }
 
-/// For each triangle of a mesh the first triangle of the scene, in its order, that has an area, lies in its plane and isn't
-/// apart from it; none where there is none. A triangle of the mesh has none if a number of it leads nowhere, or if it doesn't
-/// face the front of its plane.
+/// For each triangle of a mesh the first triangle of the scene, in its order, that has an area, lies
+/// in its plane and isn't apart from it; none where there is none. A triangle of the mesh has none
+/// if a number of it leads nowhere, or if it doesn't face the front of its plane.
 pub fn sources_of(
     alloc: Global,
     scene: &[Tri],

@@ -24,4 +24,6 @@ overflow_add-result-2 c =
 pub returns : goal.returns
 returns c =
     exact (c.requires.p.a & c.requires.q.a & c.requires.p.b & c.requires.q.b & c.requires.p.c & c.requires.q.c & done)
-    (stored w64 (stored w64 (stored w64 (stored w64 (input 0) ⊠ stored w64 (input 1)) ⊞ stored w64 (stored w64 (input 2) ⊠ stored w64 (input 3))) ⊞ stored w64 (stored w64 (input 4) ⊠ stored w64 (input 5)))) tt
+    (stored w64 (stored w64 (stored w64 (stored w64 (input 0) ⊠ stored w64 (input 1)) ⊞ stored w64
+    (stored w64 (input 2) ⊠ stored w64 (input 3))) ⊞ stored w64
+    (stored w64 (input 4) ⊠ stored w64 (input 5)))) tt

@@ -34,14 +34,19 @@ overflow_add-result c =
 pub overflow_add-result-2 : goal.overflow_add-result-2
 overflow_add-result-2 c =
     no_overflow (c.requires.plane.a & c.requires.corner.x & c.requires.plane.b & c.requires.corner.y & c.requires.plane.c & c.requires.corner.z & done) w64
-    (stored w64 (stored w64 (stored w64 (input 0) ⊠ stored w64 (stored w32 (input 1))) ⊞ stored w64 (stored w64 (input 2) ⊠ stored w64 (stored w32 (input 3)))) ⊞ stored w64 (stored w64 (input 4) ⊠ stored w64 (stored w32 (input 5))))
+    (stored w64 (stored w64 (stored w64 (input 0) ⊠ stored w64 (stored w32 (input 1))) ⊞ stored w64
+    (stored w64 (input 2) ⊠ stored w64 (stored w32 (input 3)))) ⊞ stored w64
+    (stored w64 (input 4) ⊠ stored w64 (stored w32 (input 5))))
     tt
 
 pub overflow_sub-result : goal.overflow_sub-result
 overflow_sub-result c =
     no_overflow (c.requires.plane.a & c.requires.corner.x & c.requires.plane.b & c.requires.corner.y & c.requires.plane.c & c.requires.corner.z & c.requires.plane.d &
     done) w64
-    (stored w64 (stored w64 (stored w64 (stored w64 (input 0) ⊠ stored w64 (stored w32 (input 1))) ⊞ stored w64 (stored w64 (input 2) ⊠ stored w64 (stored w32 (input 3)))) ⊞ stored w64 (stored w64 (input 4) ⊠ stored w64 (stored w32 (input 5)))) ⊟ stored w64 (input 6))
+    (stored w64 (stored w64 (stored w64 (stored w64 (input 0) ⊠ stored w64 (stored w32 (input 1))) ⊞ stored w64
+    (stored w64 (input 2) ⊠ stored w64 (stored w32 (input 3)))) ⊞ stored w64
+    (stored w64 (input 4) ⊠ stored w64 (stored w32 (input 5)))) ⊟ stored w64
+    (input 6))
     tt
 
 pub returns : goal.returns
@@ -49,5 +54,8 @@ returns c =
     let p = c.args.plane.now in let v = c.args.c.now in
     exact (c.requires.plane.a & c.requires.corner.x & c.requires.plane.b & c.requires.corner.y & c.requires.plane.c & c.requires.corner.z & c.requires.plane.d &
     done) (stored w64
-    (stored w64 (stored w64 (stored w64 (stored w64 (input 0) ⊠ stored w64 (stored w32 (input 1))) ⊞ stored w64 (stored w64 (input 2) ⊠ stored w64 (stored w32 (input 3)))) ⊞ stored w64 (stored w64 (input 4) ⊠ stored w64 (stored w32 (input 5)))) ⊟ stored w64 (input 6)))
+    (stored w64 (stored w64 (stored w64 (stored w64 (input 0) ⊠ stored w64 (stored w32 (input 1))) ⊞ stored w64
+    (stored w64 (input 2) ⊠ stored w64 (stored w32 (input 3)))) ⊞ stored w64
+    (stored w64 (input 4) ⊠ stored w64 (stored w32 (input 5)))) ⊟ stored w64
+    (input 6)))
     tt ∙ with_weight (p.a *ℤ v.x +ℤ p.b *ℤ v.y +ℤ p.c *ℤ v.z) p.d
