@@ -66,13 +66,14 @@ def refuse_changes():
         fail(f"a package has the files of a commit, and these differ from the last one:\n{changed}")
 
 
-def build(jobs, crates=None):
-    """Proves and builds these crates. Ends if a source was changed meanwhile: what was built may be that of another text then."""
+def build(jobs, crates=None, env=None):
+    """Proves and builds these crates. Ends if a source was changed meanwhile: what was built may be that of another text then. A build in another
+    environment may find another toolchain there."""
     refuse_changes()
     begun = time.time()
     for crate in dict.fromkeys(crates or BUILT.values()):
         build = [TOP / "tools/build", "--program", crate, *(["--jobs", str(jobs)] if jobs else [])]
-        if subprocess.run(build, check=False).returncode:
+        if subprocess.run(build, env=env, check=False).returncode:
             fail("there is no package without what it is of")
     refuse_changes()
     sources = [TOP / "crates.txt", TOP / "HANDLES", *(it for it in (TOP / "crates").rglob("*") if "out" not in it.parts and it.is_file())]

@@ -1,11 +1,12 @@
 """The WebAssembly module of the page, made of the LLVM module that the toolchain makes of the proved library.
 
 The toolchain has no way of its own to do this: it compiles no crate for WebAssembly that asks for memory. So this module has the toolchain build
-the library for x86-64 once more, with a clang that keeps a copy of its input. It changes that copy: its target lines, its attributes of
+the library for x86-64 with a clang that keeps a copy of its input. It changes that copy: its target lines, its attributes of
 processors, and a few calls that WebAssembly lacks. Then the same compiler makes WebAssembly of it. docs/trust/TRUST.md says what this means for
 the proof.
 """
 import hashlib
+import os
 import re
 import shutil
 import subprocess
@@ -73,7 +74,7 @@ def link_all(folder, to, copied=()):
 
 
 def make_kit(room):
-    """Makes a toolchain like the installed one, but for its clang, which puts a copy of what it compiles into the folder above."""
+    """Makes a toolchain like the installed one, but for its clang, which puts a copy of what it compiles into the folder above. Returns where its rt is."""
     made, real = room / "kit", kit()
     made.mkdir()
     for it in real.iterdir():
@@ -87,21 +88,16 @@ def make_kit(room):
     clang.unlink()
     clang.write_text(CLANG.format(keep=room, clang=real / "toolchain/bin/clang"), encoding="utf-8")
     clang.chmod(0o755)
-    return made / "bin/rt"
+    return made / "bin"
 
 
 def build_module(room, jobs):
     """Proves and builds the library, as tools/build does, and returns the LLVM module of which the toolchain made it, and the last line of the check."""
-    package.build(jobs, [CRATE])
-    crate = Path(package.builder.room(), CRATE, "crates", CRATE)
-    archive = package.TOP / f"crates/{CRATE}/out/lib{CRATE}.a"
-    words = [make_kit(room), "lib", *(["--jobs", str(jobs)] if jobs else [])]
-    done = subprocess.run(words, cwd=crate, stdout=subprocess.PIPE, stderr=subprocess.STDOUT, text=True, errors="replace", check=False)
-    verdict = re.findall(r"^logic=proved .*$", done.stdout, re.M)
-    if done.returncode or not verdict or not (room / "module.bc").exists():
-        package.fail(f"the library's module wasn't built:\n{done.stdout[-3000:]}")
-    if (crate / f"out/lib{CRATE}.a").read_bytes() != archive.read_bytes():
-        package.fail("the library was built twice, with different bytes: the module may be that of another library")
+    package.build(jobs, [CRATE], {**os.environ, "PATH": f"{make_kit(room)}:{os.environ['PATH']}"})
+    log = Path(package.builder.room(), f"{CRATE}.log")
+    verdict = re.findall(r"^logic=proved .*$", log.read_text(encoding="utf-8", errors="replace"), re.M)
+    if not verdict or not (room / "module.bc").exists():
+        package.fail(f"the toolchain gave no module, or no verdict: {log} has all that it said")
     return room / "module.bc", verdict[-1]
 
 
