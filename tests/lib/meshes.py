@@ -60,6 +60,23 @@ def sphere(segments, rings, radius, centre, turn=0.0, tilt=0.0):
     return corners, faces
 
 
+def even_sphere(count, radius, centre, turn=0.0, tilt=0.0):
+    """A sphere of 8 * count * count triangles of about the same size: an octahedron with its sides cut into count * count triangles,
+    pushed out to the sphere, turned round z and then round x, and rounded to whole numbers."""
+    numbers, faces = {}, []
+
+    def at(signs, i, j):
+        return numbers.setdefault((signs[0] * i, signs[1] * j, signs[2] * (count - i - j)), len(numbers))
+
+    for signs in [(x, y, z) for x in (1, -1) for y in (1, -1) for z in (1, -1)]:
+        for i, j in [(i, j) for i in range(count) for j in range(count - i)]:
+            pair = [((i, j), (i + 1, j), (i, j + 1)), ((i + 1, j), (i + 1, j + 1), (i, j + 1))]
+            rings = [tuple(at(signs, *it) for it in ring) for ring in pair[: 1 if i + j == count - 1 else 2]]
+            faces += rings if math.prod(signs) > 0 else [ring[::-1] for ring in rings]
+    angles = [(math.acos(z / math.hypot(x, y, z)), math.atan2(y, x)) for x, y, z in numbers]
+    return [_on_sphere(*it, radius, centre, turn, tilt) for it in angles], faces
+
+
 def _on_sphere(polar, angle, radius, centre, turn, tilt):
     x, y, z = math.sin(polar) * math.cos(angle + turn), math.sin(polar) * math.sin(angle + turn), math.cos(polar)
     y, z = y * math.cos(tilt) - z * math.sin(tilt), y * math.sin(tilt) + z * math.cos(tilt)
@@ -69,6 +86,11 @@ def _on_sphere(polar, angle, radius, centre, turn, tilt):
 def turned(mesh):
     """The mesh with its inside outside."""
     return mesh[0], [tuple(reversed(face)) for face in mesh[1]]
+
+
+def flat(mesh):
+    """With each face cut into triangles that share its first corner."""
+    return mesh[0], [(face[0], face[i], face[i + 1]) for face in mesh[1] for i in range(1, len(face) - 1)]
 
 
 def joined(meshes):
