@@ -72,6 +72,12 @@ fn near_of_two(alloc: Global, c: &Cell) -> Result<Vec<u32>, OutOfMemory> {
     near_list_among::<Broad>(alloc, &tris, &[0, 1], c)
 }
 
+// Whether the box isn't halved, if these two are all triangles.
+fn is_leaf_of_two(alloc: Global, c: &Cell) -> Result<bool, OutOfMemory> {
+    let tris = [across_x(-300000), across_x(300000)];
+    Ok(halve_box_among::<Broad>(alloc, &tris, &[0, 1], c)?.is_none())
+}
+
 #[test]
 fn triangles_are_near_boxes_in_steps(rt: HostRuntime) -> Result<(), Fail> {
     let alloc = rt.alloc();
@@ -79,8 +85,7 @@ fn triangles_are_near_boxes_in_steps(rt: HostRuntime) -> Result<(), Fail> {
     assert!(rt; near_of_two(alloc, &beam())?.as_slice() == [0, 1].as_slice());
     assert!(rt; near_of_two(alloc, &left)?.as_slice() == [0].as_slice());
     assert!(rt; near_of_two(alloc, &right)?.as_slice() == [1].as_slice());
-    let tris = [across_x(-300000), across_x(300000)];
-    assert!(rt; halve_box_among::<Broad>(alloc, &tris, &[0, 1], &root())?.is_none());
+    assert!(rt; is_leaf_of_two(alloc, &root())?);
     Ok(())
 }
 
