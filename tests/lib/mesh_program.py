@@ -42,7 +42,7 @@ glTF with EXT_mesh_gpu_instancing isn't read; export as STL, OBJ, PLY or OFF
 buffer \d+: isn't in the file; export as GLB
 glTF has no scene; export anew
 (?:node|mesh|accessor) \d+: not understood; export anew
-node \d+: twice in the scene; export anew
+node \d+: the scene has a node twice; export anew
 node \d+: is moved, turned or scaled; apply the transforms and export anew
 accessor \d+: sparse accessors aren't read; export as STL, OBJ, PLY or OFF
 accessor \d+: coordinate is not a finite number; export anew

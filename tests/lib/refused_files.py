@@ -96,7 +96,7 @@ _GLTF = (
     (b"{}", "glTF has no scene; export anew"),
     (_scene("{}"), "no triangles in it; is it a mesh?"),
     (_scene(""), "node 0: not understood; export anew"),
-    (_scene('{"children":[0]}'), "node 0: twice in the scene; export anew"),
+    (_scene('{"children":[0]}'), "node 0: the scene has a node twice; export anew"),
     (_scene('{"scale":[1,1,2]}'), "node 0: is moved, turned or scaled; apply the transforms and export anew"),
     (_scene('{"mesh":3}'), "mesh 3: not understood; export anew"),
     (_scene('{"mesh":0}', _PRIMITIVE), "accessor 0: not understood; export anew"),

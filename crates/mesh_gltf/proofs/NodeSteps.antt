@@ -66,8 +66,10 @@ node_refused left document buffers waiting index content node fault is refused =
 -- a node that isn't there
 node_missing : (left : ℕ) (document : Data) (buffers : List (List ℕ)) (waiting : List ℕ) (index : ℕ) (content : Content) →
     item_in (codes "nodes") index document ≡ None →
-    with_nodes (suc left) document buffers (index ∷ waiting) content ≡ Err (Node index)
-node_missing left document buffers waiting index content none =
+    with_nodes left document buffers (index ∷ waiting) content ≡ Err (Node index)
+node_missing zero document buffers waiting index content none =
+    not_there (item_in (codes "nodes") index document) (Node index) (λ n. Err (TwiceInScene index)) none
+node_missing (suc left) document buffers waiting index content none =
     not_there (item_in (codes "nodes") index document) (Node index) (λ n.
     and_then (with_node index document buffers content n) (λ c.
     and_then (children_of index n) (λ cs. with_nodes left document buffers (waiting ++ cs) c))) none
@@ -119,21 +121,23 @@ nodes_refused all document buffers waiting count done index content node fault b
 pub next_missing : (all : Result Content GltfFault) (document : Data) (buffers : List (List ℕ)) (waiting : List ℕ)
     (count done : ℕ) (index : ℕ) (content : Content) →
     all ≡ with_nodes (count - done) document buffers (drop done waiting) content →
-    done < count → done < length waiting → index ≡ get_or waiting done index →
+    done < length waiting → index ≡ get_or waiting done index →
     item_in (codes "nodes") index document ≡ None → all ≡ Err (Node index)
-next_missing all document buffers waiting count done index content before few some at none =
-    so_far all document buffers waiting count done index content before few some at
-    ∙ node_missing (count - (done + 1)) document buffers (drop (done + 1) waiting) index content none
+next_missing all document buffers waiting count done index content before some at none =
+    before ∙ in_front (count - done) document buffers waiting done index content some at
+    ∙ node_missing (count - done) document buffers (drop (done + 1) waiting) index content none
 
 -- as many nodes have come as there are, and one more waits
 pub too_many : (all : Result Content GltfFault) (document : Data) (buffers : List (List ℕ)) (waiting : List ℕ)
-    (count done : ℕ) (index : ℕ) (content : Content) →
+    (count done : ℕ) (index : ℕ) (content : Content) (node : Data) →
     all ≡ with_nodes (count - done) document buffers (drop done waiting) content →
-    count ≤ done → done < length waiting → index ≡ get_or waiting done index → all ≡ Err (TwiceInScene index)
-too_many all document buffers waiting count done index content before full some is =
+    count ≤ done → done < length waiting → index ≡ get_or waiting done index →
+    item_in (codes "nodes") index document ≡ Some node → all ≡ Err (TwiceInScene index)
+too_many all document buffers waiting count done index content node before full some at is =
     let left : count - done ≡ 0 = omega arith in
     before ∙ ap (λ (n : ℕ). with_nodes n document buffers (drop done waiting) content) left
-    ∙ in_front 0 document buffers waiting done index content some is
+    ∙ in_front 0 document buffers waiting done index content some at
+    ∙ there (item_in (codes "nodes") index document) (Node index) node (λ n. Err (TwiceInScene index)) is
 
 -- no node waits
 nobody : (left : ℕ) (document : Data) (buffers : List (List ℕ)) (content : Content) → with_nodes left document buffers [] content ≡ Ok content

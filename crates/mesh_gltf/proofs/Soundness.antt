@@ -237,7 +237,8 @@ nodes_sound : (left : ℕ) (document : Data) (buffers : List (List ℕ)) (waitin
     IsSound content → IfOk (with_nodes left document buffers waiting content) IsSound
 nodes_sound zero document buffers [] content h = h
 nodes_sound (suc left) document buffers [] content h = h
-nodes_sound zero document buffers (index ∷ waiting) content h = tt
+nodes_sound zero document buffers (index ∷ waiting) content h =
+    then_always IsSound (or_fault (Node index) (item_in (codes "nodes") index document)) _ (λ node. tt)
 nodes_sound (suc left) document buffers (index ∷ waiting) content h =
     then_always IsSound (or_fault (Node index) (item_in (codes "nodes") index document)) _ (λ node.
     then_holds IsSound IsSound (with_node index document buffers content node) _

@@ -94,7 +94,8 @@ children_of index node = or_fault (Node index) (naturals_at (codes "children") n
 -- so no more come than the document has; `left` of them haven't come yet
 abbrev pub with_nodes : ℕ → Data → List (List ℕ) → List ℕ → Content → Result Content GltfFault
 with_nodes left document buffers [] content = Ok content
-with_nodes zero document buffers (index ∷ waiting) content = Err (TwiceInScene index)
+with_nodes zero document buffers (index ∷ waiting) content =
+    and_then (or_fault (Node index) (item_in (codes "nodes") index document)) (λ node. Err (TwiceInScene index))
 with_nodes (suc left) document buffers (index ∷ waiting) content =
     and_then (or_fault (Node index) (item_in (codes "nodes") index document)) (λ node.
     and_then (with_node index document buffers content node) (λ c.

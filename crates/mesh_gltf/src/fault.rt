@@ -37,7 +37,7 @@ pub enum GltfFault {
     #[error("node {0} not understood")]
     Node(u32),
     /// This node has two parents, or is below itself.
-    #[error("node {0}: twice in the scene")]
+    #[error("node {0}: the scene has a node twice")]
     TwiceInScene(u32),
     /// This node moves, turns or scales its mesh.
     #[error("node {0}: has a transform")]

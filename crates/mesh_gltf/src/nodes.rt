@@ -268,12 +268,12 @@ fn add_nodes<'a>(
     let mut done = 0;
     while done < waiting.len() {
         let index = waiting[done];
-        if done >= count {
-            return Err(GltfFault::TwiceInScene(index));
-        }
         let Some(node) = item_in(document, "nodes", index) else {
             return Err(GltfFault::Node(index));
         };
+        if done >= count {
+            return Err(GltfFault::TwiceInScene(index));
+        }
         add_node(surface, corners, index, document, buffers, node)?;
         push_children(waiting, index, node)?;
         done += 1;

@@ -148,7 +148,7 @@ gltf_reason gltf.Instances = codes "glTF with EXT_mesh_gpu_instancing isn't read
 gltf_reason (gltf.NoBuffer buffer) = codes "buffer " ++ decimal buffer ++ codes ": isn't in the file; export as GLB"
 gltf_reason gltf.NoScene = codes "glTF has no scene; export anew"
 gltf_reason (gltf.Node node) = at (codes "node") node (codes "not understood; export anew")
-gltf_reason (gltf.TwiceInScene node) = at (codes "node") node (codes "twice in the scene; export anew")
+gltf_reason (gltf.TwiceInScene node) = at (codes "node") node (codes "the scene has a node twice; export anew")
 gltf_reason (gltf.Transform node) =
     at (codes "node") node (codes "is moved, turned or scaled; apply the transforms and export anew")
 gltf_reason (gltf.Mesh mesh) = at (codes "mesh") mesh (codes "not understood; export anew")

@@ -75,7 +75,7 @@ pub(crate) const NO_SCENE: &str = "glTF has no scene; export anew";
 
 pub(crate) const PART_NOT_UNDERSTOOD: &str = "not understood; export anew";
 
-pub(crate) const TWICE_IN_SCENE: &str = "twice in the scene; export anew";
+pub(crate) const TWICE_IN_SCENE: &str = "the scene has a node twice; export anew";
 
 pub(crate) const TRANSFORM: &str =
     "is moved, turned or scaled; apply the transforms and export anew";

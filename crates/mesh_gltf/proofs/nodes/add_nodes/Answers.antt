@@ -12,14 +12,14 @@ returns-then-done-count-clause-fault c =
     inr (too_many (with_nodes (nodes_count (view c.args.document.now)) (view c.args.document.now) (map bytes_seen c.args.buffers.now)
     c.args.waiting.now.items (content_of c.args.surface.now))
     (view c.args.document.now) (map bytes_seen c.args.buffers.now) c.loop-done.waiting.items c.nodes_count-count.result c.loop-done.done c.index-index.result.now
-    (content_of c.loop-done.surface) c.loop-done.invariant.same (omega arith) (omega arith) c.index-index.ensures)
+    (content_of c.loop-done.surface) (view c.in-Some.node.now) c.loop-done.invariant.same (omega arith) (omega arith) c.index-index.ensures (sym c.in-Some.ensures))
 
 pub returns-in_default-clause-fault : goal.returns-in_default-clause-fault
 returns-in_default-clause-fault c =
     inr (next_missing (with_nodes (nodes_count (view c.args.document.now)) (view c.args.document.now) (map bytes_seen c.args.buffers.now)
     c.args.waiting.now.items (content_of c.args.surface.now))
     (view c.args.document.now) (map bytes_seen c.args.buffers.now) c.loop-done.waiting.items c.nodes_count-count.result c.loop-done.done c.index-index.result.now
-    (content_of c.loop-done.surface) c.loop-done.invariant.same (omega arith) (omega arith) c.index-index.ensures (sym c.in_default.ensures))
+    (content_of c.loop-done.surface) c.loop-done.invariant.same (omega arith) c.index-index.ensures (sym c.in_default.ensures))
 
 pub returns-in_err-add_node-clause-fault : goal.returns-in_err-add_node-clause-fault
 returns-in_err-add_node-clause-fault c =
