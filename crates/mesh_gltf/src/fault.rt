@@ -36,7 +36,8 @@ pub enum GltfFault {
     /// There is no node of this index, or its children or its mesh aren't indices.
     #[error("node {0} not understood")]
     Node(u32),
-    /// This node has two parents, or is below itself.
+    /// The scene has a node twice: it has two parents, or is below itself. This is the first node that is
+    /// more than there are.
     #[error("node {0}: the scene has a node twice")]
     TwiceInScene(u32),
     /// This node moves, turns or scales its mesh.
