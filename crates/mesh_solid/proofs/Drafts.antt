@@ -7,12 +7,13 @@ use Rattle.std.proofs.lemmas.List.Elements.{Contains-append_right}
 use Rattle.std.proofs.lemmas.Slice.Zip.{AllZip-long}
 use Rattle.ember_model.specs.declared.plane.Plane.{Plane}
 use Rattle.ember_model.specs.declared.face.Face.{Face}
+use Rattle.mesh_certificate.specs.Key.PlaneKeys.{IsPlaneKey}
 use Rattle.mesh_solid.specs.declared.tables.face_edge.FaceEdge.{FaceEdge}
 use Rattle.mesh_solid.specs.declared.tables.fault.TableFault.{TableFault}
 use Rattle.mesh_solid.specs.declared.tables.fault.TableFault.TheVariants.{NoLine, NoCorner, TooMany, OutOfMemory}
 use Rattle.mesh_solid.specs.declared.tables.draft.TableBuilder.{TableBuilder}
 use Rattle.mesh_solid.specs.Tables.Edges.{first_or, last_or, edges_behind, edges_round, face_edges_of}
-use Rattle.mesh_solid.specs.Tables.Tables.{IsSegmentOf, IsEdgeFault, IsFault}
+use Rattle.mesh_solid.specs.Tables.Tables.{IsPlaneOf, IsSegmentOf, IsEdgeFault, IsFault}
 use Rattle.mesh_solid.specs.Tables.Drafts.{planes_in, IsDraft, IsDraftBefore}
 
 -- what holds of the fault that was passed on
@@ -63,6 +64,14 @@ module _ (all more : List FaceEdge) (face : ℕ) (n : Plane) (d : TableBuilder) 
   first_fault xs e es before t x b f h =
       let begun = subst (λ (ys : List Plane). IsDraftBefore all (edges_behind face n e before ys ++ more) d) x (round_begins xs e es before x b h) in
       next_fault all (edges_behind face n e e es ++ more) (record { face = face; support = n; before = before; plane = e; after = first_or e es }) d t begun f
+
+  -- its plane is one of a face
+  pub plane_is_used : (xs : List Plane) (e : Plane) (es : List Plane) (p : Plane) → xs ≡ e ∷ es → IsPlaneKey n p →
+      IsDraftBefore all (edges_round face n xs ++ more) d → IsPlaneOf all p
+  plane_is_used xs e es p x key h =
+      let first : FaceEdge = record { face = face; support = n; before = last_or e es; plane = e; after = first_or e es } in
+      let begun = subst (λ (ys : List Plane). IsDraftBefore all (edges_round face n ys ++ more) d) x h in
+      record { edge = first; one = next_is_one all (edges_behind face n e e es ++ more) first d begun; is = key }
 
   -- the next one, with the plane of the one after it
   pub round_goes_on : (first before : Plane) (xs : List Plane) (e : Plane) (es : List Plane) (after : Plane) →

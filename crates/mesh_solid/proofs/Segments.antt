@@ -13,7 +13,7 @@ use Rattle.mesh_certificate.specs.Certificate.Facing.{spot_of}
 use Rattle.mesh_solid.specs.declared.tables.face_edge.FaceEdge.{FaceEdge}
 use Rattle.mesh_solid.specs.declared.tables.draft.TableBuilder.{TableBuilder}
 use Rattle.mesh_solid.specs.Tables.Numberings.{same_entry, same_line, same_corner}
-use Rattle.mesh_solid.specs.Tables.Tables.{IsCorner, IsSegmentOf}
+use Rattle.mesh_solid.specs.Tables.Tables.{IsCorner, IsPlaneOf, IsSegmentOf}
 use Rattle.mesh_solid.specs.Tables.Drafts.{planes_in, IsDraftBefore}
 use Rattle.mesh_solid.proofs.Lists.{Extends, entry_stays, pairs_with}
 
@@ -31,9 +31,10 @@ stays ps qs ls ms cs ds p l c edge s h =
 -- a draft stays one as its tables grow
 pub grown : (all rest : List FaceEdge) (d e : TableBuilder) → IsDistinct same_entry e.planes.keys →
     IsDistinct same_line e.lines.keys → IsDistinct same_corner e.corners.keys → All IsValidPlane (planes_in e) →
+    All (IsPlaneOf all) (planes_in e) →
     Extends (planes_in d) (planes_in e) → Extends d.lines.keys e.lines.keys → Extends d.corners.keys e.corners.keys →
     e.segments.items ≡ d.segments.items → IsDraftBefore all rest d → IsDraftBefore all rest e
-grown all rest d e i j k v p l c s h =
+grown all rest d e i j k v u p l c s h =
     record {
       done = h.done;
       split = h.split;
@@ -48,6 +49,7 @@ grown all rest d e i j k v p l c s h =
             (stays (planes_in d) (planes_in e) d.lines.keys e.lines.keys d.corners.keys e.corners.keys p l c) h.done
             d.segments.items h.draft.segments);
       };
+      used = u;
     }
 
 -- with a segment more it is that of an edge more
@@ -70,4 +72,5 @@ edge_put all rest edge d e s only is t h = subst (λ (x : TableBuilder). IsDraft
                 (sym t) (AllZip-push (IsSegmentOf (planes_in d) d.lines.keys d.corners.keys) h.done d.segments.items edge s
                 h.draft.segments is);
           };
+          used = h.used;
         }

@@ -6,7 +6,7 @@ use Rattle.ember_model.specs.Valid.{IsValidPlane}
 use Rattle.mesh_solid.specs.declared.tables.face_edge.FaceEdge.{FaceEdge}
 use Rattle.mesh_solid.specs.declared.tables.draft.TableBuilder.{TableBuilder}
 use Rattle.mesh_solid.specs.Tables.Numberings.{plane_of, same_entry, same_line, same_corner}
-use Rattle.mesh_solid.specs.Tables.Tables.{IsSegmentOf}
+use Rattle.mesh_solid.specs.Tables.Tables.{IsPlaneOf, IsSegmentOf}
 
 -- the planes of d
 abbrev pub planes_in : TableBuilder → List Plane
@@ -20,11 +20,12 @@ pub record IsDraft (edges : List FaceEdge) (d : TableBuilder) : Type 0 where
   pub valid : All IsValidPlane (planes_in d)
   pub segments : AllZip (IsSegmentOf (planes_in d) d.lines.keys d.corners.keys) edges d.segments.items
 
--- d is the draft of those of all edges that are before the rest
+-- d is the draft of those of all edges that are before the rest; the face of the next one may have its plane already
 pub record IsDraftBefore (all rest : List FaceEdge) (d : TableBuilder) : Type 0 where
   pub done : List FaceEdge
   pub split : done ++ rest ≡ all
   pub draft : IsDraft done d
+  pub used : All (IsPlaneOf all) (planes_in d)
 
 -- no more entries than the segments can use, so that their numbers have 32 bits
 pub record HasFew (d : TableBuilder) : Type 0 where

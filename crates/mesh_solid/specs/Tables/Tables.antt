@@ -42,13 +42,20 @@ pub record IsSegmentOf (ps : List Plane) (ls : List LineKey) (cs : List SpacePoi
   pub start : HasEntry cs s.start (λ c. IsCorner edge.support edge.before edge.plane (spot_of c))
   pub end : HasEntry cs s.end (λ c. IsCorner edge.support edge.plane edge.after (spot_of c))
 
--- the segments are the edges in their order, and no plane, line or corner has two numbers
+-- the plane is that of a face, of which this is an edge
+pub record IsPlaneOf (edges : List FaceEdge) (p : Plane) : Type 0 where
+  pub edge : FaceEdge
+  pub one : Contains edges edge
+  pub is : IsPlaneKey edge.support p
+
+-- the segments are the edges in their order, no plane, line or corner has two numbers, and each plane is a face's
 pub record AreTables (edges : List FaceEdge) (t : Tables) : Type 0 where
   pub segments : AllZip (IsSegmentOf t.planes.items t.lines.items t.corners.items) edges t.segments.items
   pub planes : AreDistinct (λ (p : Plane). p) t.planes.items
   pub lines : AreDistinct (λ (k : LineKey). k) t.lines.items
   pub corners : AreDistinct spot_of t.corners.items
   pub valid : All IsValidPlane t.planes.items
+  pub used : All (IsPlaneOf edges) t.planes.items
 
 -- ---- faults
 -- the edge has no line, or one of its corners doesn't exist within the limits

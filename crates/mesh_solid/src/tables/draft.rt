@@ -34,6 +34,7 @@ impl TableBuilder {
     /// The tables of no edges.
     pub fn new(alloc: Global) -> TableBuilder
         ensures draft { IsDraft [] result }
+        ensures empty { planes_in result ≡ [] }
         ensures few { HasFew result }
     {
         TableBuilder {

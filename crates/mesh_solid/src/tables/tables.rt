@@ -2,8 +2,8 @@
 ghost use Rattle.std.specs.Prelude.{All, IfOk, IfErr};
 ghost use Rattle.ember_model.specs.Valid.{IsValidFace};
 ghost use Rattle.mesh_solid.specs.Tables.Edges.{face_edges_of};
-ghost use Rattle.mesh_solid.specs.Tables.Tables.{IsFault, AreTables};
-ghost use Rattle.mesh_solid.specs.Tables.Drafts.{IsDraft};
+ghost use Rattle.mesh_solid.specs.Tables.Tables.{IsFault, IsPlaneOf, AreTables};
+ghost use Rattle.mesh_solid.specs.Tables.Drafts.{planes_in, IsDraft};
 
 use crate::tables::draft::TableBuilder;
 use crate::tables::fault::TableFault;
@@ -26,6 +26,7 @@ pub struct Tables {
 fn draft_of(alloc: Global, faces: &[Face]) -> Result<TableBuilder, TableFault>
     requires { All IsValidFace faces.now }
     ensures ok { IfOk result (λ d. IsDraft (face_edges_of 0 faces.now) d) }
+    ensures used { IfOk result (λ d. All (IsPlaneOf (face_edges_of 0 faces.now)) (planes_in d)) }
     ensures fault { IfErr result (λ e. IsFault (face_edges_of 0 faces.now) e) }
 {
     let mut draft = TableBuilder::new(alloc);

@@ -7,7 +7,7 @@ use Rattle.mesh_certificate.specs.declared.certificate.space_point.SpacePoint.{S
 use Rattle.mesh_certificate.specs.Certificate.Facing.{spot_of}
 use Rattle.mesh_solid.specs.Tables.Edges.{face_edges_of}
 use Rattle.mesh_solid.specs.Tables.Numberings.{AreDistinct, plane_of, same_entry, same_line, same_corner}
-use Rattle.mesh_solid.specs.Tables.Tables.{IsSegmentOf}
+use Rattle.mesh_solid.specs.Tables.Tables.{IsPlaneOf, IsSegmentOf}
 use Rattle.mesh_solid.specs.Tables.Drafts.{planes_in}
 use Rattle.mesh_solid.proofs.Numbers.{same_entry_decides, same_line_decides, same_corner_decides, distinct, distinct_images}
 use Rattle.mesh_solid.proofs.tables.tables.tables_of.Goals as goal
@@ -31,4 +31,5 @@ returns-clause-tables c =
       lines = subst (AreDistinct (λ (k : LineKey). k)) (sym ls) (distinct same_line (λ k. k) same_line_decides d.lines.keys h.lines);
       corners = subst (AreDistinct spot_of) (sym cs) (distinct same_corner spot_of same_corner_decides d.corners.keys h.corners);
       valid = subst (All IsValidPlane) (sym ps) h.valid;
+      used = subst (All (IsPlaneOf edges)) (sym ps) c.in_ok-planes.ensures.used;
     }

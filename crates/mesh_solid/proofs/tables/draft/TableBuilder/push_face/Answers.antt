@@ -9,13 +9,13 @@ use Rattle.mesh_solid.specs.declared.tables.face_edge.FaceEdge.{FaceEdge}
 use Rattle.mesh_solid.specs.declared.tables.draft.TableBuilder.{TableBuilder}
 use Rattle.mesh_solid.specs.Tables.Edges.{first_or, edges_behind}
 use Rattle.mesh_solid.specs.Tables.Numberings.{HasEntry, plane_of}
-use Rattle.mesh_solid.specs.Tables.Tables.{IsCorner, IsFault}
+use Rattle.mesh_solid.specs.Tables.Tables.{IsCorner, IsFault, IsPlaneOf}
 use Rattle.mesh_solid.specs.Tables.Drafts.{planes_in}
 use Rattle.mesh_solid.proofs.FaceLoops.{valid_first, valid_last}
 use Rattle.mesh_solid.proofs.Lists.{extends_same, extends_put, entry_with, mapped_has, mapped_put, all_put, put_length}
 use Rattle.mesh_solid.proofs.Numbers.{same_entry_decides, same_corner_decides}
 use Rattle.mesh_solid.proofs.Segments.{grown}
-use Rattle.mesh_solid.proofs.Drafts.{passed_on, next_fault, round_begins, first_fault, round_goes_on}
+use Rattle.mesh_solid.proofs.Drafts.{passed_on, next_fault, round_begins, first_fault, plane_is_used, round_goes_on}
 use Rattle.mesh_solid.proofs.tables.draft.TableBuilder.push_face.Goals as goal
 
 pub start_of-requires-clause-before : goal.start_of-requires-clause-before
@@ -43,11 +43,14 @@ loop-plane-init c =
     let same : plane_of entry ≡ c.plane_key.result = ap plane_of c.entry_of.ensures in
     let put = mapped_put plane_of entry old.planes.keys begun.planes.keys p.entries in
     let key = subst IsValidPlane (sym same) c.plane_key.ensures.valid in
+    let own = subst (IsPlaneKey n) (sym same) c.plane_key.ensures.key in
     let here = subst (λ (ys : List Plane). IsCorner n before (first_or e ys) (spot_of point)) (sym is) c.in_ok-point.ensures.ok in
     record {
       done = λ all more h. round_begins all more c.args.face n begun c.args.edges.now e es before is
           c.last_or-before.ensures (grown all _ old begun p.distinct h.draft.lines k.distinct
           (all_put IsValidPlane (plane_of entry) (planes_in old) (planes_in begun) put h.draft.valid key)
+          (all_put (IsPlaneOf all) (plane_of entry) (planes_in old) (planes_in begun) put h.used
+          (plane_is_used all more c.args.face n old c.args.edges.now e es (plane_of entry) is own h))
           (extends_put (plane_of entry) (planes_in old) (planes_in begun) put)
           (extends_same old.lines.keys old.lines.keys refl)
           (extends_put point old.corners.keys begun.corners.keys k.entries) refl h);
