@@ -59,7 +59,7 @@ LINES = {
     3: rf"{_NAME}: cannot be read(?: \((?:No such file or directory|Permission denied|Is a directory)\))?",
     4: rf"cannot write (?:{_NAME}|to standard output)",
     5: rf"{_NAME}: (?:{'|'.join(REASONS)})",
-    6: rf"{_NAME}: not closed: \d+ loose edges, the first from {_PLACE} to {_PLACE}, in (?:line|facet|face) \d+; close the hole in the modeller",
+    6: rf"{_NAME}: not closed: \d+ loose edges, the first from {_PLACE} to {_PLACE}, in (?:line|facet|face|triangle) \d+; close the hole in the modeller",
     7: r"expression: (?:(?:syntax|deep|number) at \d+|no mesh \d+|long)",
     8: "expression holds outside all meshes",
     9: rf"{_NAME}: more than 268435456 bytes; simplify the mesh|\d+ triangles after snapping, more than 262144; simplify the meshes",
