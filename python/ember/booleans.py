@@ -2,6 +2,7 @@
 from __future__ import annotations
 
 import json
+import os
 from typing import TYPE_CHECKING, Any, Dict, List, Mapping, Optional, Sequence, TypedDict
 
 from .calls import Call, Step, answered, operation_of, step_of, workers_of
@@ -115,7 +116,8 @@ def command(words: Sequence[str], files: Optional[Mapping[str, bytes]] = None, *
     """Does what `ember-mesh WORDS..` does in a folder that has just these files, and returns what it leaves.
 
     words    the words behind `ember-mesh`, such as ["snap", "-d", "kept", "a.stl"]. With the program, words that are whole paths name
-             files of the system; with the library nothing of the system is read or written
+             files of the system, so "auto" takes the program if there are such words and it is there. With the library nothing of the
+             system is read or written
     files    the bytes of each file, by its name in the folder
     timeout  seconds after which the program is stopped. None is any time
 
@@ -123,4 +125,5 @@ def command(words: Sequence[str], files: Optional[Mapping[str, bytes]] = None, *
     """
     given = dict(files or {})
     size = sum(map(len, given.values()))
-    return run(list(words), given, engine=engine, triangles=size // _TRIANGLE, timeout=timeout)
+    names_paths = any(os.path.isabs(it) for it in words)
+    return run(list(words), given, engine=engine, triangles=size // _TRIANGLE, timeout=timeout, names_paths=names_paths)

@@ -125,9 +125,9 @@ def warn_of(lines: str) -> None:
 def answered(words: List[str], inputs: Tuple[Input, ...], engine: str, timeout: Optional[float]) -> Answer:
     """Does what the words say with the meshes behind them. Raises what a status above 0 stands for."""
     names = [it.name for it in inputs]
-    files = {it.name: it.data for it in inputs if it.data is not None}
-    paths = [it.name for it in inputs if it.data is None]
-    answer = run([*words, *names], files, paths=paths, engine=engine, triangles=sum(it.triangles for it in inputs), timeout=timeout)
+    files = {it.name: data for it in inputs if (data := it.data) is not None}
+    others = [it.name for it in inputs if it.name not in files]
+    answer = run([*words, *names], files, inputs=others, engine=engine, triangles=sum(it.triangles for it in inputs), timeout=timeout)
     if answer.status:
         raise error_of(answer.status, said(answer.err), names)
     return answer

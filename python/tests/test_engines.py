@@ -17,22 +17,26 @@ from scenes import EXAMPLES, box
 
 A, B = box((0, 0, 0), (1, 1, 1)), box((0.25, 0.25, 0.25), (0.75, 0.75, 2))
 CHOICES = [
-    # has the program, has the library, triangles, timeout, which is taken
-    (True, True, 20_000, None, "library"),
-    (True, True, 20_001, None, "program"),
-    (True, True, 1, 5, "program"),
-    (True, False, 1, None, "program"),
-    (False, True, 99_999, None, "library"),
+    # has the program, has the library, triangles, timeout, words name whole paths, which is taken
+    (True, True, 20_000, None, False, "library"),
+    (True, True, 20_001, None, False, "program"),
+    (True, True, 1, 5, False, "program"),
+    (True, True, 1, None, True, "program"),
+    (True, False, 1, None, False, "program"),
+    (False, True, 99_999, None, False, "library"),
+    (False, True, 1, None, True, "library"),
 ]
 
 
-@pytest.mark.parametrize(("has_program", "has_library", "triangles", "timeout", "taken"), CHOICES)
-def test_auto(monkeypatch, has_program, has_library, triangles, timeout, taken):
+@pytest.mark.parametrize(("has_program", "has_library", "triangles", "timeout", "names_paths", "taken"), CHOICES)
+def test_auto(monkeypatch, has_program, has_library, triangles, timeout, names_paths, taken):
     monkeypatch.setattr(program, "found", lambda: "there" if has_program else None)
     monkeypatch.setattr(library, "found", lambda: "there" if has_library else None)
     monkeypatch.setattr(program, "run", lambda *_: (0, b"program", b"", {}))
     monkeypatch.setattr(library, "run", lambda *_: (0, b"library", b"", {}))
-    assert engines.run([], {}, engine="auto", triangles=triangles, timeout=timeout).out.decode() == taken
+    assert engines.chosen("auto", triangles, timeout, names_paths=names_paths) == taken
+    found = engines.run([], {}, engine="auto", triangles=triangles, timeout=timeout, names_paths=names_paths)
+    assert found.out.decode() == taken
 
 
 def test_no_engine_is_there(monkeypatch):
@@ -48,6 +52,20 @@ def test_engines_that_are_refused():
         ember.union(A, engine="other")
     with pytest.raises(ember.UsageError, match="can't be stopped"):
         ember.union(A, engine="library", timeout=1)
+
+
+def test_a_timeout_without_the_program(monkeypatch):
+    monkeypatch.setattr(program, "found", lambda: None)
+    monkeypatch.setattr(library, "found", lambda: "there")
+    with pytest.raises(ember.UsageError, match="can't be stopped"):
+        ember.union(A, timeout=1)
+
+
+def test_a_command_over_files_of_the_system(both_engines, tmp_path):
+    given, made = tmp_path / "a.off", tmp_path / "b.off"
+    given.write_bytes(ember.union(A).export("off"))
+    assert ember.command(["union", "-o", str(made), "--quiet", str(given)]).status == 0
+    assert made.read_bytes() == ember.union(given).export("off")
 
 
 def test_the_engine_by_itself(engine):
