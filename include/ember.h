@@ -92,8 +92,20 @@ typedef struct {
   ember_bytes step; /* the step of the grid on which it is exact: "nice", "finest" or a decimal above 0, in the unit of the
                        meshes; nice if there are no bytes */
   uint32_t digits;  /* the decimal places to which coordinates are rounded, 0 to 17; or EMBER_DIGITS: six more than the step has */
+  uint32_t wants;   /* EMBER_SOURCES, or 0; no other bit has a meaning */
 } ember_options;
 #define EMBER_DIGITS 0xffffffffu
+#define EMBER_SOURCES 1u /* the solid has sources */
+
+/* Where a triangle comes from: the first triangle of the meshes, in their order, on which a part of it lies. Meshes are meant as they
+   are on the grid, and triangles as they are before they are rounded. */
+typedef struct {
+  uint32_t mesh;     /* the number of the mesh, from 1; 0 if no triangle was found */
+  uint32_t triangle; /* the number of its triangle, from 0; 0xffffffff if none was found */
+  uint32_t flags;    /* EMBER_TURNED and EMBER_SEVERAL, or 0 */
+} ember_source;
+#define EMBER_TURNED 1u  /* the triangle of the mesh faces the other way: the mesh was cut away there */
+#define EMBER_SEVERAL 2u /* parts of the triangle may lie on other triangles of the meshes, too, in the same plane */
 
 /* A solid that the caller owns after a call. With a status above 0 there are no vertices and no triangles. `line` is the report, or
    why there is no solid, as ember-mesh says it of files called `mesh 1`, `mesh 2`, ..; with EMBER_NO_TEXT there is none, and
@@ -108,6 +120,7 @@ typedef struct {
   size_t n_vertices;
   uint32_t *triangles;  /* three indices from 0 of each; NULL if there are none */
   size_t n_triangles;
+  ember_source *sources; /* one for each triangle if they are wanted; NULL if not, or if there are no triangles */
   uint64_t step[2];     /* the step of the grid: a numerator and a denominator */
   uint64_t offset[3][2]; /* the middle of the grid along each axis, in steps: 128 bits in two's complement, the low word first */
   uint64_t faces, planes;      /* how many exact faces the solid has, and planes */
@@ -122,7 +135,7 @@ typedef struct {
    expression (docs/use/FORMATS.md says how it is written). `solid` is overwritten, whatever it holds; free it with ember_solid_free.
    Returns solid->status. It uses one thread, and any number of threads may call at once. */
 uint32_t ember_boolean_with(const ember_mesh *meshes, size_t n_meshes, const uint8_t *expression, size_t n_expression, const uint8_t *step,
-                            size_t n_step, uint32_t digits, ember_solid *solid);
+                            size_t n_step, uint32_t digits, uint32_t wants, ember_solid *solid);
 
 /* ---- the library ---- */
 
@@ -147,12 +160,13 @@ static inline ember_bytes ember_text(const char *text) {
   return bytes;
 }
 
-/* The same as ember_boolean_with for an expression in a text. `options` may be NULL: a nice step, and EMBER_DIGITS. */
+/* The same as ember_boolean_with for an expression in a text. `options` may be NULL: a nice step, EMBER_DIGITS, and no
+   wants. */
 static inline uint32_t ember_boolean(const ember_mesh *meshes, size_t n_meshes, const char *expression, const ember_options *options,
                                      ember_solid *solid) {
   ember_bytes text = ember_text(expression), step = options && options->step.len ? options->step : ember_text("nice");
-  uint32_t digits = options ? options->digits : EMBER_DIGITS;
-  return ember_boolean_with(meshes, n_meshes, text.at, text.len, step.at, step.len, digits, solid);
+  uint32_t digits = options ? options->digits : EMBER_DIGITS, wants = options ? options->wants : 0;
+  return ember_boolean_with(meshes, n_meshes, text.at, text.len, step.at, step.len, digits, wants, solid);
 }
 
 static inline void ember_free(ember_block *block) {
@@ -180,8 +194,10 @@ static inline void ember_solid_free(ember_solid *solid) {
   ember_free(&solid->line);
   free(solid->vertices);
   free(solid->triangles);
+  free(solid->sources);
   solid->vertices = NULL;
   solid->triangles = NULL;
+  solid->sources = NULL;
   solid->n_vertices = solid->n_triangles = 0;
 }
 

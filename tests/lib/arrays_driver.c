@@ -1,8 +1,9 @@
 /* What tests/check_library runs over the C library's Booleans of meshes in arrays. `cube` and `corner` are the boxes from 0 to 2 and from
    1 to 3.
 
-   cases     each status that a call can be made to give, with its mesh, its place and its line; the last line is "N wrong"
-   memory    a Boolean again and again, first without any memory, then with one more request that is met each time, and each request alone
+   cases     each status that a call can be made to give, with its mesh, its place and its line, and the sources of five solids; the last
+             line is "N wrong"
+   memory    a Boolean with sources again and again, first without any memory, then with one more request that is met each time, and each request alone
              refused: a call ends with status 12, or as if nothing was refused, and leaves no block that the caller doesn't get
    threads   the same in 8 threads with 256 KiB of stack each, 100 times in each: all give the same arrays
 
@@ -44,12 +45,12 @@ static int wrong;
 
 static void expect(const char *what, uint32_t status, uint32_t mesh, uint64_t place, size_t n_meshes, const char *expression, const char *step,
                    uint32_t digits, const char *line) {
-  ember_options options = {ember_text(step), digits};
+  ember_options options = {ember_text(step), digits, 0};
   ember_solid solid;
   ember_boolean(meshes, n_meshes, expression, &options, &solid);
   int right = solid.status == status && solid.mesh == mesh && solid.place == place && solid.line.len >= strlen(line) &&
               (solid.line.len == 0 || memcmp(solid.line.at, line, strlen(line)) == 0);
-  if (status) right = right && !solid.vertices && !solid.triangles && !solid.n_vertices && !solid.n_triangles;
+  if (status) right = right && !solid.vertices && !solid.triangles && !solid.sources && !solid.n_vertices && !solid.n_triangles;
   if (!right)
     printf("%s: status %u, mesh %u, place %llu, %.*s\n", what, solid.status, solid.mesh, (unsigned long long)solid.place, (int)solid.line.len,
            solid.line.at ? (const char *)solid.line.at : "");
@@ -61,7 +62,7 @@ static void expect(const char *what, uint32_t status, uint32_t mesh, uint64_t pl
 static void expect_both(void) {
   ember_solid solid;
   ember_boolean(meshes, 2, "m1&m2", NULL, &solid);
-  int right = solid.status == EMBER_DONE && solid.n_vertices == 8 && solid.n_triangles == 12 && solid.is_manifold == 1;
+  int right = solid.status == EMBER_DONE && solid.n_vertices == 8 && solid.n_triangles == 12 && solid.is_manifold == 1 && !solid.sources;
   for (size_t i = 0; right && i < 3 * solid.n_vertices; i++) right = solid.vertices[i] == 1 || solid.vertices[i] == 2;
   for (size_t i = 0; right && i < 3 * solid.n_triangles; i++) right = solid.triangles[i] < 8;
   if (!right) printf("both: status %u, %zu vertices\n", solid.status, solid.n_vertices);
@@ -69,11 +70,110 @@ static void expect_both(void) {
   ember_solid_free(&solid);
 }
 
+/* ---- sources */
+
+static void normal_of(const double *a, const double *b, const double *c, double *normal) {
+  for (int i = 0; i < 3; i++) {
+    int j = (i + 1) % 3, k = (i + 2) % 3;
+    normal[i] = (b[j] - a[j]) * (c[k] - a[k]) - (b[k] - a[k]) * (c[j] - a[j]);
+  }
+}
+
+static double dot(const double *a, const double *b) { return a[0] * b[0] + a[1] * b[1] + a[2] * b[2]; }
+
+/* The area of the part of a polygon of n corners, at most 6, that lies in the triangle a, b, c of its plane, times the normal's length. */
+static double overlap(double (*polygon)[3], int n, const double *a, const double *b, const double *c) {
+  const double *corners[4] = {a, b, c, a};
+  double normal[3], side[3], sum = 0;
+  normal_of(a, b, c, normal);
+  for (int edge = 0; edge < 3; edge++) {
+    double kept[9][3], heights[9];
+    int count = 0;
+    for (int i = 0; i < n; i++) {
+      normal_of(corners[edge], corners[edge + 1], polygon[i], side);
+      heights[i] = dot(normal, side);
+    }
+    for (int i = 0; i < n; i++) {
+      int next = (i + 1) % n;
+      if (heights[i] >= 0) memcpy(kept[count++], polygon[i], sizeof kept[0]);
+      if ((heights[i] > 0 && heights[next] < 0) || (heights[i] < 0 && heights[next] > 0)) {
+        double share = heights[i] / (heights[i] - heights[next]);
+        for (int j = 0; j < 3; j++) kept[count][j] = polygon[i][j] + share * (polygon[next][j] - polygon[i][j]);
+        count++;
+      }
+    }
+    n = count;
+    memcpy(polygon, kept, sizeof kept[0] * n);
+  }
+  for (int i = 2; i < n; i++) {
+    normal_of(polygon[0], polygon[i - 1], polygon[i], side);
+    sum += fabs(dot(normal, side)) / 2;
+  }
+  return sum;
+}
+
+/* The source of a triangle: all triangles of both meshes are clipped to it. */
+static ember_source wanted_source(const ember_solid *solid, size_t index) {
+  ember_source source = {0, UINT32_MAX, 0};
+  double own[3][3], normal[3], facing[3], part[9][3];
+  for (int i = 0; i < 3; i++) memcpy(own[i], solid->vertices + 3 * solid->triangles[3 * index + i], sizeof own[i]);
+  normal_of(own[0], own[1], own[2], facing);
+  for (uint32_t mesh = 0; mesh < 2; mesh++)
+    for (uint32_t number = 0; number < 12; number++) {
+      const double *at[3];
+      int is_flat = 1;
+      for (int i = 0; i < 3; i++) at[i] = meshes[mesh].vertices + 3 * meshes[mesh].triangles[3 * number + i];
+      normal_of(at[0], at[1], at[2], normal);
+      for (int i = 0; i < 3; i++) is_flat = is_flat && dot(normal, own[i]) == dot(normal, at[0]);
+      memcpy(part, own, sizeof own);
+      if (!is_flat || overlap(part, 3, at[0], at[1], at[2]) < 1e-9) continue;
+      if (source.mesh) {
+        source.flags |= EMBER_SEVERAL;
+      } else {
+        source.mesh = mesh + 1, source.triangle = number;
+        source.flags = dot(normal, facing) < 0 ? EMBER_TURNED : 0;
+      }
+    }
+  return source;
+}
+
+static void expect_sources(const char *what, const char *expression, int are_turned, int are_several) {
+  ember_options options = {ember_text("nice"), EMBER_DIGITS, EMBER_SOURCES};
+  ember_solid solid;
+  uint32_t flags = 0;
+  ember_boolean(meshes, 2, expression, &options, &solid);
+  int right = solid.status == EMBER_DONE && solid.sources;
+  for (size_t i = 0; right && i < solid.n_triangles; i++) {
+    ember_source source = wanted_source(&solid, i);
+    right = memcmp(&source, solid.sources + i, sizeof source) == 0 && source.mesh != 0;
+    flags |= source.flags;
+  }
+  right = right && (!are_turned || flags & EMBER_TURNED) && (!are_several || flags & EMBER_SEVERAL);
+  if (!right) printf("sources of %s: status %u\n", what, solid.status);
+  wrong += !right;
+  ember_solid_free(&solid);
+}
+
+/* A cube without one that is apart from it, a cube without a corner, and two boxes with four common planes. */
+static void try_sources(void) {
+  make_box(corner, 5);
+  expect_sources("a cube", "m1&!m2", 0, 0);
+  begin();
+  expect_sources("a cube without a corner", "m1&!m2", 1, 0);
+  for (int i = 0; i < 8; i++)
+    for (int j = 1; j < 3; j++) corner[i][j] -= 1;
+  expect_sources("two flush boxes", "m1|m2", 0, 1);
+  expect_sources("what both flush boxes fill", "m1&m2", 0, 1);
+  expect_sources("a box without its flush half", "m1&!m2", 1, 0);
+  begin();
+}
+
 static int try_cases(void) {
   static const uint64_t none = EMBER_NO_PLACE;
   const double numbers[] = {NAN, INFINITY, -INFINITY};
   uint32_t far_corner[12][3];
   expect_both();
+  try_sources();
   expect("nothing", 0, 0, none, 2, "m1&!m1", "finest", 17, "ember-mesh: step ");
   expect("no meshes", 2, 0, none, 0, "m1", "nice", EMBER_DIGITS, "ember-mesh: no files");
   expect("65 meshes", 2, 0, none, 65, "m1", "nice", EMBER_DIGITS, "ember-mesh: more than 64 files");
@@ -113,24 +213,26 @@ static int try_cases(void) {
 
 static int same_solid(const ember_solid *a, const ember_solid *b) {
   if (a->status != b->status || a->n_vertices != b->n_vertices || a->n_triangles != b->n_triangles || a->line.len != b->line.len) return 0;
+  if (!a->sources != !b->sources || (a->sources && memcmp(a->sources, b->sources, sizeof *a->sources * a->n_triangles))) return 0;
   return memcmp(a->vertices, b->vertices, 24 * a->n_vertices) == 0 && memcmp(a->triangles, b->triangles, 12 * a->n_triangles) == 0 &&
          memcmp(a->line.at, b->line.at, a->line.len) == 0;
 }
 
 static int try_memory(void) {
+  ember_options options = {ember_text("nice"), EMBER_DIGITS, EMBER_SOURCES};
   ember_solid whole, solid;
   long requests = 0;
-  ember_boolean(meshes, 2, "m1&!m2", NULL, &whole);
+  ember_boolean(meshes, 2, "m1&!m2", &options, &whole);
   long given = blocks;
   for (refuses_all = 0; refuses_all < 2; refuses_all++) {
     int is_met = 0;
     for (requests = 0; !is_met; requests++) {
       blocks = 0;
       requests_left = requests;
-      ember_boolean(meshes, 2, "m1&!m2", NULL, &solid);
+      ember_boolean(meshes, 2, "m1&!m2", &options, &solid);
       is_met = requests_left > 0;
       requests_left = -1;
-      int right = solid.status == EMBER_NO_MEMORY ? !solid.vertices && !solid.triangles : same_solid(&solid, &whole);
+      int right = solid.status == EMBER_NO_MEMORY ? !solid.vertices && !solid.triangles && !solid.sources : same_solid(&solid, &whole);
       ember_solid_free(&solid);
       if (!right || blocks) printf("%ld requests: status %u, %ld blocks are left\n", requests, solid.status, blocks), wrong++;
     }

@@ -39,7 +39,7 @@ surfaces_are_as_many (mesh ∷ meshes) [] h = absurd h
 surfaces_are_as_many (mesh ∷ meshes) (surface ∷ surfaces) h = ap suc (surfaces_are_as_many meshes surfaces h.1)
 
 -- the scene of surfaces is that of the meshes whose surfaces they are
-pub meshes_are_placed : (meshes : List ArrayMesh) (wanted : Wanted) (surfaces : List Surface) (placed : PlacedScene) →
+unfoldable pub meshes_are_placed : (meshes : List ArrayMesh) (wanted : Wanted) (surfaces : List Surface) (placed : PlacedScene) →
     AreSurfacesOf meshes surfaces → IsStep placed.grid.step → IsGrid surfaces wanted placed.grid →
     placed.scene.tris ≡ images_of placed.grid surfaces → placed.scene.meshes ≡ length surfaces →
     placed.counts.items ≡ map (counts_on placed.grid) surfaces → AreMoves placed.grid surfaces placed.moves.items →

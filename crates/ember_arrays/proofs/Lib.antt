@@ -1,3 +1,4 @@
+pub mod InputLists
 pub mod InOrder
 pub mod Refusals
 pub mod Statuses

@@ -10,9 +10,11 @@ use Rattle.mesh_arrays.specs.declared.fault.IndexFault.TheVariants as index_faul
 use Rattle.mesh_arrays.specs.declared.mesh.ArrayMesh.{ArrayMesh}
 use Rattle.mesh_boolean.specs.Faults.{of_scene_fault, of_solid_fault, of_writing_fault}
 use Rattle.mesh_boolean.specs.Effects.{decimals_of}
+use Rattle.mesh_boolean.specs.Splits.{AreDecimalsOver}
 use Rattle.mesh_boolean.specs.WritingFaults.{of_place_fault}
 use Rattle.mesh_boolean.specs.declared.fault.BooleanFault.{BooleanFault}
 use Rattle.mesh_boolean.specs.declared.fault.BooleanFault.TheVariants.{File, Scene, Solid, TooFar, TooManyTriangles, OutOfMemory}
+use Rattle.mesh_boolean.specs.declared.split.SplitDecimals.{SplitDecimals}
 use Rattle.mesh_boolean.specs.declared.writing_fault.WritingFault.{WritingFault}
 use Rattle.mesh_boolean.specs.declared.writing_fault.WritingFault.TheVariants as writing_fault
 use Rattle.mesh_grid.specs.declared.grid.choice.Wanted.{Wanted}
@@ -35,8 +37,6 @@ use Rattle.mesh_written.specs.declared.fault.PlaceFault.TheVariants as place_fau
 use Rattle.ember_arrays.specs.Faults.{IsArrayFault, IsArraysFault, IsFirstRefused, IsPlacingFault, IsSurfacesFault}
 use Rattle.ember_arrays.specs.Faults.{of_index_fault, of_mesh_fault}
 use Rattle.ember_arrays.specs.Meshes.{ArePlaced, AreSurfacesOf}
-use Rattle.ember_arrays.specs.Solids.{AreDecimalsOver}
-use Rattle.ember_arrays.specs.declared.split.SplitDecimals.{SplitDecimals}
 
 -- ---- the surfaces
 first_refused : (meshes : List ArrayMesh) (i : ℕ) (d : ArrayMesh) (surfaces : List Surface) (fault : PlyFault) → i < length meshes →

@@ -8,9 +8,11 @@ use Rattle.mesh_arrays.specs.declared.fault.IndexFault.{IndexFault}
 use Rattle.mesh_arrays.specs.declared.fault.IndexFault.TheVariants as index_fault
 use Rattle.mesh_arrays.specs.declared.mesh.ArrayMesh.{ArrayMesh}
 use Rattle.mesh_boolean.specs.Effects.{decimals_of}
+use Rattle.mesh_boolean.specs.Splits.{AreDecimalsOver}
 use Rattle.mesh_boolean.specs.declared.fault.BooleanFault.{BooleanFault}
 use Rattle.mesh_boolean.specs.declared.fault.BooleanFault.TheVariants.{File, Scene, Solid, TooFar}
 use Rattle.mesh_boolean.specs.declared.fault.BooleanFault.TheVariants.{TooManyTriangles, OutOfMemory}
+use Rattle.mesh_boolean.specs.declared.split.SplitDecimals.{SplitDecimals}
 use Rattle.mesh_boolean.specs.declared.writing_fault.WritingFault.{WritingFault}
 use Rattle.mesh_boolean.specs.declared.writing_fault.WritingFault.TheVariants as writing_fault
 use Rattle.mesh_file.specs.declared.file.fault.FileFault.{FileFault}
@@ -31,8 +33,6 @@ use Rattle.mesh_solid.specs.declared.mesh.fault.SolidFault.TheVariants as solid_
 use Rattle.mesh_solid.specs.declared.mesh.mesh.SolidMesh.{SolidMesh}
 use Rattle.mesh_written.specs.Decimals.{IsFarPoint}
 use Rattle.ember_arrays.specs.Meshes.{ArePlaced, AreSurfacesOf}
-use Rattle.ember_arrays.specs.Solids.{AreDecimalsOver}
-use Rattle.ember_arrays.specs.declared.split.SplitDecimals.{SplitDecimals}
 
 -- ---- the faults of the steps, where want of memory is one
 abbrev pub of_mesh_fault : ℕ → PlyFault → BooleanFault

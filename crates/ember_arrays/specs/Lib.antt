@@ -1,3 +1,4 @@
+pub mod Sources
 pub mod Meshes
 pub mod Solids
 pub mod Faults

@@ -1,5 +1,5 @@
 -- Meshes in arrays on their grid
-use Rattle.std.specs.Prelude.{◌≡◌, List, length, map}
+use Rattle.std.specs.Prelude.{◌≡◌, Bool, List, length, map}
 use Rattle.std.specs.List.{AllZip}
 use Rattle.ember_model.specs.Meshes.{IsScene}
 use Rattle.mesh_arrays.specs.Arrays.{IsSurfaceOf}
@@ -11,6 +11,9 @@ use Rattle.mesh_read.specs.declared.surface.surface.Surface.{Surface}
 use Rattle.mesh_scene.specs.Scene.Faults.{IsSceneGrid}
 use Rattle.mesh_scene.specs.Scene.Images.{counts_on, images_of}
 use Rattle.mesh_scene.specs.declared.scene.scene.PlacedScene.{PlacedScene}
+use Rattle.mesh_solid.specs.Mesh.Asked.{IsThereIf}
+use Rattle.ember_arrays.specs.Sources.{inputs_from}
+use Rattle.ember_arrays.specs.declared.placing.PlacedArrays.{PlacedArrays}
 
 -- the surface of each mesh, in order
 abbrev pub AreSurfacesOf : List ArrayMesh → List Surface → Type 0
@@ -30,3 +33,9 @@ pub record IsPlaced (meshes : List ArrayMesh) (wanted : Wanted) (placed : Placed
   pub count : placed.scene.meshes ≡ length surfaces
   pub counts : placed.counts.items ≡ map (counts_on placed.grid) surfaces
   pub moves : AreMoves placed.grid surfaces placed.moves.items
+
+-- the same, and if it is wanted, for each triangle of the scene the triangle of a mesh that it is
+pub record IsPlacedWith (meshes : List ArrayMesh) (wanted : Wanted) (wants_inputs : Bool) (it : PlacedArrays) :
+    Type 0 where
+  pub is : IsPlaced meshes wanted it.placed
+  pub inputs : IsThereIf wants_inputs (λ inputs. inputs.items ≡ inputs_from it.placed.grid 1 is.surfaces) it.inputs

@@ -53,8 +53,8 @@ pub record IsSolidFor (request : ArrayRequest) (step : WantedStep) (solid : Arra
   pub wanted : Wanted
   pub formula : Formula
   pub asks : Asks request step wanted formula
-  pub is : IsArraySolid request.meshes.now formula wanted request.digits solid
-  pub means : MeansFormula request.meshes.now formula wanted request.digits solid is
+  pub is : IsArraySolid request.meshes.now formula wanted request.digits request.wants_sources solid
+  pub means : MeansFormula request.meshes.now formula wanted request.digits request.wants_sources solid is
 
 -- the request asks for a solid, but there is none for this fault, of which this is the status and the place
 pub record IsUnmade (request : ArrayRequest) (step : WantedStep) (status : Status) (place : ℕ) : Type 0 where

@@ -1,5 +1,5 @@
 -- A solid in arrays
-use Rattle.std.specs.Prelude.{◌≡◌, ℕ, ◌+◌, true, false, List, [], None, Some, Option, length, map}
+use Rattle.std.specs.Prelude.{◌≡◌, ℕ, ◌+◌, Bool, List, [], None, Some, Option, length, map}
 use Rattle.ember_expr.specs.Formula.{Formula}
 use Rattle.ember_meaning.specs.Regions.Meaning.{HaveMeaning}
 use Rattle.ember_meaning.specs.Regions.Nearby.{WindOnceAtMost}
@@ -7,45 +7,30 @@ use Rattle.ember_meaning.specs.Regions.Solids.{IsSolidReport}
 use Rattle.mesh_arrays.specs.Doubles.{doubles_of}
 use Rattle.mesh_arrays.specs.Indices.{corners_of}
 use Rattle.mesh_arrays.specs.declared.mesh.ArrayMesh.{ArrayMesh}
-use Rattle.mesh_boolean.specs.Effects.{IsDecimalEffect, decimals_of, over_vertices}
+use Rattle.mesh_boolean.specs.Effects.{IsDecimalEffect, decimals_of, origins_of_decimals, over_vertices}
+use Rattle.mesh_boolean.specs.Splits.{AreDecimalsOver}
 use Rattle.mesh_boolean.specs.Volumes.{six_volumes_of_meshes}
+use Rattle.mesh_boolean.specs.declared.split.SplitDecimals.{SplitDecimals}
 use Rattle.mesh_grid.specs.Moves.Shown.{AreMoves}
 use Rattle.mesh_grid.specs.declared.grid.choice.Wanted.{Wanted}
 use Rattle.mesh_grid.specs.declared.grid.grid.Grid.{Grid}
-use Rattle.mesh_manifold.specs.Cuts.{AreCutOf}
-use Rattle.mesh_manifold.specs.Paired.{IsManifold}
-use Rattle.mesh_manifold.specs.Splits.{AreSplitOf}
-use Rattle.mesh_manifold.specs.declared.split.SplitMesh.{SplitMesh}
 use Rattle.mesh_read.specs.declared.surface.surface.Surface.{Surface}
 use Rattle.mesh_scene.specs.Scene.Images.{counts_on, images_of}
+use Rattle.mesh_solid.specs.Mesh.Asked.{IsThereIf}
 use Rattle.mesh_solid.specs.Mesh.MeshFaces.{faces_of_mesh}
 use Rattle.mesh_solid.specs.Mesh.Meshes.{IsSolidMesh}
 use Rattle.mesh_solid.specs.declared.mesh.mesh.SolidMesh.{SolidMesh}
-use Rattle.mesh_write.specs.Vertices.Vertices.{point_at, vertices_of}
-use Rattle.mesh_write.specs.declared.vertices.point.DecimalTriangle.{DecimalTriangle}
 use Rattle.mesh_written.specs.Closed.{AreDecimalsClosed, AreIndicesClosed}
 use Rattle.mesh_written.specs.Digits.{written_places}
 use Rattle.mesh_written.specs.Shared.{IsSharedIndexCount}
 use Rattle.ember_arrays.specs.Meshes.{ArePlaced}
+use Rattle.ember_arrays.specs.Sources.{AreSources, inputs_from, origins_after}
 use Rattle.ember_arrays.specs.declared.arrays.Arrays.{Arrays}
 use Rattle.ember_arrays.specs.declared.solid.ArraySolid.{ArraySolid}
-use Rattle.ember_arrays.specs.declared.split.SplitDecimals.{SplitDecimals}
-
--- ---- rounded triangles over points
--- triangles, some of them cut at the middles of their edges: each of their points is there, some of them more than
--- once. If this is called manifold, each edge has two triangles; otherwise none is cut
-pub record AreDecimalsOver (ts : List DecimalTriangle) (over : SplitDecimals) : Type 0 where
-  pub cut : List DecimalTriangle
-  pub are_cut : AreCutOf ts cut
-  pub split : SplitMesh
-  pub are_split : AreSplitOf split (over_vertices cut)
-  pub points : over.points.items ≡ map (point_at (vertices_of cut)) split.origins.items
-  pub triangles : over.triangles.items ≡ split.triangles.items
-  pub manifold : over.is_manifold ≡ true → IsManifold split.triangles.items
-  pub whole : over.is_manifold ≡ false → cut ≡ ts
 
 -- ---- arrays
--- the arrays are those of the mesh's rounded triangles, which are closed; the numbers are those of the mesh, of what
+-- the arrays are those of the mesh's rounded triangles, which are closed, with the indices of the triangles that were
+-- rounded; the numbers are those of the mesh, of what
 -- rounding did to it, of its triangles that vanished, and of the edges of more than two of the others
 pub record AreArrays (digits : Option ℕ) (grid : Grid) (mesh : SolidMesh) (arrays : Arrays) : Type 0 where
   pub over : SplitDecimals
@@ -53,6 +38,7 @@ pub record AreArrays (digits : Option ℕ) (grid : Grid) (mesh : SolidMesh) (arr
   pub vertices : map (map (λ double. Some double)) arrays.vertices.items
       ≡ map (doubles_of (written_places digits grid.step)) over.points.items
   pub triangles : arrays.triangles.items ≡ map corners_of over.triangles.items
+  pub origins : arrays.origins.items ≡ origins_after (origins_of_decimals digits grid mesh) over.origins
   pub is_manifold : arrays.numbers.is_manifold ≡ over.is_manifold
   pub effect : IsDecimalEffect digits grid mesh arrays.numbers.effect
   pub faces : arrays.numbers.faces ≡ mesh.faces
@@ -68,9 +54,9 @@ pub record AreArrays (digits : Option ℕ) (grid : Grid) (mesh : SolidMesh) (arr
 -- ---- solids
 -- the surfaces of the meshes are a scene on the wanted grid, with these counts, moves and volumes; there is a mesh of
 -- the solid of their triangles, with this report of the run; its rounded triangles are closed, and these are their
--- arrays
+-- arrays. If it is wanted, the source of each of them is there: that of the exact triangle that it was made from
 pub record IsArraySolid (meshes : List ArrayMesh) (formula : Formula) (wanted : Wanted) (digits : Option ℕ)
-    (solid : ArraySolid) : Type 0 where
+    (wants_sources : Bool) (solid : ArraySolid) : Type 0 where
   pub surfaces : List Surface
   pub are_placed : ArePlaced meshes wanted surfaces solid.file.grid
   pub counts : solid.file.counts.items ≡ map (counts_on solid.file.grid) surfaces
@@ -86,10 +72,13 @@ pub record IsArraySolid (meshes : List ArrayMesh) (formula : Formula) (wanted : 
   pub triangles : solid.triangles ≡ arrays.triangles
   pub numbers : solid.file.written ≡ arrays.numbers
   pub closed : AreDecimalsClosed (decimals_of digits solid.file.grid mesh)
+  pub sources : IsThereIf wants_sources (AreSources (inputs_from solid.file.grid 1 surfaces)
+      (images_of solid.file.grid surfaces) mesh arrays.origins.items) solid.sources
 
 -- before its triangles are rounded, they wind once where the formula is true of the meshes' triangles on the grid, and
 -- not at all elsewhere; around each point that is clear of them alone, once or not at all
 pub record MeansFormula (meshes : List ArrayMesh) (formula : Formula) (wanted : Wanted) (digits : Option ℕ)
-    (solid : ArraySolid) (is : IsArraySolid meshes formula wanted digits solid) : Type 0 where
+    (wants_sources : Bool) (solid : ArraySolid) (is : IsArraySolid meshes formula wanted digits wants_sources solid) :
+    Type 0 where
   pub means : HaveMeaning (images_of solid.file.grid is.surfaces) formula (faces_of_mesh is.mesh)
   pub once : WindOnceAtMost (faces_of_mesh is.mesh)

@@ -27,6 +27,8 @@ pub struct ArrayRequest<'a> {
     pub expression: &'a [u8],
     /// The decimal places of the result, up to 17. If there is no number, the step decides.
     pub digits: Option<u32>,
+    /// Whether it is asked where each triangle of the result comes from.
+    pub wants_sources: bool,
 }
 
 // The grid and the expression that are asked for.

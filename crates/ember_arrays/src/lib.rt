@@ -3,16 +3,18 @@
 
 mod arrays;
 mod asked;
-mod effect;
+mod inputs;
 mod lines;
 mod outcome;
 mod placing;
 mod solid;
-mod split;
+mod sources;
 mod surfaces;
 
 pub use asked::ArrayRequest;
+pub use inputs::InputTriangle;
 pub use outcome::{ArrayOutcome, boolean};
-pub use placing::placed_arrays;
+pub use placing::{PlacedArrays, placed_arrays};
 pub use solid::{ArraySolid, array_solid};
+pub use sources::{ArraySource, SEVERAL, TURNED};
 pub use surfaces::surfaces_of;

@@ -87,6 +87,7 @@ fn solid_for(alloc: Global, request: &ArrayRequest, step: &WantedStep) -> Result
         &asked.expr,
         asked.wanted,
         request.digits,
+        request.wants_sources,
     ) {
         Ok(solid) => Ok(solid),
         Err(fault) => {

@@ -9,7 +9,8 @@ ghost use Rattle.ember_arrays.specs.Faults.{IsArrayFault};
 ghost use Rattle.ember_arrays.specs.Solids.{IsArraySolid};
 
 use crate::arrays::arrays_of;
-use crate::placing::placed_arrays;
+use crate::placing::{PlacedArrays, placed_arrays};
+use crate::sources::{ArraySource, sources_if};
 use ember_expr::Expr;
 use ember_model::OutOfMemory;
 use ember_query::{Answer, Query, answer_alone};
@@ -30,6 +31,8 @@ pub struct ArraySolid {
     /// The indices of the corners of each triangle among the vertices, from 0, counter-clockwise seen from
     /// outside.
     pub triangles: Vec<[u32; 3]>,
+    /// Where each triangle comes from, if it was asked for.
+    pub sources: Option<Vec<ArraySource>>,
     /// The grid, and the numbers of the run and of the mesh, as they are with its text. There are no bytes.
     pub file: SolidFile,
 }
@@ -38,8 +41,9 @@ pub struct ArraySolid {
 /// expression. It is made by one thread.
 ///
 /// The meshes are put on the grid that is wanted, and the triangles of the solid are exact there. Each
-/// coordinate of their corners is rounded to a decimal, and then to the double that is nearest to it. There are
-/// at most 64 meshes, of at most 2^28 bytes each, a given step is in range, and there are at most 17 decimal
+/// coordinate of their corners is rounded to a decimal, and then to the double that is nearest to it. Where each
+/// triangle comes from can be asked for: it has the source of the exact triangle from which it was made. There
+/// are at most 64 meshes, of at most 2^28 bytes each, a given step is in range, and there are at most 17 decimal
 /// places. Of several faults the first of these is reported:
 ///
 /// 1. The first mesh that has no surface: see [`surface_of`](mesh_arrays::surface_of).
@@ -53,15 +57,16 @@ pub fn array_solid(
     expr: &Expr,
     wanted: Wanted,
     digits: Option<u32>,
+    wants_sources: bool,
 ) -> Result<ArraySolid, BooleanFault<'static>>
     requires few { length meshes.now ≤ 64 }
     requires short { All IsShort meshes.now }
     requires choice { IsChoice wanted }
     requires digits { IfSome digits (λ n. n ≤ 17) }
-    ensures solid { IfOk result (IsArraySolid meshes.now (formula_of expr.now) wanted digits) }
+    ensures solid { IfOk result (IsArraySolid meshes.now (formula_of expr.now) wanted digits wants_sources) }
     ensures fault { IfErr result (IsArrayFault meshes.now (formula_of expr.now) wanted digits) }
 {
-    let placed = placed_arrays(alloc, meshes, wanted)?;
+    let PlacedArrays { placed, inputs } = placed_arrays(alloc, meshes, wanted, wants_sources)?;
     let six_volumes = six_volumes_of_meshes(alloc, &placed.scene)?;
     let MeshedSolid { mesh, report, .. } = solid_mesh(
         alloc,
@@ -78,9 +83,12 @@ pub fn array_solid(
         { answer_planes_alone(alloc, query) },
     )?;
     let arrays = arrays_of(alloc, &mesh, &placed.grid, digits)?;
+    let tris = placed.scene.tris.items();
+    let sources = sources_if(alloc, &inputs, tris, &mesh, &arrays.origins)?;
     Ok(ArraySolid {
         vertices: arrays.vertices,
         triangles: arrays.triangles,
+        sources,
         file: SolidFile {
             written: arrays.numbers,
             grid: placed.grid,

@@ -25,12 +25,17 @@ IsStepText bytes (Decimal text) = text ≡ bytes
 abbrev pub digits_of : ℕ → Option ℕ
 digits_of digits = if digits == 2 ^ 32 - 1 then None else Some digits
 
+-- the lowest bit of these wants asks for sources
+abbrev pub wants_sources : ℕ → Bool
+wants_sources wants = wants % 2 == 1
+
 -- these meshes and this expression
-pub record IsRequestOf (meshes : List ArrayMesh) (expression : List ℕ) (digits : ℕ) (request : ArrayRequest) :
+pub record IsRequestOf (meshes : List ArrayMesh) (expression : List ℕ) (digits wants : ℕ) (request : ArrayRequest) :
     Type 0 where
   pub meshes_are : request.meshes.now ≡ meshes
   pub expression_is : request.expression.now ≡ expression
   pub digits_are : request.digits ≡ digits_of digits
+  pub sources_are : request.wants_sources ≡ wants_sources wants
 
 -- ---- what comes out
 -- the two words of 64 bits of a number of 128, the low one first
@@ -90,15 +95,16 @@ pub record HasNoSolid (status : ℕ) (solid : Solid) : Type 0 where
   pub none : HasNoArrays solid
 
 -- the answer to a call over these arrays
-pub record IsCallOf (meshes : List ArrayMesh) (expression step : List ℕ) (digits : ℕ) (solid : Solid) : Type 0 where
+pub record IsCallOf (meshes : List ArrayMesh) (expression step : List ℕ) (digits wants : ℕ) (solid : Solid) :
+    Type 0 where
   pub request : ArrayRequest
-  pub is_request : IsRequestOf meshes expression digits request
+  pub is_request : IsRequestOf meshes expression digits wants request
   pub wanted : WantedStep
   pub is_step : IsStepText step wanted
   pub outcome : ArrayOutcome
   pub is_outcome : IsArrayOutcome request wanted outcome
   pub is_solid : IsSolidOf outcome solid
 
-abbrev pub AnswersArrays : List ArrayMesh → List ℕ → List ℕ → ℕ → Solid → Type 0
-AnswersArrays meshes expression step digits solid = IsCallOf meshes expression step digits solid
+abbrev pub AnswersArrays : List ArrayMesh → List ℕ → List ℕ → ℕ → ℕ → Solid → Type 0
+AnswersArrays meshes expression step digits wants solid = IsCallOf meshes expression step digits wants solid
     ⊎ ((HasNoSolid 13 solid × ¬ (IsUtf8 step)) ⊎ HasNoSolid 12 solid)

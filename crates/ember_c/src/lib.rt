@@ -9,7 +9,7 @@ mod step;
 
 ghost use Rattle.std.specs.Prelude.{◌≡◌, ◌++◌, length, min, take, drop};
 ghost use Rattle.ember_c.specs.Answers.{AnswersCall, AnswersMeshCall};
-ghost use Rattle.ember_c.specs.Solids.{AnswersArrays, digits_of};
+ghost use Rattle.ember_c.specs.Solids.{AnswersArrays, digits_of, wants_sources};
 ghost use Rattle.ember_call.specs.Lent.{named_bytes, word_bytes};
 
 use crate::answer::{Answer, answer_of};
@@ -75,6 +75,13 @@ fn digits_in(digits: u32) -> Option<u32>
     }
 }
 
+// Whether these wants have `EMBER_SOURCES` of the header, their lowest bit.
+fn wants_sources(wants: u32) -> bool
+    ensures { result ≡ wants_sources wants }
+{
+    wants % 2 == 1
+}
+
 // The solid of an expression over meshes in arrays, as C gets it.
 fn made_solid(
     alloc: Global,
@@ -82,13 +89,15 @@ fn made_solid(
     expression: &[u8],
     step: &[u8],
     digits: u32,
+    wants: u32,
 ) -> Solid
-    ensures { AnswersArrays meshes.now expression.now step.now digits result }
+    ensures { AnswersArrays meshes.now expression.now step.now digits wants result }
 {
     let request = ArrayRequest {
         meshes,
         expression,
         digits: digits_in(digits),
+        wants_sources: wants_sources(wants),
     };
     match step_in(alloc, step) {
         Ok(step) => solid_of(boolean(alloc, &request, step)),
@@ -98,7 +107,7 @@ fn made_solid(
 }
 
 /// Makes the solid of an expression over meshes in arrays, and returns the status. `step` is `nice`, `finest` or
-/// a decimal above 0; if it is empty, it stands for `nice`.
+/// a decimal above 0; if it is empty, it stands for `nice`. If `wants` is odd, the solid has sources.
 #[unsafe(no_mangle)]
 pub extern "C" fn ember_boolean_with(
     alloc: Global,
@@ -106,12 +115,13 @@ pub extern "C" fn ember_boolean_with(
     expression: &[u8],
     step: &[u8],
     digits: u32,
+    wants: u32,
     solid: &mut Solid,
 ) -> u32
     ensures status { result ≡ solid.new.status }
-    ensures answer { AnswersArrays meshes.now expression.now step.now digits solid.new }
+    ensures answer { AnswersArrays meshes.now expression.now step.now digits wants solid.new }
 {
-    *solid = made_solid(alloc, meshes, expression, step, digits);
+    *solid = made_solid(alloc, meshes, expression, step, digits, wants);
     solid.status
 }
 

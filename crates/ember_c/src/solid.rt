@@ -3,7 +3,7 @@ ghost use Rattle.std.specs.Prelude.{◌≡◌};
 ghost use Rattle.ember_c.specs.Solids.{HasNoSolid, HasNumbers, IsSolidOf, place_from_zero, two_words};
 
 use crate::blocks::{Block, block_of, no_block};
-use ember_arrays::{ArrayOutcome, ArraySolid};
+use ember_arrays::{ArrayOutcome, ArraySolid, ArraySource};
 use mesh_boolean::SolidFile;
 use std::ptr::null_mut;
 
@@ -19,6 +19,7 @@ pub struct Solid {
     pub vertex_count: usize,
     pub triangles: *mut [u32; 3],
     pub triangle_count: usize,
+    pub sources: *mut ArraySource,
     pub numbers: Numbers,
 }
 
@@ -55,6 +56,24 @@ fn triangles_at(mut triangles: Vec<[u32; 3]>) -> *mut [u32; 3] {
     let at = triangles.as_mut_ptr();
     let _ = triangles.leak();
     at
+}
+
+// The array of sources, likewise.
+fn source_array(mut sources: Vec<ArraySource>) -> *mut ArraySource {
+    if sources.is_empty() {
+        return null_mut();
+    }
+    let at = sources.as_mut_ptr();
+    let _ = sources.leak();
+    at
+}
+
+// The same of sources that may not be there; null if they aren't.
+fn sources_at(sources: Option<Vec<ArraySource>>) -> *mut ArraySource {
+    match sources {
+        Some(sources) => source_array(sources),
+        None => null_mut(),
+    }
 }
 
 // The two words of a number, the low one first.
@@ -130,6 +149,7 @@ pub fn solid_of(outcome: ArrayOutcome) -> Solid
             ArraySolid {
                 vertices,
                 triangles,
+                sources,
                 file,
             },
         ) => Solid {
@@ -141,6 +161,7 @@ pub fn solid_of(outcome: ArrayOutcome) -> Solid
             vertices: vertices_at(vertices),
             triangle_count: triangles.len(),
             triangles: triangles_at(triangles),
+            sources: sources_at(sources),
             numbers: numbers_of(&file),
         },
         None => Solid {
@@ -152,6 +173,7 @@ pub fn solid_of(outcome: ArrayOutcome) -> Solid
             vertex_count: 0,
             triangles: null_mut(),
             triangle_count: 0,
+            sources: null_mut(),
             numbers: no_numbers(),
         },
     }
@@ -170,6 +192,7 @@ pub fn nothing_made(status: u32) -> Solid
         vertex_count: 0,
         triangles: null_mut(),
         triangle_count: 0,
+        sources: null_mut(),
         numbers: no_numbers(),
     }
 }

@@ -1,6 +1,6 @@
 // Booleans over arrays.
 use crate::boxes::{HIGH_VERTICES, LOW_VERTICES, TRIANGLES};
-use ember_arrays::{ArrayOutcome, ArrayRequest, boolean};
+use ember_arrays::{ArrayOutcome, ArrayRequest, ArraySource, SEVERAL, TURNED, boolean};
 use ember_words::Text;
 use mesh_arrays::{ArrayMesh, double_at};
 use mesh_words::WantedStep;
@@ -29,6 +29,7 @@ fn nice(alloc: Global, meshes: &[ArrayMesh], expression: &[u8]) -> ArrayOutcome 
         meshes,
         expression,
         digits: None,
+        wants_sources: false,
     };
     boolean(alloc, &request, WantedStep::Nice)
 }
@@ -40,12 +41,39 @@ fn what_both_boxes_fill(rt: HostRuntime) -> Result<(), Fail> {
     assert_eq!(rt; given.status, 0);
     assert!(rt; given.line.starts_with(b"ember-mesh: step "));
     let solid = given.solid.expect(&rt, "a solid");
+    assert!(rt; solid.sources.is_none());
     assert_eq!(rt; solid.vertices.len(), 8);
     assert_eq!(rt; solid.triangles.len(), 12);
     assert!(rt; solid.file.written.is_manifold);
     for vertex in &solid.vertices {
         assert!(rt; vertex.iter().all(|x| *x == 1.0 || *x == 2.0));
     }
+    Ok(())
+}
+
+// Whether this is a triangle of the first box, or one of the second that faces the other way.
+fn is_of_difference(source: &ArraySource) -> bool {
+    let wanted = if source.mesh == 2 { TURNED } else { 0 };
+    (source.mesh == 1 || source.mesh == 2)
+        && source.triangle < 12
+        && source.flags % SEVERAL == wanted
+}
+
+#[test]
+fn where_triangles_come_from(rt: HostRuntime) -> Result<(), Fail> {
+    let meshes = boxes();
+    let request = ArrayRequest {
+        meshes: &meshes,
+        expression: b"m1&!m2",
+        digits: None,
+        wants_sources: true,
+    };
+    let given = boolean(rt.alloc(), &request, WantedStep::Nice);
+    let solid = given.solid.expect(&rt, "a solid");
+    let sources = solid.sources.expect(&rt, "sources");
+    assert_eq!(rt; sources.len(), solid.triangles.len());
+    assert!(rt; sources.iter().all(|source| is_of_difference(source)));
+    assert!(rt; sources.iter().any(|source| source.mesh == 2));
     Ok(())
 }
 
@@ -137,6 +165,7 @@ fn expressions_and_digits_that_are_refused(rt: HostRuntime) -> Result<(), Fail> 
         meshes: &meshes,
         expression: b"m1",
         digits: Some(18),
+        wants_sources: false,
     };
     let given = boolean(alloc, &request, WantedStep::Finest);
     let digits = "ember-mesh: --digits: not a number from 0 to 17; see ember-mesh help\n";
@@ -152,6 +181,7 @@ fn a_step_that_is_too_small(rt: HostRuntime) -> Result<(), Fail> {
         meshes: &meshes,
         expression: b"m1",
         digits: Some(3),
+        wants_sources: false,
     };
     let step = WantedStep::Decimal(Text::of(String::from_str(alloc, "0.0001")?));
     let given = boolean(alloc, &request, step);

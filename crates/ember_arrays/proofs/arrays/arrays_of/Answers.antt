@@ -9,6 +9,7 @@ use Rattle.mesh_write.specs.declared.vertices.point.IndexedTriangle.{IndexedTria
 use Rattle.mesh_written.specs.Closed.{AreIndicesClosed}
 use Rattle.mesh_written.specs.Shared.{IsSharedIndexCount}
 use Rattle.ember_arrays.specs.Faults.{IsArraysFault}
+use Rattle.ember_arrays.specs.Sources.{origins_after}
 use Rattle.ember_arrays.proofs.Refusals.{index_fault_is, place_fault_is}
 use Rattle.ember_arrays.proofs.arrays.arrays_of.Goals as goal
 
@@ -53,6 +54,7 @@ returns-clause-arrays c =
       vertices = c.in_ok-vertices.ensures
           ∙ (λ i. map (doubles_of (c.written_places-places.ensures.value i)) (c.deref-2.ensures.value i));
       triangles = c.in-Ok.ensures.triples ∙ ap (map corners_of) c.deref-3.ensures.value;
+      origins = c.in_ok-origins.ensures ∙ ap (λ (rounded : List ℕ). origins_after rounded c.in_ok-split.split.origins) c.in_ok-written.ensures.origins;
       is_manifold = refl;
       effect = c.in_ok-effect.ensures.effect;
       faces = refl;

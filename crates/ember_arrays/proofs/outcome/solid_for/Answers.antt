@@ -20,7 +20,7 @@ returns-in-Ok-array_solid-clause-solid c =
       asks = c.in-Ok.ensures.asks;
       is = is;
       means = solid_means_formula c.args.request.now.meshes.now formula c.in-Ok.asked.wanted c.args.request.now.digits
-          c.in-Ok-array_solid.solid c.in-Ok.ensures.asks.expression.bounded is;
+          c.args.request.now.wants_sources c.in-Ok-array_solid.solid c.in-Ok.ensures.asks.expression.bounded is;
     }
 
 pub status_of-requires : goal.status_of-requires
