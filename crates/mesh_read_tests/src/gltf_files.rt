@@ -50,13 +50,18 @@ fn a_strip_by_its_indices(rt: HostRuntime) -> Result<(), Fail> {
     let Ok(surface) = read(rt.alloc(), DOCUMENT.as_bytes()) else {
         return Err(Fail::from("refused"));
     };
-    let want = [[0, 1, 2], [2, 1, 3]];
-    let mut place = 0;
-    for (found, corners) in surface.facets.iter().zip(want) {
-        place += 1;
-        assert_eq!(rt; *found, Facet { corners, place });
-    }
-    assert_eq!(rt; (surface.vertices.len(), place), (4, 2));
+    let facets = [
+        Facet {
+            corners: [0, 1, 2],
+            place: 1,
+        },
+        Facet {
+            corners: [2, 1, 3],
+            place: 2,
+        },
+    ];
+    assert!(rt; surface.facets.as_slice() == facets.as_slice());
+    assert!(rt; surface.vertices.len() == 4);
     let Some(vertex) = surface.vertices.get(3) else {
         return Err(Fail::from("no vertex"));
     };
