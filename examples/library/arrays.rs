@@ -20,6 +20,14 @@ struct Mesh {
     n_triangles: usize,
 }
 
+/// `ember_source`.
+#[repr(C)]
+struct Source {
+    mesh: u32,
+    triangle: u32,
+    flags: u32,
+}
+
 /// `ember_solid`.
 #[repr(C)]
 struct Solid {
@@ -31,6 +39,7 @@ struct Solid {
     n_vertices: usize,
     triangles: *mut u32,
     n_triangles: usize,
+    sources: *mut Source,
     step: [u64; 2],
     offset: [[u64; 2]; 3],
     faces: u64,
@@ -53,6 +62,7 @@ extern "C" {
         step: *const u8,
         n_step: usize,
         digits: u32,
+        wants: u32,
         solid: *mut Solid,
     ) -> u32;
     fn free(block: *mut u8);
@@ -82,7 +92,7 @@ fn main() {
     let mut solid: Solid = unsafe { mem::zeroed() };
     let (line, vertices, triangles) = unsafe {
         let texts = (expression.as_ptr(), expression.len(), step.as_ptr(), step.len());
-        ember_boolean_with(meshes.as_ptr(), meshes.len(), texts.0, texts.1, texts.2, texts.3, DIGITS_OF_STEP, &mut solid);
+        ember_boolean_with(meshes.as_ptr(), meshes.len(), texts.0, texts.1, texts.2, texts.3, DIGITS_OF_STEP, 0, &mut solid);
         (taken(solid.line.at, solid.line.len), taken(solid.vertices, 3 * solid.n_vertices), taken(solid.triangles, 3 * solid.n_triangles))
     };
     eprint!("{}", String::from_utf8_lossy(&line));

@@ -21,6 +21,8 @@ from .kept import FOLDER
 from .off import arrays_of_off
 
 if TYPE_CHECKING:
+    from numpy.typing import NDArray
+
     from .meshes import Faces, Vertices
 
 Step = Union[str, int, float, Decimal, Fraction]
@@ -42,12 +44,14 @@ class Solid:
 
     vertices, faces  its arrays
     report           the lines of ember-mesh
-    files            the files of `--keep`, if they are wanted
+    sources          the sources of its triangles, if they are wanted and the files of `--keep` aren't needed for them
+    files            the files of `--keep`, if something is wanted for which they are needed
     """
 
     vertices: Vertices
     faces: Faces
     report: str
+    sources: Optional[NDArray[Any]]
     files: Mapping[str, bytes]
 
 
@@ -76,12 +80,13 @@ class Call:
         words += ["-o", f"out.{ending}", *(["--keep", FOLDER] if keep else [])]
         return answered(words, self.inputs, self.engine, self.timeout)
 
-    def solid(self, *, keep: bool = False) -> Solid:
-        """Computes the solid, with the files of `--keep` if they are wanted. Raises what `boolean` raises."""
-        if not keep and chosen(self.engine, self.triangles, self.timeout) == "library" and self._is_of_arrays():
-            return self._solid_of_arrays()
-        answer = self.answer("off", keep=keep)
-        return Solid(*arrays_of_off(answer.files["out.off"]), said(answer.err), answer.files)
+    def solid(self, *, sources: bool, exact: bool) -> Solid:
+        """Computes the solid, with what its sources and its exact corners are made of. Raises what `boolean` raises."""
+        # Only the files of `--keep` have the exact corners.
+        if not exact and chosen(self.engine, self.triangles, self.timeout) == "library" and self._is_of_arrays():
+            return self._solid_of_arrays(sources)
+        answer = self.answer("off", keep=sources or exact)
+        return Solid(*arrays_of_off(answer.files["out.off"]), said(answer.err), None, answer.files)
 
     def _is_of_arrays(self) -> bool:
         """Whether the library can be asked for just this by its call over arrays. Its call with words says what is wrong with all else."""
@@ -95,13 +100,13 @@ class Call:
             and _is_between(self.workers, 1, _MOST_WORKERS)
         )
 
-    def _solid_of_arrays(self) -> Solid:
+    def _solid_of_arrays(self, sources: bool) -> Solid:
         between = _COMMANDS.get(self.operation)
         expression = self.operation if between is None else between.join(f"m{it + 1}" for it in range(len(self.inputs)))
-        made = library.boolean([it.arrays for it in self.inputs if it.arrays], expression, self.step, self.digits)
+        made = library.boolean([it.arrays for it in self.inputs if it.arrays], expression, self.step, self.digits, sources=sources)
         if made.status:
             raise error_at(made.status, said(made.line), made.mesh, made.place)
-        return Solid(made.vertices, made.faces, said(made.line), {})
+        return Solid(made.vertices, made.faces, said(made.line), made.sources, {})
 
 
 def _is_between(number: Any, least: int, most: int) -> bool:

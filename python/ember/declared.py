@@ -5,10 +5,13 @@ import ctypes
 import functools
 from typing import Any
 
-# EMBER_ABI, EMBER_DIGITS and EMBER_NO_PLACE.
+# EMBER_ABI, EMBER_DIGITS, EMBER_SOURCES, EMBER_NO_PLACE, EMBER_TURNED and EMBER_SEVERAL.
 ABI = 1
 DIGITS_OF_STEP = 0xFFFF_FFFF
+WANTS_SOURCES = 1
 NO_PLACE = 0xFFFF_FFFF_FFFF_FFFF
+TURNED = 1
+SEVERAL = 2
 
 
 class Bytes(ctypes.Structure):
@@ -56,9 +59,9 @@ class Solid(ctypes.Structure):
     _fields_ = [
         ("status", ctypes.c_uint32), ("mesh", ctypes.c_uint32), ("place", ctypes.c_uint64), ("line", Block),
         ("vertices", ctypes.c_void_p), ("n_vertices", ctypes.c_size_t), ("triangles", ctypes.c_void_p), ("n_triangles", ctypes.c_size_t),
-        ("step", ctypes.c_uint64 * 2), ("offset", ctypes.c_uint64 * 2 * 3), ("faces", ctypes.c_uint64), ("planes", ctypes.c_uint64),
-        ("vanished", ctypes.c_uint64), ("shared", ctypes.c_uint64), ("flat", ctypes.c_uint64), ("turned", ctypes.c_uint64),
-        ("is_manifold", ctypes.c_uint64),
+        ("sources", ctypes.c_void_p), ("step", ctypes.c_uint64 * 2), ("offset", ctypes.c_uint64 * 2 * 3), ("faces", ctypes.c_uint64),
+        ("planes", ctypes.c_uint64), ("vanished", ctypes.c_uint64), ("shared", ctypes.c_uint64), ("flat", ctypes.c_uint64),
+        ("turned", ctypes.c_uint64), ("is_manifold", ctypes.c_uint64),
     ]  # fmt: skip
 
 
@@ -73,7 +76,7 @@ def loaded(path: str) -> Any:
     command, boolean = found.ember_mesh_command, found.ember_boolean_with
     command.argtypes = [ctypes.POINTER(Bytes), size, ctypes.POINTER(File), size, ctypes.POINTER(Answer)]
     text = (ctypes.c_char_p, size)
-    boolean.argtypes = [ctypes.POINTER(Mesh), size, *text, *text, ctypes.c_uint32, ctypes.POINTER(Solid)]
+    boolean.argtypes = [ctypes.POINTER(Mesh), size, *text, *text, ctypes.c_uint32, ctypes.c_uint32, ctypes.POINTER(Solid)]
     command.restype = boolean.restype = ctypes.c_uint32
     return found
 

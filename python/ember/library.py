@@ -10,12 +10,17 @@ from typing import TYPE_CHECKING, Any, Dict, Iterable, Mapping, Optional, Sequen
 import numpy as np
 
 from . import declared
+from .sources import SOURCE
 
 if TYPE_CHECKING:
+    from numpy.typing import NDArray
+
     from .meshes import Faces, Vertices
 
 # Where a wheel has the library.
 _PACKED = Path(__file__).resolve().parent / "_lib/libember.so"
+# ember_source. Its numbers are read with a sign, so no triangle is -1.
+_SOURCE = np.dtype([("mesh", "<i4"), ("triangle", "<i4"), ("flags", "<u4")])
 
 
 @dataclass(frozen=True, eq=False)
@@ -25,6 +30,7 @@ class Made:
     status, line    as ember-mesh ends for the same meshes, and says: the report, or why there is no solid
     mesh, place     the index of the mesh at fault, and that of its vertex or triangle, both from 0; None if none is known
     vertices, faces  read-only arrays of the shapes (n, 3) and (m, 3), both empty with a status above 0
+    sources          the source of each triangle, as `boolean` describes it, if they were wanted
     """
 
     status: int
@@ -33,6 +39,7 @@ class Made:
     place: Optional[int]
     vertices: Vertices
     faces: Faces
+    sources: Optional[NDArray[Any]]
 
 
 def found() -> Optional[str]:
@@ -68,6 +75,15 @@ def _array(at: Optional[int], count: int, kind: str) -> Any:
     return array
 
 
+def _sources(at: Optional[int], count: int) -> NDArray[Any]:
+    """Returns the sources at a C array of so many. Meshes count from 0 then."""
+    given = np.frombuffer(_bytes_at(at, count * _SOURCE.itemsize), dtype=_SOURCE)
+    found = np.empty(len(given), dtype=SOURCE)
+    found["mesh"], found["triangle"] = given["mesh"] - 1, given["triangle"]
+    found["turned"], found["several"] = given["flags"] & declared.TURNED, given["flags"] & declared.SEVERAL
+    return found
+
+
 def _free_answer(answer: declared.Answer) -> None:
     """Does what ember_answer_free does."""
     free = declared.free()
@@ -79,18 +95,19 @@ def _free_answer(answer: declared.Answer) -> None:
 
 def _free_solid(solid: declared.Solid) -> None:
     """Does what ember_solid_free does."""
-    for at in (solid.line.at, solid.vertices, solid.triangles):
+    for at in (solid.line.at, solid.vertices, solid.triangles, solid.sources):
         declared.free()(at)
 
 
-def boolean(meshes: Sequence[Tuple[Vertices, Faces]], expression: str, step: str, digits: Optional[int]) -> Made:
+def boolean(meshes: Sequence[Tuple[Vertices, Faces]], expression: str, step: str, digits: Optional[int], *, sources: bool) -> Made:
     """Returns the solid of an expression over contiguous arrays, which nobody may write meanwhile."""
     call = _loaded().ember_boolean_with
     lent = (declared.Mesh * len(meshes))(*(declared.Mesh(it.ctypes.data, len(it), to.ctypes.data, len(to)) for it, to in meshes))
     texts = [part for it in (expression.encode(), step.encode()) for part in (it, len(it))]
+    places, wants = declared.DIGITS_OF_STEP if digits is None else digits, declared.WANTS_SOURCES if sources else 0
     solid = declared.Solid()
     try:
-        status = call(lent, len(meshes), *texts, declared.DIGITS_OF_STEP if digits is None else digits, ctypes.byref(solid))
+        status = call(lent, len(meshes), *texts, places, wants, ctypes.byref(solid))
         return Made(
             status,
             _copied(solid.line),
@@ -98,6 +115,7 @@ def boolean(meshes: Sequence[Tuple[Vertices, Faces]], expression: str, step: str
             None if solid.place == declared.NO_PLACE else solid.place,
             _array(solid.vertices, solid.n_vertices, "<f8"),
             _array(solid.triangles, solid.n_triangles, "<u4"),
+            _sources(solid.sources, solid.n_triangles) if sources else None,
         )
     finally:
         _free_solid(solid)

@@ -104,11 +104,11 @@ class Result(Mesh):
 
 def computed(call: Call, *, sources: bool, exact: bool) -> Result:
     """Returns the result of a call. Raises what `boolean` raises."""
-    # The library's call over arrays gives neither of both, so the files of `--keep` are read.
-    solid = call.solid(keep=sources or exact)
+    solid = call.solid(sources=sources, exact=exact)
     result = Result(call, solid)
     warn_of(result.report)
-    if sources or exact:
+    result.sources = solid.sources
+    if exact or (sources and solid.sources is None):
         kept = Kept(solid.files, report_of(result.report), call.inputs)
         vertices = kept.vertices(result.faces, call.digits)
         result.exact = exact_arrays(vertices) if exact else None

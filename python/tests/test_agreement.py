@@ -33,6 +33,7 @@ PAIRS = {
     "bytes": [(EXAMPLES / "cube.obj").read_bytes(), (EXAMPLES / "wedge.obj").read_bytes()],
     "a file and arrays": [EXAMPLES / "cube.obj", (BAR[0] * 20, BAR[1])],
 }
+OPTIONS = [{"step": "finest"}, {"step": 0.1}, {"digits": 0}, {"digits": 17}, {"exact": True}, {"sources": True, "exact": True}]
 FAULTS = {
     "no meshes": ([], "m1", {}),
     "65 meshes": ([CUBE] * 65, "m1", {}),
@@ -83,11 +84,12 @@ def of_both(*arguments, **options):
 
 @pytest.mark.parametrize("meshes", PAIRS.values(), ids=PAIRS)
 @pytest.mark.parametrize("operation", OPERATIONS)
-def test_solids(meshes, operation):
-    assert isinstance(of_both(meshes, operation)[0], str)
+@pytest.mark.parametrize("sources", [False, True], ids=["", "sources"])
+def test_solids(meshes, operation, sources):
+    assert isinstance(of_both(meshes, operation, sources=sources)[0], str)
 
 
-@pytest.mark.parametrize("options", [{"step": "finest"}, {"step": 0.1}, {"digits": 0}, {"digits": 17}, {"sources": True}, {"exact": True}], ids=str)
+@pytest.mark.parametrize("options", OPTIONS, ids=str)
 def test_options(options):
     for meshes in (PAIRS["boxes"], PAIRS["a sliver"]):
         assert isinstance(of_both(meshes, "difference", **options)[0], str)
@@ -102,7 +104,14 @@ def test_random_tetrahedra():
     random = np.random.default_rng(7)
     for _ in range(40):
         meshes = [random_tetra(random) for _ in range(random.integers(2, 5))]
-        of_both(meshes, "w1+w2=1" if random.integers(2) else "union", step=int(random.integers(1, 3)))
+        of_both(meshes, "w1+w2=1" if random.integers(2) else "union", step=int(random.integers(1, 3)), sources=True)
+
+
+def test_a_pinched_edge():
+    """The triangles there are halved, and have the source of the whole one."""
+    case = CASES / "a_ring_that_is_pinched_along_an_edge/files"
+    meshes = [ember.union(case / f"{it}.obj", engine="program") for it in "abcd"]
+    assert "2-manifold" not in of_both(meshes, "union", sources=True)[0]
 
 
 @pytest.mark.parametrize("ending", ["stl", "obj", "ply", "off", "glb"])

@@ -232,22 +232,32 @@ def test_a_library_of_another_interface(false_library):
         ember.union(A, engine="library")
 
 
+def test_a_triangle_without_a_source(false_library):
+    false_library("-DLACKS_SOURCE")
+    mesh = ember.Mesh(*A)
+    made = library.boolean([(mesh.vertices, mesh.faces)], "m1", "nice", None, sources=True)
+    assert made.sources.tolist() == [(1, 5, True, False), (-1, -1, False, False)]
+    assert library.boolean([(mesh.vertices, mesh.faces)], "m1", "nice", None, sources=False).sources is None
+
+
 def library_or_skip():
     if library.found() is None:
         pytest.skip("the engine library isn't there")
 
 
 def test_arrays_go_to_the_library_as_they_are(monkeypatch):
-    """No file is made of them, unless sources or exact corners are wanted."""
+    """No file is made of them, unless exact corners are wanted."""
     library_or_skip()
     calls = []
     whole = library.run
     monkeypatch.setattr(library, "run", lambda words, files: (calls.append(words[0]), whole(words, files))[1])
     ember.difference(A, B, engine="library")
+    ember.difference(A, B, engine="library", sources=True)
     assert calls == []
     ember.difference(A, B, engine="library", exact=True)
     ember.difference(A, EXAMPLES / "cube.obj", engine="library")
-    assert calls == ["difference"] * 2
+    ember.difference(A, EXAMPLES / "cube.obj", engine="library", sources=True)
+    assert calls == ["difference"] * 3
 
 
 def test_what_is_lent_is_a_copy():

@@ -40,8 +40,15 @@ def faults_of_sources(result, meshes):
             yield holders, triangle
 
 
+def with_both(meshes, operation, **options):
+    """A result with sources and exact corners, each as the engine gives it where the other isn't wanted."""
+    result = ember.boolean(meshes, operation, sources=True, **options)
+    result.exact = ember.boolean(meshes, operation, exact=True, **options).exact
+    return result
+
+
 def test_a_drill(engine):
-    result = ember.difference(OUTER, DRILL, step="0.01", sources=True, exact=True, engine=engine)
+    result = with_both([OUTER, DRILL], "difference", step="0.01", engine=engine)
     sources = result.sources
     assert sources.shape == (len(result.faces),) and sources.dtype.names == ("mesh", "triangle", "turned", "several")
     centres = result.vertices[result.faces].mean(axis=1)
@@ -65,7 +72,7 @@ def test_random_tetrahedra(engine, seed):
     random = np.random.default_rng(seed)
     meshes = [random_tetra(random) for _ in range(3)]
     for operation in ("m1|m2|m3", "m1&!m2|m3", "m1^m2^m3"):
-        result = ember.boolean(meshes, operation, step=1, digits=17, sources=True, exact=True, engine=engine)
+        result = with_both(meshes, operation, step=1, digits=17, engine=engine)
         assert not list(faults_of_exact(result))
         assert not list(faults_of_sources(result, meshes))
 
@@ -74,7 +81,7 @@ def test_few_digits(engine):
     """Corners are found again where rounding is coarse."""
     random = np.random.default_rng(99)
     meshes = [random_tetra(random) for _ in range(3)]
-    result = ember.union(*meshes, step=1, digits=1, sources=True, exact=True, engine=engine)
+    result = with_both(meshes, "union", step=1, digits=1, engine=engine)
     for vertex, point in zip(result.vertices.tolist(), exact_points(result)):
         assert all(abs(Fraction(it) - p - middle) <= Fraction(51, 1000) for it, p, middle in zip(vertex, point, result.offset))
     assert (result.sources["mesh"] >= 0).all()
@@ -85,7 +92,7 @@ def test_triangles_that_vanish_keep_their_numbers(engine):
     vertices = np.vstack([OUTER[0], [[0.001, 0, 0]]])
     whole = [it for it in OUTER[1].tolist() if not {0, 1} <= set(it)]
     faces = np.array([[0, 2, 8], [8, 2, 1], [0, 8, 4], [8, 1, 4], *whole])
-    result = ember.union((vertices, faces), step=1, sources=True, exact=True, engine=engine)
+    result = with_both([(vertices, faces)], "union", step=1, engine=engine)
     assert "14 triangles, 2 vanished" in result.report
     assert not {0, 2} & set(result.sources["triangle"].tolist())
     assert not list(faults_of_sources(result, [(np.round(vertices), faces)]))
@@ -109,7 +116,7 @@ def test_a_pinched_edge(engine):
 
 
 def test_an_empty_result(engine):
-    result = ember.difference(OUTER, OUTER, sources=True, exact=True, engine=engine)
+    result = with_both([OUTER, OUTER], "difference", engine=engine)
     assert result.sources.shape == (0,) and [it.shape for it in result.exact] == [(0,)] * 4
 
 
