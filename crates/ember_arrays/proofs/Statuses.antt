@@ -38,6 +38,7 @@ refused_mesh_is_there meshes index (file.CutOff facets) few h = absurd h
 refused_mesh_is_there meshes index (file.Stl fault) few h = absurd h
 refused_mesh_is_there meshes index (file.Ply fault) few h =
     let inside = slice_get_within meshes index h.mesh h.found in omega (arith, few, inside)
+refused_mesh_is_there meshes index (file.Gltf fault) few h = absurd h
 refused_mesh_is_there meshes index (file.Off fault) few h = absurd h
 refused_mesh_is_there meshes index (file.Wavefront fault) few h = absurd h
 refused_mesh_is_there meshes index (file.Unread format) few h = absurd h
