@@ -1,6 +1,5 @@
 -- Bounds: wider ones, and those that are apart
-use Rattle.std.proofs.Common.{◌≡◌, ⊎_elim, inl, inr, sym, subst, arith, ℤ, pos, ◌≤ℤ◌, ◌<ℤ◌}
-use Rattle.std.proofs.lemmas.Int.{ints}
+use Rattle.std.proofs.Common.{◌≡◌, ⊎_elim, inl, arith, pos, ◌<ℤ◌}
 use Rattle.ember_algebra.proofs.Laws.{linear}
 use Rattle.ember_model.specs.declared.tri.Tri.{Tri}
 use Rattle.ember_model.specs.Valid.{IsValidTri}
@@ -8,7 +7,7 @@ use Rattle.mesh_sources.specs.declared.facet.Facet.{Facet}
 use Rattle.mesh_sources.specs.declared.nodes.Bounds.{Bounds}
 use Rattle.mesh_sources.specs.declared.spans.Span.{Span}
 use Rattle.mesh_sources.specs.declared.spans.SpaceBox.{SpaceBox}
-use Rattle.mesh_sources.specs.Places.{EachSpot, spots_of, spots_in_order, spots_seen, is_turned, IsPlace}
+use Rattle.mesh_sources.specs.Places.{EachSpot, spots_of, is_turned, IsPlace}
 use Rattle.mesh_sources.specs.Spans.{HaveCommon, IsSpanWithin, HaveCommonBox, IsBoxWithin}
 use Rattle.mesh_sources.specs.Nodes.{AreBoundsWithin, AreBoundsOf, AreBoundsOver, HaveCommonBounds}
 use Rattle.mesh_sources.proofs.BoxesApart.{apart_or_common, boxes_turned}

@@ -1,5 +1,5 @@
 -- The boxes of a triangle of the scene and of three rational points: whether they are apart
-use Rattle.std.proofs.Common.{◌≡◌, ◌↔◌, ◌⊎◌, ⊎_elim, inl, inr, ℕ, refl, sym, ap, ◌∙◌, subst, arith, ℤ, pos, ◌*ℤ◌, ◌<ℤ◌, ◌≤ℤ◌, Bool, true, false}
+use Rattle.std.proofs.Common.{◌≡◌, ◌↔◌, ◌⊎◌, ⊎_elim, inl, inr, sym, ap, subst, arith, ℤ, pos, ◌*ℤ◌, ◌<ℤ◌, ◌≤ℤ◌, Bool, true, false}
 use Rattle.std.proofs.lemmas.Int.{by_lt_z}
 use Rattle.ember_algebra.specs.Size.{Small}
 use Rattle.ember_algebra.proofs.Laws.{linear, one-*ℤ}
@@ -12,7 +12,7 @@ use Rattle.ember_model.specs.Valid.{IsValidTri}
 use Rattle.mesh_sources.specs.declared.spans.Span.{Span}
 use Rattle.mesh_sources.specs.declared.spans.SpaceBox.{SpaceBox}
 use Rattle.mesh_sources.specs.Places.{Spots, EachSpot, SomeSpot, coordinate, spots_in_order, spots_turned, IsBefore, AreBefore, AreBoxesApart}
-use Rattle.mesh_sources.specs.Spans.{HaveCommon, IsSpanWithin, span_along, HaveCommonBox, IsBoxWithin, IsSpanAround, IsBoxAround, IsSpanOver, IsBoxOver}
+use Rattle.mesh_sources.specs.Spans.{HaveCommon, span_along, HaveCommonBox, IsSpanAround, IsBoxAround, IsSpanOver, IsBoxOver}
 
 -- what follows at each of three points follows at some
 pub pick : {R : Type 0} (P Q : Spot → Type 0) (s : Spots) → EachSpot P s → SomeSpot Q s → ((v : Spot) → P v → Q v → R) → R

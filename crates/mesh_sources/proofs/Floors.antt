@@ -1,7 +1,7 @@
 -- The whole numbers next to a fraction
-use Rattle.std.proofs.Common.{◌≡◌, ◌↔◌, ◌+◌, ◌*◌, ◌/◌, ◌<◌, ◌≤◌, ℕ, zero, suc, refl, sym, ap, ◌∙◌, subst, arith, ℤ, pos, negsuc}
+use Rattle.std.proofs.Common.{◌≡◌, ◌↔◌, zero, suc, sym, subst, arith, ℤ, pos, negsuc}
 use Rattle.std.proofs.Common.{◌+ℤ◌, ◌-ℤ◌, ◌*ℤ◌, neg_ℤ, ◌<ℤ◌, ◌≤ℤ◌}
-use Rattle.std.proofs.lemmas.Int.{ints, clamps, by_lt_z}
+use Rattle.std.proofs.lemmas.Int.{ints, clamps}
 use Rattle.std.specs.Int.{int_div_euclid, int_max, int_min}
 use Rattle.ember_algebra.specs.Size.{Small}
 use Rattle.ember_algebra.proofs.Laws.{linear, *ℤ-+ℤ, *ℤ-neg}

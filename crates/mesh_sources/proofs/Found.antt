@@ -1,8 +1,8 @@
 -- What a search has found, with one node more
-use Rattle.std.proofs.Common.{◌≡◌, ◌≢◌, ◌⊎◌, ⊎_elim, inl, inr, ℕ, zero, suc, ◌+◌, ◌≤◌, ◌<◌, refl, sym, ap, ◌∙◌, subst, arith, List, length, Some, None, Option, Bool, true, false, ltb}
-use Rattle.std.specs.Prelude.{IsTrue, nat_lt}
+use Rattle.std.proofs.Common.{◌≡◌, ◌⊎◌, ⊎_elim, inl, inr, ℕ, zero, suc, ◌+◌, ◌≤◌, ◌<◌, refl, sym, ap, ◌∙◌, subst, arith, List, Some, None, Option, Bool, true, false}
+use Rattle.std.specs.Prelude.{nat_lt}
 use Rattle.std.specs.List.{slice_get, Contains}
-use Rattle.std.specs.Option.{MatchOption, option_map}
+use Rattle.std.specs.Option.{option_map}
 use Rattle.std.proofs.lemmas.Bool.Decides.{nat_tests}
 use Rattle.std.proofs.lemmas.Option.{slice_get_within, get_or_from_slice_get, slice_get-map}
 use Rattle.std.proofs.lemmas.List.Elements.{Contains-get_or}
@@ -12,7 +12,7 @@ use Rattle.mesh_sources.specs.declared.nodes.Node.{Node}
 use Rattle.mesh_sources.specs.declared.source.Source.{Source}
 use Rattle.mesh_sources.specs.Places.{is_turned, IsPlace}
 use Rattle.mesh_sources.proofs.NodeLists.{before_or_from}
-use Rattle.mesh_sources.specs.Nodes.{items_in, EachPlaceFrom, IsPlaceIn, IsOtherIn, IsFirstFrom, IsFoundFrom, earlier, first_of}
+use Rattle.mesh_sources.specs.Nodes.{items_in, EachPlaceFrom, IsPlaceIn, IsFirstFrom, IsFoundFrom, earlier, first_of}
 
 same_some : {X : Type 0} {x y : X} → Some x ≡ Some y → x ≡ y
 same_some e = cc

@@ -1,6 +1,6 @@
 -- Lists of items
-use Rattle.std.proofs.Common.{◌≡◌, ⊎_elim, inl, inr, ℕ, ◌+◌, ◌<◌, ◌≤◌, refl, sym, ap, ◌∙◌, subst, arith, List, [], ◌∷◌, ◌++◌, length, get_or, Some}
-use Rattle.std.specs.List.{slice_get, Contains, All}
+use Rattle.std.proofs.Common.{◌≡◌, ⊎_elim, ℕ, ◌+◌, ◌<◌, sym, ap, ◌∙◌, subst, arith, List, [], ◌∷◌, ◌++◌, length, get_or, Some}
+use Rattle.std.specs.List.{slice_get, All}
 use Rattle.std.specs.List.Sorted.{IsPermutation}
 use Rattle.std.proofs.lemmas.Option.{slice_get-get_or}
 use Rattle.std.proofs.lemmas.List.Elements.{All-push, Contains-append_left, Contains-push}
@@ -10,7 +10,7 @@ use Rattle.ember_model.specs.Planes.{support_of}
 use Rattle.ember_model.specs.Valid.{IsValidTri}
 use Rattle.mesh_sources.specs.declared.items.Item.{Item}
 use Rattle.mesh_sources.specs.Marks.{HasMark}
-use Rattle.mesh_sources.specs.Nodes.{IsItem, HasItem, AreItems, HasItsMark}
+use Rattle.mesh_sources.specs.Nodes.{IsItem, AreItems}
 use Rattle.mesh_sources.proofs.NodeLists.{before_or_from}
 
 -- the item of a triangle

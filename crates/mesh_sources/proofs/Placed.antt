@@ -1,5 +1,5 @@
 -- Places, by the tests of their boxes and edges
-use Rattle.std.proofs.Common.{◌≡◌, ◌≢◌, ◌⊎◌, ◌↔◌, ⊎_elim, inl, inr, refl, sym, ap, subst, ℤ, pos, ◌<ℤ◌, Bool, true, false, not}
+use Rattle.std.proofs.Common.{◌≡◌, ◌≢◌, ◌⊎◌, ◌↔◌, ⊎_elim, inl, inr, refl, sym, subst, pos, ◌<ℤ◌, Bool, true, false, not}
 use Rattle.std.specs.Prelude.{IsTrue}
 use Rattle.ember_model.specs.declared.plane.Plane.{Plane}
 use Rattle.ember_model.specs.declared.tri.Tri.{Tri}

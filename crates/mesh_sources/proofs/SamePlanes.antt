@@ -1,8 +1,8 @@
 -- Planes with the same points have the same mark
-use Rattle.std.proofs.Common.{◌≡◌, ◌≢◌, refl, sym, ap, ◌∙◌, subst, arith, [], ◌∷◌, ℕ, ℤ, pos, negsuc, ◌+ℤ◌, ◌-ℤ◌, ◌*ℤ◌, neg_ℤ, ◌<ℤ◌, unsigned_abs}
+use Rattle.std.proofs.Common.{◌≡◌, ◌≢◌, sym, ap, ◌∙◌, subst, arith, [], ◌∷◌, ℕ, ℤ, pos, negsuc, ◌*ℤ◌, neg_ℤ, ◌<ℤ◌, unsigned_abs}
 use Rattle.std.proofs.lemmas.Int.{ints}
 use Rattle.std.specs.Int.{◌∣◌}
-use Rattle.ember_algebra.specs.Vector.{Vector, zero_v, scale_v, dot, cross}
+use Rattle.ember_algebra.specs.Vector.{Vector, scale_v, dot}
 use Rattle.ember_algebra.proofs.Laws.{linear, neg-*ℤ, *ℤ-neg, from_two}
 use Rattle.ember_algebra.proofs.Order.{by_sign}
 use Rattle.ember_algebra.proofs.Ring.{◌⊕◌, ◌⊖◌, ◌⊗◌, ◌≈◌, num, cancels}
@@ -11,11 +11,11 @@ use Rattle.ember_algebra.proofs.Identities.{orthogonal_parallel}
 use Rattle.ember_model.specs.declared.plane.Plane.{Plane}
 use Rattle.ember_model.specs.declared.point.Corner.{Corner}
 use Rattle.ember_model.specs.declared.tri.Tri.{Tri}
-use Rattle.ember_model.specs.Planes.{value_at, vector_of, vector_between, times_plane, support_of, opposite}
+use Rattle.ember_model.specs.Planes.{value_at, vector_of, vector_between, support_of, opposite}
 use Rattle.ember_model.specs.Edges.{normal}
 use Rattle.ember_model.proofs.Tuples.{plane_tuple, normalE, same_plane}
 use Rattle.mesh_certificate.specs.Key.Divisors.{AreLowest}
-use Rattle.mesh_certificate.specs.Key.PlaneKeys.{coefficients, IsSameOriented, IsPlaneKey, zero_plane}
+use Rattle.mesh_certificate.specs.Key.PlaneKeys.{coefficients, IsSameOriented, IsPlaneKey}
 use Rattle.mesh_certificate.proofs.PlaneLaws.{plane_keys_decide}
 use Rattle.mesh_certificate.proofs.Vectors.{parallel_multiple}
 use Rattle.mesh_sources.specs.Marks.{mixed, HasMark}

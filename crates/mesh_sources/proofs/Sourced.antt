@@ -1,7 +1,7 @@
 -- What the search found is the source
-use Rattle.std.proofs.Common.{◌≡◌, ◌≢◌, ◌↔◌, ℕ, ◌≤◌, ◌<◌, refl, sym, ap, ◌∙◌, subst, arith, List, length, get_or, Some, None, Option, Bool, true, false}
+use Rattle.std.proofs.Common.{◌≡◌, ℕ, ◌≤◌, refl, sym, ap, ◌∙◌, subst, arith, List, length, get_or, Some, None, Option, Bool, true, false}
 use Rattle.std.specs.Prelude.{IsTrue}
-use Rattle.std.specs.List.{slice_get, Contains, All}
+use Rattle.std.specs.List.{slice_get, All}
 use Rattle.std.specs.Option.{MatchOption}
 use Rattle.ember_model.specs.Valid.{IsValidTri}
 use Rattle.mesh_sources.proofs.Found.{item_inside}
@@ -12,7 +12,7 @@ use Rattle.mesh_sources.specs.declared.facet.Facet.{Facet}
 use Rattle.mesh_sources.specs.declared.items.Item.{Item}
 use Rattle.mesh_sources.specs.declared.nodes.Node.{Node}
 use Rattle.mesh_sources.specs.declared.source.Source.{Source}
-use Rattle.mesh_sources.specs.Places.{is_turned, IsPlace}
+use Rattle.mesh_sources.specs.Places.{IsPlace}
 use Rattle.mesh_sources.specs.Sources.{IsAnother, IsSource, IsSourceOf}
 use Rattle.mesh_sources.specs.Nodes.{IsItem, AreItems, items_in, EachPlaceFrom, IsFirstFrom, IsFoundFrom}
 use Rattle.mesh_sources.proofs.NodeLists.{node_of_item}

@@ -1,6 +1,6 @@
 -- Items, nodes, and what a search has found
 use Rattle.std.specs.Prelude.{◌≡◌, ◌≢◌, ◌≤◌, ◌<◌, ℕ, ℤ, ◌≤ℤ◌, nat_lt, Bool, true, false, IsTrue, Option, Some}
-use Rattle.std.specs.Prelude.{List, length, map, All, Contains, MatchOption, slice_get}
+use Rattle.std.specs.Prelude.{List, map, All, Contains, MatchOption, slice_get}
 use Rattle.ember_model.specs.declared.tri.Tri.{Tri}
 use Rattle.ember_model.specs.Planes.{support_of}
 use Rattle.ember_model.specs.Valid.{IsValidTri}

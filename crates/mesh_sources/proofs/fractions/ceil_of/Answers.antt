@@ -1,4 +1,4 @@
-use Rattle.std.proofs.Common.{ℤ, pos, ◌-ℤ◌, SFits, to_z-of_z}
+use Rattle.std.proofs.Common.{pos, ◌-ℤ◌, SFits, to_z-of_z}
 use mir.Syntax.{w64, w128}
 use Rattle.ember_algebra.proofs.Exact.{small_zero}
 use Rattle.ember_algebra.proofs.Size.{fits_small, small_sub}

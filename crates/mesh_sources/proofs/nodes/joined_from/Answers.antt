@@ -1,4 +1,4 @@
-use Rattle.std.proofs.Common.{◌<◌, ◌≤◌, length, arith}
+use Rattle.std.proofs.Common.{◌<◌, arith}
 use Rattle.mesh_sources.proofs.Bounded.{bounds_link}
 use Rattle.mesh_sources.proofs.NodeLists.{no_node, node_starts, joined_more}
 use Rattle.mesh_sources.proofs.nodes.joined_from.Goals as goal

@@ -1,6 +1,6 @@
-use Rattle.std.proofs.Common.{refl, sym, ap, ◌∙◌, ⊎_elim, inl, inr, subst, Bool}
+use Rattle.std.proofs.Common.{refl, ap, ◌∙◌, ⊎_elim, inr, Bool}
 use Rattle.mesh_sources.specs.Places.{is_turned, spots_of, spots_turned}
-use Rattle.mesh_sources.proofs.Placed.{clash, apart_by_boxes, apart_by_edges, apart_from_edges, proper_is_on, turned_is_on}
+use Rattle.mesh_sources.proofs.Placed.{clash, apart_by_boxes, apart_by_edges, apart_from_edges}
 use Rattle.mesh_sources.proofs.place.are_apart.Goals as goal
 
 pub returns-then-not-meets : goal.returns-then-not-meets

@@ -1,4 +1,4 @@
-use Rattle.std.proofs.Common.{◌∙◌, sym, SFits, to_z-of_z}
+use Rattle.std.proofs.Common.{SFits, to_z-of_z}
 use mir.Syntax.{w64}
 use Rattle.mesh_sources.proofs.place.is_corner_on.Goals as goal
 

@@ -1,4 +1,4 @@
-use Rattle.std.proofs.Common.{◌≡◌, refl, subst, arith, ℕ, ◌+◌, ◌-◌, ◌<◌, ◌≤◌, length, get_or}
+use Rattle.std.proofs.Common.{◌≡◌, refl, subst, arith, ℕ, ◌+◌, ◌-◌, ◌<◌, get_or}
 use Rattle.mesh_sources.specs.Nodes.{IsFoundFrom}
 use Rattle.mesh_sources.proofs.Placed.{clash}
 use Rattle.mesh_sources.proofs.NodeLists.{no_node, node_here, node_starts}

@@ -1,5 +1,4 @@
-use Rattle.std.proofs.Common.{refl, sym, ap, ◌∙◌, subst, ℕ, ◌+◌, Option, false}
-use Rattle.ember_model.specs.declared.tri.Tri.{Tri}
+use Rattle.std.proofs.Common.{refl, sym, ap, ◌∙◌, subst, ◌+◌, Option, false}
 use Rattle.mesh_sources.specs.declared.items.Item.{Item}
 use Rattle.mesh_sources.specs.declared.source.Source.{Source}
 use Rattle.mesh_sources.specs.Nodes.{IsFirstFrom, IsFoundFrom}
