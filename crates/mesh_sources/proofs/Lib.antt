@@ -1,4 +1,5 @@
 pub mod Outside
+pub mod Inner
 pub mod Floors
 pub mod BoxesApart
 pub mod SamePlanes

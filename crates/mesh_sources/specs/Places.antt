@@ -38,6 +38,10 @@ SomeSpot P s = P s.u ⊎ (P s.v ⊎ P s.w)
 abbrev pub SomeEdge : (Spot → Spot → Type 0) → Spots → Type 0
 SomeEdge E s = E s.u s.v ⊎ (E s.v s.w ⊎ E s.w s.u)
 
+-- each edge has it
+abbrev pub EachEdge : (Spot → Spot → Type 0) → Spots → Type 0
+EachEdge E s = E s.u s.v × E s.v s.w × E s.w s.u
+
 abbrev pub AreOn : Plane → Spots → Type 0
 AreOn p s = EachSpot (λ x. value_at p x ≡ pos 0) s
 
@@ -92,6 +96,23 @@ AreBoxesApart r s = (k : Axis) × (AreBefore k r s ⊎ AreBefore k s r)
 -- edge of one has all of the other one on its outer side or on it
 abbrev pub AreApart : Plane → Spots → Spots → Type 0
 AreApart p r s = AreBoxesApart r s ⊎ (HasOuter p r s ⊎ HasOuter p s r)
+
+-- ---- inner points
+-- r lies in the plane p, and its points have positive weights
+pub record IsTriangleOn (p : Plane) (r : Spots) : Type 0 where
+  pub weights : EachSpot (λ v. pos 0 <ℤ v.w) r
+  pub on : AreOn p r
+
+-- x is on the inner side of the edge from a to b of a triangle that is counter-clockwise as seen from the front of p
+abbrev pub IsOnInnerSide : Plane → Spot → Spot → Spot → Type 0
+IsOnInnerSide p a b x = pos 0 <ℤ dot (normal p) (triangle_normal a b x)
+
+-- x lies in the plane p, on the inner side of each edge of r. Only a triangle that is counter-clockwise as seen from
+-- the front of p has such a point
+pub record IsInner (p : Plane) (r : Spots) (x : Spot) : Type 0 where
+  pub weight : pos 0 <ℤ x.w
+  pub on : value_at p x ≡ pos 0
+  pub inside : EachEdge (λ a b. IsOnInnerSide p a b x) r
 
 -- ---- places
 -- the facet faces the front of its plane

@@ -8,6 +8,7 @@ mod corners;
 mod facet;
 mod fractions;
 mod items;
+mod law;
 mod mark;
 mod nodes;
 mod place;
