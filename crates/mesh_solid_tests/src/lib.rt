@@ -1,4 +1,4 @@
-//! Tests of certificates, of triangles and of corners as they are written.
+//! Tests of certificates, of triangles and their sources, and of corners as they are written.
 #![tactic(auto)]
 
 mod triangles;

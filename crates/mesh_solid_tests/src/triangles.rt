@@ -1,4 +1,5 @@
-// Tests of the crates that make triangles of a document's faces, and of their checker: each subject by calls from outside.
+// Tests of the crates that make triangles of a document's faces, of their checker, and of the triangles' sources: each
+// subject by calls from outside.
 
 #[cfg(test)]
 mod certificates;
@@ -12,5 +13,7 @@ mod faces;
 mod keys;
 #[cfg(test)]
 mod solids;
+#[cfg(test)]
+mod sources;
 #[cfg(test)]
 mod tables;

@@ -1,5 +1,6 @@
 // Solids become certified triangles.
 ghost use Rattle.std.specs.Prelude.{◌≡◌, ◌≤◌, length, All, IfOk};
+ghost use Rattle.ember_model.specs.Valid.{IsValidPlane};
 ghost use Rattle.ember_query.specs.Queries.{IsAnswer, IsQuery};
 ghost use Rattle.mesh_triangles.specs.PlaneQueries.{IsPlaneAnswer, IsPlaneQuery};
 
@@ -20,11 +21,11 @@ const TETRA: &[u8] =
     b"v -5 0 0\nv -4 0 0\nv -5 1 0\nv -5 0 1\nf 1 3 2\nf 1 2 4\nf 1 4 3\nf 2 3 4\n";
 
 // Boxes from 0 to 10 and from 5 to 15 along each axis.
-const LOW_BOX: &[u8] = b"v 0 0 0\nv 10 0 0\nv 10 10 0\nv 0 10 0\n\
+pub(crate) const LOW_BOX: &[u8] = b"v 0 0 0\nv 10 0 0\nv 10 10 0\nv 0 10 0\n\
     v 0 0 10\nv 10 0 10\nv 10 10 10\nv 0 10 10\n\
     f 1 4 3 2\nf 5 6 7 8\nf 1 2 6 5\nf 2 3 7 6\nf 3 4 8 7\nf 4 1 5 8\n";
 
-const HIGH_BOX: &[u8] = b"v 5 5 5\nv 15 5 5\nv 15 15 5\nv 5 15 5\n\
+pub(crate) const HIGH_BOX: &[u8] = b"v 5 5 5\nv 15 5 5\nv 15 15 5\nv 5 15 5\n\
     v 5 5 15\nv 15 5 15\nv 15 15 15\nv 5 15 15\n\
     f 1 4 3 2\nf 5 6 7 8\nf 1 2 6 5\nf 2 3 7 6\nf 3 4 8 7\nf 4 1 5 8\n";
 
@@ -54,7 +55,7 @@ fn closed_of(alloc: Global, bytes: &[u8], mesh: u32) -> Result<Closed, Fail>
 }
 
 // The scene of two files.
-fn scene_of(alloc: Global, first: &[u8], second: &[u8]) -> Result<Scene, Fail> {
+pub(crate) fn scene_of(alloc: Global, first: &[u8], second: &[u8]) -> Result<Scene, Fail> {
     let first = closed_of(alloc, first, 1)?;
     let second = closed_of(alloc, second, 2)?;
     let parts = vec![in alloc; first, second]?;
@@ -65,7 +66,14 @@ fn scene_of(alloc: Global, first: &[u8], second: &[u8]) -> Result<Scene, Fail> {
 }
 
 // The solid of an expression over two meshes.
-fn solid_of(alloc: Global, scene: &Scene, text: &[u8], keeps: bool) -> Result<MeshedSolid, Fail> {
+pub(crate) fn solid_of(
+    alloc: Global,
+    scene: &Scene,
+    text: &[u8],
+    keeps: bool,
+) -> Result<MeshedSolid, Fail>
+    ensures { IfOk result (λ solid. All IsValidPlane solid.mesh.planes.items) }
+{
     let expr = match parse(alloc, text, 2) {
         Ok(expr) => expr,
         Err(_) => return Err(Fail::from("refused expression")),
