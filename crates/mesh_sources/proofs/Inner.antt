@@ -31,21 +31,21 @@ use Rattle.mesh_sources.proofs.Placed.{positive_weights, proper_is_on, turned_is
 
 -- ---- numbers
 -- Cramer's rule: a row as a sum of three others, times the determinant of these, in each column
-in_column_1 : (s a b c d e f g h i x y z : ℤ) →
+column_1_is_sum : (s a b c d e f g h i x y z : ℤ) →
     (s *ℤ det3 a b c d e f g h i) *ℤ x ≡ (s *ℤ det3 d e f g h i x y z) *ℤ a +ℤ (s *ℤ det3 g h i a b c x y z) *ℤ d +ℤ (s *ℤ det3 a b c d e f x y z) *ℤ g
-in_column_1 =
+column_1_is_sum =
     solve 13 (λ s a b c d e f g h i x y z. (s ⊗ Det3 a b c d e f g h i) ⊗ x ≈ (s ⊗ Det3 d e f g h i x y z) ⊗ a ⊕
     (s ⊗ Det3 g h i a b c x y z) ⊗ d ⊕ (s ⊗ Det3 a b c d e f x y z) ⊗ g) cancels
 
-in_column_2 : (s a b c d e f g h i x y z : ℤ) →
+column_2_is_sum : (s a b c d e f g h i x y z : ℤ) →
     (s *ℤ det3 a b c d e f g h i) *ℤ y ≡ (s *ℤ det3 d e f g h i x y z) *ℤ b +ℤ (s *ℤ det3 g h i a b c x y z) *ℤ e +ℤ (s *ℤ det3 a b c d e f x y z) *ℤ h
-in_column_2 =
+column_2_is_sum =
     solve 13 (λ s a b c d e f g h i x y z. (s ⊗ Det3 a b c d e f g h i) ⊗ y ≈ (s ⊗ Det3 d e f g h i x y z) ⊗ b ⊕
     (s ⊗ Det3 g h i a b c x y z) ⊗ e ⊕ (s ⊗ Det3 a b c d e f x y z) ⊗ h) cancels
 
-in_column_3 : (s a b c d e f g h i x y z : ℤ) →
+column_3_is_sum : (s a b c d e f g h i x y z : ℤ) →
     (s *ℤ det3 a b c d e f g h i) *ℤ z ≡ (s *ℤ det3 d e f g h i x y z) *ℤ c +ℤ (s *ℤ det3 g h i a b c x y z) *ℤ f +ℤ (s *ℤ det3 a b c d e f x y z) *ℤ i
-in_column_3 =
+column_3_is_sum =
     solve 13 (λ s a b c d e f g h i x y z. (s ⊗ Det3 a b c d e f g h i) ⊗ z ≈ (s ⊗ Det3 d e f g h i x y z) ⊗ c ⊕
     (s ⊗ Det3 g h i a b c x y z) ⊗ f ⊕ (s ⊗ Det3 a b c d e f x y z) ⊗ i) cancels
 
@@ -62,9 +62,11 @@ third_products_agree : (a b c d x y z w k l m n : ℤ) → a *ℤ x +ℤ b *ℤ 
 third_products_agree a b c d x y z w k l m n e ex ey ew =
     omega (arith, linear, e, ap (λ (t : ℤ). a *ℤ t) ex, ap (λ (t : ℤ). b *ℤ t) ey, ap (λ (t : ℤ). d *ℤ t) ew)
 
+-- a sum of zeros
 sum_zero : {a b c : ℤ} → a ≡ pos 0 → b ≡ pos 0 → c ≡ pos 0 → a +ℤ b +ℤ c ≡ pos 0
 sum_zero p q r = omega (arith, linear, p, q, r)
 
+-- the other factor of a positive product
 positive_factor : (a w : ℤ) → pos 0 <ℤ w → pos 0 <ℤ (a *ℤ w) → pos 0 <ℤ a
 positive_factor a w p h =
     by_sign a (λ l. l) (λ z. absurd (omega (arith, linear, zero_times a w z, h)))
@@ -119,28 +121,30 @@ module _ (p : Plane) (r : Spots) (q : Spot) (zu : value_at p r.u ≡ pos 0) (zv 
   abbrev parts : Axis → Spot
   parts k = sum_of (part_u k) (part_v k) (part_w k) r
 
+  -- both points lie in the plane
   flat : (a b c d : ℤ) → value_at p (scaled a q) ≡ value_at p (sum_of b c d r)
   flat a b c d =
       value_scaled a p q ∙ zero_scaled a (value_at p q) zq
       ∙ sym (value_of_sum p b c d r ∙ sum_zero (zero_scaled b (value_at p r.u) zu) (zero_scaled c (value_at p r.v) zv) (zero_scaled d (value_at p r.w) zw))
 
+  -- the point, as a sum of the corners
   parts_are : (k : Axis) → along p k ≢ pos 0 → scaled (whole k) q ≡ parts k
   parts_are X n =
-      let y = in_column_1 p.a r.u.y r.u.z r.u.w r.v.y r.v.z r.v.w r.w.y r.w.z r.w.w q.y q.z q.w in
-      let z = in_column_2 p.a r.u.y r.u.z r.u.w r.v.y r.v.z r.v.w r.w.y r.w.z r.w.w q.y q.z q.w in
-      let w = in_column_3 p.a r.u.y r.u.z r.u.w r.v.y r.v.z r.v.w r.w.y r.w.z r.w.w q.y q.z q.w in
+      let y = column_1_is_sum p.a r.u.y r.u.z r.u.w r.v.y r.v.z r.v.w r.w.y r.w.z r.w.w q.y q.z q.w in
+      let z = column_2_is_sum p.a r.u.y r.u.z r.u.w r.v.y r.v.z r.v.w r.w.y r.w.z r.w.w q.y q.z q.w in
+      let w = column_3_is_sum p.a r.u.y r.u.z r.u.w r.v.y r.v.z r.v.w r.w.y r.w.z r.w.w q.y q.z q.w in
       let s = scaled (whole X) q in let t = parts X in
       same_spot (cancel_eq n (first_products_agree p.a p.b p.c p.d s.x s.y s.z s.w t.x t.y t.z t.w (flat (whole X) (part_u X) (part_v X) (part_w X)) y z w)) y z w
   parts_are Y n =
-      let z = in_column_1 p.b r.u.z r.u.x r.u.w r.v.z r.v.x r.v.w r.w.z r.w.x r.w.w q.z q.x q.w in
-      let x = in_column_2 p.b r.u.z r.u.x r.u.w r.v.z r.v.x r.v.w r.w.z r.w.x r.w.w q.z q.x q.w in
-      let w = in_column_3 p.b r.u.z r.u.x r.u.w r.v.z r.v.x r.v.w r.w.z r.w.x r.w.w q.z q.x q.w in
+      let z = column_1_is_sum p.b r.u.z r.u.x r.u.w r.v.z r.v.x r.v.w r.w.z r.w.x r.w.w q.z q.x q.w in
+      let x = column_2_is_sum p.b r.u.z r.u.x r.u.w r.v.z r.v.x r.v.w r.w.z r.w.x r.w.w q.z q.x q.w in
+      let w = column_3_is_sum p.b r.u.z r.u.x r.u.w r.v.z r.v.x r.v.w r.w.z r.w.x r.w.w q.z q.x q.w in
       let s = scaled (whole Y) q in let t = parts Y in
       same_spot x (cancel_eq n (second_products_agree p.a p.b p.c p.d s.x s.y s.z s.w t.x t.y t.z t.w (flat (whole Y) (part_u Y) (part_v Y) (part_w Y)) x z w)) z w
   parts_are Z n =
-      let x = in_column_1 p.c r.u.x r.u.y r.u.w r.v.x r.v.y r.v.w r.w.x r.w.y r.w.w q.x q.y q.w in
-      let y = in_column_2 p.c r.u.x r.u.y r.u.w r.v.x r.v.y r.v.w r.w.x r.w.y r.w.w q.x q.y q.w in
-      let w = in_column_3 p.c r.u.x r.u.y r.u.w r.v.x r.v.y r.v.w r.w.x r.w.y r.w.w q.x q.y q.w in
+      let x = column_1_is_sum p.c r.u.x r.u.y r.u.w r.v.x r.v.y r.v.w r.w.x r.w.y r.w.w q.x q.y q.w in
+      let y = column_2_is_sum p.c r.u.x r.u.y r.u.w r.v.x r.v.y r.v.w r.w.x r.w.y r.w.w q.x q.y q.w in
+      let w = column_3_is_sum p.c r.u.x r.u.y r.u.w r.v.x r.v.y r.v.w r.w.x r.w.y r.w.w q.x q.y q.w in
       let s = scaled (whole Z) q in let t = parts Z in
       same_spot x y (cancel_eq n (third_products_agree p.a p.b p.c p.d s.x s.y s.z s.w t.x t.y t.z t.w (flat (whole Z) (part_u Z) (part_v Z) (part_w Z)) x y w)) w
 
@@ -169,6 +173,7 @@ module _ (p : Plane) (r : Spots) (q : Spot) (is : IsTriangleOn p r) (inner : IsI
   on_w : pos 0 <ℤ (along p k *ℤ turn_along k r.u r.v q)
   on_w = turns r.u r.v is.weights.0 is.on.0 is.on.1 inner.inside.0
 
+  -- the weight of a sum of the corners
   positive_sum : (a b c d : ℤ) → scaled a q ≡ sum_of b c d r → pos 0 <ℤ b → pos 0 <ℤ c → pos 0 <ℤ d → pos 0 <ℤ (a *ℤ q.w)
   positive_sum a b c d e pb pc pd =
       let w = ap (λ (s : Spot). s.w) e in let x = pos_mul pb is.weights.0 in let y = pos_mul pc is.weights.1 in
