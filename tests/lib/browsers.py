@@ -32,7 +32,30 @@ def moved_up(number):
     return high
 
 
-class Chromium:
+def processor_seconds(process):
+    """Returns how long a process and those below it ran, in seconds of processor time."""
+    ran, below = {}, {}
+    for path in Path("/proc").glob("[0-9]*/stat"):
+        with contextlib.suppress(OSError):
+            fields = path.read_text().rpartition(")")[2].split()
+            ran[path.parent.name] = int(fields[11]) + int(fields[12])
+            below.setdefault(fields[1], []).append(path.parent.name)
+    open_, ticks = [str(process)], 0
+    while open_:
+        it = open_.pop()
+        ticks += ran.get(it, 0)
+        open_ += below.get(it, [])
+    return ticks / os.sysconf("SC_CLK_TCK")
+
+
+class Browser:
+    """What both browsers have in common: a process, and those below it."""
+
+    def processor_seconds(self):
+        return processor_seconds(self.process.pid)
+
+
+class Chromium(Browser):
     """A page in Chromium. `seen` has the address of each request that the page made."""
 
     name, names = "Chromium", CHROMIUMS
@@ -131,7 +154,7 @@ class Chromium:
         os.close(self.reads)
 
 
-class Firefox:
+class Firefox(Browser):
     """A page in Firefox. It doesn't tell which requests were made."""
 
     name, names, seen = "Firefox", FIREFOXES, ()
