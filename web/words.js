@@ -20,7 +20,7 @@ function freeName(ending, names) {
 }
 
 // The call for these files, each a name and bytes: its words and files, and the names of the result and of its view. The view of a GLB is
-// made by the same call, since `view` doesn't read a GLB. Any other is made later, so that the result doesn't wait for it.
+// made by the same call. Any other is made later, so that the result doesn't wait for it.
 function callFor({ expression, step, format }, files) {
   const names = files.map(([name]) => wordOf(name));
   const result = freeName(format, names), view = freeName('html', names), looks = format === 'glb' ? ['--view', view] : [];

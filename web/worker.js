@@ -2,10 +2,11 @@
 
 const lineOf = words => utf8.encode(`ember-mesh: ${words}\n`);
 
+const noMemory = () => ({ status: NO_MEMORY, out: new Uint8Array(), err: lineOf('out of memory'), files: [] });
+
 // What the page shows if there is no answer. An answer is never made up: want of memory is said by the status of the program.
 function answerOfFault(fault) {
-  if (fault instanceof OutOfMemory || (fault instanceof RangeError && /memory|allocat/i.test(fault.message)))
-    return { status: NO_MEMORY, out: new Uint8Array(), err: lineOf('out of memory'), files: [] };
+  if (fault instanceof OutOfMemory || (fault instanceof RangeError && /memory|allocat/i.test(fault.message))) return noMemory();
   return { fault: fault instanceof WebAssembly.CompileError ? `This browser can't run the module: ${fault.message}` : `It stopped: ${fault.message}` };
 }
 
@@ -14,7 +15,8 @@ async function answerTo({ module, words, files }) {
     const { instance } = await WebAssembly.instantiate(module, {});
     const began = performance.now();
     const answer = command(instance.exports, words, files);
-    return { ...answer, seconds: (performance.now() - began) / 1000 };
+    // The library may have no memory for the line.
+    return { ...(answer.status === NO_MEMORY ? noMemory() : answer), seconds: (performance.now() - began) / 1000 };
   } catch (fault) {
     return answerOfFault(fault);
   }
