@@ -11,7 +11,7 @@ use Rattle.ember_box.specs.Boxes.{Cell}
 use Rattle.ember_box.specs.Near.{tri_at}
 use Rattle.ember_box.specs.Regions.{Wall, walls, FaceIsAbove, FaceLiesOn, AreLeftByWall, cut, outside, in_high, stays}
 use Rattle.ember_box.specs.Regions.{CuttingPlane, cutting_planes, AreLeftByCuttingPlane, splits, whole, IsRegions}
-use Rattle.ember_leaf.specs.declared.kept.Kept.{Kept}
+use Rattle.ember_leaf.specs.KeptRegions.{NarrowKept as Kept}
 use Rattle.ember_leaf.specs.Written.{IsWrittenOfRegion, unowned, AreRegionsWritten, IsWrittenOf, regional, hidden}
 use Rattle.ember_leaf.proofs.WrittenRegionsUnique.{hidden_owns_none}
 
@@ -67,8 +67,8 @@ some_regions c ts i n =
     (λ start s. some_chain (λ b fs. some_each (at_cutting_plane b) fs) (cutting_planes ts i) start
     (λ fs k. n fs (record { start = start; is_start = s; cuts = k })))
 
-all_unowned : (scene : List Tri) (f : Formula) (near : List Tri) (i : ℕ) (fs : List Face) →
-    Every (λ g. IsOwner near i g → ⊥) fs → Each (IsWrittenOfRegion scene f near i) fs []
+all_unowned : {W M : Type 0} (scene : List Tri) (f : Formula) (near : List Tri) (i : ℕ) (fs : List Face) →
+    Every (λ g. IsOwner near i g → ⊥) fs → Each (IsWrittenOfRegion {W = W} {M = M} scene f near i) fs []
 all_unowned scene f near i [] h = none
 all_unowned scene f near i (g ∷ gs) h = more (unowned h.0) (all_unowned scene f near i gs h.1)
 

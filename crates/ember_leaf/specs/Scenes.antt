@@ -14,7 +14,7 @@ use Rattle.ember_box.specs.Boxes.{Cell, root}
 use Rattle.ember_box.specs.Near.{near}
 use Rattle.ember_box.specs.Halving.{leaves}
 use Rattle.ember_ref.specs.ClosedBoxes.{HasPoint}
-use Rattle.ember_leaf.specs.declared.kept.Kept.{Kept}
+use Rattle.ember_leaf.specs.KeptRegions.{NarrowKept as Kept}
 use Rattle.ember_leaf.specs.Written.{IsWrittenIn}
 
 -- the expression has this value at all clear points directly beside v: for each axis and number `by`, at the

@@ -14,7 +14,7 @@ use Rattle.ember_law.proofs.Shifted.{weight_shifted}
 use Rattle.ember_law.proofs.Vectors.{of_mesh_all}
 use Rattle.ember_expr.specs.Formula.{Formula}
 use Rattle.ember_expr.specs.Truth.{truth}
-use Rattle.ember_leaf.specs.declared.kept.Kept.{Kept}
+use Rattle.ember_leaf.specs.KeptRegions.{NarrowKept as Kept}
 use Rattle.ember_leaf.specs.Scenes.{IsWritten}
 use Rattle.ember_text.specs.Documents.{written_face}
 use Rattle.ember_meaning.specs.Regions.Meaning.{one_if}

@@ -17,7 +17,7 @@ use Rattle.ember_box.specs.Halving.{leaves}
 use Rattle.ember_box.specs.Sums.{number}
 use Rattle.ember_box.specs.Regions.{AreLeftByWall, AreLeftByCuttingPlane, walls, cutting_planes, IsRegions}
 use Rattle.ember_expr.specs.Formula.{Formula}
-use Rattle.ember_leaf.specs.declared.kept.Kept.{Kept}
+use Rattle.ember_leaf.specs.KeptRegions.{NarrowKept as Kept}
 use Rattle.ember_leaf.specs.Written.{IsWrittenOfRegion, IsWrittenOf}
 use Rattle.ember_leaf.proofs.SomeRegions.{written_by_regions}
 use Rattle.ember_leaf.specs.Scenes.{HasOneValue, LeafGives, regions, nothing}

@@ -32,7 +32,7 @@ use Rattle.ember_model.proofs.Hits.{inside_parts}
 use Rattle.ember_expr.specs.Formula.{Formula}
 use Rattle.ember_box.specs.Boxes.{Cell}
 use Rattle.ember_box.specs.Near.{near, is_near, tri_at, no_tri}
-use Rattle.ember_leaf.specs.declared.kept.Kept.{Kept}
+use Rattle.ember_leaf.specs.KeptRegions.{NarrowKept as Kept}
 use Rattle.ember_leaf.specs.Written.{IsWrittenOfRegion, unowned, same_value, written}
 use Rattle.ember_leaf.specs.Scenes.{IsWritten, HasOneValue}
 use Rattle.ember_text.specs.Texts.{oriented_face}

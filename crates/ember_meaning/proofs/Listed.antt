@@ -11,7 +11,7 @@ use Rattle.ember_box.specs.Near.{near, tri_at}
 use Rattle.ember_box.specs.Halving.{leaves}
 use Rattle.ember_box.specs.Regions.{IsRegions}
 use Rattle.ember_expr.specs.Formula.{Formula}
-use Rattle.ember_leaf.specs.declared.kept.Kept.{Kept}
+use Rattle.ember_leaf.specs.KeptRegions.{NarrowKept as Kept}
 use Rattle.ember_leaf.specs.Written.{IsWrittenOfRegion}
 use Rattle.ember_leaf.specs.Scenes.{HasOneValue}
 use Rattle.ember_meaning.proofs.CountedPoints.{is_in_box}

@@ -23,7 +23,7 @@ use Rattle.ember_expr.specs.Truth.{truth}
 use Rattle.ember_box.specs.Boxes.{Cell, root}
 use Rattle.ember_box.specs.Near.{near}
 use Rattle.ember_box.specs.Halving.{leaves}
-use Rattle.ember_leaf.specs.declared.kept.Kept.{Kept}
+use Rattle.ember_leaf.specs.KeptRegions.{NarrowKept as Kept}
 use Rattle.ember_leaf.specs.Written.{IsWrittenOfRegion, unowned, same_value, written}
 use Rattle.ember_leaf.specs.Scenes.{HasOneValue}
 use Rattle.ember_text.specs.Documents.{written_face}

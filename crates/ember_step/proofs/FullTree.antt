@@ -22,7 +22,7 @@ use Rattle.ember_box.proofs.NearByAabbs.{halves_end}
 use Rattle.ember_box.proofs.HalfCells.{left_less}
 use Rattle.ember_box.proofs.Lists.{halving_axis_near, is_leaf_near}
 use Rattle.ember_ref.specs.ClosedBoxes.{IsAcross, HasPoint}
-use Rattle.ember_leaf.specs.declared.kept.Kept.{Kept}
+use Rattle.ember_leaf.specs.KeptRegions.{NarrowKept as Kept}
 use Rattle.ember_leaf.specs.Written.{IsWrittenIn}
 use Rattle.ember_leaf.specs.Scenes.{HasOneValue, LeafGives, regions, nothing, IsWritten}
 use Rattle.ember_job.specs.declared.job.Job.{Job}

@@ -9,7 +9,7 @@ use Rattle.ember_box.specs.Reference.{Fits}
 use Rattle.ember_box.specs.Halving.{is_leaf, halving_axis}
 use Rattle.ember_job.specs.declared.job.Job.{Job}
 use Rattle.ember_job.specs.Works.{Shape, halved, leafed, passed}
-use Rattle.ember_leaf.specs.declared.kept.Kept.{Kept}
+use Rattle.ember_leaf.specs.KeptRegions.{NarrowKept as Kept}
 use Rattle.ember_leaf.specs.Written.{IsWrittenIn}
 use Rattle.ember_visit.specs.Jobs.{near_of, IsJob, left_job, right_job, AreHalfJobs}
 use Rattle.ember_visit.proofs.IndexLists.{of_64, near_listed}

@@ -12,7 +12,7 @@ ghost use Rattle.ember_box.specs.Near.{near};
 ghost use Rattle.ember_trace.specs.Boxed.{IsRegion};
 ghost use Rattle.ember_job.specs.declared.job.Job.{Job};
 ghost use Rattle.ember_job.specs.Visited.{leaves};
-ghost use Rattle.ember_leaf.specs.declared.kept.Kept.{Kept};
+ghost use Rattle.ember_leaf.specs.KeptRegions.{NarrowKept as Kept};
 ghost use Rattle.ember_leaf.specs.Written.{IsWrittenIn};
 ghost use Rattle.ember_leaf.specs.Scenes.{HasOneValue, IsWritten};
 ghost use Rattle.ember_step.specs.Faces.{LeafFacesJoin};

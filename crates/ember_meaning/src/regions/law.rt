@@ -3,7 +3,7 @@ ghost use Rattle.std.specs.Prelude.{ℕ, List, map};
 ghost use Rattle.std.specs.List.{AllByRecursion};
 ghost use Rattle.ember_meaning.specs.Closed.Chains.{face_from, IsOutlined};
 ghost use Rattle.ember_expr.specs.Formula.{Formula};
-ghost use Rattle.ember_leaf.specs.declared.kept.Kept.{Kept};
+ghost use Rattle.ember_leaf.specs.KeptRegions.{NarrowKept as Kept};
 ghost use Rattle.ember_leaf.specs.Scenes.{IsWritten};
 ghost use Rattle.ember_meaning.specs.Regions.Meaning.{IsFalseOutside, HaveMeaning, ReadsWithMeaning};
 ghost use Rattle.ember_meaning.specs.Regions.Nearby.{AgreeOver, HaveMeaningNearby, WindNearbyAsHere, WindHereAsNearby, WindOnceAtMost};
