@@ -7,14 +7,20 @@ from typing import Dict, List, Set, Tuple
 
 # x, y, z and w: the point (x / w, y / w, z / w) in steps from the middle of the grid.
 Corner = Tuple[int, int, int, int]
-# a, b, c and d in lowest terms: a·x + b·y + c·z = d. The first of a, b and c that isn't 0 is above 0.
+# a, b, c and d in lowest terms: a·x + b·y + c·z = d. In front of the plane the left side is greater.
 Plane = Tuple[int, int, int, int]
 
 
 def plane_of(a: int, b: int, c: int, d: int) -> Plane:
-    """Returns a plane in the one form that it has, whatever side its front is on."""
-    factor = gcd(a, b, c, d) * (-1 if (a, b, c) < (0, 0, 0) else 1)
+    """Returns a plane in lowest terms. All four numbers may be 0: then it is none."""
+    factor = gcd(a, b, c, d) or 1
     return a // factor, b // factor, c // factor, d // factor
+
+
+def without_front(plane: Plane) -> Plane:
+    """Returns the one of both planes with these points of which the first number that isn't 0 is above 0."""
+    a, b, c, d = plane
+    return (-a, -b, -c, -d) if (a, b, c) < (0, 0, 0) else plane
 
 
 @dataclass

@@ -7,7 +7,7 @@ from typing import TYPE_CHECKING, Any, Dict, List, Optional, Sequence, Tuple
 
 import numpy as np
 
-from .document import Corner, Plane, plane_of
+from .document import Corner, Plane, plane_of, without_front
 from .exact import ExactVertex
 
 if TYPE_CHECKING:
@@ -65,7 +65,7 @@ def _overlap(a: Side, b: Side) -> bool:
 
 
 def plane_through(corners: Sequence[Corner]) -> Plane:
-    """Returns the plane of three corners that aren't on one line."""
+    """Returns the plane of three corners, which are counter-clockwise seen from its front. It is none if they are on one line."""
     (px, py, pz, pw), *others = corners
     first, second = ((x * pw - px * w, y * pw - py * w, z * pw - pz * w) for x, y, z, w in others)
     a, b, c = _cross(first, second)
@@ -88,7 +88,7 @@ class InputPlanes:
         rows = zip(*(it[has_area].tolist() for it in (normals, heights, corners, numbers)))
         for normal, height, triangle, number in rows:
             a, b, c = normal
-            plane = plane_of(a, b, c, height)
+            plane = without_front(plane_of(a, b, c, height))
             self._sides.setdefault(plane, []).append(_side(plane, [(x, y, z, 1) for x, y, z in triangle], mesh, number))
 
     def near(self, plane: Plane, side: Side) -> List[Side]:
@@ -108,18 +108,20 @@ def _box(side: Side) -> Tuple[float, float, float, float]:
     return min(us) - 0.5, min(vs) - 0.5, max(us) + 0.5, max(vs) + 0.5
 
 
-def _of_one_plane(vertices: Sequence[List[ExactVertex]]) -> Tuple[Plane, List[Corner]]:
-    """Returns the plane of a triangle, and its corners. Where several corners were rounded to a vertex, one in the plane counts."""
+def _of_one_face(vertices: Sequence[List[ExactVertex]]) -> Tuple[Plane, List[Corner]]:
+    """Returns the plane of a triangle, and its corners. Where several corners were rounded to a vertex, those of a face count."""
     for chosen in product(*vertices):
-        planes = chosen[0].planes & chosen[1].planes & chosen[2].planes
-        if planes:
-            return min(planes), [it.corner for it in chosen]
+        corners = [it.corner for it in chosen]
+        plane = plane_through(corners)
+        if all(plane in it.planes for it in chosen):
+            return plane, corners
     corners = [it[0].corner for it in vertices]
     return plane_through(corners), corners
 
 
 def _source(planes: InputPlanes, vertices: Sequence[List[ExactVertex]]) -> Tuple[int, int, bool, bool]:
-    plane, corners = _of_one_plane(vertices)
+    front, corners = _of_one_face(vertices)
+    plane = without_front(front)
     side = _side(plane, corners)
     owner: Optional[Side] = None
     for it in planes.near(plane, side):

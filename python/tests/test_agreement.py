@@ -104,7 +104,10 @@ def test_random_tetrahedra():
     random = np.random.default_rng(7)
     for _ in range(40):
         meshes = [random_tetra(random) for _ in range(random.integers(2, 5))]
-        of_both(meshes, "w1+w2=1" if random.integers(2) else "union", step=int(random.integers(1, 3)), sources=True)
+        operation, step = "w1+w2=1" if random.integers(2) else "union", int(random.integers(1, 3))
+        # With one digit some vertices were several exact corners.
+        for digits in (None, 1):
+            of_both(meshes, operation, step=step, digits=digits, sources=True)
 
 
 def test_a_pinched_edge():

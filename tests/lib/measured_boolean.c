@@ -1,4 +1,4 @@
-/* The union of two OBJ files of triangles by the C library: measured_boolean A B. tools/measure_library counts what the call takes. */
+/* The union of two OBJ files of triangles by the C library: measured_boolean A B [sources]. tools/measure_library counts what the call takes. */
 #include <ember.h>
 #include <stdio.h>
 
@@ -24,11 +24,12 @@ static ember_mesh read_mesh(const char *name, double *places, uint32_t *corners)
 
 int main(int argc, char **argv) {
   ember_mesh meshes[2];
+  ember_options options = {{NULL, 0}, EMBER_DIGITS, argc == 4 ? EMBER_SOURCES : 0};
   ember_solid solid;
-  if (argc != 3) return 125;
+  if (argc != 3 && argc != 4) return 125;
   meshes[0] = read_mesh(argv[1], vertices[0], triangles[0]);
   meshes[1] = read_mesh(argv[2], vertices[1], triangles[1]);
-  ember_boolean(meshes, 2, "m1|m2", NULL, &solid);
+  ember_boolean(meshes, 2, "m1|m2", &options, &solid);
   printf("%lu vertices, %lu triangles\n", (unsigned long)solid.n_vertices, (unsigned long)solid.n_triangles);
   ember_solid_free(&solid);
   return (int)solid.status;
