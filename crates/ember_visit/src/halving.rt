@@ -1,5 +1,6 @@
 // The halves of a job.
 ghost use Rattle.std.specs.Prelude.{◌≡◌, ◌<◌, ◌≤◌, length, All, IfOk};
+ghost use Rattle.ember_model.specs.Limits.{most_triangles};
 ghost use Rattle.ember_box.specs.Near.{listed};
 ghost use Rattle.ember_law.specs.Counts.{HasRoom};
 ghost use Rattle.ember_box.specs.Halved.{AreNearLists};
@@ -36,7 +37,7 @@ fn jobs_of(
 ) -> (Job, Job)
     requires side { 0 < job.now.cell.log axis }
     requires places { All (λ i. i < length s.now.tris) job.now.list }
-    requires few { length job.now.list ≤ 262144 }
+    requires few { length job.now.list ≤ most_triangles }
     requires room { HasRoom job.now.at.counts }
     requires lists { AreNearLists s.now.tris job.now.cell axis job.now.list near_left.items near_right.items }
     ensures { AreHalfJobs s.now.tris job.now axis result.0 result.1 }
@@ -70,7 +71,7 @@ fn jobs_of(
 pub fn halve_job(alloc: Global, s: &Scene, job: &Job, axis: Axis) -> Result<(Job, Job), OutOfMemory>
     requires side { 0 < job.now.cell.log axis }
     requires places { All (λ i. i < length s.now.tris) job.now.list }
-    requires few { length job.now.list ≤ 262144 }
+    requires few { length job.now.list ≤ most_triangles }
     requires room { HasRoom job.now.at.counts }
     ensures { IfOk result (λ r. AreHalfJobs s.now.tris job.now axis r.0 r.1) }
 {
@@ -87,7 +88,7 @@ pub fn halve_unless_leaf(
     job: &Job,
 ) -> Result<Option<(Job, Job)>, OutOfMemory>
     requires places { All (λ i. i < length s.now.tris) job.now.list }
-    requires few { length job.now.list ≤ 262144 }
+    requires few { length job.now.list ≤ most_triangles }
     requires room { HasRoom job.now.at.counts }
     ensures { IfOk result (λ r. IsHalvedUnlessLeaf s.now.tris job.now r) }
 {
