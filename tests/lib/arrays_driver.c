@@ -1,8 +1,8 @@
 /* What tests/check_library runs over the C library's Booleans of meshes in arrays. `cube` and `corner` are the boxes from 0 to 2 and from
    1 to 3.
 
-   cases     each status that a call can be made to give, with its mesh, its place and its line, expressions of random bytes, and the sources of
-             five solids; the last line is "N wrong"
+   cases     each status that a call can be made to give, with its mesh, its place and its line, the numbers of four solids, expressions of
+             random bytes, and the sources of five solids; the last line is "N wrong"
    memory    a Boolean with sources again and again, first without any memory, then with one more request that is met each time, and each request alone
              refused: a call ends with status 12, or as if nothing was refused, and leaves no block that the caller doesn't get
    threads   four Booleans in 8 threads with 256 KiB of stack each, 100 times in each: all give the arrays that one thread gives
@@ -168,6 +168,51 @@ static void try_sources(void) {
   begin();
 }
 
+/* ---- the numbers of the report */
+
+/* Whether a number of 128 bits is this one. */
+static int is_wide(const uint64_t *wide, long long number) { return wide[0] == (uint64_t)number && wide[1] == (number < 0 ? UINT64_MAX : 0); }
+
+/* The line has the numbers that the solid has in its fields, which are added up in `sums`. */
+static void expect_numbers(const char *what, const char *expression, uint32_t digits, uint64_t *sums) {
+  ember_options options = {ember_text("nice"), digits, 0};
+  ember_solid solid;
+  char line[2048] = "";
+  double step = 0;
+  long long offset[3] = {0}, counts[6] = {0};
+  ember_boolean(meshes, 2, expression, &options, &solid);
+  if (solid.line.len < sizeof line) memcpy(line, solid.line.at, solid.line.len);
+  const char *end = strstr(line, " faces -> ");
+  while (end && end > line && end[-1] != ' ') end--;
+  int read = sscanf(line, "ember-mesh: step %lf, grid offset %lld %lld %lld\n", &step, offset, offset + 1, offset + 2);
+  read += end ? sscanf(end, "%lld faces -> %*d triangles in %lld planes; greatest rounding move %*[^;]; %lld vanished, %lld without area, %lld turned over; %lld edges",
+                       counts, counts + 1, counts + 2, counts + 3, counts + 4, counts + 5)
+              : 0;
+  const uint64_t fields[6] = {solid.faces, solid.planes, solid.vanished, solid.flat, solid.turned, solid.shared};
+  int right = solid.status == EMBER_DONE && read == 10 && (double)solid.step[0] / (double)solid.step[1] == step;
+  for (int i = 0; i < 3; i++) right = right && is_wide(solid.offset[i], offset[i]);
+  for (int i = 0; i < 6; i++) right = right && fields[i] == (uint64_t)counts[i], sums[i] += fields[i];
+  if (!right) printf("numbers of %s: status %u, %d numbers, %s\n", what, solid.status, read, line);
+  wrong += !right;
+  ember_solid_free(&solid);
+}
+
+/* Solids of which some have negative offsets, some triangles that vanish, and some edges of more than two triangles. */
+static void try_numbers(void) {
+  uint64_t sums[6] = {0};
+  expect_numbers("a cube without a corner", "m1&!m2", EMBER_DIGITS, sums);
+  for (int i = 0; i < 8; i++)
+    for (int j = 0; j < 3; j++) cube[i][j] -= 9, corner[i][j] -= j == 2 ? 9 : 8;
+  expect_numbers("boxes that touch along an edge", "m1|m2", EMBER_DIGITS, sums);
+  begin();
+  for (int i = 0; i < 8; i++)
+    for (int j = 0; j < 3; j++) cube[i][j] = cube[i][j] / 7 + cube[i][(j + 1) % 3] / 3, corner[i][j] /= 5;
+  expect_numbers("whole numbers", "m1|m2", 0, sums);
+  expect_numbers("whole numbers without a corner", "m1&!m2", 0, sums);
+  begin();
+  if (!sums[0] || !sums[1] || !sums[2] || !sums[5]) puts("a number is 0 in each report"), wrong++;
+}
+
 /* Bytes at random, and bytes that expressions have: what is no expression is refused, and nothing is lost. */
 static void try_expressions(void) {
   static const char likely[] = "mmww12!&|^()<>=+-*0 ,odd";
@@ -198,6 +243,7 @@ static int try_cases(void) {
   const double numbers[] = {NAN, INFINITY, -INFINITY};
   uint32_t far_corner[12][3];
   expect_both();
+  try_numbers();
   try_expressions();
   try_sources();
   expect("nothing", 0, 0, none, 2, "m1&!m1", "finest", 17, "ember-mesh: step ");
