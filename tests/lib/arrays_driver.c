@@ -7,7 +7,7 @@
              refused: a call ends with status 12, or as if nothing was refused, and leaves no block that the caller doesn't get
    threads   four Booleans in 8 threads with 256 KiB of stack each, 100 times in each: all give the arrays that one thread gives
 
-   Linked with --wrap for malloc, realloc and free, it counts the library's blocks. */
+   Linked with --wrap for malloc, realloc and free, it counts the library's blocks. VERSION is the version that the library must have. */
 #define _XOPEN_SOURCE 700
 #include "counted_memory.h"
 #include "ember.h"
@@ -238,10 +238,20 @@ static void try_expressions(void) {
   if (refused == 0 || refused == EXPRESSIONS) printf("%ld expressions are refused\n", refused), wrong++;
 }
 
+/* As much of the version as there is room for. */
+static void expect_version(void) {
+  uint8_t text[32] = {0}, little[2] = {7, 7};
+  uint32_t length = ember_version(text, sizeof text);
+  int right = length == strlen(VERSION) && memcmp(text, VERSION, length + 1) == 0;
+  right = right && ember_version(little, 1) == length && little[0] == VERSION[0] && little[1] == 7;
+  if (!right) printf("version: %s\n", (const char *)text), wrong++;
+}
+
 static int try_cases(void) {
   static const uint64_t none = EMBER_NO_PLACE;
   const double numbers[] = {NAN, INFINITY, -INFINITY};
   uint32_t far_corner[12][3];
+  expect_version();
   expect_both();
   try_numbers();
   try_expressions();
