@@ -19,8 +19,8 @@ bash = $(share)/bash-completion/completions
 zsh = $(share)/zsh/site-functions
 # Pages keep the folders that they have in docs, so that their links to each other lead somewhere.
 documents = trust/DEFINITIONS.md trust/TRUST.md use/FORMATS.md use/LIMITS.md use/REFUSALS.md
-mesh_documents = trust/TRUST.md use/FORMATS.md use/MESHES.md
-library_documents = trust/TRUST.md use/EMBED.md use/FORMATS.md use/LIBRARY.md use/MESHES.md
+mesh_documents = trust/TRUST.md use/EMBED.md use/FORMATS.md use/MESHES.md use/PYTHON.md
+library_documents = trust/TRUST.md use/EMBED.md use/FORMATS.md use/LIBRARY.md use/MESHES.md use/PYTHON.md
 examples = cube.obj tetra.obj tetra.txt wedge.obj
 mesh_examples = export.obj label.stl plate.stl
 library_examples = arrays.c arrays.rs difference.c difference.cpp difference.rs

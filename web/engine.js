@@ -10,13 +10,17 @@ async function unpack(id) {
   return new Uint8Array(await new Response(stream).arrayBuffer());
 }
 
-let unpacked;
+let compiled;
 
-// The bytes of the module, which are unpacked once.
-function moduleBytes() {
-  unpacked ??= unpack('module');
-  return unpacked;
+// The module. It is compiled once: what a browser has compiled for one call serves the next.
+function compiledModule() {
+  compiled ??= unpack('module').then(bytes => WebAssembly.compile(bytes));
+  return compiled;
 }
+
+// What the page shows if the module can't be sent to a worker.
+const faultOf = fault =>
+  (fault instanceof WebAssembly.CompileError ? `This browser can't run the module: ${fault.message}` : `It stopped: ${fault.message}`);
 
 // Begins what `ember-mesh WORDS..` does over these files. `answer` comes from the worker: a status, out, err, files and seconds, or a
 // `fault`; or it is `{ stopped: true }` after `stop()`.
@@ -32,9 +36,9 @@ function begin(words, files) {
   };
   worker.onmessage = ({ data }) => end(data);
   worker.onerror = event => end({ fault: `It stopped: ${event.message || 'the worker failed'}` });
-  moduleBytes()
+  compiledModule()
     .then(module => worker.postMessage({ module, words, files }))
-    .catch(fault => end({ fault: `It stopped: ${fault.message}` }));
+    .catch(fault => end({ fault: faultOf(fault) }));
   return { answer, stop: () => end({ stopped: true }) };
 }
 

@@ -7,12 +7,12 @@ const noMemory = () => ({ status: NO_MEMORY, out: new Uint8Array(), err: lineOf(
 // What the page shows if there is no answer. An answer is never made up: want of memory is said by the status of the program.
 function answerOfFault(fault) {
   if (fault instanceof OutOfMemory || (fault instanceof RangeError && /memory|allocat/i.test(fault.message))) return noMemory();
-  return { fault: fault instanceof WebAssembly.CompileError ? `This browser can't run the module: ${fault.message}` : `It stopped: ${fault.message}` };
+  return { fault: `It stopped: ${fault.message}` };
 }
 
 async function answerTo({ module, words, files }) {
   try {
-    const { instance } = await WebAssembly.instantiate(module, {});
+    const instance = await WebAssembly.instantiate(module, {});
     const began = performance.now();
     const answer = command(instance.exports, words, files);
     // The library may have no memory for the line.
@@ -27,3 +27,6 @@ onmessage = async ({ data }) => {
   const blocks = answer.fault ? [] : [answer.out, answer.err, ...answer.files.map(([, bytes]) => bytes)];
   postMessage(answer, blocks.map(bytes => bytes.buffer));
 };
+
+// Where a module can't be given to a worker.
+onmessageerror = () => postMessage({ fault: 'It stopped: the worker got no module' });

@@ -9,7 +9,7 @@
 Meshes are numpy arrays, objects of other packages, or files; `boolean` says which, and has all options. The corners of all meshes of a call
 are first moved to a grid with 4,095 points along each axis: `Result.step` and `Result.moves` say how far. What follows is exact, until the
 corners of the result are rounded. Numbers of meshes, triangles and vertices count from 0, but from 1 in expressions and in the lines of
-errors and reports.
+errors and reports. PYTHON.md, beside this file in a wheel, has more.
 """
 
 from . import processor

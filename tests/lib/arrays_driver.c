@@ -1,13 +1,13 @@
 /* What tests/check_library runs over the C library's Booleans of meshes in arrays. `cube` and `corner` are the boxes from 0 to 2 and from
    1 to 3.
 
-   cases     each status that a call can be made to give, with its mesh, its place and its line, and the sources of five solids; the last
-             line is "N wrong"
+   cases     each status that a call can be made to give, with its mesh, its place and its line, the numbers of four solids, expressions of
+             random bytes, and the sources of five solids; the last line is "N wrong"
    memory    a Boolean with sources again and again, first without any memory, then with one more request that is met each time, and each request alone
              refused: a call ends with status 12, or as if nothing was refused, and leaves no block that the caller doesn't get
-   threads   the same in 8 threads with 256 KiB of stack each, 100 times in each: all give the same arrays
+   threads   four Booleans in 8 threads with 256 KiB of stack each, 100 times in each: all give the arrays that one thread gives
 
-   Linked with --wrap for malloc, realloc and free, it counts the library's blocks. */
+   Linked with --wrap for malloc, realloc and free, it counts the library's blocks. VERSION is the version that the library must have. */
 #define _XOPEN_SOURCE 700
 #include "counted_memory.h"
 #include "ember.h"
@@ -15,7 +15,7 @@
 #include <pthread.h>
 #include <stdio.h>
 
-enum { THREADS = 8, CALLS = 100, STACK = 256 * 1024, MOST = 65 };
+enum { THREADS = 8, CALLS = 100, STACK = 256 * 1024, MOST = 65, EXPRESSIONS = 2000 };
 
 static const uint32_t triangles[12][3] = {{0, 3, 2}, {0, 2, 1}, {4, 5, 6}, {4, 6, 7}, {0, 1, 5}, {0, 5, 4},
                                           {1, 2, 6}, {1, 6, 5}, {2, 3, 7}, {2, 7, 6}, {3, 0, 4}, {3, 4, 7}};
@@ -168,11 +168,93 @@ static void try_sources(void) {
   begin();
 }
 
+/* ---- the numbers of the report */
+
+/* Whether a number of 128 bits is this one. */
+static int is_wide(const uint64_t *wide, long long number) { return wide[0] == (uint64_t)number && wide[1] == (number < 0 ? UINT64_MAX : 0); }
+
+/* The line has the numbers that the solid has in its fields, which are added up in `sums`. */
+static void expect_numbers(const char *what, const char *expression, uint32_t digits, uint64_t *sums) {
+  ember_options options = {ember_text("nice"), digits, 0};
+  ember_solid solid;
+  char line[2048] = "";
+  double step = 0;
+  long long offset[3] = {0}, counts[6] = {0};
+  ember_boolean(meshes, 2, expression, &options, &solid);
+  if (solid.line.len < sizeof line) memcpy(line, solid.line.at, solid.line.len);
+  const char *end = strstr(line, " faces -> ");
+  while (end && end > line && end[-1] != ' ') end--;
+  int read = sscanf(line, "ember-mesh: step %lf, grid offset %lld %lld %lld\n", &step, offset, offset + 1, offset + 2);
+  read += end ? sscanf(end, "%lld faces -> %*d triangles in %lld planes; greatest rounding move %*[^;]; %lld vanished, %lld without area, %lld turned over; %lld edges",
+                       counts, counts + 1, counts + 2, counts + 3, counts + 4, counts + 5)
+              : 0;
+  const uint64_t fields[6] = {solid.faces, solid.planes, solid.vanished, solid.flat, solid.turned, solid.shared};
+  int right = solid.status == EMBER_DONE && read == 10 && (double)solid.step[0] / (double)solid.step[1] == step;
+  for (int i = 0; i < 3; i++) right = right && is_wide(solid.offset[i], offset[i]);
+  for (int i = 0; i < 6; i++) right = right && fields[i] == (uint64_t)counts[i], sums[i] += fields[i];
+  if (!right) printf("numbers of %s: status %u, %d numbers, %s\n", what, solid.status, read, line);
+  wrong += !right;
+  ember_solid_free(&solid);
+}
+
+/* Solids of which some have negative offsets, some triangles that vanish, and some edges of more than two triangles. */
+static void try_numbers(void) {
+  uint64_t sums[6] = {0};
+  expect_numbers("a cube without a corner", "m1&!m2", EMBER_DIGITS, sums);
+  for (int i = 0; i < 8; i++)
+    for (int j = 0; j < 3; j++) cube[i][j] -= 9, corner[i][j] -= j == 2 ? 9 : 8;
+  expect_numbers("boxes that touch along an edge", "m1|m2", EMBER_DIGITS, sums);
+  begin();
+  for (int i = 0; i < 8; i++)
+    for (int j = 0; j < 3; j++) cube[i][j] = cube[i][j] / 7 + cube[i][(j + 1) % 3] / 3, corner[i][j] /= 5;
+  expect_numbers("whole numbers", "m1|m2", 0, sums);
+  expect_numbers("whole numbers without a corner", "m1&!m2", 0, sums);
+  begin();
+  if (!sums[0] || !sums[1] || !sums[2] || !sums[5]) puts("a number is 0 in each report"), wrong++;
+}
+
+/* Bytes at random, and bytes that expressions have: what is no expression is refused, and nothing is lost. */
+static void try_expressions(void) {
+  static const char likely[] = "mmww12!&|^()<>=+-*0 ,odd";
+  ember_bytes nice = ember_text("nice");
+  uint64_t state = 1;
+  long refused = 0, before = blocks;
+  for (int i = 0; i < EXPRESSIONS; i++) {
+    uint8_t text[16];
+    ember_solid solid;
+    size_t length = (size_t)i % sizeof text;
+    for (size_t j = 0; j < length; j++) {
+      state = state * 6364136223846793005u + 1442695040888963407u;
+      text[j] = i % 3 ? (uint8_t)likely[(state >> 33) % (sizeof likely - 1)] : (uint8_t)(state >> 33);
+    }
+    uint32_t status = ember_boolean_with(meshes, 2, text, length, nice.at, nice.len, EMBER_DIGITS, 0, &solid);
+    int is_refused = status == EMBER_EXPRESSION || status == EMBER_UNBOUNDED;
+    int right = is_refused ? !solid.vertices && !solid.triangles && solid.line.len > 23 && !memcmp(solid.line.at, "ember-mesh: expression", 22)
+                           : status == EMBER_DONE;
+    ember_solid_free(&solid);
+    if (!right || blocks != before) printf("expression %d: status %u, %ld blocks are left\n", i, status, blocks - before), wrong++;
+    refused += is_refused;
+  }
+  if (refused == 0 || refused == EXPRESSIONS) printf("%ld expressions are refused\n", refused), wrong++;
+}
+
+/* As much of the version as there is room for. */
+static void expect_version(void) {
+  uint8_t text[32] = {0}, little[2] = {7, 7};
+  uint32_t length = ember_version(text, sizeof text);
+  int right = length == strlen(VERSION) && memcmp(text, VERSION, length + 1) == 0;
+  right = right && ember_version(little, 1) == length && little[0] == VERSION[0] && little[1] == 7;
+  if (!right) printf("version: %s\n", (const char *)text), wrong++;
+}
+
 static int try_cases(void) {
   static const uint64_t none = EMBER_NO_PLACE;
   const double numbers[] = {NAN, INFINITY, -INFINITY};
   uint32_t far_corner[12][3];
+  expect_version();
   expect_both();
+  try_numbers();
+  try_expressions();
   try_sources();
   expect("nothing", 0, 0, none, 2, "m1&!m1", "finest", 17, "ember-mesh: step ");
   expect("no meshes", 2, 0, none, 0, "m1", "nice", EMBER_DIGITS, "ember-mesh: no files");
@@ -245,13 +327,21 @@ static int try_memory(void) {
 
 /* ---- threads */
 
-static ember_solid wanted;
+/* Threads next to each other make different calls. */
+static const char *const expressions[] = {"m1|m2", "m1&!m2", "m1&m2", "w1+w2=1"};
+enum { KINDS = sizeof expressions / sizeof *expressions };
+static ember_solid wanted[KINDS];
 
-static void *repeat(void *other) {
+struct job {
+  int kind, others;
+};
+
+static void *repeat(void *it) {
+  struct job *job = it;
   ember_solid solid;
   for (int i = 0; i < CALLS; i++) {
-    ember_boolean(meshes, 2, "w1+w2=1", NULL, &solid);
-    *(int *)other += !same_solid(&solid, &wanted);
+    ember_boolean(meshes, 2, expressions[job->kind], NULL, &solid);
+    job->others += !same_solid(&solid, &wanted[job->kind]);
     ember_solid_free(&solid);
   }
   return NULL;
@@ -259,19 +349,21 @@ static void *repeat(void *other) {
 
 static int try_threads(void) {
   pthread_t threads[THREADS];
-  int other[THREADS] = {0};
+  struct job jobs[THREADS];
   pthread_attr_t room;
   pthread_attr_init(&room);
   pthread_attr_setstacksize(&room, STACK);
-  ember_boolean(meshes, 2, "w1+w2=1", NULL, &wanted);
-  for (int i = 0; i < THREADS; i++)
-    if (pthread_create(&threads[i], &room, repeat, &other[i])) return 125;
+  for (int i = 0; i < KINDS; i++) wrong += ember_boolean(meshes, 2, expressions[i], NULL, &wanted[i]) != EMBER_DONE;
+  for (int i = 0; i < THREADS; i++) {
+    jobs[i].kind = i % KINDS, jobs[i].others = 0;
+    if (pthread_create(&threads[i], &room, repeat, &jobs[i])) return 125;
+  }
   for (int i = 0; i < THREADS; i++) {
     pthread_join(threads[i], NULL);
-    wrong += other[i];
+    wrong += jobs[i].others;
   }
-  printf("status %u, %d calls, %d others\n", wanted.status, THREADS * CALLS, wrong);
-  ember_solid_free(&wanted);
+  printf("%d calls of %d kinds, %d wrong\n", THREADS * CALLS, (int)KINDS, wrong);
+  for (int i = 0; i < KINDS; i++) ember_solid_free(&wanted[i]);
   return wrong != 0;
 }
 

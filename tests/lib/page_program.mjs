@@ -18,11 +18,12 @@ export function partsOf(path) {
   return { worker: elementOf(page, 'worker'), module: new Uint8Array(gunzipSync(Buffer.from(elementOf(page, 'module'), 'base64'))) };
 }
 
-// What the worker posts if it is sent this.
+// What the worker posts if it is sent this, with the bytes of a module compiled.
 export function answerTo(worker, request) {
+  const data = { ...request, module: new WebAssembly.Module(request.module) };
   return new Promise(resolve => {
     const listen = new Function('postMessage', 'onmessage', `${worker}\nreturn onmessage;`);
-    listen(resolve)({ data: request });
+    listen(resolve)({ data });
   });
 }
 
