@@ -1,0 +1,9 @@
+pub mod Common
+pub mod Weights
+pub mod Parted
+pub mod Beside
+pub mod OneValue
+pub mod Short
+pub mod Turned
+pub mod Shares
+pub mod WholeFaces

@@ -1,0 +1,4 @@
+pub mod Touch
+pub mod Parting
+pub mod Values
+pub mod Whole

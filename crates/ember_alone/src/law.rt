@@ -1,0 +1,19 @@
+// The laws of triangles that no other one touches.
+ghost use Rattle.std.specs.Prelude.{List};
+ghost use Rattle.ember_model.specs.declared.tri.Tri.{Tri};
+ghost use Rattle.ember_alone.specs.Values.{AreClosed, AloneHaveOneValue};
+ghost use Rattle.ember_alone.specs.Whole.{WholeFacesWindAlike};
+
+/// A triangle of closed meshes that no other one touches has one value on each of its sides: all
+/// parts of its face have the same winding numbers before and after them.
+pub fn alone_triangles_have_one_value()
+    ensures { (ts : List Tri) → AreClosed ts → AloneHaveOneValue ts }
+{}
+
+/// Let pieces of the triangles of closed meshes wind once where a condition holds of the winding
+/// numbers, and not at all elsewhere. Take away the pieces of triangles that no other one touches,
+/// and add for each of them on whose two sides the condition differs its face, with the front where
+/// it doesn't hold. These faces wind where the pieces do.
+pub fn whole_faces_wind_alike()
+    ensures { (ts : List Tri) → AreClosed ts → WholeFacesWindAlike ts }
+{}
