@@ -20,16 +20,18 @@ use Rattle.ember_model.proofs.LastZero.{all_negative_member}
 use Rattle.ember_law.proofs.Separation.{combination_value}
 use Rattle.ember_alone.specs.Touch.{HasCorner, IsInCommon, IsCommonCorner, Conform}
 
--- ---- an edge plane is 0 at both ends of its edge
-abbrev cornerE : VectorE → TupleE
+-- ---- edge planes
+abbrev pub cornerE : VectorE → TupleE
 cornerE u = record { x = u.x; y = u.y; z = u.z; w = num (pos 1) }
 
-zero_at_start : (u v : Corner) (f : Vector) → value_at (edge_through u v f) (spot_of_corner u) ≡ pos 0
+-- an edge plane is 0 at the corner at which its edge starts
+pub zero_at_start : (u v : Corner) (f : Vector) → value_at (edge_through u v f) (spot_of_corner u) ≡ pos 0
 zero_at_start u v f =
     identity (vector ∷ vector ∷ vector ∷ []) (λ u v f. valueE (edgeE u v f) (cornerE u) ≈ num (pos 0)) cancels
     (vector_of u) (vector_of v) f
 
-zero_at_end : (u v : Corner) (f : Vector) → value_at (edge_through u v f) (spot_of_corner v) ≡ pos 0
+-- and at that at which it ends
+pub zero_at_end : (u v : Corner) (f : Vector) → value_at (edge_through u v f) (spot_of_corner v) ≡ pos 0
 zero_at_end u v f =
     identity (vector ∷ vector ∷ vector ∷ []) (λ u v f. valueE (edgeE u v f) (cornerE v) ≈ num (pos 0)) cancels
     (vector_of u) (vector_of v) f
@@ -43,7 +45,7 @@ record EdgeWith (t : Tri) (u v : Corner) : Type 0 where
   at_v : value_at plane (spot_of_corner v) ≡ pos 0
 
 -- the edge plane times the triangle's sign, at corners that equal those at which it is 0
-edge_zero : (s : ℤ) (g : Plane) (u x : Corner) → u ≡ x → value_at g (spot_of_corner x) ≡ pos 0 → value_at (times_plane s g) (spot_of_corner u) ≡ pos 0
+pub edge_zero : (s : ℤ) (g : Plane) (u x : Corner) → u ≡ x → value_at g (spot_of_corner x) ≡ pos 0 → value_at (times_plane s g) (spot_of_corner u) ≡ pos 0
 edge_zero s g u x e z =
     value_times s g (spot_of_corner u) ∙ zero_scaled s (value_at g (spot_of_corner u)) (ap (λ (c : Corner). value_at g (spot_of_corner c)) e ∙ z)
 

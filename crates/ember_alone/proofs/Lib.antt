@@ -7,3 +7,6 @@ pub mod Short
 pub mod Turned
 pub mod Shares
 pub mod WholeFaces
+pub mod Frames
+pub mod CloseTo
+pub mod Neighbours

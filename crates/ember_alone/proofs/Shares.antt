@@ -51,7 +51,8 @@ ahead s k e =
     (λ p. let f = ap (λ (z : ℤ). z *ℤ s) (sign_neg p) in
     by_sign s (λ q. omega (arith, linear, f, q)) (λ z. omega (arith, linear, f, z)) (λ q. absurd (let m = mul_neg_neg q p in omega (arith, linear, l, m))))
 
-not_positive : {z : ℤ} → z <ℤ pos 0 → is_positive z ≡ false
+-- a negative number fails the test
+pub not_positive : {z : ℤ} → z <ℤ pos 0 → is_positive z ≡ false
 not_positive {z} l = false_from_ne_true (is_positive z) (λ e. let p = positive_out z e in omega (arith, linear, l, p))
 
 positive_or_negative : (z : ℤ) → z ≢ pos 0 → (pos 0 <ℤ z) ⊎ (z <ℤ pos 0)

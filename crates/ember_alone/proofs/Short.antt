@@ -48,7 +48,7 @@ separated_face_has_no_leg f p q wp wq s = ⊎_elim across (λ e. leg_off f p q e
             omega (arith, linear, l, v, x, y)
 
 -- a point off the closed face, as a segment of no length
-single_point_is_missed : (f : Face) (h : Spot) → pos 0 <ℤ h.w → is_in_closed f h ≡ false → MissesFace h h f
+pub single_point_is_missed : (f : Face) (h : Spot) → pos 0 <ℤ h.w → is_in_closed f h ≡ false → MissesFace h h f
 single_point_is_missed f h w o k m pk pm = false_from_ne_true (is_in_closed f (combination k m h h)) (λ e. clash (at_h e) o)
   where
     scales : (g : Plane) → value_at g (combination k m h h) ≡ (k +ℤ m) *ℤ value_at g h
@@ -165,7 +165,8 @@ follow_each : (es : List Plane) (u : Spot) → Eventually (λ k. FollowsEach u (
 follow_each [] u = eventually_true (λ k. tt)
 follow_each (e ∷ es) u = eventually_both (follows_shifted u e) (follow_each es u)
 
-separated_both_shifted : (f : Face) (u v : Spot) → Separates f u v → Eventually (λ k. Separates f (offset_by u (pos k)) (offset_by v (pos k)))
+-- a plane also separates ends that are both shifted by little enough
+pub separated_both_shifted : (f : Face) (u v : Spot) → Separates f u v → Eventually (λ k. Separates f (offset_by u (pos k)) (offset_by v (pos k)))
 separated_both_shifted f u v s =
     eventually_map (λ k h. record { plane = s.plane; near = h.0.up s.near; far = h.1.up s.far; low = s.low })
     (eventually_both (follows_shifted u s.plane) (follows_shifted v s.plane))
