@@ -120,13 +120,13 @@ pub separated_by_support : (f : Face) (p q : Spot) (a b : Axis) (e d : ℤ) → 
     Separates f (moved (scaled (pos m) p) a e) (moved (scaled (pos m) q) b d)
 separated_by_support f p q a b e d zp zq o m = ⊎_elim above under o
   where
-    abbrev n : Plane
+    n : Plane
     n = f.support
 
-    abbrev x : Spot
+    x : Spot
     x = moved (scaled (pos m) p) a e
 
-    abbrev y : Spot
+    y : Spot
     y = moved (scaled (pos m) q) b d
 
     at_x : value_at n x ≡ e *ℤ along n a

@@ -52,19 +52,19 @@ edge_zero s g u x e z =
 edge_with : (t : Tri) (u v : Corner) → HasCorner t u → HasCorner t v → EdgeWith t u v
 edge_with t u v hu hv = by hu hv
   where
-    abbrev k : Vector
+    k : Vector
     k = unit (main_axis (support_of t))
 
-    abbrev s : ℤ
+    s : ℤ
     s = sign (along (support_of t) (main_axis (support_of t)))
 
-    abbrev first : Plane
+    first : Plane
     first = edge_through t.a t.b k
 
-    abbrev second : Plane
+    second : Plane
     second = edge_through t.b t.c k
 
-    abbrev third : Plane
+    third : Plane
     third = edge_through t.c t.a k
 
     on_first : (x y : Corner) → value_at first (spot_of_corner x) ≡ pos 0 → value_at first (spot_of_corner y) ≡ pos 0 → u ≡ x → v ≡ y → EdgeWith t u v

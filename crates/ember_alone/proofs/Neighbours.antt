@@ -216,7 +216,7 @@ along_times s n Z = refl
 
 module _ (ts : List Tri) (balanced : AreClosed ts) where
   module _ (i j : ℕ) (t r : Tri) (u v w z : Corner) (b : AreBeside ts i j t r u v w z) (x : Spot) (mid : IsMiddle u v x) where
-    abbrev f : Frame t u v w
+    f : Frame t u v w
     f = frame t b.full u v w b.edge
 
     abbrev n : Plane
@@ -262,8 +262,8 @@ module _ (ts : List Tri) (balanced : AreClosed ts) where
     one_is : (s : Tri) (c : Corner) (g : Plane) → value_at g x <ℤ pos 0 → (common : IsInCommon t s x) →
         (common.from ≡ c) ⊎ (value_at g (spot_of_corner common.from) ≡ pos 0) →
         (common.to ≡ c) ⊎ (value_at g (spot_of_corner common.to) ≡ pos 0) → HasCorner s c
-    one_is s c g l m (inl e) q = subst (HasCorner s) e m.common_from.second
-    one_is s c g l m (inr e) (inl q) = subst (HasCorner s) q m.common_to.second
+    one_is s c g l m (inl e) q = subst (λ (y : Corner). HasCorner s y) e m.common_from.second
+    one_is s c g l m (inr e) (inl q) = subst (λ (y : Corner). HasCorner s y) q m.common_to.second
     one_is s c g l m (inr e) (inr q) =
         let o = m.on in
         let h = sym (value_scaled o.factor g x) ∙ ap (value_at g) o.sum ∙ combination_value g o.of_u o.of_v (spot_of_corner m.from) (spot_of_corner m.to) in
@@ -460,6 +460,7 @@ module _ (ts : List Tri) (balanced : AreClosed ts) where
           ∙ ap (λ (h : Plane). along h k) (sym n_is))
 
       overlap : (along n k *ℤ along o k) <ℤ pos 0 → ⊥
+      unfolding face_of
       overlap l = clash (in_both.holds (in_both.from + 1) (omega arith)) (others_are_off ts balanced i t b.here b.alone b.full j r b.different b.there b.full_there
           (q (in_both.from + 1)) (q_inside (in_both.from + 1) (omega arith)))
         where
@@ -479,7 +480,6 @@ module _ (ts : List Tri) (balanced : AreClosed ts) where
               let q = ap (λ (g : Plane). value_at g (spot_of_corner u)) a ∙ zero_at_second v u z in omega (arith, linear, e, p, q)
 
           in_both : Eventually (λ m. is_in_closed (face_of r) (q m) ≡ true)
-          unfolding face_of
           in_both =
               eventually_map
               (λ m e. closed_on (face_of r) (q m) (positive_in e.0)
@@ -506,7 +506,7 @@ module _ (ts : List Tri) (balanced : AreClosed ts) where
     way : (s : ℤ) → s ≢ pos 0 → (y : Spot) × IsWay s t r y
     way s nz = by_sign (s *ℤ value_at n (spot_of_corner z)) sum (λ e. flat (⊎_elim (λ a. absurd (nz a)) (λ a. a) (zero_product e))) difference
       where
-        abbrev both : Spot
+        both : Spot
         both = plus_s (spot_of_corner w) (spot_of_corner z)
 
         here_is : (y : Spot) → value_at (turned_to s t) y ≡ s *ℤ value_at n y
@@ -539,7 +539,7 @@ module _ (ts : List Tri) (balanced : AreClosed ts) where
         flat : value_at n (spot_of_corner z) ≡ pos 0 → (y : Spot) × IsWay s t r y
         flat e = ⊎_elim (λ l. (moved nowhere k (pos 1), ahead l)) (λ l. (moved nowhere k (negsuc 0), back l)) (one_sign (s *ℤ along n k) (s *ℤ along (support_of r) k) signs)
           where
-            abbrev k : Axis
+            k : Axis
             k = main_axis (support_of r)
 
             signs : pos 0 <ℤ ((s *ℤ along n k) *ℤ (s *ℤ along (support_of r) k))
@@ -616,14 +616,14 @@ module _ (ts : List Tri) (t : Tri) (full : is_flat t ≡ false) (f : Face) (same
   seen_side : (front : Bool) → IsSeen ts t (side_sign front) (side_of front f before after)
   seen_side true =
       by_sign entry
-      (λ l. subst (IsSeen ts t (pos 1)) (sym (ap (λ (b : Bool). cond b after before) (entry_is ∙ positive_in l))) (seen_after (pos 1) (omega (arith, linear, l))))
+      (λ l. subst (λ (y : List ℤ). IsSeen ts t (pos 1) y) (sym (ap (λ (b : Bool). cond b after before) (entry_is ∙ positive_in l))) (seen_after (pos 1) (omega (arith, linear, l))))
       (λ z. absurd (main_entry t full z))
-      (λ l. subst (IsSeen ts t (pos 1)) (sym (ap (λ (b : Bool). cond b after before) (entry_is ∙ not_positive l))) (seen_before (pos 1) (omega (arith, linear, l))))
+      (λ l. subst (λ (y : List ℤ). IsSeen ts t (pos 1) y) (sym (ap (λ (b : Bool). cond b after before) (entry_is ∙ not_positive l))) (seen_before (pos 1) (omega (arith, linear, l))))
   seen_side false =
       by_sign entry
-      (λ l. subst (IsSeen ts t (negsuc 0)) (sym (ap (λ (b : Bool). cond b before after) (entry_is ∙ positive_in l))) (seen_before (negsuc 0) (omega (arith, linear, l))))
+      (λ l. subst (λ (y : List ℤ). IsSeen ts t (negsuc 0) y) (sym (ap (λ (b : Bool). cond b before after) (entry_is ∙ positive_in l))) (seen_before (negsuc 0) (omega (arith, linear, l))))
       (λ z. absurd (main_entry t full z))
-      (λ l. subst (IsSeen ts t (negsuc 0)) (sym (ap (λ (b : Bool). cond b before after) (entry_is ∙ not_positive l))) (seen_after (negsuc 0) (omega (arith, linear, l))))
+      (λ l. subst (λ (y : List ℤ). IsSeen ts t (negsuc 0) y) (sym (ap (λ (b : Bool). cond b before after) (entry_is ∙ not_positive l))) (seen_after (negsuc 0) (omega (arith, linear, l))))
 
 -- ---- the law
 turned_of : (t : Tri) (u v : Corner) → HasEdge t u v → (w : Corner) × IsTurned t u v w

@@ -129,7 +129,7 @@ module _ (ts : List Tri) (balanced : AreClosed ts) (i : ℕ) (t : Tri) (here : s
       (each_face (λ f. Separates f (at p m) (at q m)) (MissesFace (at p m) (at q m))
       (λ f s. separated_face_is_missed f (at p m) (at q m) s) (faces_of ts) h.1.1) ∙ r.counts_are
     where
-      abbrev at : Spot → ℕ → Spot
+      at : Spot → ℕ → Spot
       at v m = moved (scaled (pos m) v) k e
 
       signs : OneSign (e *ℤ along n k) (e *ℤ along n k)
@@ -144,13 +144,13 @@ module _ (ts : List Tri) (balanced : AreClosed ts) (i : ℕ) (t : Tri) (here : s
   shifted_points_see q h hq hh k a d e signs bound counts sees =
       record { from = far.from + bound * 1 + 1; holds = λ m l. close m (far.holds m (omega arith)) (sees m (omega arith)) }
     where
-      abbrev seen : ℕ → Spot
+      seen : ℕ → Spot
       seen m = moved (scaled (pos m) q) k d
 
-      abbrev near : ℕ → Spot
+      near : ℕ → Spot
       near m = moved (scaled (pos m) h) a e
 
-      abbrev IsFar : ℕ → Type 0
+      IsFar : ℕ → Type 0
       IsFar m = (pos 0 <ℤ (seen m).w) × ((pos 0 <ℤ (near m).w) × AllByRecursion (λ f. Separates f (seen m) (near m)) (faces_of ts))
 
       far : Eventually IsFar

@@ -33,7 +33,7 @@ use Rattle.ember_alone.proofs.OneValue.{each_face}
 separated_face_has_no_leg : (f : Face) (p q : Spot) → pos 0 <ℤ p.w → pos 0 <ℤ q.w → Separates f p q → leg f p q ≡ pos 0
 separated_face_has_no_leg f p q wp wq s = ⊎_elim across (λ e. leg_off f p q e) (cases_Bool (is_negative (value_at n p *ℤ value_at n q)))
   where
-    abbrev n : Plane
+    n : Plane
     n = f.support
 
     across : is_negative (value_at n p *ℤ value_at n q) ≡ true → leg f p q ≡ pos 0
@@ -77,7 +77,7 @@ pub record Pierces (f : Face) (a : Axis) (u v : Spot) : Type 0 where
 pierced_face_has_leg : (f : Face) (a : Axis) (u v : Spot) → pos 0 <ℤ u.w → pos 0 <ℤ v.w → Pierces f a u v → leg f u v ≡ sign (along f.support a)
 pierced_face_has_leg f a u v wu wv p = leg_on f u v true (sign (along n a)) wu wv parted within signs
   where
-    abbrev n : Plane
+    n : Plane
     n = f.support
 
     parted : is_negative (value_at n u *ℤ value_at n v) ≡ true
@@ -123,7 +123,7 @@ pierces_beside f a h x nz =
     eventually_map (λ m r. record { within_u = r.0; within_v = r.1; across = sides m })
     (eventually_both (within_beside f.edges h a (negsuc 0) i.2) (within_beside f.edges h a (pos 1) i.2))
   where
-    abbrev n : Plane
+    n : Plane
     n = f.support
 
     before : (m : ℕ) → value_at n (moved (scaled (pos m) h) a (negsuc 0)) ≡ neg_ℤ (along n a)
@@ -145,7 +145,7 @@ pub counts_beside : (f : Face) (a : Axis) (h : Spot) → pos 0 <ℤ h.w → (is_
     (λ m. Counts f a (moved (scaled (pos m) h) a (negsuc 0)) (moved (scaled (pos m) h) a (pos 1)) (cond (is_inside f h) (sign (along f.support a)) (pos 0)))
 counts_beside f a h w strict slope = ⊎_elim inner outer (cases_Bool (is_inside f h))
   where
-    abbrev count : ℤ
+    count : ℤ
     count = cond (is_inside f h) (sign (along f.support a)) (pos 0)
 
     inner : is_inside f h ≡ true → Eventually (λ m. Counts f a (moved (scaled (pos m) h) a (negsuc 0)) (moved (scaled (pos m) h) a (pos 1)) count)
@@ -213,10 +213,10 @@ short_segments_count a h fs w o =
     (each_face (IsOffBoundary a h) (λ f. Eventually (λ m. Counts f a (u m) (v m) (count_at a h f)))
     (λ f b. counts_beside f a h w b.strict b.slope) fs o))
   where
-    abbrev u : ℕ → Spot
+    u : ℕ → Spot
     u m = moved (scaled (pos m) h) a (negsuc 0)
 
-    abbrev v : ℕ → Spot
+    v : ℕ → Spot
     v m = moved (scaled (pos m) h) a (pos 1)
 
     shifted : (m : ℕ) → AllByRecursion (λ f. Counts f a (u m) (v m) (count_at a h f)) fs →

@@ -1,6 +1,7 @@
 // Whether two triangles may touch: a plane of one face may part them.
 ghost use Rattle.std.specs.Prelude.{◌≡◌, neg_ℤ, false, All};
 ghost use Rattle.std.specs.List.{list_any};
+ghost use Rattle.ember_model.specs.Faces.{edges_of};
 ghost use Rattle.ember_model.specs.Limits.{broad_limit};
 ghost use Rattle.ember_model.specs.Meshes.{same_corner};
 ghost use Rattle.ember_model.specs.Owners.{spot_of_corner};
@@ -11,7 +12,7 @@ ghost use Rattle.ember_alone.specs.Parting.{has_corner, common_corners, is_beyon
 ghost use Rattle.ember_alone.specs.Parting.{is_parted, may_touch};
 ghost use Rattle.ember_alone.specs.Touch.{Conform};
 
-use ember_model::{Corner, Plane, Tri, has_no_normal, main_edges, support_of};
+use ember_model::{Corner, Plane, Tri, edge_plane, has_no_normal, main_axis, support_of};
 use ember_width::value_at_corner;
 
 /// Which corners of a triangle another one has too.
@@ -102,6 +103,17 @@ impl CornerValues {
             && (is_behind(self.b, common.b) && is_behind(self.c, common.c)))
             && (self.a < 0 || (self.b < 0 || self.c < 0))
     }
+}
+
+// The edge planes of `t` parallel to its main axis. Requires its support plane.
+fn main_edges(t: &Tri, support: &Plane) -> [Plane; 3]
+    requires tri { IsTriWithin broad_limit t.now }
+    requires support { support.now ≡ support_of t.now }
+    ensures value { result ≡ edges_of t.now }
+    ensures broad { All IsBroadPlane result }
+{
+    let k = main_axis(support);
+    [edge_plane(t, 0, k), edge_plane(t, 1, k), edge_plane(t, 2, k)]
 }
 
 // Whether the triangle lies beyond one of the planes, but for common corners.
