@@ -58,6 +58,10 @@ not_positive {z} l = false_from_ne_true (is_positive z) (λ e. let p = positive_
 positive_or_negative : (z : ℤ) → z ≢ pos 0 → (pos 0 <ℤ z) ⊎ (z <ℤ pos 0)
 positive_or_negative z n = by_sign z (λ l. inl l) (λ e. absurd (n e)) (λ l. inr l)
 
+-- a difference by what it is counted as
+change_is : (p q l n s u v : ℤ) → p -ℤ q ≡ l → l ≡ n → n ≡ s → p ≡ u → q ≡ v → s ≡ u -ℤ v
+change_is p q l n s u v a b c d e = omega (arith, linear, a, b, c, d, e)
+
 -- two points of a line along an axis, shifted alike
 differ_along : (a : Axis) (h : Spot) (m : ℕ) (k : ℤ) →
     DifferAlong a (offset_by (moved (scaled (pos m) h) a (negsuc 0)) k) (offset_by (moved (scaled (pos m) h) a (pos 1)) k)
@@ -239,7 +243,7 @@ module _ (ts : List Tri) (balanced : AreClosed ts) (i : ℕ) (t : Tri) (here : s
         let c = counted_legs a h back on (faces ks) weights.0 weights.1 r.1.1.0 in let s = shares_counted ks pieces in
         let e = meaning a a back weights.0 clear_back near_back ∙ ap (λ (w : List ℤ). one (x w)) (r.0 clear_back a) in
         let f = meaning a a on weights.1 clear_on near_on ∙ ap (λ (w : List ℤ). one (x w)) (r.1.0 clear_on a) in
-        omega (arith, linear, d, c, s, e, f)
+        change_is _ _ _ _ _ _ _ d c s e f
 
     -- ---- which side is which
     abbrev k : Axis
