@@ -1,6 +1,6 @@
 -- Neighbours that no other triangle touches have equal values: there is a way from directly beside the one, around their
 -- common edge, to directly beside the other.
-use Rattle.std.proofs.Common.{◌≡◌, ◌≢◌, ◌⊎◌, ⊎_elim, inl, inr, refl, sym, ap, subst, ◌∙◌, arith, le_refl, ℕ, ◌≤◌, Bool, true, false, cond, List, Some, slice_get, ℤ, pos, negsuc, ◌+ℤ◌, ◌-ℤ◌, ◌*ℤ◌, neg_ℤ, ◌<ℤ◌, ◌≤ℤ◌}
+use Rattle.std.proofs.Common.{◌≡◌, ◌≢◌, ◌⊎◌, ⊎_elim, inl, inr, refl, sym, ap, subst, ◌∙◌, arith, le_refl, ℕ, ◌+◌, ◌≤◌, Bool, true, false, cond, List, [], ◌∷◌, Some, slice_get, ℤ, pos, negsuc, ◌+ℤ◌, ◌-ℤ◌, ◌*ℤ◌, neg_ℤ, ◌<ℤ◌, ◌≤ℤ◌}
 use Rattle.std.specs.List.{AllByRecursion}
 use Rattle.std.proofs.lemmas.Bool.{cases_eq, false_from_ne_true}
 use Rattle.std.proofs.lemmas.Int.{by_lt_z}
@@ -23,6 +23,7 @@ use Rattle.ember_model.specs.declared.tri.Tri.{Tri}
 use Rattle.ember_model.specs.Planes.{vector_of, unit, value_at, along, main_axis, support_of, edge_through, times_plane, opposite}
 use Rattle.ember_model.specs.Points.{scaled, moved, plus_s, offset_by}
 use Rattle.ember_model.specs.Faces.{is_inside, is_in_closed, is_flat, face_of}
+use Rattle.ember_model.specs.Clear.{AreClear}
 use Rattle.ember_model.specs.Meshes.{faces_of, vector as vector_at}
 use Rattle.ember_model.specs.Owners.{spot_of_corner}
 use Rattle.ember_model.specs.Sides.{IsSides}
@@ -586,23 +587,20 @@ side_of front f before after = cond front (in_front f before after) (behind f be
 
 -- the sides of a part, as seen beside t
 module _ (ts : List Tri) (t : Tri) (full : is_flat t ≡ false) (f : Face) (same : f.support ≡ support_of t) (before after : List ℤ) (s : SidesAt ts t before after) where
-  abbrev k : Axis
-  k = main_axis (support_of t)
-
   abbrev entry : ℤ
-  entry = along (support_of t) k
+  entry = along (support_of t) (main_axis (support_of t))
 
   entry_is : is_positive (along f.support (main_axis f.support)) ≡ is_positive entry
   entry_is = ap (λ (n : Plane). is_positive (along n (main_axis n))) same
 
   seen_after : (c : ℤ) → pos 0 <ℤ (c *ℤ entry) → IsSeen ts t c after
   seen_after c l =
-      let e = along_times c (support_of t) k in
+      let e = along_times c (support_of t) (main_axis (support_of t)) in
       record { at = s.at; inside = s.inside; way = pos 1; slope = λ z. main_entry t full (omega (arith, linear, z)); up = omega (arith, linear, e, l); bound = s.bound; sees = s.sees_after }
 
   seen_before : (c : ℤ) → (c *ℤ entry) <ℤ pos 0 → IsSeen ts t c before
   seen_before c l =
-      let e = along_times c (support_of t) k in
+      let e = along_times c (support_of t) (main_axis (support_of t)) in
       record {
         at = s.at;
         inside = s.inside;

@@ -225,25 +225,41 @@ module _ (ts : List Tri) (balanced : AreClosed ts) (i : ℕ) (t : Tri) (here : s
     See at counts =
         Eventually (λ m. Eventually (λ l. AreClear (faces_of ts) (offset_by (at m) (pos l)) → (y : Axis) → vector y ts (offset_by (at m) (pos l)) ≡ counts))
 
+    -- between clear points, of which each sees one side
+    between_ends : (back on : Spot) (u v : List ℤ) → pos 0 <ℤ back.w → pos 0 <ℤ on.w → DifferAlong a back on → AreClear (faces_of ts) back →
+        AreClear (faces_of ts) on → AreClear (faces ks) back → AreClear (faces ks) on →
+        AllByRecursion (λ f. Counts f a back on (count_at a h f)) (faces ks) → vector a ts back ≡ u → vector a ts on ≡ v →
+        total share ks ≡ one (x u) -ℤ one (x v)
+    between_ends back on u v wb wo d cb co kb ko c eu ev =
+        change_is _ _ _ _ _ _ _ (along_itself a back on (faces ks) wb wo d kb ko) (counted_legs a h back on (faces ks) wb wo c)
+        (shares_counted ks pieces) (meaning a a back wb cb kb ∙ ap (λ (w : List ℤ). one (x w)) eu)
+        (meaning a a on wo co ko ∙ ap (λ (w : List ℤ). one (x w)) ev)
+
     jump : (u v : List ℤ) → See back_at u → See on_at v → total share ks ≡ one (x u) -ℤ one (x v)
     jump u v see_back see_on =
         let outer = eventually_both see_back (eventually_both see_on (eventually_both
         (short_segments_count a h (faces ks) hit_weight (all_off ks pieces clear_pieces))
         (eventually_both (weight_beside h a (negsuc 0) hit_weight) (weight_beside h a (pos 1) hit_weight)))) in
-        let m = outer.from in let o = outer.holds m (le_refl m) in
-        let inner = eventually_both o.0 (eventually_both o.1.0 (eventually_both o.1.1.0 (eventually_both
-        (eventually_both (weight_shifted (back_at m) o.1.1.1.0) (weight_shifted (on_at m) o.1.1.1.1))
-        (eventually_both (eventually_both (clear_shifted (back_at m) ts o.1.1.1.0) (clear_shifted (on_at m) ts o.1.1.1.1))
-        (eventually_both (near (back_at m) o.1.1.1.0) (near (on_at m) o.1.1.1.1)))))) in
-        let l = inner.from in let r = inner.holds l (le_refl l) in
-        let back = offset_by (back_at m) (pos l) in let on = offset_by (on_at m) (pos l) in
-        let weights = r.1.1.1.0 in let clear_back = clear_faces back ts r.1.1.1.1.0.0 in let clear_on = clear_faces on ts r.1.1.1.1.0.1 in
-        let near_back = r.1.1.1.1.1.0 in let near_on = r.1.1.1.1.1.1 in
-        let d = along_itself a back on (faces ks) weights.0 weights.1 (differ_along a h m (pos l)) near_back near_on in
-        let c = counted_legs a h back on (faces ks) weights.0 weights.1 r.1.1.0 in let s = shares_counted ks pieces in
-        let e = meaning a a back weights.0 clear_back near_back ∙ ap (λ (w : List ℤ). one (x w)) (r.0 clear_back a) in
-        let f = meaning a a on weights.1 clear_on near_on ∙ ap (λ (w : List ℤ). one (x w)) (r.1.0 clear_on a) in
-        change_is _ _ _ _ _ _ _ d c s e f
+        at_one outer.from (outer.holds outer.from (le_refl outer.from))
+      where
+        Near : ℕ → Type 0
+        Near m =
+            Eventually (λ l. AreClear (faces_of ts) (offset_by (back_at m) (pos l)) → (y : Axis) → vector y ts (offset_by (back_at m) (pos l)) ≡ u) ×
+            (Eventually (λ l. AreClear (faces_of ts) (offset_by (on_at m) (pos l)) → (y : Axis) → vector y ts (offset_by (on_at m) (pos l)) ≡ v) ×
+            (Eventually (λ l. AllByRecursion (λ f. Counts f a (offset_by (back_at m) (pos l)) (offset_by (on_at m) (pos l)) (count_at a h f)) (faces ks)) ×
+            ((pos 0 <ℤ (back_at m).w) × (pos 0 <ℤ (on_at m).w))))
+
+        at_one : (m : ℕ) → Near m → total share ks ≡ one (x u) -ℤ one (x v)
+        at_one m o =
+            let wb = o.1.1.1.0 in let wo = o.1.1.1.1 in
+            let inner = eventually_both o.0 (eventually_both o.1.0 (eventually_both o.1.1.0 (eventually_both
+            (eventually_both (weight_shifted (back_at m) wb) (weight_shifted (on_at m) wo))
+            (eventually_both (eventually_both (clear_shifted (back_at m) ts wb) (clear_shifted (on_at m) ts wo))
+            (eventually_both (near (back_at m) wb) (near (on_at m) wo)))))) in
+            let l = inner.from in let r = inner.holds l (le_refl l) in
+            let back = offset_by (back_at m) (pos l) in let on = offset_by (on_at m) (pos l) in
+            let cb = clear_faces back ts r.1.1.1.1.0.0 in let co = clear_faces on ts r.1.1.1.1.0.1 in
+            between_ends back on u v r.1.1.1.0.0 r.1.1.1.0.1 (differ_along a h m (pos l)) cb co r.1.1.1.1.1.0 r.1.1.1.1.1.1 r.1.1.0 (r.0 cb a) (r.1.0 co a)
 
     -- ---- which side is which
     abbrev k : Axis

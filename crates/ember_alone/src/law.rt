@@ -3,6 +3,7 @@ ghost use Rattle.std.specs.Prelude.{List};
 ghost use Rattle.ember_model.specs.declared.tri.Tri.{Tri};
 ghost use Rattle.ember_alone.specs.Values.{AreClosed, AloneHaveOneValue};
 ghost use Rattle.ember_alone.specs.Whole.{WholeFacesWindAlike};
+ghost use Rattle.ember_alone.specs.Neighbours.{NeighboursAgree};
 
 /// A triangle of closed meshes that no other one touches has one value on each of its sides: all
 /// parts of its face have the same winding numbers before and after them.
@@ -16,4 +17,11 @@ pub fn alone_triangles_have_one_value()
 /// it doesn't hold. These faces wind where the pieces do.
 pub fn whole_faces_wind_alike()
     ensures { (ts : List Tri) → AreClosed ts → WholeFacesWindAlike ts }
+{}
+
+/// Let no other triangle touch two triangles of closed meshes. Let an edge lead from one corner to
+/// another in the first, and back in the second, and let no third triangle with a face have both
+/// corners. Then the two have equal winding numbers behind them, and equal ones in front.
+pub fn neighbours_have_equal_values()
+    ensures { (ts : List Tri) → AreClosed ts → NeighboursAgree ts }
 {}
