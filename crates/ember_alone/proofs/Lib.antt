@@ -10,3 +10,4 @@ pub mod WholeFaces
 pub mod Frames
 pub mod CloseTo
 pub mod Neighbours
+pub mod Codes

@@ -6,7 +6,7 @@ ghost use Rattle.ember_model.specs.Limits.{broad_limit};
 ghost use Rattle.ember_model.specs.Meshes.{same_corner};
 ghost use Rattle.ember_model.specs.Owners.{spot_of_corner};
 ghost use Rattle.ember_model.specs.Planes.{support_of, value_at};
-ghost use Rattle.ember_model.specs.Within.{IsTriWithin};
+ghost use Rattle.ember_model.specs.Within.{IsCornerWithin, IsTriWithin};
 ghost use Rattle.ember_width.specs.Broad.{IsBroadPlane, most_floor};
 ghost use Rattle.ember_alone.specs.Parting.{has_corner, common_corners, is_beyond, are_beyond, lies_beyond};
 ghost use Rattle.ember_alone.specs.Parting.{is_parted, may_touch};
@@ -33,6 +33,8 @@ struct CornerValues {
 
 // Whether two corners are equal.
 fn is_same_corner(u: &Corner, v: &Corner) -> bool
+    requires one { IsCornerWithin broad_limit u.now }
+    requires other { IsCornerWithin broad_limit v.now }
     ensures { result ≡ same_corner u.now v.now }
 {
     u.x == v.x && (u.y == v.y && u.z == v.z)
@@ -40,6 +42,8 @@ fn is_same_corner(u: &Corner, v: &Corner) -> bool
 
 // Whether the corner is one of the triangle's.
 fn has_corner(t: &Tri, c: &Corner) -> bool
+    requires tri { IsTriWithin broad_limit t.now }
+    requires corner { IsCornerWithin broad_limit c.now }
     ensures { result ≡ has_corner t.now c.now }
 {
     is_same_corner(c, &t.a) || (is_same_corner(c, &t.b) || is_same_corner(c, &t.c))
@@ -47,6 +51,8 @@ fn has_corner(t: &Tri, c: &Corner) -> bool
 
 // Which corners of `u` are corners of `t` too.
 fn common_corners(t: &Tri, u: &Tri) -> CommonCorners
+    requires one { IsTriWithin broad_limit t.now }
+    requires other { IsTriWithin broad_limit u.now }
     ensures { result ≡ common_corners t.now u.now }
 {
     CommonCorners {
