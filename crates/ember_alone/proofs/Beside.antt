@@ -1,6 +1,6 @@
 -- Points beside a face: planes that keep other faces off the segment between two points keep them off the segments
 -- between points close to them.
-use Rattle.std.proofs.Common.{◌≡◌, ◌≢◌, ◌⊎◌, ⊎_elim, inl, inr, refl, sym, ap, subst, ◌∙◌, arith, ℕ, ◌+◌, zero, suc, Bool, true, false, not, cond, ◌&&◌, List, [], ◌∷◌, map, filter, Some, slice_get, ℤ, pos, negsuc, ◌+ℤ◌, ◌*ℤ◌, neg_ℤ, ◌<ℤ◌, ◌≤ℤ◌}
+use Rattle.std.proofs.Common.{◌≡◌, ◌⊎◌, ⊎_elim, refl, sym, ap, subst, ◌∙◌, arith, ℕ, zero, suc, Bool, true, false, not, cond, ◌&&◌, List, [], ◌∷◌, map, filter, Some, slice_get, ℤ, pos, ◌+ℤ◌, ◌*ℤ◌, neg_ℤ, ◌<ℤ◌, ◌≤ℤ◌}
 use Rattle.std.specs.List.{AllByRecursion}
 use Rattle.std.proofs.lemmas.Bool.{and_parts, false_from_ne_true}
 use borrow.Author.Differences.{ints}
@@ -22,7 +22,7 @@ use Rattle.ember_model.specs.ClearTest.{all_negative, none_positive}
 use Rattle.ember_model.specs.Meshes.{faces_of}
 use Rattle.ember_model.proofs.SignTests.{negative_in, negative_out, not_positive_in, positive_in, zero_scaled, zero_times, clash}
 use Rattle.ember_model.proofs.PlaneValues.{value_moved, value_scaled, value-opposite}
-use Rattle.ember_model.proofs.Hits.{inside_on, inside_parts, closed_on, closed_parts, closed_scaled, moved_weight}
+use Rattle.ember_model.proofs.Hits.{inside_on, inside_parts, closed_on, closed_parts, moved_weight}
 use Rattle.ember_law.specs.Laws.{MissesFace}
 use Rattle.ember_law.proofs.Separation.{Separates, combination, combination_value}
 use Rattle.ember_law.proofs.Shifted.{follows_shifted}

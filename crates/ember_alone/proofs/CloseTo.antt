@@ -1,17 +1,17 @@
 -- Points close to a point on an edge, and what is seen there.
-use Rattle.std.proofs.Common.{◌≡◌, ◌≢◌, ◌⊎◌, ⊎_elim, inl, inr, refl, sym, ap, ◌∙◌, arith, le_refl, ℕ, ◌+◌, ◌≤◌, true, false, List, Some, slice_get, ℤ, pos, ◌+ℤ◌, ◌*ℤ◌, ◌<ℤ◌, ◌≤ℤ◌}
+use Rattle.std.proofs.Common.{◌≡◌, ◌≢◌, inl, inr, sym, ◌∙◌, arith, le_refl, ℕ, ◌≤◌, true, false, List, Some, slice_get, ℤ, pos, ◌+ℤ◌, ◌*ℤ◌, ◌<ℤ◌, ◌≤ℤ◌}
 use Rattle.std.specs.List.{AllByRecursion}
 use Rattle.ember_algebra.specs.Large.{Eventually}
 use Rattle.ember_algebra.proofs.Laws.{linear}
 use Rattle.ember_algebra.proofs.Large.{eventually_both, eventually_map, eventually_pos}
 use Rattle.ember_algebra.proofs.Order.{by_sign}
-use Rattle.ember_algebra.proofs.Ring.{◌⊕◌, ◌⊗◌, ◌≈◌, num, solve, cancels}
+use Rattle.ember_algebra.proofs.Ring.{◌⊗◌, ◌≈◌, solve, cancels}
 use Rattle.ember_model.specs.declared.plane.Plane.{Plane}
 use Rattle.ember_model.specs.declared.point.Spot.{Spot}
 use Rattle.ember_model.specs.declared.point.Axis.{Axis}
 use Rattle.ember_model.specs.declared.face.Face.{Face}
 use Rattle.ember_model.specs.declared.tri.Tri.{Tri}
-use Rattle.ember_model.specs.Planes.{value_at, along, main_axis, support_of}
+use Rattle.ember_model.specs.Planes.{value_at, along, support_of}
 use Rattle.ember_model.specs.Points.{scaled, moved, plus_s, offset_by}
 use Rattle.ember_model.specs.Faces.{is_inside, is_in_closed, is_flat, face_of}
 use Rattle.ember_model.specs.Meshes.{faces_of, vector}

@@ -1,5 +1,5 @@
 -- What the code of the test computes is what its definitions say.
-use Rattle.std.proofs.Common.{◌≡◌, ⊎_elim, sym, ap, ◌∙◌, arith, Bool, true, false, not, ◌&&◌, ◌||◌, eqb, ℤ, pos, ◌-ℤ◌, neg_ℤ, to_z, of_z}
+use Rattle.std.proofs.Common.{◌≡◌, ⊎_elim, sym, ap, ◌∙◌, arith, Bool, ◌&&◌, eqb, ℤ, pos, ◌-ℤ◌, neg_ℤ, to_z, of_z}
 use mir.Syntax.{w32}
 use Rattle.std.proofs.lemmas.Bool.{cases_Bool, eqb-true, eqb-false, false_from_ne_true}
 use Rattle.ember_algebra.specs.Sign.{is_zero}

@@ -1,5 +1,5 @@
 -- A point inside a triangle lies in no corner and on no edge of it.
-use Rattle.std.proofs.Common.{◌≡◌, inl, inr, refl, sym, ap, ◌∙◌, arith, true, [], ◌∷◌, ℤ, pos, ◌*ℤ◌}
+use Rattle.std.proofs.Common.{◌≡◌, inl, inr, refl, sym, ap, ◌∙◌, arith, true, [], ◌∷◌, ℤ, pos}
 use Rattle.ember_algebra.specs.Sign.{sign}
 use Rattle.ember_algebra.specs.Vector.{Vector}
 use Rattle.ember_algebra.proofs.Laws.{linear}

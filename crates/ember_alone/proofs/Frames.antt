@@ -1,23 +1,20 @@
 -- The edge planes of a triangle at its corners, with any edge taken as the first.
-use Rattle.std.proofs.Common.{◌≡◌, ◌⊎◌, ⊎_elim, inl, inr, refl, sym, ap, ◌∙◌, arith, true, false, not, ◌&&◌, [], ◌∷◌, ℤ, pos, ◌+ℤ◌, ◌*ℤ◌, neg_ℤ, ◌<ℤ◌, ◌≤ℤ◌}
-use Rattle.ember_algebra.specs.Sign.{sign, is_negative}
+use Rattle.std.proofs.Common.{◌≡◌, ◌⊎◌, inl, inr, sym, ap, ◌∙◌, arith, true, false, ◌&&◌, [], ◌∷◌, ℤ, pos, ◌*ℤ◌, neg_ℤ, ◌<ℤ◌, ◌≤ℤ◌}
+use Rattle.ember_algebra.specs.Sign.{sign}
 use Rattle.ember_algebra.specs.Vector.{Vector, dot}
 use Rattle.ember_algebra.proofs.Laws.{linear}
-use Rattle.ember_algebra.proofs.Order.{mul_pos_neg, mul_le}
-use Rattle.ember_algebra.proofs.Ring.{◌⊗◌, ◌≈◌, num, neg, solve, cancels}
+use Rattle.ember_algebra.proofs.Ring.{◌⊗◌, ◌≈◌, neg, solve, cancels}
 use Rattle.ember_algebra.proofs.Vectors.{vector, identity, dotE, vector_partE, valueE}
 use Rattle.ember_model.specs.declared.point.Corner.{Corner}
 use Rattle.ember_model.specs.declared.point.Spot.{Spot}
 use Rattle.ember_model.specs.declared.plane.Plane.{Plane}
 use Rattle.ember_model.specs.declared.tri.Tri.{Tri}
 use Rattle.ember_model.specs.Planes.{vector_of, unit, value_at, along, main_axis, times_plane, support_of, edge_through}
-use Rattle.ember_model.specs.Points.{scaled, plus_s}
-use Rattle.ember_model.specs.Faces.{is_flat, is_inside, is_in_closed, face_of, edges_of}
+use Rattle.ember_model.specs.Faces.{is_flat, edges_of}
 use Rattle.ember_model.specs.ClearTest.{all_negative, none_positive}
 use Rattle.ember_model.specs.Owners.{spot_of_corner}
-use Rattle.ember_model.proofs.SignTests.{negative_in, not_positive_in, positive_in, size_positive}
-use Rattle.ember_model.proofs.PlaneValues.{value_scaled, value_plus, value_times, size-is, along_dot, cross_product, supportE, edgeE}
-use Rattle.ember_model.proofs.Hits.{inside_on, closed_on}
+use Rattle.ember_model.proofs.SignTests.{negative_in, not_positive_in, size_positive}
+use Rattle.ember_model.proofs.PlaneValues.{value_times, size-is, along_dot, cross_product, supportE, edgeE}
 use Rattle.ember_law.proofs.CornerSides.{main_entry}
 use Rattle.ember_alone.specs.Touch.{HasCorner}
 use Rattle.ember_alone.proofs.Common.{cornerE, zero_at_start, zero_at_end, edge_zero}

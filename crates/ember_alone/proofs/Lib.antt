@@ -9,5 +9,8 @@ pub mod Shares
 pub mod WholeFaces
 pub mod Frames
 pub mod CloseTo
+pub mod CommonEdges
+pub mod AroundEdges
+pub mod Ways
 pub mod Neighbours
 pub mod Codes

@@ -1,6 +1,6 @@
 -- A triangle that no other one touches has one value on each of its sides: between two points beside it, on one side,
 -- no face is met.
-use Rattle.std.proofs.Common.{◌≡◌, ◌≢◌, ⊎_elim, inl, inr, refl, sym, ap, subst, ◌∙◌, arith, le_refl, ℕ, ◌+◌, ◌*◌, ◌<◌, true, false, List, [], ◌∷◌, Some, slice_get, ℤ, pos, ◌*ℤ◌, neg_ℤ, ◌<ℤ◌, ◌≤ℤ◌}
+use Rattle.std.proofs.Common.{◌≡◌, ◌≢◌, ⊎_elim, inl, inr, refl, sym, ap, subst, ◌∙◌, arith, le_refl, ℕ, ◌+◌, ◌*◌, ◌<◌, true, false, List, [], ◌∷◌, Some, slice_get, ℤ, pos, ◌*ℤ◌, neg_ℤ, ◌<ℤ◌}
 use Rattle.std.specs.List.{AllByRecursion}
 use Rattle.std.proofs.lemmas.Bool.{cases_eq, false_from_ne_true}
 use Rattle.ember_algebra.specs.Large.{Eventually}
@@ -17,7 +17,7 @@ use Rattle.ember_model.specs.declared.tri.Tri.{Tri}
 use Rattle.ember_model.specs.Planes.{value_at, along, unit, main_axis, support_of, edge_through, times_plane}
 use Rattle.ember_model.specs.Points.{scaled, moved, offset_by}
 use Rattle.ember_model.specs.Faces.{is_inside, is_in_closed, is_flat, face_of, edges_of}
-use Rattle.ember_model.specs.Meshes.{faces_of, of_mesh, vector, IsBalanced}
+use Rattle.ember_model.specs.Meshes.{faces_of, vector}
 use Rattle.ember_model.specs.Clear.{AreClear}
 use Rattle.ember_model.specs.Sides.{HasWindings, IsSides}
 use Rattle.ember_model.proofs.SignTests.{clash, zero_times}
@@ -30,7 +30,7 @@ use Rattle.ember_law.proofs.Separation.{Separates, combination, missed_face_has_
 use Rattle.ember_law.proofs.Shifted.{weight_shifted}
 use Rattle.ember_law.proofs.Vectors.{balanced_segments}
 use Rattle.ember_law.proofs.CornerSides.{main_entry}
-use Rattle.ember_alone.specs.Touch.{Conform, IsAlone}
+use Rattle.ember_alone.specs.Touch.{IsAlone}
 use Rattle.ember_alone.specs.Values.{IsPart, HasOneValue, AreClosed, AloneHaveOneValue}
 use Rattle.ember_alone.proofs.Common.{inside_is_not_in_common}
 use Rattle.ember_alone.proofs.Beside.{inside_combination, inside_closed, separated_face_is_missed, weight_beside, separated_beside}
@@ -189,7 +189,7 @@ module _ (ts : List Tri) (balanced : AreClosed ts) (i : ℕ) (t : Tri) (here : s
       record {
         same = λ h b a part' sides'. let r = sides_of_part h b a part' sides' in (
           one_value r.at s.at r.inside s.inside k (neg_ℤ (pos 1)) (λ z. cc) (main_entry t full) r.bound s.bound b before r.sees_before s.sees_before,
-          one_value r.at s.at r.inside s.inside k (pos 1) (λ z. absurd (omega (arith, linear, z))) (main_entry t full) r.bound s.bound a after r.sees_after s.sees_after
+          one_value r.at s.at r.inside s.inside k (pos 1) (λ z. absurd (omega (arith, linear, z))) (main_entry t full) r.bound s.bound a after r.sees_after s.sees_after,
         );
       }
 

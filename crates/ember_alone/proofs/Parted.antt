@@ -1,6 +1,5 @@
 -- Triangles that a plane parts, but for common corners, conform.
-use Rattle.std.proofs.Common.{◌≡◌, ◌⊎◌, ⊎_elim, inl, inr, refl, sym, ap, ◌∙◌, arith, Bool, true, false, not, ◌&&◌, ◌||◌, List, [], ◌∷◌, ℤ, pos, ◌+ℤ◌, ◌*ℤ◌, neg_ℤ, ◌<ℤ◌, ◌≤ℤ◌}
-use Rattle.std.specs.List.{list_any}
+use Rattle.std.proofs.Common.{◌≡◌, ◌⊎◌, ⊎_elim, inl, inr, refl, ap, arith, Bool, true, false, not, ◌&&◌, ◌||◌, ℤ, pos, ◌+ℤ◌, ◌*ℤ◌, neg_ℤ, ◌<ℤ◌, ◌≤ℤ◌}
 use Rattle.std.proofs.lemmas.Bool.{and_parts, or_cases}
 use Rattle.ember_algebra.specs.Sign.{is_positive, is_zero}
 use Rattle.ember_algebra.proofs.Laws.{linear}
@@ -10,7 +9,7 @@ use Rattle.ember_model.specs.declared.point.Corner.{Corner}
 use Rattle.ember_model.specs.declared.point.Spot.{Spot}
 use Rattle.ember_model.specs.declared.plane.Plane.{Plane}
 use Rattle.ember_model.specs.declared.tri.Tri.{Tri}
-use Rattle.ember_model.specs.Planes.{value_at, support_of, opposite}
+use Rattle.ember_model.specs.Planes.{value_at, support_of}
 use Rattle.ember_model.specs.Faces.{is_flat, face_of, edges_of, is_in_closed}
 use Rattle.ember_model.specs.Meshes.{same_corner}
 use Rattle.ember_model.specs.Owners.{spot_of_corner}
@@ -19,11 +18,10 @@ use Rattle.ember_model.proofs.PlaneValues.{value-opposite}
 use Rattle.ember_model.proofs.SameEdges.{same_corner_out}
 use Rattle.ember_model.proofs.Hits.{closed_parts}
 use Rattle.ember_model.proofs.LastZero.{none_positive_member}
-use Rattle.ember_alone.specs.declared.touching.CommonCorners.{CommonCorners}
 use Rattle.ember_alone.specs.Touch.{HasCorner, IsCommonCorner, IsInCommon, Conform}
 use Rattle.ember_alone.specs.Parting.{has_corner, common_corners, is_beyond, lies_beyond, planes_of, is_parted, may_touch}
 use Rattle.ember_alone.proofs.Common.{conform_turned}
-use Rattle.ember_alone.proofs.Weights.{IsSum, sum_is_in_common, Weights, closed_has_weights}
+use Rattle.ember_alone.proofs.Weights.{sum_is_in_common, Weights, closed_has_weights}
 
 -- ---- one corner of u
 -- the test finds a corner of t

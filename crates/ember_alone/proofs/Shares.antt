@@ -1,6 +1,6 @@
 -- The parts of an alone triangle together are crossed as what separates its sides: where a ray passes through the
 -- triangle, the number of crossings is the change of the condition from one side to the other.
-use Rattle.std.proofs.Common.{◌≡◌, ◌≢◌, ◌⊎◌, ⊎_elim, inl, inr, refl, sym, ap, subst, ◌∙◌, arith, le_refl, ℕ, nat_eq, Bool, true, false, cond, ◌&&◌, List, [], ◌∷◌, map, Some, slice_get, ℤ, pos, negsuc, ◌+ℤ◌, ◌-ℤ◌, ◌*ℤ◌, neg_ℤ, ◌<ℤ◌, ◌≤ℤ◌}
+use Rattle.std.proofs.Common.{◌≡◌, ◌≢◌, ◌⊎◌, ⊎_elim, inl, inr, refl, sym, ap, subst, ◌∙◌, arith, le_refl, ℕ, nat_eq, Bool, true, false, cond, ◌&&◌, List, [], ◌∷◌, Some, slice_get, ℤ, pos, negsuc, ◌+ℤ◌, ◌-ℤ◌, ◌*ℤ◌, neg_ℤ, ◌<ℤ◌, ◌≤ℤ◌}
 use Rattle.std.specs.List.{AllByRecursion}
 use Rattle.std.proofs.lemmas.Bool.{cases_Bool, cases_eq, eqb-true, eq-eqb, ne_eqb, false_from_ne_true}
 use Rattle.ember_algebra.specs.Large.{Eventually}
@@ -23,7 +23,6 @@ use Rattle.ember_model.specs.Clear.{IsClear, AreClear}
 use Rattle.ember_model.specs.Sides.{IsSides}
 use Rattle.ember_model.proofs.SignTests.{negative_out, positive_in, positive_out, zero_scaled, zero_times, size_positive, clash, and_false}
 use Rattle.ember_model.proofs.Hits.{inside_parts, slope_nonzero}
-use Rattle.ember_law.specs.Counts.{leg_wind}
 use Rattle.ember_law.proofs.CornerSides.{main_entry}
 use Rattle.ember_law.proofs.GenericClear.{clear_shifted, clear_faces}
 use Rattle.ember_law.proofs.Paths.{along_itself}

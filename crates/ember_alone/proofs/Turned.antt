@@ -1,5 +1,5 @@
 -- A flipped face, and the hit with the opposite plane.
-use Rattle.std.proofs.Common.{◌≡◌, refl, sym, ap, ◌∙◌, arith, Bool, true, false, cond, ◌&&◌, ℤ, pos, ◌*ℤ◌, neg_ℤ, unsigned_abs}
+use Rattle.std.proofs.Common.{◌≡◌, refl, ap, ◌∙◌, Bool, true, false, cond, ◌&&◌, ℤ, pos, ◌*ℤ◌, neg_ℤ}
 use Rattle.std.specs.List.{list_all}
 use Rattle.ember_algebra.specs.Sign.{sign, is_negative, is_zero, is_positive}
 use Rattle.ember_algebra.proofs.Numbers.{unsigned_abs-neg}

@@ -1,5 +1,5 @@
 -- A point of a triangle's closed face is a sum of the corners with weights that aren't negative.
-use Rattle.std.proofs.Common.{◌≡◌, ◌⊎◌, inl, inr, refl, sym, ap, ◌∙◌, arith, true, false, not, [], ◌∷◌, ℤ, pos, negsuc, ◌+ℤ◌, ◌*ℤ◌, neg_ℤ, ◌<ℤ◌, ◌≤ℤ◌}
+use Rattle.std.proofs.Common.{◌≡◌, ◌⊎◌, inl, inr, sym, ap, ◌∙◌, arith, true, false, not, [], ◌∷◌, ℤ, pos, negsuc, ◌+ℤ◌, ◌*ℤ◌, neg_ℤ, ◌<ℤ◌, ◌≤ℤ◌}
 use Rattle.std.proofs.lemmas.Bool.{and_parts}
 use Rattle.ember_algebra.specs.Sign.{sign, is_positive}
 use Rattle.ember_algebra.proofs.Laws.{linear}

@@ -1,9 +1,9 @@
 -- Whole triangles in place of their pieces wind as the pieces do.
-use Rattle.std.proofs.Common.{◌≡◌, refl, sym, ap, subst, ◌∙◌, arith, le_refl, ℕ, nat_eq, Bool, true, false, not, cond, ◌||◌, List, [], ◌∷◌, ◌++◌, map, filter, ℤ, pos, ◌+ℤ◌, ◌<ℤ◌}
+use Rattle.std.proofs.Common.{◌≡◌, refl, sym, ap, ◌∙◌, arith, le_refl, ℕ, nat_eq, Bool, true, false, not, cond, ◌||◌, List, [], ◌∷◌, ◌++◌, map, ℤ, pos, ◌+ℤ◌, ◌<ℤ◌}
 use Rattle.std.specs.List.{AllByRecursion, IsDistinct, list_any}
-use Rattle.std.proofs.lemmas.Bool.{cases_Bool, eqb-true}
+use Rattle.std.proofs.lemmas.Bool.{eqb-true}
 use Rattle.ember_algebra.specs.Large.{Eventually}
-use Rattle.ember_algebra.specs.Relations.{Each, none, more}
+use Rattle.ember_algebra.specs.Relations.{none, more}
 use Rattle.ember_algebra.specs.Sums.{total}
 use Rattle.ember_algebra.proofs.Laws.{linear}
 use Rattle.ember_algebra.proofs.Large.{eventually_both, eventually_map}
@@ -22,7 +22,7 @@ use Rattle.ember_law.proofs.Shifted.{weight_shifted}
 use Rattle.ember_law.proofs.Vectors.{of_mesh_all}
 use Rattle.ember_alone.specs.Values.{AreClosed}
 use Rattle.ember_alone.specs.Whole.{WindWhere, AreMissedNearby, Piece, IsPieceOf, faces, without, StaysWhole, StayWhole, WholeFacesWindAlike}
-use Rattle.ember_alone.proofs.Shares.{share, one, shares_are_whole}
+use Rattle.ember_alone.proofs.Shares.{one, shares_are_whole}
 
 -- points directly beside a clear point have its vector
 vector_shifted : (a : Axis) (ts : List Tri) (p : Spot) → pos 0 <ℤ p.w → AreClear (faces_of ts) p → Eventually (λ k. vector a ts p ≡ vector a ts (offset_by p (pos k)))

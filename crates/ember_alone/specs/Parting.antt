@@ -11,10 +11,11 @@ use Rattle.ember_model.specs.Meshes.{same_corner}
 use Rattle.ember_model.specs.Owners.{spot_of_corner}
 use Rattle.ember_alone.specs.declared.touching.CommonCorners.{CommonCorners}
 
--- which corners of u the triangle t has too
+-- c is a corner of the triangle
 abbrev pub has_corner : Tri → Corner → Bool
 has_corner t c = same_corner c t.a || (same_corner c t.b || same_corner c t.c)
 
+-- which corners of u are corners of t too
 abbrev pub common_corners : Tri → Tri → CommonCorners
 common_corners t u = record { a = has_corner t u.a; b = has_corner t u.b; c = has_corner t u.c }
 
@@ -22,15 +23,20 @@ common_corners t u = record { a = has_corner t u.a; b = has_corner t u.b; c = ha
 abbrev pub is_beyond : ℤ → Bool → Bool
 is_beyond value common = is_positive value || (is_zero value && common)
 
--- corners with these values do so, and one of them lies in front
+-- some corner with one of these values lies in front
+abbrev pub is_some_in_front : ℤ → ℤ → ℤ → Bool
+is_some_in_front a b c = is_positive a || (is_positive b || is_positive c)
+
+-- three corners with these values lie beyond the plane: each in front, or on it and common, and some in front
 abbrev pub are_beyond : ℤ → ℤ → ℤ → CommonCorners → Bool
 are_beyond a b c common =
-    (is_beyond a common.a && (is_beyond b common.b && is_beyond c common.c)) && (is_positive a || (is_positive b || is_positive c))
+    (is_beyond a common.a && (is_beyond b common.b && is_beyond c common.c)) && is_some_in_front a b c
 
--- u lies beyond the plane, but for common corners
+-- u lies beyond the plane
 abbrev pub lies_beyond : Plane → Tri → CommonCorners → Bool
 lies_beyond p u common =
-    are_beyond (value_at p (spot_of_corner u.a)) (value_at p (spot_of_corner u.b)) (value_at p (spot_of_corner u.c)) common
+    are_beyond (value_at p (spot_of_corner u.a)) (value_at p (spot_of_corner u.b)) (value_at p (spot_of_corner u.c))
+    common
 
 -- planes that have no point of t's closed face in front
 abbrev pub planes_of : Tri → List Plane

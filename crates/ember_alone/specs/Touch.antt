@@ -17,8 +17,8 @@ pub record IsCommonCorner (t u : Tri) (c : Corner) : Type 0 where
   pub first : HasCorner t c
   pub second : HasCorner u c
 
--- p lies between two corners, which may be one: some positive multiple of p is a sum of the corners with weights
--- that aren't negative
+-- p lies on the segment between two corners, which may be one: some positive multiple of p is a sum of the corners
+-- with weights that aren't negative
 pub record IsOnSegment (u v : Corner) (p : Spot) : Type 0 where
   pub factor : ℤ
   pub of_u : ℤ
@@ -37,8 +37,8 @@ pub record IsInCommon (t u : Tri) (p : Spot) : Type 0 where
   pub on : IsOnSegment from to p
 
 -- ---- triangles that touch
--- all points that the closed faces share are in a common corner or on a common edge: the triangles conform. Otherwise
--- they touch. A flat triangle has no face, so it touches none
+-- the triangles conform: all points that their closed faces share are in a common corner or on a common edge.
+-- Otherwise they touch. A flat triangle has no face, so it touches none
 pub record Conform (t u : Tri) : Type 0 where
   pub common : is_flat t ≡ false → is_flat u ≡ false → (p : Spot) → is_in_closed (face_of t) p ≡ true →
       is_in_closed (face_of u) p ≡ true → IsInCommon t u p

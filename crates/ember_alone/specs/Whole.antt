@@ -1,5 +1,6 @@
 -- Triangles that stay whole, in place of the parts of their faces
-use Rattle.std.specs.Prelude.{◌≡◌, ◌⊎◌, ℕ, nat_eq, ℤ, pos, ◌<ℤ◌, Bool, true, false, not, cond, if◌then◌else◌, List, [], ◌∷◌, ◌++◌, map, filter, Some, slice_get}
+use Rattle.std.specs.Prelude.{◌≡◌, ◌⊎◌, ℕ, nat_eq, ℤ, pos, ◌<ℤ◌, Bool, true, false, not, cond, if◌then◌else◌}
+use Rattle.std.specs.Prelude.{List, [], ◌∷◌, ◌++◌, map, filter, Some, slice_get}
 use Rattle.std.specs.List.{AllByRecursion, IsDistinct, list_any}
 use Rattle.ember_algebra.specs.Large.{Eventually}
 use Rattle.ember_algebra.specs.Relations.{Each}
@@ -18,8 +19,9 @@ use Rattle.ember_alone.specs.Touch.{IsAlone}
 use Rattle.ember_alone.specs.Values.{IsPart}
 
 -- ---- faces that wind where a condition holds
--- at each clear point and for all axes: the faces wind once around it if the condition holds of the winding numbers of
--- the meshes there, and otherwise not at all. For the condition of an expression this is `HaveMeaning` of ember_meaning
+-- at each clear point and for all axes: the faces wind once around it if the condition holds of the winding numbers
+-- of the meshes there, and otherwise not at all. For the condition of an expression this is `HaveMeaning` of
+-- ember_meaning
 abbrev pub WindWhere : List Tri → (List ℤ → Bool) → List Face → Type 0
 WindWhere ts x fs =
     (a b : Axis) (p : Spot) → pos 0 <ℤ p.w → AreClear (faces_of ts) p → AreClear fs p →
@@ -66,8 +68,8 @@ separating true false f = f ∷ []
 separating false true f = flipped_face f ∷ []
 separating false false f = []
 
--- the triangle with the index i is alone, and fs is what separates its sides. The winding numbers there are those of any
--- part of its face
+-- the triangle with the index i is alone, and fs is what separates its sides. The winding numbers there are those of
+-- any part of its face
 pub record StaysWhole (ts : List Tri) (x : List ℤ → Bool) (i : ℕ) (fs : List Face) : Type 0 where
   pub tri : Tri
   pub here : slice_get ts i ≡ Some tri
@@ -84,10 +86,10 @@ pub record StaysWhole (ts : List Tri) (x : List ℤ → Bool) (i : ℕ) (fs : Li
 abbrev pub StayWhole : List Tri → (List ℤ → Bool) → List ℕ → List Face → Type 0
 StayWhole ts x listed fs = Each (StaysWhole ts x) listed fs
 
--- pieces of a list of closed meshes wind where a condition holds. Then so do the whole triangles that are listed and the
+-- let pieces of the triangles wind where a condition holds. Then so do the listed triangles, whole, together with the
 -- pieces of all others
 abbrev pub WholeFacesWindAlike : List Tri → Type 0
 WholeFacesWindAlike ts =
-    (x : List ℤ → Bool) (ks : List Piece) (listed : List ℕ) (fs : List Face) → AllByRecursion (IsPieceOf ts) ks →
-    AreMissedNearby (faces ks) → WindWhere ts x (faces ks) → IsDistinct nat_eq listed → StayWhole ts x listed fs →
-    WindWhere ts x (fs ++ faces (without listed ks))
+    (x : List ℤ → Bool) (ks : List Piece) (listed : List ℕ) (fs : List Face) →
+    AllByRecursion (IsPieceOf ts) ks → AreMissedNearby (faces ks) → WindWhere ts x (faces ks) →
+    IsDistinct nat_eq listed → StayWhole ts x listed fs → WindWhere ts x (fs ++ faces (without listed ks))

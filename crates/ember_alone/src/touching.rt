@@ -119,7 +119,11 @@ fn main_edges(t: &Tri, support: &Plane) -> [Plane; 3]
     ensures broad { All IsBroadPlane result }
 {
     let k = main_axis(support);
-    [edge_plane(t, 0, k), edge_plane(t, 1, k), edge_plane(t, 2, k)]
+    [
+        edge_plane(t, 0, k),
+        edge_plane(t, 1, k),
+        edge_plane(t, 2, k),
+    ]
 }
 
 // Whether the triangle lies beyond one of the planes, but for common corners.
@@ -146,8 +150,7 @@ fn is_parted(t: &Tri, support: &Plane, u: &Tri) -> bool
     let common = common_corners(t, u);
     let values = values_at(support, u);
     values.are_beyond(&common)
-        || (values.are_behind(&common)
-            || lies_beyond_some(&main_edges(t, support), u, &common))
+        || (values.are_behind(&common) || lies_beyond_some(&main_edges(t, support), u, &common))
 }
 
 /// Whether two triangles may touch. If not, they conform: their closed faces share no points but
