@@ -29,7 +29,7 @@ use Rattle.ember_law.proofs.Paths.{along_itself}
 use Rattle.ember_law.proofs.Shifted.{weight_shifted}
 use Rattle.ember_alone.specs.Touch.{IsAlone}
 use Rattle.ember_alone.specs.Values.{AreClosed, IsPart}
-use Rattle.ember_alone.specs.Whole.{WindWhere, AreMissedNearby, Piece, IsPieceOf, faces, behind, in_front, separating}
+use Rattle.ember_alone.specs.Whole.{WindWhere, AreMissedNearby, Fragment, IsFragmentOf, faces, behind, in_front, separating}
 use Rattle.ember_alone.proofs.Beside.{inside_closed, weight_beside, OneSign, faces_member}
 use Rattle.ember_alone.proofs.OneValue.{SidesAt, others_are_off, shifted_points_see, sides_of_part}
 use Rattle.ember_alone.proofs.Short.{Counts, count_at, counted_legs, IsOffBoundary, short_segments_count}
@@ -76,10 +76,10 @@ separating_winds f a p s true false c = omega (arith, linear, c)
 separating_winds f a p s false true c = let t = crossing-flipped f a p in omega (arith, linear, c, t)
 separating_winds f a p s false false c = let e : s *ℤ (pos 0 -ℤ pos 0) ≡ pos 0 = omega (arith, linear) in sym e
 
--- ---- a triangle that is alone, the sides of a part of it, and pieces that wind where a condition holds
+-- ---- a triangle that is alone, the sides of a part of it, and fragments that wind where a condition holds
 module _ (ts : List Tri) (balanced : AreClosed ts) (i : ℕ) (t : Tri) (here : slice_get ts i ≡ Some t) (alone : IsAlone ts i)
     (full : is_flat t ≡ false) (x : List ℤ → Bool) (part : Face) (is_part : IsPart (face_of t) part) (before after : List ℤ)
-    (sides : IsSides ts part before after) (ks : List Piece) (pieces : AllByRecursion (IsPieceOf ts) ks)
+    (sides : IsSides ts part before after) (ks : List Fragment) (fragments : AllByRecursion (IsFragmentOf ts) ks)
     (near : AreMissedNearby (faces ks)) (meaning : WindWhere ts x (faces ks)) (a : Axis) (p : Spot) (weight : pos 0 <ℤ p.w)
     (clear : AreClear (faces_of ts) p) where
   abbrev n : Plane
@@ -91,12 +91,12 @@ module _ (ts : List Tri) (balanced : AreClosed ts) (i : ℕ) (t : Tri) (here : s
   abbrev leads_to : Bool
   leads_to = is_negative (value_at n p *ℤ along n a)
 
-  -- the crossing of a piece of t, and nothing of the others
-  abbrev pub share : Piece → ℤ
+  -- the crossing of a fragment of t, and nothing of the others
+  abbrev pub share : Fragment → ℤ
   share k = cond (nat_eq k.triangle i) (crossing k.face a p) (pos 0)
 
-  -- ---- pieces of t
-  of_t : (k : Piece) → IsPieceOf ts k → nat_eq k.triangle i ≡ true →
+  -- ---- fragments of t
+  of_t : (k : Fragment) → IsFragmentOf ts k → nat_eq k.triangle i ≡ true →
       ((k.face.support ≡ n) ⊎ (k.face.support ≡ opposite n)) × ((v : Spot) → is_in_closed k.face v ≡ true → is_in_closed (face_of t) v ≡ true)
   of_t k r e =
       subst (λ (u : Tri). ((k.face.support ≡ support_of u) ⊎ (k.face.support ≡ opposite (support_of u))) ×
@@ -141,7 +141,7 @@ module _ (ts : List Tri) (balanced : AreClosed ts) (i : ℕ) (t : Tri) (here : s
         by (inl e) = let o = outside e in own_crossing f s ∙ (λ j. cond (e j && o j) (sign (along f.support a)) (pos 0))
         by (inr e) = own_crossing f s ∙ ap (λ (b : Bool). cond (b && is_inside f h) (sign (along f.support a)) (pos 0)) e
 
-    no_share : (k : Piece) → IsPieceOf ts k → share k ≡ pos 0
+    no_share : (k : Fragment) → IsFragmentOf ts k → share k ≡ pos 0
     no_share k r = by (cases_Bool (nat_eq k.triangle i))
       where
         by : (nat_eq k.triangle i ≡ true) ⊎ (nat_eq k.triangle i ≡ false) → share k ≡ pos 0
@@ -150,7 +150,7 @@ module _ (ts : List Tri) (balanced : AreClosed ts) (i : ℕ) (t : Tri) (here : s
             ap (λ (b : Bool). cond b (crossing k.face a p) (pos 0)) e ∙ passes_by k.face o.0 o.1
         by (inr e) = ap (λ (b : Bool). cond b (crossing k.face a p) (pos 0)) e
 
-    no_shares : (gs : List Piece) → AllByRecursion (IsPieceOf ts) gs → total share gs ≡ pos 0
+    no_shares : (gs : List Fragment) → AllByRecursion (IsFragmentOf ts) gs → total share gs ≡ pos 0
     no_shares [] r = refl
     no_shares (k ∷ gs) r = let u = no_share k r.0 in let v = no_shares gs r.1 in omega (arith, linear, u, v)
 
@@ -159,10 +159,10 @@ module _ (ts : List Tri) (balanced : AreClosed ts) (i : ℕ) (t : Tri) (here : s
         let c = tri_crossing ∙ ap (λ (b : Bool). cond b (sign (along n a)) (pos 0)) missed in
         let back = x (behind part before after) in let front = x (in_front part before after) in
         let e = separating_winds (face_of t) a p (pos 0) back front c in let o = zero_times (pos 0) (one back -ℤ one front) refl in
-        no_shares ks pieces ∙ sym (e ∙ o)
+        no_shares ks fragments ∙ sym (e ∙ o)
 
   -- ---- a ray that passes through t
-  module _ (clear_pieces : AreClear (faces ks) p) (leads : leads_to ≡ true) (inside : is_inside (face_of t) h ≡ true) where
+  module _ (clear_fragments : AreClear (faces ks) p) (leads : leads_to ≡ true) (inside : is_inside (face_of t) h ≡ true) where
     slope : along n a ≢ pos 0
     slope = slope_nonzero (value_at n p) (along n a) leads
 
@@ -173,8 +173,8 @@ module _ (ts : List Tri) (balanced : AreClosed ts) (i : ℕ) (t : Tri) (here : s
     along_own f (inl e) z = slope (sym (ap (λ (m : Plane). along m a) e) ∙ z)
     along_own f (inr e) z = let o = along-opposite a n in let d = sym (ap (λ (m : Plane). along m a) e) ∙ z in slope (omega (arith, linear, o, d))
 
-    -- an own piece is clear, and no other one has a point here
-    off_boundary : (k : Piece) → IsPieceOf ts k → IsClear k.face p → IsOffBoundary a h k.face
+    -- an own fragment is clear, and no other one has a point here
+    off_boundary : (k : Fragment) → IsFragmentOf ts k → IsClear k.face p → IsOffBoundary a h k.face
     off_boundary k r c = by (cases_eq k.triangle i)
       where
         away : k.triangle ≢ i → is_in_closed k.face h ≡ true → ⊥
@@ -190,12 +190,12 @@ module _ (ts : List Tri) (balanced : AreClosed ts) (i : ℕ) (t : Tri) (here : s
         by (inr ne) =
             record { strict = λ o. absurd (away ne o); slope = λ o. absurd (away ne (inside_closed k.face h o)) }
 
-    all_off : (gs : List Piece) → AllByRecursion (IsPieceOf ts) gs → AreClear (faces gs) p → AllByRecursion (IsOffBoundary a h) (faces gs)
+    all_off : (gs : List Fragment) → AllByRecursion (IsFragmentOf ts) gs → AreClear (faces gs) p → AllByRecursion (IsOffBoundary a h) (faces gs)
     all_off [] r c = tt
     all_off (k ∷ gs) r c = (off_boundary k r.0 c.0, all_off gs r.1 c.1)
 
     -- a share is what a short segment through the hit counts
-    share_counted : (k : Piece) → IsPieceOf ts k → count_at a h k.face ≡ share k
+    share_counted : (k : Fragment) → IsFragmentOf ts k → count_at a h k.face ≡ share k
     share_counted k r = by (cases_eq k.triangle i)
       where
         by : (k.triangle ≡ i) ⊎ (k.triangle ≢ i) → count_at a h k.face ≡ share k
@@ -209,7 +209,7 @@ module _ (ts : List Tri) (balanced : AreClosed ts) (i : ℕ) (t : Tri) (here : s
             ap (λ (b : Bool). cond b (sign (along k.face.support a)) (pos 0)) o
             ∙ sym (ap (λ (b : Bool). cond b (crossing k.face a p) (pos 0)) (ne_eqb k.triangle i ne))
 
-    shares_counted : (gs : List Piece) → AllByRecursion (IsPieceOf ts) gs → total (count_at a h) (faces gs) ≡ total share gs
+    shares_counted : (gs : List Fragment) → AllByRecursion (IsFragmentOf ts) gs → total (count_at a h) (faces gs) ≡ total share gs
     shares_counted [] r = refl
     shares_counted (k ∷ gs) r = let u = share_counted k r.0 in let v = shares_counted gs r.1 in λ j. u j +ℤ v j
 
@@ -231,13 +231,13 @@ module _ (ts : List Tri) (balanced : AreClosed ts) (i : ℕ) (t : Tri) (here : s
         total share ks ≡ one (x u) -ℤ one (x v)
     between_ends back on u v wb wo d cb co kb ko c eu ev =
         change_is _ _ _ _ _ _ _ (along_itself a back on (faces ks) wb wo d kb ko) (counted_legs a h back on (faces ks) wb wo c)
-        (shares_counted ks pieces) (meaning a a back wb cb kb ∙ ap (λ (w : List ℤ). one (x w)) eu)
+        (shares_counted ks fragments) (meaning a a back wb cb kb ∙ ap (λ (w : List ℤ). one (x w)) eu)
         (meaning a a on wo co ko ∙ ap (λ (w : List ℤ). one (x w)) ev)
 
     jump : (u v : List ℤ) → See back_at u → See on_at v → total share ks ≡ one (x u) -ℤ one (x v)
     jump u v see_back see_on =
         let outer = eventually_both see_back (eventually_both see_on (eventually_both
-        (short_segments_count a h (faces ks) hit_weight (all_off ks pieces clear_pieces))
+        (short_segments_count a h (faces ks) hit_weight (all_off ks fragments clear_fragments))
         (eventually_both (weight_beside h a (negsuc 0) hit_weight) (weight_beside h a (pos 1) hit_weight)))) in
         at_one outer.from (outer.holds outer.from (le_refl outer.from))
       where
@@ -320,7 +320,7 @@ module _ (ts : List Tri) (balanced : AreClosed ts) (i : ℕ) (t : Tri) (here : s
 
   -- whether or not the ray passes through t
   pub shares_are_whole : AreClear (faces ks) p → total share ks ≡ wind a (separating (x (behind part before after)) (x (in_front part before after)) (face_of t)) p
-  shares_are_whole clear_pieces =
-      ⊎_elim (λ l. ⊎_elim (λ o. shares_through clear_pieces l o)
+  shares_are_whole clear_fragments =
+      ⊎_elim (λ l. ⊎_elim (λ o. shares_through clear_fragments l o)
       (λ o. shares_beside (ap (λ (b : Bool). leads_to && b) o ∙ and_false leads_to false refl)) (cases_Bool (is_inside (face_of t) h)))
       (λ l. shares_beside (ap (λ (b : Bool). b && is_inside (face_of t) h) l)) (cases_Bool leads_to)

@@ -1,4 +1,4 @@
--- Whole triangles in place of their pieces wind as the pieces do.
+-- Whole triangles in place of their fragments wind as the fragments do.
 use Rattle.std.proofs.Common.{◌≡◌, refl, sym, ap, ◌∙◌, arith, le_refl, ℕ, nat_eq, Bool, true, false, not, cond, ◌||◌, List, [], ◌∷◌, ◌++◌, map, ℤ, pos, ◌+ℤ◌, ◌<ℤ◌}
 use Rattle.std.specs.List.{AllByRecursion, IsDistinct, list_any}
 use Rattle.std.proofs.lemmas.Bool.{eqb-true}
@@ -21,7 +21,7 @@ use Rattle.ember_law.proofs.GenericClear.{clear_shifted, clear_faces}
 use Rattle.ember_law.proofs.Shifted.{weight_shifted}
 use Rattle.ember_law.proofs.Vectors.{of_mesh_all}
 use Rattle.ember_alone.specs.Values.{AreClosed}
-use Rattle.ember_alone.specs.Whole.{WindWhere, AreMissedNearby, Piece, IsPieceOf, faces, without, StaysWhole, StayWhole, WholeFacesWindAlike}
+use Rattle.ember_alone.specs.Whole.{WindWhere, AreMissedNearby, Fragment, IsFragmentOf, faces, without, StaysWhole, StayWhole, WholeFacesWindAlike}
 use Rattle.ember_alone.proofs.Shares.{one, shares_are_whole}
 
 -- points directly beside a clear point have its vector
@@ -36,11 +36,11 @@ vector_shifted a ts p w c = each meshes
         (eventually_both (wind_shifted a p (faces_of (of_mesh m ts)) w (of_mesh_all (λ f. IsClear f p) m ts c)) (each ms))
 
 -- ---- sums over listed triangles
-abbrev is_listed : List ℕ → Piece → Bool
+abbrev is_listed : List ℕ → Fragment → Bool
 is_listed listed k = list_any (nat_eq k.triangle) listed
 
--- the values at the pieces of listed triangles
-abbrev listed_value : (Piece → ℤ) → List ℕ → Piece → ℤ
+-- the values at the fragments of listed triangles
+abbrev listed_value : (Fragment → ℤ) → List ℕ → Fragment → ℤ
 listed_value g listed k = cond (is_listed listed k) (g k) (pos 0)
 
 not_listed : (i : ℕ) (listed : List ℕ) (j : ℕ) → j ≡ i → AllByRecursion (λ y. nat_eq i y ≡ false) listed → list_any (nat_eq j) listed ≡ false
@@ -49,7 +49,7 @@ not_listed i (y ∷ ys) j e d =
     let f = ap (λ (z : ℕ). nat_eq z y) e ∙ d.0 in let r = not_listed i ys j e d.1 in λ l. f l || r l
 
 -- of distinct triangles, the first counts, and then the others
-one_more : (g : Piece → ℤ) (i : ℕ) (listed : List ℕ) → AllByRecursion (λ y. nat_eq i y ≡ false) listed → (k : Piece) →
+one_more : (g : Fragment → ℤ) (i : ℕ) (listed : List ℕ) → AllByRecursion (λ y. nat_eq i y ≡ false) listed → (k : Fragment) →
     cond (nat_eq k.triangle i) (g k) (pos 0) +ℤ listed_value g listed k ≡ listed_value g (i ∷ listed) k
 one_more g i listed d k = by (nat_eq k.triangle i) refl
   where
@@ -58,29 +58,29 @@ one_more g i listed d k = by (nat_eq k.triangle i) refl
         let n = ap (λ (c : Bool). cond c (g k) (pos 0)) (not_listed i listed k.triangle (eqb-true k.triangle i e) d) in omega (arith, linear, n)
     by false e = omega (arith, linear)
 
--- listed pieces and the others
-split : (g : Piece → ℤ) (listed : List ℕ) (ks : List Piece) →
+-- listed fragments and the others
+split : (g : Fragment → ℤ) (listed : List ℕ) (ks : List Fragment) →
     total (listed_value g listed) ks +ℤ total (λ k. cond (not (is_listed listed k)) (g k) (pos 0)) ks ≡ total g ks
 split g listed ks =
     sym (total-add (listed_value g listed) (λ k. cond (not (is_listed listed k)) (g k) (pos 0)) ks)
     ∙ total_same (λ k. listed_value g listed k +ℤ cond (not (is_listed listed k)) (g k) (pos 0)) g (λ k. by k (is_listed listed k)) ks
   where
-    by : (k : Piece) (b : Bool) → cond b (g k) (pos 0) +ℤ cond (not b) (g k) (pos 0) ≡ g k
+    by : (k : Fragment) (b : Bool) → cond b (g k) (pos 0) +ℤ cond (not b) (g k) (pos 0) ≡ g k
     by k true = omega (arith, linear)
     by k false = omega (arith, linear)
 
--- ---- pieces of closed meshes that wind where a condition holds
-module _ (ts : List Tri) (balanced : AreClosed ts) (x : List ℤ → Bool) (ks : List Piece) (pieces : AllByRecursion (IsPieceOf ts) ks)
+-- ---- fragments of closed meshes that wind where a condition holds
+module _ (ts : List Tri) (balanced : AreClosed ts) (x : List ℤ → Bool) (ks : List Fragment) (fragments : AllByRecursion (IsFragmentOf ts) ks)
     (near : AreMissedNearby (faces ks)) (meaning : WindWhere ts x (faces ks)) where
-  -- what separates the sides of listed triangles is crossed as their pieces
-  module _ (a : Axis) (p : Spot) (weight : pos 0 <ℤ p.w) (clear : AreClear (faces_of ts) p) (clear_pieces : AreClear (faces ks) p) where
-    abbrev crossed : Piece → ℤ
+  -- what separates the sides of listed triangles is crossed as their fragments
+  module _ (a : Axis) (p : Spot) (weight : pos 0 <ℤ p.w) (clear : AreClear (faces_of ts) p) (clear_fragments : AreClear (faces ks) p) where
+    abbrev crossed : Fragment → ℤ
     crossed k = crossing k.face a p
 
     one_whole : (i : ℕ) (fs : List Face) → StaysWhole ts x i fs → wind a fs p ≡ total (λ k. cond (nat_eq k.triangle i) (crossed k) (pos 0)) ks
     one_whole i fs s =
         ap (λ gs. wind a gs p) s.is
-        ∙ sym (shares_are_whole ts balanced i s.tri s.here s.alone s.full x s.part s.is_part s.before s.after s.sides ks pieces near meaning a p weight clear clear_pieces)
+        ∙ sym (shares_are_whole ts balanced i s.tri s.here s.alone s.full x s.part s.is_part s.before s.after s.sides ks fragments near meaning a p weight clear clear_fragments)
 
     all_whole : {listed : List ℕ} {fs : List Face} → StayWhole ts x listed fs → IsDistinct nat_eq listed → wind a fs p ≡ total (listed_value crossed listed) ks
     unfolding IsDistinct
@@ -103,7 +103,7 @@ module _ (ts : List Tri) (balanced : AreClosed ts) (x : List ℤ → Bool) (ks :
         ∙ (let u = all_whole s d in let v = rest_winds listed in λ j. u j +ℤ v j)
         ∙ split crossed listed ks ∙ sym (total-map (λ f. crossing f a p) (λ k. k.face) ks)
 
-  -- whole triangles and the pieces of the others
+  -- whole triangles and the fragments of the others
   wind_where : (listed : List ℕ) (fs : List Face) → IsDistinct nat_eq listed → StayWhole ts x listed fs → WindWhere ts x (fs ++ faces (without listed ks))
   wind_where listed fs d s a b p weight clear clear_new =
       let all = fs ++ faces (without listed ks) in
@@ -113,6 +113,6 @@ module _ (ts : List Tri) (balanced : AreClosed ts) (x : List ℤ → Bool) (ks :
       h.1.1.1.0 ∙ winds_alike a q h.0 c h.1.1.0 listed fs s d ∙ meaning a b q h.0 c h.1.1.0
       ∙ ap (λ (v : List ℤ). one (x v)) (sym h.1.1.1.1)
 
--- whole triangles wind where their pieces do
+-- whole triangles wind where their fragments do
 pub whole_faces_wind_alike : (ts : List Tri) → AreClosed ts → WholeFacesWindAlike ts
-whole_faces_wind_alike ts balanced x ks listed fs pieces near meaning d s = wind_where ts balanced x ks pieces near meaning listed fs d s
+whole_faces_wind_alike ts balanced x ks listed fs fragments near meaning d s = wind_where ts balanced x ks fragments near meaning listed fs d s

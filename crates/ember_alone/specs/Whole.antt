@@ -33,23 +33,23 @@ AreMissedNearby fs = (p : Spot) → pos 0 <ℤ p.w → Eventually (λ k. AreClea
 
 -- ---- parts of triangles
 -- a face, and the index of the triangle of which it is a part
-pub record Piece : Type 0 where
+pub record Fragment : Type 0 where
   pub triangle : ℕ
   pub face : Face
 
--- the closed piece lies in the closed face of its triangle; it has the triangle's front or the opposite one
-pub record IsPieceOf (ts : List Tri) (k : Piece) : Type 0 where
+-- the closed fragment lies in the closed face of its triangle; it has the triangle's front or the opposite one
+pub record IsFragmentOf (ts : List Tri) (k : Fragment) : Type 0 where
   pub tri : Tri
   pub here : slice_get ts k.triangle ≡ Some tri
   pub full : is_flat tri ≡ false
   pub support : (k.face.support ≡ support_of tri) ⊎ (k.face.support ≡ opposite (support_of tri))
   pub closed : (v : Spot) → is_in_closed k.face v ≡ true → is_in_closed (face_of tri) v ≡ true
 
-abbrev pub faces : List Piece → List Face
+abbrev pub faces : List Fragment → List Face
 faces ks = map (λ k. k.face) ks
 
--- the pieces of all triangles that aren't listed
-abbrev pub without : List ℕ → List Piece → List Piece
+-- the fragments of all triangles that aren't listed
+abbrev pub without : List ℕ → List Fragment → List Fragment
 without listed ks = filter (λ k. not (list_any (nat_eq k.triangle) listed)) ks
 
 -- ---- whole triangles
@@ -86,10 +86,10 @@ pub record StaysWhole (ts : List Tri) (x : List ℤ → Bool) (i : ℕ) (fs : Li
 abbrev pub StayWhole : List Tri → (List ℤ → Bool) → List ℕ → List Face → Type 0
 StayWhole ts x listed fs = Each (StaysWhole ts x) listed fs
 
--- let pieces of the triangles wind where a condition holds. Then so do the listed triangles, whole, together with the
--- pieces of all others
+-- let fragments of the triangles wind where a condition holds. Then so do the listed triangles, whole, together with the
+-- fragments of all others
 abbrev pub WholeFacesWindAlike : List Tri → Type 0
 WholeFacesWindAlike ts =
-    (x : List ℤ → Bool) (ks : List Piece) (listed : List ℕ) (fs : List Face) →
-    AllByRecursion (IsPieceOf ts) ks → AreMissedNearby (faces ks) → WindWhere ts x (faces ks) →
+    (x : List ℤ → Bool) (ks : List Fragment) (listed : List ℕ) (fs : List Face) →
+    AllByRecursion (IsFragmentOf ts) ks → AreMissedNearby (faces ks) → WindWhere ts x (faces ks) →
     IsDistinct nat_eq listed → StayWhole ts x listed fs → WindWhere ts x (fs ++ faces (without listed ks))

@@ -11,10 +11,10 @@ pub fn alone_triangles_have_one_value()
     ensures { (ts : List Tri) → AreClosed ts → AloneHaveOneValue ts }
 {}
 
-/// Let pieces of the triangles of closed meshes wind once where a condition holds of the winding
-/// numbers, and not at all elsewhere. Take away the pieces of triangles that no other one touches,
+/// Let fragments of the triangles of closed meshes wind once where a condition holds of the winding
+/// numbers, and not at all elsewhere. Take away the fragments of triangles that no other one touches,
 /// and add for each of them on whose two sides the condition differs its face, with the front where
-/// it doesn't hold. These faces wind where the pieces do.
+/// it doesn't hold. These faces wind where the fragments do.
 pub fn whole_faces_wind_alike()
     ensures { (ts : List Tri) → AreClosed ts → WholeFacesWindAlike ts }
 {}
