@@ -24,11 +24,11 @@ use Rattle.ember_model.proofs.Hits.{inside_on, closed_on, closed_parts}
 use Rattle.ember_law.proofs.CornerSides.{above_corners}
 use Rattle.ember_law.proofs.Separation.{combination_value, missed_face_has_separating_edge}
 use Rattle.ember_alone.specs.Touch.{HasCorner, IsInCommon, IsAlone}
-use Rattle.ember_alone.specs.Values.{AreClosed}
+use Rattle.ember_alone.specs.UniformSides.{AreBalanced}
 use Rattle.ember_alone.proofs.Beside.{faces_each}
 use Rattle.ember_alone.proofs.CloseTo.{close, value_close, stays_positive, weight_close, IsKeptOff, by_other, by_own, close_points_see}
 use Rattle.ember_alone.proofs.Frames.{IsTurned, corner_of_turned, Frame, frame}
-use Rattle.ember_alone.proofs.OneValue.{Sees}
+use Rattle.ember_alone.proofs.UniformSides.{Sees}
 use Rattle.ember_alone.proofs.Short.{single_point_is_missed}
 use Rattle.ember_alone.proofs.CommonEdges.{made, support_is, zero_at_first, zero_at_second, zero_at_third, same_depth}
 
@@ -98,8 +98,7 @@ pub record IsSeen (ts : List Tri) (t : Tri) (s : ℤ) (counts : List ℤ) : Type
   pub bound : ℕ
   pub sees : Sees ts (main_axis (support_of t)) at way bound counts
 
-
-module _ (ts : List Tri) (balanced : AreClosed ts) where
+module _ (ts : List Tri) (balanced : AreBalanced ts) where
   module _ (i j : ℕ) (t r : Tri) (u v w z : Corner) (b : AreBeside ts i j t r u v w z) (x : Spot) (mid : IsMiddle u v x) where
     f : Frame t u v w
     f = frame t b.full u v w b.edge

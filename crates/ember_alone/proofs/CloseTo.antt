@@ -24,9 +24,9 @@ use Rattle.ember_law.proofs.Separation.{Separates}
 use Rattle.ember_law.proofs.Shifted.{weight_shifted}
 use Rattle.ember_law.proofs.Vectors.{balanced_segments}
 use Rattle.ember_alone.specs.Touch.{IsAlone}
-use Rattle.ember_alone.specs.Values.{AreClosed}
+use Rattle.ember_alone.specs.UniformSides.{AreBalanced}
 use Rattle.ember_alone.proofs.Beside.{separated_face_is_missed, value_beside, weight_beside, OneSign, eventually_each}
-use Rattle.ember_alone.proofs.OneValue.{Sees, each_face, shifted_points_see}
+use Rattle.ember_alone.proofs.UniformSides.{Sees, each_face, shifted_points_see}
 use Rattle.ember_alone.proofs.Short.{separated_both_shifted}
 
 -- ---- close to x, on the way to y
@@ -81,7 +81,7 @@ apart_beside h q r k d f z up at_r (level low) =
     }
 
 -- ---- what is seen at r m
-module _ (ts : List Tri) (balanced : AreClosed ts) (i : ℕ) (t : Tri) (here : slice_get ts i ≡ Some t) (alone : IsAlone ts i)
+module _ (ts : List Tri) (balanced : AreBalanced ts) (i : ℕ) (t : Tri) (here : slice_get ts i ≡ Some t) (alone : IsAlone ts i)
     (full : is_flat t ≡ false) (at : Spot) (inside : is_inside (face_of t) at ≡ true) (k : Axis) (d : ℤ) (slope : d *ℤ along (support_of t) k ≢ pos 0)
     (bound : ℕ) (counts : List ℤ) (sees : Sees ts k at d bound counts) (q r : ℕ → Spot)
     (q_inside : (m : ℕ) → 1 ≤ m → is_inside (face_of t) (q m) ≡ true) (q_weight : (m : ℕ) → 1 ≤ m → pos 0 <ℤ (q m).w)

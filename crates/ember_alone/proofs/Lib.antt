@@ -2,7 +2,7 @@ pub mod Common
 pub mod Weights
 pub mod Parted
 pub mod Beside
-pub mod OneValue
+pub mod UniformSides
 pub mod Short
 pub mod Turned
 pub mod Shares

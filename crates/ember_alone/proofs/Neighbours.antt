@@ -22,19 +22,19 @@ use Rattle.ember_model.specs.Owners.{spot_of_corner}
 use Rattle.ember_model.proofs.SignTests.{positive_in}
 use Rattle.ember_law.proofs.CornerSides.{main_entry}
 use Rattle.ember_law.proofs.GenericClear.{clear_shifted, clear_faces}
-use Rattle.ember_alone.specs.Values.{AreClosed, IsPart}
+use Rattle.ember_alone.specs.UniformSides.{AreBalanced, IsPart}
 use Rattle.ember_alone.specs.Whole.{behind, in_front}
 use Rattle.ember_alone.specs.Neighbours.{HasEdge, NeighboursAgree}
 use Rattle.ember_alone.proofs.CloseTo.{close, weight_close}
 use Rattle.ember_alone.proofs.Frames.{IsTurned, from_a, from_b, from_c}
-use Rattle.ember_alone.proofs.OneValue.{SidesAt, sides_of_part}
+use Rattle.ember_alone.proofs.UniformSides.{SidesAt, sides_of_part}
 use Rattle.ember_alone.proofs.Shares.{not_positive}
 use Rattle.ember_alone.proofs.CommonEdges.{along_times}
 use Rattle.ember_alone.proofs.AroundEdges.{AreBeside, swapped, IsMiddle, middle, middle_turned, IsWay, IsSeen}
 use Rattle.ember_alone.proofs.AroundEdges.{seen_close_to_edge}
 use Rattle.ember_alone.proofs.Ways.{way}
 
-module _ (ts : List Tri) (balanced : AreClosed ts) where
+module _ (ts : List Tri) (balanced : AreBalanced ts) where
   -- ---- both
   -- what shifted points see
   abbrev Near : Spot → List ℤ → Type 0
@@ -126,7 +126,7 @@ unfolding face_of
 support_of_part t f p = p.support
 
 -- neighbours have equal values behind them and in front
-pub neighbours_agree : (ts : List Tri) → AreClosed ts → NeighboursAgree ts
+pub neighbours_agree : (ts : List Tri) → AreBalanced ts → NeighboursAgree ts
 neighbours_agree ts balanced i j t r f g before after before' after' n part part' sides sides' = (on false, on true)
   where
     on : (front : Bool) → side_of front f before after ≡ side_of front g before' after'

@@ -28,10 +28,10 @@ use Rattle.ember_law.proofs.GenericClear.{clear_shifted, clear_faces}
 use Rattle.ember_law.proofs.Paths.{along_itself}
 use Rattle.ember_law.proofs.Shifted.{weight_shifted}
 use Rattle.ember_alone.specs.Touch.{IsAlone}
-use Rattle.ember_alone.specs.Values.{AreClosed, IsPart}
+use Rattle.ember_alone.specs.UniformSides.{AreBalanced, IsPart}
 use Rattle.ember_alone.specs.Whole.{WindWhere, AreMissedNearby, Fragment, IsFragmentOf, faces, behind, in_front, separating}
 use Rattle.ember_alone.proofs.Beside.{inside_closed, weight_beside, OneSign, faces_member}
-use Rattle.ember_alone.proofs.OneValue.{SidesAt, others_are_off, shifted_points_see, sides_of_part}
+use Rattle.ember_alone.proofs.UniformSides.{SidesAt, others_are_off, shifted_points_see, sides_of_part}
 use Rattle.ember_alone.proofs.Short.{Counts, count_at, counted_legs, IsOffBoundary, short_segments_count}
 use Rattle.ember_alone.proofs.Turned.{along-opposite, hit-opposite, ahead-opposite, crossing-flipped}
 
@@ -77,7 +77,7 @@ separating_winds f a p s false true c = let t = crossing-flipped f a p in omega 
 separating_winds f a p s false false c = let e : s *ℤ (pos 0 -ℤ pos 0) ≡ pos 0 = omega (arith, linear) in sym e
 
 -- ---- a triangle that is alone, the sides of a part of it, and fragments that wind where a condition holds
-module _ (ts : List Tri) (balanced : AreClosed ts) (i : ℕ) (t : Tri) (here : slice_get ts i ≡ Some t) (alone : IsAlone ts i)
+module _ (ts : List Tri) (balanced : AreBalanced ts) (i : ℕ) (t : Tri) (here : slice_get ts i ≡ Some t) (alone : IsAlone ts i)
     (full : is_flat t ≡ false) (x : List ℤ → Bool) (part : Face) (is_part : IsPart (face_of t) part) (before after : List ℤ)
     (sides : IsSides ts part before after) (ks : List Fragment) (fragments : AllByRecursion (IsFragmentOf ts) ks)
     (near : AreMissedNearby (faces ks)) (meaning : WindWhere ts x (faces ks)) (a : Axis) (p : Spot) (weight : pos 0 <ℤ p.w)

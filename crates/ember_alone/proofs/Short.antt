@@ -26,7 +26,7 @@ use Rattle.ember_law.specs.Counts.{leg_wind}
 use Rattle.ember_law.proofs.Separation.{Separates, combination, combination_value, missed_face_has_separating_edge}
 use Rattle.ember_law.proofs.Shifted.{follows_shifted, eventually_true}
 use Rattle.ember_alone.proofs.Beside.{all_combined, inside_closed, value_beside, separated_beside, eventually_each}
-use Rattle.ember_alone.proofs.OneValue.{each_face}
+use Rattle.ember_alone.proofs.UniformSides.{each_face}
 
 -- ---- a face on the other side of a plane
 -- a segment on one side of a plane doesn't cross a face on the other

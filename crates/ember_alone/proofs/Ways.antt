@@ -21,16 +21,16 @@ use Rattle.ember_model.proofs.PlaneValues.{value_scaled, value_plus, value_moved
 use Rattle.ember_model.proofs.Hits.{closed_on}
 use Rattle.ember_law.proofs.CornerSides.{main_entry}
 use Rattle.ember_law.proofs.FlatTriangles.{flat_in}
-use Rattle.ember_alone.specs.Values.{AreClosed}
+use Rattle.ember_alone.specs.UniformSides.{AreBalanced}
 use Rattle.ember_alone.proofs.CloseTo.{close, value_close, stays_positive, weight_close}
 use Rattle.ember_alone.proofs.Frames.{Frame, frame}
-use Rattle.ember_alone.proofs.OneValue.{others_are_off}
+use Rattle.ember_alone.proofs.UniformSides.{others_are_off}
 use Rattle.ember_alone.proofs.CommonEdges.{made, support_is, zero_at_first, zero_at_second, zero_at_third}
 use Rattle.ember_alone.proofs.CommonEdges.{across_x, across_y, across_z, same_slope, edge_back, one_sign, nowhere, value_nowhere, along_times}
 use Rattle.ember_alone.proofs.AroundEdges.{AreBeside, turned_to, IsMiddle, IsWay}
 use Rattle.ember_alone.proofs.AroundEdges.{n_is, n_at_w, q_inside, depth}
 
-module _ (ts : List Tri) (balanced : AreClosed ts) (i j : ℕ) (t r : Tri) (u v w z : Corner) (b : AreBeside ts i j t r u v w z)
+module _ (ts : List Tri) (balanced : AreBalanced ts) (i j : ℕ) (t r : Tri) (u v w z : Corner) (b : AreBeside ts i j t r u v w z)
     (x : Spot) (mid : IsMiddle u v x) where
   abbrev n : Plane
   n = support_of t

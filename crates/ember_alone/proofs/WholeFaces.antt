@@ -20,7 +20,7 @@ use Rattle.ember_law.proofs.Generic.{wind_shifted}
 use Rattle.ember_law.proofs.GenericClear.{clear_shifted, clear_faces}
 use Rattle.ember_law.proofs.Shifted.{weight_shifted}
 use Rattle.ember_law.proofs.Vectors.{of_mesh_all}
-use Rattle.ember_alone.specs.Values.{AreClosed}
+use Rattle.ember_alone.specs.UniformSides.{AreBalanced}
 use Rattle.ember_alone.specs.Whole.{WindWhere, AreMissedNearby, Fragment, IsFragmentOf, faces, without, StaysWhole, StayWhole, WholeFacesWindAlike}
 use Rattle.ember_alone.proofs.Shares.{one, shares_are_whole}
 
@@ -70,7 +70,7 @@ split g listed ks =
     by k false = omega (arith, linear)
 
 -- ---- fragments of closed meshes that wind where a condition holds
-module _ (ts : List Tri) (balanced : AreClosed ts) (x : List ℤ → Bool) (ks : List Fragment) (fragments : AllByRecursion (IsFragmentOf ts) ks)
+module _ (ts : List Tri) (balanced : AreBalanced ts) (x : List ℤ → Bool) (ks : List Fragment) (fragments : AllByRecursion (IsFragmentOf ts) ks)
     (near : AreMissedNearby (faces ks)) (meaning : WindWhere ts x (faces ks)) where
   -- what separates the sides of listed triangles is crossed as their fragments
   module _ (a : Axis) (p : Spot) (weight : pos 0 <ℤ p.w) (clear : AreClear (faces_of ts) p) (clear_fragments : AreClear (faces ks) p) where
@@ -114,5 +114,5 @@ module _ (ts : List Tri) (balanced : AreClosed ts) (x : List ℤ → Bool) (ks :
       ∙ ap (λ (v : List ℤ). one (x v)) (sym h.1.1.1.1)
 
 -- whole triangles wind where their fragments do
-pub whole_faces_wind_alike : (ts : List Tri) → AreClosed ts → WholeFacesWindAlike ts
+pub whole_faces_wind_alike : (ts : List Tri) → AreBalanced ts → WholeFacesWindAlike ts
 whole_faces_wind_alike ts balanced x ks listed fs fragments near meaning d s = wind_where ts balanced x ks fragments near meaning listed fs d s

@@ -6,7 +6,7 @@ use Rattle.ember_model.specs.declared.face.Face.{Face}
 use Rattle.ember_model.specs.Faces.{is_flat, face_of}
 use Rattle.ember_model.specs.Sides.{IsSides}
 use Rattle.ember_alone.specs.Touch.{HasCorner, IsAlone}
-use Rattle.ember_alone.specs.Values.{IsPart}
+use Rattle.ember_alone.specs.UniformSides.{IsPart}
 use Rattle.ember_alone.specs.Whole.{behind, in_front}
 
 -- an edge of the triangle leads from u to v

@@ -16,7 +16,7 @@ use Rattle.ember_model.specs.Clear.{AreClear}
 use Rattle.ember_model.specs.Meshes.{wind, faces_of, vector}
 use Rattle.ember_model.specs.Sides.{IsSides}
 use Rattle.ember_alone.specs.Touch.{IsAlone}
-use Rattle.ember_alone.specs.Values.{IsPart}
+use Rattle.ember_alone.specs.UniformSides.{IsPart}
 
 -- ---- faces that wind where a condition holds
 -- at each clear point and for all axes: the faces wind once around it if the condition holds of the winding numbers

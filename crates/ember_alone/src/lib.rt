@@ -6,6 +6,6 @@ mod law;
 mod touching;
 
 pub use law::{
-    alone_triangles_have_one_value, neighbours_have_equal_values, whole_faces_wind_alike,
+    alone_triangles_have_uniform_sides, neighbours_have_equal_values, whole_faces_wind_alike,
 };
 pub use touching::may_touch;

@@ -31,7 +31,7 @@ use Rattle.ember_law.proofs.Shifted.{weight_shifted}
 use Rattle.ember_law.proofs.Vectors.{balanced_segments}
 use Rattle.ember_law.proofs.CornerSides.{main_entry}
 use Rattle.ember_alone.specs.Touch.{IsAlone}
-use Rattle.ember_alone.specs.Values.{IsPart, HasOneValue, AreClosed, AloneHaveOneValue}
+use Rattle.ember_alone.specs.UniformSides.{IsPart, HasUniformSides, AreBalanced, AloneHaveUniformSides}
 use Rattle.ember_alone.proofs.Common.{inside_is_not_in_common}
 use Rattle.ember_alone.proofs.Beside.{inside_combination, inside_closed, separated_face_is_missed, weight_beside, separated_beside}
 use Rattle.ember_alone.proofs.Beside.{separated_shifted, OneSign, separated_by_support, eventually_each, faces_each}
@@ -68,7 +68,7 @@ flat_has_no_inside t v e h =
     omega (arith, linear, l, m, o)
 
 -- a triangle that is alone in a list of closed meshes
-module _ (ts : List Tri) (balanced : AreClosed ts) (i : ℕ) (t : Tri) (here : slice_get ts i ≡ Some t) (alone : IsAlone ts i)
+module _ (ts : List Tri) (balanced : AreBalanced ts) (i : ℕ) (t : Tri) (here : slice_get ts i ≡ Some t) (alone : IsAlone ts i)
     (full : is_flat t ≡ false) where
   abbrev n : Plane
   n = support_of t
@@ -183,8 +183,8 @@ module _ (ts : List Tri) (balanced : AreClosed ts) (i : ℕ) (t : Tri) (here : s
       }
 
   -- all sides of all parts are the same
-  pub parts_have_one_value : (g : Face) (before after : List ℤ) → IsPart (face_of t) g → IsSides ts g before after → HasOneValue ts (face_of t) before after
-  parts_have_one_value g before after part sides =
+  pub parts_have_uniform_sides : (g : Face) (before after : List ℤ) → IsPart (face_of t) g → IsSides ts g before after → HasUniformSides ts (face_of t) before after
+  parts_have_uniform_sides g before after part sides =
       let s = sides_of_part g before after part sides in let k = main_axis n in
       record {
         same = λ h b a part' sides'. let r = sides_of_part h b a part' sides' in (
@@ -194,7 +194,7 @@ module _ (ts : List Tri) (balanced : AreClosed ts) (i : ℕ) (t : Tri) (here : s
       }
 
 -- triangles that are alone have one value on each side
-pub alone_have_one_value : (ts : List Tri) → AreClosed ts → AloneHaveOneValue ts
-alone_have_one_value ts balanced i t g before after alone here part sides =
+pub alone_have_uniform_sides : (ts : List Tri) → AreBalanced ts → AloneHaveUniformSides ts
+alone_have_uniform_sides ts balanced i t g before after alone here part sides =
     ⊎_elim (λ e. absurd (flat_has_no_inside t sides.at e (part.inside.holds sides.at sides.inside)))
-    (λ full. parts_have_one_value ts balanced i t here alone full g before after part sides) (flat_case t)
+    (λ full. parts_have_uniform_sides ts balanced i t here alone full g before after part sides) (flat_case t)
