@@ -15,3 +15,5 @@ mod polygons;
 mod shapes;
 #[cfg(test)]
 mod signs;
+#[cfg(test)]
+mod touching;

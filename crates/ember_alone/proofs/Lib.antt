@@ -1,0 +1,16 @@
+pub mod Common
+pub mod Weights
+pub mod Parted
+pub mod Beside
+pub mod UniformSides
+pub mod Short
+pub mod Turned
+pub mod Shares
+pub mod WholeFaces
+pub mod Frames
+pub mod CloseTo
+pub mod CommonEdges
+pub mod AroundEdges
+pub mod Ways
+pub mod Neighbours
+pub mod Codes
