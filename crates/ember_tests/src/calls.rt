@@ -28,6 +28,11 @@ pub fn file_set(alloc: Global, named: &[(&str, &[u8])]) -> Option<FileSet> {
     Some(FileSet::of(files))
 }
 
+/// The call of that number; calls count from 1.
+pub fn only(alloc: Global, call: u64) -> Option<Calls> {
+    Some(Calls::of(Vec::from_slice(alloc, &[call]).ok()?))
+}
+
 /// A shelf of these files, none of whose calls fails.
 pub fn shelf_of(alloc: Global, named: &[(&str, &[u8])]) -> Option<MemoryShelf> {
     let none = Calls::of(Vec::new(alloc));

@@ -1,5 +1,5 @@
 // Every call of a device fails in turn.
-use crate::calls::{Named, file_set, give, shelf_of, sink_of, words_of};
+use crate::calls::{Named, file_set, give, only, shelf_of, sink_of, words_of};
 use crate::texts::{C, D};
 use ember_io::{Calls, MemoryShelf, MemorySink, Shelf, Sink};
 use ember_run::{Status, run, run_one};
@@ -25,9 +25,9 @@ fn err_sink(alloc: Global, fails: bool) -> Option<MemorySink> {
     MemorySink::new(alloc, 1000, 10, Calls::of(calls)).ok()
 }
 
-// The call of that number.
-fn only(alloc: Global, call: u64) -> Option<Calls> {
-    Some(Calls::of(vec![in alloc; call].ok()?))
+// A shelf of both files, which gives 64 bytes at a time, and whose call of that number fails.
+fn failing_shelf(alloc: Global, call: u64) -> Option<MemoryShelf> {
+    MemoryShelf::new(alloc, file_set(alloc, FILES)?, 64, only(alloc, call)?).ok()
 }
 
 // By which call, and whether each call of err fails.
@@ -92,7 +92,7 @@ fn is_read<R: Threads + Wait + Sync>(
     status: Status,
     bytes: &[u8],
 ) -> Option<bool> {
-    let mut shelf = MemoryShelf::new(alloc, file_set(alloc, FILES)?, 64, only(alloc, call)?).ok()?;
+    let mut shelf = failing_shelf(alloc, call)?;
     let mut out = sink_of(alloc, 100_000)?;
     let given = unite(rt, alloc, &mut shelf, &mut out, way)?;
     Some(is_taken(given, &out, status, bytes))

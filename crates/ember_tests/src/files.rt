@@ -1,6 +1,6 @@
 // Files of the tests, and the devices that hold them.
-use crate::calls::{file_set, words_of};
-use ember_io::{Calls, MemoryShelf, MemorySink, SafeShelf, Shelf};
+use crate::calls::{file_set, only, words_of};
+use ember_io::{MemoryShelf, MemorySink, SafeShelf, Shelf};
 use ember_run::{Status, run, run_one};
 use std::alloc::Global;
 use std::sync::Wait;
@@ -16,11 +16,6 @@ pub const TETRA_LINES: &[u8] = b"ember 1\nf 0 0 -1 0 3\ne -1 0 0 0 0 0 0 1\n";
 /// A shelf of `a.obj` none of whose calls fails, if there is memory for it.
 pub fn safe_shelf(alloc: Global, bytes: &[u8]) -> Option<SafeShelf> {
     SafeShelf::new(alloc, file_set(alloc, &[("a.obj", bytes)])?).ok()
-}
-
-// The call of that number; calls count from 1.
-fn only(alloc: Global, call: u64) -> Option<Calls> {
-    Some(Calls::of(vec![in alloc; call].ok()?))
 }
 
 /// A shelf of `a.obj` that gives 16 bytes at a time, and whose call of that number fails.
