@@ -90,6 +90,13 @@ fn near_in(alloc: Global, s: &Scene, job: &Job, c: &Cell) -> Result<Vec<u32>, Ou
     near_list(alloc, s, job.list.items(), c)
 }
 
+// All triangles of a job, with these indices, are near a box.
+fn are_near(alloc: Global, s: &Scene, job: &Job, c: &Cell, all: &[u32]) -> Result<bool, OutOfMemory>
+    requires { IsJob s.now.tris job.now }
+{
+    Ok(near_in(alloc, s, job, c)?.as_slice() == all)
+}
+
 // All triangles of the files, with these indices, are near the root and near each of its halves.
 fn check_near(rt: &impl Abort, alloc: Global, files: &[&[u8]], all: &[u32]) -> Result<(), Fail>
     requires { length files.now ≤ 64 }
@@ -97,14 +104,11 @@ fn check_near(rt: &impl Abort, alloc: Global, files: &[&[u8]], all: &[u32]) -> R
     let scene = scene_of_files(alloc, files)?;
     let job = root_job(alloc, &scene)?;
     assert!(rt; job.list.items() == all);
-    let near = near_in(alloc, &scene, &job, &root())?;
-    assert!(rt; near.as_slice() == all);
+    assert!(rt; are_near(alloc, &scene, &job, &root(), all)?);
     for &k in &AXES {
         let (low, high) = halves(&root(), k);
-        for half in [&low, &high] {
-            let near = near_in(alloc, &scene, &job, half)?;
-            assert!(rt; near.as_slice() == all);
-        }
+        assert!(rt; are_near(alloc, &scene, &job, &low, all)?);
+        assert!(rt; are_near(alloc, &scene, &job, &high, all)?);
     }
     Ok(())
 }
@@ -180,14 +184,28 @@ fn lists_of_halves(alloc: Global, s: &Scene, job: &Job) -> Result<(Vec<u32>, Vec
     near_halves(alloc, s, job.list.items(), &job.cell, Axis::Y)
 }
 
+// Whether the halves along y keep these triangles.
+fn are_kept(
+    alloc: Global,
+    s: &Scene,
+    job: &Job,
+    lower: &[u32],
+    upper: &[u32],
+) -> Result<bool, OutOfMemory>
+    requires { IsJob s.now.tris job.now }
+{
+    if job.cell.log(Axis::Y) > 0 {
+        let (low, high) = lists_of_halves(alloc, s, job)?;
+        return Ok(low.as_slice() == lower && high.as_slice() == upper);
+    }
+    Ok(false)
+}
+
 #[test]
 fn each_half_keeps_the_triangles_that_reach_it(rt: HostRuntime) -> Result<(), Fail> {
     let scene = scene_of_files(rt.alloc(), &[TOUCHING])?;
     let job = root_job(rt.alloc(), &scene)?;
-    assert!(rt; job.cell.log(Axis::Y) > 0);
-    let (low, high) = lists_of_halves(rt.alloc(), &scene, &job)?;
-    assert!(rt; low.as_slice() == [2, 3].as_slice());
-    assert!(rt; high.as_slice() == [0, 1, 2, 3].as_slice());
+    assert!(rt; are_kept(rt.alloc(), &scene, &job, &[2, 3], &[0, 1, 2, 3])?);
     Ok(())
 }
 
@@ -198,16 +216,26 @@ fn look_at(alloc: Global, s: &Scene, job: &Job) -> Result<Option<HalvedBox>, Out
     halve_box(alloc, s, job.list.items(), &job.cell)
 }
 
+// The box is halved along this axis, into these lists.
+fn is_halved(halved: &Option<HalvedBox>, axis: Axis, left: &[u32], right: &[u32]) -> bool {
+    match halved {
+        Some(halved) => {
+            halved.axis == axis
+                && halved.left.as_slice() == left
+                && halved.right.as_slice() == right
+        }
+        None => false,
+    }
+}
+
 #[test]
 fn one_look_tells_the_axis_and_the_lists_of_both_halves(rt: HostRuntime) -> Result<(), Fail> {
     let alloc = rt.alloc();
     let scene = scene_of_files(alloc, &[APART, APART, APART, APART, APART])?;
     let job = root_job(alloc, &scene)?;
-    let Some(HalvedBox { axis, left, right }) = look_at(alloc, &scene, &job)? else {
-        return Err(Fail::from("a leaf"));
-    };
-    assert!(rt; axis == Axis::Y);
-    assert!(rt; left.as_slice() == [2, 3, 6, 7, 10, 11, 14, 15, 18, 19].as_slice());
-    assert!(rt; right.as_slice() == [0, 1, 4, 5, 8, 9, 12, 13, 16, 17].as_slice());
+    let halved = look_at(alloc, &scene, &job)?;
+    let left = [2, 3, 6, 7, 10, 11, 14, 15, 18, 19];
+    let right = [0, 1, 4, 5, 8, 9, 12, 13, 16, 17];
+    assert!(rt; is_halved(&halved, Axis::Y, &left, &right));
     Ok(())
 }

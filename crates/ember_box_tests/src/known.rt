@@ -34,7 +34,7 @@ fn decided_or_not(rt: HostRuntime) -> Result<(), Fail> {
     for &(text, undecided, want) in &DECIDED_OR_NOT {
         let e = expression(rt.alloc(), text.as_bytes(), 2)?;
         let m = Mask::none().with(undecided);
-        assert!(rt; known(&e, &one_and_zero(), &m) == want, "{text}");
+        assert!(rt; known(&e, &one_and_zero(), &m) == want);
     }
     Ok(())
 }

@@ -22,9 +22,8 @@ fn is_dark(alloc: Global, s: &Scene, e: &Expr) -> Result<bool, OutOfMemory> {
 fn the_root_is_one_cell(rt: HostRuntime) -> Result<(), Fail> {
     let alloc = rt.alloc();
     let e = expression(alloc, b"m1", 1)?;
-    for scene in [scene_of(alloc, 1)?, scene_of_files(alloc, &[TETRA])?] {
-        assert!(rt; is_dark(alloc, &scene, &e)?);
-    }
+    assert!(rt; is_dark(alloc, &scene_of(alloc, 1)?, &e)?);
+    assert!(rt; is_dark(alloc, &scene_of_files(alloc, &[TETRA])?, &e)?);
     Ok(())
 }
 

@@ -73,7 +73,7 @@ fn the_rings_of_a_tetrahedron_have_the_planes_of_its_face_file(
         let Some(ring) = ring_of(rt.alloc(), &scene, i)? else {
             return Err(Fail::from("no ring"));
         };
-        assert!(rt; has_planes_of(&ring, &faces[i]), "triangle {i}");
+        assert!(rt; has_planes_of(&ring, &faces[i]));
     }
     Ok(())
 }

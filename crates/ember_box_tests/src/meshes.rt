@@ -2,7 +2,7 @@
 use crate::scenes::{scene_of_files, soup_of};
 use crate::texts::{LONG, TETRA};
 use ember_mesh::{MeshFault, balanced, check};
-use ember_model::{Corner, Tri};
+use ember_model::{Corner, Scene, Tri};
 use std::test::Fail;
 
 const O: Corner = Corner { x: 0, y: 0, z: 0 };
@@ -41,15 +41,23 @@ static TRIANGLES: [Tri; 4] = [
     },
 ];
 
+fn is_tetrahedron(s: &Scene) -> bool {
+    let tris = s.tris.items();
+    if tris.len() != 4 {
+        return false;
+    }
+    for i in 0..4 {
+        if tris[i] != TRIANGLES[i] {
+            return false;
+        }
+    }
+    s.meshes == 1
+}
+
 #[test]
 fn a_tetrahedron_becomes_a_scene(rt: HostRuntime) -> Result<(), Fail> {
     let scene = scene_of_files(rt.alloc(), &[TETRA])?;
-    assert!(rt; scene.meshes == 1);
-    let tris = scene.tris.items();
-    assert!(rt; tris.len() == 4);
-    for i in 0..4 {
-        assert!(rt; tris[i] == TRIANGLES[i]);
-    }
+    assert!(rt; is_tetrahedron(&scene));
     Ok(())
 }
 

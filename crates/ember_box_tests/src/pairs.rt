@@ -4,7 +4,7 @@ ghost use Rattle.std.specs.Prelude.{◌≤◌, length};
 use crate::scenes::scene_of_files;
 use crate::texts::{TETRA, WEDGE_A, WEDGE_B};
 use ember_job::Outcome;
-use ember_model::Scene;
+use ember_model::{OutOfMemory, Scene};
 use ember_pairs::{PairList, gather, meeting, pair_step, pairs_text, root_pairs};
 use std::alloc::Global;
 use std::process::Abort;
@@ -53,18 +53,22 @@ const LEANING: &[u8] = b"v 0 0 0\nv 8 0 8\nv 0 8 0\nf 1 2 3\nf 1 3 2\n";
 
 const WITHIN: &[u8] = b"v 1 1 1\nv 2 1 2\nv 1 2 1\nf 1 2 3\nf 1 3 2\n";
 
-// Whether the triangles of two such files meet, by each of them and its reverse, in both orders; or
-// these differ.
+// Whether the triangles of two such files meet, by each of them and its reverse, in both orders; none
+// if these differ.
+fn meet_alike(alloc: Global, s: &Scene) -> Result<Option<bool>, OutOfMemory> {
+    if s.tris.items().len() != 4 {
+        return Ok(None);
+    }
+    let first = meeting(alloc, s, 0, 2)?;
+    let same = meeting(alloc, s, 2, 0)? == first
+        && meeting(alloc, s, 0, 3)? == first
+        && meeting(alloc, s, 2, 1)? == first;
+    Ok(if same { Some(first) } else { None })
+}
+
 fn meet(alloc: Global, one: &[u8], other: &[u8]) -> Result<Option<bool>, Fail> {
     let scene = scene_of_files(alloc, &[one, other])?;
-    if scene.tris.items().len() != 4 {
-        return Err(Fail::from("not four triangles"));
-    }
-    let first = meeting(alloc, &scene, 0, 2)?;
-    let same = meeting(alloc, &scene, 2, 0)? == first
-        && meeting(alloc, &scene, 0, 3)? == first
-        && meeting(alloc, &scene, 2, 1)? == first;
-    Ok(if same { Some(first) } else { None })
+    Ok(meet_alike(alloc, &scene)?)
 }
 
 static TRIANGLES_OF_ONE_PLANE_AND_OF_TWO: [(&[u8], &[u8], bool); 12] = [
@@ -91,10 +95,7 @@ static TRIANGLES_OF_ONE_PLANE_AND_OF_TWO: [(&[u8], &[u8], bool); 12] = [
 #[test]
 fn triangles_of_one_plane_and_of_two(rt: HostRuntime) -> Result<(), Fail> {
     for &(one, other, want) in &TRIANGLES_OF_ONE_PLANE_AND_OF_TWO {
-        assert!(rt;
-            meet(rt.alloc(), one, other)? == Some(want),
-            "{one:?} and {other:?}"
-        );
+        assert!(rt; meet(rt.alloc(), one, other)? == Some(want));
     }
     Ok(())
 }

@@ -95,10 +95,7 @@ fn the_sides_of_a_tetrahedron(rt: HostRuntime) -> Result<(), Fail> {
             before: one_count(1 - after[i]),
             after: one_count(after[i]),
         };
-        assert!(rt;
-            face_sides(alloc, &scene, &job, i)? == Some(want),
-            "face {i}"
-        );
+        assert!(rt; face_sides(alloc, &scene, &job, i)? == Some(want));
     }
     Ok(())
 }

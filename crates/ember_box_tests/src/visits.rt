@@ -1,5 +1,5 @@
 // The job of the root, what is known of it, and the jobs of its halves.
-ghost use Rattle.std.specs.Prelude.{◌<◌};
+ghost use Rattle.std.specs.Prelude.{◌<◌, ◌≤◌, length};
 ghost use Rattle.ember_visit.specs.Jobs.{IsJob};
 
 use crate::scenes::{expression, scene_of_files};
@@ -12,13 +12,25 @@ use ember_visit::{box_value, halve_job, halve_unless_leaf, listed_tris, root_job
 use std::alloc::Global;
 use std::test::Fail;
 
+// Whether the root has these triangles.
+fn has_at_root(alloc: Global, s: &Scene, list: &[u32]) -> Result<bool, OutOfMemory> {
+    let root = root_job(alloc, s)?;
+    Ok(root.list.items() == list)
+}
+
+// How many it has.
+fn count_at_root(alloc: Global, s: &Scene) -> Result<usize, OutOfMemory> {
+    let root = root_job(alloc, s)?;
+    Ok(root.list.items().len())
+}
+
 #[test]
 fn all_triangles_are_near_the_root(rt: HostRuntime) -> Result<(), Fail> {
     let alloc = rt.alloc();
-    let root = root_job(alloc, &scene_of_files(alloc, &[TETRA])?)?;
-    assert!(rt; root.list.items() == [0, 1, 2, 3].as_slice());
-    let root = root_job(alloc, &scene_of(alloc, 1)?)?;
-    assert!(rt; root.list.items().len() == 12);
+    let scene = scene_of_files(alloc, &[TETRA])?;
+    assert!(rt; has_at_root(alloc, &scene, &[0, 1, 2, 3])?);
+    let scene = scene_of(alloc, 1)?;
+    assert!(rt; count_at_root(alloc, &scene)? == 12);
     Ok(())
 }
 
@@ -41,7 +53,7 @@ fn what_is_known_of_the_root_of_one_box(rt: HostRuntime) -> Result<(), Fail> {
     let root = root_job(alloc, &scene)?;
     for &(text, want) in &WHAT_IS_KNOWN_OF_THE_ROOT_OF_ONE_BOX {
         let e = expression(alloc, text.as_bytes(), 2)?;
-        assert!(rt; value_in(&scene, &e, &root) == want, "{text}");
+        assert!(rt; value_in(&scene, &e, &root) == want);
     }
     Ok(())
 }
@@ -61,6 +73,15 @@ fn listed(alloc: Global, s: &Scene, job: &Job) -> Result<Vec<Tri>, OutOfMemory>
     listed_tris(alloc, s.tris.items(), job.list.items())
 }
 
+// These are the halves of the root, with these triangles, and what is carried to them is what is carried to it.
+fn are_halves(root: &Job, low: &Job, high: &Job, lists: [&[u32]; 2]) -> bool {
+    (low.cell.path(), high.cell.path()) == (2, 3)
+        && low.list.items() == lists[0]
+        && high.list.items() == lists[1]
+        && low.at == root.at
+        && high.at == root.at
+}
+
 #[test]
 fn the_halves_of_the_root_part_its_triangles(rt: HostRuntime) -> Result<(), Fail> {
     let alloc = rt.alloc();
@@ -69,10 +90,7 @@ fn the_halves_of_the_root_part_its_triangles(rt: HostRuntime) -> Result<(), Fail
     assert!(rt; listed(alloc, &scene, &root)?.as_slice() == scene.tris.items());
     assert!(rt; root.cell.log(Axis::Y) > 0);
     let (low, high) = halves_of(alloc, &scene, &root)?;
-    assert!(rt; (low.cell.path(), high.cell.path()) == (2, 3));
-    assert!(rt; low.list.items() == [2, 3].as_slice());
-    assert!(rt; high.list.items() == [0, 1].as_slice());
-    assert!(rt; low.at == root.at && high.at == root.at);
+    assert!(rt; are_halves(&root, &low, &high, [&[2, 3], &[0, 1]]));
     Ok(())
 }
 
@@ -87,20 +105,25 @@ fn halves_unless_leaf(
     halve_unless_leaf(alloc, s, job)
 }
 
+// Whether the root over these files is a leaf.
+fn is_root_a_leaf(alloc: Global, files: &[&[u8]]) -> Result<bool, Fail>
+    requires { length files.now ≤ 64 }
+{
+    let scene = scene_of_files(alloc, files)?;
+    let root = root_job(alloc, &scene)?;
+    Ok(halves_unless_leaf(alloc, &scene, &root)?.is_none())
+}
+
 #[test]
 fn a_box_that_is_no_leaf_has_halves(rt: HostRuntime) -> Result<(), Fail> {
-    let alloc = rt.alloc();
-    let leaf = scene_of_files(alloc, &[TETRA])?;
-    let root = root_job(alloc, &leaf)?;
-    assert!(rt; halves_unless_leaf(alloc, &leaf, &root)?.is_none());
-    let scene = scene_of_files(alloc, &[APART, APART, APART, APART, APART])?;
-    let root = root_job(alloc, &scene)?;
-    let Some((low, high)) = halves_unless_leaf(alloc, &scene, &root)? else {
+    assert!(rt; is_root_a_leaf(rt.alloc(), &[TETRA])?);
+    let scene = scene_of_files(rt.alloc(), &[APART, APART, APART, APART, APART])?;
+    let root = root_job(rt.alloc(), &scene)?;
+    let Some((low, high)) = halves_unless_leaf(rt.alloc(), &scene, &root)? else {
         return Err(Fail::from("a leaf"));
     };
-    assert!(rt; (low.cell.path(), high.cell.path()) == (2, 3));
-    assert!(rt; low.list.items() == [2, 3, 6, 7, 10, 11, 14, 15, 18, 19].as_slice());
-    assert!(rt; high.list.items() == [0, 1, 4, 5, 8, 9, 12, 13, 16, 17].as_slice());
-    assert!(rt; low.at == root.at && high.at == root.at);
+    let lower = [2, 3, 6, 7, 10, 11, 14, 15, 18, 19];
+    let upper = [0, 1, 4, 5, 8, 9, 12, 13, 16, 17];
+    assert!(rt; are_halves(&root, &low, &high, [&lower, &upper]));
     Ok(())
 }

@@ -83,9 +83,9 @@ fn far_ring(alloc: Global) -> Result<Ring<Broad>, Fail> {
 fn check(rt: &impl Abort, ring: &Ring<Broad>, wanted: &[[i32; 3]]) {
     rings_are_bounded(ring);
     let found = corners(ring);
-    assert_eq!(rt; found.len(), wanted.len());
+    assert!(rt; found.len() == wanted.len());
     for (one, want) in found.iter().zip(wanted) {
-        assert!(rt; is_at(one, *want), "{want:?}");
+        assert!(rt; is_at(one, *want));
     }
 }
 
@@ -108,7 +108,7 @@ fn on_which_sides_of_a_plane_a_far_ring_lies(rt: HostRuntime) -> Result<(), Fail
     ];
     let ring = far_ring(rt.alloc())?;
     for (numbers, want) in rows {
-        assert_eq!(rt; reach(&ring, &plane(numbers)), want, "{numbers:?}");
+        assert!(rt; reach(&ring, &plane(numbers)) == want);
     }
     Ok(())
 }
@@ -187,7 +187,7 @@ fn a_far_triangle_clipped_in_a_draft(rt: HostRuntime) -> Result<(), Fail> {
     let Some((side, low)) = left_in_a_draft(rt.alloc(), &ends, &plane([0, 2, 0, 524287]))? else {
         return Err(Fail::from("a flat triangle"));
     };
-    assert_eq!(rt; side, Reach::Both);
+    assert!(rt; side == Reach::Both);
     let below = [
         [1048574, 0, 0],
         [524287, 524287, 0],
@@ -222,9 +222,9 @@ fn far_triangles_that_meet(rt: HostRuntime) -> Result<(), Fail> {
         [174762, 174763, 174762],
         [174762, 174762, 174763],
     ]);
-    assert_eq!(rt; meeting(rt.alloc(), &far, &across)?, Some(true));
-    assert_eq!(rt; meeting(rt.alloc(), &far, &beyond)?, Some(false));
-    assert_eq!(rt; meeting(rt.alloc(), &far, &within)?, Some(true));
+    assert!(rt; meeting(rt.alloc(), &far, &across)? == Some(true));
+    assert!(rt; meeting(rt.alloc(), &far, &beyond)? == Some(false));
+    assert!(rt; meeting(rt.alloc(), &far, &within)? == Some(true));
     assert!(rt; same_plane(&far, &within));
     assert!(rt; !same_plane(&far, &across));
     Ok(())

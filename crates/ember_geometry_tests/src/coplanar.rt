@@ -32,7 +32,7 @@ static TRIANGLES_OF_ONE_PLANE: [([[i32; 3]; 3], [[i32; 3]; 3], bool); 5] = [
 fn triangles_of_one_plane(rt: HostRuntime) {
     for &(one, other, want) in &TRIANGLES_OF_ONE_PLANE {
         let are_coplanar = same_plane(&triangle(one), &triangle(other));
-        assert!(rt; are_coplanar == want, "{one:?} and {other:?}");
+        assert!(rt; are_coplanar == want);
     }
 }
 
@@ -90,7 +90,7 @@ fn the_first_that_contains_a_region_owns_it(rt: HostRuntime) -> Result<(), Fail>
     ];
     for i in 0..4u32 {
         let found = holds_and_owns_face(rt.alloc(), &near, i, &own)?;
-        assert!(rt; found == OWNERS[i as usize], "triangle {i}");
+        assert!(rt; found == OWNERS[i as usize]);
     }
     Ok(())
 }

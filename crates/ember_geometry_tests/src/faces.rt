@@ -37,7 +37,7 @@ fn faces_of_the_tetrahedron(rt: HostRuntime) -> Result<(), Fail> {
         let Some(face) = face_of(rt.alloc(), &t)? else {
             return Err(Fail::from("no face"));
         };
-        assert!(rt; has_planes(&face, &want), "face {i}");
+        assert!(rt; has_planes(&face, &want));
         assert!(rt; support_of(&t) == plane(want[0]));
         assert!(rt; second_edge(&t) == plane(want[2]));
     }
@@ -82,14 +82,11 @@ fn rays_leave_the_tetrahedron_once(rt: HostRuntime) -> Result<(), Fail> {
     for &(k, want) in &CROSSINGS {
         for i in 0..4 {
             let count = crossing_by_both(rt.alloc(), &p, k, &tetra(i))?;
-            assert!(rt; count == Some(want[i]), "face {i}");
+            assert!(rt; count == Some(want[i]));
         }
     }
     for i in 0..4 {
-        assert!(rt;
-            clear_by_both(rt.alloc(), &p, &tetra(i))? == Some(true),
-            "face {i}"
-        );
+        assert!(rt; clear_by_both(rt.alloc(), &p, &tetra(i))? == Some(true));
     }
     Ok(())
 }
@@ -131,7 +128,7 @@ fn points_that_are_clear_and_points_that_are_not(rt: HostRuntime) -> Result<(), 
     for &(at, w, corners, want) in &POINTS {
         assert!(rt; w > 0);
         let is_clear = clear_by_both(rt.alloc(), &spot(at, w), &triangle(corners))?;
-        assert!(rt; is_clear == Some(want), "{at:?} and {corners:?}");
+        assert!(rt; is_clear == Some(want));
     }
     Ok(())
 }

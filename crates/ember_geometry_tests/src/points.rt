@@ -66,7 +66,7 @@ fn sides_of_a_meet(rt: HostRuntime) -> Result<(), Fail> {
     };
     assert!(rt; [m.x, m.y, m.z, m.w] == [1, 1, 1, 3]);
     for &(numbers, want) in &SIDES {
-        assert!(rt; side(&plane(numbers), &m) == want, "{numbers:?}");
+        assert!(rt; side(&plane(numbers), &m) == want);
     }
     Ok(())
 }

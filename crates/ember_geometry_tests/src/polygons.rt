@@ -30,7 +30,7 @@ fn check(rt: &impl Abort, ring: &Ring, planes: &[[i16; 4]], starts: &[[i128; 4]]
     }
     assert!(rt; found_starts.len() == starts.len());
     for (found, want) in found_starts.iter().zip(starts) {
-        assert!(rt; is_at(found, *want), "{want:?}");
+        assert!(rt; is_at(found, *want));
     }
     assert!(rt; edges(ring) == found_planes && corners(ring) == found_starts);
 }
@@ -70,7 +70,7 @@ static SIDES: [([i16; 4], Reach); 6] = [
 fn on_which_sides_of_a_plane_a_ring_lies(rt: HostRuntime) -> Result<(), Fail> {
     let ring = unit_ring(rt.alloc())?;
     for &(numbers, want) in &SIDES {
-        assert!(rt; reach(&ring, &plane(numbers)) == want, "{numbers:?}");
+        assert!(rt; reach(&ring, &plane(numbers)) == want);
     }
     Ok(())
 }
@@ -262,7 +262,7 @@ static OF_SEVERAL_PLANES: [([[i32; 3]; 3], [[i32; 3]; 3], bool); 6] = [
 fn rings_and_triangles_of_several_planes(rt: HostRuntime) -> Result<(), Fail> {
     for &(one, other, want) in &OF_SEVERAL_PLANES {
         let meet = meeting(rt.alloc(), &triangle(one), &triangle(other))?;
-        assert!(rt; meet == Some(want), "{one:?} and {other:?}");
+        assert!(rt; meet == Some(want));
     }
     Ok(())
 }
@@ -288,7 +288,7 @@ static OF_ONE_PLANE: [([[i32; 3]; 3], [[i32; 3]; 3], bool); 6] = [
 fn rings_and_triangles_of_one_plane(rt: HostRuntime) -> Result<(), Fail> {
     for &(one, other, want) in &OF_ONE_PLANE {
         let meet = meeting(rt.alloc(), &triangle(one), &triangle(other))?;
-        assert!(rt; meet == Some(want), "{one:?} and {other:?}");
+        assert!(rt; meet == Some(want));
     }
     Ok(())
 }

@@ -10,7 +10,7 @@ static SIGNS: [(i128, Sign); 3] = [
 #[test]
 fn signs_at_the_ends_of_the_type(rt: HostRuntime) {
     for &(x, want) in &SIGNS {
-        assert!(rt; sign_of(x) == want, "{x}");
+        assert!(rt; sign_of(x) == want);
     }
     assert!(rt; product_sign(Sign::Neg, Sign::Neg) == Sign::Pos);
 }

@@ -3,7 +3,6 @@ use ember_io::{Calls, FileSet, MemoryShelf, MemorySink};
 use ember_run::{Status, run, run_one};
 use std::alloc::Global;
 use std::sync::Wait;
-use std::test::Fail;
 use std::thread::Threads;
 use steal_pool::OpenGate;
 
@@ -18,39 +17,42 @@ pub struct Given {
     pub err: MemorySink,
 }
 
-/// These files.
-pub fn file_set(alloc: Global, named: &[(&str, &[u8])]) -> Result<FileSet, Fail> {
+/// These files, if there is memory for them.
+pub fn file_set(alloc: Global, named: &[(&str, &[u8])]) -> Option<FileSet> {
     let mut files = Vec::new(alloc);
     for (name, bytes) in named {
-        let Ok(()) = files.push((
-            String::from_str(alloc, name)?,
-            Vec::from_slice(alloc, bytes)?,
-        )) else {
-            return Err(Fail::from("memory"));
-        };
+        let name = String::from_str(alloc, name).ok()?;
+        let bytes = Vec::from_slice(alloc, bytes).ok()?;
+        files.push((name, bytes)).ok()?;
     }
-    Ok(FileSet::of(files))
+    Some(FileSet::of(files))
+}
+
+/// The call of that number; calls count from 1.
+pub fn only(alloc: Global, call: u64) -> Option<Calls> {
+    Some(Calls::of(Vec::from_slice(alloc, &[call]).ok()?))
 }
 
 /// A shelf of these files, none of whose calls fails.
-pub fn shelf_of(alloc: Global, named: &[(&str, &[u8])]) -> Result<MemoryShelf, Fail> {
+pub fn shelf_of(alloc: Global, named: &[(&str, &[u8])]) -> Option<MemoryShelf> {
     let none = Calls::of(Vec::new(alloc));
-    Ok(MemoryShelf::new(alloc, file_set(alloc, named)?, 4096, none)?)
+    MemoryShelf::new(alloc, file_set(alloc, named)?, 4096, none).ok()
 }
 
 /// A sink with room for so many bytes, none of whose calls fails before.
-pub fn sink_of(alloc: Global, room: usize) -> Result<MemorySink, Fail> {
+pub fn sink_of(alloc: Global, room: usize) -> Option<MemorySink> {
     let none = Calls::of(Vec::new(alloc));
-    Ok(MemorySink::new(alloc, room, 4096, none)?)
+    MemorySink::new(alloc, room, 4096, none).ok()
 }
 
 /// The words of a line, with one blank between each two.
-pub fn words_of(alloc: Global, line: &str) -> Result<Vec<String>, Fail> {
+pub fn words_of(alloc: Global, line: &str) -> Option<Vec<String>> {
     let mut words = Vec::new(alloc);
     for word in line.split(' ') {
-        words.push(String::from_str(alloc, word)?)?;
+        let word = String::from_str(alloc, word).ok()?;
+        words.push(word).ok()?;
     }
-    Ok(words)
+    Some(words)
 }
 
 // What these words give over these files by `run`.
@@ -59,41 +61,47 @@ fn give_by_run<R: Threads + Wait + Sync>(
     alloc: Global,
     words: &[String],
     files: &[(&str, &[u8])],
-) -> Result<Given, Fail> {
+) -> Option<Given> {
     let mut shelf = shelf_of(alloc, files)?;
     let mut out = sink_of(alloc, 100_000)?;
     let mut err = sink_of(alloc, 1000)?;
     let status = run(rt, alloc, words, &mut shelf, &mut out, &mut err, &OpenGate);
-    Ok(Given { status, out, err })
+    Some(Given { status, out, err })
 }
 
 /// What these words give over these files by `run_one`, so by the calling thread alone.
-pub fn give_alone(alloc: Global, words: &[String], files: &[(&str, &[u8])]) -> Result<Given, Fail> {
+pub fn give_alone(alloc: Global, words: &[String], files: &[(&str, &[u8])]) -> Option<Given> {
     let mut shelf = shelf_of(alloc, files)?;
     let mut out = sink_of(alloc, 100_000)?;
     let mut err = sink_of(alloc, 1000)?;
     let status = run_one(alloc, words, &mut shelf, &mut out, &mut err, &OpenGate);
-    Ok(Given { status, out, err })
+    Some(Given { status, out, err })
 }
 
-// Both give the same.
-fn are_same(given: &Given, other: &Given) -> bool {
+/// A call ended like this, with these bytes on out and on err.
+pub fn is_given(given: &Given, status: Status, out: &[u8], err: &[u8]) -> bool {
+    given.status == status && given.out.bytes() == out && given.err.bytes() == err
+}
+
+/// Both give the same.
+pub fn are_same(given: &Given, other: &Given) -> bool {
     given.status == other.status
         && given.out.bytes() == other.out.bytes()
         && given.err.bytes() == other.err.bytes()
 }
 
-/// What these words give over these files, by `run` and by `run_one` alike.
+/// What these words give over these files by `run`, if `run_one` gives the same.
 pub fn give<R: Threads + Wait + Sync>(
     rt: &R,
     alloc: Global,
     words: &[String],
     files: &[(&str, &[u8])],
-) -> Result<Given, Fail> {
+) -> Option<Given> {
     let given = give_by_run(rt, alloc, words, files)?;
-    if are_same(&given, &give_alone(alloc, words, files)?) {
-        Ok(given)
+    let alone = give_alone(alloc, words, files)?;
+    if are_same(&given, &alone) {
+        Some(given)
     } else {
-        Err(Fail::from("run_one gives something else"))
+        None
     }
 }

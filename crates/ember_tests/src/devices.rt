@@ -1,85 +1,129 @@
 // Devices that fail, and files that are never begun.
+use crate::calls::{Given, is_given};
 use crate::files::{OPEN, TETRA_LINES, answer, failing_shelf, failing_sink, safe_shelf};
 use crate::texts::TETRA;
+use ember_io::Shelf;
 use ember_run::Status;
 use std::alloc::Global;
-use std::process::Abort;
 use std::sync::Wait;
-use std::test::Fail;
 use std::thread::Threads;
 
-// What a line answers over a shelf whose call of that number fails, and writes to err.
-fn check_shelf<R: Abort + Threads + Wait + Sync>(
+// What a line gives over a shelf, with an output whose call of that number fails, by `run_one` or by `run`.
+fn given_by<R: Threads + Wait + Sync, S: Shelf>(
     rt: &R,
+    alone: bool,
+    alloc: Global,
+    line: &str,
+    shelf: &mut S,
+    call: u64,
+) -> Option<Given> {
+    let mut out = failing_sink(alloc, call)?;
+    let mut err = failing_sink(alloc, 0)?;
+    let status = answer(rt, alone, alloc, line, shelf, &mut out, &mut err)?;
+    Some(Given { status, out, err })
+}
+
+// Whether a line ends like this there, and writes these bytes and this line on err.
+fn answers<R: Threads + Wait + Sync, S: Shelf>(
+    rt: &R,
+    alone: bool,
+    alloc: Global,
+    line: &str,
+    shelf: &mut S,
+    call: u64,
+    want: (Status, &[u8], &[u8]),
+) -> bool {
+    let (status, out, err) = want;
+    match given_by(rt, alone, alloc, line, shelf, call) {
+        Some(given) => is_given(&given, status, out, err),
+        None => false,
+    }
+}
+
+// Whether a file that can't be read is told like this, over a shelf whose call of that number fails.
+fn is_read_fault<R: Threads + Wait + Sync>(
+    rt: &R,
+    alone: bool,
     alloc: Global,
     line: &str,
     call: u64,
-    status: Status,
-    message: &[u8],
-) -> Result<(), Fail> {
-    for alone in [false, true] {
-        let mut shelf = failing_shelf(alloc, TETRA, call)?;
-        let mut out = failing_sink(alloc, 0)?;
-        let mut err = failing_sink(alloc, 0)?;
-        let given = answer(rt, alone, alloc, line, &mut shelf, &mut out, &mut err)?;
-        assert!(rt; given == status, "{line}");
-        assert!(rt; out.bytes().len() == 0);
-        assert!(rt; err.bytes() == message);
+    want: (u32, &[u8]),
+) -> bool {
+    let (file, message) = want;
+    let want: (Status, &[u8], &[u8]) = (Status::ReadFault(file), b"", message);
+    match failing_shelf(alloc, TETRA, call) {
+        Some(mut shelf) => answers(rt, alone, alloc, line, &mut shelf, 0, want),
+        None => false,
     }
-    Ok(())
 }
 
-#[test]
-fn failing_shelves_are_read_faults(rt: HostRuntime) -> Result<(), Fail> {
-    let alloc = rt.alloc();
-    let first = b"ember: cannot read a.obj\n";
-    let unknown = b"ember: cannot read b.obj\n";
-    for (line, call, message) in [
-        ("faces a.obj", 3, first),
-        ("at --point 1,2,3,16 a.obj", 3, first),
-        ("faces b.obj", 0, unknown),
-        ("at --point 1,2,3,16 b.obj", 0, unknown),
-    ] {
-        check_shelf(&rt, alloc, line, call, Status::ReadFault(1), message)?;
-    }
-    let line = "at --point 1,2,3,16 a.obj none.obj";
-    let second = b"ember: cannot read none.obj\n";
-    check_shelf(&rt, alloc, line, 0, Status::ReadFault(2), second)
-}
+const FIRST: &[u8] = b"ember: cannot read a.obj\n";
+
+const UNKNOWN: &[u8] = b"ember: cannot read b.obj\n";
+
+const SECOND: &[u8] = b"ember: cannot read none.obj\n";
+
+// Lines, the call of the shelf that fails (0: none), and the number of the file and the line on err.
+static READ_FAULTS: [(&str, u64, u32, &[u8]); 5] = [
+    ("faces a.obj", 3, 1, FIRST),
+    ("at --point 1,2,3,16 a.obj", 3, 1, FIRST),
+    ("faces b.obj", 0, 1, UNKNOWN),
+    ("at --point 1,2,3,16 b.obj", 0, 1, UNKNOWN),
+    ("at --point 1,2,3,16 a.obj none.obj", 0, 2, SECOND),
+];
 
 #[test]
-fn failing_sinks_are_write_faults(rt: HostRuntime) -> Result<(), Fail> {
-    let alloc = rt.alloc();
-    let at = "at --point 1,2,3,16 a.obj";
-    for (alone, line, call, text) in [
-        (false, "faces a.obj", 5, TETRA_LINES),
-        (true, "faces a.obj", 5, TETRA_LINES),
-        (false, at, 1, b"".as_slice()),
-        (true, at, 1, b"".as_slice()),
-    ] {
-        let mut shelf = safe_shelf(alloc, TETRA)?;
-        let mut out = failing_sink(alloc, call)?;
-        let mut err = failing_sink(alloc, 0)?;
-        let status = answer(&rt, alone, alloc, line, &mut shelf, &mut out, &mut err)?;
-        assert!(rt; status == Status::WriteFault);
-        assert!(rt; out.bytes() == text);
-        assert!(rt; err.bytes() == b"ember: cannot write\n".as_slice());
+fn failing_shelves_are_read_faults(rt: HostRuntime) {
+    for &(line, call, file, message) in &READ_FAULTS {
+        assert!(rt; is_read_fault(&rt, false, rt.alloc(), line, call, (file, message)));
+        assert!(rt; is_read_fault(&rt, true, rt.alloc(), line, call, (file, message)));
     }
-    Ok(())
 }
 
+// Whether an output whose call of that number fails has taken these bytes before, and is told.
+fn is_write_fault<R: Threads + Wait + Sync>(
+    rt: &R,
+    alone: bool,
+    alloc: Global,
+    line: &str,
+    call: u64,
+    taken: &[u8],
+) -> bool {
+    let want: (Status, &[u8], &[u8]) = (Status::WriteFault, taken, b"ember: cannot write\n");
+    match safe_shelf(alloc, TETRA) {
+        Some(mut shelf) => answers(rt, alone, alloc, line, &mut shelf, call, want),
+        None => false,
+    }
+}
+
+static WRITE_FAULTS: [(&str, u64, &[u8]); 2] = [
+    ("faces a.obj", 5, TETRA_LINES),
+    ("at --point 1,2,3,16 a.obj", 1, b""),
+];
+
 #[test]
-fn a_file_after_a_refusal_is_never_begun(rt: HostRuntime) -> Result<(), Fail> {
-    let alloc = rt.alloc();
-    let line = "at --point 1,2,3,16 a.obj none.obj";
+fn failing_sinks_are_write_faults(rt: HostRuntime) {
+    for &(line, call, taken) in &WRITE_FAULTS {
+        assert!(rt; is_write_fault(&rt, false, rt.alloc(), line, call, taken));
+        assert!(rt; is_write_fault(&rt, true, rt.alloc(), line, call, taken));
+    }
+}
+
+fn is_open_mesh(given: &Given) -> bool {
     let message = b"ember: a.obj: edge 0 0 1 to 0 1 0 stands 1 times and 0 times reversed\n";
-    for alone in [false, true] {
-        let mut shelf = failing_shelf(alloc, OPEN, 0)?;
-        let mut out = failing_sink(alloc, 0)?;
-        let mut err = failing_sink(alloc, 0)?;
-        let status = answer(&rt, alone, alloc, line, &mut shelf, &mut out, &mut err)?;
-        assert!(rt; matches!(&status, Status::MeshRefused(1, _)));
-        assert!(rt; err.bytes() == message.as_slice());
-    }
-    Ok(())
+    matches!(&given.status, Status::MeshRefused(1, _)) && given.err.bytes() == message.as_slice()
+}
+
+// Whether a mesh that isn't closed is told, and not that the file behind it can't be read.
+fn is_refused<R: Threads + Wait + Sync>(rt: &R, alone: bool, alloc: Global) -> Option<bool> {
+    let line = "at --point 1,2,3,16 a.obj none.obj";
+    let mut shelf = failing_shelf(alloc, OPEN, 0)?;
+    let given = given_by(rt, alone, alloc, line, &mut shelf, 0)?;
+    Some(is_open_mesh(&given))
+}
+
+#[test]
+fn a_file_after_a_refusal_is_never_begun(rt: HostRuntime) {
+    assert!(rt; is_refused(&rt, false, rt.alloc()) == Some(true));
+    assert!(rt; is_refused(&rt, true, rt.alloc()) == Some(true));
 }

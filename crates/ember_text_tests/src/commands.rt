@@ -1,27 +1,26 @@
 // Words of the command line, and the commands that they give.
 use ember_words::{Command, Text, Texts, WordsFault, read_words};
-use std::alloc::Global;
-use std::test::Fail;
+use std::alloc::{AllocError, Global};
 
-fn read(alloc: Global, words: &[&str]) -> Result<Result<Command, WordsFault>, Fail> {
+fn strings(alloc: Global, words: &[&str]) -> Result<Vec<String>, AllocError> {
     let mut strings = Vec::new(alloc);
     for word in words {
         strings.push(String::from_str(alloc, word)?)?;
     }
-    Ok(read_words(alloc, &strings))
+    Ok(strings)
 }
 
-// The command of words that give one.
-fn command(alloc: Global, words: &[&str]) -> Result<Command, Fail> {
-    match read(alloc, words)? {
-        Ok(command) => Ok(command),
-        Err(_) => Err(Fail::from("refused")),
+fn read(alloc: Global, words: &[&str]) -> Result<Command, WordsFault> {
+    let strings = strings(alloc, words)?;
+    read_words(alloc, &strings)
+}
+
+// The words are refused.
+fn are_refused(alloc: Global, words: &[&str]) -> bool {
+    match read(alloc, words) {
+        Ok(_command) => false,
+        Err(fault) => fault == WordsFault::Words,
     }
-}
-
-// Why words give no command.
-fn fault_of(alloc: Global, words: &[&str]) -> Result<Option<WordsFault>, Fail> {
-    Ok(read(alloc, words)?.err())
 }
 
 // A command is looked at by reference, since parts that are taken out of it cost seconds of proof.
@@ -207,13 +206,26 @@ fn is_so(
         && has_files(command, files)
 }
 
-#[test]
-fn words_give_commands(rt: HostRuntime) -> Result<(), Fail> {
-    for &(words, name, numbers, expr, files) in &COMMANDS {
-        let command = command(rt.alloc(), words)?;
-        assert!(rt; is_so(&command, name, numbers, expr, files), "{name}");
+// The words give such a command.
+fn give(
+    alloc: Global,
+    words: &[&str],
+    name: &str,
+    numbers: [i64; 5],
+    expr: Option<&str>,
+    files: &[&str],
+) -> bool {
+    match read(alloc, words) {
+        Ok(command) => is_so(&command, name, numbers, expr, files),
+        Err(_) => false,
     }
-    Ok(())
+}
+
+#[test]
+fn words_give_commands(rt: HostRuntime) {
+    for &(words, name, numbers, expr, files) in &COMMANDS {
+        assert!(rt; give(rt.alloc(), words, name, numbers, expr, files));
+    }
 }
 
 static OTHER_WORDS_ARE_REFUSED: [&[&str]; 24] = [
@@ -244,9 +256,8 @@ static OTHER_WORDS_ARE_REFUSED: [&[&str]; 24] = [
 ];
 
 #[test]
-fn other_words_are_refused(rt: HostRuntime) -> Result<(), Fail> {
+fn other_words_are_refused(rt: HostRuntime) {
     for &words in &OTHER_WORDS_ARE_REFUSED {
-        assert!(rt; matches!(fault_of(rt.alloc(), words)?, Some(WordsFault::Words)));
+        assert!(rt; are_refused(rt.alloc(), words));
     }
-    Ok(())
 }

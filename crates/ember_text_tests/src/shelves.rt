@@ -25,7 +25,7 @@ fn check<S: Shelf>(
     match (read_all(alloc, shelf, name, 1, u64::from(most)), want) {
         (Ok(bytes), Ok(want)) => assert!(rt; bytes.as_slice() == want),
         (Err(end), Err(want)) => assert!(rt; end == want),
-        _ => assert!(rt; false, "{name}"),
+        _ => assert!(rt; false),
     }
 }
 

@@ -28,10 +28,7 @@ static A_TETRAHEDRON: [(i32, &[u8]); 3] = [
 #[test]
 fn a_tetrahedron(rt: HostRuntime) {
     for &(at, want) in &A_TETRAHEDRON {
-        assert!(rt;
-            is_slice(rt.alloc(), TETRA_TEXT, at, want) == Ok(true),
-            "{at}"
-        );
+        assert!(rt; is_slice(rt.alloc(), TETRA_TEXT, at, want) == Ok(true));
     }
 }
 
@@ -104,6 +101,6 @@ static FACES_OF_ANY_PLANES: [(&[u8], i32, &[u8], Result<bool, SliceFault>); 4] =
 #[test]
 fn faces_of_any_planes(rt: HostRuntime) {
     for &(file, at, text, want) in &FACES_OF_ANY_PLANES {
-        assert!(rt; is_slice(rt.alloc(), file, at, text) == want, "{at}");
+        assert!(rt; is_slice(rt.alloc(), file, at, text) == want);
     }
 }

@@ -303,10 +303,7 @@ static SIDES: [[([i64; 4], Sign); 4]; 7] = [
 fn sides_of_meets(rt: HostRuntime) {
     for meet in 0..7 {
         for (numbers, want) in &SIDES[meet] {
-            assert!(rt;
-                side_of(&PLANES[meet], numbers) == Some(*want),
-                "{numbers:?}"
-            );
+            assert!(rt; side_of(&PLANES[meet], numbers) == Some(*want));
         }
     }
 }

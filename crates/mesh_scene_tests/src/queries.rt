@@ -85,8 +85,8 @@ fn faces_in_memory_are_those_of_the_document(rt: HostRuntime) -> Result<(), Fail
     // By the last two, the faces of a cube are flipped.
     for text in ["m1|m2", "m1&!m2", "m2&!m1"] {
         let expr = expression(alloc, text.as_bytes())?;
-        assert!(rt; agree_alone(alloc, &scene, &expr)?, "{text} alone");
-        assert!(rt; agree_by_two(&rt, alloc, &scene, &expr)?, "{text} by two");
+        assert!(rt; agree_alone(alloc, &scene, &expr)?);
+        assert!(rt; agree_by_two(&rt, alloc, &scene, &expr)?);
     }
     Ok(())
 }

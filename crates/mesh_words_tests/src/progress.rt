@@ -6,7 +6,6 @@ use std::fmt::{Display, Write};
 use std::io;
 use std::io::Eprint;
 use std::rt::Clock;
-use std::test::Fail;
 use std::time::Duration;
 use steal_pool::Gate;
 
@@ -25,11 +24,11 @@ impl Desk {
         }
     }
 
-    // Takes what was written since the last call.
-    fn taken(&self, alloc: Global) -> Result<String, Fail> {
+    // Takes what was written since the last call. It is this text.
+    fn shows(&self, alloc: Global, text: &str) -> bool {
         match self.text.try_replace(String::new(alloc)) {
-            Ok(text) => Ok(text),
-            Err(_) => Err(Fail::from("the terminal is in use")),
+            Ok(taken) => taken.as_str() == text,
+            Err(_) => false,
         }
     }
 }
@@ -70,7 +69,7 @@ static A_LINE_FOLLOWS_THE_BOXES: [(u64, u64, &str); 8] = [
 ];
 
 #[test]
-fn a_line_follows_the_boxes(rt: HostRuntime) -> Result<(), Fail> {
+fn a_line_follows_the_boxes(rt: HostRuntime) {
     let desk = Desk::new(rt.alloc());
     let gate = ProgressGate::new(&desk, true);
     // the root and three left halves in the first second
@@ -79,15 +78,14 @@ fn a_line_follows_the_boxes(rt: HostRuntime) -> Result<(), Fail> {
     }
     desk.milliseconds.set(999);
     gate.enter(8);
-    assert!(rt; desk.taken(rt.alloc())?.as_str() == "");
+    assert!(rt; desk.shows(rt.alloc(), ""));
     for &(time, path, line) in &A_LINE_FOLLOWS_THE_BOXES {
         desk.milliseconds.set(time);
         gate.enter(path);
-        assert!(rt; desk.taken(rt.alloc())?.as_str() == line);
+        assert!(rt; desk.shows(rt.alloc(), line));
     }
     gate.clear();
-    assert!(rt; desk.taken(rt.alloc())?.as_str() == "                     \r");
-    Ok(())
+    assert!(rt; desk.shows(rt.alloc(), "                     \r"));
 }
 
 static A_STAGE_IS_SHOWN_WHEN_IT_BEGINS: [(u64, Stage, &str); 7] = [
@@ -101,21 +99,20 @@ static A_STAGE_IS_SHOWN_WHEN_IT_BEGINS: [(u64, Stage, &str); 7] = [
 ];
 
 #[test]
-fn a_stage_is_shown_when_it_begins(rt: HostRuntime) -> Result<(), Fail> {
+fn a_stage_is_shown_when_it_begins(rt: HostRuntime) {
     let desk = Desk::new(rt.alloc());
     let gate = ProgressGate::new(&desk, true);
     for &(time, stage, line) in &A_STAGE_IS_SHOWN_WHEN_IT_BEGINS {
         desk.milliseconds.set(time);
         gate.begin(stage);
-        assert!(rt; desk.taken(rt.alloc())?.as_str() == line);
+        assert!(rt; desk.shows(rt.alloc(), line));
     }
     gate.clear();
-    assert!(rt; desk.taken(rt.alloc())?.as_str() == "                     \r");
-    Ok(())
+    assert!(rt; desk.shows(rt.alloc(), "                     \r"));
 }
 
 #[test]
-fn nothing_is_shown_that_is_not_wanted(rt: HostRuntime) -> Result<(), Fail> {
+fn nothing_is_shown_that_is_not_wanted(rt: HostRuntime) {
     let desk = Desk::new(rt.alloc());
     for is_wanted in [false, true] {
         desk.milliseconds.set(0);
@@ -126,12 +123,11 @@ fn nothing_is_shown_that_is_not_wanted(rt: HostRuntime) -> Result<(), Fail> {
         }
         gate.begin(Stage::Triangles);
         gate.clear();
-        assert!(rt; desk.taken(rt.alloc())?.as_str() == "");
+        assert!(rt; desk.shows(rt.alloc(), ""));
     }
-    Ok(())
 }
 
-static WEIGHTS_AND_PERCENTAGES: [(u64, u64); 9] = [
+static WEIGHTS: [(u64, u64); 9] = [
     (1, 65536),
     (2, 32768),
     (3, 32768),
@@ -143,20 +139,21 @@ static WEIGHTS_AND_PERCENTAGES: [(u64, u64); 9] = [
     (1 << 36, 0),
 ];
 
+static PERCENTAGES: [(u64, u64); 6] = [
+    (0, 0),
+    (655, 0),
+    (656, 1),
+    (65535, 99),
+    (65536, 100),
+    (98304, 100),
+];
+
 #[test]
-fn weights_and_percentages(rt: HostRuntime) -> Result<(), Fail> {
-    for &(path, want) in &WEIGHTS_AND_PERCENTAGES {
+fn weights_and_percentages(rt: HostRuntime) {
+    for &(path, want) in &WEIGHTS {
         assert!(rt; weight(path) == want);
     }
-    for (done, want) in [
-        (0, 0),
-        (655, 0),
-        (656, 1),
-        (65535, 99),
-        (65536, 100),
-        (98304, 100),
-    ] {
+    for &(done, want) in &PERCENTAGES {
         assert!(rt; percentage(done) == want);
     }
-    Ok(())
 }

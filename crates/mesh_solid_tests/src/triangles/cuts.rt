@@ -263,7 +263,7 @@ fn parts_of_squares(rt: HostRuntime) -> Result<(), Fail> {
     for sheet in 0..3 {
         for &rings in &PARTS {
             let outcome = outcome_of_rings(rt.alloc(), sheet, rings)?;
-            assert!(rt; outcome == Outcome::Certified, "{rings:?} of sheet {sheet}");
+            assert!(rt; outcome == Outcome::Certified);
         }
     }
     Ok(())
@@ -297,7 +297,7 @@ fn parts_that_are_not_cut(rt: HostRuntime) -> Result<(), Fail> {
     for sheet in 0..3 {
         for (rings, want) in rows {
             let outcome = outcome_of_rings(rt.alloc(), sheet, rings)?;
-            assert!(rt; outcome == want, "{rings:?} of sheet {sheet}");
+            assert!(rt; outcome == want);
         }
     }
     Ok(())
@@ -355,7 +355,7 @@ fn stars_with_a_hole(rt: HostRuntime) -> Result<(), Fail> {
     for seed in 0u32..12 {
         for has_hole in [false, true] {
             let outcome = outcome_of_star(rt.alloc(), seed, has_hole)?;
-            assert!(rt; outcome == Outcome::Certified, "{seed}");
+            assert!(rt; outcome == Outcome::Certified);
         }
     }
     Ok(())
@@ -395,7 +395,7 @@ fn outcome_of_comb(alloc: Global, turns: u8) -> Result<Outcome, Fail> {
 fn combs_in_four_directions(rt: HostRuntime) -> Result<(), Fail> {
     for turns in 0u8..4 {
         let outcome = outcome_of_comb(rt.alloc(), turns)?;
-        assert!(rt; outcome == Outcome::Certified, "{turns}");
+        assert!(rt; outcome == Outcome::Certified);
     }
     Ok(())
 }

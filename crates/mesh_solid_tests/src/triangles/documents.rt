@@ -31,32 +31,52 @@ pub fn mesh_of(alloc: Global, bytes: &[u8]) -> Result<SolidMesh, DocumentFault> 
     )
 }
 
+fn is_tetrahedron(mesh: &SolidMesh) -> bool {
+    mesh.faces == 4
+        && mesh.triangles.len() == 4
+        && mesh.planes.len() == 4
+        && mesh.corners.len() == 4
+}
+
+fn is_empty(mesh: &SolidMesh) -> bool {
+    mesh.faces == 0 && mesh.triangles.is_empty()
+}
+
 #[test]
 fn a_tetrahedron_has_four_triangles(rt: HostRuntime) -> Result<(), Fail> {
     let mesh = mesh_of(rt.alloc(), TETRA)?;
-    assert!(rt; (mesh.faces, mesh.triangles.len()) == (4, 4));
-    assert!(rt; (mesh.planes.len(), mesh.corners.len()) == (4, 4));
+    assert!(rt; is_tetrahedron(&mesh));
     let empty = mesh_of(rt.alloc(), b"ember 1\nend 0\n")?;
-    assert!(rt; (empty.faces, empty.triangles.len()) == (0, 0));
+    assert!(rt; is_empty(&empty));
     Ok(())
+}
+
+// The document is refused for this fault.
+fn is_refused(alloc: Global, bytes: &[u8], want: DocumentFault) -> bool {
+    match mesh_of(alloc, bytes) {
+        Ok(_mesh) => false,
+        Err(fault) => fault == want,
+    }
 }
 
 #[test]
 fn what_is_no_document_is_refused(rt: HostRuntime) {
     for bytes in [b"".as_slice(), b"ember 1\n", b"ember 1\nend 1\n"] {
-        assert!(rt; mesh_of(rt.alloc(), bytes).err() == Some(DocumentFault::NotADocument));
+        assert!(rt; is_refused(rt.alloc(), bytes, DocumentFault::NotADocument));
+    }
+}
+
+fn is_open(alloc: Global, bytes: &[u8]) -> bool {
+    match mesh_of(alloc, bytes) {
+        Ok(_mesh) => false,
+        Err(fault) => matches!(&fault, DocumentFault::NotCut(TrianglesFault::NotClosed(_))),
     }
 }
 
 #[test]
 fn one_face_is_not_closed(rt: HostRuntime) -> Result<(), Fail> {
     let document = with_bottom(rt.alloc(), b"end 1\n")?;
-    assert!(rt;
-        matches!(
-            mesh_of(rt.alloc(), &document).err(),
-            Some(DocumentFault::NotCut(TrianglesFault::NotClosed(_)))
-        )
-    );
+    assert!(rt; is_open(rt.alloc(), &document));
     Ok(())
 }
 
@@ -85,7 +105,7 @@ static EDGES_THAT_ARE_NO_OUTLINE_ARE_REFUSED: [(&[u8], DocumentFault); 4] = [
 fn edges_that_are_no_outline_are_refused(rt: HostRuntime) -> Result<(), Fail> {
     for &(lines, fault) in &EDGES_THAT_ARE_NO_OUTLINE_ARE_REFUSED {
         let document = with_bottom(rt.alloc(), lines)?;
-        assert!(rt; mesh_of(rt.alloc(), &document).err() == Some(fault));
+        assert!(rt; is_refused(rt.alloc(), &document, fault));
     }
     Ok(())
 }

@@ -273,14 +273,8 @@ fn count_with(alloc: Global, number: usize, change: Change) -> Result<usize, Tri
 fn edges_off_the_lines_of_the_table(rt: HostRuntime) {
     let wrong = Err(TrianglesFault::NotCertified);
     for number in 0..6 {
-        assert!(rt;
-            count_with(rt.alloc(), number, Change::Shifted) == wrong,
-            "{number}"
-        );
-        assert!(rt;
-            count_with(rt.alloc(), number, Change::Zeros) == wrong,
-            "{number}"
-        );
+        assert!(rt; count_with(rt.alloc(), number, Change::Shifted) == wrong);
+        assert!(rt; count_with(rt.alloc(), number, Change::Zeros) == wrong);
     }
     // A line without edges may be anything.
     assert!(rt; count_with(rt.alloc(), 6, Change::More) == Ok(4));

@@ -51,7 +51,7 @@ static KEYS_OF_PLANES: [([i64; 4], [i64; 4]); 7] = [
 #[test]
 fn keys_of_planes(rt: HostRuntime) {
     for &(numbers, want) in &KEYS_OF_PLANES {
-        assert!(rt; plane_key(&plane(numbers)) == plane(want), "{numbers:?}");
+        assert!(rt; plane_key(&plane(numbers)) == plane(want));
     }
 }
 
@@ -84,7 +84,7 @@ fn keys_of_lines(rt: HostRuntime) -> Result<(), Fail> {
             my: moment[1],
             mz: moment[2],
         };
-        assert!(rt; key == want, "{first:?} {second:?}");
+        assert!(rt; key == want);
     }
     Ok(())
 }

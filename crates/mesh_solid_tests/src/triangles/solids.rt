@@ -10,7 +10,7 @@ use ember_mesh::{Closed, Parts, balanced, check, join};
 use ember_model::{OutOfMemory, Scene, Soup};
 use ember_obj::read_obj;
 use ember_query::{Answer, Query, answer_alone};
-use mesh_solid::{MeshedSolid, solid_mesh};
+use mesh_solid::{MeshedSolid, SolidMesh, solid_mesh};
 use mesh_triangles::{PlaneAnswer, PlaneQuery, TrianglesFault, answer_planes_alone};
 use std::alloc::Global;
 use std::test::Fail;
@@ -96,6 +96,12 @@ pub(crate) fn solid_of(
 }
 
 // The number of triangles of a solid, whether its faces are as many as its report says, and whether it has a document.
+fn found(solid: &MeshedSolid) -> (usize, bool, bool) {
+    let agrees = solid.mesh.faces == solid.report.faces;
+    (solid.mesh.triangles.len(), agrees, solid.document.is_some())
+}
+
+// The same of the solid of an expression over two files.
 fn found_in(
     alloc: Global,
     first: &[u8],
@@ -104,8 +110,7 @@ fn found_in(
 ) -> Result<(usize, bool, bool), Fail> {
     let scene = scene_of(alloc, first, second)?;
     let solid = solid_of(alloc, &scene, text, false)?;
-    let agrees = solid.mesh.faces == solid.report.faces;
-    Ok((solid.mesh.triangles.len(), agrees, solid.document.is_some()))
+    Ok(found(&solid))
 }
 
 // A face of a box that isn't cut has two triangles. One that is cut at a corner has four.
@@ -126,18 +131,23 @@ fn solids_of_two_meshes(rt: HostRuntime) -> Result<(), Fail> {
     Ok(())
 }
 
-// Whether planes, corners, triangles and number of faces of the kept document's mesh are those of the solid.
+// Whether planes, corners, triangles and number of faces are those.
+fn are_parts_of(again: &SolidMesh, mesh: &SolidMesh) -> [bool; 4] {
+    [
+        again.planes == mesh.planes,
+        again.corners == mesh.corners,
+        again.triangles == mesh.triangles,
+        again.faces == mesh.faces,
+    ]
+}
+
+// Whether the kept document's mesh has the parts of the solid.
 fn same_parts(alloc: Global, solid: &MeshedSolid) -> Result<[bool; 4], Fail> {
     let Some(document) = &solid.document else {
         return Err(Fail::from("no document"));
     };
     let again = mesh_of(alloc, document)?;
-    Ok([
-        again.planes == solid.mesh.planes,
-        again.corners == solid.mesh.corners,
-        again.triangles == solid.mesh.triangles,
-        again.faces == solid.mesh.faces,
-    ])
+    Ok(are_parts_of(&again, &solid.mesh))
 }
 
 #[test]

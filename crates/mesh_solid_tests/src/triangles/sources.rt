@@ -138,7 +138,7 @@ fn sources_of_a_table(rt: HostRuntime) -> Result<(), Fail> {
     let sources = table_sources(rt.alloc())?;
     assert!(rt; sources.len() == TRIANGLES.len());
     for i in 0..TRIANGLES.len() {
-        assert!(rt; numbers_of(sources[i]) == TRIANGLES[i].1, "{i}");
+        assert!(rt; numbers_of(sources[i]) == TRIANGLES[i].1);
     }
     Ok(())
 }

@@ -1,5 +1,6 @@
 // The tables of small face files.
 use ember_reread::read_faces;
+use mesh_certificate::{LineKey, Segment, SpacePoint};
 use mesh_solid::{TableFault, Tables, tables_of};
 use std::alloc::Global;
 use std::test::Fail;
@@ -43,23 +44,41 @@ fn tables_in(alloc: Global, file: &[u8]) -> Result<Tables, TableFault> {
     }
 }
 
+fn are_edges(segments: &[Segment]) -> bool {
+    if segments.len() != EDGES.len() {
+        return false;
+    }
+    for i in 0..EDGES.len() {
+        let s = &segments[i];
+        if [s.plane, s.line, s.start, s.end] != EDGES[i] {
+            return false;
+        }
+    }
+    true
+}
+
+// The fourth line and the fourth corner of the tetrahedron.
+fn are_fourth(line: &LineKey, corner: &SpacePoint) -> bool {
+    (line.dx, line.dy, line.dz) == (1, 0, -1)
+        && (line.mx, line.my, line.mz) == (0, 1, 0)
+        && (corner.x, corner.y, corner.z, corner.w) == (0, 0, 1, 1)
+}
+
+fn is_tetrahedron(tables: &Tables) -> bool {
+    if tables.lines.len() != 6 || tables.corners.len() != 4 {
+        return false;
+    }
+    tables.planes.len() == 4
+        && are_edges(&tables.segments)
+        && are_fourth(&tables.lines[3], &tables.corners[3])
+}
+
 #[test]
 fn a_tetrahedron_has_four_planes_and_six_lines(rt: HostRuntime) -> Result<(), Fail> {
-    for file in [TETRA, MULTIPLES] {
-        let tables = tables_in(rt.alloc(), file)?;
-        let mut edges = Vec::new(rt.alloc());
-        for s in &tables.segments {
-            edges.push([s.plane, s.line, s.start, s.end])?;
-        }
-        assert!(rt; edges.as_slice() == EDGES.as_slice());
-        assert!(rt; tables.planes.len() == 4);
-        assert!(rt; tables.lines.len() == 6);
-        assert!(rt; tables.corners.len() == 4);
-        let (line, corner) = (tables.lines[3], tables.corners[3]);
-        assert!(rt; (line.dx, line.dy, line.dz) == (1, 0, -1));
-        assert!(rt; (line.mx, line.my, line.mz) == (0, 1, 0));
-        assert!(rt; (corner.x, corner.y, corner.z, corner.w) == (0, 0, 1, 1));
-    }
+    let tables = tables_in(rt.alloc(), TETRA)?;
+    assert!(rt; is_tetrahedron(&tables));
+    let tables = tables_in(rt.alloc(), MULTIPLES)?;
+    assert!(rt; is_tetrahedron(&tables));
     Ok(())
 }
 
@@ -74,9 +93,17 @@ static EDGES_WITHOUT_A_LINE_OR_A_CORNER: [(&[u8], TableFault); 2] = [
     ),
 ];
 
+// The file has no tables, for this fault.
+fn is_refused(alloc: Global, file: &[u8], want: TableFault) -> bool {
+    match tables_in(alloc, file) {
+        Ok(_tables) => false,
+        Err(fault) => fault == want,
+    }
+}
+
 #[test]
 fn edges_without_a_line_or_a_corner(rt: HostRuntime) {
     for &(file, fault) in &EDGES_WITHOUT_A_LINE_OR_A_CORNER {
-        assert!(rt; tables_in(rt.alloc(), file).err() == Some(fault));
+        assert!(rt; is_refused(rt.alloc(), file, fault));
     }
 }

@@ -4,6 +4,7 @@ use mesh_certificate::{SpacePoint, Triangle};
 use mesh_effect::{Move, greatest_decimal_move, greatest_float_move, is_above_hundredth, put_move};
 use mesh_grid::GridStep;
 use mesh_written::float_points;
+use std::alloc::Global;
 use std::test::Fail;
 
 const THIRD: SpacePoint = SpacePoint {
@@ -23,6 +24,13 @@ const WHOLE: SpacePoint = SpacePoint {
 // A triangle of one corner.
 fn of_one_corner() -> [Triangle; 1] {
     [triangle(0, 0, 0, 0)]
+}
+
+// The text of the length is this.
+fn is_written(alloc: Global, moved: &Move, want: &[u8]) -> bool {
+    let mut text = Vec::new(alloc);
+    let is_put = put_move(moved, &mut text).is_ok();
+    is_put && text.as_slice() == want
 }
 
 #[test]
@@ -48,9 +56,7 @@ fn moves_to_decimals(rt: HostRuntime) -> Result<(), Fail> {
             &AT_ZERO,
             places,
         )?;
-        let mut text = Vec::new(alloc);
-        put_move(&moved, &mut text)?;
-        assert!(rt; text.as_slice() == want);
+        assert!(rt; is_written(alloc, &moved, want));
     }
     Ok(())
 }
@@ -83,15 +89,13 @@ fn moves_to_floats(rt: HostRuntime) -> Result<(), Fail> {
             &step,
             &AT_ZERO,
         )?;
-        let mut text = Vec::new(alloc);
-        put_move(&moved, &mut text)?;
-        assert!(rt; text.as_slice() == want);
+        assert!(rt; is_written(alloc, &moved, want));
     }
     Ok(())
 }
 
 #[test]
-fn moves_are_written(rt: HostRuntime) -> Result<(), Fail> {
+fn moves_are_written(rt: HostRuntime) {
     let rows: [(Move, &[u8]); 3] = [
         (
             Move {
@@ -116,15 +120,12 @@ fn moves_are_written(rt: HostRuntime) -> Result<(), Fail> {
         ),
     ];
     for (moved, want) in rows {
-        let mut text = Vec::new(rt.alloc());
-        put_move(&moved, &mut text)?;
-        assert!(rt; text.as_slice() == want);
+        assert!(rt; is_written(rt.alloc(), &moved, want));
     }
-    Ok(())
 }
 
 #[test]
-fn moves_below_a_ten_thousandth_have_an_exponent(rt: HostRuntime) -> Result<(), Fail> {
+fn moves_below_a_ten_thousandth_have_an_exponent(rt: HostRuntime) {
     let rows: [(Move, &[u8]); 4] = [
         (
             Move {
@@ -156,11 +157,8 @@ fn moves_below_a_ten_thousandth_have_an_exponent(rt: HostRuntime) -> Result<(), 
         ),
     ];
     for (moved, want) in rows {
-        let mut text = Vec::new(rt.alloc());
-        put_move(&moved, &mut text)?;
-        assert!(rt; text.as_slice() == want);
+        assert!(rt; is_written(rt.alloc(), &moved, want));
     }
-    Ok(())
 }
 
 #[test]

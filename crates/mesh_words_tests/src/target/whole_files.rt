@@ -1,43 +1,42 @@
 // Files that are written whole, in memory and by the system.
 ghost use Rattle.std.specs.Prelude.{◌≡◌, None, IfOk};
 
-use ember_io::Calls;
+use crate::target::several_files::{OLD, target_of};
 use mesh_outside::{FileTarget, MemoryTarget, WriteEnd, write_whole};
-use std::alloc::Global;
-use std::process::Abort;
+use std::alloc::{AllocError, Global};
 use std::rt::Files;
 use std::test::Fail;
-
-const OLD: &[u8] = b"old";
 
 const NEW: &[u8] = b"0123456789";
 
 // A target that takes four bytes at once, and whose calls of these numbers fail. It has a file `out`
 // and one beside it.
-fn target(alloc: Global, failing: &[u64]) -> Result<MemoryTarget, Fail>
+fn target(alloc: Global, failing: &[u64]) -> Result<MemoryTarget, AllocError>
     ensures { IfOk result (λ target. target.begun ≡ None) }
 {
-    let failing = Calls::of(Vec::from_slice(alloc, failing)?);
-    let mut target = MemoryTarget::new(alloc, 4, failing);
-    target.put("out", OLD)?;
-    target.put("out.new", OLD)?;
-    Ok(target)
+    target_of(alloc, 4, failing, ["out", "out.new"])
+}
+
+// These names hold these bytes.
+fn hold(target: &MemoryTarget, held: &[(&str, Option<&[u8]>)]) -> bool {
+    for (name, bytes) in held {
+        if target.bytes_of(name) != *bytes {
+            return false;
+        }
+    }
+    true
 }
 
 // The file `out` is written with this end. Then these names hold these bytes.
-fn check(
-    rt: &impl Abort,
+fn ends(
     alloc: Global,
     target: &mut MemoryTarget,
     end: Result<(), WriteEnd>,
     held: &[(&str, Option<&[u8]>)],
-)
+) -> bool
     requires { target.old.begun ≡ None }
 {
-    assert!(rt; write_whole(alloc, target, "out", NEW) == end);
-    for (name, bytes) in held {
-        assert!(rt; target.bytes_of(name) == *bytes, "{name}");
-    }
+    write_whole(alloc, target, "out", NEW) == end && hold(target, held)
 }
 
 const FAULT: Result<(), WriteEnd> = Err(WriteEnd::WriteFault);
@@ -55,19 +54,30 @@ static ENDS: [(&[u64], Result<(), WriteEnd>, &[u8], Option<&[u8]>); 9] = [
     (&[5, 6], FAULT, OLD, Some(NEW)),
 ];
 
-#[test]
-fn a_name_holds_all_new_bytes_or_what_it_held(rt: HostRuntime) -> Result<(), Fail> {
-    let alloc = rt.alloc();
-    for &(failing, end, out, left) in &ENDS {
-        let mut target = target(alloc, failing)?;
-        let held = [
-            ("out", Some(out)),
-            ("out.new", Some(OLD)),
-            ("out.new-0", left),
-        ];
-        check(&rt, alloc, &mut target, end, &held);
+// If these calls fail, the file is written with this end. Then it holds these bytes, and the new file those.
+fn ends_if<'a>(
+    alloc: Global,
+    failing: &[u64],
+    end: Result<(), WriteEnd>,
+    out: &'a [u8],
+    left: Option<&'a [u8]>,
+) -> bool {
+    let held = [
+        ("out", Some(out)),
+        ("out.new", Some(OLD)),
+        ("out.new-0", left),
+    ];
+    match target(alloc, failing) {
+        Ok(mut target) => ends(alloc, &mut target, end, &held),
+        Err(_) => false,
     }
-    Ok(())
+}
+
+#[test]
+fn a_name_holds_all_new_bytes_or_what_it_held(rt: HostRuntime) {
+    for &(failing, end, out, left) in &ENDS {
+        assert!(rt; ends_if(rt.alloc(), failing, end, out, left));
+    }
 }
 
 #[test]
@@ -83,7 +93,7 @@ fn a_new_file_takes_the_first_free_name(rt: HostRuntime) -> Result<(), Fail> {
         ("out.new-1", Some(OLD)),
         ("out.new-2", Some(b"0123".as_slice())),
     ];
-    check(&rt, alloc, &mut target, Err(WriteEnd::WriteFault), &held);
+    assert!(rt; ends(alloc, &mut target, FAULT, &held));
     Ok(())
 }
 
@@ -105,7 +115,7 @@ fn no_file_is_written_if_all_names_for_a_new_one_are_taken(rt: HostRuntime) -> R
     let mut target = target(alloc, &[])?;
     put_all_beside(alloc, &mut target)?;
     let held = [("out", Some(OLD)), ("out.new-99", Some(OLD))];
-    check(&rt, alloc, &mut target, Err(WriteEnd::NamesTaken), &held);
+    assert!(rt; ends(alloc, &mut target, Err(WriteEnd::NamesTaken), &held));
     Ok(())
 }
 
@@ -138,7 +148,7 @@ fn a_file_of_the_system_that_cannot_be_written_leaves_no_other(
     std::fs::create_dir(&rt, "folder.out")?;
     for name in ["folder.out", "missing/whole.out"] {
         let end = write_file(&rt, rt.alloc(), name, NEW);
-        assert!(rt; end == Err(WriteEnd::WriteFault), "{name}");
+        assert!(rt; end == Err(WriteEnd::WriteFault));
     }
     assert!(rt; std::fs::metadata(&rt, "folder.out")?.is_dir());
     assert!(rt; !std::fs::exists(&rt, "folder.out.new-0")?);

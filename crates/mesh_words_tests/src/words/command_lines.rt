@@ -2,11 +2,9 @@
 use ember_words::Text;
 use mesh_words::{Command, Destination, OutputFormat, Setting, WantedStep, WordsFault, read_words};
 use std::alloc::Global;
-use std::process::Abort;
-use std::test::Fail;
 
 /// The words as strings.
-pub fn strings(alloc: Global, words: &[&str]) -> Result<Vec<String>, Fail> {
+pub fn strings(alloc: Global, words: &[&str]) -> Result<Vec<String>, WordsFault> {
     let mut strings = Vec::new(alloc);
     for word in words {
         strings.push(String::from_str(alloc, word)?)?;
@@ -15,23 +13,21 @@ pub fn strings(alloc: Global, words: &[&str]) -> Result<Vec<String>, Fail> {
 }
 
 /// What the words are read as.
-pub fn read(alloc: Global, words: &[&str]) -> Result<Result<Command, WordsFault>, Fail> {
+pub fn read(alloc: Global, words: &[&str]) -> Result<Command, WordsFault> {
     let strings = strings(alloc, words)?;
-    Ok(read_words(alloc, &strings))
+    read_words(alloc, &strings)
 }
 
-// The command of words that give one.
-fn command_of(alloc: Global, words: &[&str]) -> Result<Command, Fail> {
-    match read(alloc, words)? {
-        Ok(command) => Ok(command),
-        Err(_) => Err(Fail::from("refused")),
-    }
+fn has_so_many_files(command: &Command, files: usize) -> bool {
+    matches!(command, Command::Boole(request) if request.files.items().len() == files)
 }
 
 /// The words give a Boolean of this many files.
-pub fn is_boolean_of(alloc: Global, words: &[&str], files: usize) -> Result<bool, Fail> {
-    let command = command_of(alloc, words)?;
-    Ok(matches!(&command, Command::Boole(request) if request.files.items().len() == files))
+pub fn is_boolean_of(alloc: Global, words: &[&str], files: usize) -> bool {
+    match read(alloc, words) {
+        Ok(command) => has_so_many_files(&command, files),
+        Err(_) => false,
+    }
 }
 
 // A command is looked at by reference, since parts that are taken out of it cost seconds of proof.
@@ -115,26 +111,36 @@ fn has_files(command: &Command, names: &[&str]) -> bool {
     }
 }
 
+// Its settings have these texts.
+fn has_texts(command: &Command, texts: &[(Setting, Option<&str>)]) -> bool {
+    for (setting, text) in texts {
+        if text_of(command, *setting) != *text {
+            return false;
+        }
+    }
+    true
+}
+
 // The words give a command with these settings, texts and files.
-fn check(
-    rt: &impl Abort,
+fn is_command(
     alloc: Global,
     words: &[&str],
     settings: Settings,
     texts: &[(Setting, Option<&str>)],
     files: &[&str],
-) -> Result<(), Fail> {
-    let command = command_of(alloc, words)?;
-    assert!(rt; settings_of(&command) == settings);
-    for (setting, text) in texts {
-        assert!(rt; text_of(&command, *setting) == *text);
+) -> bool {
+    match read(alloc, words) {
+        Ok(command) => {
+            settings_of(&command) == settings
+                && has_texts(&command, texts)
+                && has_files(&command, files)
+        }
+        Err(_) => false,
     }
-    assert!(rt; has_files(&command, files));
-    Ok(())
 }
 
 #[test]
-fn a_union_of_defaults(rt: HostRuntime) -> Result<(), Fail> {
+fn a_union_of_defaults(rt: HostRuntime) {
     let words = ["union", "-o", "u.STL", "a.stl", "b.obj", "a.stl"];
     let texts = [
         (Setting::Expression, Some("m1|m2|m3")),
@@ -143,18 +149,19 @@ fn a_union_of_defaults(rt: HostRuntime) -> Result<(), Fail> {
         (Setting::Page, None),
         (Setting::Keep, None),
     ];
-    check(
-        &rt,
-        rt.alloc(),
-        &words,
-        (Some(OutputFormat::Stl), 4, None, false),
-        &texts,
-        &["a.stl", "b.obj", "a.stl"],
-    )
+    assert!(rt;
+        is_command(
+            rt.alloc(),
+            &words,
+            (Some(OutputFormat::Stl), 4, None, false),
+            &texts,
+            &["a.stl", "b.obj", "a.stl"],
+        )
+    );
 }
 
 #[test]
-fn options_between_and_behind_files(rt: HostRuntime) -> Result<(), Fail> {
+fn options_between_and_behind_files(rt: HostRuntime) {
     let words = [
         "bool",
         "a.off",
@@ -175,14 +182,15 @@ fn options_between_and_behind_files(rt: HostRuntime) -> Result<(), Fail> {
         (Setting::Output, Some("d/x.y.oFf")),
         (Setting::Step, Some("1e-3")),
     ];
-    check(
-        &rt,
-        rt.alloc(),
-        &words,
-        (Some(OutputFormat::Off), 64, Some(17), true),
-        &texts,
-        &["a.off", "b.off"],
-    )
+    assert!(rt;
+        is_command(
+            rt.alloc(),
+            &words,
+            (Some(OutputFormat::Off), 64, Some(17), true),
+            &texts,
+            &["a.off", "b.off"],
+        )
+    );
 }
 
 // Command lines of a Boolean, with the page and the folder that each names.
@@ -224,14 +232,20 @@ static PAGES_AND_FOLDERS: [(&[&str], Option<&str>, Option<&str>); 4] = [
     ),
 ];
 
-#[test]
-fn pages_and_folders_of_a_boolean(rt: HostRuntime) -> Result<(), Fail> {
-    for &(words, view, keep) in &PAGES_AND_FOLDERS {
-        let command = command_of(rt.alloc(), words)?;
-        assert!(rt; text_of(&command, Setting::Page) == view);
-        assert!(rt; text_of(&command, Setting::Keep) == keep);
+// The words give a command with these texts.
+fn gives_texts(alloc: Global, words: &[&str], texts: &[(Setting, Option<&str>)]) -> bool {
+    match read(alloc, words) {
+        Ok(command) => has_texts(&command, texts),
+        Err(_) => false,
     }
-    Ok(())
+}
+
+#[test]
+fn pages_and_folders_of_a_boolean(rt: HostRuntime) {
+    for &(words, view, keep) in &PAGES_AND_FOLDERS {
+        let texts = [(Setting::Page, view), (Setting::Keep, keep)];
+        assert!(rt; gives_texts(rt.alloc(), words, &texts));
+    }
 }
 
 static MESHES_FOR_THEIR_GRID: [(&[&str], bool, &str, &str, &[&str]); 3] = [
@@ -259,36 +273,29 @@ static MESHES_FOR_THEIR_GRID: [(&[&str], bool, &str, &str, &[&str]); 3] = [
 ];
 
 #[test]
-fn meshes_for_their_grid(rt: HostRuntime) -> Result<(), Fail> {
+fn meshes_for_their_grid(rt: HostRuntime) {
     for &(words, quiet, folder, step, files) in &MESHES_FOR_THEIR_GRID {
         let texts = [(Setting::Folder, Some(folder)), (Setting::Step, Some(step))];
-        check(
-            &rt,
-            rt.alloc(),
-            words,
-            (None, 0, None, quiet),
-            &texts,
-            files,
-        )?;
+        assert!(rt; is_command(rt.alloc(), words, (None, 0, None, quiet), &texts, files,));
     }
-    Ok(())
 }
 
 #[test]
-fn a_document_to_export(rt: HostRuntime) -> Result<(), Fail> {
+fn a_document_to_export(rt: HostRuntime) {
     let texts = [
         (Setting::Output, Some("x.obj")),
         (Setting::Scene, None),
         (Setting::Page, None),
     ];
-    check(
-        &rt,
-        rt.alloc(),
-        &["export", "doc.txt", "-o", "x.obj"],
-        (Some(OutputFormat::Obj), 0, None, false),
-        &texts,
-        &["doc.txt"],
-    )?;
+    assert!(rt;
+        is_command(
+            rt.alloc(),
+            &["export", "doc.txt", "-o", "x.obj"],
+            (Some(OutputFormat::Obj), 0, None, false),
+            &texts,
+            &["doc.txt"],
+        )
+    );
     let words = [
         "export",
         "--scene",
@@ -304,65 +311,69 @@ fn a_document_to_export(rt: HostRuntime) -> Result<(), Fail> {
         (Setting::Scene, Some("d/scene.json")),
         (Setting::Page, Some("p.html")),
     ];
-    check(
-        &rt,
-        rt.alloc(),
-        &words,
-        (Some(OutputFormat::Ply), 0, Some(0), true),
-        &texts,
-        &["doc"],
-    )
+    assert!(rt;
+        is_command(
+            rt.alloc(),
+            &words,
+            (Some(OutputFormat::Ply), 0, Some(0), true),
+            &texts,
+            &["doc"],
+        )
+    );
+}
+
+// The command has this expression and format.
+fn has_expression_and_format(command: &Command, expression: &str, format: OutputFormat) -> bool {
+    text_of(command, Setting::Expression) == Some(expression)
+        && settings_of(command).0 == Some(format)
 }
 
 // The words give a Boolean of this expression and format.
-fn gives(
-    alloc: Global,
-    words: &[&str],
-    expression: &str,
-    format: OutputFormat,
-) -> Result<bool, Fail> {
-    let command = command_of(alloc, words)?;
-    Ok(
-        text_of(&command, Setting::Expression) == Some(expression)
-            && settings_of(&command).0 == Some(format),
-    )
+fn gives(alloc: Global, words: &[&str], expression: &str, format: OutputFormat) -> bool {
+    match read(alloc, words) {
+        Ok(command) => has_expression_and_format(&command, expression, format),
+        Err(_) => false,
+    }
 }
 
-#[test]
-fn expressions_of_operators(rt: HostRuntime) -> Result<(), Fail> {
-    let rows = [
-        ("union", "m1|m2|m3|m4|m5|m6|m7|m8|m9|m10|m11"),
-        ("difference", "m1&!m2&!m3&!m4&!m5&!m6&!m7&!m8&!m9&!m10&!m11"),
-        ("intersection", "m1&m2&m3&m4&m5&m6&m7&m8&m9&m10&m11"),
+// The command of this name gives this expression of eleven files, and the first mesh of one.
+fn has_expression(alloc: Global, name: &str, want: &str) -> bool {
+    let eleven = [
+        name, "-o", ".ply", "a", "b", "c", "d", "e", "f", "g", "h", "i", "j", "k",
     ];
-    for (name, want) in rows {
-        let words = [
-            name, "-o", ".ply", "a", "b", "c", "d", "e", "f", "g", "h", "i", "j", "k",
-        ];
-        assert!(rt;
-            gives(rt.alloc(), &words, want, OutputFormat::Ply)?,
-            "{name} of eleven"
-        );
-        let words = [name, "-o", "x.obj", "a"];
-        assert!(rt;
-            gives(rt.alloc(), &words, "m1", OutputFormat::Obj)?,
-            "{name} of one"
-        );
-        let words = [name, "-o", "x.Glb", "a"];
-        assert!(rt;
-            gives(rt.alloc(), &words, "m1", OutputFormat::Glb)?,
-            "{name} as GLB"
-        );
+    gives(alloc, &eleven, want, OutputFormat::Ply)
+        && gives(alloc, &[name, "-o", "x.obj", "a"], "m1", OutputFormat::Obj)
+        && gives(alloc, &[name, "-o", "x.Glb", "a"], "m1", OutputFormat::Glb)
+}
+
+static EXPRESSIONS_OF_OPERATORS: [(&str, &str); 3] = [
+    ("union", "m1|m2|m3|m4|m5|m6|m7|m8|m9|m10|m11"),
+    ("difference", "m1&!m2&!m3&!m4&!m5&!m6&!m7&!m8&!m9&!m10&!m11"),
+    ("intersection", "m1&m2&m3&m4&m5&m6&m7&m8&m9&m10&m11"),
+];
+
+#[test]
+fn expressions_of_operators(rt: HostRuntime) {
+    for &(name, want) in &EXPRESSIONS_OF_OPERATORS {
+        assert!(rt; has_expression(rt.alloc(), name, want));
     }
-    Ok(())
+}
+
+// Whether it is help, and whether it is the version.
+fn is_help_or_version(command: &Command) -> (bool, bool) {
+    match command {
+        Command::Help => (true, false),
+        Command::Version => (false, true),
+        _ => (false, false),
+    }
 }
 
 // Whether the words ask for help, and whether for the version.
-fn asks_for(alloc: Global, words: &[&str]) -> Result<(bool, bool), Fail> {
-    let command = command_of(alloc, words)?;
-    let is_help = matches!(&command, Command::Help);
-    let is_version = matches!(&command, Command::Version);
-    Ok((is_help, is_version))
+fn asks_for(alloc: Global, words: &[&str]) -> (bool, bool) {
+    match read(alloc, words) {
+        Ok(command) => is_help_or_version(&command),
+        Err(_) => (false, false),
+    }
 }
 
 static WORDS_THAT_ASK_FOR_HELP_OR_THE_VERSION: [&[&str]; 9] = [
@@ -378,28 +389,28 @@ static WORDS_THAT_ASK_FOR_HELP_OR_THE_VERSION: [&[&str]; 9] = [
 ];
 
 #[test]
-fn words_that_ask_for_help_or_the_version(rt: HostRuntime) -> Result<(), Fail> {
+fn words_that_ask_for_help_or_the_version(rt: HostRuntime) {
     for &words in &WORDS_THAT_ASK_FOR_HELP_OR_THE_VERSION {
-        assert!(rt; asks_for(rt.alloc(), words)? == (true, false));
+        assert!(rt; asks_for(rt.alloc(), words) == (true, false));
     }
-    assert!(rt; asks_for(rt.alloc(), &["--version"])? == (false, true));
-    Ok(())
+    assert!(rt; asks_for(rt.alloc(), &["--version"]) == (false, true));
 }
 
 #[test]
-fn info_and_views_of_files(rt: HostRuntime) -> Result<(), Fail> {
+fn info_and_views_of_files(rt: HostRuntime) {
     let none = (None, 0, None, false);
     let words = ["info", "a.stl", "b=1.obj"];
     let texts = [(Setting::Output, None)];
-    check(&rt, rt.alloc(), &words, none, &texts, &["a.stl", "b=1.obj"])?;
+    assert!(rt; is_command(rt.alloc(), &words, none, &texts, &["a.stl", "b=1.obj"]));
     let words = ["view", "a.stl", "--quiet", "-o=PAGE.HTML", "b.obj", "a.stl"];
     let texts = [(Setting::Output, Some("PAGE.HTML"))];
-    check(
-        &rt,
-        rt.alloc(),
-        &words,
-        none,
-        &texts,
-        &["a.stl", "b.obj", "a.stl"],
-    )
+    assert!(rt;
+        is_command(
+            rt.alloc(),
+            &words,
+            none,
+            &texts,
+            &["a.stl", "b.obj", "a.stl"],
+        )
+    );
 }

@@ -1,14 +1,15 @@
 // Words of the second program's command line that are refused.
 use crate::words::command_lines::{is_boolean_of, read, strings};
+use ember_words::Text;
 use mesh_words::{Refusal, Setting, WordsFault, output_given, step_given};
-use std::alloc::Global;
+use std::alloc::{AllocError, Global};
 use std::test::Fail;
 
-/// Why the words are refused, if they are.
-pub fn refusal(alloc: Global, words: &[&str]) -> Result<Option<Refusal>, Fail> {
-    match read(alloc, words)?.err() {
-        Some(WordsFault::Refused(why)) => Ok(Some(why)),
-        _ => Ok(None),
+/// The words are refused for this reason.
+pub fn is_refused(alloc: Global, words: &[&str], why: Refusal) -> bool {
+    match read(alloc, words) {
+        Ok(_command) => false,
+        Err(fault) => fault == WordsFault::Refused(why),
     }
 }
 
@@ -49,11 +50,10 @@ static WORDS_THAT_ARE_REFUSED: [(&[&str], Refusal); 24] = [
 ];
 
 #[test]
-fn words_that_are_refused(rt: HostRuntime) -> Result<(), Fail> {
+fn words_that_are_refused(rt: HostRuntime) {
     for &(words, want) in &WORDS_THAT_ARE_REFUSED {
-        assert!(rt; refusal(rt.alloc(), words)? == Some(want));
+        assert!(rt; is_refused(rt.alloc(), words, want));
     }
-    Ok(())
 }
 
 static STEPS_WORKERS_AND_DIGITS_THAT_ARE_REFUSED: [(&[&str], Refusal); 10] = [
@@ -94,11 +94,10 @@ static STEPS_WORKERS_AND_DIGITS_THAT_ARE_REFUSED: [(&[&str], Refusal); 10] = [
 ];
 
 #[test]
-fn steps_workers_and_digits_that_are_refused(rt: HostRuntime) -> Result<(), Fail> {
+fn steps_workers_and_digits_that_are_refused(rt: HostRuntime) {
     for &(words, want) in &STEPS_WORKERS_AND_DIGITS_THAT_ARE_REFUSED {
-        assert!(rt; refusal(rt.alloc(), words)? == Some(want));
+        assert!(rt; is_refused(rt.alloc(), words, want));
     }
-    Ok(())
 }
 
 static VIEWS_THAT_ARE_REFUSED: [(&[&str], Refusal); 10] = [
@@ -130,13 +129,12 @@ static VIEWS_THAT_ARE_REFUSED: [(&[&str], Refusal); 10] = [
 ];
 
 #[test]
-fn views_that_are_refused(rt: HostRuntime) -> Result<(), Fail> {
+fn views_that_are_refused(rt: HostRuntime) {
     for &(words, want) in &VIEWS_THAT_ARE_REFUSED {
-        assert!(rt; refusal(rt.alloc(), words)? == Some(want));
+        assert!(rt; is_refused(rt.alloc(), words, want));
     }
     assert!(rt; Setting::Workers.name() == "--workers");
     assert!(rt; Setting::Output.name() == "-o");
-    Ok(())
 }
 
 static SNAPS_THAT_ARE_REFUSED: [(&[&str], Refusal); 8] = [
@@ -157,11 +155,10 @@ static SNAPS_THAT_ARE_REFUSED: [(&[&str], Refusal); 8] = [
 ];
 
 #[test]
-fn snaps_that_are_refused(rt: HostRuntime) -> Result<(), Fail> {
+fn snaps_that_are_refused(rt: HostRuntime) {
     for &(words, want) in &SNAPS_THAT_ARE_REFUSED {
-        assert!(rt; refusal(rt.alloc(), words)? == Some(want));
+        assert!(rt; is_refused(rt.alloc(), words, want));
     }
-    Ok(())
 }
 
 static EXPORTS_THAT_ARE_REFUSED: [(&[&str], Refusal); 10] = [
@@ -199,11 +196,10 @@ static EXPORTS_THAT_ARE_REFUSED: [(&[&str], Refusal); 10] = [
 ];
 
 #[test]
-fn exports_that_are_refused(rt: HostRuntime) -> Result<(), Fail> {
+fn exports_that_are_refused(rt: HostRuntime) {
     for &(words, want) in &EXPORTS_THAT_ARE_REFUSED {
-        assert!(rt; refusal(rt.alloc(), words)? == Some(want));
+        assert!(rt; is_refused(rt.alloc(), words, want));
     }
-    Ok(())
 }
 
 static VALUES_THAT_ARE_REFUSED_ARE_KNOWN: [(&[&str], &str, &str); 5] = [
@@ -218,14 +214,30 @@ static VALUES_THAT_ARE_REFUSED_ARE_KNOWN: [(&[&str], &str, &str); 5] = [
     (&[], "", ""),
 ];
 
-#[test]
-fn values_that_are_refused_are_known(rt: HostRuntime) -> Result<(), Fail> {
-    for &(words, output, step) in &VALUES_THAT_ARE_REFUSED_ARE_KNOWN {
-        let strings = strings(rt.alloc(), words)?;
-        assert!(rt; output_given(rt.alloc(), &strings)?.as_str() == output);
-        assert!(rt; step_given(rt.alloc(), &strings)?.as_str() == step);
+/// What is given is this text.
+pub fn is_text(given: Result<Text, AllocError>, want: &str) -> bool {
+    match given {
+        Ok(text) => text.as_str() == want,
+        Err(_) => false,
     }
-    Ok(())
+}
+
+// The words give this output and this step.
+fn are_given(alloc: Global, words: &[&str], output: &str, step: &str) -> bool {
+    match strings(alloc, words) {
+        Ok(strings) => {
+            is_text(output_given(alloc, &strings), output)
+                && is_text(step_given(alloc, &strings), step)
+        }
+        Err(_) => false,
+    }
+}
+
+#[test]
+fn values_that_are_refused_are_known(rt: HostRuntime) {
+    for &(words, output, step) in &VALUES_THAT_ARE_REFUSED_ARE_KNOWN {
+        assert!(rt; are_given(rt.alloc(), words, output, step));
+    }
 }
 
 #[test]
@@ -237,8 +249,8 @@ fn at_most_64_files(rt: HostRuntime) -> Result<(), Fail> {
     for _file in 0..64 {
         words.push("a")?;
     }
-    assert!(rt; is_boolean_of(rt.alloc(), &words, 64)?);
+    assert!(rt; is_boolean_of(rt.alloc(), &words, 64));
     words.push("a")?;
-    assert!(rt; refusal(rt.alloc(), &words)? == Some(Refusal::TooManyFiles));
+    assert!(rt; is_refused(rt.alloc(), &words, Refusal::TooManyFiles));
     Ok(())
 }

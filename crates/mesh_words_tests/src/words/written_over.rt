@@ -1,13 +1,16 @@
 // Words of the second program's command line that would write over what they read, or that name twice
 // what they write.
 use crate::words::command_lines::{read, strings};
-use crate::words::refusals::refusal;
+use crate::words::refusals::{is_refused, is_text};
 use mesh_words::{Refusal, Setting, input_given, value_given};
 use std::alloc::Global;
 use std::test::Fail;
 
-fn is_read(alloc: Global, words: &[&str]) -> Result<bool, Fail> {
-    Ok(read(alloc, words)?.is_ok())
+fn is_read(alloc: Global, words: &[&str]) -> bool {
+    match read(alloc, words) {
+        Ok(_command) => true,
+        Err(_) => false,
+    }
 }
 
 static SECOND_NAMES: [(&[&str], Setting); 5] = [
@@ -28,11 +31,10 @@ static SECOND_NAMES: [(&[&str], Setting); 5] = [
 ];
 
 #[test]
-fn second_names(rt: HostRuntime) -> Result<(), Fail> {
+fn second_names(rt: HostRuntime) {
     for &(words, option) in &SECOND_NAMES {
-        assert!(rt; refusal(rt.alloc(), words)? == Some(Refusal::Twice(option)));
+        assert!(rt; is_refused(rt.alloc(), words, Refusal::Twice(option)));
     }
-    Ok(())
 }
 
 static PAGES_OF_OTHER_NAMES: [(&[&str], Setting); 4] = [
@@ -46,14 +48,13 @@ static PAGES_OF_OTHER_NAMES: [(&[&str], Setting); 4] = [
 ];
 
 #[test]
-fn pages_of_other_names(rt: HostRuntime) -> Result<(), Fail> {
+fn pages_of_other_names(rt: HostRuntime) {
     for &(words, option) in &PAGES_OF_OTHER_NAMES {
-        assert!(rt; refusal(rt.alloc(), words)? == Some(Refusal::PageEnding(option)));
+        assert!(rt; is_refused(rt.alloc(), words, Refusal::PageEnding(option)));
     }
     for name in ["-o=A.HTML", "-o=a.Htm", "-o=a.stl.htm", "-o=b/../a.html"] {
-        assert!(rt; is_read(rt.alloc(), &["view", "a.stl", "a.html", name])?);
+        assert!(rt; is_read(rt.alloc(), &["view", "a.stl", "a.html", name]));
     }
-    Ok(())
 }
 
 static INPUTS_THAT_WOULD_BE_WRITTEN_OVER: [(&[&str], Setting, usize); 9] = [
@@ -85,12 +86,11 @@ static INPUTS_THAT_WOULD_BE_WRITTEN_OVER: [(&[&str], Setting, usize); 9] = [
 ];
 
 #[test]
-fn inputs_that_would_be_written_over(rt: HostRuntime) -> Result<(), Fail> {
+fn inputs_that_would_be_written_over(rt: HostRuntime) {
     for &(words, option, number) in &INPUTS_THAT_WOULD_BE_WRITTEN_OVER {
         let want = Refusal::OverInput(option, number);
-        assert!(rt; refusal(rt.alloc(), words)? == Some(want));
+        assert!(rt; is_refused(rt.alloc(), words, want));
     }
-    Ok(())
 }
 
 static OUTPUTS_THAT_WOULD_BE_WRITTEN_TWICE: [(&[&str], Setting); 6] = [
@@ -118,11 +118,10 @@ static OUTPUTS_THAT_WOULD_BE_WRITTEN_TWICE: [(&[&str], Setting); 6] = [
 ];
 
 #[test]
-fn outputs_that_would_be_written_twice(rt: HostRuntime) -> Result<(), Fail> {
+fn outputs_that_would_be_written_twice(rt: HostRuntime) {
     for &(words, option) in &OUTPUTS_THAT_WOULD_BE_WRITTEN_TWICE {
-        assert!(rt; refusal(rt.alloc(), words)? == Some(Refusal::OverOutput(option)));
+        assert!(rt; is_refused(rt.alloc(), words, Refusal::OverOutput(option)));
     }
-    Ok(())
 }
 
 static OUTPUTS_BESIDE_OTHER_FILES: [&[&str]; 5] = [
@@ -134,15 +133,14 @@ static OUTPUTS_BESIDE_OTHER_FILES: [&[&str]; 5] = [
 ];
 
 #[test]
-fn outputs_beside_other_files(rt: HostRuntime) -> Result<(), Fail> {
+fn outputs_beside_other_files(rt: HostRuntime) {
     for &words in &OUTPUTS_BESIDE_OTHER_FILES {
-        assert!(rt; is_read(rt.alloc(), words)?);
+        assert!(rt; is_read(rt.alloc(), words));
     }
     // An input that would be written over is told first.
     let words = ["union", "-o", "d/1.obj", "--keep", "d", "d/1.obj"];
     let want = Refusal::OverInput(Setting::Keep, 0);
-    assert!(rt; refusal(rt.alloc(), &words)? == Some(want));
-    Ok(())
+    assert!(rt; is_refused(rt.alloc(), &words, want));
 }
 
 static INPUTS_THAT_STAY: [&[&str]; 7] = [
@@ -156,23 +154,30 @@ static INPUTS_THAT_STAY: [&[&str]; 7] = [
 ];
 
 #[test]
-fn inputs_that_stay(rt: HostRuntime) -> Result<(), Fail> {
+fn inputs_that_stay(rt: HostRuntime) {
     for &words in &INPUTS_THAT_STAY {
-        assert!(rt; is_read(rt.alloc(), words)?);
+        assert!(rt; is_read(rt.alloc(), words));
     }
-    Ok(())
+}
+
+static INPUTS: [(usize, &str); 3] = [(0, "d"), (1, "s"), (2, "")];
+
+// The words have these inputs, and this page, but no folder of a Boolean.
+fn are_named(alloc: Global, words: &[String]) -> bool {
+    for &(number, want) in &INPUTS {
+        if !is_text(input_given(alloc, words, number), want) {
+            return false;
+        }
+    }
+    is_text(value_given(alloc, words, Setting::Page), "p")
+        && is_text(value_given(alloc, words, Setting::Keep), "")
 }
 
 #[test]
 fn names_of_inputs_and_targets(rt: HostRuntime) -> Result<(), Fail> {
     let words = ["export", "d", "--view=p", "--scene=s", "-o", "x.stl"];
     let words = strings(rt.alloc(), &words)?;
-    for (number, want) in [(0, "d"), (1, "s"), (2, "")] {
-        assert!(rt; input_given(rt.alloc(), &words, number)?.as_str() == want);
-    }
-    for (setting, want) in [(Setting::Page, "p"), (Setting::Keep, "")] {
-        assert!(rt; value_given(rt.alloc(), &words, setting)?.as_str() == want);
-    }
-    assert!(rt; input_given(rt.alloc(), &[], 0)?.as_str() == "");
+    assert!(rt; are_named(rt.alloc(), &words));
+    assert!(rt; is_text(input_given(rt.alloc(), &[], 0), ""));
     Ok(())
 }
