@@ -20,7 +20,7 @@ CRATE = "ember_c"
 EXPORTS = ["ember_abi", "ember_mesh_command", "malloc"]
 # The compiler that was tried. Another may give the module other types or calls.
 COMPILER_SUM = "22b657c8ab338a03324a4b8bae6cf44babb20ceb764b54b83d7e0574fe37c044"
-OPTIONS = ["--target=wasm64-unknown-unknown", "-Os", "-mbulk-memory", "-mbulk-memory-opt", "-msign-ext", "-mnontrapping-fptoint"]
+OPTIONS = ["--target=wasm64-unknown-unknown", "-O2", "-mbulk-memory", "-mbulk-memory-opt", "-msign-ext", "-mnontrapping-fptoint"]
 FEATURES = ["--enable-memory64", "--enable-bulk-memory", "--enable-sign-ext", "--enable-nontrapping-float-to-int"]
 # The stack in the module's memory: the deepest call needs less than 256 KiB of it.
 STACK = 1 << 20
