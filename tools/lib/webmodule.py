@@ -6,6 +6,7 @@ processors, and a few calls that WebAssembly lacks. Then the same compiler makes
 the proof.
 """
 import hashlib
+import json
 import os
 import re
 import shutil
@@ -19,7 +20,7 @@ CRATE = "ember_c"
 EXPORTS = ["ember_abi", "ember_mesh_command", "malloc"]
 # The compiler that was tried. Another may give the module other types or calls.
 COMPILER_SUM = "22b657c8ab338a03324a4b8bae6cf44babb20ceb764b54b83d7e0574fe37c044"
-OPTIONS = ["--target=wasm64-unknown-unknown", "-Os", "-mbulk-memory", "-mbulk-memory-opt", "-msign-ext", "-mnontrapping-fptoint"]
+OPTIONS = ["--target=wasm64-unknown-unknown", "-O2", "-mbulk-memory", "-mbulk-memory-opt", "-msign-ext", "-mnontrapping-fptoint"]
 FEATURES = ["--enable-memory64", "--enable-bulk-memory", "--enable-sign-ext", "--enable-nontrapping-float-to-int"]
 # The stack in the module's memory: the deepest call needs less than 256 KiB of it.
 STACK = 1 << 20
@@ -91,13 +92,41 @@ def make_kit(room):
     return made / "bin"
 
 
+def made_of():
+    """What the LLVM module of the library is made of now: sources and toolchain."""
+    sources = package.builder.sum_of_sources(package.TOP, package.builder.listed(), CRATE, {})
+    return [sources, package.builder.sum_of_tools(CRATE), COMPILER_SUM]
+
+
+def kept_module():
+    """The LLVM module that an earlier call kept and the last line of its check, if both are of what is there now."""
+    kept, note = (Path(package.builder.room(), f"{CRATE}.{it}") for it in ("bc", "bc.json"))
+    if not kept.exists() or not note.exists():
+        return None
+    said = json.loads(note.read_text(encoding="utf-8"))
+    is_same = said["made_of"] == made_of() and said["sum"] == hashlib.sha256(kept.read_bytes()).hexdigest()
+    return (kept, said["verdict"]) if is_same else None
+
+
+def keep_module(llvm, verdict):
+    """Keeps the LLVM module for calls over the same sources."""
+    kept, note = (Path(package.builder.room(), f"{CRATE}.{it}") for it in ("bc", "bc.json"))
+    said = {"made_of": made_of(), "sum": hashlib.sha256(llvm.read_bytes()).hexdigest(), "verdict": verdict}
+    shutil.copy(llvm, kept)
+    note.write_text(json.dumps(said), encoding="utf-8")
+
+
 def build_module(room, jobs):
     """Proves and builds the library, as tools/build does, and returns the LLVM module of which the toolchain made it, and the last line of the check."""
+    package.refuse_changes()
+    if kept := kept_module():
+        return kept
     package.build(jobs, [CRATE], {**os.environ, "PATH": f"{make_kit(room)}:{os.environ['PATH']}"})
     log = Path(package.builder.room(), f"{CRATE}.log")
     verdict = re.findall(r"^logic=proved .*$", log.read_text(encoding="utf-8", errors="replace"), re.M)
     if not verdict or not (room / "module.bc").exists():
         package.fail(f"the toolchain gave no module, or no verdict: {log} has all that it said")
+    keep_module(room / "module.bc", verdict[-1])
     return room / "module.bc", verdict[-1]
 
 
