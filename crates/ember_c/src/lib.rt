@@ -4,6 +4,8 @@
 
 mod answer;
 mod blocks;
+#[cfg(test)]
+mod sizes;
 mod solid;
 mod step;
 
