@@ -1,11 +1,10 @@
 // Calls over devices in memory.
-ghost use Rattle.std.specs.Prelude.{◌≡◌, None, IfOk};
+ghost use Rattle.std.specs.Prelude.{◌≡◌, None, IfSome};
 
 use ember_io::{Calls, FileSet, MemoryShelf, MemorySink};
 use mesh_outside::MemoryTarget;
 use mesh_run::{Status, run_mesh_one};
 use std::alloc::Global;
-use std::test::Fail;
 use steal_pool::OpenGate;
 
 /// Files by their names.
@@ -38,18 +37,20 @@ impl Given {
     }
 }
 
-// These files.
-fn file_set(alloc: Global, named: Named) -> Result<FileSet, Fail> {
+/// There is no file of this name.
+pub fn lacks(given: &Given, name: &str) -> bool {
+    given.target.bytes_of(name).is_none()
+}
+
+// These files, if there is memory for them.
+fn file_set(alloc: Global, named: Named) -> Option<FileSet> {
     let mut files = Vec::new(alloc);
     for (name, bytes) in named {
-        let Ok(()) = files.push((
-            String::from_str(alloc, name)?,
-            Vec::from_slice(alloc, bytes)?,
-        )) else {
-            return Err(Fail::from("memory"));
-        };
+        let name = String::from_str(alloc, name).ok()?;
+        let bytes = Vec::from_slice(alloc, bytes).ok()?;
+        files.push((name, bytes)).ok()?;
     }
-    Ok(FileSet::of(files))
+    Some(FileSet::of(files))
 }
 
 /// No call.
@@ -57,23 +58,29 @@ pub fn none(alloc: Global) -> Calls {
     Calls::of(Vec::new(alloc))
 }
 
+/// The call of this number.
+pub fn only(alloc: Global, call: u64) -> Option<Calls> {
+    Some(Calls::of(Vec::from_slice(alloc, &[call]).ok()?))
+}
+
 // A target in which out.stl and out.html hold something, and whose calls of these numbers fail.
-fn target_of(alloc: Global, failing: Calls) -> Result<MemoryTarget, Fail>
-    ensures { IfOk result (λ target. target.begun ≡ None) }
+fn target_of(alloc: Global, failing: Calls) -> Option<MemoryTarget>
+    ensures { IfSome result (λ target. target.begun ≡ None) }
 {
     let mut target = MemoryTarget::new(alloc, 4096, failing);
-    target.put("out.stl", BEFORE)?;
-    target.put("out.html", BEFORE)?;
-    Ok(target)
+    target.put("out.stl", BEFORE).ok()?;
+    target.put("out.html", BEFORE).ok()?;
+    Some(target)
 }
 
 // The words of a line, which stand with one blank between each two.
-fn words_of(alloc: Global, line: &str) -> Result<Vec<String>, Fail> {
+fn words_of(alloc: Global, line: &str) -> Option<Vec<String>> {
     let mut words = Vec::new(alloc);
     for word in line.split(' ') {
-        words.push(String::from_str(alloc, word)?)?;
+        let word = String::from_str(alloc, word).ok()?;
+        words.push(word).ok()?;
     }
-    Ok(words)
+    Some(words)
 }
 
 /// What the words of a line give over these files, by the calling thread alone, if these calls of
@@ -85,12 +92,12 @@ pub fn give(
     shelf_calls: Calls,
     target_calls: Calls,
     room: usize,
-) -> Result<Given, Fail> {
+) -> Option<Given> {
     let words = words_of(alloc, line)?;
-    let mut shelf = MemoryShelf::new(alloc, file_set(alloc, files)?, 4096, shelf_calls)?;
+    let mut shelf = MemoryShelf::new(alloc, file_set(alloc, files)?, 4096, shelf_calls).ok()?;
     let mut target = target_of(alloc, target_calls)?;
-    let mut out = MemorySink::new(alloc, room, 4096, none(alloc))?;
-    let mut err = MemorySink::new(alloc, 10_000, 4096, none(alloc))?;
+    let mut out = MemorySink::new(alloc, room, 4096, none(alloc)).ok()?;
+    let mut err = MemorySink::new(alloc, 10_000, 4096, none(alloc)).ok()?;
     let status = run_mesh_one(
         alloc,
         &words,
@@ -100,7 +107,7 @@ pub fn give(
         &mut err,
         &OpenGate,
     );
-    Ok(Given {
+    Some(Given {
         status,
         target,
         out,
