@@ -31,8 +31,8 @@ WindWhere ts x fs =
 abbrev pub AreMissedNearby : List Face → Type 0
 AreMissedNearby fs = (p : Spot) → pos 0 <ℤ p.w → Eventually (λ k. AreClear fs (offset_by p (pos k)))
 
--- ---- parts of triangles
--- a face, and the index of the triangle of which it is a part
+-- ---- fragments of triangles
+-- a face, and the index of the triangle of which it is a fragment
 pub record Fragment : Type 0 where
   pub triangle : ℕ
   pub face : Face
@@ -45,6 +45,7 @@ pub record IsFragmentOf (ts : List Tri) (k : Fragment) : Type 0 where
   pub support : (k.face.support ≡ support_of tri) ⊎ (k.face.support ≡ opposite (support_of tri))
   pub closed : (v : Spot) → is_in_closed k.face v ≡ true → is_in_closed (face_of tri) v ≡ true
 
+-- their faces
 abbrev pub faces : List Fragment → List Face
 faces ks = map (λ k. k.face) ks
 
@@ -86,8 +87,8 @@ pub record StaysWhole (ts : List Tri) (x : List ℤ → Bool) (i : ℕ) (fs : Li
 abbrev pub StayWhole : List Tri → (List ℤ → Bool) → List ℕ → List Face → Type 0
 StayWhole ts x listed fs = Each (StaysWhole ts x) listed fs
 
--- let fragments of the triangles wind where a condition holds. Then so do the listed triangles, whole, together with the
--- fragments of all others
+-- let fragments of the triangles wind where a condition holds. Then so do the listed triangles, whole, together with
+-- the fragments of all others
 abbrev pub WholeFacesWindAlike : List Tri → Type 0
 WholeFacesWindAlike ts =
     (x : List ℤ → Bool) (ks : List Fragment) (listed : List ℕ) (fs : List Face) →

@@ -2,6 +2,7 @@
 //! or dropped whole. And a test that shows of most pairs of triangles that they don't touch.
 #![tactic(auto)]
 
+mod corners;
 mod law;
 mod touching;
 

@@ -22,12 +22,21 @@ const WITHIN: [i32; 3] = [3, 3, 0];
 
 const HALF: [i32; 3] = [5, 0, 0];
 
-static PAIRS: [([[i32; 3]; 3], [[i32; 3]; 3], bool); 12] = [
+static PAIRS: [([[i32; 3]; 3], [[i32; 3]; 3], bool); 15] = [
     // neighbours: at a right angle, and in one plane
     ([O, X, Y], [O, Z, X], false),
     ([O, X, Y], [Y, X, FAR], false),
     // a common corner alone
     ([O, X, Y], [O, BACK, [-3, -3, 10]], false),
+    // a common corner, and edges that lead on beyond it
+    ([O, X, Y], [O, BACK, [0, -10, 0]], false),
+    ([O, X, Y], [O, BACK, Z], false),
+    // apart, but not by planes of either
+    (
+        [BACK, X, [0, -10, -5]],
+        [[0, -10, 1], [0, 10, 1], [-10, 0, 6]],
+        true,
+    ),
     // no common corner, and one above the other
     ([O, X, Y], [Z, ABOVE, [10, 10, 10]], false),
     // a flat triangle

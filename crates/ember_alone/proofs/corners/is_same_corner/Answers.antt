@@ -2,7 +2,7 @@ use Rattle.std.proofs.Common.{sym, ◌∙◌, ◌&&◌, ◌-ℤ◌}
 use Rattle.std.proofs.lemmas.Bool.{eq-eqb}
 use Rattle.ember_algebra.specs.Sign.{is_zero}
 use Rattle.ember_alone.proofs.Codes.{same_number}
-use Rattle.ember_alone.proofs.touching.is_same_corner.Goals as goal
+use Rattle.ember_alone.proofs.corners.is_same_corner.Goals as goal
 
 pub returns-then-u-v-2 : goal.returns-then-u-v-2
 returns-then-u-v-2 c =
