@@ -1,0 +1,3 @@
+pub mod MissedNearby
+pub mod Fragments
+pub mod WholeFaces
