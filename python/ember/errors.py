@@ -9,7 +9,7 @@ Point = Tuple[float, float, float]
 
 _PLACE = re.compile(r"^\w+ (\d+): |, in \w+ (\d+); ")
 _EDGE = re.compile(r"from \((\S+) (\S+) (\S+)\) to \((\S+) (\S+) (\S+)\)")
-_AT = re.compile(r" at (\d+)$")
+_AT = re.compile(r" at (\d+)(?:; |$)")
 _LEAST_STEP = re.compile(r"needs a step of at least (\S+)$")
 
 
