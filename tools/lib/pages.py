@@ -9,15 +9,18 @@ DOCS = Path(__file__).resolve().parent.parent.parent / "docs"
 LINK = re.compile(r"(!?)\[((?:[^][]|\[[^][]*\])*)\]\(([^)\s]+)\)")
 
 
-def place_of(page, path):
-    """Returns where a package has a file of the repository, beside its other pages. A link of this page names the file."""
+def places_of(page, path):
+    """Returns where a package has a file or a folder of the repository, beside its other pages, and the files for which that holds. A link of
+    this page names it."""
     of_repository = posixpath.normpath(posixpath.join("docs", posixpath.dirname(page), path))
     if of_repository.startswith("docs/"):
-        return of_repository.removeprefix("docs/")
+        place = of_repository.removeprefix("docs/")
+        return place, [place]
     # All examples of a package are in one folder.
     if of_repository.startswith("examples/"):
-        return "examples/" + (posixpath.basename(of_repository) if "." in of_repository else "")
-    return None
+        place, whole = "examples/" + posixpath.basename(of_repository), DOCS.parent / of_repository
+        return ("examples", [f"examples/{it.name}" for it in whole.iterdir()]) if whole.is_dir() else (place, [place])
+    return None, []
 
 
 def settled(page, is_there):
@@ -28,8 +31,8 @@ def settled(page, is_there):
         path, hash_, anchor = target.partition("#")
         if not path or re.match(r"\w+:", target):
             return link[0]
-        place = place_of(page, path)
-        if place and is_there(place):
+        place, files = places_of(page, path)
+        if place and all(is_there(it) for it in files):
             return f"{mark}[{text}]({posixpath.relpath(place, posixpath.dirname(page) or '.')}{hash_}{anchor})"
         return f"(A picture: {text}.)" if mark else text
 
