@@ -17,10 +17,10 @@ mesh_doc = $(share)/doc/ember-mesh
 library_doc = $(share)/doc/libember-dev
 bash = $(share)/bash-completion/completions
 zsh = $(share)/zsh/site-functions
-# Pages keep the folders that they have in docs, so that their links to each other lead somewhere.
+# Pages keep the folders that they have in docs. tools/pages puts them beside the examples, without links to what isn't there.
 documents = trust/DEFINITIONS.md trust/TRUST.md use/FORMATS.md use/LIMITS.md use/REFUSALS.md
-mesh_documents = trust/TRUST.md use/EMBED.md use/FORMATS.md use/MESHES.md use/PYTHON.md
-library_documents = trust/TRUST.md use/EMBED.md use/FORMATS.md use/LIBRARY.md use/MESHES.md use/PYTHON.md
+mesh_documents = trust/TRUST.md use/EMBED.md use/FORMATS.md use/LIBRARY.md use/MESHES.md use/PYTHON.md use/before-after.png
+library_documents = trust/DEFINITIONS.md $(mesh_documents)
 examples = cube.obj tetra.obj tetra.txt wedge.obj
 mesh_examples = export.obj label.stl plate.stl
 library_examples = arrays.c arrays.rs difference.c difference.cpp difference.rs
@@ -38,8 +38,8 @@ install: build
 	install -d $(bin) $(man) $(doc)/examples $(doc)/trust $(doc)/use $(bash) $(zsh)
 	install crates/ember/out/ember $(bin)/ember
 	install -m 644 docs/use/man/ember.1 $(man)/ember.1
-	$(foreach it,$(documents),install -m 644 docs/$(it) $(doc)/$(it) &&) true
 	install -m 644 $(examples:%=examples/%) $(doc)/examples
+	tools/pages $(doc) $(documents)
 	install -m 644 completions/ember.bash $(bash)/ember
 	install -m 644 completions/_ember $(zsh)/_ember
 
@@ -47,8 +47,8 @@ install-mesh: mesh
 	install -d $(bin) $(man) $(mesh_doc)/examples $(mesh_doc)/trust $(mesh_doc)/use $(bash) $(zsh)
 	install crates/mesh_program/out/mesh_program $(bin)/ember-mesh
 	install -m 644 docs/use/man/ember-mesh.1 $(man)/ember-mesh.1
-	$(foreach it,$(mesh_documents),install -m 644 docs/$(it) $(mesh_doc)/$(it) &&) true
 	install -m 644 $(mesh_examples:%=examples/%) $(mesh_doc)/examples
+	tools/pages $(mesh_doc) $(mesh_documents)
 	install -m 644 completions/ember-mesh.bash $(bash)/ember-mesh
 	install -m 644 completions/_ember-mesh $(zsh)/_ember-mesh
 
@@ -57,8 +57,8 @@ install-library: library
 	install -m 644 $(LIBRARY)/lib/libember.a $(LIBRARY)/lib/libember.so.1 $(lib)
 	install -m 644 $(LIBRARY)/lib/pkgconfig/ember.pc $(lib)/pkgconfig
 	install -m 644 $(LIBRARY)/include/ember.h $(include)
-	$(foreach it,$(library_documents),install -m 644 docs/$(it) $(library_doc)/$(it) &&) true
 	install -m 644 $(library_examples:%=examples/library/%) $(library_doc)/examples
+	tools/pages $(library_doc) $(library_documents)
 
 uninstall:
 	rm -f $(bin)/ember $(man)/ember.1 $(documents:%=$(doc)/%) $(examples:%=$(doc)/examples/%) $(bash)/ember $(zsh)/_ember

@@ -1,4 +1,5 @@
-/* ember.h: exact Booleans of closed triangle meshes. Licence: MIT. docs/use/LIBRARY.md says how to use it. */
+/* ember.h: exact Booleans of closed triangle meshes, for C99 and C++. Licence: MIT. The page LIBRARY says how to use it; packages have it
+   in share/doc/libember-dev/use, and the repository in docs/use. */
 #ifndef EMBER_H
 #define EMBER_H
 #include <stddef.h>
@@ -12,7 +13,7 @@ extern "C" {
 /* The version of this interface. It changes if a struct or a meaning does. */
 #define EMBER_ABI 1u
 
-/* The statuses: the exit statuses of the programs. docs/use/FORMATS.md and docs/use/MESHES.md say when each comes. */
+/* The statuses: the exit statuses of the programs. The pages FORMATS and MESHES beside LIBRARY say when each comes. */
 enum {
   EMBER_DONE = 0,
   EMBER_WORDS = 2,
@@ -87,7 +88,7 @@ typedef struct {
   size_t n_triangles;
 } ember_mesh;
 
-/* How a solid is made. */
+/* How a solid is made. Begin with EMBER_OPTIONS_INIT: with {0} digits are 0, and coordinates are rounded to whole numbers. */
 typedef struct {
   ember_bytes step; /* the step of the grid on which it is exact: "nice", "finest" or a decimal above 0, in the unit of the
                        meshes; nice if there are no bytes */
@@ -96,6 +97,8 @@ typedef struct {
 } ember_options;
 #define EMBER_DIGITS 0xffffffffu
 #define EMBER_SOURCES 1u /* the solid has sources */
+/* What a call without options takes: ember_options options = EMBER_OPTIONS_INIT; */
+#define EMBER_OPTIONS_INIT {{NULL, 0}, EMBER_DIGITS, 0}
 
 /* Where a triangle comes from: the first triangle of the meshes, in their order, on which a part of it lies. Meshes are meant as they
    are on the grid, and triangles as they are before they are rounded. */
@@ -108,8 +111,8 @@ typedef struct {
 #define EMBER_SEVERAL 2u /* parts of the triangle may lie on other triangles of the meshes, too, in the same plane */
 
 /* A solid that the caller owns after a call. With a status above 0 there are no vertices and no triangles. `line` is the report, or
-   why there is no solid, as ember-mesh says it of files called `mesh 1`, `mesh 2`, ..; with EMBER_NO_TEXT there is none, and
-   with EMBER_NO_MEMORY there may be none. */
+   why there is no solid, as ember-mesh says it of files called `mesh 1`, `mesh 2`, ..: one or more lines, each of which begins with
+   "ember-mesh: " and ends in a newline. With EMBER_NO_TEXT there is none, and with EMBER_NO_MEMORY there may be none. */
 typedef struct {
   uint32_t status;      /* the exit status of ember-mesh for the same meshes */
   uint32_t mesh;        /* the number of the mesh at fault, from 1; 0 if none is known to be */
@@ -132,7 +135,7 @@ typedef struct {
 #define EMBER_NO_PLACE UINT64_MAX
 
 /* Makes the solid in which the expression is true of the winding numbers of the meshes: mesh i, from 0, is m(i+1) and w(i+1) in the
-   expression (docs/use/FORMATS.md says how it is written). `solid` is overwritten, whatever it holds; free it with ember_solid_free.
+   expression (the page FORMATS says how it is written). `solid` is overwritten, whatever it holds; free it with ember_solid_free.
    Returns solid->status. It uses one thread, and any number of threads may call at once. */
 uint32_t ember_boolean_with(const ember_mesh *meshes, size_t n_meshes, const uint8_t *expression, size_t n_expression, const uint8_t *step,
                             size_t n_step, uint32_t digits, uint32_t wants, ember_solid *solid);
@@ -160,8 +163,8 @@ static inline ember_bytes ember_text(const char *text) {
   return bytes;
 }
 
-/* The same as ember_boolean_with for an expression in a text. `options` may be NULL: a nice step, EMBER_DIGITS, and no
-   wants. */
+/* The same as ember_boolean_with for an expression in a text. `options` may be NULL, which means EMBER_OPTIONS_INIT: a nice step,
+   EMBER_DIGITS, and no wants. */
 static inline uint32_t ember_boolean(const ember_mesh *meshes, size_t n_meshes, const char *expression, const ember_options *options,
                                      ember_solid *solid) {
   ember_bytes text = ember_text(expression), step = options && options->step.len ? options->step : ember_text("nice");

@@ -25,7 +25,11 @@ int main(int argc, char **argv) {
   ember_answer answer;
   uint32_t status;
   int i;
-  if (argc != 4 || !ember_runs_here() || ember_abi() != EMBER_ABI) return 1;
+  if (argc != 4) {
+    fputs("usage: difference A B OUT\n", stderr);
+    return 1;
+  }
+  if (!ember_runs_here() || ember_abi() != EMBER_ABI) return 1;
   words[0] = ember_text("difference");
   words[1] = ember_text("-o");
   words[2] = ember_text(argv[3]);

@@ -28,7 +28,11 @@ static std::string text_of(const ember_block &block) {
 }
 
 int main(int argc, char **argv) {
-  if (argc != 4 || !ember_runs_here() || ember_abi() != EMBER_ABI) return 1;
+  if (argc != 4) {
+    std::cerr << "usage: difference A B OUT\n";
+    return 1;
+  }
+  if (!ember_runs_here() || ember_abi() != EMBER_ABI) return 1;
   const std::vector<std::string> words = {"difference", "-o", argv[3], argv[1], argv[2]}, contents = {read_file(argv[1]), read_file(argv[2])};
   std::vector<ember_bytes> lent_words;
   for (const auto &word : words) lent_words.push_back(lent(word));

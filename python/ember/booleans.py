@@ -65,14 +65,15 @@ def boolean(
     exact      whether `exact` of the result is wanted
     workers    threads of the program, 1 to 64. None is the number of processors that this process may use
     timeout    seconds after which the program is stopped. None is any time
-    engine     "program", "library", or "auto": the program if it is there and the meshes have more than 20,000 triangles, and
-               otherwise the library. Both give the same result
+    engine     "program", "library", or "auto": the program if it is there and there is a `timeout` or the meshes have more than
+               20,000 triangles, and otherwise the library. Both give the same result
 
     `sources` has for each triangle of the result the first input triangle, in the order of the meshes, on which a part of it lies:
     `mesh` and `triangle`, both from 0; `turned` if it faces the other way, as where a mesh was cut away; `several` if parts of it lie
     on other input triangles of the same plane, too. Both are -1 if there is none, which isn't known to happen.
 
-    `exact` is four arrays x, y, z and w of ints of any size: vertex i was rounded from `step * (x[i] / w[i] + offset[0])`, and so on.
+    `exact` is four arrays x, y, z and w of ints of any size. The first coordinate of vertex i was rounded from
+    `Fraction(step) * (Fraction(x[i], w[i]) + offset[0])`, of Python's `fractions`, and so on.
 
     Raises an EmberError, whose text says why and what helps: InputError (a mesh can't be read), NotClosedError, ExpressionError,
     LimitError (too many triangles, too small a step), UsageError, OutOfMemory, Stopped, Uncertified. TypeError for arrays of types

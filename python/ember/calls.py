@@ -15,7 +15,7 @@ import numpy as np
 
 from . import library
 from .engines import Answer, chosen, run
-from .errors import EmberWarning, UsageError, error_at, error_of
+from .errors import EmberWarning, ExpressionError, UsageError, error_at, error_of
 from .inputs import Input
 from .kept import FOLDER
 from .off import arrays_of_off
@@ -29,6 +29,9 @@ Step = Union[str, int, float, Decimal, Fraction]
 
 # The commands, with what they put between the meshes of their expression.
 _COMMANDS = {"union": "|", "difference": "&!", "intersection": "&"}
+# What is said of a text that is none of them, and no expression either: each of these has a digit.
+_OPERATIONS = "; give 'union', 'difference', 'intersection' or an expression such as 'm1&!m2'"
+_DIGIT = re.compile("[0-9]")
 _MOST_WORKERS = 64
 _MOST_MESHES = 64
 _MOST_DIGITS = 17
@@ -82,6 +85,14 @@ class Call:
 
     def solid(self, *, sources: bool, exact: bool) -> Solid:
         """Computes the solid, with what its sources and its exact corners are made of. Raises what `boolean` raises."""
+        try:
+            return self._solid(sources, exact)
+        except ExpressionError as error:
+            if _DIGIT.search(self.operation):
+                raise
+            raise ExpressionError(error.status, error.line + _OPERATIONS) from None
+
+    def _solid(self, sources: bool, exact: bool) -> Solid:
         # Only the files of `--keep` have the exact corners.
         if not exact and chosen(self.engine, self.triangles, self.timeout) == "library" and self._is_of_arrays():
             return self._solid_of_arrays(sources)

@@ -18,7 +18,7 @@ _NO_ENGINE = "no engine: install the wheel of ember-mesh, or set EMBER_MESH to t
 class Answer:
     """What a call of ember-mesh leaves.
 
-    status    its exit status: 0 if it did what was asked. docs/use/MESHES.md lists the others
+    status    its exit status: 0 if it did what was asked. The page MESHES lists the others
     out, err  the bytes of standard output and of standard error
     files     the bytes of each file that it wrote, by name
     """

@@ -9,14 +9,14 @@ Point = Tuple[float, float, float]
 
 _PLACE = re.compile(r"^\w+ (\d+): |, in \w+ (\d+); ")
 _EDGE = re.compile(r"from \((\S+) (\S+) (\S+)\) to \((\S+) (\S+) (\S+)\)")
-_AT = re.compile(r" at (\d+)$")
+_AT = re.compile(r" at (\d+)(?:; |$)")
 _LEAST_STEP = re.compile(r"needs a step of at least (\S+)$")
 
 
 class EmberError(Exception):
     """There is no result. `str()` of it is `line`.
 
-    status  the exit status of ember-mesh, which docs/use/MESHES.md lists; None if it has none
+    status  the exit status of ember-mesh, which the page MESHES lists; None if it has none
     line    why there is no result, and what to do, as ember-mesh says it. Its numbers of meshes, faces and vertices count from 1
     mesh    the index of the mesh at fault in the list, from 0; None if none is known to be
     place   the index in it of the face, vertex, facet or line at fault, from 0; None if none is known

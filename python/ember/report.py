@@ -17,7 +17,7 @@ _RESULT = re.compile(
 
 @dataclass(frozen=True)
 class Report:
-    """What ember-mesh says of a Boolean. docs/use/MESHES.md says what the numbers mean.
+    """What ember-mesh says of a Boolean. The page MESHES says what the numbers mean.
 
     step, offset     the grid: its points are `step * (i + offset)` for whole numbers i
     moves            for each mesh how far a corner moved to the grid at most

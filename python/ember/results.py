@@ -24,7 +24,8 @@ class Result(Mesh):
     """The solid in which an expression is true, as triangles. It may have none: then the solid is empty.
 
     vertices, faces  as of every Mesh. Corners where faces cross are rounded to decimals, and given as the nearest doubles
-    step, offset     the grid to which the meshes were moved: `step * (i + offset)` for whole numbers i along each axis
+    step, offset     the grid to which the meshes were moved: `step * (i + offset)` for whole numbers i along each axis. `step` is a
+                     decimal.Decimal, and `offset` three ints
     moves            for each mesh, how far a corner was moved to the grid at most
     volumes          for each mesh, its volume on the grid. What is in two shells counts twice; below 0, the mesh may be inside out,
                      and `boolean` warns. NaN from 10^21 on

@@ -140,6 +140,15 @@ def test_expressions(engine):
         assert isinstance(error, ValueError)
 
 
+def test_words_that_are_no_operation(engine):
+    """The line names those that are."""
+    for word in ("subtract", "Union", "union ", ""):
+        error = caught(ember.ExpressionError, [A, B], word, engine=engine)
+        assert (error.status, error.at, error.mesh) == (7, 0, None)
+        assert str(error) == "expression: syntax at 0; give 'union', 'difference', 'intersection' or an expression such as 'm1&!m2'"
+    assert str(caught(ember.ExpressionError, [A, B], "m1&", engine=engine)) == "expression: syntax at 3"
+
+
 def test_too_many_triangles(engine):
     vertices = np.tile([[0, 0, 0], [1, 0, 0], [0, 1, 0], [0, 0, 1.0]], (65537, 1))
     faces = (np.array([[0, 2, 1], [0, 1, 3], [0, 3, 2], [1, 2, 3]]) + 4 * np.arange(65537)[:, None, None]).reshape(-1, 3)

@@ -77,6 +77,17 @@ def test_random_tetrahedra(engine, seed):
         assert not list(faults_of_sources(result, meshes))
 
 
+def test_the_formula_for_exact_corners(engine):
+    """A vertex is the double that is nearest to the decimal to which it was rounded, of the corner that docs/use/PYTHON.md gives."""
+    random = np.random.default_rng(7)
+    result = ember.union(*(random_tetra(random) for _ in range(3)), step="0.1", exact=True, engine=engine)
+    *places, w = result.exact
+    for i, vertex in enumerate(result.vertices.tolist()):
+        exact = [Fraction(result.step) * (Fraction(x[i], w[i]) + middle) for x, middle in zip(places, result.offset)]
+        assert vertex == [float(round(it, 7)) for it in exact]
+    assert max(w) > 1
+
+
 def test_few_digits(engine):
     """Corners are found again where rounding is coarse."""
     random = np.random.default_rng(99)
