@@ -1,4 +1,4 @@
-use Rattle.std.proofs.Common.{◌≡◌, ℤ, SFits, to_z-of_z, refl, subst}
+use Rattle.std.proofs.Common.{◌≡◌, ℤ, SFits, to_z, of_z, to_z-of_z, refl, sym, subst}
 use mir.Syntax.{w64}
 use Rattle.ember_algebra.specs.Size.{Small}
 use Rattle.ember_algebra.proofs.Size.{fits_small}
@@ -8,12 +8,24 @@ use Rattle.mesh_certificate.proofs.key.on_line.is_moment.Goals as goal
 short_fits : {z : ℤ} {y : ℤ} → y ≡ z → Small 9223372036854775807 y → SFits w64 z
 short_fits e s = fits_small w64 (subst (λ z. Small 9223372036854775807 z) e s) tt
 
-pub returns-then-is_short-4 : goal.returns-then-is_short-4
-returns-then-is_short-4 c =
-    let ea = to_z-of_z c.ranges.a in let ec = to_z-of_z c.ranges.c in let ew = to_z-of_z c.ranges.w in let em = to_z-of_z c.ranges.m in
-    let a = short_fits ea (c.if-is_short.ensures refl) in let b = short_fits ec (c.if-is_short-2.ensures refl) in
-    let w = short_fits ew (c.if-is_short-3.ensures refl) in let m = short_fits em (c.if-is_short-4.ensures refl) in
-    rw (ea, ec, ew, em, to_z-of_z c.ranges.b, to_z-of_z c.ranges.d, to_z-of_z a, to_z-of_z b, to_z-of_z w, to_z-of_z m) at c.is_short_moment.ensures
+-- a short number is the same in 64 bits
+short_kept : {y : ℤ} → Small 9223372036854775807 y → Small 9223372036854775807 (to_z w64 (of_z w64 y))
+short_kept s = subst (λ z. Small 9223372036854775807 z) (sym (to_z-of_z (fits_small w64 s tt))) s
+
+pub is_short_moment-requires-clause-a : goal.is_short_moment-requires-clause-a
+is_short_moment-requires-clause-a c = short_kept (c.if-is_short.ensures refl)
+
+pub is_short_moment-requires-clause-c : goal.is_short_moment-requires-clause-c
+is_short_moment-requires-clause-c c = short_kept (c.if-is_short-3.ensures refl)
+
+pub returns-then-is_short-6 : goal.returns-then-is_short-6
+returns-then-is_short-6 c =
+    let ea = to_z-of_z c.ranges.a in let eb = to_z-of_z c.ranges.b in let ec = to_z-of_z c.ranges.c in
+    let ed = to_z-of_z c.ranges.d in let ew = to_z-of_z c.ranges.w in let em = to_z-of_z c.ranges.m in
+    let fa = short_fits ea (c.if-is_short.ensures refl) in let fb = short_fits eb (c.if-is_short-2.ensures refl) in
+    let fc = short_fits ec (c.if-is_short-3.ensures refl) in let fd = short_fits ed (c.if-is_short-4.ensures refl) in
+    let fw = short_fits ew (c.if-is_short-5.ensures refl) in let fm = short_fits em (c.if-is_short-6.ensures refl) in
+    rw (ea, eb, ec, ed, ew, em, to_z-of_z fa, to_z-of_z fb, to_z-of_z fc, to_z-of_z fd, to_z-of_z fw, to_z-of_z fm) at c.is_short_moment.ensures
 
 pub returns : goal.returns
 returns c =
