@@ -1,0 +1,12 @@
+pub mod Naturals
+pub mod Orders
+pub mod Sums
+pub mod Readings
+pub mod AffineLaws
+pub mod Images
+pub mod Series
+pub mod TextParts
+pub mod ClosedShapes
+pub mod Placings
+pub mod Quotients
+pub mod CoarsePowers
