@@ -1,0 +1,4 @@
+pub mod ClearTurns
+pub mod LocalTurns
+pub mod SideValues
+pub mod CoordinateOrders
