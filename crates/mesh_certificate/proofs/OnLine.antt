@@ -43,10 +43,10 @@ pub negative_small : {k : ℕ} {y : ℤ} → Small k y → Small k (pos 0 -ℤ y
 negative_small s = record { small = omega (arith, ints, s.small) }
 
 -- a difference of products as a sum
-pub difference_of : (n m s : Wide) (a b c d : ℤ) → value_of n ≡ a *ℤ b → value_of m ≡ c *ℤ (pos 0 -ℤ d) →
+pub difference_of : (n m s : Wide) (a b c d : ℤ) → value_of n ≡ a *ℤ b → value_of m ≡ (pos 0 -ℤ c) *ℤ d →
     value_of s ≡ value_of n +ℤ value_of m → value_of s ≡ a *ℤ b -ℤ c *ℤ d
 difference_of n m s a b c d e f g =
-    g ∙ rw (e, f) (solve 4 (λ a b c d. a ⊗ b ⊕ c ⊗ (num (pos 0) ⊖ d) ≈ a ⊗ b ⊖ c ⊗ d) cancels a b c d)
+    g ∙ rw (e, f) (solve 4 (λ a b c d. a ⊗ b ⊕ (num (pos 0) ⊖ c) ⊗ d ≈ a ⊗ b ⊖ c ⊗ d) cancels a b c d)
 
 -- what an order says of equality
 pub equal_order : {x y u v : ℤ} → Equal ≡ int_cmp x y → x ≡ u → y ≡ v → u ≡ v

@@ -1,5 +1,5 @@
 use Rattle.std.proofs.Common.{SFits, to_z-of_z, ap, rules}
-use mir.Syntax.{w64, w128}
+use mir.Syntax.{w128}
 use Rattle.ember_algebra.specs.Vector.{Vector}
 use Rattle.ember_algebra.proofs.Vectors.{same_v}
 use Rattle.mesh_certificate.proofs.OnLine.{refused}
@@ -9,7 +9,7 @@ pub returns-then-not-is_moment : goal.returns-then-not-is_moment
 returns-then-not-is_moment c =
     let l = c.args.line.now in let p = c.args.p.now in
     let y : SFits w128 p.y = search rules in let z : SFits w128 p.z = search rules in let w : SFits w128 p.w = search rules in
-    let dz : SFits w64 l.dz = search rules in let dy : SFits w64 l.dy = search rules in let mx : SFits w128 l.mx = search rules in
+    let dz : SFits w128 l.dz = search rules in let dy : SFits w128 l.dy = search rules in let mx : SFits w128 l.mx = search rules in
     let e = rw (to_z-of_z y, to_z-of_z z, to_z-of_z w, to_z-of_z dz, to_z-of_z dy, to_z-of_z mx) at c.is_moment.ensures in
     refused c.is_moment.result e c.if-not-is_moment.true (λ h. ap (λ (v : Vector). v.x) h)
 
@@ -17,7 +17,7 @@ pub returns-then-not-is_moment-2 : goal.returns-then-not-is_moment-2
 returns-then-not-is_moment-2 c =
     let l = c.args.line.now in let p = c.args.p.now in
     let z : SFits w128 p.z = search rules in let x : SFits w128 p.x = search rules in let w : SFits w128 p.w = search rules in
-    let dx : SFits w64 l.dx = search rules in let dz : SFits w64 l.dz = search rules in let my : SFits w128 l.my = search rules in
+    let dx : SFits w128 l.dx = search rules in let dz : SFits w128 l.dz = search rules in let my : SFits w128 l.my = search rules in
     let e = rw (to_z-of_z z, to_z-of_z x, to_z-of_z w, to_z-of_z dx, to_z-of_z dz, to_z-of_z my) at c.is_moment-2.ensures in
     refused c.is_moment-2.result e c.if-not-is_moment-2.true (λ h. ap (λ (v : Vector). v.y) h)
 
@@ -26,7 +26,7 @@ returns c =
     let l = c.args.line.now in let p = c.args.p.now in
     let x : SFits w128 p.x = search rules in let y : SFits w128 p.y = search rules in let z : SFits w128 p.z =
     search rules in let w : SFits w128 p.w = search rules in
-    let dx : SFits w64 l.dx = search rules in let dy : SFits w64 l.dy = search rules in let dz : SFits w64 l.dz = search rules in
+    let dx : SFits w128 l.dx = search rules in let dy : SFits w128 l.dy = search rules in let dz : SFits w128 l.dz = search rules in
     let mx : SFits w128 l.mx = search rules in let my : SFits w128 l.my = search rules in let mz : SFits w128 l.mz = search rules in
     let e = rw (to_z-of_z y, to_z-of_z z, to_z-of_z w, to_z-of_z dz, to_z-of_z dy, to_z-of_z mx) at c.is_moment.ensures in
     let f = rw (to_z-of_z z, to_z-of_z x, to_z-of_z w, to_z-of_z dx, to_z-of_z dz, to_z-of_z my) at c.is_moment-2.ensures in
