@@ -1,6 +1,6 @@
 -- The faults of the steps from a mesh to its file are those of the file
 use Rattle.std.proofs.Common.{◌≡◌, ℕ, List, Option, Result, Err, inl, arith}
-use Rattle.mesh_certificate.specs.declared.certificate.space_point.SpacePoint.{SpacePoint}
+use Rattle.mesh_point.specs.declared.space_point.SpacePoint.{SpacePoint}
 use Rattle.mesh_write.specs.declared.glb.fault.GlbWriteFault.{GlbWriteFault}
 use Rattle.mesh_write.specs.declared.glb.fault.GlbWriteFault.TheVariants as glb_fault
 use Rattle.mesh_write.specs.Glb.Written.{IsTooLong}

@@ -13,4 +13,4 @@ pub use number::{
     floor_times, integer, is_below_limit, number_below, number_in, read_decimal,
 };
 pub use round::{divide, nearest, put_decimal, put_shifted};
-pub use wide::{Magnitude, PlanePoint, Wide, compare_fractions, turn};
+pub use wide::{Magnitude, Wide, compare_fractions};

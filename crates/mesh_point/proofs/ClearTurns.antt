@@ -5,6 +5,7 @@ use Rattle.std.proofs.lemmas.Int.{unsigned_abs-mul}
 use borrow.Author.Differences.{ints}
 use Rattle.ember_algebra.specs.Size.{Small}
 use Rattle.ember_algebra.specs.Det.{det3}
+use Rattle.ember_algebra.proofs.Size.{small_add, small_sub}
 use Rattle.ember_algebra.proofs.Laws.{linear}
 use Rattle.ember_algebra.proofs.Order.{mul_le, nonneg_mul, cancel_lt}
 use Rattle.ember_algebra.proofs.Ring.{◌⊕◌, ◌⊖◌, ◌⊗◌, neg, ◌≈◌, solve, cancels}
@@ -15,16 +16,17 @@ use Rattle.mesh_point.specs.FloorTurns.{turn_of, most_change}
 -- the size of a times the step k times s, where s is at most l in size
 part_size : (a s : ℤ) (k l : ℕ) → unsigned_abs s ≤ l → unsigned_abs ((a *ℤ pos k) *ℤ s) ≤ unsigned_abs a * (k * l)
 part_size a s k l h =
-    let e = unsigned_abs-mul (a *ℤ pos k) s in let f = unsigned_abs-mul a (pos k) in
+    let e : unsigned_abs ((a *ℤ pos k) *ℤ s) ≡ unsigned_abs a * k * unsigned_abs s =
+    unsigned_abs-mul (a *ℤ pos k) s ∙ ap (λ (n : ℕ). n * unsigned_abs s) (unsigned_abs-mul a (pos k)) in
     let m : unsigned_abs a * k * unsigned_abs s ≤ unsigned_abs a * k * l = mul-le-mul (omega arith) h in
-    omega (arith, e, f, m)
+    omega (arith, e, m)
 
 -- the size of a product of two numbers with these bounds
 both_size : (s t : ℤ) (k l : ℕ) → unsigned_abs s ≤ k → unsigned_abs t ≤ l → unsigned_abs (s *ℤ t) ≤ k * l
 both_size s t k l h g = let e = unsigned_abs-mul s t in let m = mul-le-mul h g in omega (arith, e, m)
 
 -- a number above m times a positive one
-multiple_above : (z : ℤ) (m n : ℕ) → pos m <ℤ z → pos (n * (m + 1)) ≤ℤ (pos n *ℤ z)
+pub multiple_above : (z : ℤ) (m n : ℕ) → pos m <ℤ z → pos (n * (m + 1)) ≤ℤ (pos n *ℤ z)
 multiple_above z m n l =
     let h : pos (m + 1) ≤ℤ z = omega (arith, ints, l) in mul_le {c = pos n} (omega (arith, ints)) h
 
@@ -41,19 +43,17 @@ module _ (a b c d s t u v : ℤ) (k l : ℕ) (sk : unsigned_abs s ≤ k) (tk : u
   sizes : unsigned_abs ((a *ℤ pos k) *ℤ v +ℤ (d *ℤ pos l) *ℤ s +ℤ s *ℤ v -ℤ (b *ℤ pos k) *ℤ u -ℤ (c *ℤ pos l) *ℤ t -ℤ t *ℤ u)
       ≤ (k * l) * (unsigned_abs a + unsigned_abs b + unsigned_abs c + unsigned_abs d + 2)
   sizes =
-      omega (
-        arith,
-        ints,
-        part_size a v k l vl,
-        part_size d s l k sk,
-        both_size s v k l sk vl,
-        part_size b u k l ul,
-        part_size c t l k tk,
-        both_size t u k l tk ul,
-      )
+      let av : Small (unsigned_abs a * (k * l)) ((a *ℤ pos k) *ℤ v) = record { small = part_size a v k l vl } in
+      let ds : Small (unsigned_abs d * (l * k)) ((d *ℤ pos l) *ℤ s) = record { small = part_size d s l k sk } in
+      let sv : Small (k * l) (s *ℤ v) = record { small = both_size s v k l sk vl } in
+      let bu : Small (unsigned_abs b * (k * l)) ((b *ℤ pos k) *ℤ u) = record { small = part_size b u k l ul } in
+      let ct : Small (unsigned_abs c * (l * k)) ((c *ℤ pos l) *ℤ t) = record { small = part_size c t l k tk } in
+      let tu : Small (k * l) (t *ℤ u) = record { small = both_size t u k l tk ul } in
+      let all = small_sub (small_sub (small_sub (small_add (small_add av ds) sv) bu) ct) tu in
+      omega (arith, all.small)
 
   -- they turn to the left if (a, b) and (c, d) clearly do
-  clear_left : 0 < k → 0 < l → most_change a b c d <ℤ turn_of a b c d →
+  clear_left : 0 < k → 0 < l → pos (most_change a b c d) <ℤ turn_of a b c d →
       pos 0 <ℤ ((a *ℤ pos k +ℤ s) *ℤ (d *ℤ pos l +ℤ v) -ℤ (b *ℤ pos k +ℤ t) *ℤ (c *ℤ pos l +ℤ u))
   clear_left pk pl h =
       let n = unsigned_abs a + unsigned_abs b + unsigned_abs c + unsigned_abs d + 2 in
@@ -91,7 +91,7 @@ positive_size p l = (omega (arith, ints, l), omega (arith, ints, l))
 -- one that is clear to the left
 clear_by_size : (i j a b c d x y z w e f : ℤ) (m n o : ℕ) → 0 < m → 0 < n → 0 < o → IsRemainder x (pos m) → IsRemainder y (pos m) →
     IsRemainder z (pos n) → IsRemainder w (pos n) → IsRemainder e (pos o) → IsRemainder f (pos o) →
-    most_change a b c d <ℤ turn_of a b c d → pos 0 <ℤ det_of i j a b c d x y z w e f (pos m) (pos n) (pos o)
+    pos (most_change a b c d) <ℤ turn_of a b c d → pos 0 <ℤ det_of i j a b c d x y z w e f (pos m) (pos n) (pos o)
 clear_by_size i j a b c d x y z w e f m n o pm pn po hx hy hz hw he hf l =
     let k : 0 < m * n = pos_product pm pn in let h : 0 < m * o = pos_product pm po in
     let g = clear_left a b c d (z *ℤ pos m -ℤ x *ℤ pos n) (w *ℤ pos m -ℤ y *ℤ pos n) (e *ℤ pos m -ℤ x *ℤ pos o) (f *ℤ pos m -ℤ y *ℤ pos o)
@@ -105,7 +105,7 @@ clear_by_size i j a b c d x y z w e f m n o pm pn po hx hy hz hw he hf l =
 module _ (i j a b c d x y z w e f p q r : ℤ) (pp : pos 0 <ℤ p) (pq : pos 0 <ℤ q) (pr : pos 0 <ℤ r) (hx : IsRemainder x p)
     (hy : IsRemainder y p) (hz : IsRemainder z q) (hw : IsRemainder w q) (he : IsRemainder e r) (hf : IsRemainder f r) where
   -- three points whose floors clearly turn to the left turn so
-  pub clear_to_left : most_change a b c d <ℤ turn_of a b c d → pos 0 <ℤ det_of i j a b c d x y z w e f p q r
+  pub clear_to_left : pos (most_change a b c d) <ℤ turn_of a b c d → pos 0 <ℤ det_of i j a b c d x y z w e f p q r
   clear_to_left l =
       let sp = positive_size p pp in let sq = positive_size q pq in let sr = positive_size r pr in
       let g = clear_by_size i j a b c d x y z w e f (unsigned_abs p) (unsigned_abs q) (unsigned_abs r) sp.1 sq.1 sr.1
@@ -123,10 +123,10 @@ exchanged =
 module _ (i j a b c d x y z w e f p q r : ℤ) (pp : pos 0 <ℤ p) (pq : pos 0 <ℤ q) (pr : pos 0 <ℤ r) (hx : IsRemainder x p)
     (hy : IsRemainder y p) (hz : IsRemainder z q) (hw : IsRemainder w q) (he : IsRemainder e r) (hf : IsRemainder f r) where
   -- and to the right
-  pub clear_to_right : turn_of a b c d <ℤ neg_ℤ (most_change a b c d) → det_of i j a b c d x y z w e f p q r <ℤ pos 0
+  pub clear_to_right : turn_of a b c d <ℤ neg_ℤ (pos (most_change a b c d)) → det_of i j a b c d x y z w e f p q r <ℤ pos 0
   clear_to_right l =
       let o : turn_of c d a b ≡ neg_ℤ (turn_of a b c d) = solve 4 (λ a b c d. c ⊗ b ⊖ d ⊗ a ≈ neg (a ⊗ d ⊖ b ⊗ c)) cancels a b c d in
-      let h : most_change c d a b <ℤ turn_of c d a b = omega (arith, ints, o, l) in
+      let h : pos (most_change c d a b) <ℤ turn_of c d a b = omega (arith, ints, o, l) in
       let g = clear_to_left i j c d a b x y e f z w p r q pp pr pq hx hy he hf hz hw h in
       let k = exchanged (i *ℤ p +ℤ x) (j *ℤ p +ℤ y) p ((i +ℤ a) *ℤ q +ℤ z) ((j +ℤ b) *ℤ q +ℤ w) q ((i +ℤ c) *ℤ r +ℤ e) ((j +ℤ d) *ℤ r +ℤ f) r in
       omega (arith, ints, g, k)

@@ -1,18 +1,21 @@
 -- The values of a plane at the points of a unit cube.
-use Rattle.std.proofs.Common.{◌≡◌, ℕ, ◌+◌, ◌*◌, ◌≤◌, ℤ, pos, neg_ℤ, ◌+ℤ◌, ◌-ℤ◌, ◌*ℤ◌, ◌<ℤ◌, ◌≤ℤ◌}
-use Rattle.std.proofs.Common.{unsigned_abs, mul-le-mul, subst, sym, arith}
+use Rattle.std.proofs.Common.{◌≡◌, ℕ, ◌+◌, ◌*◌, ◌<◌, ◌≤◌, ℤ, pos, neg_ℤ, ◌+ℤ◌, ◌-ℤ◌, ◌*ℤ◌, ◌<ℤ◌, ◌≤ℤ◌}
+use Rattle.std.proofs.Common.{unsigned_abs, mul-le-mul, subst, SFits, to_z, of_z, to_z-of_z, arith}
+use mir.Syntax.{w32, w128}
 use Rattle.std.proofs.lemmas.Int.{unsigned_abs-mul}
 use borrow.Author.Differences.{ints}
 use Rattle.ember_algebra.specs.Size.{Small}
-use Rattle.ember_algebra.proofs.Laws.{linear}
-use Rattle.ember_algebra.proofs.Order.{mul_le}
+use Rattle.ember_algebra.proofs.Exact.{kept, ◌&◌, done, exact}
+use Rattle.ember_algebra.proofs.Size.{small_of_fits}
 use Rattle.ember_algebra.proofs.Ring.{◌⊕◌, ◌⊖◌, ◌⊗◌, neg, ◌≈◌, solve, cancels}
 use Rattle.ember_model.specs.declared.plane.Plane.{Plane}
 use Rattle.ember_model.specs.Planes.{value_at}
 use Rattle.ember_width.specs.Broad.{IsBroadPlane, IsRemainder, most_normal}
 use Rattle.mesh_point.specs.declared.space_point.SpacePoint.{SpacePoint}
+use Rattle.mesh_point.specs.FloorTurns.{most_floor}
 use Rattle.mesh_point.specs.Sides.{floor_value, rest_value, most_change}
 use Rattle.mesh_point.specs.SpacePoints.{spot_of}
+use Rattle.mesh_point.proofs.ClearTurns.{multiple_above}
 
 -- the value at a point, by that at the least corner of its unit cube
 pub value_by_floor : (h : Plane) (p : SpacePoint) → value_at h (spot_of p) ≡ floor_value h p *ℤ p.w +ℤ rest_value h p
@@ -40,14 +43,13 @@ rest_size h p s =
 -- a value above that is above 0 in the whole cube
 pub far_in_front : (v w r : ℤ) (m : ℕ) → pos 0 <ℤ w → unsigned_abs r ≤ m * unsigned_abs w → pos m <ℤ v → pos 0 <ℤ (v *ℤ w +ℤ r)
 far_in_front v w r m pw l h =
-    let k : pos (m + 1) ≤ℤ v = omega (arith, ints, h) in let e : pos 0 ≤ℤ w = omega (arith, ints, pw) in
-    let g = mul_le {c = w} e k in
-    by (unsigned_abs w) w v r (omega (arith, ints, pw)) pw l g
+    let e : pos (unsigned_abs w) ≡ w = omega (arith, ints, pw) in
+    subst (λ (k : ℤ). pos 0 <ℤ (v *ℤ k +ℤ r)) e (by (unsigned_abs w) (omega (arith, ints, pw)) l)
   where
-    by : (n : ℕ) (w v r : ℤ) → w ≡ pos n → pos 0 <ℤ w → unsigned_abs r ≤ m * n → (w *ℤ pos (m + 1)) ≤ℤ (w *ℤ v) → pos 0 <ℤ (v *ℤ w +ℤ r)
-    by n w v r e pw l g =
-        let f : pos (n * (m + 1)) ≤ℤ (v *ℤ w) = omega (arith, ints, subst (λ k. (k *ℤ pos (m + 1)) ≤ℤ (k *ℤ v)) e g, e) in
-        omega (arith, ints, f, l, pw, e)
+    by : (n : ℕ) → 0 < n → unsigned_abs r ≤ m * n → pos 0 <ℤ (v *ℤ pos n +ℤ r)
+    by n pn k =
+        let least = multiple_above v m n h in let e = solve 2 (λ v n. v ⊗ n ≈ n ⊗ v) cancels v (pos n) in
+        omega (arith, ints, least, e, k, pn)
 
 -- and one below its negative below 0
 pub far_behind : (v w r : ℤ) (m : ℕ) → pos 0 <ℤ w → unsigned_abs r ≤ m * unsigned_abs w → v <ℤ neg_ℤ (pos m) → (v *ℤ w +ℤ r) <ℤ pos 0
@@ -57,3 +59,16 @@ far_behind v w r m pw l h =
     let f = far_in_front (neg_ℤ v) w (neg_ℤ r) m pw s k in
     let e = solve 3 (λ v w r. neg v ⊗ w ⊕ neg r ≈ neg (v ⊗ w ⊕ r)) cancels v w r in
     omega (arith, ints, f, e)
+
+-- ---- as code adds it up
+pub added_up : (p x y z : ℤ) → p +ℤ x +ℤ y +ℤ z ≡ p +ℤ (x +ℤ y +ℤ z)
+added_up = solve 4 (λ p x y z. p ⊕ x ⊕ y ⊕ z ≈ p ⊕ (x ⊕ y ⊕ z)) cancels
+
+-- ---- floors as code reads them
+-- a floor is at most 2^31 in size
+pub floor_small : {z : ℤ} → SFits w32 z → Small most_floor z
+floor_small f = small_of_fits w32 f
+
+-- and stays the same when it is cast
+pub floor_read : {z : ℤ} → SFits w32 z → to_z w128 (of_z w128 (to_z w32 (of_z w32 z))) ≡ z
+floor_read f = rw (to_z-of_z f) (exact (small_of_fits w32 f & done) (kept 0) tt)

@@ -10,4 +10,5 @@ pub mod Rests
 pub mod SpacePoints
 pub mod Sides
 pub mod Coordinates
+pub mod Fractions
 pub mod Orders

@@ -7,10 +7,10 @@ use Rattle.ember_width.specs.Broad.{IsRemainder}
 abbrev pub most_corner_weight : ℕ
 most_corner_weight = 37778931862957161709567
 
--- the remainders a, b and c of three coordinates, and the weight w
-pub record AreRests (a b c w : ℤ) : Type 0 where
-  pub x : IsRemainder a w
-  pub y : IsRemainder b w
-  pub z : IsRemainder c w
-  pub w : Small most_corner_weight w
-  pub positive : pos 0 <ℤ w
+-- the remainders a, b and c of three coordinates, and the weight d
+pub record AreRests (a b c d : ℤ) : Type 0 where
+  pub x : IsRemainder a d
+  pub y : IsRemainder b d
+  pub z : IsRemainder c d
+  pub w : Small most_corner_weight d
+  pub positive : pos 0 <ℤ d

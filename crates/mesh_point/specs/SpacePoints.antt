@@ -3,8 +3,10 @@ use Rattle.std.specs.Prelude.{◌≡◌, ℤ, pos, neg_ℤ, ◌+ℤ◌, ◌*ℤ�
 use Rattle.ember_model.specs.declared.point.Axis.{Axis}
 use Rattle.ember_model.specs.declared.point.Axis.TheVariants.{X, Y, Z}
 use Rattle.ember_model.specs.declared.point.Spot.{Spot}
+use Rattle.ember_algebra.specs.Size.{Small}
 use Rattle.ember_algebra.specs.Vector.{Vector}
 use Rattle.ember_width.specs.Broad.{IsRemainder}
+use Rattle.mesh_point.specs.Rests.{most_corner_weight}
 use Rattle.mesh_point.specs.declared.space_point.SpacePoint.{SpacePoint}
 
 -- the rational point: a coordinate is its floor and the remainder over the weight
@@ -35,13 +37,14 @@ pub record IsFloor (i r x w : ℤ) : Type 0 where
   pub value : x ≡ i *ℤ w +ℤ r
   pub rest : IsRemainder r w
 
--- x / w is from -2^31 to below 2^31
+-- x / w is from 1 - 2^31 to below 2^31
 pub record IsNear (x w : ℤ) : Type 0 where
-  pub at_least : neg_ℤ (pos 2147483648 *ℤ w) ≤ℤ x
+  pub at_least : neg_ℤ (pos 2147483647 *ℤ w) ≤ℤ x
   pub below : x <ℤ (pos 2147483648 *ℤ w)
 
--- each coordinate is
-pub record LiesNear (s : Spot) : Type 0 where
+-- each coordinate is, and the weight is that of a corner
+pub record IsInReach (s : Spot) : Type 0 where
   pub x : IsNear s.x s.w
   pub y : IsNear s.y s.w
   pub z : IsNear s.z s.w
+  pub w : Small most_corner_weight s.w

@@ -1,15 +1,14 @@
 // The order of coordinates.
 ghost use Rattle.std.specs.Prelude.{◌≡◌};
-ghost use Rattle.ember_model.specs.declared.point.Spot.{Spot};
 ghost use Rattle.mesh_point.specs.Orders.{numerator, coordinate_order};
 ghost use Rattle.mesh_point.specs.SpacePoints.{spot_of, coordinate};
 ghost use Rattle.mesh_point.specs.Turns.{numbers_of};
 
 use crate::coordinate::Coordinate;
+use crate::fractions::compare_fractions;
 use crate::plane_point::PlanePoint;
 use crate::space_point::SpacePoint;
 use ember_model::Axis;
-use mesh_number::compare_fractions;
 use std::cmp::Ordering;
 
 impl Coordinate {
@@ -47,6 +46,21 @@ impl SpacePoint {
 }
 
 impl PlanePoint {
+    /// The point with its coordinates exchanged.
+    pub fn mirrored(&self) -> PlanePoint
+        ensures x { (numbers_of result).x ≡ (numbers_of self.now).y }
+        ensures y { (numbers_of result).y ≡ (numbers_of self.now).x }
+        ensures w { result.w ≡ self.now.w }
+    {
+        PlanePoint {
+            floor_x: self.floor_y,
+            floor_y: self.floor_x,
+            x: self.y,
+            y: self.x,
+            w: self.w,
+        }
+    }
+
     /// The point's coordinate along the x axis.
     pub fn right(&self) -> Coordinate
         ensures value { numerator result ≡ (numbers_of self.now).x }

@@ -1,7 +1,7 @@
 // Turns of points by the floors of their coordinates, which decide nearly all of them.
-ghost use Rattle.std.specs.Prelude.{◌≡◌, ◌-ℤ◌, IfSome};
+ghost use Rattle.std.specs.Prelude.{◌≡◌, ◌^◌, ◌<◌, ◌-ℤ◌, IfSome};
 ghost use Rattle.ember_algebra.specs.Size.{Small};
-ghost use Rattle.mesh_point.specs.FloorTurns.{IsClearTurn, most_steps};
+ghost use Rattle.mesh_point.specs.FloorTurns.{IsClearTurn, most_steps, most_turn, turn_of, most_change};
 ghost use Rattle.mesh_point.specs.Turns.{orientation};
 
 use crate::plane_point::PlanePoint;
@@ -15,6 +15,30 @@ fn steps(from: i32, to: i32) -> i64
     to as i64 - from as i64
 }
 
+// The turn of the vectors (a, b) and (c, d).
+fn turn_of(a: i64, b: i64, c: i64, d: i64) -> i128
+    requires a { Small most_steps a }
+    requires b { Small most_steps b }
+    requires c { Small most_steps c }
+    requires d { Small most_steps d }
+    ensures value { result ≡ turn_of a b c d }
+    ensures small { Small most_turn result }
+{
+    a as i128 * d as i128 - b as i128 * c as i128
+}
+
+// How far the remainders of the points can move it at most.
+fn most_change(a: i64, b: i64, c: i64, d: i64) -> u64
+    requires a { Small most_steps a }
+    requires b { Small most_steps b }
+    requires c { Small most_steps c }
+    requires d { Small most_steps d }
+    ensures value { result ≡ most_change a b c d }
+    ensures small { result < 2 ^ 40 }
+{
+    a.unsigned_abs() + b.unsigned_abs() + c.unsigned_abs() + d.unsigned_abs() + 2
+}
+
 // Which way the vectors (a, b) and (c, d) turn, if they turn so far that the remainders of the
 // points can't change it.
 fn clear_turn(a: i64, b: i64, c: i64, d: i64) -> Option<Sign>
@@ -24,11 +48,11 @@ fn clear_turn(a: i64, b: i64, c: i64, d: i64) -> Option<Sign>
     requires d { Small most_steps d }
     ensures { IfSome result (λ s. IsClearTurn a b c d s) }
 {
-    let turn = a as i128 * d as i128 - b as i128 * c as i128;
-    let most = a.abs() + b.abs() + c.abs() + d.abs() + 2;
-    if turn > most as i128 {
+    let turn = turn_of(a, b, c, d);
+    let most = most_change(a, b, c, d) as i128;
+    if turn > most {
         Some(Sign::Pos)
-    } else if turn < -(most as i128) {
+    } else if turn < -most {
         Some(Sign::Neg)
     } else {
         None

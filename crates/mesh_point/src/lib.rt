@@ -5,6 +5,7 @@
 mod comparing;
 mod coordinate;
 mod floor_turns;
+mod fractions;
 mod local_point;
 mod localizing;
 mod meets;

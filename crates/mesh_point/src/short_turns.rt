@@ -1,6 +1,6 @@
 // Turns of points with short numbers, in 128 bits.
 ghost use Rattle.std.specs.Prelude.{◌≡◌, ◌+◌, ◌*◌, ◌^◌, ◌<◌, true, IfSome};
-ghost use Rattle.mesh_point.specs.Triples.{breadth, local_orientation};
+ghost use Rattle.mesh_point.specs.Triples.{breadth, diagonal_sum, local_orientation};
 ghost use Rattle.mesh_point.specs.Numbers.{local_triple, short_triple};
 
 use crate::local_point::LocalPoint;
@@ -41,14 +41,29 @@ fn are_short(p: &ShortTriple, q: &ShortTriple, r: &ShortTriple) -> bool
     breadth_of(p).ilog2() + breadth_of(q).ilog2() + breadth_of(r).ilog2() <= 125
 }
 
-// The turn of three points by the two sums of products.
+// The product of three numbers.
+fn term(x: u128, y: u128, w: u128) -> u128
+    requires fits { x * y * w < 2 ^ 128 }
+    requires positive { 0 < w }
+    ensures { result ≡ x * y * w }
+{
+    x * y * w
+}
+
+// The products along the diagonals.
+fn diagonal_sum(p: &ShortTriple, q: &ShortTriple, r: &ShortTriple) -> u128
+    requires { breadth (short_triple p.now) * (breadth (short_triple q.now) * breadth (short_triple r.now)) < 2 ^ 128 }
+    ensures { result ≡ diagonal_sum (short_triple p.now) (short_triple q.now) (short_triple r.now) }
+{
+    term(p.x, q.y, r.w) + term(q.x, r.y, p.w) + term(r.x, p.y, q.w)
+}
+
+// The turn of three points by two sums of products.
 fn short_turn(p: &ShortTriple, q: &ShortTriple, r: &ShortTriple) -> Sign
     requires { breadth (short_triple p.now) * (breadth (short_triple q.now) * breadth (short_triple r.now)) < 2 ^ 128 }
     ensures { result ≡ local_orientation (short_triple p.now) (short_triple q.now) (short_triple r.now) }
 {
-    let left = p.x * q.y * r.w + q.x * r.y * p.w + r.x * p.y * q.w;
-    let right = r.x * q.y * p.w + q.x * p.y * r.w + p.x * r.y * q.w;
-    sign_of_order(left.cmp(&right))
+    sign_of_order(diagonal_sum(p, q, r).cmp(&diagonal_sum(r, q, p)))
 }
 
 /// The turn of three points, if 128 bits hold all numbers on the way to it.

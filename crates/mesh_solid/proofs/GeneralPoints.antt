@@ -35,7 +35,7 @@ use Rattle.ember_meaning.proofs.ClearRectangle.{all_of}
 use Rattle.ember_meaning.proofs.Displacements.{Parallel, displacementE, zeroE, orthogonal_to_none}
 use Rattle.ember_meaning.proofs.EdgeForm.{course_nonzero, start_on}
 use Rattle.mesh_certificate.specs.Key.LineKeys.{numerators}
-use Rattle.mesh_certificate.specs.declared.certificate.space_point.SpacePoint.{SpacePoint}
+use Rattle.mesh_point.specs.declared.space_point.SpacePoint.{SpacePoint}
 use Rattle.mesh_certificate.specs.Certificate.Facing.{spot_of}
 use Rattle.mesh_solid.specs.Winding.TriangleFaces.{side_plane}
 use Rattle.mesh_solid.proofs.Seen.{area, areaE, height, turn_at, side_value}

@@ -1,7 +1,7 @@
 -- The steps from a face file to tables, to triangles, and to the mesh of the document or a fault of it.
 use Rattle.std.proofs.Common.{◌≡◌, ◌⊎◌, inl, inr, ℕ, subst, ◌∙◌, List, length, Result, Ok, Err, IfOk}
 use Rattle.mesh_certificate.specs.declared.certificate.segment.Segment.{Segment}
-use Rattle.mesh_certificate.specs.declared.certificate.space_point.SpacePoint.{SpacePoint}
+use Rattle.mesh_point.specs.declared.space_point.SpacePoint.{SpacePoint}
 use Rattle.mesh_certificate.specs.declared.certificate.triangle.Triangle.{Triangle}
 use Rattle.mesh_certificate.specs.Certificate.Certificate.{IsCertified}
 use Rattle.ember_expr.specs.Formula.{Formula}

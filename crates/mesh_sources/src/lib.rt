@@ -6,7 +6,6 @@ mod apart;
 mod boxes;
 mod corners;
 mod facet;
-mod fractions;
 mod items;
 mod law;
 mod mark;

@@ -11,7 +11,8 @@ use crate::nodes::{Node, bounds_over, nodes_of};
 use crate::search::first_place;
 use crate::source::Source;
 use ember_model::{OutOfMemory, Plane, Tri};
-use mesh_certificate::{SpacePoint, Triangle};
+use mesh_certificate::Triangle;
+use mesh_point::SpacePoint;
 use std::alloc::Global;
 
 fn source_of(

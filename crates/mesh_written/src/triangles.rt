@@ -10,8 +10,9 @@ use crate::fault::PlaceFault;
 use crate::floats::float_points;
 use crate::normals::normal_at;
 use ember_model::Plane;
-use mesh_certificate::{SpacePoint, Triangle};
+use mesh_certificate::Triangle;
 use mesh_grid::{GridStep, Offset};
+use mesh_point::SpacePoint;
 use mesh_write::{FloatPoint, WrittenTriangle};
 use std::alloc::{AllocError, Global};
 

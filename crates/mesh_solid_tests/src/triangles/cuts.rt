@@ -2,7 +2,8 @@
 ghost use Rattle.ember_model.specs.Valid.{IsValidPlane};
 
 use ember_model::Plane;
-use mesh_certificate::{LineKey, Segment, SpacePoint, Triangle, is_certified};
+use mesh_certificate::{LineKey, Segment, Triangle, is_certified};
+use mesh_point::SpacePoint;
 use mesh_triangulate::{Touch, Triangulation, triangles_of, with_lines};
 use std::alloc::Global;
 use std::test::Fail;
@@ -39,9 +40,12 @@ static SHEETS: [[[i16; 4]; 2]; 3] = [
 // The point with these coordinates, in thirds.
 pub(crate) fn thirds(x: i32, y: i32, z: i32) -> SpacePoint {
     SpacePoint {
-        x: i128::from(x),
-        y: i128::from(y),
-        z: i128::from(z),
+        floor_x: x.div_euclid(3),
+        floor_y: y.div_euclid(3),
+        floor_z: z.div_euclid(3),
+        x: i128::from(x.rem_euclid(3)),
+        y: i128::from(y.rem_euclid(3)),
+        z: i128::from(z.rem_euclid(3)),
         w: 3,
     }
 }

@@ -5,7 +5,8 @@ ghost use Rattle.mesh_triangles.specs.PlaneQueries.{IsPlaneAnswer, IsPlaneQuery}
 
 use crate::triangles::cuts::{plane, thirds};
 use ember_model::Plane;
-use mesh_certificate::{LineKey, Segment, SpacePoint, line_key};
+use mesh_certificate::{LineKey, Segment, line_key};
+use mesh_point::SpacePoint;
 use mesh_triangles::{
     PlaneAnswer, PlaneQuery, TrianglesFault, answer_planes_alone, certified_triangles,
 };

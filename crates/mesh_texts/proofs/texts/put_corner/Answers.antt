@@ -9,15 +9,10 @@ pub returns : goal.returns
 returns c =
     let g = c.args.grid.now in
     let corner = c.args.corner.now in
-    let read_x : to_z w32 (of_z w32 corner.x) ≡ corner.x = search rules in
-    let read_y : to_z w32 (of_z w32 corner.y) ≡ corner.y = search rules in
-    let read_z : to_z w32 (of_z w32 corner.z) ≡ corner.z = search rules in
-    let x = ap (λ (n : ℤ). c.extend_from_slice.new.self.items ++ shown (grid_place g n g.offset.x))
-    (to_z-of_z {w = w128} (record { sfits = c.from.type_inv }) ∙ c.from.ensures ∙ read_x) in
-    let y = ap (λ (n : ℤ). c.extend_from_slice-2.new.self.items ++ shown (grid_place g n g.offset.y))
-    (to_z-of_z {w = w128} (record { sfits = c.from-2.type_inv }) ∙ c.from-2.ensures ∙ read_y) in
-    let z = ap (λ (n : ℤ). c.extend_from_slice-3.new.self.items ++ shown (grid_place g n g.offset.z))
-    (to_z-of_z {w = w128} (record { sfits = c.from-3.type_inv }) ∙ c.from-3.ensures ∙ read_z) in
+    let point = c.whole_point-point.ensures in
+    let x = ap (λ (v : Spot). c.extend_from_slice.new.self.items ++ shown (grid_place_of g v.x g.offset.x v.w)) point in
+    let y = ap (λ (v : Spot). c.extend_from_slice-2.new.self.items ++ shown (grid_place_of g v.y g.offset.y v.w)) point in
+    let z = ap (λ (v : Spot). c.extend_from_slice-3.new.self.items ++ shown (grid_place_of g v.z g.offset.z v.w)) point in
     on_ok_if _ _ c.extend_from_slice-4.result c.extend_from_slice-4.ensures.items
     (after7 (codes "(") (shown (grid_place g corner.x g.offset.x)) (codes " ")
     (shown (grid_place g corner.y g.offset.y)) (codes " ") (shown (grid_place g corner.z g.offset.z)) (codes ")") _ _
