@@ -8,6 +8,8 @@ mod boxes;
 #[cfg(test)]
 mod broad_boxes;
 #[cfg(test)]
+mod broad_steps;
+#[cfg(test)]
 mod generated;
 #[cfg(test)]
 mod known;

@@ -8,6 +8,7 @@ use Rattle.std.proofs.lemmas.Bool.{and_parts}
 use Rattle.ember_algebra.specs.Sign.{sign, is_negative}
 use Rattle.ember_model.specs.declared.plane.Plane.{Plane}
 use Rattle.ember_model.specs.declared.point.Corner.{Corner}
+use Rattle.ember_model.specs.declared.point.Spot.{Spot}
 use Rattle.ember_model.specs.declared.tri.Tri.{Tri}
 use Rattle.ember_model.specs.declared.face.Face.{Face}
 use Rattle.ember_model.specs.Planes.{value_at, along, unit, main_axis, support_of}
@@ -15,8 +16,6 @@ use Rattle.ember_model.specs.Faces.{is_flat, face_of, is_in_closed, Meets}
 use Rattle.ember_model.specs.Edges.{IsOutline}
 use Rattle.ember_model.specs.Owners.{spot_of_corner}
 use Rattle.ember_model.proofs.SignTests.{negative_out}
-use Rattle.ember_point.specs.declared.meet_point.Meet.{Meet}
-use Rattle.ember_point.specs.Points.{spot_of}
 use Rattle.ember_poly.specs.Cuts.{HasInside}
 use Rattle.ember_poly.specs.Outlines.{SamePoints}
 use Rattle.ember_poly.specs.Rings.{Side, IsBelow}
@@ -69,21 +68,21 @@ corners t n =
     }
 
 -- ---- the region's edges
-planes_are : (es : List Plane) (ms : List Meet) → length ms ≡ length es → map (λ e. e.plane) (ring_edges spot_of es ms) ≡ es
-planes_are [] ms l = refl
-planes_are (e ∷ es) [] l = absurd (omega (arith, l))
-planes_are (e ∷ es) (m ∷ ms) l = ap (λ us. e ∷ us) (planes_are es ms (omega (arith, l)))
+planes_are : {M : Type 0} (spot : M → Spot) (es : List Plane) (ms : List M) → length ms ≡ length es → map (λ e. e.plane) (ring_edges spot es ms) ≡ es
+planes_are spot [] ms l = refl
+planes_are spot (e ∷ es) [] l = absurd (omega (arith, l))
+planes_are spot (e ∷ es) (m ∷ ms) l = ap (λ us. e ∷ us) (planes_are spot es ms (omega (arith, l)))
 
 at_place : (P : Plane → Type 0) (es : List Plane) (i : ℕ) (d : Plane) → i < length es → AllByRecursion P es → P (get_or es i d)
 at_place P [] i d l h = absurd (omega (arith, l))
 at_place P (e ∷ es) zero d l h = h.0
 at_place P (e ∷ es) (suc i) d l h = at_place P es i d (omega (arith, l)) h.1
 
-module _ (f : Face) (es : List Plane) (ms : List Meet) (o : IsOutline f (ring_edges spot_of es ms)) (l : length ms ≡ length es) where
+module _ {M : Type 0} (spot : M → Spot) (f : Face) (es : List Plane) (ms : List M) (o : IsOutline f (ring_edges spot es ms)) (l : length ms ≡ length es) where
   same : HasInside f → SamePoints f (record { support = f.support; edges = es })
   same s =
-      subst (λ (us : List Plane). SamePoints f (record { support = f.support; edges = us })) (planes_are es ms l)
-      (outline_has_its_points f (ring_edges spot_of es ms) s o)
+      subst (λ (us : List Plane). SamePoints f (record { support = f.support; edges = us })) (planes_are spot es ms l)
+      (outline_has_its_points f (ring_edges spot es ms) s o)
 
   -- an edge that has no corner of the triangle behind it parts the two
   pub parting_unmet : (t : Tri) → is_flat t ≡ false → HasParting es t → Meets f (face_of t) → ⊥

@@ -26,6 +26,7 @@ use Rattle.ember_poly.proofs.InsideSigns.{combination_value, eventually_each}
 use Rattle.ember_poly.proofs.TriangleRing.{tri_sides, inside_ring}
 use Rattle.ember_coplanar.proofs.Coplanar.{lies_on_both}
 use Rattle.ember_coplanar.proofs.Owning.{lies_by_support}
+use Rattle.ember_width.specs.declared.width.Width.{Ghosts}
 use Rattle.ember_ref.proofs.FarTriangles.{inside_closed}
 use Rattle.ember_trace.proofs.FlatPlanes.{lies_flat, shared_face}
 use Rattle.ember_leaf.specs.declared.cutter.Cutter.{Cutter}
@@ -130,7 +131,7 @@ meets_inside t f n s m =
     some_shared t f m.at u.at (inside_out f m.at m.inside) u.inside (s.triangle u.at (inside_closed (face_of t) u.at u.inside)) m.holds
 
 -- ---- by the edge planes of the triangle alone
-pub meets_flat : {b : Bool} (f : Face) (c : Cutter) (es : List Plane) → ShareAPlane c.tri f → HasInside f →
+pub meets_flat : {W M : Type 0} {G : Ghosts W M} {b : Bool} (f : Face) (c : Cutter W M G) (es : List Plane) → ShareAPlane c.tri f → HasInside f →
     c.support ≡ support_of c.tri → es ≡ edges_of c.tri → IsTrue b ↔ Somewhere f (λ v. none_positive es v ≡ true) →
     IsTrue b ↔ Meets f (face_of c.tri)
 meets_flat {b} f c es s i n e k =

@@ -10,6 +10,7 @@ use Rattle.ember_model.specs.declared.face.Face.{Face}
 use Rattle.ember_model.specs.Planes.{value_at, opposite}
 use Rattle.ember_model.specs.Faces.{Contains, Somewhere, below}
 use Rattle.ember_model.proofs.SignTests.{negative_in, positive_out}
+use Rattle.ember_width.specs.declared.width.Width.{Ghosts}
 use Rattle.ember_box.specs.Regions.{CuttingPlane, AreLeftByCuttingPlane, splits, whole}
 use Rattle.ember_poly.specs.Cuts.{HasInside}
 use Rattle.ember_poly.proofs.ReachBySigns.{over_opposite}
@@ -79,12 +80,12 @@ pieces_kept f done h = h
 pieces_kept f (step {x = b} r c) h =
     pieces_kept f c (each_every (IsPieceOf f) (IsPieceOf f) (piece_kept f b) r h)
 
-cut_pieces : (cs : List Cutter) (f : Face) (gs : List Face) → HasInside f → AreCut cs (f ∷ []) gs → Every (IsPieceOf f) gs
+cut_pieces : {W M : Type 0} {G : Ghosts W M} (cs : List (Cutter W M G)) (f : Face) (gs : List Face) → HasInside f → AreCut cs (f ∷ []) gs → Every (IsPieceOf f) gs
 cut_pieces cs f gs s c =
     let l = regions_left cs f gs c in
     left_every (IsPieceOf f) l.without (pieces_kept f l.cuts (whole_piece f s, tt))
 
-piece_can : (c : Cutter) (f g : Face) → CanCut c f → IsPieceOf f g → CanCut c g
+piece_can : {W M : Type 0} {G : Ghosts W M} (c : Cutter W M G) (f g : Face) → CanCut c f → IsPieceOf f g → CanCut c g
 piece_can c f g h p = record { shares = by c.role h.shares; somewhere = p.somewhere }
   where
     shared : ShareAPlane c.tri f → ShareAPlane c.tri g
@@ -97,7 +98,7 @@ piece_can c f g h p = record { shares = by c.role h.shares; somewhere = p.somewh
     by Earlier s = shared s
 
 -- a cutter that can cut the start can cut all regions of it
-pub all_can_cut : (cs : List Cutter) (f : Face) (gs : List Face) → AreCut cs (f ∷ []) gs → (c : Cutter) → CanCut c f → All (CanCut c) gs
+pub all_can_cut : {W M : Type 0} {G : Ghosts W M} (cs : List (Cutter W M G)) (f : Face) (gs : List Face) → AreCut cs (f ∷ []) gs → (c : Cutter W M G) → CanCut c f → All (CanCut c) gs
 all_can_cut cs f gs k c h = every_all (CanCut c) gs (by gs (cut_pieces cs f gs h.somewhere k))
   where
     by : (gs : List Face) → Every (IsPieceOf f) gs → Every (CanCut c) gs
@@ -105,6 +106,6 @@ all_can_cut cs f gs k c h = every_all (CanCut c) gs (by gs (cut_pieces cs f gs h
     by (g ∷ gs) e = (piece_can c f g h e.0, by gs e.1)
 
 -- a cutter of the list can cut f if all can
-pub can_cut_at : (cs : List Cutter) (f : Face) (i : ℕ) (d : Cutter) → i < length cs → d ≡ get_or cs i d → All (λ c. CanCut c f) cs → CanCut d f
+pub can_cut_at : {W M : Type 0} {G : Ghosts W M} (cs : List (Cutter W M G)) (f : Face) (i : ℕ) (d : Cutter W M G) → i < length cs → d ≡ get_or cs i d → All (λ c. CanCut c f) cs → CanCut d f
 can_cut_at cs f i d l e h =
-    subst (λ (c : Cutter). CanCut c f) (sym e) (All-get_or (λ c. CanCut c f) cs i d l h)
+    subst (λ c. CanCut c f) (sym e) (All-get_or (λ c. CanCut c f) cs i d l h)

@@ -8,6 +8,7 @@ use Rattle.ember_model.specs.declared.face.Face.{Face}
 use Rattle.ember_model.specs.Faces.{is_inside, is_flat, face_of, Meets, Contains}
 use Rattle.ember_model.specs.Owners.{is_coplanar}
 use Rattle.ember_model.proofs.SignTests.{clash}
+use Rattle.ember_width.specs.declared.width.Width.{Ghosts}
 use Rattle.ember_box.specs.declared.aabb.Aabb.{Aabb}
 use Rattle.ember_algebra.specs.Relations.{Every}
 use Rattle.ember_algebra.proofs.Relations.{every_append}
@@ -22,7 +23,7 @@ use Rattle.ember_leaf.specs.declared.cutter.Cutter.{Cutter}
 use Rattle.ember_leaf.specs.declared.cutter.Role.{Role}
 use Rattle.ember_leaf.specs.declared.cutter.Role.TheVariants.{OtherPlane, Later, Earlier}
 use Rattle.ember_leaf.specs.Cutters.{role_if, owner_as, owners_by, owners_in, LiesAs, IsCutterOf, IsAdded, AddsCuttingPlanes, IsBounded}
-use Rattle.ember_leaf.specs.TriRelations.{MissesClosedFace, IsValidCoplanar, HasContaining}
+use Rattle.ember_leaf.specs.TriRelations.{MissesClosedFace, IsCoplanarWith, HasContaining}
 use Rattle.ember_leaf.specs.EarlierTriangles.{IsListedBefore, ContainsPart, AddsEarlier, covers, joins, misses, follows, AreEarlier, HasCover, DecidesOwner}
 use Rattle.ember_leaf.specs.Written.{IsCovered}
 use Rattle.ember_leaf.proofs.TriRelations.{coplanar_flats}
@@ -67,7 +68,7 @@ away_misses t u b s e q f h =
     away_unmet t u b s e q (coplanar_flats u t h.coplanar).0 f h.bounded (meets t u b f h)
 
 -- ---- what a triangle of one plane adds
-pub coplanar_added : (t u : Tri) (is_before : Bool) {old new : List Cutter} → is_coplanar t u ≡ true →
+pub coplanar_added : {W M : Type 0} {G : Ghosts W M} (t u : Tri) (is_before : Bool) {old new : List (Cutter W M G)} → is_coplanar t u ≡ true →
     IsAdded u (role_if is_before) old new → (b : Aabb) → AddsEarlier t u b is_before (owners_in old) false (owners_in new)
 coplanar_added t u true {old} {new} e a b =
     subst (λ (l : List Tri). AddsEarlier t u b true (owners_in old) false l) (sym (added_owners a)) (joins refl (coplanar_turned u t e))
@@ -75,7 +76,7 @@ coplanar_added t u false {old} {new} e a b =
     subst (λ (l : List Tri). AddsEarlier t u b false (owners_in old) false l) (sym (added_owners a ∙ append-nil (owners_in old))) (follows refl)
 
 -- a triangle in another plane adds no owner
-pub other_plane_added : (t u : Tri) (is_before : Bool) {old new : List Cutter} → is_coplanar t u ≡ false →
+pub other_plane_added : {W M : Type 0} {G : Ghosts W M} (t u : Tri) (is_before : Bool) {old new : List (Cutter W M G)} → is_coplanar t u ≡ false →
     IsAdded u OtherPlane old new → (b : Aabb) → AddsEarlier t u b is_before (owners_in old) false (owners_in new)
 other_plane_added t u is_before {old} {new} e a b =
     subst (λ (l : List Tri). AddsEarlier t u b is_before (owners_in old) false l)
@@ -87,29 +88,29 @@ coplanar_lies true t u e = e
 coplanar_lies false t u e = e
 
 -- a coplanar triangle, once added, has its cutting planes in the list
-pub coplanar_cutting_planes : (t u : Tri) (is_before : Bool) {old new : List Cutter} (b : Aabb) → is_flat u ≡ false →
+pub coplanar_cutting_planes : {W M : Type 0} {G : Ghosts W M} (t u : Tri) (is_before : Bool) {old new : List (Cutter W M G)} (b : Aabb) → is_flat u ≡ false →
     is_coplanar t u ≡ true → IsAdded u (role_if is_before) old new →
     AddsCuttingPlanes (IsBounded t b) (cutting_planes_of t u) old new
 coplanar_cutting_planes t u true {old} {new} b n e a = adds_all old new (edge_cutting_planes t u n e) (added_cutting_planes a)
 coplanar_cutting_planes t u false {old} {new} b n e a = adds_all old new (edge_cutting_planes t u n e) (added_cutting_planes a)
 
 -- an owner that a cutter gives is valid and lies in the plane of t
-owner_coplanar : (t : Tri) (c : Cutter) → IsCutterOf t c → Every (IsValidCoplanar t) (owners_by c)
+owner_coplanar : {W M : Type 0} {G : Ghosts W M} (t : Tri) (c : Cutter W M G) → IsCutterOf t c → Every (IsCoplanarWith t) (owners_by c)
 owner_coplanar t c h = by c.role h.lies
   where
-    by : (k : Role) → LiesAs k t c.tri → Every (IsValidCoplanar t) (owner_as k c.tri)
+    by : (k : Role) → LiesAs k t c.tri → Every (IsCoplanarWith t) (owner_as k c.tri)
     by OtherPlane l = tt
     by Later l = tt
-    by Earlier l = (record { valid = c.valid; coplanar = coplanar_turned c.tri t l }, tt)
+    by Earlier l = (record { coplanar = coplanar_turned c.tri t l }, tt)
 
 -- the owners in a list of cutters are valid triangles in the plane of t
-pub owners_coplanar : (t : Tri) (cs : List Cutter) → All (IsCutterOf t) cs → All (IsValidCoplanar t) (owners_in cs)
-owners_coplanar t cs h = every_all (IsValidCoplanar t) (owners_in cs) (by cs (all_every (IsCutterOf t) cs h))
+pub owners_coplanar : {W M : Type 0} {G : Ghosts W M} (t : Tri) (cs : List (Cutter W M G)) → All (IsCutterOf t) cs → All (IsCoplanarWith t) (owners_in cs)
+owners_coplanar t cs h = every_all (IsCoplanarWith t) (owners_in cs) (by cs (all_every (IsCutterOf t) cs h))
   where
-    by : (cs : List Cutter) → Every (IsCutterOf t) cs → Every (IsValidCoplanar t) (owners_in cs)
+    by : {W M : Type 0} {G : Ghosts W M} (cs : List (Cutter W M G)) → Every (IsCutterOf t) cs → Every (IsCoplanarWith t) (owners_in cs)
     by [] e = tt
     by (c ∷ cs) e =
-        every_append (IsValidCoplanar t) (owners_by c) (owners_in cs) (owner_coplanar t c e.0) (by cs e.1)
+        every_append (IsCoplanarWith t) (owners_by c) (owners_in cs) (owner_coplanar t c e.0) (by cs e.1)
 
 -- ---- lists
 all_at : {X : Type 0} (P : X → Type 0) (xs : List X) (i : ℕ) (x : X) → All P xs → slice_get xs i ≡ Some x → P x
@@ -226,7 +227,7 @@ module _ (ts : List Tri) (i : ℕ) (t : Tri) (b : Aabb) where
     there : slice_get ts i ≡ Some t
     there = slice_get-get_or ts i no_tri w ∙ ap (λ (v : Tri). Some v) (sym e)
 
-    pub tells_owner : (earlier : List Tri) (f : Face) → All (IsValidCoplanar t) earlier →
+    pub tells_owner : (earlier : List Tri) (f : Face) → All (IsCoplanarWith t) earlier →
         AreEarlier ts i t b (length ts) earlier → IsBounded t b f → HasInside f → DecidesOwner earlier ts i f
     tells_owner earlier f k a d s =
         record {
@@ -236,7 +237,7 @@ module _ (ts : List Tri) (i : ℕ) (t : Tri) (b : Aabb) where
           };
           contained = λ h o. let r = all_at (IsListedBefore ts i) earlier h.index h.tri a.listed h.here in
               o.first r.index t h.tri r.before r.here there
-              (all_at (IsValidCoplanar t) earlier h.index h.tri k h.here).coplanar h.holds;
+              (all_at (IsCoplanarWith t) earlier h.index h.tri k h.here).coplanar h.holds;
         }
       where
         by : (j : ℕ) (u : Tri) → slice_get ts j ≡ Some u → (v : Tri) → slice_get ts i ≡ Some v →

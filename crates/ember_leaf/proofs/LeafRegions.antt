@@ -19,6 +19,7 @@ use Rattle.ember_model.specs.Planes.{value_at, opposite}
 use Rattle.ember_model.specs.Faces.{is_inside, is_flat, face_of, Contains}
 use Rattle.ember_model.specs.Owners.{IsOwner}
 use Rattle.ember_model.proofs.SignTests.{clash}
+use Rattle.ember_width.specs.declared.width.Width.{Ghosts}
 use Rattle.ember_box.specs.declared.aabb.Interval.{Interval}
 use Rattle.ember_box.specs.declared.aabb.Aabb.{Aabb}
 use Rattle.ember_box.specs.Boxes.{Cell, low, high}
@@ -38,7 +39,7 @@ use Rattle.ember_leaf.specs.declared.wall.Wall as leaf
 use Rattle.ember_leaf.specs.declared.cutter.Cutter.{Cutter}
 use Rattle.ember_trace.specs.declared.near_triangle.NearTriangle.{NearTriangle}
 use Rattle.ember_leaf.specs.Walls.{wall_of, IsPartOf, IsClippedBy}
-use Rattle.ember_leaf.specs.TriRelations.{IsValidCoplanar}
+use Rattle.ember_leaf.specs.TriRelations.{IsCoplanarWith}
 use Rattle.ember_leaf.specs.declared.cutter.Role.{Role}
 use Rattle.ember_leaf.specs.declared.cutter.Role.TheVariants.{OtherPlane, Later, Earlier}
 use Rattle.ember_leaf.specs.KeptRegions.{LiesInPlaneOf}
@@ -126,7 +127,7 @@ bounded_keeps t s b f fs h (splits m c) = (
 )
 bounded_keeps t s b f fs h (whole n) = (h, tt)
 
-module _ (c : Cell) (f : NearTriangle) (ring : Face) where
+module _ {W M : Type 0} {G : Ghosts W M} (c : Cell) (f : NearTriangle W M G) (ring : Face) where
   part_bounded : (s : Aabb) → s ≡ common_of f.aabb (aabb_of_cell c) → IsPartOf f.tri ring → LiesIn c ring → IsBounded f.tri s ring
   part_bounded s q p l =
       record {
@@ -158,9 +159,9 @@ module _ (c : Cell) (f : NearTriangle) (ring : Face) where
       }
 
 -- the list of triangles before a triangle decides whether it owns each of its regions
-owners_told : (c : Cell) (f : NearTriangle) (ts : List Tri) (i : ℕ) (earlier : List Tri) (s : Aabb) (list : List Face) →
+owners_told : {W M : Type 0} {G : Ghosts W M} (c : Cell) (f : NearTriangle W M G) (ts : List Tri) (i : ℕ) (earlier : List Tri) (s : Aabb) (list : List Face) →
     f.tri ≡ tri_at ts i → i < length ts → s ≡ common_of f.aabb (aabb_of_cell c) → IsRegions c ts i list →
-    Every (IsPartOf f.tri) list → All (IsValidCoplanar f.tri) earlier → AreEarlier ts i f.tri s (length ts) earlier →
+    Every (IsPartOf f.tri) list → All (IsCoplanarWith f.tri) earlier → AreEarlier ts i f.tri s (length ts) earlier →
     All (DecidesOwner earlier ts i) list
 owners_told c f ts i earlier s list e w q r p k a j d l =
     let g = get_or list j d in let at = slice_get-get_or list j d l in let part = every_at (IsPartOf f.tri) list j g p at in
@@ -187,8 +188,8 @@ all_told earlier ts i t (f ∷ fs) h k =
     (record { tells = h.0; somewhere = k.0.somewhere }, all_told earlier ts i t fs h.1 k.1)
 
 -- what the triangles leave of the start are the regions that the triangle owns
-pub leaf_owned : (c : Cell) (f : NearTriangle) (ring : Face) (ts : List Tri) (i : ℕ) (ws : List leaf.Wall)
-    (cs : List Cutter) (s : Aabb) (list : List Face) → f.tri ≡ tri_at ts i → i < length ts → map wall_of ws ≡ walls c →
+pub leaf_owned : {W M : Type 0} {G : Ghosts W M} (c : Cell) (f : NearTriangle W M G) (ring : Face) (ts : List Tri) (i : ℕ) (ws : List leaf.Wall)
+    (cs : List (Cutter W M G)) (s : Aabb) (list : List Face) → f.tri ≡ tri_at ts i → i < length ts → map wall_of ws ≡ walls c →
     s ≡ common_of f.aabb (aabb_of_cell c) → IsClippedBy (map wall_of ws) f.tri (ring ∷ []) →
     OmitsUnmet (IsBounded f.tri s) (cutting_planes ts i) (cutting_planes_in cs) → All (IsCutterOf f.tri) cs →
     AreEarlier ts i f.tri s (length ts) (owners_in cs) → AreCut cs (ring ∷ []) list → AreOwned c ts i list
@@ -221,7 +222,7 @@ module _ (c : Cell) (ts : List Tri) (i : ℕ) (list : List Face) (o : AreOwned c
   owned_each = every_all (IsOwner ts i) list (left_have o.owned)
 
 -- each of the triangles can cut the start
-pub all_can : (t : Tri) (ring : Face) (cs : List Cutter) → IsPartOf t ring → All (IsCutterOf t) cs → All (λ u. CanCut u ring) cs
+pub all_can : {W M : Type 0} {G : Ghosts W M} (t : Tri) (ring : Face) (cs : List (Cutter W M G)) → IsPartOf t ring → All (IsCutterOf t) cs → All (λ u. CanCut u ring) cs
 all_can t ring cs r h =
     λ k d l. record { shares = by (get_or cs k d).tri (get_or cs k d).role (h k d l).lies; somewhere = r.somewhere }
   where

@@ -17,3 +17,4 @@ pub mod RegionCuts
 pub mod WallClips
 pub mod LinearInequalities
 pub mod TriFaces
+pub mod WallPlanes

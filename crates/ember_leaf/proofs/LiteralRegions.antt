@@ -17,7 +17,7 @@ use Rattle.ember_box.specs.Boxes.{Cell, root}
 use Rattle.ember_box.specs.Near.{near, tri_at}
 use Rattle.ember_box.specs.Halving.{leaves}
 use Rattle.ember_trace.proofs.SomeSides.{HasSides, face_has_sides}
-use Rattle.ember_leaf.specs.declared.kept.Kept.{Kept}
+use Rattle.ember_leaf.specs.KeptRegions.{NarrowKept as Kept}
 use Rattle.ember_leaf.specs.Walls.{IsPartOf}
 use Rattle.ember_leaf.specs.Written.{IsWrittenOfRegion, unowned, same_value, written, IsCovered, regional, IsWrittenIn}
 use Rattle.ember_leaf.specs.Scenes.{HasOneValue, regions, IsWritten}

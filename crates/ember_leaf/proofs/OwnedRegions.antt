@@ -10,6 +10,7 @@ use Rattle.ember_model.specs.declared.plane.Plane.{Plane}
 use Rattle.ember_model.specs.declared.face.Face.{Face}
 use Rattle.ember_model.specs.Planes.{opposite}
 use Rattle.ember_model.specs.Faces.{face_of, Meets}
+use Rattle.ember_width.specs.declared.width.Width.{Ghosts}
 use Rattle.ember_box.specs.Regions.{CuttingPlane, AreLeftByCuttingPlane, splits, whole}
 use Rattle.ember_trace.proofs.FilledFaces.{inside_below}
 use Rattle.ember_leaf.specs.declared.cutter.Cutter.{Cutter}
@@ -155,7 +156,7 @@ module _ (old new : List Tri) (bs : List CuttingPlane) where
       record { all = s.0 ++ t.all; cuts = cuts_both s.1 t.cuts; without = without_append (all_dropped s.0 k) t.without }
 
 -- ---- all triangles, one after another
-left_from : (bs : List CuttingPlane) (ts : List Tri) (f : Face) {cs : List Cutter} {fs gs : List Face} →
+left_from : {W M : Type 0} {G : Ghosts W M} (bs : List CuttingPlane) (ts : List Tri) (f : Face) {cs : List (Cutter W M G)} {fs gs : List Face} →
     AreLeft bs ts (f ∷ []) fs → Chain AreSplit cs fs gs →
     AreLeft (bs ++ cutting_planes_in cs) (ts ++ owners_in cs) (f ∷ []) gs
 left_from bs ts f {gs = gs} l done =
@@ -170,6 +171,6 @@ left_from bs ts f {gs = gs} l (step {x = c} {xs = cs} r d) =
     (append_assoc bs (cutting_planes_by c) (cutting_planes_in cs)) h)
 
 -- what is left of a start, and how it comes from all its regions
-pub regions_left : (cs : List Cutter) (f : Face) (gs : List Face) → Chain AreSplit cs (f ∷ []) gs → AreLeft (cutting_planes_in cs) (owners_in cs) (f ∷ []) gs
+pub regions_left : {W M : Type 0} {G : Ghosts W M} (cs : List (Cutter W M G)) (f : Face) (gs : List Face) → Chain AreSplit cs (f ∷ []) gs → AreLeft (cutting_planes_in cs) (owners_in cs) (f ∷ []) gs
 regions_left cs f gs c =
     left_from [] [] f (record { all = f ∷ []; cuts = done; without = left (record { free = tt }) ended }) c

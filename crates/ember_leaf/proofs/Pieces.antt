@@ -12,6 +12,7 @@ use Rattle.ember_model.specs.declared.face.Face.{Face}
 use Rattle.ember_model.specs.Planes.{value_at, support_of, opposite}
 use Rattle.ember_model.specs.Faces.{face_of, edges_of, is_flat, is_inside, Contains, Cuts, Meets, below, above}
 use Rattle.ember_model.proofs.SignTests.{negative_in, negative_out, positive_out, zero_out}
+use Rattle.ember_width.specs.declared.width.Width.{Ghosts}
 use Rattle.ember_box.specs.Regions.{AreLeftByCuttingPlane, splits, whole}
 use Rattle.ember_poly.specs.Rings.{IsBelow}
 use Rattle.ember_poly.specs.Cuts.{HasInside, IsWhole, AreParts, IsReach}
@@ -42,7 +43,7 @@ free_as Later t f d = record { free = tt }
 free_as Earlier t f d = record { free = (d, tt) }
 
 -- a region that a triangle doesn't meet is left as it is
-pub unmet_left : (c : Cutter) (f : Face) → (Meets f (face_of c.tri) → ⊥) → AreLeftByCutter c f (f ∷ [])
+pub unmet_left : {W M : Type 0} {G : Ghosts W M} (c : Cutter W M G) (f : Face) → (Meets f (face_of c.tri) → ⊥) → AreLeftByCutter c f (f ∷ [])
 unmet_left c f n =
     record { all = f ∷ []; cuts = cuts_unmet c.tri (planes_as c.role c.tri) f n; without = left (free_as c.role c.tri f (unmet_disjoint c.tri f n)) ended }
 
@@ -66,7 +67,7 @@ plane_left t p f {gs} m h =
     }
 
 -- what the support plane of a triangle in another plane leaves of a region is what the triangle leaves
-pub other_plane_left : (c : Cutter) (p : Plane) (f : Face) {old new : List Face} → c.role ≡ OtherPlane →
+pub other_plane_left : {W M : Type 0} {G : Ghosts W M} (c : Cutter W M G) (p : Plane) (f : Face) {old new : List Face} → c.role ≡ OtherPlane →
     p ≡ support_of c.tri → Meets f (face_of c.tri) → HasGrown (SplitsIfCut p f) old new →
     HasGrown (AreLeftByCutter c f) old new
 other_plane_left c p f {old} {new} e q m g =
@@ -171,7 +172,7 @@ none_held : (t : Tri) (f : Face) → CutOutTriangle t [] f → HasContaining (t 
 none_held t f h = record { index = 0; tri = t; here = refl; holds = record { holds = λ v i. h.within v i tt } }
 
 -- after all planes, an owner leaves nothing of the part inside it
-pub cut_out_dropped : (c : Cutter) (f : Face) (old : List Face) → c.role ≡ Earlier → CutOutTriangle c.tri [] f → HasGrown (AreLeftByEdges c [] f) old old
+pub cut_out_dropped : {W M : Type 0} {G : Ghosts W M} (c : Cutter W M G) (f : Face) (old : List Face) → c.role ≡ Earlier → CutOutTriangle c.tri [] f → HasGrown (AreLeftByEdges c [] f) old old
 cut_out_dropped c f old e h =
     record {
       more = [];
@@ -182,7 +183,7 @@ cut_out_dropped c f old e h =
     }
 
 -- after all planes, a triangle that isn't an owner leaves the part inside it
-pub cut_out_left : (c : Cutter) (f : Face) (old new : List Face) → (c.role ≡ Earlier → ⊥) → new ≡ old ++ f ∷ [] → HasGrown (AreLeftByEdges c [] f) old new
+pub cut_out_left : {W M : Type 0} {G : Ghosts W M} (c : Cutter W M G) (f : Face) (old new : List Face) → (c.role ≡ Earlier → ⊥) → new ≡ old ++ f ∷ [] → HasGrown (AreLeftByEdges c [] f) old new
 cut_out_left c f old new n e =
     record { more = f ∷ []; is = e; holds = record { all = f ∷ []; cuts = done; without = left (none c.role n) ended } }
   where
@@ -192,14 +193,14 @@ cut_out_left c f old new n e =
     none Earlier m = absurd (m refl)
 
 -- a plane that doesn't cut the region leaves it to the planes after it
-pub whole_grown : (c : Cutter) (p : Plane) (ps : List Plane) (f : Face) (k : Reach) (old new : List Face) →
+pub whole_grown : {W M : Type 0} {G : Ghosts W M} (c : Cutter W M G) (p : Plane) (ps : List Plane) (f : Face) (k : Reach) (old new : List Face) →
     CutOutTriangle c.tri (p ∷ ps) f → IsReach f p k → (k ≡ Both → ⊥) → HasGrown (AreLeftByEdges c ps f) old new →
     HasGrown (AreLeftByEdges c (p ∷ ps) f) old new
 whole_grown c p ps f k old new h r n g =
     record { more = g.more; is = g.is; holds = whole_left c.tri p ps f h (owners_by c) k r n g.holds }
 
 -- a plane that cuts the region leaves the part below to the planes after it, and then the part above
-pub parts_grown : (c : Cutter) (p : Plane) (ps : List Plane) (f low high : Face) (old mid new : List Face) →
+pub parts_grown : {W M : Type 0} {G : Ghosts W M} (c : Cutter W M G) (p : Plane) (ps : List Plane) (f low high : Face) (old mid new : List Face) →
     CutOutTriangle c.tri (p ∷ ps) f → AreParts f p low high → HasGrown (AreLeftByEdges c ps low) old mid →
     new ≡ mid ++ high ∷ [] → HasGrown (AreLeftByEdges c (p ∷ ps) f) old new
 parts_grown c p ps f low high old mid new h a g e =
@@ -251,14 +252,14 @@ pub all_uncut : (f : Face) (ps : List Plane) (i : ℕ) → length ps ≤ i → A
 all_uncut f ps i l h = subst (AreUncut f) (take_all i ps l) h
 
 -- what the owner contains is left out
-owned_dropped : (c : Cutter) (ps : List Plane) (f : Face) (old : List Face) → c.role ≡ Earlier →
+owned_dropped : {W M : Type 0} {G : Ghosts W M} (c : Cutter W M G) (ps : List Plane) (f : Face) (old : List Face) → c.role ≡ Earlier →
     CutOutTriangle c.tri ps f → AreUncut f ps → HasGrown (AreLeftByEdges c ps f) old old
 owned_dropped c [] f old e h u = cut_out_dropped c f old e h
 owned_dropped c (p ∷ ps) f old e h u =
     whole_grown c p ps f u.0.side old old h u.0.lies u.0.uncut (owned_dropped c ps f old e (all_under c.tri p ps f h u.0.side u.0.lies u.0.uncut) u.1)
 
 -- a plane cuts the region, and its part below is the owner's
-pub above_grown : (c : Cutter) (p : Plane) (ps : List Plane) (f high : Face) (old new : List Face) → c.role ≡ Earlier →
+pub above_grown : {W M : Type 0} {G : Ghosts W M} (c : Cutter W M G) (p : Plane) (ps : List Plane) (f high : Face) (old new : List Face) → c.role ≡ Earlier →
     CutOutTriangle c.tri (p ∷ ps) f → Cuts f p → AreUncut f ps → high ≡ above f p → new ≡ old ++ high ∷ [] →
     HasGrown (AreLeftByEdges c (p ∷ ps) f) old new
 above_grown c p ps f high old new e h k u a q =
@@ -289,7 +290,7 @@ all_cut_out t f n s m =
     record { around = around t; shared = meets_inside t f n s m; within = λ v i us. inside_all t v (s.face v i) (inside_out f v i).weight us }
 
 -- a coplanar cutter and the region lie in one plane
-pub cutter_shares_plane : (c : Cutter) (f : Face) → CanCut c f → c.role ≢ OtherPlane → ShareAPlane c.tri f
+pub cutter_shares_plane : {W M : Type 0} {G : Ghosts W M} (c : Cutter W M G) (f : Face) → CanCut c f → c.role ≢ OtherPlane → ShareAPlane c.tri f
 cutter_shares_plane c f h n = by c.role n h.shares
   where
     by : (k : Role) → (k ≡ OtherPlane → ⊥) → SharesAs k c.tri f → ShareAPlane c.tri f
@@ -298,7 +299,7 @@ cutter_shares_plane c f h n = by c.role n h.shares
     by Earlier n s = s
 
 -- the edge planes of a coplanar triangle that meets a region cut out of it what lies in the triangle
-pub edges_cut_out : (c : Cutter) (es : List Plane) (f : Face) → CanCut c f → c.role ≢ OtherPlane → es ≡ edges_of c.tri →
+pub edges_cut_out : {W M : Type 0} {G : Ghosts W M} (c : Cutter W M G) (es : List Plane) (f : Face) → CanCut c f → c.role ≢ OtherPlane → es ≡ edges_of c.tri →
     Meets f (face_of c.tri) → CutOutTriangle c.tri es f
 edges_cut_out c es f h n e m =
     subst (λ (ps : List Plane). CutOutTriangle c.tri ps f) (sym e) (all_cut_out c.tri f c.normal (cutter_shares_plane c f h n) m)

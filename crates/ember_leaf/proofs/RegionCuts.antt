@@ -14,6 +14,7 @@ use Rattle.ember_model.specs.Planes.{support_of, opposite, value_at}
 use Rattle.ember_model.specs.Faces.{face_of, edges_of, Meets, Cuts}
 use Rattle.ember_model.specs.ClearTest.{face_with}
 use Rattle.ember_model.proofs.SignTests.{negative_in, negative_out, positive_out, zero_not_negative}
+use Rattle.ember_width.specs.declared.width.Width.{Ghosts}
 use Rattle.ember_box.specs.Regions.{CuttingPlane, AreLeftByCuttingPlane, splits, whole}
 use Rattle.ember_poly.specs.Cuts.{AreParts, IsReach}
 use Rattle.ember_poly.specs.declared.reach_and_cut.Reach.{Reach}
@@ -80,13 +81,13 @@ pub region_whole : (b : CuttingPlane) (f : Face) (k : Reach) → IsReach f b.pla
 region_whole b f k h n = whole (λ m. not_cut f b.plane k h n)
 
 -- ---- regions one after another
-pub first_met : (b : Cutter) (rest : List Face) {f : Face} {list yielded : List Face} → MeetsFirst b list →
+pub first_met : {W M : Type 0} {G : Ghosts W M} (b : Cutter W M G) (rest : List Face) {f : Face} {list yielded : List Face} → MeetsFirst b list →
     yielded ++ f ∷ rest ≡ list → yielded ≡ [] → Meets f (face_of b.tri)
 first_met b rest {f} {list} {yielded} h e q =
     subst (MeetsFirst b) (sym e ∙ ap (λ (l : List Face). l ++ f ∷ rest) q) h
 
 -- the list has grown by what a triangle leaves of one region
-pub split_grows_list : (b : Cutter) (old fs : List Face) (f : Face) (out new : List Face) →
+pub split_grows_list : {W M : Type 0} {G : Ghosts W M} (b : Cutter W M G) (old fs : List Face) (f : Face) (out new : List Face) →
     ((front : List Face) → AreSplit b front old → AreSplit b (front ++ fs) out) → HasGrown (AreLeftByCutter b f) out new →
     (front : List Face) → AreSplit b front old → AreSplit b (front ++ (fs ++ f ∷ [])) new
 split_grows_list b old fs f out new k g front h =
@@ -98,7 +99,7 @@ pub grown_by_one : (P : List Face → Type 0) (f : Face) (old new : List Face) �
 grown_by_one P f old new p e = record { more = f ∷ []; is = e; holds = p }
 
 -- one more region that the cutter leaves whole
-pub whole_more : (b : Cutter) (list : List Face) (i : ℕ) (d : Face) → i < length list → d ≡ get_or list i d →
+pub whole_more : {W M : Type 0} {G : Ghosts W M} (b : Cutter W M G) (list : List Face) (i : ℕ) (d : Face) → i < length list → d ≡ get_or list i d →
     AreSplit b (take i list) (take i list) → AreLeftByCutter b d (d ∷ []) →
     AreSplit b (take (i + 1) list) (take (i + 1) list)
 whole_more b list i d l e h r = rw (take_more list i d l, ← e) (each_push h r)
@@ -111,7 +112,7 @@ take_all (suc k) [] l = refl
 take_all (suc k) (x ∷ xs) l = ap (λ ys. x ∷ ys) (take_all k xs (omega (arith, l)))
 
 -- regions at the front that are left whole, and the split ones behind them
-pub split_front : (b : Cutter) (k : ℕ) (old : List Face) {front back new : List Face} → front ≡ take k old →
+pub split_front : {W M : Type 0} {G : Ghosts W M} (b : Cutter W M G) (k : ℕ) (old : List Face) {front back new : List Face} → front ≡ take k old →
     back ≡ drop k old → AreSplit b (take k old) (take k old) →
     ((start : List Face) → AreSplit b start front → AreSplit b (start ++ back) new) → AreSplit b old new
 split_front b k old {front} {back} {new} e q h f =
@@ -119,13 +120,14 @@ split_front b k old {front} {back} {new} e q h f =
     (f (take k old) (subst (AreSplit b (take k old)) (sym e) h))
 
 -- a cutter that leaves all regions whole
-pub split_none : (b : Cutter) (k : ℕ) (old : List Face) → length old ≤ k → AreSplit b (take k old) (take k old) → AreSplit b old old
+pub split_none : {W M : Type 0} {G : Ghosts W M} (b : Cutter W M G) (k : ℕ) (old : List Face) → length old ≤ k → AreSplit b (take k old) (take k old) → AreSplit b old old
 split_none b k old l h = subst (λ (fs : List Face). AreSplit b fs fs) (take_all k old l) h
 
 -- before the first cutter there is the start alone
-pub cut_begun : (f : Face) {none new : List Face} → none ≡ [] → new ≡ none ++ f ∷ [] → AreCut [] (f ∷ []) new
-cut_begun f {none} {new} e q =
-    subst (AreCut [] (f ∷ [])) (sym (q ∙ ap (λ (fs : List Face). fs ++ f ∷ []) e)) done
+pub cut_begun : {W M : Type 0} {G : Ghosts W M} (f : Face) {none new : List Face} → none ≡ [] → new ≡ none ++ f ∷ [] →
+    AreCut {W = W} {M = M} {G = G} [] (f ∷ []) new
+cut_begun {W} {M} {G} f {none} {new} e q =
+    subst (AreCut {W = W} {M = M} {G = G} [] (f ∷ [])) (sym (q ∙ ap (λ (fs : List Face). fs ++ f ∷ []) e)) done
 
 -- ---- what is left is a part of the triangle
 cutting_plane_keeps : (t : Tri) (b : CuttingPlane) (f : Face) (fs : List Face) → IsPartOf t f → AreLeftByCuttingPlane b f fs → Every (IsPartOf t) fs

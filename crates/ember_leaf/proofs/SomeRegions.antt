@@ -67,13 +67,13 @@ some_regions c ts i n =
     (λ start s. some_chain (λ b fs. some_each (at_cutting_plane b) fs) (cutting_planes ts i) start
     (λ fs k. n fs (record { start = start; is_start = s; cuts = k })))
 
-all_unowned : (scene : List Tri) (f : Formula) (near : List Tri) (i : ℕ) (fs : List Face) →
-    Every (λ g. IsOwner near i g → ⊥) fs → Each (IsWrittenOfRegion scene f near i) fs []
+all_unowned : {W M : Type 0} (scene : List Tri) (f : Formula) (near : List Tri) (i : ℕ) (fs : List Face) →
+    Every (λ g. IsOwner near i g → ⊥) fs → Each (IsWrittenOfRegion {W = W} {M = M} scene f near i) fs []
 all_unowned scene f near i [] h = none
 all_unowned scene f near i (g ∷ gs) h = more (unowned h.0) (all_unowned scene f near i gs h.1)
 
 -- what is written of a triangle is what is written of its regions
-pub written_by_regions : (scene : List Tri) (f : Formula) (c : Cell) (near : List Tri) (i : ℕ) {ks : List Kept} →
+pub written_by_regions : {W M : Type 0} (scene : List Tri) (f : Formula) (c : Cell) (near : List Tri) (i : ℕ) {ks : List (Kept W M)} →
     IsWrittenOf scene f c near i ks → (AreRegionsWritten scene f c near i ks → ⊥) → ⊥
 written_by_regions scene f c near i (regional r) n = n r
 written_by_regions scene f c near i (hidden h) n =

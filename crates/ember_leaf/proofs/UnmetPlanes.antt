@@ -14,6 +14,7 @@ use Rattle.ember_model.specs.Faces.{is_flat, face_of, edges_of, Meets}
 use Rattle.ember_model.specs.Owners.{is_coplanar}
 use Rattle.ember_model.proofs.SignTests.{clash}
 use Rattle.ember_model.proofs.Hits.{closed_parts}
+use Rattle.ember_width.specs.declared.width.Width.{Ghosts}
 use Rattle.ember_box.specs.declared.aabb.Aabb.{Aabb}
 use Rattle.ember_box.specs.Aabbs.{aabb_of_tri, aabbs_meet, intervals_meet}
 use Rattle.ember_box.specs.Regions.{AreLeftByCuttingPlane, whole, cutting_planes_of, cutting_planes_at}
@@ -46,12 +47,12 @@ module _ {P : Face → Type 0} where
   none_kept [] h = all_seen
   none_kept (b ∷ bs) h = goes h.0 (none_kept bs h.1)
 
-  adds_none : (bs : List regions.CuttingPlane) (old : List Cutter) → Every (λ b. (f : Face) → P f → Meets f b.face → ⊥) bs → AddsCuttingPlanes P bs old old
+  adds_none : {W M : Type 0} {G : Ghosts W M} (bs : List regions.CuttingPlane) (old : List (Cutter W M G)) → Every (λ b. (f : Face) → P f → Meets f b.face → ⊥) bs → AddsCuttingPlanes P bs old old
   adds_none bs old h front r =
       subst (λ l. OmitsUnmet P (front ++ bs) l) (append-nil (cutting_planes_in old)) (sheds_append r (none_kept bs h))
 
   -- cutting planes that are all added
-  pub adds_all : {bs more : List regions.CuttingPlane} (old new : List Cutter) → bs ≡ more →
+  pub adds_all : {W M : Type 0} {G : Ghosts W M} {bs more : List regions.CuttingPlane} (old new : List (Cutter W M G)) → bs ≡ more →
       cutting_planes_in new ≡ cutting_planes_in old ++ more → AddsCuttingPlanes P bs old new
   adds_all {bs} {more} old new e q front r =
       subst (λ l. OmitsUnmet P (front ++ bs) l) (ap (λ l. cutting_planes_in old ++ l) e ∙ sym q) (sheds_append r (same bs))
@@ -111,12 +112,12 @@ every_cutting_plane Q t u h = by (is_flat u) (is_coplanar t u) refl refl
     by false true e q = subst (Every Q) (sym (edge_cutting_planes t u e q)) (every_with Q u (edges_of u) (h e))
 
 -- a flat triangle needs no cutting planes
-pub adds_flat : (t u : Tri) (b : Aabb) (old : List Cutter) → is_flat u ≡ true → AddsCuttingPlanes (IsBounded t b) (cutting_planes_of t u) old old
+pub adds_flat : {W M : Type 0} {G : Ghosts W M} (t u : Tri) (b : Aabb) (old : List (Cutter W M G)) → is_flat u ≡ true → AddsCuttingPlanes (IsBounded t b) (cutting_planes_of t u) old old
 adds_flat t u b old e =
     adds_none (cutting_planes_of t u) old (subst (Every (λ c. (f : Face) → IsBounded t b f → Meets f c.face → ⊥)) (sym (flat_cutting_planes t u e)) tt)
 
 -- a triangle that is disjoint from t needs none either
-pub adds_apart : (t u : Tri) (b : Aabb) (old : List Cutter) → MissesClosedFace t u → AddsCuttingPlanes (IsBounded t b) (cutting_planes_of t u) old old
+pub adds_apart : {W M : Type 0} {G : Ghosts W M} (t u : Tri) (b : Aabb) (old : List (Cutter W M G)) → MissesClosedFace t u → AddsCuttingPlanes (IsBounded t b) (cutting_planes_of t u) old old
 adds_apart t u b old a =
     adds_none (cutting_planes_of t u) old (every_cutting_plane (λ c. (f : Face) → IsBounded t b f → Meets f c.face →
     ⊥) t u (λ n p f k m. clash m.holds (a.holds m.at (k.within.holds m.at m.inside))))
@@ -135,14 +136,14 @@ away_unmet t u b s same away n f k m = clash met (sym (ap (aabbs_meet b) same) �
         and_from (intervals_meet b.x c.x && intervals_meet b.y c.y) (intervals_meet b.z c.z) (and_from (intervals_meet b.x c.x) (intervals_meet b.y c.y) x y) z
 
 -- nor does one whose bounding box doesn't meet the bounds
-pub adds_away : (t u : Tri) (b s : Aabb) (old : List Cutter) → s ≡ aabb_of_tri u → aabbs_meet b s ≡ false →
+pub adds_away : {W M : Type 0} {G : Ghosts W M} (t u : Tri) (b s : Aabb) (old : List (Cutter W M G)) → s ≡ aabb_of_tri u → aabbs_meet b s ≡ false →
     AddsCuttingPlanes (IsBounded t b) (cutting_planes_of t u) old old
 adds_away t u b s old same away =
     adds_none (cutting_planes_of t u) old (every_cutting_plane (λ c. (f : Face) → IsBounded t b f → Meets f c.face →
     ⊥) t u (λ n p f k m. away_unmet t u b s same away n f k m))
 
 -- ---- a triangle that joins the list
-module _ {u : Tri} {k : Role} {old new : List Cutter} (a : IsAdded u k old new) where
+module _ {W M : Type 0} {G : Ghosts W M} {u : Tri} {k : Role} {old new : List (Cutter W M G)} (a : IsAdded u k old new) where
   -- a new cutter adds the planes of its role
   pub added_cutting_planes : cutting_planes_in new ≡ cutting_planes_in old ++ cutting_planes_with u (planes_as k u)
   added_cutting_planes =
@@ -205,7 +206,7 @@ other_cutting_planes : (ts : List Tri) (i j : ℕ) → (j ≡ i → ⊥) → cut
 other_cutting_planes ts i j n =
     ap (λ (b : Bool). elim b as (λ x. List regions.CuttingPlane) [ true ↦ [] | false ↦ cutting_planes_of (tri_at ts i) (tri_at ts j) ]) (nat_eq-other n)
 
-module _ {P : Face → Type 0} (ts : List Tri) (i j : ℕ) (old : List Cutter)
+module _ {W M : Type 0} {G : Ghosts W M} {P : Face → Type 0} (ts : List Tri) (i j : ℕ) (old : List (Cutter W M G))
     (r : OmitsUnmet P (flat_map (cutting_planes_at ts i) (range_with_len 0 j)) (cutting_planes_in old)) where
   -- t itself adds no cutting planes
   pub own_next : j ≡ i → OmitsUnmet P (flat_map (cutting_planes_at ts i) (range_with_len 0 (j + 1))) (cutting_planes_in old)
@@ -216,7 +217,7 @@ module _ {P : Face → Type 0} (ts : List Tri) (i j : ℕ) (old : List Cutter)
       ∙ append-nil (flat_map (cutting_planes_at ts i) (range_with_len 0 j)))) r
 
   -- one more triangle adds its cutting planes
-  pub other_next : (new : List Cutter) (t u : Tri) → (j ≡ i → ⊥) → t ≡ tri_at ts i → u ≡ tri_at ts j →
+  pub other_next : (new : List (Cutter W M G)) (t u : Tri) → (j ≡ i → ⊥) → t ≡ tri_at ts i → u ≡ tri_at ts j →
       AddsCuttingPlanes P (cutting_planes_of t u) old new →
       OmitsUnmet P (flat_map (cutting_planes_at ts i) (range_with_len 0 (j + 1))) (cutting_planes_in new)
   other_next new t u n e q a =

@@ -11,6 +11,7 @@ use Rattle.ember_model.specs.Planes.{support_of, value_at}
 use Rattle.ember_model.specs.Faces.{edges_of, face_of, is_inside, is_in_closed, Somewhere, Everywhere}
 use Rattle.ember_model.specs.Faces.{Cuts, Meets, Contains, below, above}
 use Rattle.ember_model.specs.Owners.{is_coplanar}
+use Rattle.ember_width.specs.declared.width.Width.{Ghosts}
 use Rattle.ember_box.specs.declared.aabb.Interval.{Interval}
 use Rattle.ember_box.specs.declared.aabb.Aabb.{Aabb}
 use Rattle.ember_box.specs.Aabbs.{interval_between}
@@ -49,12 +50,12 @@ LiesAs Later t u = is_coplanar t u ≡ true
 LiesAs Earlier t u = is_coplanar t u ≡ true
 
 -- the cutter lies relative to t as its role says
-pub record IsCutterOf (t : Tri) (cutter : Cutter) : Type 0 where
+pub record IsCutterOf {W M : Type 0} {G : Ghosts W M} (t : Tri) (cutter : Cutter W M G) : Type 0 where
   pub lies : LiesAs cutter.role t cutter.tri
 
 -- the list has grown by the triangle u in the role k
-pub record IsAdded (u : Tri) (k : Role) (old new : List Cutter) : Type 0 where
-  pub cutter : Cutter
+pub record IsAdded {W M : Type 0} {G : Ghosts W M} (u : Tri) (k : Role) (old new : List (Cutter W M G)) : Type 0 where
+  pub cutter : Cutter W M G
   pub is : new ≡ old ++ cutter ∷ []
   pub tri : cutter.tri ≡ u
   pub role : cutter.role ≡ k
@@ -64,19 +65,19 @@ abbrev pub cutting_planes_with : Tri → List Plane → List CuttingPlane
 cutting_planes_with t ps = map (λ p. record { face = face_of t; plane = p }) ps
 
 -- the cutting planes of a cutter
-abbrev pub cutting_planes_by : Cutter → List CuttingPlane
+abbrev pub cutting_planes_by : {W M : Type 0} {G : Ghosts W M} → Cutter W M G → List CuttingPlane
 cutting_planes_by cutter = cutting_planes_with cutter.tri (planes_as cutter.role cutter.tri)
 
 -- the cutting planes of the cutters of a list
-abbrev pub cutting_planes_in : List Cutter → List CuttingPlane
+abbrev pub cutting_planes_in : {W M : Type 0} {G : Ghosts W M} → List (Cutter W M G) → List CuttingPlane
 cutting_planes_in cutters = flat_map cutting_planes_by cutters
 
 -- the cutter's triangle, if its role is `Earlier`
-abbrev pub owners_by : Cutter → List Tri
+abbrev pub owners_by : {W M : Type 0} {G : Ghosts W M} → Cutter W M G → List Tri
 owners_by cutter = owner_as cutter.role cutter.tri
 
 -- the triangles of the list with the role `Earlier`
-abbrev pub owners_in : List Cutter → List Tri
+abbrev pub owners_in : {W M : Type 0} {G : Ghosts W M} → List (Cutter W M G) → List Tri
 owners_in cutters = flat_map owners_by cutters
 
 -- ---- regions that are left
@@ -101,23 +102,23 @@ pub record AreLeft (bs : List CuttingPlane) (ts : List Tri) (fs gs : List Face) 
   pub without : Without (HasContaining ts) (IsFree ts) all gs
 
 -- what a triangle leaves of a region
-abbrev pub AreLeftByCutter : Cutter → Face → List Face → Type 0
+abbrev pub AreLeftByCutter : {W M : Type 0} {G : Ghosts W M} → Cutter W M G → Face → List Face → Type 0
 AreLeftByCutter cutter f gs = AreLeft (cutting_planes_by cutter) (owners_by cutter) (f ∷ []) gs
 
 -- what it leaves of each region
-abbrev pub AreSplit : Cutter → List Face → List Face → Type 0
+abbrev pub AreSplit : {W M : Type 0} {G : Ghosts W M} → Cutter W M G → List Face → List Face → Type 0
 AreSplit cutter fs gs = Each (AreLeftByCutter cutter) fs gs
 
 -- the list has grown by what the triangle leaves of fs
-abbrev pub AddsSplit : Cutter → List Face → List Face → List Face → Type 0
+abbrev pub AddsSplit : {W M : Type 0} {G : Ghosts W M} → Cutter W M G → List Face → List Face → List Face → Type 0
 AddsSplit cutter fs old new = (front : List Face) → AreSplit cutter front old → AreSplit cutter (front ++ fs) new
 
 -- what the triangles leave of the regions, one after another
-abbrev pub AreCut : List Cutter → List Face → List Face → Type 0
+abbrev pub AreCut : {W M : Type 0} {G : Ghosts W M} → List (Cutter W M G) → List Face → List Face → Type 0
 AreCut cutters fs gs = Chain AreSplit cutters fs gs
 
 -- the first region meets the triangle's closed face
-abbrev pub MeetsFirst : Cutter → List Face → Type 0
+abbrev pub MeetsFirst : {W M : Type 0} {G : Ghosts W M} → Cutter W M G → List Face → Type 0
 MeetsFirst cutter [] = ⊤
 MeetsFirst cutter (f ∷ fs) = Meets f (face_of cutter.tri)
 
@@ -145,7 +146,7 @@ pub record IsUncut (f : Face) (p : Plane) : Type 0 where
   pub uncut : side ≢ Both
 
 -- what the planes leave of a region
-abbrev pub AreLeftByEdges : Cutter → List Plane → Face → List Face → Type 0
+abbrev pub AreLeftByEdges : {W M : Type 0} {G : Ghosts W M} → Cutter W M G → List Plane → Face → List Face → Type 0
 AreLeftByEdges cutter ps f gs = AreLeft (cutting_planes_with cutter.tri ps) (owners_by cutter) (f ∷ []) gs
 
 -- the triangle and the face lie in one plane
@@ -160,7 +161,7 @@ SharesAs Later t f = ShareAPlane t f
 SharesAs Earlier t f = ShareAPlane t f
 
 -- the cutter may be applied to f: f has an inside point, and lies in the cutter's plane if the role says so
-pub record CanCut (cutter : Cutter) (f : Face) : Type 0 where
+pub record CanCut {W M : Type 0} {G : Ghosts W M} (cutter : Cutter W M G) (f : Face) : Type 0 where
   pub shares : SharesAs cutter.role cutter.tri f
   pub somewhere : HasInside f
 
@@ -188,7 +189,7 @@ pub data OmitsUnmet (P : Face → Type 0) : List CuttingPlane → List CuttingPl
       OmitsUnmet P xs ys → OmitsUnmet P (b ∷ xs) ys
 
 -- the cutting planes of a list have grown by `bs`, without some whose faces no face with the property meets
-abbrev pub AddsCuttingPlanes : (Face → Type 0) → List CuttingPlane → List Cutter → List Cutter → Type 0
+abbrev pub AddsCuttingPlanes : {W M : Type 0} {G : Ghosts W M} → (Face → Type 0) → List CuttingPlane → List (Cutter W M G) → List (Cutter W M G) → Type 0
 AddsCuttingPlanes P bs old new =
     (front : List CuttingPlane) → OmitsUnmet P front (cutting_planes_in old) →
     OmitsUnmet P (front ++ bs) (cutting_planes_in new)

@@ -9,7 +9,7 @@ use Rattle.ember_expr.specs.Formula.{Formula}
 use Rattle.ember_box.specs.Boxes.{Cell, root}
 use Rattle.ember_box.specs.Near.{near}
 use Rattle.ember_box.specs.Halving.{leaves}
-use Rattle.ember_leaf.specs.declared.kept.Kept.{Kept}
+use Rattle.ember_leaf.specs.KeptRegions.{NarrowKept as Kept}
 use Rattle.ember_leaf.specs.Written.{AreRegionsWritten, IsCovered}
 use Rattle.ember_leaf.specs.Scenes.{IsWritten}
 

@@ -3,7 +3,6 @@ use Rattle.std.specs.Prelude.{◌≡◌, ℕ, List, Some, slice_get, Bool, true,
 use Rattle.ember_algebra.specs.Sign.{is_negative, is_zero, is_positive}
 use Rattle.ember_model.specs.declared.plane.Plane.{Plane}
 use Rattle.ember_model.specs.declared.tri.Tri.{Tri}
-use Rattle.ember_model.specs.Valid.{IsValidTri}
 use Rattle.ember_model.specs.Planes.{value_at}
 use Rattle.ember_model.specs.Faces.{face_of, is_in_closed, Everywhere, Contains, edges_of}
 use Rattle.ember_model.specs.declared.face.Face.{Face}
@@ -54,9 +53,8 @@ IsRelation t u Apart = MissesClosedFace t u
 IsRelation t u OtherPlane = is_coplanar t u ≡ false
 IsRelation t u Coplanar = is_coplanar t u ≡ true
 
--- a valid triangle u in the plane of t; used for the triangles before t, though the index isn't part of it
-pub record IsValidCoplanar (t u : Tri) : Type 0 where
-  pub valid : IsValidTri u
+-- u lies in the plane of t; used for the triangles before t, though the index isn't part of it
+pub record IsCoplanarWith (t u : Tri) : Type 0 where
   pub coplanar : is_coplanar u t ≡ true
 
 -- some triangle of the list contains the inside of f

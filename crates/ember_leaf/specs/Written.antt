@@ -14,7 +14,7 @@ use Rattle.ember_model.specs.Sides.{IsSides}
 use Rattle.ember_expr.specs.Formula.{Formula}
 use Rattle.ember_expr.specs.Truth.{truth}
 use Rattle.ember_box.specs.Boxes.{Cell}
-use Rattle.ember_box.specs.Reference.{Fits}
+use Rattle.ember_box.specs.Reference.{FitsWithin}
 use Rattle.ember_box.specs.Regions.{IsRegions}
 use Rattle.ember_leaf.specs.Cutters.{Without}
 use Rattle.ember_leaf.specs.declared.kept.Kept.{Kept}
@@ -27,8 +27,8 @@ front f before after =
 -- what is written of a region of triangle i: nothing if another triangle owns it, or if the expression has one
 -- value on both sides; otherwise the region, and whether it must be flipped so that its normal points to the
 -- side on which the expression is false
-pub data IsWrittenOfRegion (scene : List Tri) (e : Formula) (near : List Tri) (i : ℕ)
-    (face : Face) : List Kept → Type 0 where
+pub data IsWrittenOfRegion {W M : Type 0} (scene : List Tri) (e : Formula) (near : List Tri) (i : ℕ)
+    (face : Face) : List (Kept W M) → Type 0 where
   unowned : (IsOwner near i face → ⊥) → IsWrittenOfRegion scene e near i face []
   same_value : {before after : List ℤ} → IsSides scene face before after → truth before e ≡ truth after e →
       IsWrittenOfRegion scene e near i face []
@@ -38,8 +38,8 @@ pub data IsWrittenOfRegion (scene : List Tri) (e : Formula) (near : List Tri) (i
       (record { tri = i; flipped = truth (front face before after) e; ring = face } ∷ [])
 
 -- the regions of triangle i of a leaf with these near triangles, and what is written of each
-pub record AreRegionsWritten (scene : List Tri) (e : Formula) (c : Cell) (near : List Tri) (i : ℕ)
-    (ks : List Kept) : Type 0 where
+pub record AreRegionsWritten {W M : Type 0} (scene : List Tri) (e : Formula) (c : Cell) (near : List Tri) (i : ℕ)
+    (ks : List (Kept W M)) : Type 0 where
   pub faces : List Face
   pub are_regions : IsRegions c near i faces
   pub are_written : Each (IsWrittenOfRegion scene e near i) faces ks
@@ -57,12 +57,13 @@ pub record IsCovered (near : List Tri) (i : ℕ) : Type 0 where
 
 -- the written regions of triangle i: what is written of each of its regions, or, if it is covered (`hidden`), none: the
 -- triangle that covers it owns them all
-pub data IsWrittenOf (scene : List Tri) (e : Formula) (c : Cell) (near : List Tri) (i : ℕ) : List Kept → Type 0 where
-  regional : {ks : List Kept} → AreRegionsWritten scene e c near i ks → IsWrittenOf scene e c near i ks
+pub data IsWrittenOf {W M : Type 0} (scene : List Tri) (e : Formula) (c : Cell) (near : List Tri) (i : ℕ) :
+    List (Kept W M) → Type 0 where
+  regional : {ks : List (Kept W M)} → AreRegionsWritten scene e c near i ks → IsWrittenOf scene e c near i ks
   hidden : IsCovered near i → IsWrittenOf scene e c near i []
 
 -- the written regions of a leaf: those of all its triangles, in order
-abbrev pub IsWrittenIn : List Tri → Formula → Cell → List Tri → List Kept → Type 0
+abbrev pub IsWrittenIn : {W M : Type 0} → List Tri → Formula → Cell → List Tri → List (Kept W M) → Type 0
 IsWrittenIn scene e c near ks =
     Each (IsWrittenOf scene e c near) (range_with_len 0 (length near)) ks
 
@@ -73,9 +74,10 @@ IsFlip e face before after None = truth before e ≡ truth after e
 IsFlip e face before after (Some flipped) =
     (truth before e ≢ truth after e) × (flipped ≡ truth (front face before after) e)
 
--- R holds in each scene that fits what is known at the box
-abbrev pub WhereFits : List Tri → Cell → List ℤ → (List Tri → List Kept → Type 0) → List Kept → Type 0
-WhereFits near c counts R ks = (scene : List Tri) → Fits scene near c counts → R scene ks
+-- R holds in each scene within m that fits what is known at the box in steps
+abbrev pub WhereFitsWithin : {W M : Type 0} → ℕ → ℕ → List Tri → Cell → List ℤ →
+    (List Tri → List (Kept W M) → Type 0) → List (Kept W M) → Type 0
+WhereFitsWithin m f near c counts R ks = (scene : List Tri) → FitsWithin m f scene near c counts → R scene ks
 
 -- the list has grown by members that have the property together
 pub record HasGrown {X : Type 0} (P : List X → Type 0) (old new : List X) : Type 0 where

@@ -1,22 +1,22 @@
 // The part of a triangle that belongs to a box.
-ghost use Rattle.std.specs.Prelude.{◌≡◌, true, false, [], ◌∷◌, map, if◌then◌else◌, IfOk, OnOk};
+ghost use Rattle.std.specs.Prelude.{◌≡◌, ◌≤◌, ◌+◌, ◌*◌, ◌^◌, true, false, [], ◌∷◌, All, map, if◌then◌else◌, IfOk, OnOk};
 ghost use Rattle.ember_algebra.specs.Size.{Small};
-ghost use Rattle.ember_model.specs.Valid.{IsValidPlane};
-ghost use Rattle.ember_box.specs.Aabbs.{IsIntervalWithin};
+ghost use Rattle.ember_box.specs.Aabbs.{IsIntervalWithin, most_wall};
 ghost use Rattle.ember_model.specs.Planes.{opposite};
 ghost use Rattle.ember_model.specs.Faces.{is_flat, face_of};
+ghost use Rattle.ember_box.specs.Boxes.{in_steps};
 ghost use Rattle.ember_box.specs.Regions.{level, AreLeftByWall};
 ghost use Rattle.ember_box.specs.Regions as regions;
-ghost use Rattle.ember_point.specs.Points.{spot_of};
 ghost use Rattle.ember_poly.specs.Drafts.{face_in, HoldsRing};
 ghost use Rattle.ember_leaf.specs.Cutters.{common, common_of};
 ghost use Rattle.ember_leaf.specs.Walls.{wall_of, level_by, IsLowRemainder, IsHighRemainder, IsRemainder, IsClippedBy};
 
 use crate::wall::Wall;
-use ember_box::{Aabb, Cell, Interval, aabb_of_cell, interval_along};
+use ember_box::{Aabb, Cell, Interval, aabb_on, interval_along};
 use ember_model::{Axis, OutOfMemory, Plane};
 use ember_poly::{Draft, Reach};
 use ember_trace::NearTriangle;
+use ember_width::Width;
 
 // What two intervals have in common.
 fn common(first: &Interval, second: &Interval) -> Interval
@@ -42,7 +42,7 @@ pub fn common_spans(first: &Aabb, second: &Aabb) -> Aabb
 
 // The wall at the low end of a box's interval along an axis.
 fn low_wall(interval: &Interval, axis: Axis) -> Wall
-    requires { IsIntervalWithin 2048 interval.now }
+    requires { IsIntervalWithin most_wall interval.now }
     ensures { wall_of result ≡ record { plane = opposite (level axis interval.now.low); is_high = false } }
 {
     Wall {
@@ -54,7 +54,7 @@ fn low_wall(interval: &Interval, axis: Axis) -> Wall
 
 // The wall at the high end of a box's interval along an axis.
 fn high_wall(interval: &Interval, axis: Axis) -> Wall
-    requires { IsIntervalWithin 2048 interval.now }
+    requires { IsIntervalWithin most_wall interval.now }
     ensures { wall_of result ≡ record { plane = level axis interval.now.high; is_high = true } }
 {
     Wall {
@@ -64,11 +64,14 @@ fn high_wall(interval: &Interval, axis: Axis) -> Wall
     }
 }
 
-/// The walls of a box: along each axis the low one, then the high one.
-pub fn walls(c: &Cell) -> [Wall; 6]
-    ensures { map wall_of result ≡ regions.walls c.now }
+/// The walls of a box in steps of a grid: along each axis the low one, then the high one. The root
+/// of the grid ends one step past the corners.
+pub fn walls<W: Width>(c: &Cell) -> [Wall; 6]
+    requires { 2 ^ W.scale * 2048 ≤ W.corner + 1 }
+    ensures walls { map wall_of result ≡ regions.walls (in_steps W.scale c.now) }
+    ensures planes { All (λ wall. W.IsPlane (wall_of wall).plane) result }
 {
-    let aabb = aabb_of_cell(c);
+    let aabb = aabb_on::<W>(c);
     [
         low_wall(&aabb.x, Axis::X),
         high_wall(&aabb.x, Axis::X),
@@ -82,9 +85,8 @@ pub fn walls(c: &Cell) -> [Wall; 6]
 // The plane across an axis, with the entry `n` along it and the constant `d`.
 fn level(axis: Axis, n: i64, d: i64) -> Plane
     requires n { Small 1 n }
-    requires d { Small 2048 d }
+    requires d { Small most_wall d }
     ensures value { result ≡ level_by axis n d }
-    ensures valid { IsValidPlane result }
 {
     match axis {
         Axis::X => Plane {
@@ -110,8 +112,7 @@ fn level(axis: Axis, n: i64, d: i64) -> Plane
 
 // The plane of the wall, negative in the box.
 fn plane_of(wall: &Wall) -> Plane
-    ensures value { result ≡ (wall_of wall.now).plane }
-    ensures valid { IsValidPlane result }
+    ensures { result ≡ (wall_of wall.now).plane }
 {
     let at = i64::from(wall.at);
     if wall.is_high {
@@ -160,7 +161,7 @@ fn remainder_at_high(interval: &Interval, wall: &Wall) -> Remainder
 }
 
 // What the bounding box of a triangle decides about clipping at a wall.
-fn remainder_at(wall: &Wall, triangle: &NearTriangle) -> Remainder
+fn remainder_at<W: Width>(wall: &Wall, triangle: &NearTriangle<W>) -> Remainder
     ensures { IsRemainder (wall_of wall.now) triangle.now.tri result }
 {
     let interval = interval_along(&triangle.aabb, wall.axis);
@@ -178,7 +179,7 @@ fn remainder_at(wall: &Wall, triangle: &NearTriangle) -> Remainder
 /// the clause needs what each wall leaves on the way, not only that nothing is left at the end:
 /// the prover's logic is constructive, so the face that such a wall leaves must be made, and only
 /// the clip makes it.
-pub fn is_outside(walls: &[Wall], triangle: &NearTriangle) -> bool
+pub fn is_outside<W: Width>(walls: &[Wall], triangle: &NearTriangle<W>) -> bool
     requires { is_flat triangle.now.tri ≡ false }
     ensures { result ≡ true → IsClippedBy (map wall_of walls.now) triangle.now.tri [] }
 {
@@ -194,9 +195,10 @@ pub fn is_outside(walls: &[Wall], triangle: &NearTriangle) -> bool
 
 // Clips a face at the wall. Returns whether anything is left. A face in the plane of a wall belongs
 // to the box that has this wall as its low one.
-fn clip_at_wall(draft: &mut Draft, wall: &Wall) -> Result<bool, OutOfMemory>
-    requires { HoldsRing IsValidPlane spot_of draft.old }
-    ensures ring { OnOk result (HoldsRing IsValidPlane spot_of draft.new) }
+fn clip_at_wall<W: Width>(draft: &mut Draft<W>, wall: &Wall) -> Result<bool, OutOfMemory>
+    requires ring { HoldsRing W.IsPlane W.spot draft.old }
+    requires wall { W.IsPlane (wall_of wall.now).plane }
+    ensures ring { OnOk result (HoldsRing W.IsPlane W.spot draft.new) }
     ensures left { IfOk result (λ some. AreLeftByWall (wall_of wall.now) (face_in draft.old) (if some
         then face_in draft.new ∷ [] else [])) }
 {
@@ -210,15 +212,16 @@ fn clip_at_wall(draft: &mut Draft, wall: &Wall) -> Result<bool, OutOfMemory>
 }
 
 // Clips the face of a triangle at the walls, one after another. Returns whether anything is left.
-fn clip_at_walls(
-    draft: &mut Draft,
-    triangle: &NearTriangle,
+fn clip_at_walls<W: Width>(
+    draft: &mut Draft<W>,
+    triangle: &NearTriangle<W>,
     walls: &[Wall],
 ) -> Result<bool, OutOfMemory>
     requires normal { is_flat triangle.now.tri ≡ false }
-    requires ring { HoldsRing IsValidPlane spot_of draft.old }
+    requires ring { HoldsRing W.IsPlane W.spot draft.old }
     requires whole { face_in draft.old ≡ face_of triangle.now.tri }
-    ensures ring { OnOk result (HoldsRing IsValidPlane spot_of draft.new) }
+    requires walls { All (λ wall. W.IsPlane (wall_of wall).plane) walls.now }
+    ensures ring { OnOk result (HoldsRing W.IsPlane W.spot draft.new) }
     ensures left { IfOk result (λ some. IsClippedBy (map wall_of walls.now) triangle.now.tri (if some
         then face_in draft.new ∷ [] else [])) }
 {
@@ -239,13 +242,14 @@ fn clip_at_walls(
 /// Leaves the part of a triangle that belongs to the box with these walls in the draft. Returns
 /// `false` if there is no such part: then the draft's face has no meaning. The triangle isn't flat.
 /// The only error is out-of-memory.
-pub fn clip_to_box(
-    draft: &mut Draft,
-    triangle: &NearTriangle,
+pub fn clip_to_box<W: Width>(
+    draft: &mut Draft<W>,
+    triangle: &NearTriangle<W>,
     walls: &[Wall],
 ) -> Result<bool, OutOfMemory>
-    requires { is_flat triangle.now.tri ≡ false }
-    ensures ring { OnOk result (HoldsRing IsValidPlane spot_of draft.new) }
+    requires normal { is_flat triangle.now.tri ≡ false }
+    requires walls { All (λ wall. W.IsPlane (wall_of wall).plane) walls.now }
+    ensures ring { OnOk result (HoldsRing W.IsPlane W.spot draft.new) }
     ensures left { IfOk result (λ some. IsClippedBy (map wall_of walls.now) triangle.now.tri (if some
         then face_in draft.new ∷ [] else [])) }
 {

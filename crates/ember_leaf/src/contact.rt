@@ -1,7 +1,9 @@
 // Whether a region meets a triangle in its plane, as far as the triangle's corners decide it.
 ghost use Rattle.std.specs.Prelude.{◌≡◌, ◌&&◌, All};
 ghost use Rattle.ember_algebra.specs.Sign.{is_negative};
-ghost use Rattle.ember_model.specs.Valid.{IsValidPlane, IsValidTri};
+ghost use Rattle.ember_model.specs.Limits.{broad_limit};
+ghost use Rattle.ember_model.specs.Within.{IsTriWithin};
+ghost use Rattle.ember_width.specs.Broad.{IsBroadPlane};
 ghost use Rattle.ember_leaf.specs.Contact.{IsContact};
 
 use crate::heights::{Heights, heights_of, is_behind};
@@ -44,8 +46,8 @@ impl Behind {
 /// What the corners of the triangle show of a region in its plane. `edges` are the edge planes of
 /// the region's outline.
 pub fn contact_of(edges: &[Plane], t: &Tri) -> Contact
-    requires edges { All IsValidPlane edges.now }
-    requires tri { IsValidTri t.now }
+    requires edges { All IsBroadPlane edges.now }
+    requires tri { IsTriWithin broad_limit t.now }
     ensures { IsContact edges.now t.now result }
 {
     let mut behind = Behind {

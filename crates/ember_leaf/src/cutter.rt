@@ -1,10 +1,13 @@
 // Triangles that cut the regions of another one.
 ghost use Rattle.std.specs.Prelude.{◌≡◌, false, All};
-ghost use Rattle.ember_model.specs.Valid.{IsValidTri, IsValidPlane};
+ghost use Rattle.ember_model.specs.Limits.{broad_limit};
+ghost use Rattle.ember_model.specs.Within.{IsTriWithin, IsSupportWithin, IsEdgeWithin};
 ghost use Rattle.ember_model.specs.Planes.{support_of};
 ghost use Rattle.ember_model.specs.Faces.{is_flat, edges_of};
 
 use ember_model::{Plane, Tri};
+use ember_width::{Narrow, Width};
+use std::marker::PhantomData;
 
 /// How a triangle cuts those regions of another one that its closed face touches.
 #[derive(Clone, Copy)]
@@ -18,17 +21,18 @@ pub enum Role {
     Earlier,
 }
 
-/// A triangle that cuts the regions of another one.
-#[derive(Clone, Copy)]
-pub struct Cutter {
+/// A triangle that cuts the regions of another one, on the narrow grid if no other is named.
+#[derive(Drop)]
+pub struct Cutter<W: Width = Narrow> {
     pub tri: Tri,
     pub support: Plane,
     pub edges: [Plane; 3],
     pub role: Role,
-    ghost valid: { IsValidTri tri },
+    pub width: PhantomData<W>,
     ghost normal: { is_flat tri ≡ false },
     ghost face: { support ≡ support_of tri },
     ghost edge_planes: { edges ≡ edges_of tri },
-    ghost sized: { IsValidPlane support },
-    ghost edges_sized: { All IsValidPlane edges },
+    ghost sized: { IsSupportWithin W.corner support },
+    ghost edges_sized: { All (IsEdgeWithin W.corner) edges },
+    ghost broad_tri: { IsTriWithin broad_limit tri },
 }

@@ -17,11 +17,13 @@ use crate::relation::{Relation, covers, is_flat, relation_of};
 use ember_box::{Aabb, aabbs_meet};
 use ember_model::OutOfMemory;
 use ember_trace::NearTriangle;
+use ember_width::Width;
+use std::marker::PhantomData;
 
 // Adds the triangle with its role.
-fn add_cutter(
-    list: &mut Vec<Cutter>,
-    triangle: &NearTriangle,
+fn add_cutter<W: Width>(
+    list: &mut Vec<Cutter<W>>,
+    triangle: &NearTriangle<W>,
     role: Role,
 ) -> Result<(), OutOfMemory>
     requires { is_flat triangle.now.tri ≡ false }
@@ -32,6 +34,7 @@ fn add_cutter(
         support: triangle.support,
         edges: triangle.edges,
         role,
+        width: PhantomData,
     })?;
     Ok(())
 }
@@ -49,10 +52,10 @@ fn role_of(is_before: bool) -> Role
 
 // Adds `other`, which lies in the plane of `target` and may meet it. Returns `true`, and adds
 // nothing, if `other` comes before `target` and is known to cover it.
-fn add_coplanar_unless_covering(
-    list: &mut Vec<Cutter>,
-    target: &NearTriangle,
-    other: &NearTriangle,
+fn add_coplanar_unless_covering<W: Width>(
+    list: &mut Vec<Cutter<W>>,
+    target: &NearTriangle<W>,
+    other: &NearTriangle<W>,
     is_before: bool,
 ) -> Result<bool, OutOfMemory>
     requires normal { is_flat other.now.tri ≡ false }
@@ -72,10 +75,10 @@ fn add_coplanar_unless_covering(
 
 // Adds `other` if it may meet the regions of `target`. Returns `true`, and adds nothing, if `other`
 // comes before `target` and is known to cover it.
-fn add_unless_covering(
-    list: &mut Vec<Cutter>,
-    target: &NearTriangle,
-    other: &NearTriangle,
+fn add_unless_covering<W: Width>(
+    list: &mut Vec<Cutter<W>>,
+    target: &NearTriangle<W>,
+    other: &NearTriangle<W>,
     is_before: bool,
 ) -> Result<bool, OutOfMemory>
     requires target { is_flat target.now.tri ≡ false }
@@ -99,11 +102,11 @@ fn add_unless_covering(
 
 // Adds `other` if its bounding box meets the bounds and it may meet the regions of `target`.
 // Returns `true`, and adds nothing, if `other` comes before `target` and is known to cover it.
-fn add_near_unless_covering(
-    list: &mut Vec<Cutter>,
-    target: &NearTriangle,
+fn add_near_unless_covering<W: Width>(
+    list: &mut Vec<Cutter<W>>,
+    target: &NearTriangle<W>,
     bounds: &Aabb,
-    other: &NearTriangle,
+    other: &NearTriangle<W>,
     is_before: bool,
 ) -> Result<bool, OutOfMemory>
     requires target { is_flat target.now.tri ≡ false }
@@ -125,11 +128,11 @@ fn add_near_unless_covering(
 /// earlier triangle in its plane is found to cover it and so owns all its regions. Then it returns
 /// `true`, and the list is incomplete. `false` says only that the list is complete. Triangle `i`
 /// (`target`) isn't flat, and its regions lie within the bounds. The only error is out-of-memory.
-pub fn find_cutters_unless_covered(
-    list: &mut Vec<Cutter>,
-    target: &NearTriangle,
+pub fn find_cutters_unless_covered<W: Width>(
+    list: &mut Vec<Cutter<W>>,
+    target: &NearTriangle<W>,
     bounds: &Aabb,
-    near: &[NearTriangle],
+    near: &[NearTriangle<W>],
     i: usize,
 ) -> Result<bool, OutOfMemory>
     requires normal { is_flat target.now.tri ≡ false }

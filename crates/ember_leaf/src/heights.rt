@@ -1,12 +1,13 @@
 // The values of a plane at the corners of a triangle.
 ghost use Rattle.std.specs.Prelude.{◌≡◌, not, ◌&&◌};
 ghost use Rattle.ember_algebra.specs.Sign.{is_negative, is_zero, is_positive};
-ghost use Rattle.ember_model.specs.Valid.{IsValidCorner, IsValidPlane, IsValidTri};
-ghost use Rattle.ember_model.specs.Planes.{value_at};
-ghost use Rattle.ember_model.specs.Owners.{spot_of_corner};
+ghost use Rattle.ember_model.specs.Limits.{broad_limit};
+ghost use Rattle.ember_model.specs.Within.{IsTriWithin};
+ghost use Rattle.ember_width.specs.Broad.{IsBroadPlane};
 ghost use Rattle.ember_leaf.specs.TriRelations.{heights_of, none_behind, none_in_front, all_behind, all_in_front, all_on};
 
-use ember_model::{Corner, Plane, Tri};
+use ember_model::{Plane, Tri};
+use ember_width::value_at_corner;
 
 /// The values of a plane at the corners of a triangle: above 0 in front of it, below 0 behind it.
 #[derive(Clone, Copy)]
@@ -16,26 +17,16 @@ pub struct Heights {
     pub c: i64,
 }
 
-// The value of a plane at a corner.
-#[tactic(none)]
-fn height(p: &Plane, u: &Corner) -> i64
-    requires plane { IsValidPlane p.now }
-    requires corner { IsValidCorner u.now }
-    ensures { result ≡ value_at p.now (spot_of_corner u.now) }
-{
-    p.a * u.x as i64 + p.b * u.y as i64 + p.c * u.z as i64 - p.d
-}
-
 /// The heights of the triangle's corners over the plane.
 pub fn heights_of(p: &Plane, t: &Tri) -> Heights
-    requires plane { IsValidPlane p.now }
-    requires tri { IsValidTri t.now }
+    requires plane { IsBroadPlane p.now }
+    requires tri { IsTriWithin broad_limit t.now }
     ensures { result ≡ heights_of p.now t.now }
 {
     Heights {
-        a: height(p, &t.a),
-        b: height(p, &t.b),
-        c: height(p, &t.c),
+        a: value_at_corner(p, &t.a),
+        b: value_at_corner(p, &t.b),
+        c: value_at_corner(p, &t.c),
     }
 }
 

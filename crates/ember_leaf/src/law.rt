@@ -2,7 +2,7 @@
 ghost use Rattle.std.specs.Prelude.{ℕ, List};
 ghost use Rattle.ember_expr.specs.Formula.{Formula};
 ghost use Rattle.ember_box.specs.Boxes.{Cell};
-ghost use Rattle.ember_leaf.specs.declared.kept.Kept.{Kept};
+ghost use Rattle.ember_leaf.specs.KeptRegions.{NarrowKept as Kept};
 ghost use Rattle.ember_leaf.specs.Scenes.{HasOneValue, IsWritten};
 ghost use Rattle.ember_leaf.specs.Literal.{IsLiterallyWrittenOf, IsLiterallyWrittenIn, IsLiterallyWritten};
 ghost use Rattle.ember_leaf.specs.Literal.{InScenes, CannotLackList, IsNothing, CoveredWriteNothing, WrittenAreLiteral};

@@ -1,16 +1,18 @@
 // The written regions of a leaf.
-ghost use Rattle.std.specs.Prelude.{◌≡◌, List, [], ◌∷◌, ◌≤◌, ◌<◌, ◌+◌, map, length, All};
+ghost use Rattle.std.specs.Prelude.{◌≡◌, List, [], ◌∷◌, ◌≤◌, ◌<◌, ◌+◌, ◌*◌, ◌^◌, map, length, All};
 ghost use Rattle.std.specs.Prelude.{IfOk, IfSome, OnOk, option_to_list};
+ghost use Rattle.ember_model.specs.Within.{IsTriWithin};
 ghost use Rattle.ember_model.specs.Valid.{IsValidTri};
 ghost use Rattle.ember_model.specs.Owners.{IsOwner};
 ghost use Rattle.ember_model.specs.Meshes.{HasMesh};
 ghost use Rattle.ember_box.specs.Near.{tri_at};
 ghost use Rattle.ember_model.specs.declared.tri.Tri.{Tri as TriView};
-ghost use Rattle.ember_box.specs.Reference.{Fits};
+ghost use Rattle.ember_box.specs.Boxes.{in_steps};
+ghost use Rattle.ember_box.specs.Reference.{FitsWithin, Fits};
 ghost use Rattle.ember_box.specs.Aabbs.{aabb_of_cell};
 ghost use Rattle.ember_box.specs.Regions.{walls as box_walls};
 ghost use Rattle.ember_leaf.specs.Walls.{wall_of};
-ghost use Rattle.ember_trace.specs.NearTriangles.{HasReference, AreBoxCounts, AreSideCounts};
+ghost use Rattle.ember_trace.specs.NearTriangles.{HasReferenceBeside, AreBoxCounts, AreSideCounts};
 ghost use Rattle.ember_trace.specs.Boxed.{LiesIn};
 ghost use Rattle.ember_algebra.specs.Sign.{is_positive};
 ghost use Rattle.ember_model.specs.Planes.{along, main_axis};
@@ -27,11 +29,12 @@ use crate::kept::{Kept, KeptList};
 use crate::regions::regions;
 use crate::relation::is_flat;
 use crate::wall::Wall;
-use ember_box::{Aabb, Cell, aabb_of_cell};
+use ember_box::{Aabb, Cell, aabb_on};
 use ember_expr::{Expr, value};
 use ember_model::{Axis, OutOfMemory, Plane, Tri, Vector, main_axis};
 use ember_poly::{Draft, Ring, support};
-use ember_trace::{NearTriangle, Sides, near_triangles, trace_sides};
+use ember_trace::{NearTriangle, Sides, near_triangles_on, trace_sides_on};
+use ember_width::{Narrow, Width};
 use std::alloc::Global;
 
 // Room in a ring's lists for its first cuts by cutters, at most this many. The walls have already
@@ -56,7 +59,7 @@ fn faces_up(p: &Plane) -> bool
 // `None` if the expression has one value on both sides of the region, which then isn't written.
 // Otherwise `true` if the expression is true in front of the region. Then the region must be
 // flipped: the written normal points to where the expression is false.
-fn flip_of(e: &Expr, sides: &Sides, r: &Ring) -> Option<bool>
+fn flip_of<W: Width>(e: &Expr, sides: &Sides, r: &Ring<W>) -> Option<bool>
     requires before { AreSideCounts sides.now.before.counts }
     requires after { AreSideCounts sides.now.after.counts }
     ensures { IsFlip (formula_of e.now) r.now sides.now.before.counts sides.now.after.counts result }
@@ -74,29 +77,30 @@ fn flip_of(e: &Expr, sides: &Sides, r: &Ring) -> Option<bool>
 
 // What is known at a leaf box. `near` has the near triangles, and `windings` the winding numbers at
 // the box's reference point.
-#[derive(Clone, Copy)]
-struct Leaf<'a> {
+#[derive(Drop)]
+struct Leaf<'a, W: Width> {
     expr: &'a Expr,
     cell: &'a Cell,
     aabb: &'a Aabb,
-    near: &'a [NearTriangle],
+    near: &'a [NearTriangle<W>],
     windings: &'a Vector,
 }
 
-impl Leaf<'_> {
+impl<W: Width> Leaf<'_, W> {
     // The region of triangle `i` as it is written, or `None` if it isn't. `sides` is working room.
-    fn written_region(&self, i: usize, ring: Ring, sides: &mut Sides) -> Option<Kept>
+    fn written_region(&self, i: usize, ring: Ring<W>, sides: &mut Sides) -> Option<Kept<W>>
         requires few { length self.now.near.now ≤ 262144 }
         requires counts { AreBoxCounts self.now.windings.now.counts }
+        requires root { 2 ^ W.scale * 2048 ≤ W.corner + 1 }
         requires index { i < length self.now.near.now }
         requires plane { LiesInPlaneOf (tri_at (tris_of self.now.near.now) i) ring }
-        requires reference_sides { All (HasReference self.now.cell.now) self.now.near.now }
-        requires inside { LiesIn self.now.cell.now ring }
+        requires reference_sides { All (HasReferenceBeside W.fine (in_steps W.scale self.now.cell.now)) self.now.near.now }
+        requires inside { LiesIn (in_steps W.scale self.now.cell.now) ring }
         requires owner { IsOwner (tris_of self.now.near.now) i ring }
         ensures placed { IfSome result (IsKeptOf (tri_at (tris_of self.now.near.now) i) i) }
         ensures written { WritesRegion self.now i ring (option_to_list result) }
     {
-        trace_sides(self.near, self.cell, self.windings, &ring, sides);
+        trace_sides_on(self.near, self.cell, self.windings, &ring, sides);
         match flip_of(self.expr, sides, &ring) {
             Some(flipped) => Some(Kept {
                 tri: i as u32,
@@ -110,18 +114,19 @@ impl Leaf<'_> {
     // Adds the one region of triangle `i`, if it is written.
     fn add_if_written(
         &self,
-        ring: Ring,
+        ring: Ring<W>,
         i: usize,
         sides: &mut Sides,
-        kept: &mut Vec<Kept>,
+        kept: &mut Vec<Kept<W>>,
     ) -> Result<(), OutOfMemory>
         requires few { length self.now.near.now ≤ 262144 }
         requires counts { AreBoxCounts self.now.windings.now.counts }
+        requires root { 2 ^ W.scale * 2048 ≤ W.corner + 1 }
         requires index { i < length self.now.near.now }
         requires plane { LiesInPlaneOf (tri_at (tris_of self.now.near.now) i) ring }
-        requires regions { AreOwned self.now.cell.now (tris_of self.now.near.now) i (ring ∷ []) }
-        requires reference_sides { All (HasReference self.now.cell.now) self.now.near.now }
-        requires inside { LiesIn self.now.cell.now ring }
+        requires regions { AreOwned (in_steps W.scale self.now.cell.now) (tris_of self.now.near.now) i (ring ∷ []) }
+        requires reference_sides { All (HasReferenceBeside W.fine (in_steps W.scale self.now.cell.now)) self.now.near.now }
+        requires inside { LiesIn (in_steps W.scale self.now.cell.now) ring }
         requires owner { IsOwner (tris_of self.now.near.now) i ring }
         requires kept { ArePlacedBelow (tris_of self.now.near.now) (i + 1) kept.old.items }
         ensures placed { OnOk result (ArePlacedBelow (tris_of self.now.near.now) (i + 1) kept.new.items) }
@@ -136,18 +141,19 @@ impl Leaf<'_> {
     // Adds the written ones of the regions that triangle `i` owns.
     fn add_written(
         &self,
-        list: Vec<Ring>,
+        list: Vec<Ring<W>>,
         i: usize,
         sides: &mut Sides,
-        kept: &mut Vec<Kept>,
+        kept: &mut Vec<Kept<W>>,
     ) -> Result<(), OutOfMemory>
         requires few { length self.now.near.now ≤ 262144 }
         requires counts { AreBoxCounts self.now.windings.now.counts }
+        requires root { 2 ^ W.scale * 2048 ≤ W.corner + 1 }
         requires index { i < length self.now.near.now }
         requires plane { All (LiesInPlaneOf (tri_at (tris_of self.now.near.now) i)) list.items }
-        requires regions { AreOwned self.now.cell.now (tris_of self.now.near.now) i list.items }
-        requires reference_sides { All (HasReference self.now.cell.now) self.now.near.now }
-        requires inside { All (LiesIn self.now.cell.now) list.items }
+        requires regions { AreOwned (in_steps W.scale self.now.cell.now) (tris_of self.now.near.now) i list.items }
+        requires reference_sides { All (HasReferenceBeside W.fine (in_steps W.scale self.now.cell.now)) self.now.near.now }
+        requires inside { All (LiesIn (in_steps W.scale self.now.cell.now)) list.items }
         requires owners { All (IsOwner (tris_of self.now.near.now) i) list.items }
         requires kept { ArePlacedBelow (tris_of self.now.near.now) (i + 1) kept.old.items }
         ensures placed { OnOk result (ArePlacedBelow (tris_of self.now.near.now) (i + 1) kept.new.items) }
@@ -167,17 +173,19 @@ impl Leaf<'_> {
         alloc: Global,
         walls: &[Wall],
         i: usize,
-        cutters: &mut Vec<Cutter>,
-        draft: &mut Draft,
+        cutters: &mut Vec<Cutter<W>>,
+        draft: &mut Draft<W>,
         sides: &mut Sides,
-        kept: &mut Vec<Kept>,
+        kept: &mut Vec<Kept<W>>,
     ) -> Result<(), OutOfMemory>
         requires few { length self.now.near.now ≤ 262144 }
         requires counts { AreBoxCounts self.now.windings.now.counts }
+        requires root { 2 ^ W.scale * 2048 ≤ W.corner + 1 }
         requires index { i < length self.now.near.now }
-        requires walls { map wall_of walls.now ≡ box_walls self.now.cell.now }
-        requires aabb { self.now.aabb.now ≡ aabb_of_cell self.now.cell.now }
-        requires reference_sides { All (HasReference self.now.cell.now) self.now.near.now }
+        requires walls { map wall_of walls.now ≡ box_walls (in_steps W.scale self.now.cell.now) }
+        requires planes { All (λ wall. W.IsPlane (wall_of wall).plane) walls.now }
+        requires aabb { self.now.aabb.now ≡ aabb_of_cell (in_steps W.scale self.now.cell.now) }
+        requires reference_sides { All (HasReferenceBeside W.fine (in_steps W.scale self.now.cell.now)) self.now.near.now }
         requires kept { ArePlacedBelow (tris_of self.now.near.now) (i + 1) kept.old.items }
         ensures placed { OnOk result (ArePlacedBelow (tris_of self.now.near.now) (i + 1) kept.new.items) }
         ensures written { OnOk result (AddsWritten self.now i kept.old.items kept.new.items) }
@@ -213,26 +221,29 @@ impl Leaf<'_> {
 /// order of its regions. `near` has the triangles near the box, and `v` the winding numbers at its
 /// reference point; the result is right in every scene that fits these (`written`). Even if no
 /// scene does, each region lies in the plane of the triangle that it names (`placed`). Meshes are
-/// numbered from 1 to 64, and at most 262,144 triangles are near. The only error is out-of-memory.
+/// numbered from 1 to 64, and at most 262,144 triangles are near. The root of the grid ends one step
+/// past the corners. The only error is out-of-memory.
 /// In clauses, `TriView` is `Tri` as contracts see it: the import needs another name beside the
 /// struct.
-pub fn leaf_faces(
+pub fn leaf_faces_on<W: Width>(
     alloc: Global,
     e: &Expr,
     c: &Cell,
     near: &[Tri],
     v: &Vector,
-) -> Result<KeptList, OutOfMemory>
-    requires valid { All IsValidTri near.now }
+) -> Result<KeptList<W>, OutOfMemory>
+    requires within { All (IsTriWithin W.corner) near.now }
     requires numbered { All (HasMesh 64) near.now }
     requires few { length near.now ≤ 262144 }
     requires counts { AreBoxCounts v.now.counts }
+    requires root { 2 ^ W.scale * 2048 ≤ W.corner + 1 }
     ensures placed { IfOk result (λ ks. ArePlaced near.now ks) }
-    ensures written { IfOk result (λ ks. (scene : List TriView) → Fits scene near.now c.now v.now.counts →
-        IsWrittenIn scene (formula_of e.now) c.now near.now ks) }
+    ensures written { IfOk result (λ ks. (scene : List TriView) →
+        FitsWithin W.corner W.fine scene near.now (in_steps W.scale c.now) v.now.counts →
+        IsWrittenIn scene (formula_of e.now) (in_steps W.scale c.now) near.now ks) }
 {
-    let near_triangles = near_triangles(alloc, near, c)?;
-    let aabb = aabb_of_cell(c);
+    let near_triangles = near_triangles_on::<W>(alloc, near, c)?;
+    let aabb = aabb_on::<W>(c);
     let leaf = Leaf {
         expr: e,
         cell: c,
@@ -240,7 +251,7 @@ pub fn leaf_faces(
         near: &near_triangles,
         windings: v,
     };
-    let walls = walls(c);
+    let walls = walls::<W>(c);
     let mut cutters = Vec::new(alloc);
     let mut draft = Draft::new(alloc);
     let mut sides = Sides {
@@ -260,4 +271,23 @@ pub fn leaf_faces(
         )?;
     }
     Ok(KeptList::of(kept))
+}
+
+/// The same on the narrow grid.
+pub fn leaf_faces(
+    alloc: Global,
+    e: &Expr,
+    c: &Cell,
+    near: &[Tri],
+    v: &Vector,
+) -> Result<KeptList, OutOfMemory>
+    requires valid { All IsValidTri near.now }
+    requires numbered { All (HasMesh 64) near.now }
+    requires few { length near.now ≤ 262144 }
+    requires counts { AreBoxCounts v.now.counts }
+    ensures placed { IfOk result (λ ks. ArePlaced near.now ks) }
+    ensures written { IfOk result (λ ks. (scene : List TriView) → Fits scene near.now c.now v.now.counts →
+        IsWrittenIn scene (formula_of e.now) c.now near.now ks) }
+{
+    leaf_faces_on::<Narrow>(alloc, e, c, near, v)
 }

@@ -21,4 +21,4 @@ mod wall;
 
 pub use kept::{Kept, KeptList};
 pub use law::special_cases_are_the_literal_definition;
-pub use leaf::leaf_faces;
+pub use leaf::{leaf_faces, leaf_faces_on};

@@ -8,7 +8,6 @@
 ghost use Rattle.std.specs.Prelude.{◌≡◌, ◌↔◌, IsTrue, true, [], ◌∷◌, ◌≤◌, length, take, drop};
 ghost use Rattle.std.specs.Prelude.{All, IfOk, OnOk};
 ghost use Rattle.std.specs.List.{AllByRecursion};
-ghost use Rattle.ember_model.specs.Valid.{IsValidPlane};
 ghost use Rattle.ember_model.specs.Faces.{face_of, Meets};
 ghost use Rattle.ember_leaf.specs.Cutters.{AreLeftByCutter, AreLeftByEdges, SplitsIfCut, IsUncut, AreSplit, AreCut, AddsSplit};
 ghost use Rattle.ember_leaf.specs.Cutters.{MeetsFirst, CutOutTriangle, ShareAPlane, CanCut};
@@ -20,12 +19,13 @@ use crate::contact::{Contact, contact_of};
 use crate::cutter::{Cutter, Role};
 use ember_model::{OutOfMemory, Plane};
 use ember_poly::{Reach, Ring, above, has_point_within, meets_face, outline, parts, reach};
+use ember_width::Width;
 use std::alloc::Global;
 
 // Whether the region meets a triangle in its plane: some inside point of the region lies in the
 // triangle's closed face. The triangle's corners decide most pairs, in 64 bits and without
 // computing a meet.
-fn is_met_coplanar(r: &Ring, cutter: &Cutter) -> bool
+fn is_met_coplanar<W: Width>(r: &Ring<W>, cutter: &Cutter<W>) -> bool
     requires plane { ShareAPlane cutter.now.tri r.now }
     requires somewhere { HasInside r.now }
     ensures { IsTrue result ↔ Meets r.now (face_of cutter.now.tri) }
@@ -39,7 +39,7 @@ fn is_met_coplanar(r: &Ring, cutter: &Cutter) -> bool
 
 // Whether the region meets the triangle: some inside point of the region lies in the triangle's
 // closed face.
-fn is_met(r: &Ring, cutter: &Cutter) -> bool
+fn is_met<W: Width>(r: &Ring<W>, cutter: &Cutter<W>) -> bool
     requires { CanCut cutter.now r.now }
     ensures { IsTrue result ↔ Meets r.now (face_of cutter.now.tri) }
 {
@@ -50,7 +50,7 @@ fn is_met(r: &Ring, cutter: &Cutter) -> bool
 }
 
 // How many regions at the front of the list don't meet the triangle.
-fn count_apart(list: &[Ring], cutter: &Cutter) -> usize
+fn count_apart<W: Width>(list: &[Ring<W>], cutter: &Cutter<W>) -> usize
     requires { All (CanCut cutter.now) list.now }
     ensures fits { result ≤ length list.now }
     ensures whole { AreSplit cutter.now (take result list.now) (take result list.now) }
@@ -65,8 +65,13 @@ fn count_apart(list: &[Ring], cutter: &Cutter) -> usize
 }
 
 // Adds the two parts of a region if the plane cuts it, otherwise the region itself.
-fn add_parts(alloc: Global, r: Ring, p: &Plane, out: &mut Vec<Ring>) -> Result<(), OutOfMemory>
-    requires { IsValidPlane p.now }
+fn add_parts<W: Width>(
+    alloc: Global,
+    r: Ring<W>,
+    p: &Plane,
+    out: &mut Vec<Ring<W>>,
+) -> Result<(), OutOfMemory>
+    requires { W.IsPlane p.now }
     ensures { OnOk result (HasGrown (SplitsIfCut p.now r) out.old.items out.new.items) }
 {
     match reach(&r, p) {
@@ -81,8 +86,8 @@ fn add_parts(alloc: Global, r: Ring, p: &Plane, out: &mut Vec<Ring>) -> Result<(
 }
 
 // `true` only if none of the planes cuts the region.
-fn is_uncut(r: &Ring, planes: &[Plane]) -> bool
-    requires { All IsValidPlane planes.now }
+fn is_uncut<W: Width>(r: &Ring<W>, planes: &[Plane]) -> bool
+    requires { All W.IsPlane planes.now }
     ensures { result ≡ true → AllByRecursion (IsUncut r.now) planes.now }
 {
     for p in planes {
@@ -100,8 +105,8 @@ fn is_uncut(r: &Ring, planes: &[Plane]) -> bool
 // be made. That is so if the cutter is `Earlier` and none of `planes`, its further planes, cuts the
 // region. The region overlaps the cutter, so it then lies below all these planes. So the inner part
 // lies inside the cutter, which owns what it contains.
-fn needs_no_inner_part(r: &Ring, cutter: &Cutter, planes: &[Plane]) -> bool
-    requires { All IsValidPlane planes.now }
+fn needs_no_inner_part<W: Width>(r: &Ring<W>, cutter: &Cutter<W>, planes: &[Plane]) -> bool
+    requires { All W.IsPlane planes.now }
     ensures { result ≡ true → (cutter.now.role ≡ Earlier) × AllByRecursion (IsUncut r.now) planes.now }
 {
     match cutter.role {
@@ -114,14 +119,14 @@ fn needs_no_inner_part(r: &Ring, cutter: &Cutter, planes: &[Plane]) -> bool
 // inside the triangle, unless the triangle owns it, and then the parts outside, in the reverse of
 // the order in which they were cut off. The part inside an owner isn't made if no further plane
 // would cut it.
-fn add_pieces(
+fn add_pieces<W: Width>(
     alloc: Global,
-    r: Ring,
-    cutter: &Cutter,
+    r: Ring<W>,
+    cutter: &Cutter<W>,
     edges: &[Plane],
-    out: &mut Vec<Ring>,
+    out: &mut Vec<Ring<W>>,
 ) -> Result<(), OutOfMemory>
-    requires valid { All IsValidPlane edges.now }
+    requires valid { All W.IsPlane edges.now }
     requires cut_out { CutOutTriangle cutter.now.tri edges.now r }
     ensures { OnOk result (HasGrown (AreLeftByEdges cutter.now edges.now r) out.old.items out.new.items) }
 {
@@ -147,7 +152,12 @@ fn add_pieces(
 }
 
 // Adds what a triangle leaves of a region that meets it.
-fn add_cut(alloc: Global, r: Ring, cutter: &Cutter, out: &mut Vec<Ring>) -> Result<(), OutOfMemory>
+fn add_cut<W: Width>(
+    alloc: Global,
+    r: Ring<W>,
+    cutter: &Cutter<W>,
+    out: &mut Vec<Ring<W>>,
+) -> Result<(), OutOfMemory>
     requires met { Meets r (face_of cutter.now.tri) }
     requires may_cut { CanCut cutter.now r }
     ensures { OnOk result (HasGrown (AreLeftByCutter cutter.now r) out.old.items out.new.items) }
@@ -159,11 +169,11 @@ fn add_cut(alloc: Global, r: Ring, cutter: &Cutter, out: &mut Vec<Ring>) -> Resu
 }
 
 // Adds what a triangle leaves of each region. The first region is known to meet it.
-fn add_all(
+fn add_all<W: Width>(
     alloc: Global,
-    list: Vec<Ring>,
-    cutter: &Cutter,
-    out: &mut Vec<Ring>,
+    list: Vec<Ring<W>>,
+    cutter: &Cutter<W>,
+    out: &mut Vec<Ring<W>>,
 ) -> Result<(), OutOfMemory>
     requires met { MeetsFirst cutter.now list.items }
     requires may_cut { All (CanCut cutter.now) list.items }
@@ -183,7 +193,11 @@ fn add_all(
 }
 
 // What one triangle leaves of the regions: it cuts each one that meets it.
-fn split_all(alloc: Global, list: Vec<Ring>, cutter: &Cutter) -> Result<Vec<Ring>, OutOfMemory>
+fn split_all<W: Width>(
+    alloc: Global,
+    list: Vec<Ring<W>>,
+    cutter: &Cutter<W>,
+) -> Result<Vec<Ring<W>>, OutOfMemory>
     requires { All (CanCut cutter.now) list.items }
     ensures { IfOk result (λ out. AreSplit cutter.now list.items out.items) }
 {
@@ -198,7 +212,11 @@ fn split_all(alloc: Global, list: Vec<Ring>, cutter: &Cutter) -> Result<Vec<Ring
 
 /// Cuts a start by one triangle after another. Returns the regions in order, without those that one
 /// of the triangles owns. The only error is out-of-memory.
-pub fn regions(alloc: Global, start: Ring, cutters: &[Cutter]) -> Result<Vec<Ring>, OutOfMemory>
+pub fn regions<W: Width>(
+    alloc: Global,
+    start: Ring<W>,
+    cutters: &[Cutter<W>],
+) -> Result<Vec<Ring<W>>, OutOfMemory>
     requires { All (λ cutter. CanCut cutter start) cutters.now }
     ensures { IfOk result (λ out. AreCut cutters.now (start ∷ []) out.items) }
 {

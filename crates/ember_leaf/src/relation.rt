@@ -7,6 +7,7 @@ ghost use Rattle.ember_leaf.specs.TriRelations.{MissesClosedFace, IsBehindEdge, 
 use crate::heights::heights_of;
 use ember_model::has_no_normal;
 use ember_trace::NearTriangle;
+use ember_width::Width;
 
 /// How a triangle lies relative to the closed face of another one.
 #[derive(Clone, Copy)]
@@ -20,14 +21,14 @@ pub enum Relation {
 }
 
 /// Whether the triangle is flat: its normal is zero.
-pub fn is_flat(triangle: &NearTriangle) -> bool
+pub fn is_flat<W: Width>(triangle: &NearTriangle<W>) -> bool
     ensures { result ≡ is_flat triangle.now.tri }
 {
     has_no_normal(&triangle.support)
 }
 
 // `true` only if an edge plane of the first triangle keeps the two apart. `false` shows nothing.
-fn separates(first: &NearTriangle, second: &NearTriangle) -> bool
+fn separates<W: Width>(first: &NearTriangle<W>, second: &NearTriangle<W>) -> bool
     requires first { is_flat first.now.tri ≡ false }
     requires second { is_flat second.now.tri ≡ false }
     ensures { result ≡ true →
@@ -42,7 +43,7 @@ fn separates(first: &NearTriangle, second: &NearTriangle) -> bool
 }
 
 // `true` only if an edge plane of one of them keeps the two apart. `false` shows nothing.
-fn are_separated(first: &NearTriangle, second: &NearTriangle) -> bool
+fn are_separated<W: Width>(first: &NearTriangle<W>, second: &NearTriangle<W>) -> bool
     requires first { is_flat first.now.tri ≡ false }
     requires second { is_flat second.now.tri ≡ false }
     ensures { result ≡ true → MissesClosedFace first.now.tri second.now.tri }
@@ -51,7 +52,7 @@ fn are_separated(first: &NearTriangle, second: &NearTriangle) -> bool
 }
 
 // How a triangle lies relative to another one in its plane.
-fn coplanar_relation(first: &NearTriangle, second: &NearTriangle) -> Relation
+fn coplanar_relation<W: Width>(first: &NearTriangle<W>, second: &NearTriangle<W>) -> Relation
     requires first { is_flat first.now.tri ≡ false }
     requires second { is_flat second.now.tri ≡ false }
     requires plane { is_coplanar first.now.tri second.now.tri ≡ true }
@@ -65,7 +66,7 @@ fn coplanar_relation(first: &NearTriangle, second: &NearTriangle) -> Relation
 }
 
 // How a triangle lies relative to another one that isn't in its plane.
-fn crossing_relation(first: &NearTriangle, second: &NearTriangle) -> Relation
+fn crossing_relation<W: Width>(first: &NearTriangle<W>, second: &NearTriangle<W>) -> Relation
     requires first { is_flat first.now.tri ≡ false }
     requires second { is_flat second.now.tri ≡ false }
     requires plane { is_coplanar first.now.tri second.now.tri ≡ false }
@@ -84,7 +85,7 @@ fn crossing_relation(first: &NearTriangle, second: &NearTriangle) -> Relation
 }
 
 /// How a triangle lies relative to another one. Neither is flat.
-pub fn relation_of(first: &NearTriangle, second: &NearTriangle) -> Relation
+pub fn relation_of<W: Width>(first: &NearTriangle<W>, second: &NearTriangle<W>) -> Relation
     requires first { is_flat first.now.tri ≡ false }
     requires second { is_flat second.now.tri ≡ false }
     ensures { IsRelation first.now.tri second.now.tri result }
@@ -105,7 +106,7 @@ pub fn relation_of(first: &NearTriangle, second: &NearTriangle) -> Relation
 
 // `true` only if the inside of the second triangle lies behind this edge plane of the first.
 // `false` shows nothing.
-fn is_behind_edge(first: &NearTriangle, second: &NearTriangle, edge: usize) -> bool
+fn is_behind_edge<W: Width>(first: &NearTriangle<W>, second: &NearTriangle<W>, edge: usize) -> bool
     requires edge { edge < 3 }
     requires second { is_flat second.now.tri ≡ false }
     ensures { result ≡ true → IsBehindEdge first.now.tri second.now.tri edge }
@@ -115,7 +116,7 @@ fn is_behind_edge(first: &NearTriangle, second: &NearTriangle, edge: usize) -> b
 
 /// `true` only if the first triangle contains the second, which lies in its plane. `false` shows
 /// nothing.
-pub fn covers(first: &NearTriangle, second: &NearTriangle) -> bool
+pub fn covers<W: Width>(first: &NearTriangle<W>, second: &NearTriangle<W>) -> bool
     requires second { is_flat second.now.tri ≡ false }
     requires plane { is_coplanar first.now.tri second.now.tri ≡ true }
     ensures { result ≡ true → Contains (face_of first.now.tri) (face_of second.now.tri) }

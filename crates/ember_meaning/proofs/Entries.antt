@@ -11,20 +11,19 @@ use Rattle.ember_model.specs.declared.tri.Tri.{Tri}
 use Rattle.ember_model.specs.declared.point.Spot.{Spot}
 use Rattle.ember_model.specs.declared.face.Face.{Face}
 use Rattle.ember_model.specs.Faces.{is_inside, is_flat, face_of}
-use Rattle.ember_box.specs.Boxes.{Cell, root, halvings_left}
+use Rattle.ember_box.specs.Boxes.{Cell}
 use Rattle.ember_box.specs.Near.{near, tri_at}
-use Rattle.ember_box.specs.Halving.{leaves}
 use Rattle.ember_box.specs.Sums.{number}
 use Rattle.ember_box.specs.Regions.{AreLeftByWall, AreLeftByCuttingPlane, walls, cutting_planes, IsRegions}
 use Rattle.ember_expr.specs.Formula.{Formula}
-use Rattle.ember_leaf.specs.declared.kept.Kept.{Kept}
+use Rattle.ember_leaf.specs.KeptRegions.{NarrowKept as Kept}
 use Rattle.ember_leaf.specs.Written.{IsWrittenOfRegion, IsWrittenOf}
 use Rattle.ember_leaf.proofs.SomeRegions.{written_by_regions}
 use Rattle.ember_leaf.specs.Scenes.{HasOneValue, LeafGives, regions, nothing}
 use Rattle.ember_meaning.proofs.CountedPoints.{hits, is_in_box, IsFair, IsFairAt, IsFairInAll}
 use Rattle.ember_meaning.proofs.Listed.{Entry, entry, IsEntriesOf, IsEntriesIn, IsEntries, has_inside, is_hit_at, Without, ends, keeps, drops}
 use Rattle.ember_meaning.proofs.Leaf.{leaf_count}
-use Rattle.ember_meaning.proofs.Tree.{leaves_count}
+use Rattle.ember_meaning.proofs.Tree.{IsParted}
 
 -- ---- a flat triangle has no region
 walls_of_none : {fs : List Face} (c : Cell) → (ws : List _) → Chain (λ w. Each (AreLeftByWall w)) ws [] fs → fs ≡ []
@@ -177,11 +176,11 @@ fewer_without p (keeps {x = x} {xs = xs} {ys = ys} w) =
 fewer_without p (drops {x = x} {xs = xs} {ys = ys} h w) =
     omega (arith, sum_by-cons (λ z. cond (p z) 1 0) x xs, fewer_without p w)
 
--- of some leaves of the full tree at most one contains a point
-pub one_holds : {P : Cell → Type 0} (scene : List Tri) (cs : List Cell) (x : Spot) → pos 0 ≤ℤ x.w →
-    Without P (leaves scene root) cs → count_by (λ c. is_in_box c x) cs ≤ 1
-one_holds scene cs x w l =
-    at_most (is_in_box root x) (fewer_without (λ c. is_in_box c x) l) (leaves_count scene (halvings_left root) root x w)
+-- of some of the boxes that part another one at most one contains a point
+pub one_holds : {P : Cell → Type 0} {whole : Cell} {all : List Cell} → IsParted whole all → (cs : List Cell) (x : Spot) →
+    pos 0 ≤ℤ x.w → Without P all cs → count_by (λ c. is_in_box c x) cs ≤ 1
+one_holds {whole = whole} parted cs x w l =
+    at_most (is_in_box whole x) (fewer_without (λ c. is_in_box c x) l) (parted.count x w)
   where
     at_most : {a n : ℕ} (b : Bool) → a ≤ n → n ≡ number b → a ≤ 1
     at_most true h e = omega arith
@@ -200,7 +199,8 @@ record OfLeaf (scene : List Tri) (x : Formula) (c : Cell) (is : List ℕ) (ks : 
   are_entries : Each (IsEntriesOf scene c) is entries
   are_written : Each (λ e us. IsWrittenOfRegion scene x (near scene e.cell) e.tri e.face us) entries ks
 
-each_map : {X Z Y : Type 0} {R : Z → List Y → Type 0} (h : X → Z) {xs : List X} {ys : List Y} → Each (λ x. R (h x)) xs ys → Each R (map h xs) ys
+-- what each member gives, its image gives
+pub each_map : {X Z Y : Type 0} {R : Z → List Y → Type 0} (h : X → Z) {xs : List X} {ys : List Y} → Each (λ x. R (h x)) xs ys → Each R (map h xs) ys
 each_map h none = none
 each_map h (more r e) = more r (each_map h e)
 

@@ -5,7 +5,7 @@ use Rattle.std.proofs.Common.{◌-ℤ◌, ◌<ℤ◌, ◌≤ℤ◌, neg_ℤ, uns
 use Rattle.std.specs.List.{filter, list_any}
 use Rattle.std.proofs.lemmas.Option.{get_or_from_slice_get}
 use Rattle.std.proofs.lemmas.Bool.{cases_Bool, lt-ltb, and_parts, and_from, not-true}
-use Rattle.ember_algebra.specs.Relations.{Every}
+use Rattle.ember_algebra.specs.Relations.{Each, Every}
 use Rattle.ember_algebra.specs.Sign.{sign, is_zero}
 use Rattle.ember_algebra.proofs.Laws.{linear}
 use Rattle.ember_algebra.proofs.Order.{by_sign}
@@ -18,12 +18,9 @@ use Rattle.ember_model.specs.Planes.{value_at, along}
 use Rattle.ember_model.specs.Faces.{is_inside, is_in_closed, is_flat, face_of, hit}
 use Rattle.ember_model.specs.Points.{scaled, moved}
 use Rattle.ember_model.specs.Clear.{AreClear}
-use Rattle.ember_model.specs.Valid.{IsValidTri}
-use Rattle.ember_model.specs.Meshes.{IsScene, vector, faces_of}
+use Rattle.ember_model.specs.Meshes.{of_mesh, IsBalanced, vector, faces_of}
 use Rattle.ember_algebra.specs.Large.{Eventually}
 use Rattle.ember_expr.specs.Truth.{truth}
-use Rattle.ember_box.specs.Boxes.{root, halvings_left}
-use Rattle.ember_box.specs.Halving.{leaves}
 use Rattle.ember_box.specs.Sums.{number}
 use Rattle.ember_ref.proofs.FarTriangles.{inside_closed}
 use Rattle.ember_ref.proofs.NearPoints.{near_point}
@@ -32,9 +29,9 @@ use Rattle.ember_model.proofs.Hits.{inside_parts}
 use Rattle.ember_expr.specs.Formula.{Formula}
 use Rattle.ember_box.specs.Boxes.{Cell}
 use Rattle.ember_box.specs.Near.{near, is_near, tri_at, no_tri}
-use Rattle.ember_leaf.specs.declared.kept.Kept.{Kept}
+use Rattle.ember_leaf.specs.KeptRegions.{NarrowKept as Kept}
 use Rattle.ember_leaf.specs.Written.{IsWrittenOfRegion, unowned, same_value, written}
-use Rattle.ember_leaf.specs.Scenes.{IsWritten, HasOneValue}
+use Rattle.ember_leaf.specs.Scenes.{LeafGives, HasOneValue}
 use Rattle.ember_text.specs.Texts.{oriented_face}
 use Rattle.ember_meaning.proofs.Lines.{seen as counts_ahead}
 use Rattle.ember_text.specs.Documents.{written_face}
@@ -46,17 +43,17 @@ use Rattle.ember_meaning.proofs.Lines.{In, here, there, Fraction, is_below, key,
 use Rattle.ember_meaning.specs.Regions.Meaning.{IsFalseOutside, HasMeaning}
 use Rattle.ember_meaning.proofs.HitConditions.{hit_point, SomeHit, IsGeneralAt, IsRegular, HaveMeaningOnLines}
 use Rattle.ember_meaning.proofs.Entries.{one_holds, Listed, leaf_list_exists}
-use Rattle.ember_law.proofs.Vectors.{axes_law}
+use Rattle.ember_law.proofs.Vectors.{balanced_axes}
 use Rattle.ember_leaf.proofs.RegionOrder.{face_support}
 use Rattle.ember_meaning.proofs.Fractions.{fractions_order}
 use Rattle.ember_meaning.proofs.Meaning.{meaning_along, first}
 use Rattle.ember_meaning.proofs.Members.{in_map, map_member_has_source, in_filter, of_filter, every_in, giver, member_splits_list, any_in, any_has_member}
 use Rattle.ember_meaning.proofs.Owners.{IsOf, entry_of, inside_tri, owned}
 use Rattle.ember_meaning.proofs.Owners.{first as first_only}
-use Rattle.ember_meaning.proofs.Tree.{leaves_count}
+use Rattle.ember_meaning.proofs.Tree.{IsParted}
 use Rattle.ember_meaning.proofs.HitsBeyond.{before_place, after_place}
 use Rattle.ember_meaning.proofs.SidesOfHits.{before_is, after_is}
-use Rattle.ember_meaning.proofs.LeafOfHit.{has_point, in_root, all_in, missing_member_passes, none_both}
+use Rattle.ember_meaning.proofs.LeafOfHit.{has_point, missing_member_passes, none_both}
 use Rattle.ember_meaning.proofs.FlippedFaces.{key-turned, is_hit-turned}
 
 -- ---- members
@@ -78,6 +75,10 @@ every_without : {X : Type 0} {P : X → Type 0} (Q : X → Type 0) {xs ys : List
 every_without Q ends h = h
 every_without Q (keeps w) h = (h.0, every_without Q w h.1)
 every_without Q (drops d w) h = every_without Q w h.1
+
+-- each point of the triangle's closed face is in the box
+pub record LiesInBox (whole : Cell) (t : Tri) : Type 0 where
+  pub holds : (v : Spot) → is_flat t ≡ false → is_in_closed (face_of t) v ≡ true → pos 0 <ℤ v.w → is_in_box whole v ≡ true
 
 -- ---- the triangle of an entry
 module _ (scene : List Tri) (cs : List Cell) (e : Entry) (o : IsOf scene cs e) where
@@ -124,7 +125,7 @@ seen_key : (k : Axis) (p : Spot) (f : Face) (b : Bool) → key k p (oriented_fac
 seen_key k p f true = key-turned k p f
 seen_key k p f false = refl
 
-module _ (scene : List Tri) (x : Formula) (ks : List Kept) (cs : List Cell) (es : List Entry) (l : IsListing scene x ks cs es) (k : Axis) (p : Spot) where
+module _ (scene : List Tri) (x : Formula) (all : List Cell) (ks : List Kept) (cs : List Cell) (es : List Entry) (l : IsListing scene x all ks cs es) (k : Axis) (p : Spot) where
   placed : (w : Face) → In w (filter (is_hit k p) (map written_face ks)) → Placed is_below (map (tri_key k p) (tri_hits k p scene)) (key k p w)
   placed w i =
       let s = map_member_has_source written_face ks w (of_filter (is_hit k p) (map written_face ks) w i) in
@@ -148,22 +149,23 @@ module _ (scene : List Tri) (x : Formula) (ks : List Kept) (cs : List Cell) (es 
           subst (λ c. (not (is_below a c) && not (is_below c a)) ≡ true) (sym e) (ap (λ c. not c && not c) (fractions_order.irreflexive a))
 
   -- ---- a general line is regular
-  regular : (count : ℕ) → IsScene scene count → (t : Tri) → In t (tri_hits k p scene) →
-      IsGeneralAt scene k (hit (face_of t).support k p) → IsRegular scene x k p cs es t
-  regular count valid t i g =
+  regular : (whole : Cell) → IsParted whole all → ((u : Tri) → In u scene → LiesInBox whole u) →
+      ((mesh : ℕ) → IsBalanced (of_mesh mesh scene)) → (t : Tri) → In t (tri_hits k p scene) →
+      IsGeneralAt scene all k (hit (face_of t).support k p) → IsRegular scene x k p cs es t
+  regular whole parted lies balanced t i g =
       record {
         fair = listed_fair;
         some_hit = by (cases_Bool (list_any (λ c. is_in_box c at) cs));
         crosses = slope;
-        owner_first = λ e j h own m l'. first_only scene cs at e (of e j) h (one_holds scene cs at weight l.listed) (fair_at e j) own m l';
+        owner_first = λ e j h own m l'. first_only scene cs at e (of e j) h (one_holds parted cs at weight l.listed) (fair_at e j) own m l';
         first_owner = λ e j h least. owned scene cs at e (of e j) h (fair_at e j) least;
         beside = λ e before after j h s.
             let o = of e j in let n = slope e j h in
             let r : IsRegion (near scene e.cell) e.cell e.face =
             record { tri = e.tri; regions = o.faces; are_regions = o.are_regions; index = o.index; here = o.here } in (
-              before_is scene count e.cell valid e.face r x before after s at h k n (onward_seen) seen_before
+              before_is scene e.cell balanced e.face r x before after s at h k n (onward_seen) seen_before
                   g.clear_before,
-              after_is scene count e.cell valid e.face r x before after s at h k n (beyond_seen)
+              after_is scene e.cell balanced e.face r x before after s at h k n (beyond_seen)
                   seen_after g.clear_after,
             );
       }
@@ -257,8 +259,7 @@ module _ (scene : List Tri) (x : Formula) (ks : List Kept) (cs : List Cell) (es 
       by (inl h) = let q = any_has_member (λ c. is_in_box c at) cs h in inl (near_hit q.at q.member q.holds)
       by (inr h) =
           let q = missing_member_passes (λ c. is_in_box c at) l.listed
-          (some (leaves_count scene (halvings_left root) root at weight)
-          (in_root t at (all_in (λ u. IsValidTri u) scene t valid.valid tri) flat closed positive)) h in
+          (some (parted.count at weight) ((lies t tri).holds at flat closed positive)) h in
           inr (λ j. none_both (λ c. is_in_box c at) (λ c. has_inside (near scene c) j at) cs h, one_value q.at q.has q.holds)
         where
           some : {n : ℕ} {b : Bool} → n ≡ number b → b ≡ true → 0 < n
@@ -270,20 +271,21 @@ stays_equal : (a b : ℤ) → ((a ≡ b → ⊥) → ⊥) → a ≡ b
 stays_equal a b n =
     by_sign (a -ℤ b) (λ l. absurd (n (λ e. omega (arith, linear, l, e)))) (λ z. omega (arith, linear, z)) (λ l. absurd (n (λ e. omega (arith, linear, l, e))))
 
--- the written regions have their meaning on each line
-pub meaning_on_lines : (scene : List Tri) (count : ℕ) (x : Formula) (ks : List Kept) → IsScene scene count →
-    IsWritten scene x ks → IsFalseOutside x → HaveMeaningOnLines scene x ks
-meaning_on_lines scene count x ks v w o a b p positive clear general =
+-- the written regions of leaves that part a box with all triangles have their meaning on each line
+pub meaning_on_lines : (scene : List Tri) (x : Formula) (whole : Cell) (all : List Cell) (ks : List Kept) → IsParted whole all →
+    ((u : Tri) → In u scene → LiesInBox whole u) → ((mesh : ℕ) → IsBalanced (of_mesh mesh scene)) →
+    Each (LeafGives scene x) all ks → IsFalseOutside x → HaveMeaningOnLines scene x all ks
+meaning_on_lines scene x whole all ks parted lies balanced w o a b p positive clear general =
     stays_equal _ _ (λ n. leaf_list_exists scene x w (λ l. n (by l)))
   where
-    by : Listed scene x (leaves scene root) ks → HasMeaning scene x (map written_face ks) a b p
+    by : Listed scene x all ks → HasMeaning scene x (map written_face ks) a b p
     by l =
-        let is : IsListing scene x ks l.cells l.entries = record { listed = l.listed; are_entries = l.are_entries; are_written = l.are_written } in
-        let m = meaning_along scene x a p l.cells l.entries ks l.listed l.are_entries l.are_written o
+        let is : IsListing scene x all ks l.cells l.entries = record { listed = l.listed; are_entries = l.are_entries; are_written = l.are_written } in
+        let m = meaning_along parted scene x a p l.cells l.entries ks l.listed l.are_entries l.are_written o
         (record {
-          regular = λ t i. regular scene x ks l.cells l.entries is a p count v t i (general t i);
+          regular = λ t i. regular scene x all ks l.cells l.entries is a p whole parted lies balanced t i (general t i);
           placed =
-              placed scene x ks l.cells l.entries is a p;
+              placed scene x all ks l.cells l.entries is a p;
         }) (record { num = pos 0; den = 0 }) in
         subst (λ q. HasMeaning scene x (map written_face ks) a a q) (first a p) m
-        ∙ ap (λ (c : List ℤ). one_if (truth c x)) (axes_law scene count v p a b positive clear)
+        ∙ ap (λ (c : List ℤ). one_if (truth c x)) (balanced_axes scene balanced p a b positive clear)

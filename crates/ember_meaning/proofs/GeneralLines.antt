@@ -31,8 +31,7 @@ use Rattle.ember_law.proofs.Generic.{cancel_zero, at_hit_of}
 use Rattle.ember_law.proofs.Generic.{IsOff as IsOffEdges, value_at_hit}
 use Rattle.ember_law.proofs.GenericClear.{off_clear, clear_faces}
 use Rattle.ember_law.proofs.Shifted.{NoNormal, off_shifted, weight_shifted}
-use Rattle.ember_box.specs.Boxes.{Cell, root}
-use Rattle.ember_box.specs.Halving.{leaves}
+use Rattle.ember_box.specs.Boxes.{Cell}
 use Rattle.ember_box.specs.Near.{near, tri_at}
 use Rattle.ember_box.specs.Regions.{walls, cutting_planes}
 use Rattle.ember_meaning.proofs.CountedPoints.{IsOff, IsFair, IsFairAt}
@@ -270,7 +269,7 @@ stands_in [] i f = absurd (false≢true (sym f))
 stands_in (t ∷ ts) zero f = omega arith
 stands_in (t ∷ ts) (suc i) f = let l = stands_in ts i f in omega (arith, l)
 
-module _ (scene : List Tri) (k : Axis) (p : Spot) (weight : pos 0 <ℤ p.w) where
+module _ (scene : List Tri) (all : List Cell) (k : Axis) (p : Spot) (weight : pos 0 <ℤ p.w) where
   abbrev near_p : ℕ → Spot
   near_p m = offset_by p (pos m)
 
@@ -298,7 +297,7 @@ module _ (scene : List Tri) (k : Axis) (p : Spot) (weight : pos 0 <ℤ p.w) wher
         (eventually_below (λ i m. is_flat (tri_at (near scene c) i) ≡ false →
         IsFair c (near scene c) i (met m)) (length (near scene c)) (fair_in c (near scene c)))
 
-    general_at : Eventually (λ m. IsGeneralAt scene k (met m))
+    general_at : Eventually (λ m. IsGeneralAt scene all k (met m))
     general_at =
         eventually_map (λ m h. record {
           fair = h.1.0;
@@ -309,7 +308,7 @@ module _ (scene : List Tri) (k : Axis) (p : Spot) (weight : pos 0 <ℤ p.w) wher
               clear_beside k (near_p m) h.0 n crosses (pos 1) (λ z. omega (arith, ints, z)) scene h.1.1;
         })
         (eventually_both (weight_shifted p weight)
-        (eventually_both (eventually_every (λ c m. IsFairAt scene (met m) c) (leaves scene root) fair_at)
+        (eventually_both (eventually_every (λ c m. IsFairAt scene (met m) c) all fair_at)
         (eventually_every (λ u m. IsGeneralFor k (near_p m) n u) scene (general_for k p weight n))))
       where
         slopes : (m : ℕ) → Every (IsGeneralFor k (near_p m) n) scene → (u : Tri) → In u scene → is_flat u ≡ false →
@@ -323,13 +322,13 @@ module _ (scene : List Tri) (k : Axis) (p : Spot) (weight : pos 0 <ℤ p.w) wher
             nonzero (negsuc m) n = refl
 
   -- the lines along k through points directly beside p are general
-  pub general_line : Eventually (λ m. IsGeneralLine scene k (near_p m))
+  pub general_line : Eventually (λ m. IsGeneralLine scene all k (near_p m))
   unfolding face_of
   general_line =
       eventually_map (λ m h t i. every_in (λ t. is_zero (along (support_of t) k) ≡ false →
-      IsGeneralAt scene k (hit (support_of t) k (near_p m))) scene t h (of_filter (is_tri_hit k (near_p m)) scene t i)
+      IsGeneralAt scene all k (hit (support_of t) k (near_p m))) scene t h (of_filter (is_tri_hit k (near_p m)) scene t i)
       (crossed m t i)) (eventually_every (λ t m. is_zero (along (support_of t) k) ≡ false →
-      IsGeneralAt scene k (hit (support_of t) k (near_p m))) scene
+      IsGeneralAt scene all k (hit (support_of t) k (near_p m))) scene
       (λ t. eventually_where (is_zero (along (support_of t) k))
       (λ z. general_at (support_of t) (nonzero_out (along (support_of t) k) z))))
     where

@@ -15,10 +15,9 @@ use Rattle.ember_model.specs.Owners.{IsOwner}
 use Rattle.ember_model.specs.Sides.{IsSides}
 use Rattle.ember_expr.specs.Formula.{Formula}
 use Rattle.ember_expr.specs.Truth.{truth}
-use Rattle.ember_box.specs.Boxes.{Cell, root}
-use Rattle.ember_box.specs.Halving.{leaves}
+use Rattle.ember_box.specs.Boxes.{Cell}
 use Rattle.ember_box.specs.Near.{near}
-use Rattle.ember_leaf.specs.declared.kept.Kept.{Kept}
+use Rattle.ember_leaf.specs.KeptRegions.{NarrowKept as Kept}
 use Rattle.ember_leaf.specs.Written.{front}
 use Rattle.ember_text.specs.Documents.{written_face}
 use Rattle.ember_meaning.proofs.CountedPoints.{IsFairInAll}
@@ -91,10 +90,10 @@ pub record IsRegularLine (scene : List Tri) (x : Formula) (k : Axis) (p : Spot) 
   pub placed : (w : Face) → In w (filter (is_hit k p) (map written_face ws)) → Placed is_below (map (tri_key k p) (tri_hits k p scene)) (key k p w)
 
 -- ---- general lines
--- what is owed at a place v where a line along k meets a triangle
-pub record IsGeneralAt (scene : List Tri) (k : Axis) (v : Spot) : Type 0 where
+-- what is owed at a place v where a line along k meets a triangle; all are the boxes of all leaves
+pub record IsGeneralAt (scene : List Tri) (all : List Cell) (k : Axis) (v : Spot) : Type 0 where
   -- the place is off all planes that cut in the leaves
-  pub fair : IsFairInAll scene (leaves scene root) v
+  pub fair : IsFairInAll scene all v
   -- no triangle's plane that is 0 at the place holds the line
   pub slopes : (u : Tri) → In u scene → is_flat u ≡ false → value_at (support_of u) v ≡ pos 0 → is_zero (along (support_of u) k) ≡ false
   -- the points directly before and directly after the place are clear
@@ -102,11 +101,11 @@ pub record IsGeneralAt (scene : List Tri) (k : Axis) (v : Spot) : Type 0 where
   pub clear_after : Eventually (λ m. AreClear (faces_of scene) (moved (scaled (pos m) v) k (pos 1)))
 
 -- the line through p along k is general at each place where it meets a triangle
-abbrev pub IsGeneralLine : List Tri → Axis → Spot → Type 0
-IsGeneralLine scene k p =
-    (t : Tri) → In t (tri_hits k p scene) → IsGeneralAt scene k (hit (face_of t).support k p)
+abbrev pub IsGeneralLine : List Tri → List Cell → Axis → Spot → Type 0
+IsGeneralLine scene all k p =
+    (t : Tri) → In t (tri_hits k p scene) → IsGeneralAt scene all k (hit (face_of t).support k p)
 
 -- the written regions have their meaning at each clear point on a general line along their axis
-abbrev pub HaveMeaningOnLines : List Tri → Formula → List Kept → Type 0
-HaveMeaningOnLines scene x ks =
-    (a b : Axis) (p : Spot) → pos 0 <ℤ p.w → AreClear (faces_of scene) p → IsGeneralLine scene a p → HasMeaning scene x (map written_face ks) a b p
+abbrev pub HaveMeaningOnLines : List Tri → Formula → List Cell → List Kept → Type 0
+HaveMeaningOnLines scene x all ks =
+    (a b : Axis) (p : Spot) → pos 0 <ℤ p.w → AreClear (faces_of scene) p → IsGeneralLine scene all a p → HasMeaning scene x (map written_face ks) a b p

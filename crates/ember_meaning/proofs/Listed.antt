@@ -6,12 +6,11 @@ use Rattle.ember_model.specs.declared.tri.Tri.{Tri}
 use Rattle.ember_model.specs.declared.point.Spot.{Spot}
 use Rattle.ember_model.specs.declared.face.Face.{Face}
 use Rattle.ember_model.specs.Faces.{is_inside, is_flat, face_of}
-use Rattle.ember_box.specs.Boxes.{Cell, root}
+use Rattle.ember_box.specs.Boxes.{Cell}
 use Rattle.ember_box.specs.Near.{near, tri_at}
-use Rattle.ember_box.specs.Halving.{leaves}
 use Rattle.ember_box.specs.Regions.{IsRegions}
 use Rattle.ember_expr.specs.Formula.{Formula}
-use Rattle.ember_leaf.specs.declared.kept.Kept.{Kept}
+use Rattle.ember_leaf.specs.KeptRegions.{NarrowKept as Kept}
 use Rattle.ember_leaf.specs.Written.{IsWrittenOfRegion}
 use Rattle.ember_leaf.specs.Scenes.{HasOneValue}
 use Rattle.ember_meaning.proofs.CountedPoints.{is_in_box}
@@ -54,9 +53,9 @@ pub data Without {X : Type 0} (P : X → Type 0) : List X → List X → Type 0 
   keeps : {x : X} {xs ys : List X} → Without P xs ys → Without P (x ∷ xs) (x ∷ ys)
   drops : {x : X} {xs ys : List X} → P x → Without P xs ys → Without P (x ∷ xs) ys
 
--- the entries of the leaves cs give the written regions ks; in the other leaves the expression has
+-- of all leaves, the entries of cs give the written regions ks; in the other leaves the expression has
 -- one value
-pub record IsListing (scene : List Tri) (x : Formula) (ks : List Kept) (cs : List Cell) (es : List Entry) : Type 0 where
-  pub listed : Without (HasOneValue scene x) (leaves scene root) cs
+pub record IsListing (scene : List Tri) (x : Formula) (all : List Cell) (ks : List Kept) (cs : List Cell) (es : List Entry) : Type 0 where
+  pub listed : Without (HasOneValue scene x) all cs
   pub are_entries : IsEntries scene cs es
   pub are_written : Each (λ e us. IsWrittenOfRegion scene x (near scene e.cell) e.tri e.face us) es ks

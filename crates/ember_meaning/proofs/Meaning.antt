@@ -20,10 +20,9 @@ use Rattle.ember_model.proofs.Hits.{inside_parts}
 use Rattle.ember_model.proofs.Tuples.{same_spot}
 use Rattle.ember_expr.specs.Formula.{Formula}
 use Rattle.ember_expr.specs.Truth.{truth}
-use Rattle.ember_box.specs.Boxes.{Cell, root}
+use Rattle.ember_box.specs.Boxes.{Cell}
 use Rattle.ember_box.specs.Near.{near}
-use Rattle.ember_box.specs.Halving.{leaves}
-use Rattle.ember_leaf.specs.declared.kept.Kept.{Kept}
+use Rattle.ember_leaf.specs.KeptRegions.{NarrowKept as Kept}
 use Rattle.ember_leaf.specs.Written.{IsWrittenOfRegion, unowned, same_value, written}
 use Rattle.ember_leaf.specs.Scenes.{HasOneValue}
 use Rattle.ember_text.specs.Documents.{written_face}
@@ -36,11 +35,16 @@ use Rattle.ember_meaning.specs.Regions.Meaning.{IsFalseOutside}
 use Rattle.ember_meaning.proofs.HitConditions.{before_hit, after_hit, hit_point, truth_before, truth_after, truth_ahead, truth_back, IsRegular, IsRegularLine}
 use Rattle.ember_meaning.proofs.AlongLine.{along_line, total_of-filter}
 use Rattle.ember_meaning.proofs.Entries.{entries_count, one_holds}
+use Rattle.ember_meaning.proofs.Tree.{IsParted}
 use Rattle.ember_meaning.proofs.Members.{in_map, Source, map_member_has_source, in_filter}
 use Rattle.ember_meaning.proofs.OneOwner.{IsCovered, jump_at, still_at}
 use Rattle.ember_meaning.proofs.RegionJump.{written_amount, written_jump, even_jump}
 use Rattle.ember_meaning.proofs.FlippedFaces.{key-turned, is_hit-turned, amount-turned}
 use Rattle.ember_meaning.proofs.HitPoints.{same_inside, inside_place}
+
+-- the face of a written region on the narrow grid
+abbrev kept_face : Kept → Face
+kept_face k = written_face k
 
 -- ---- tests over the places below one
 any_below : (p : ℕ → Bool) (a n : ℕ) → ((j : ℕ) → j < a + n → p j ≡ false) → list_any p (range_with_len a n) ≡ false
@@ -137,7 +141,7 @@ module _ (scene : List Tri) (x : Formula) (k : Axis) (p : Spot) (cs : List Cell)
             (is_same_place is_below (tri_key k p t) (key k p f)) (has e) z
             (λ h. same_inside k p (face_of t) f f t_crosses z h) (λ h. inside_place k p (face_of t) f t_crosses z h)
 
-    amount_of : (f : Face) (n : ℕ) (b : Bool) → amount k (written_face (record { tri = n; flipped = b; ring = f })) ≡ written_amount (along f.support k) b
+    amount_of : (f : Face) (n : ℕ) (b : Bool) → amount k (kept_face (record { tri = n; flipped = b; ring = f })) ≡ written_amount (along f.support k) b
     amount_of f n true = amount-turned k f
     amount_of f n false = refl
 
@@ -172,7 +176,7 @@ module _ (scene : List Tri) (x : Formula) (k : Axis) (p : Spot) (cs : List Cell)
         by false o g = refl
     entry_total e us i (written {before = a} {after = b} o s n) =
         by (passes_here (record { tri = e.tri; flipped = ahead e.face a b; ring = e.face })) (has e) (owned e)
-        (amount k (written_face (record { tri = e.tri; flipped = ahead e.face a b; ring = e.face })))
+        (amount k (kept_face (record { tri = e.tri; flipped = ahead e.face a b; ring = e.face })))
         (here_is e (ahead e.face a b) i) (λ h. ap not
         (any_below (λ j. is_hit_at scene cs at j) 0 e.tri (λ j l. r.owner_first e i h o j (omega arith))))
         (λ h. turns h (r.beside e a b i h s))
@@ -183,7 +187,7 @@ module _ (scene : List Tri) (x : Formula) (k : Axis) (p : Spot) (cs : List Cell)
 
         turns : has e ≡ true → (before_here ≡ before_hit (along e.face.support k) (ahead e.face a b) (back e.face a b))
             × (after_here ≡ after_hit (along e.face.support k) (ahead e.face a b) (back e.face a b)) →
-            amount k (written_face (record { tri = e.tri; flipped = ahead e.face a b; ring = e.face })) ≡ jump
+            amount k (kept_face (record { tri = e.tri; flipped = ahead e.face a b; ring = e.face })) ≡ jump
         turns q h =
             amount_of e.face e.tri (ahead e.face a b)
             ∙ written_jump (along e.face.support k) (ahead e.face a b) (back e.face a b) (r.crosses e i q)
@@ -210,18 +214,18 @@ module _ (scene : List Tri) (x : Formula) (k : Axis) (p : Spot) (cs : List Cell)
               (ap (λ (m : ℕ). is_hit_at scene cs at m) (omega arith) ∙ q));
         }
 
-    jump_here : (ws : List Kept) → Without (HasOneValue scene x) (leaves scene root) cs → IsEntries scene cs es →
+    jump_here : {whole : Cell} {all : List Cell} → IsParted whole all → (ws : List Kept) → Without (HasOneValue scene x) all cs → IsEntries scene cs es →
         Each (λ e us. IsWrittenOfRegion scene x (near scene e.cell) e.tri e.face us) es ws →
         total_of (amount k) (λ w. is_same_place is_below (tri_key k p t) (key k p w))
         (filter (is_hit k p) (map written_face ws)) ≡ jump
-    jump_here ws n c d =
+    jump_here parted ws n c d =
         total_of-filter (amount k) (is_hit k p) (λ w. is_same_place is_below (tri_key k p t) (key k p w))
         (map written_face ws) ∙ total_of-map (amount k)
         (λ w. is_hit k p w && is_same_place is_below (tri_key k p t) (key k p w)) written_face ws
         ∙ ⊎_elim (λ s. jump_at (λ e. e.tri) has owned (λ j. is_hit_at scene cs at j) (λ w. amount k (written_face w))
-        passes_here jump es ws (covered (one_holds scene cs at weight n) c) entry_total d s.tri s.is_hit)
+        passes_here jump es ws (covered (one_holds parted cs at weight n) c) entry_total d s.tri s.is_hit)
         (λ s. still_at (λ e. e.tri) has owned (λ j. is_hit_at scene cs at j) (λ w. amount k (written_face w))
-        passes_here jump es ws (covered (one_holds scene cs at weight n) c) entry_total d s.0
+        passes_here jump es ws (covered (one_holds parted cs at weight n) c) entry_total d s.0
         ∙ sym (ap (λ b. one_if b -ℤ one_if after_here) s.1 ∙ nought (one_if after_here))) r.some_hit
       where
         nought : (z : ℤ) → z -ℤ z ≡ pos 0
@@ -233,12 +237,13 @@ unfolding meshes
 none_ahead = refl
 
 -- the meaning on a regular line
-pub meaning_along : (scene : List Tri) (x : Formula) (k : Axis) (p : Spot) (cs : List Cell) (es : List Entry)
-    (ws : List Kept) → Without (HasOneValue scene x) (leaves scene root) cs → IsEntries scene cs es →
+pub meaning_along : {whole : Cell} {all : List Cell} → IsParted whole all →
+    (scene : List Tri) (x : Formula) (k : Axis) (p : Spot) (cs : List Cell) (es : List Entry)
+    (ws : List Kept) → Without (HasOneValue scene x) all cs → IsEntries scene cs es →
     Each (λ e us. IsWrittenOfRegion scene x (near scene e.cell) e.tri e.face us) es ws → IsFalseOutside x →
     IsRegularLine scene x k p cs es ws → (y : Fraction) →
     wind k (map written_face ws) (on_line k p y) ≡ one_if (truth (vector k scene (on_line k p y)) x)
-meaning_along scene x k p cs es ws n c d o r y =
+meaning_along parted scene x k p cs es ws n c d o r y =
     along_line scene (λ v. truth v x) (map written_face ws) k p (map (tri_key k p) (tri_hits k p scene))
     (record {
       tris = λ t i. in_map (tri_key k p) (tri_hits k p scene) t i;
@@ -256,7 +261,7 @@ meaning_along scene x k p cs es ws n c d o r y =
     jumps z s =
         let j = jump_here scene x k p cs es s.at (r.regular s.at s.member)
         (and_parts (not (is_flat s.at)) (is_hit k p (face_of s.at))
-        (in_filter (is_tri_hit k p) scene s.at s.member)).1 ws n c d in
+        (in_filter (is_tri_hit k p) scene s.at s.member)).1 parted ws n c d in
         subst (λ u. total_of (amount k) (λ w. is_same_place is_below u (key k p w))
         (filter (is_hit k p) (map written_face ws)) ≡ one_if
         (truth (seen k (onward is_below (tri_key k p) u (tri_hits k p scene))) x) -ℤ one_if

@@ -18,7 +18,7 @@ use Rattle.ember_expr.specs.Formula.{Formula}
 use Rattle.ember_expr.specs.Truth.{truth}
 use Rattle.ember_box.specs.Boxes.{Cell}
 use Rattle.ember_box.specs.Near.{near}
-use Rattle.ember_leaf.specs.declared.kept.Kept.{Kept}
+use Rattle.ember_leaf.specs.KeptRegions.{NarrowKept as Kept}
 use Rattle.ember_leaf.specs.Written.{front, IsWrittenOfRegion, unowned, same_value, written, IsWrittenOf, regional, hidden}
 use Rattle.ember_leaf.specs.Scenes.{IsBeside, LeafGives, regions, nothing, IsWritten}
 use Rattle.ember_meaning.specs.Regions.Nearby.{AgreeOver}

@@ -15,7 +15,7 @@ use Rattle.ember_model.specs.Planes.{along, main_axis}
 use Rattle.ember_model.specs.Points.{scaled, moved}
 use Rattle.ember_model.specs.Faces.{is_inside}
 use Rattle.ember_model.specs.Clear.{AreClear}
-use Rattle.ember_model.specs.Meshes.{faces_of, vector, IsScene}
+use Rattle.ember_model.specs.Meshes.{faces_of, vector, of_mesh, IsBalanced}
 use Rattle.ember_model.specs.Sides.{IsSides}
 use Rattle.ember_model.proofs.SignTests.{positive_out, clash}
 use Rattle.ember_law.proofs.CornerSides.{main_entry}
@@ -26,7 +26,7 @@ use Rattle.ember_box.specs.Near.{near, tri_at}
 use Rattle.ember_leaf.specs.Written.{front}
 use Rattle.ember_trace.specs.Boxed.{IsRegion}
 use Rattle.ember_trace.proofs.CutRegions.{IsCutOut, region_cut}
-use Rattle.ember_trace.proofs.OneSides.{OneSign, sees_before, sees_after}
+use Rattle.ember_trace.proofs.OneSides.{OneSign, balanced_before, balanced_after}
 use Rattle.ember_meaning.proofs.HitConditions.{behind, before_hit, after_hit}
 
 -- ---- signs
@@ -45,7 +45,7 @@ told_before x true false w b a f g h k = ap (λ v. truth v x) (g refl refl)
 told_before x false true w b a f g h k = ap (λ v. truth v x) (h refl refl)
 told_before x false false w b a f g h k = ap (λ v. truth v x) (k refl refl)
 
-module _ (ts : List Tri) (count : ℕ) (c : Cell) (scene : IsScene ts count) (f : Face) (r : IsRegion (near ts c) c f)
+module _ (ts : List Tri) (c : Cell) (balanced : (mesh : ℕ) → IsBalanced (of_mesh mesh ts)) (f : Face) (r : IsRegion (near ts c) c f)
     (x : Formula) (before after : List ℤ) (sides : IsSides ts f before after) (v : Spot) (has : is_inside f v ≡ true)
     (k : Axis) (crosses : is_zero (along f.support k) ≡ false) where
   abbrev t : Tri
@@ -88,12 +88,12 @@ module _ (ts : List Tri) (count : ℕ) (c : Cell) (scene : IsScene ts count) (f 
 
   is_before : (e : ℤ) (w : List ℤ) → Seen e w → Clears e → OneSign (e *ℤ s) (neg_ℤ (pos 1) *ℤ u) → w ≡ before
   is_before e w p q o =
-      agree e w before p q (sees_before ts (near ts c) count c scene refl f r before after sides v has k e
+      agree e w before p q (balanced_before ts (near ts c) balanced c refl f r before after sides v has k e
       (subst (λ (n : Plane). OneSign (e *ℤ along n k) (neg_ℤ (pos 1) *ℤ along n main)) cut_out.support o))
 
   is_after : (e : ℤ) (w : List ℤ) → Seen e w → Clears e → OneSign (e *ℤ s) (pos 1 *ℤ u) → w ≡ after
   is_after e w p q o =
-      agree e w after p q (sees_after ts (near ts c) count c scene refl f r before after sides v has k e
+      agree e w after p q (balanced_after ts (near ts c) balanced c refl f r before after sides v has k e
       (subst (λ (n : Plane). OneSign (e *ℤ along n k) (pos 1 *ℤ along n main)) cut_out.support o))
 
   up_s : is_positive s ≡ true → pos 0 <ℤ s

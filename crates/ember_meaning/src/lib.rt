@@ -11,4 +11,5 @@ pub use closed::{
 pub use regions::{
     documents_read_with_their_meaning, outlined_faces_have_their_meaning_nearby,
     solids_are_one_where_expressions_agree, written_regions_have_their_meaning,
+    written_regions_outlined_are_a_surface,
 };

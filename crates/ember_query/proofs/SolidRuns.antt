@@ -22,7 +22,7 @@ use Rattle.ember_model.specs.declared.face.Face.{Face}
 use Rattle.std.proofs.lemmas.List.{length-map}
 use Rattle.ember_query.specs.Leaves.{AreRegionCounts, IsWrittenAt}
 use Rattle.ember_meaning.specs.Regions.Solids.{AreJournalsOfSolid, IsSolid, IsSolidReport, IsSolidText}
-use Rattle.ember_leaf.specs.declared.kept.Kept.{Kept}
+use Rattle.ember_leaf.specs.KeptRegions.{NarrowKept as Kept}
 use Rattle.ember_text.specs.Documents.{IsDocumentText, IsTextOf, joined, written_face}
 
 -- ---- the run

@@ -25,7 +25,7 @@ use steal_pool::{Gate, Harvest, merged_items_answer_the_leaves, run_alone, run_t
 
 // The items of the leaves below the root, in the order of the tree. This thread alone runs the
 // boxes.
-fn results_alone<W: Work, F: Fn(&Job) -> Result<Outcome<W::Item>, OutOfMemory>, G: Gate>(
+pub(crate) fn results_alone<W: Work, F: Fn(&Job) -> Result<Outcome<W::Item>, OutOfMemory>, G: Gate>(
     alloc: Global,
     gate: &G,
     root: Job,

@@ -5,11 +5,13 @@
 
 mod executor;
 mod faces;
+mod outlines;
 mod query;
 mod solid;
 
 pub use executor::{answer_alone, answer_by_workers};
 pub use faces::{SolidFaces, solid_faces};
+pub use outlines::outlines_alone;
 pub use query::{
     Answer, Query, RunResult, query_counts, query_faces, query_fills, query_pairs, query_texts,
 };

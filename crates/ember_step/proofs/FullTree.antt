@@ -1,5 +1,5 @@
 -- The visited leaves give what all leaves of the full tree give.
-use Rattle.std.proofs.Common.{◌≡◌, ℕ, zero, suc, pred, ◌^◌, ◌<◌, ◌≤◌, Bool, true, false, Option, None, Some, List, []}
+use Rattle.std.proofs.Common.{◌≡◌, ℕ, zero, suc, pred, ◌^◌, ◌<◌, ◌≤◌, lit<, Bool, true, false, Option, None, Some, List, []}
 use Rattle.std.proofs.Common.{◌∷◌, ◌++◌, append_assoc, ℤ, pos, ◌+ℤ◌, ◌<ℤ◌, ◌≤ℤ◌, refl, sym, ap, ap₂, ◌∙◌, subst, arith}
 use borrow.Author.Differences.{ints}
 use Rattle.ember_algebra.specs.Relations.{Each, none, more}
@@ -11,29 +11,35 @@ use Rattle.ember_model.specs.declared.point.Spot.{Spot}
 use Rattle.ember_model.specs.declared.point.Axis.{Axis}
 use Rattle.ember_model.specs.declared.point.Axis.TheVariants.{X, Y, Z}
 use Rattle.ember_model.specs.declared.tri.Tri.{Tri}
+use Rattle.ember_model.specs.Limits.{narrow_limit, most_meshes}
+use Rattle.ember_model.specs.Within.{normal_limit}
 use Rattle.ember_model.specs.Meshes.{IsScene}
 use Rattle.ember_expr.specs.Formula.{Formula, IsFit}
-use Rattle.ember_box.specs.Boxes.{Cell, halvings_left, left_half, right_half}
+use Rattle.ember_width.specs.Scenes.{IsSceneWithin}
+use Rattle.ember_box.specs.Boxes.{Cell, halvings_left, left_half, right_half, in_steps}
 use Rattle.ember_box.specs.Aabbs.{interval_between}
 use Rattle.ember_box.specs.Near.{near}
-use Rattle.ember_box.specs.Halving.{halving_axis, is_leaf, leaves_within, leaves_within_on}
+use Rattle.ember_box.specs.Halving.{halving_axis_on, is_leaf_on, leaves_within_on}
+use Rattle.ember_box.proofs.InSteps.{above_in_steps, left_in_steps, right_in_steps}
 use Rattle.ember_box.proofs.Halvable.{halvable_unless_leaf}
 use Rattle.ember_box.proofs.NearByAabbs.{halves_end}
 use Rattle.ember_box.proofs.HalfCells.{left_less}
 use Rattle.ember_box.proofs.Lists.{halving_axis_near, is_leaf_near}
 use Rattle.ember_ref.specs.ClosedBoxes.{IsAcross, HasPoint}
 use Rattle.ember_leaf.specs.declared.kept.Kept.{Kept}
+use Rattle.ember_leaf.specs.KeptRegions.{NarrowKept}
 use Rattle.ember_leaf.specs.Written.{IsWrittenIn}
-use Rattle.ember_leaf.specs.Scenes.{HasOneValue, LeafGives, regions, nothing, IsWritten}
+use Rattle.ember_leaf.specs.Scenes.{HasOneValue, LeafGivesOn, regions, nothing, IsWrittenOn, IsWritten}
 use Rattle.ember_job.specs.declared.job.Job.{Job}
 use Rattle.ember_job.specs.Works.{Shape, halved, leafed, passed}
 use Rattle.ember_job.specs.Visited.{leaves}
 use Rattle.ember_job.proofs.Leaves.{under, under_leaf, under_passed, under_halved}
-use Rattle.ember_visit.specs.Jobs.{near_of, IsJob, root_job, left_job, right_job}
-use Rattle.ember_visit.specs.Values.{box_value, unless_known, leaf_or, shape}
-use Rattle.ember_visit.proofs.IndexLists.{near_listed}
-use Rattle.ember_visit.proofs.Laws.{root_is_job, halves_are_jobs}
-use Rattle.ember_step.proofs.KnownBesideBox.{known_has_one}
+use Rattle.ember_visit.specs.Jobs.{near_of, IsJobOn, root_job_on, left_job_on, right_job_on, root_job}
+use Rattle.ember_visit.specs.Values.{box_value, unless_known, leaf_or, shape_on, shape}
+use Rattle.ember_visit.proofs.IndexLists.{scene_within, near_listed}
+use Rattle.ember_visit.proofs.Laws.{root_is_job, halves_are_jobs_on}
+use Rattle.ember_step.specs.Boxes.{IsWrittenInBox}
+use Rattle.ember_step.proofs.KnownBesideBox.{known_has_one_on}
 
 -- ---- a half of a box lies in it
 narrower : (l h from to x w : ℤ) → pos 0 <ℤ w → l ≤ℤ from → to ≤ℤ h → IsAcross (interval_between from to) x w → IsAcross (interval_between l h) x w
@@ -70,28 +76,39 @@ has_right c Y v may h =
 has_right c Z v may h =
     record { weight = h.weight; on_x = h.on_x; on_y = h.on_y; on_z = in_high c.lo.z (c.log Z) v.z v.w may h.weight h.on_z }
 
-module _ (ts : List Tri) (f : Formula) where
-  -- no leaf below a box of one value gives anything
-  none_below : (n : ℕ) (c : Cell) → HasOneValue ts f c → Each (LeafGives ts f) (leaves_within ts n c) []
-  none_below zero c h = more (nothing h) none
-  none_below (suc n) c h = by (is_leaf ts c) refl (λ d one. none_below n d one)
-    where
-      by : (b : Bool) → is_leaf ts c ≡ b → ((d : Cell) → HasOneValue ts f d →
-          Each (LeafGives ts f) (leaves_within ts n d) []) →
-          Each (LeafGives ts f) (elim b [
-            | true ↦ c ∷ []
-            | false ↦ leaves_within ts n (left_half c (halving_axis ts c))
-                ++ leaves_within ts n (right_half c (halving_axis ts c))
-          ]) []
-      by true e below = more (nothing h) none
-      by false e below =
-          let k = halving_axis ts c in let may = halvable_unless_leaf 0 ts c e in
-          each_append (below (left_half c k) (record {
-            value = h.value;
-            beside =
-                λ v p. h.beside v (has_left c k v may p);
-          }))
-          (below (right_half c k) (record { value = h.value; beside = λ v p. h.beside v (has_right c k v may p) }))
+-- ---- on a grid on which a unit has 2^u steps
+-- what a leaf gives, by its box in units
+abbrev Gives : {W M : Type 0} → ℕ → List Tri → Formula → Cell → List (Kept W M) → Type 0
+Gives u ts x c ks = LeafGivesOn ts x (in_steps u c) ks
+
+-- the halves of a box of one value, in steps, have that value
+one_in_left : (u : ℕ) (ts : List Tri) (x : Formula) (c : Cell) (k : Axis) → 0 < c.log k → HasOneValue ts x (in_steps u c) → HasOneValue ts x (in_steps u (left_half c k))
+one_in_left u ts x c k may h =
+    subst (HasOneValue ts x) (left_in_steps u c k may)
+    (record { value = h.value; beside = λ v p. h.beside v (has_left (in_steps u c) k v (above_in_steps u c k may) p) })
+
+one_in_right : (u : ℕ) (ts : List Tri) (x : Formula) (c : Cell) (k : Axis) → 0 < c.log k → HasOneValue ts x (in_steps u c) → HasOneValue ts x (in_steps u (right_half c k))
+one_in_right u ts x c k may h =
+    subst (HasOneValue ts x) (right_in_steps u c k may)
+    (record { value = h.value; beside = λ v p. h.beside v (has_right (in_steps u c) k v (above_in_steps u c k may) p) })
+
+-- no leaf below a box of one value gives anything
+none_below : {W M : Type 0} (u : ℕ) (ts : List Tri) (x : Formula) (n : ℕ) (c : Cell) → HasOneValue ts x (in_steps u c) →
+    Each (Gives {W = W} {M = M} u ts x) (leaves_within_on u ts n c) []
+none_below u ts x zero c h = more (nothing h) none
+none_below {W} {M} u ts x (suc n) c h = by (is_leaf_on u ts c) refl (λ d one. none_below u ts x n d one)
+  where
+    by : (b : Bool) → is_leaf_on u ts c ≡ b → ((d : Cell) → HasOneValue ts x (in_steps u d) →
+        Each (Gives {W = W} {M = M} u ts x) (leaves_within_on u ts n d) []) →
+        Each (Gives {W = W} {M = M} u ts x) (elim b [
+          | true ↦ c ∷ []
+          | false ↦ leaves_within_on u ts n (left_half c (halving_axis_on u ts c))
+              ++ leaves_within_on u ts n (right_half c (halving_axis_on u ts c))
+        ]) []
+    by true e below = more (nothing h) none
+    by false e below =
+        let k = halving_axis_on u ts c in let may = halvable_unless_leaf u ts c e in
+        each_append (below (left_half c k) (one_in_left u ts x c k may h)) (below (right_half c k) (one_in_right u ts x c k may h))
 
 -- ---- what two lists give together
 record Parted {A B : Type 0} (R : A → List B → Type 0) (us vs : List A) (ys : List B) : Type 0 where
@@ -114,85 +131,89 @@ parted (u ∷ us) vs ys (more {ys = a} {zs = b} q r) =
       seconds = h.seconds;
     }
 
-module _ (ts : List Tri) (count : ℕ) (scene : IsScene ts count) (f : Formula) (fit : IsFit 64 f) where
+module _ (W M : Type 0) (u m fine : ℕ) (tells : normal_limit m < fine) (ts : List Tri) (scene : IsSceneWithin m ts most_meshes) (f : Formula)
+    (fit : IsFit 64 f) where
   abbrev of : Job → Shape
-  of = shape ts f
+  of = shape_on u fine ts f
 
-  abbrev Writes : Job → List Kept → Type 0
-  Writes job ks = IsWrittenIn ts f job.cell (near ts job.cell) ks
+  abbrev Writes : Job → List (Kept W M) → Type 0
+  Writes job ks = IsWrittenInBox u ts f job.cell ks
 
   -- what the visited leaves under a job give, the leaves under its box give
-  abbrev Gives : ℕ → Job → Type 0
-  Gives depth job =
-      (ks : List Kept) → Each Writes (under of depth job) ks → Each (LeafGives ts f) (leaves_within ts depth job.cell) ks
+  abbrev GivesUnder : ℕ → Job → Type 0
+  GivesUnder depth job =
+      (ks : List (Kept W M)) → Each Writes (under of depth job) ks → Each (Gives u ts f) (leaves_within_on u ts depth job.cell) ks
 
-  by_shape : (j : Job) (v : Option Bool) (l : Bool) → box_value ts f j ≡ v → is_leaf (near_of ts j) j.cell ≡ l →
-      of j ≡ unless_known v (leaf_or l (halved (left_job ts j (halving_axis (near_of ts j) j.cell))
-      (right_job ts j (halving_axis (near_of ts j) j.cell))))
-  unfolding shape
+  by_shape : (j : Job) (v : Option Bool) (l : Bool) → box_value ts f j ≡ v → is_leaf_on u (near_of ts j) j.cell ≡ l →
+      of j ≡ unless_known v (leaf_or l (halved (left_job_on u ts j (halving_axis_on u (near_of ts j) j.cell))
+      (right_job_on u fine ts j (halving_axis_on u (near_of ts j) j.cell))))
+  unfolding shape_on
   by_shape j v l e q =
-      ap₂ (λ v l. unless_known v (leaf_or l (halved (left_job ts j (halving_axis (near_of ts j) j.cell))
-      (right_job ts j (halving_axis (near_of ts j) j.cell))))) e q
+      ap₂ (λ v l. unless_known v (leaf_or l (halved (left_job_on u ts j (halving_axis_on u (near_of ts j) j.cell))
+      (right_job_on u fine ts j (halving_axis_on u (near_of ts j) j.cell))))) e q
 
-  passed_gives : (depth : ℕ) (j : Job) → IsJob ts j → (known : Bool) → box_value ts f j ≡ Some known → of j ≡ passed → Gives depth j
+  -- the triangles that a job lists decide as all do whether its box is a leaf
+  same_leaf : (j : Job) → IsJobOn u fine ts j → is_leaf_on u (near_of ts j) j.cell ≡ is_leaf_on u ts j.cell
+  same_leaf j is = ap (λ (us : List Tri). is_leaf_on u us j.cell) (sym (near_listed ts j is)) ∙ is_leaf_near u ts j.cell
+
+  passed_gives : (depth : ℕ) (j : Job) → IsJobOn u fine ts j → (known : Bool) → box_value ts f j ≡ Some known → of j ≡ passed → GivesUnder depth j
   passed_gives depth j is known e s ks r =
       nil ks (subst (λ (js : List Job). Each Writes js ks) (under_passed of depth j s) r)
     where
-      nil : (ks : List Kept) → Each Writes [] ks → Each (LeafGives ts f) (leaves_within ts depth j.cell) ks
-      nil ks none = none_below ts f depth j.cell (known_has_one ts count scene f fit j is known e)
+      nil : (ks : List (Kept W M)) → Each Writes [] ks → Each (Gives u ts f) (leaves_within_on u ts depth j.cell) ks
+      nil ks none = none_below u ts f depth j.cell (known_has_one_on u m fine tells ts scene f fit j is known e)
 
-  leaf_gives : (j : Job) (ks : List Kept) → Each Writes (j ∷ []) ks → Each (LeafGives ts f) (j.cell ∷ []) ks
+  leaf_gives : (j : Job) (ks : List (Kept W M)) → Each Writes (j ∷ []) ks → Each (Gives u ts f) (j.cell ∷ []) ks
   leaf_gives j ks (more w none) = more (regions w) none
 
-  leafed_gives : (depth : ℕ) (j : Job) → is_leaf ts j.cell ≡ true → of j ≡ leafed → Gives depth j
+  leafed_gives : (depth : ℕ) (j : Job) → is_leaf_on u ts j.cell ≡ true → of j ≡ leafed → GivesUnder depth j
   leafed_gives depth j e s ks r =
       by depth (leaf_gives j ks (subst (λ (js : List Job). Each Writes js ks) (under_leaf of depth j s) r))
     where
-      by : (depth : ℕ) → Each (LeafGives ts f) (j.cell ∷ []) ks → Each (LeafGives ts f) (leaves_within ts depth j.cell) ks
+      by : (depth : ℕ) → Each (Gives u ts f) (j.cell ∷ []) ks → Each (Gives u ts f) (leaves_within_on u ts depth j.cell) ks
       by zero r = r
       by (suc n) r = rw (e, leaves_within_on) r
 
-  gives : (depth : ℕ) (j : Job) → halvings_left j.cell ≤ depth → IsJob ts j → Gives depth j
-  gives zero j few is = by (box_value ts f j) (is_leaf ts j.cell) refl refl
+  gives : (depth : ℕ) (j : Job) → halvings_left j.cell ≤ depth → IsJobOn u fine ts j → GivesUnder depth j
+  gives zero j few is = by (box_value ts f j) (is_leaf_on u ts j.cell) refl refl
     where
-      by : (v : Option Bool) (l : Bool) → box_value ts f j ≡ v → is_leaf ts j.cell ≡ l → Gives zero j
-      by (Some known) l e q = passed_gives zero j is known e
-          (by_shape j (Some known) l e (ap (λ (us : List Tri). is_leaf us j.cell) (sym (near_listed ts j is))
-          ∙ is_leaf_near 0 ts j.cell ∙ q))
-      by None true e q = leafed_gives zero j q (by_shape j None true e
-          (ap (λ (us : List Tri). is_leaf us j.cell) (sym (near_listed ts j is)) ∙ is_leaf_near 0 ts j.cell ∙ q))
+      by : (v : Option Bool) (l : Bool) → box_value ts f j ≡ v → is_leaf_on u ts j.cell ≡ l → GivesUnder zero j
+      by (Some known) l e q = passed_gives zero j is known e (by_shape j (Some known) l e (same_leaf j is ∙ q))
+      by None true e q = leafed_gives zero j q (by_shape j None true e (same_leaf j is ∙ q))
       by None false e q =
-          absurd (omega (arith, few, left_less j.cell (halving_axis ts j.cell) (halvable_unless_leaf 0 ts j.cell q)))
-  gives (suc depth) j few is = by (box_value ts f j) (is_leaf ts j.cell) refl refl (gives depth)
+          absurd (omega (arith, few, left_less j.cell (halving_axis_on u ts j.cell) (halvable_unless_leaf u ts j.cell q)))
+  gives (suc depth) j few is = by (box_value ts f j) (is_leaf_on u ts j.cell) refl refl (gives depth)
     where
-      by : (v : Option Bool) (l : Bool) → box_value ts f j ≡ v → is_leaf ts j.cell ≡ l →
-          ((half : Job) → halvings_left half.cell ≤ depth → IsJob ts half → Gives depth half) → Gives (suc depth) j
-      by (Some known) l e q half = passed_gives (suc depth) j is known e
-          (by_shape j (Some known) l e (ap (λ (us : List Tri). is_leaf us j.cell) (sym (near_listed ts j is))
-          ∙ is_leaf_near 0 ts j.cell ∙ q))
-      by None true e q half = leafed_gives (suc depth) j q
-          (by_shape j None true e (ap (λ (us : List Tri). is_leaf us j.cell) (sym (near_listed ts j is))
-          ∙ is_leaf_near 0 ts j.cell ∙ q))
+      by : (v : Option Bool) (l : Bool) → box_value ts f j ≡ v → is_leaf_on u ts j.cell ≡ l →
+          ((half : Job) → halvings_left half.cell ≤ depth → IsJobOn u fine ts half → GivesUnder depth half) → GivesUnder (suc depth) j
+      by (Some known) l e q half = passed_gives (suc depth) j is known e (by_shape j (Some known) l e (same_leaf j is ∙ q))
+      by None true e q half = leafed_gives (suc depth) j q (by_shape j None true e (same_leaf j is ∙ q))
       by None false e q half = λ ks r.
-          let k = halving_axis ts j.cell in let low = left_job ts j (halving_axis (near_of ts j) j.cell) in let high =
-          right_job ts j (halving_axis (near_of ts j) j.cell) in
-          let same : halving_axis (near_of ts j) j.cell ≡ k =
-          ap (λ (us : List Tri). halving_axis us j.cell) (sym (near_listed ts j is)) ∙ halving_axis_near 0 ts j.cell in
-          let s : of j ≡ halved low high = by_shape j None false e
-          (ap (λ (us : List Tri). is_leaf us j.cell) (sym (near_listed ts j is)) ∙ is_leaf_near 0 ts j.cell ∙ q) in
-          let both = halves_are_jobs ts f j low high count scene is s in
-          let less = left_less j.cell k (halvable_unless_leaf 0 ts j.cell q) in
+          let k = halving_axis_on u ts j.cell in let low = left_job_on u ts j (halving_axis_on u (near_of ts j) j.cell) in let high =
+          right_job_on u fine ts j (halving_axis_on u (near_of ts j) j.cell) in
+          let same : halving_axis_on u (near_of ts j) j.cell ≡ k =
+          ap (λ (us : List Tri). halving_axis_on u us j.cell) (sym (near_listed ts j is)) ∙ halving_axis_near u ts j.cell in
+          let s : of j ≡ halved low high = by_shape j None false e (same_leaf j is ∙ q) in
+          let both = halves_are_jobs_on u fine ts f j low high m tells scene is s in
+          let less = left_less j.cell k (halvable_unless_leaf u ts j.cell q) in
           let fewer : halvings_left low.cell ≤ depth = omega (arith, few, less, ap (λ (k : Axis). halvings_left (left_half j.cell k)) same) in
           let fewer_too : halvings_left high.cell ≤ depth = omega (arith, few, less, ap (λ (k : Axis). halvings_left (left_half j.cell k)) same) in
           let p = parted (under of depth low) (under of depth high) ks (subst (λ (js : List Job). Each Writes js ks) (under_halved of depth j low high s) r) in
-          let a = subst (λ (k : Axis). Each (LeafGives ts f) (leaves_within ts depth (left_half j.cell k)) p.first) same
+          let a = subst (λ (k : Axis). Each (Gives u ts f) (leaves_within_on u ts depth (left_half j.cell k)) p.first) same
           (half low fewer both.0 p.first p.firsts) in
-          let b = subst (λ (k : Axis). Each (LeafGives ts f) (leaves_within ts depth (right_half j.cell k)) p.second)
+          let b = subst (λ (k : Axis). Each (Gives u ts f) (leaves_within_on u ts depth (right_half j.cell k)) p.second)
           same (half high fewer_too both.1 p.second p.seconds) in
-          rw (q, leaves_within_on) (subst (λ (ls : List Kept). Each (LeafGives ts f)
-          (leaves_within ts depth (left_half j.cell k) ++ leaves_within ts depth (right_half j.cell k)) ls) (sym p.is)
+          rw (q, leaves_within_on) (subst (λ (ls : List (Kept W M)). Each (Gives u ts f)
+          (leaves_within_on u ts depth (left_half j.cell k) ++ leaves_within_on u ts depth (right_half j.cell k)) ls) (sym p.is)
           (each_append a b))
 
-  -- the regions that the visited leaves write are those of the full tree
-  pub visited_written : (ks : List Kept) → Each Writes (leaves of (root_job ts)) ks → IsWritten ts f ks
-  visited_written ks r = gives (halvings_left (root_job ts).cell) (root_job ts) (omega arith) (root_is_job ts count scene) ks r
+  -- the regions that the visited leaves write are those of the full tree, if the root's job is a job of the scene
+  pub visited_written_on : IsJobOn u fine ts (root_job_on u ts) → (ks : List (Kept W M)) →
+      Each Writes (leaves of (root_job_on u ts)) ks → IsWrittenOn u ts f ks
+  visited_written_on is ks r = gives (halvings_left (root_job_on u ts).cell) (root_job_on u ts) (omega arith) is ks r
+
+-- on the narrow grid
+pub visited_written : (ts : List Tri) (count : ℕ) → IsScene ts count → (f : Formula) → IsFit 64 f → (ks : List NarrowKept) →
+    Each (λ job ks. IsWrittenIn ts f job.cell (near ts job.cell) ks) (leaves (shape ts f) (root_job ts)) ks → IsWritten ts f ks
+visited_written ts count scene f fit ks r =
+    visited_written_on _ _ 0 narrow_limit (2 ^ 27) (lit< tt) ts (scene_within ts count scene) f fit (root_is_job ts count scene) ks r

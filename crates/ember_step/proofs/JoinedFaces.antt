@@ -7,7 +7,7 @@ use Rattle.ember_algebra.specs.Relations.{Each, none, more}
 use Rattle.ember_expr.specs.Formula.{Formula, IsFit}
 use Rattle.ember_job.specs.declared.job.Job.{Job}
 use Rattle.ember_job.specs.Items.{EachAnswers}
-use Rattle.ember_leaf.specs.declared.kept.Kept.{Kept}
+use Rattle.ember_leaf.specs.KeptRegions.{NarrowKept as Kept}
 use Rattle.ember_model.specs.declared.face.Face.{Face}
 use Rattle.ember_model.specs.declared.tri.Tri.{Tri}
 use Rattle.ember_model.specs.Meshes.{IsScene}
@@ -16,7 +16,8 @@ use Rattle.ember_text.specs.FacesInTexts.{AreFacesInTexts, IsFaceInText}
 use Rattle.ember_step.specs.Faces.{AreRegionsFaces, LeafFacesJoin}
 use Rattle.ember_step.proofs.FullTree.{visited_written}
 
-AllZip-append : {X Y : Type 0} (R : X → Y → Type 0) (xs us : List X) (ys vs : List Y) → AllZip R xs ys → AllZip R us vs → AllZip R (xs ++ us) (ys ++ vs)
+-- lists of pairs, one after the other
+pub AllZip-append : {X Y : Type 0} (R : X → Y → Type 0) (xs us : List X) (ys vs : List Y) → AllZip R xs ys → AllZip R us vs → AllZip R (xs ++ us) (ys ++ vs)
 AllZip-append R [] us [] vs a b = b
 AllZip-append R [] us (y ∷ ys) vs a b = absurd a
 AllZip-append R (x ∷ xs) us [] vs a b = absurd a

@@ -8,7 +8,7 @@ use Rattle.ember_algebra.proofs.Relations.{each_append}
 use Rattle.ember_expr.specs.Formula.{Formula, IsFit}
 use Rattle.ember_job.specs.declared.job.Job.{Job}
 use Rattle.ember_job.specs.Items.{EachAnswers}
-use Rattle.ember_leaf.specs.declared.kept.Kept.{Kept}
+use Rattle.ember_leaf.specs.KeptRegions.{NarrowKept as Kept}
 use Rattle.ember_model.specs.declared.tri.Tri.{Tri}
 use Rattle.ember_model.specs.Meshes.{IsScene}
 use Rattle.ember_text.specs.FacesTexts.{FacesText}

@@ -9,7 +9,7 @@ use Rattle.ember_job.specs.declared.job.Outcome.{Outcome}
 use Rattle.ember_job.specs.Items.{EachAnswers}
 use Rattle.ember_job.specs.Visited.{leaves}
 use Rattle.ember_job.specs.Works.{Answers}
-use Rattle.ember_leaf.specs.declared.kept.Kept.{Kept}
+use Rattle.ember_leaf.specs.KeptRegions.{NarrowKept as Kept}
 use Rattle.ember_leaf.specs.Written.{IsWrittenIn}
 use Rattle.ember_leaf.specs.Scenes.{IsWritten}
 use Rattle.ember_model.specs.declared.face.Face.{Face}

@@ -2,9 +2,7 @@
 ghost use Rattle.std.specs.Prelude.{IfOk};
 ghost use Rattle.ember_expr.specs.Formula.{formula_of};
 ghost use Rattle.ember_job.specs.Works.{Answers};
-ghost use Rattle.ember_box.specs.Near.{near};
-ghost use Rattle.ember_leaf.specs.Written.{IsWrittenIn};
-ghost use Rattle.ember_step.specs.Counts.{IsCount};
+ghost use Rattle.ember_step.specs.Counts.{IsBoxCount};
 ghost use Rattle.ember_visit.specs.Jobs.{IsJob};
 ghost use Rattle.ember_visit.specs.Values.{shape};
 
@@ -24,9 +22,7 @@ pub struct CountWork<'a> {
 
 impl<'a> Work for CountWork<'a> {
     ghost use Rattle.ember_expr.specs.Formula.{formula_of};
-    ghost use Rattle.ember_box.specs.Near.{near};
-    ghost use Rattle.ember_leaf.specs.Written.{IsWrittenIn};
-    ghost use Rattle.ember_step.specs.Counts.{IsCount};
+    ghost use Rattle.ember_step.specs.Counts.{IsBoxCount};
     ghost use Rattle.ember_visit.specs.Jobs.{IsJob};
     ghost use Rattle.ember_visit.specs.Values.{shape as shape_of};
     ghost use Rattle.ember_visit.proofs.Laws.{halves_are_jobs, halves_are_split};
@@ -37,8 +33,7 @@ impl<'a> Work for CountWork<'a> {
 
     ghost shape = { λ w job. shape_of w.scene.now.tris (formula_of w.expr.now) job };
 
-    ghost item = { λ w job n.
-        IsCount (IsWrittenIn w.scene.now.tris (formula_of w.expr.now) job.cell (near w.scene.now.tris job.cell)) n };
+    ghost item = { λ w job n. IsBoxCount w.scene.now.tris (formula_of w.expr.now) job.cell n };
 
     ghost halves_valid = { λ w job low high v e. halves_are_jobs w.scene.now.tris
         (formula_of w.expr.now) job low high w.scene.now.meshes w.scene.now.kept v e };
@@ -67,8 +62,8 @@ pub fn count_step(
 ) -> Result<Outcome<u64>, OutOfMemory>
     requires { IsJob s.now.tris job.now }
     ensures { IfOk result (λ o.
-        Answers (shape s.now.tris (formula_of e.now)) (λ j n.
-        IsCount (IsWrittenIn s.now.tris (formula_of e.now) j.cell (near s.now.tris j.cell)) n) job.now o) }
+        Answers (shape s.now.tris (formula_of e.now)) (λ j n. IsBoxCount s.now.tris (formula_of e.now) j.cell n)
+        job.now o) }
 {
     match box_step(alloc, s, e, job)? {
         Outcome::Halves(left, right) => Ok(Outcome::Halves(left, right)),

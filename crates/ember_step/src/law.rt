@@ -1,8 +1,9 @@
 // The laws of the written regions: the visited leaves write all of them, and they are one list.
-ghost use Rattle.std.specs.Prelude.{◌≡◌, ℕ, Bool, List, [], Some, ℤ};
+ghost use Rattle.std.specs.Prelude.{◌≡◌, ◌≤◌, ◌+◌, ◌*◌, ◌^◌, ℕ, Bool, List, [], Some, ℤ};
 ghost use Rattle.ember_algebra.specs.Relations.{Each};
-ghost use Rattle.ember_model.specs.declared.tri.Tri.{Tri};
+ghost use Rattle.ember_model.specs.declared.tri.Tri.{Tri as TriView};
 ghost use Rattle.ember_model.specs.declared.face.Face.{Face};
+ghost use Rattle.ember_model.specs.Limits.{most_meshes};
 ghost use Rattle.ember_model.specs.Meshes.{IsScene};
 ghost use Rattle.ember_model.specs.Sides.{IsSides};
 ghost use Rattle.ember_expr.specs.Formula.{Formula, IsFit, formula_of};
@@ -12,26 +13,29 @@ ghost use Rattle.ember_box.specs.Near.{near};
 ghost use Rattle.ember_trace.specs.Boxed.{IsRegion};
 ghost use Rattle.ember_job.specs.declared.job.Job.{Job};
 ghost use Rattle.ember_job.specs.Visited.{leaves};
-ghost use Rattle.ember_leaf.specs.declared.kept.Kept.{Kept};
+ghost use Rattle.ember_leaf.specs.KeptRegions.{NarrowKept as Kept};
 ghost use Rattle.ember_leaf.specs.Written.{IsWrittenIn};
 ghost use Rattle.ember_leaf.specs.Scenes.{HasOneValue, IsWritten};
 ghost use Rattle.ember_step.specs.Faces.{LeafFacesJoin};
+ghost use Rattle.ember_step.specs.Outlines.{LeafOutlinesJoin};
 ghost use Rattle.ember_step.specs.Texts.{LeafTextsJoin};
 ghost use Rattle.ember_visit.specs.Jobs.{IsJob, root_job};
 ghost use Rattle.ember_visit.specs.Values.{box_value, shape};
+ghost use Rattle.ember_width.specs.Scenes.{IsSceneWithin};
 
 use ember_expr::{Expr, tree};
-use ember_model::Scene;
+use ember_model::{Scene, Tri};
+use ember_width::Width;
 
 /// If the value of a box is known, the expression has one value in the box and directly beside
 /// it. So it has one value on both sides of each region of a leaf there, and none is written.
 pub fn known_boxes_write_nothing()
-    ensures value { (ts : List Tri) (meshes : ℕ) (f : Formula) (job : Job) (known : Bool) → IsScene ts meshes →
+    ensures value { (ts : List TriView) (meshes : ℕ) (f : Formula) (job : Job) (known : Bool) → IsScene ts meshes →
         IsFit 64 f → IsJob ts job → box_value ts f job ≡ Some known → HasOneValue ts f job.cell }
-    ensures sides { (ts : List Tri) (meshes : ℕ) (f : Formula) (c : Cell) (one : HasOneValue ts f c) (region : Face)
+    ensures sides { (ts : List TriView) (meshes : ℕ) (f : Formula) (c : Cell) (one : HasOneValue ts f c) (region : Face)
         (before after : List ℤ) → IsScene ts meshes → IsRegion (near ts c) c region →
         IsSides ts region before after → (truth before f ≡ one.value) × (truth after f ≡ one.value) }
-    ensures nothing { (ts : List Tri) (meshes : ℕ) (f : Formula) (c : Cell) (kept : List Kept) → IsScene ts meshes →
+    ensures nothing { (ts : List TriView) (meshes : ℕ) (f : Formula) (c : Cell) (kept : List Kept) → IsScene ts meshes →
         HasOneValue ts f c → IsWrittenIn ts f c (near ts c) kept → kept ≡ [] }
 {}
 
@@ -65,10 +69,21 @@ pub fn leaf_faces_join(_s: &Scene, e: &Expr)
     tree(e);
 }
 
+/// On each grid, the faces of the outlines of the visited leaves, one list after another, are those of
+/// the written regions of the scene. The root of the grid ends one step past the corners.
+pub fn leaf_outlines_join<W: Width>(_tris: &[Tri], e: &Expr)
+    requires scene { IsSceneWithin W.corner _tris.now most_meshes }
+    requires root { 2 ^ W.scale * 2048 ≤ W.corner + 1 }
+    ensures { LeafOutlinesJoin W.Width _tris.now (formula_of e.now) }
+{
+    // Called only for its clause `fit`, which the prover then knows of `e`.
+    tree(e);
+}
+
 /// The written regions of a leaf are one list, and so are those of a scene.
 pub fn written_regions_are_one_list()
-    ensures leaf { (ts : List Tri) (meshes : ℕ) (f : Formula) (c : Cell) (one other : List Kept) →
+    ensures leaf { (ts : List TriView) (meshes : ℕ) (f : Formula) (c : Cell) (one other : List Kept) →
         IsScene ts meshes → IsWrittenIn ts f c (near ts c) one → IsWrittenIn ts f c (near ts c) other → one ≡ other }
-    ensures scene { (ts : List Tri) (meshes : ℕ) (f : Formula) (one other : List Kept) → IsScene ts meshes →
+    ensures scene { (ts : List TriView) (meshes : ℕ) (f : Formula) (one other : List Kept) → IsScene ts meshes →
         IsWritten ts f one → IsWritten ts f other → one ≡ other }
 {}

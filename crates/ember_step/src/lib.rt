@@ -9,6 +9,7 @@
 mod count;
 mod faces;
 mod law;
+mod outlines;
 mod step;
 mod text;
 
@@ -16,8 +17,9 @@ pub use count::{CountWork, count_step};
 pub use ember_visit::root_job;
 pub use faces::{FaceWork, faces_step};
 pub use law::{
-    known_boxes_write_nothing, leaf_faces_join, leaf_texts_join, visited_leaves_write_all,
-    written_regions_are_one_list,
+    known_boxes_write_nothing, leaf_faces_join, leaf_outlines_join, leaf_texts_join,
+    visited_leaves_write_all, written_regions_are_one_list,
 };
-pub use step::{BoolWork, box_step};
+pub use outlines::{OutlineWork, outlines_step};
+pub use step::{BoolWork, box_step, box_step_among};
 pub use text::{TextWork, text_step};

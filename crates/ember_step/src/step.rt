@@ -1,17 +1,21 @@
 // What becomes of a box.
-ghost use Rattle.std.specs.Prelude.{IfOk};
+ghost use Rattle.std.specs.Prelude.{◌≤◌, ◌+◌, ◌*◌, ◌^◌, IfOk};
+ghost use Rattle.ember_model.specs.Limits.{most_meshes};
 ghost use Rattle.ember_expr.specs.Formula.{formula_of};
 ghost use Rattle.ember_job.specs.Works.{Answers};
 ghost use Rattle.ember_box.specs.Near.{near};
 ghost use Rattle.ember_leaf.specs.Written.{IsWrittenIn};
-ghost use Rattle.ember_visit.specs.Jobs.{IsJob};
+ghost use Rattle.ember_step.specs.Boxes.{AnswersByRegions, IsWrittenInBox};
+ghost use Rattle.ember_visit.specs.Jobs.{IsJob, IsJobOn};
 ghost use Rattle.ember_visit.specs.Values.{shape};
+ghost use Rattle.ember_width.specs.Scenes.{IsSceneWithin};
 
 use ember_expr::Expr;
 use ember_job::{Job, OneItem, Outcome, Work};
-use ember_leaf::{KeptList, leaf_faces};
-use ember_model::{OutOfMemory, Scene};
-use ember_visit::{box_value, halve_unless_leaf, listed_tris};
+use ember_leaf::{KeptList, leaf_faces_on};
+use ember_model::{OutOfMemory, Scene, Tri};
+use ember_visit::{box_value_among, halve_unless_leaf_among, listed_tris};
+use ember_width::{Narrow, Width};
 use std::alloc::Global;
 
 /// The Boolean of an expression over a scene: the work whose item for a leaf is the list of its
@@ -55,18 +59,45 @@ impl<'a> OneItem for BoolWork<'a> {
 }
 
 // The written regions of a leaf.
-fn written_in(alloc: Global, s: &Scene, e: &Expr, job: &Job) -> Result<KeptList, OutOfMemory>
-    requires { IsJob s.now.tris job.now }
-    ensures { IfOk result (λ kept.
-        IsWrittenIn s.now.tris (formula_of e.now) job.now.cell (near s.now.tris job.now.cell) kept) }
+fn written_in<W: Width>(
+    alloc: Global,
+    tris: &[Tri],
+    e: &Expr,
+    job: &Job,
+) -> Result<KeptList<W>, OutOfMemory>
+    requires scene { IsSceneWithin W.corner tris.now most_meshes }
+    requires root { 2 ^ W.scale * 2048 ≤ W.corner + 1 }
+    requires job { IsJobOn W.scale W.fine tris.now job.now }
+    ensures { IfOk result (λ kept. IsWrittenInBox W.scale tris.now (formula_of e.now) job.now.cell kept) }
 {
-    let near = listed_tris(alloc, s.tris.items(), job.list.items())?;
-    leaf_faces(alloc, e, &job.cell, &near, &job.at)
+    let near = listed_tris(alloc, tris, job.list.items())?;
+    leaf_faces_on::<W>(alloc, e, &job.cell, &near, &job.at)
 }
 
-/// What becomes of a job: it is skipped if the expression's value is known in the whole
-/// box, and otherwise it is a leaf with the written regions, or it is halved. The only error is
-/// out-of-memory.
+/// What becomes of a job, for the triangles of a scene on a grid: it is skipped if the expression's
+/// value is known in the whole box, and otherwise it is a leaf with the written regions, or it is
+/// halved. The root of the grid ends one step past the corners. The only error is out-of-memory.
+pub fn box_step_among<W: Width>(
+    alloc: Global,
+    tris: &[Tri],
+    e: &Expr,
+    job: &Job,
+) -> Result<Outcome<KeptList<W>>, OutOfMemory>
+    requires scene { IsSceneWithin W.corner tris.now most_meshes }
+    requires root { 2 ^ W.scale * 2048 ≤ W.corner + 1 }
+    requires job { IsJobOn W.scale W.fine tris.now job.now }
+    ensures { IfOk result (λ o. AnswersByRegions W.scale W.fine tris.now (formula_of e.now) job.now o) }
+{
+    if box_value_among(e, tris, job).is_some() {
+        return Ok(Outcome::Skipped);
+    }
+    match halve_unless_leaf_among::<W>(alloc, tris, job)? {
+        None => Ok(Outcome::Leaf(written_in::<W>(alloc, tris, e, job)?)),
+        Some((left, right)) => Ok(Outcome::Halves(left, right)),
+    }
+}
+
+/// The same as `box_step_among`, for the triangles of a scene.
 pub fn box_step(
     alloc: Global,
     s: &Scene,
@@ -77,11 +108,5 @@ pub fn box_step(
     ensures { IfOk result (λ o. Answers (shape s.now.tris (formula_of e.now)) (λ j kept.
         IsWrittenIn s.now.tris (formula_of e.now) j.cell (near s.now.tris j.cell) kept) job.now o) }
 {
-    if box_value(e, s, job).is_some() {
-        return Ok(Outcome::Skipped);
-    }
-    match halve_unless_leaf(alloc, s, job)? {
-        None => Ok(Outcome::Leaf(written_in(alloc, s, e, job)?)),
-        Some((left, right)) => Ok(Outcome::Halves(left, right)),
-    }
+    box_step_among::<Narrow>(alloc, s.tris.items(), e, job)
 }

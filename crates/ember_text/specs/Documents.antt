@@ -11,7 +11,7 @@ use Rattle.ember_text.specs.Texts.{IsTextInRange, oriented_face}
 -- the face of a written region, with the front that is written. (The `written_face` of ember_verdict is
 -- another map: from a
 -- face as a file has it, with its corners, to the face alone. So is `face_from` of ember_meaning)
-abbrev pub written_face : Kept → Face
+abbrev pub written_face : {W M : Type 0} → Kept W M → Face
 written_face k = oriented_face k.ring k.flipped
 
 -- the texts of these faces in order

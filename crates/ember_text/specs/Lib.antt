@@ -1,4 +1,5 @@
 pub mod Documents
 pub mod FacesInTexts
 pub mod FacesTexts
+pub mod OutlineFaces
 pub mod Texts

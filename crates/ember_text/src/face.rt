@@ -3,6 +3,7 @@ ghost use Rattle.std.specs.Prelude.{◌≡◌, OnOk, OnErr};
 ghost use Rattle.ember_model.specs.Faces.{flipped_face};
 ghost use Rattle.ember_model.specs.Planes.{opposite};
 ghost use Rattle.ember_model.specs.Valid.{IsValidPlane};
+ghost use Rattle.ember_width.specs.Broad.{IsBroadPlane};
 ghost use Rattle.ember_text.specs.Texts.{Extends, Writes, oriented_face};
 
 use crate::edges::{put_edges, put_support, put_turned_edges};
@@ -12,9 +13,9 @@ use std::alloc::Global;
 
 // The same plane with the opposite front.
 pub(crate) fn opposite_plane(p: &Plane) -> Plane
-    requires { IsValidPlane p.now }
+    requires { IsBroadPlane p.now }
     ensures value { result ≡ opposite p.now }
-    ensures valid { IsValidPlane result }
+    ensures valid { IsValidPlane p.now → IsValidPlane result }
 {
     Plane {
         a: -p.a,

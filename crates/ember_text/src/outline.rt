@@ -1,18 +1,20 @@
-// The faces of written regions in memory, as their text holds them.
+// The faces of written regions in memory, by their outlines.
 ghost use Rattle.std.specs.Prelude.{◌≡◌, ◌++◌, map, take, drop, reverse, IfOk};
 ghost use Rattle.ember_model.specs.Faces.{flipped_face};
 ghost use Rattle.ember_text.specs.Documents.{written_face};
-ghost use Rattle.ember_text.specs.FacesInTexts.{AreFacesInTexts, IsFaceInText};
+ghost use Rattle.ember_text.specs.FacesInTexts.{AreFacesInTexts};
+ghost use Rattle.ember_text.specs.OutlineFaces.{AreOutlineFaces, IsOutlineFace};
 
 use crate::face::opposite_plane;
 use ember_leaf::Kept;
 use ember_model::{Face, OutOfMemory, Plane, Planes};
 use ember_poly::{Ring, outline, support};
+use ember_width::Width;
 use std::alloc::Global;
 
-// The face in the text of the ring's face.
-fn face_in_text(alloc: Global, r: &Ring) -> Result<Face, OutOfMemory>
-    ensures { IfOk result (IsFaceInText r.now) }
+// The face of the ring's outline.
+fn face_of_outline<W: Width>(alloc: Global, r: &Ring<W>) -> Result<Face, OutOfMemory>
+    ensures { IfOk result (IsOutlineFace W.Width r.now) }
 {
     let (edges, _corners) = outline(r);
     let planes = Vec::from_slice(alloc, edges)?;
@@ -32,9 +34,9 @@ fn turn(planes: &mut [Plane])
     }
 }
 
-// The face in the text of the same face with the opposite front.
-fn flipped_face_in_text(alloc: Global, r: &Ring) -> Result<Face, OutOfMemory>
-    ensures { IfOk result (IsFaceInText (flipped_face r.now)) }
+// The same with the opposite front.
+fn flipped_face_of_outline<W: Width>(alloc: Global, r: &Ring<W>) -> Result<Face, OutOfMemory>
+    ensures { IfOk result (IsOutlineFace W.Width (flipped_face r.now)) }
 {
     let (edges, _corners) = outline(r);
     let mut planes = Vec::from_slice(alloc, edges)?;
@@ -45,23 +47,23 @@ fn flipped_face_in_text(alloc: Global, r: &Ring) -> Result<Face, OutOfMemory>
     })
 }
 
-// The face in the text of a written region. If the region is flipped, it is the face with the
+// The face of a written region's outline. If the region is flipped, it is the face with the
 // opposite front.
-fn outline_face(alloc: Global, kept: &Kept) -> Result<Face, OutOfMemory>
-    ensures { IfOk result (IsFaceInText (written_face kept.now)) }
+fn outline_face<W: Width>(alloc: Global, kept: &Kept<W>) -> Result<Face, OutOfMemory>
+    ensures { IfOk result (IsOutlineFace W.Width (written_face kept.now)) }
 {
     if kept.flipped {
-        flipped_face_in_text(alloc, &kept.ring)
+        flipped_face_of_outline(alloc, &kept.ring)
     } else {
-        face_in_text(alloc, &kept.ring)
+        face_of_outline(alloc, &kept.ring)
     }
 }
 
-/// The faces of written regions as their text holds them, in order: of each face the support plane,
-/// and the planes of its outline in the order in which its lines have them. If a region is flipped,
-/// it is the face with the opposite front. The only error is out-of-memory.
-pub fn outline_faces(alloc: Global, kept: &[Kept]) -> Result<Vec<Face>, OutOfMemory>
-    ensures { IfOk result (λ faces. AreFacesInTexts (map written_face kept.now) faces.items) }
+/// The faces of the outlines of written regions, in order: of each face the support plane, and the
+/// planes of its outline in order. If a region is flipped, it is the face with the opposite front.
+/// The only error is out-of-memory.
+pub fn outline_faces_on<W: Width>(alloc: Global, kept: &[Kept<W>]) -> Result<Vec<Face>, OutOfMemory>
+    ensures { IfOk result (λ faces. AreOutlineFaces W.Width (map written_face kept.now) faces.items) }
 {
     // Many lists wait side by side, so none gets room that it doesn't need.
     let mut faces = Vec::with_capacity(alloc, kept.len())?;
@@ -69,4 +71,11 @@ pub fn outline_faces(alloc: Global, kept: &[Kept]) -> Result<Vec<Face>, OutOfMem
         faces.push(outline_face(alloc, k)?)?;
     }
     Ok(faces)
+}
+
+/// The same on the narrow grid: the faces as the text of these regions holds them.
+pub fn outline_faces(alloc: Global, kept: &[Kept]) -> Result<Vec<Face>, OutOfMemory>
+    ensures { IfOk result (λ faces. AreFacesInTexts (map written_face kept.now) faces.items) }
+{
+    outline_faces_on(alloc, kept)
 }

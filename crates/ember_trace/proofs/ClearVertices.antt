@@ -1,5 +1,5 @@
 -- The vertices of a path are clear of all triangles, and lie in the box.
-use Rattle.std.proofs.Common.{◌≡◌, sym, ap, subst, ◌∙◌, lit<, le_refl, arith, ℕ, ◌^◌, ◌≤◌, List, [], ◌∷◌, All, ℤ, pos, ◌+ℤ◌, ◌-ℤ◌, ◌*ℤ◌, ◌<ℤ◌, ◌≤ℤ◌}
+use Rattle.std.proofs.Common.{◌≡◌, sym, ap, subst, ◌∙◌, le_refl, arith, ℕ, ◌*◌, ◌^◌, ◌<◌, ◌≤◌, List, [], ◌∷◌, All, ℤ, pos, ◌+ℤ◌, ◌-ℤ◌, ◌*ℤ◌, ◌<ℤ◌, ◌≤ℤ◌}
 use Rattle.std.specs.List.{AllByRecursion}
 use Rattle.std.proofs.lemmas.List.Elements.{All-head, All-tail}
 use Rattle.std.proofs.lemmas.Nat.{pow_pos}
@@ -19,67 +19,67 @@ use Rattle.ember_model.specs.declared.point.Corner.{Corner}
 use Rattle.ember_model.specs.declared.plane.Plane.{Plane}
 use Rattle.ember_model.specs.declared.tri.Tri.{Tri}
 use Rattle.ember_model.specs.Planes.{unit, value_at, along, support_of, edge_through}
-use Rattle.ember_model.specs.Valid.{IsValidCorner, IsValidTri}
-use Rattle.ember_model.specs.Sizes.{IsSupportSized}
+use Rattle.ember_model.specs.Within.{IsCornerWithin, IsTriWithin, IsSupportWithin, normal_limit}
 use Rattle.ember_model.specs.Clear.{IsClearOf, AreClear}
 use Rattle.ember_model.specs.Meshes.{faces_of}
 use Rattle.ember_model.proofs.SignTests.{zero_out}
-use Rattle.ember_model.proofs.PlaneSizes.{support_sized, edge_sized}
+use Rattle.ember_model.proofs.PlaneSizes.{support_within, edge_within}
 use Rattle.ember_law.proofs.Shifted.{NoNormal}
 use Rattle.ember_law.proofs.Generic.{IsOff}
 use Rattle.ember_law.proofs.GenericClear.{off_clear, clear_faces}
-use Rattle.ember_point.specs.declared.meet_point.Meet.{Meet}
 use Rattle.ember_box.specs.declared.aabb.Interval.{Interval}
 use Rattle.ember_box.specs.Boxes.{Cell, low, high}
 use Rattle.ember_box.specs.Aabbs.{interval_between}
-use Rattle.ember_box.specs.Reference.{reference_at}
-use Rattle.ember_ref.proofs.ReferenceSigns.{sign_at_reference, level_from, both_zero}
+use Rattle.ember_box.specs.Reference.{reference_beside}
+use Rattle.ember_ref.proofs.ReferenceSigns.{sign_beside_is, level_from, both_zero}
 use Rattle.ember_ref.specs.ClosedBoxes.{HasPoint, IsAcross}
 use Rattle.ember_trace.proofs.PathVertices.{with_along}
 use Rattle.ember_trace.proofs.VertexSides.{IsClose, AreStops, stop_at_start, stop_after_first}
 use Rattle.ember_trace.proofs.VertexSides.{stop_after_second, start_sign, first_sign, second_sign}
 use Rattle.ember_trace.proofs.SegmentCrossings.{IsEnd, edge_support, start_above, start_weight}
 
--- a point that is on no plane of a triangle's size but those without a normal
-abbrev pub IsGeneric : Spot → Type 0
-IsGeneric p = (h : Plane) → IsSupportSized h → value_at h p ≡ pos 0 → NoNormal h
+-- a point that is on no plane of the size of a triangle within m but those without a normal
+abbrev pub IsGeneric : ℕ → Spot → Type 0
+IsGeneric m p = (h : Plane) → IsSupportWithin m h → value_at h p ≡ pos 0 → NoNormal h
 
-line_sized : (u v : Corner) (k : Axis) → IsValidCorner u → IsValidCorner v → IsSupportSized (edge_through u v (unit k))
-line_sized u v k iu iv =
-    let h = edge_through u v (unit k) in let s = edge_support (edge_sized u v k (pos 1) iu iv (record { small = le_refl 1 })) in
+line_within : {m : ℕ} (u v : Corner) (k : Axis) → IsCornerWithin m u → IsCornerWithin m v → IsSupportWithin m (edge_through u v (unit k))
+line_within {m} u v k iu iv =
+    let h = edge_through u v (unit k) in
+    let s = edge_support (edge_within m u v k (pos 1) iu iv (record { small = le_refl 1 })) in
     record {
-      a = subst (Small 33554431) (one-*ℤ h.a) s.a;
-      b = subst (Small 33554431) (one-*ℤ h.b) s.b;
-      c =
-          subst (Small 33554431) (one-*ℤ h.c) s.c;
-      d = subst (Small 206158430207) (one-*ℤ h.d) s.d;
+      a = subst (Small (normal_limit m)) (one-*ℤ h.a) s.a;
+      b = subst (Small (normal_limit m)) (one-*ℤ h.b) s.b;
+      c = subst (Small (normal_limit m)) (one-*ℤ h.c) s.c;
+      d = subst (Small (12 * (m * (m * m)))) (one-*ℤ h.d) s.d;
     }
 
-generic_of : (p : Spot) (t : Tri) → pos 0 <ℤ p.w → IsGeneric p → IsValidTri t → IsClearOf t p
-generic_of p t w g i = off_clear p t (off X) (off Y) (off Z)
+generic_of : {m : ℕ} (p : Spot) (t : Tri) → pos 0 <ℤ p.w → IsGeneric m p → IsTriWithin m t → IsClearOf t p
+generic_of {m} p t w g i = off_clear p t (off X) (off Y) (off Z)
   where
     off : (k : Axis) → IsOff (unit k) p t
     off k =
         record {
           weight = w;
-          plane = g (support_of t) (support_sized t i);
+          plane = g (support_of t) (support_within m t i);
           first =
-              g _ (line_sized t.a t.b k i.a i.b);
-          second = g _ (line_sized t.b t.c k i.b i.c);
+              g _ (line_within t.a t.b k i.a i.b);
+          second = g _ (line_within t.b t.c k i.b i.c);
           third =
-              g _ (line_sized t.c t.a k i.c i.a);
+              g _ (line_within t.c t.a k i.c i.a);
         }
 
--- a generic point is clear of all valid triangles
-pub generic_clear : (p : Spot) (ts : List Tri) → pos 0 <ℤ p.w → IsGeneric p → All IsValidTri ts → AreClear (faces_of ts) p
-generic_clear p ts w g i = clear_faces p ts (each ts i)
+-- a generic point is clear of all triangles within m
+pub generic_clear : {m : ℕ} (p : Spot) (ts : List Tri) → pos 0 <ℤ p.w → IsGeneric m p → All (IsTriWithin m) ts → AreClear (faces_of ts) p
+generic_clear {m} p ts w g i = clear_faces p ts (each ts i)
   where
-    each : (ts : List Tri) → All IsValidTri ts → AllByRecursion (λ t. IsClearOf t p) ts
+    each : (ts : List Tri) → All (IsTriWithin m) ts → AllByRecursion (λ t. IsClearOf t p) ts
     each [] i = tt
-    each (t ∷ ts) i = (generic_of p t w g (All-head IsValidTri t ts i), each ts (All-tail IsValidTri t ts i))
+    each (t ∷ ts) i = (generic_of p t w g (All-head (IsTriWithin m) t ts i), each ts (All-tail (IsTriWithin m) t ts i))
 
-reference_level : (lo : Vector) (h : Plane) → IsSupportSized h → sgn (value_at h (reference_at lo)) ≡ Zero → NoNormal h
-reference_level lo h i e = level_from h lo (sym (sign_at_reference {m = 33554431} h lo (lit< tt) i.a i.b i.c) ∙ e)
+reference_level : {m f : ℕ} (lo : Vector) (h : Plane) → normal_limit m < f → IsSupportWithin m h →
+    sgn (value_at h (reference_beside f lo)) ≡ Zero → NoNormal h
+reference_level {m} {f} lo h tells i e =
+    level_from h lo (sym (sign_beside_is {m = normal_limit m} f h lo (record { a = i.a; b = i.b; c = i.c }) tells) ∙ e)
 
 -- ---- points of the box
 scaled_across : (s : Interval) (k x w : ℤ) → pos 0 ≤ℤ k → IsAcross s x w → IsAcross s (k *ℤ x) (k *ℤ w)
@@ -132,7 +132,7 @@ has_with c a u v f g = by a
     }
 
 -- a box contains the start of its paths
-pub has_start : (c : Cell) (n : ℕ) → 2 ^ 27 ≤ n → HasPoint c (stop_at_start c.lo n)
+pub has_start : (c : Cell) (n : ℕ) → 2 ≤ n → HasPoint c (stop_at_start c.lo n)
 has_start c n l =
     let w = start_weight c.lo n l in let x = start_above c.lo n X l in let y = start_above c.lo n Y l in let z = start_above c.lo n Z l in
     record {
@@ -150,23 +150,23 @@ has_start c n l =
         record { from = omega (arith, linear, f); to = omega (arith, linear, t, m, e, g) }
 
 -- ---- the vertices
-module _ (k : Axis) (lo : Vector) (a b c : Meet) (q : Spot) (n : ℕ) (s : AreStops k lo a b c q n) where
+module _ (m f : ℕ) (k : Axis) (lo : Vector) (a b c : Spot) (q : Spot) (n : ℕ) (s : AreStops m f k lo a b c q n) where
   -- the start of a path is generic
-  pub start_generic : IsGeneric (stop_at_start lo n)
-  start_generic h i z = reference_level lo h i (sym (start_sign k lo a b c q n s h i) ∙ ap sgn z)
+  pub start_generic : IsGeneric m (stop_at_start lo n)
+  start_generic h i z = reference_level lo h s.tells i (sym (start_sign m f k lo a b c q n s h i) ∙ ap sgn z)
 
   -- the end of the first segment is generic
-  pub first_generic : IsGeneric (stop_after_first k lo q n)
+  pub first_generic : IsGeneric m (stop_after_first k lo q n)
   first_generic h i z =
-      reference_level lo h i (both_zero _ _ (sym (first_sign k lo a b c q n s h i) ∙ ap sgn z)).1
+      reference_level lo h s.tells i (both_zero _ _ (sym (first_sign m f k lo a b c q n s h i) ∙ ap sgn z)).1
 
   -- and so is the end of the second
-  pub second_generic : IsGeneric (stop_after_second k lo q n)
+  pub second_generic : IsGeneric m (stop_after_second k lo q n)
   second_generic h i z =
-      reference_level lo h i (both_zero _ _ (sym (second_sign k lo a b c q n s h i) ∙ ap sgn z)).1
+      reference_level lo h s.tells i (both_zero _ _ (sym (second_sign m f k lo a b c q n s h i) ∙ ap sgn z)).1
 
 -- the end of a path close to a region's point is generic
-pub end_generic : (k : Axis) (a b c : Meet) (q : Spot) → IsClose k a b c q → (turn : Sign → Sign) (e : Spot) → IsEnd k a b c turn e → IsGeneric e
+pub end_generic : {m : ℕ} (k : Axis) (a b c : Spot) (q : Spot) → IsClose m k a b c q → (turn : Sign → Sign) (e : Spot) → IsEnd m k a b c turn e → IsGeneric m e
 end_generic k a b c q close turn e end h i z =
     let p = both_zero _ _ (sym (end.side h i) ∙ ap sgn z) in
     close.apart h p.0 (zero_out (along h k) (ap is_nil (end.level_out (sgn (along h k)) p.1)))

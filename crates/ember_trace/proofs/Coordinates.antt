@@ -1,11 +1,10 @@
--- A coordinate of a place is as small as all of them. The floor at a path's end is that of its first corner.
-use Rattle.std.proofs.Common.{◌≡◌, refl, ℕ, zero, suc, ℤ, pos, List, [], ◌∷◌, All, slice_index_or, arith}
+-- A coordinate of a place is as small as all of them.
+use Rattle.std.proofs.Common.{ℕ, zero, suc, ℤ, pos, List, [], ◌∷◌, All, slice_index_or, arith}
 use Rattle.std.proofs.lemmas.List.Elements.{All-head, All-tail}
 use Rattle.ember_algebra.specs.Size.{Small}
 use Rattle.ember_model.specs.declared.point.Axis.{Axis}
 use Rattle.ember_model.specs.declared.point.Axis.TheVariants.{X, Y, Z}
-use Rattle.ember_trace.specs.declared.path.Path.{Path}
-use Rattle.ember_trace.specs.Paths.{coordinate, floor_of, floor_at_end}
+use Rattle.ember_trace.specs.Paths.{coordinate}
 
 entry_small : (m : ℕ) (xs : List ℤ) (i : ℕ) → All (Small m) xs → Small m (slice_index_or xs i (pos 0))
 entry_small m [] i h = record { small = omega arith }
@@ -17,9 +16,3 @@ pub coordinate_small : (m : ℕ) (at : List ℤ) (k : Axis) → All (Small m) at
 coordinate_small m at X h = entry_small m at 0 h
 coordinate_small m at Y h = entry_small m at 1 h
 coordinate_small m at Z h = entry_small m at 2 h
-
--- the floor at a path's end
-pub end_floor : (w : Path) (k : Axis) → floor_at_end w k ≡ floor_of w.first_corner k
-end_floor w X = refl
-end_floor w Y = refl
-end_floor w Z = refl

@@ -1,8 +1,9 @@
 -- The first three corners of an outline don't lie on one line, and inside points lie between them.
 use Rattle.std.proofs.Common.{◌≡◌, ◌≢◌, ⊎_elim, refl, sym, ap, ◌∙◌, arith, ℕ, zero, suc, Bool, true, false, not, ◌&&◌}
-use Rattle.std.proofs.Common.{List, [], ◌∷◌, length, None, Some, slice_get, subst, ℤ, pos, ◌+ℤ◌, ◌-ℤ◌, ◌*ℤ◌, neg_ℤ}
+use Rattle.std.proofs.Common.{◌≤◌, List, [], ◌∷◌, length, map, None, Some, slice_get, subst, ℤ, pos, ◌+ℤ◌, ◌-ℤ◌, ◌*ℤ◌, neg_ℤ}
 use Rattle.std.proofs.Common.{◌<ℤ◌, ◌≤ℤ◌}
 use Rattle.std.proofs.lemmas.Bool.{and_parts}
+use Rattle.std.proofs.lemmas.List.{length-map}
 use Rattle.ember_algebra.specs.Vector.{cross}
 use Rattle.ember_algebra.specs.Sign.{is_zero, is_positive}
 use Rattle.ember_algebra.proofs.Laws.{linear}
@@ -25,8 +26,6 @@ use Rattle.ember_model.proofs.Hits.{closed_parts, inside_on}
 use Rattle.ember_model.proofs.SeenCrossings.{main_zero}
 use Rattle.ember_model.proofs.Tuples.{plane_tuple, spot_tuple, normalE}
 use Rattle.ember_law.proofs.Shifted.{NoNormal}
-use Rattle.ember_point.specs.declared.meet_point.Meet.{Meet}
-use Rattle.ember_point.specs.Points.{spot_of}
 use Rattle.ember_poly.specs.Rings.{orientation}
 use Rattle.ember_poly.specs.Sides.{ring_edges, AreCorners}
 use Rattle.ember_law.proofs.Generic.{cancel_zero}
@@ -360,29 +359,28 @@ pub record AreFirst (f : Face) (u v w : Spot) : Type 0 where
   pub inside : (k : ℤ) → pos 0 <ℤ k → is_inside f (close_to k u v w) ≡ true
   pub apart : (p : Plane) → value_at p u ≡ pos 0 → value_at p v ≡ pos 0 → value_at p w ≡ pos 0 → along p (main_axis f.support) ≡ pos 0 → NoNormal p
 
-joined : (f : Face) (g h i : Plane) (ps : List Plane) (a b c : Meet) (ms : List Meet) →
-    IsOutline f (ring_edges spot_of (g ∷ h ∷ i ∷ ps) (a ∷ b ∷ c ∷ ms)) → AreFirst f (spot_of a) (spot_of b) (spot_of c)
+joined : (f : Face) (g h i : Plane) (ps : List Plane) (a b c : Spot) (ms : List Spot) →
+    IsOutline f (ring_edges (λ v. v) (g ∷ h ∷ i ∷ ps) (a ∷ b ∷ c ∷ ms)) → AreFirst f a b c
 joined f g h i ps a b c ms o =
-    let j : Joins f g h (spot_of a) (spot_of b) (spot_of c) = record { first = o.round.0; second = o.round.1.0; apart = o.once.0.0 } in
+    let j : Joins f g h a b c = record { first = o.round.0; second = o.round.1.0; apart = o.once.0.0 } in
     record {
-      inside = λ k l. close_inside f g h (spot_of a) (spot_of b) (spot_of c) j (ring_edges spot_of (g ∷ h ∷ i ∷ ps) (a ∷ b ∷ c ∷ ms)) o k l;
-      apart = λ p x y z e. no_normal f g h (spot_of a) (spot_of b) (spot_of c) j p (record { first = x; second = y; third = z }) e;
+      inside = λ k l. close_inside f g h a b c j (ring_edges (λ v. v) (g ∷ h ∷ i ∷ ps) (a ∷ b ∷ c ∷ ms)) o k l;
+      apart = λ p x y z e. no_normal f g h a b c j p (record { first = x; second = y; third = z }) e;
     }
 
 -- the first three corners of a face
-pub first_corners : (f : Face) (ms : List Meet) (a b c : Meet) → AreCorners spot_of f ms → slice_get ms 0 ≡ Some a →
-    slice_get ms 1 ≡ Some b → slice_get ms 2 ≡ Some c → AreFirst f (spot_of a) (spot_of b) (spot_of c)
+pub first_corners : (f : Face) (ms : List Spot) (a b c : Spot) → AreCorners (λ v. v) f ms → slice_get ms 0 ≡ Some a →
+    slice_get ms 1 ≡ Some b → slice_get ms 2 ≡ Some c → AreFirst f a b c
 first_corners f ms a b c k ea eb ec = by k.planes ms ea eb ec k.paired k.outline
   where
-    same : {x y : Meet} → Some x ≡ Some y → x ≡ y
+    same : {x y : Spot} → Some x ≡ Some y → x ≡ y
     same e = cc
 
-    no : {x : Meet} → None ≡ Some x → ⊥
+    no : {x : Spot} → None ≡ Some x → ⊥
     no e = cc
 
-    by : (ps : List Plane) (ms : List Meet) → slice_get ms 0 ≡ Some a → slice_get ms 1 ≡ Some b →
-        slice_get ms 2 ≡ Some c → length ms ≡ length ps → IsOutline f (ring_edges spot_of ps ms) →
-        AreFirst f (spot_of a) (spot_of b) (spot_of c)
+    by : (ps : List Plane) (ms : List Spot) → slice_get ms 0 ≡ Some a → slice_get ms 1 ≡ Some b →
+        slice_get ms 2 ≡ Some c → length ms ≡ length ps → IsOutline f (ring_edges (λ v. v) ps ms) → AreFirst f a b c
     by ps [] ea eb ec l o = absurd (no ea)
     by ps (x ∷ []) ea eb ec l o = absurd (no eb)
     by ps (x ∷ y ∷ []) ea eb ec l o = absurd (no ec)
@@ -391,6 +389,35 @@ first_corners f ms a b c k ea eb ec = by k.planes ms ea eb ec k.paired k.outline
     by (g ∷ h ∷ []) (x ∷ y ∷ z ∷ ms) ea eb ec l o = absurd (omega (arith, l))
     by (g ∷ h ∷ i ∷ ps) (x ∷ y ∷ z ∷ ms) ea eb ec l o =
         let p = same ea in let q = same eb in let r = same ec in
-        subst (λ (a : Meet). AreFirst f (spot_of a) (spot_of b) (spot_of c)) p
-        (subst (λ (b : Meet). AreFirst f (spot_of x) (spot_of b) (spot_of c)) q
-        (subst (λ (c : Meet). AreFirst f (spot_of x) (spot_of y) (spot_of c)) r (joined f g h i ps x y z ms o)))
+        subst (λ (a : Spot). AreFirst f a b c) p
+        (subst (λ (b : Spot). AreFirst f x b c) q
+        (subst (λ (c : Spot). AreFirst f x y c) r (joined f g h i ps x y z ms o)))
+
+-- ---- corners as points
+module _ {M : Type 0} (spot : M → Spot) where
+  edges_as_points : (ps : List Plane) (ms : List M) → ring_edges spot ps ms ≡ ring_edges (λ v. v) ps (map spot ms)
+  edges_as_points [] ms = refl
+  edges_as_points (p ∷ ps) [] = refl
+  edges_as_points (p ∷ ps) (m ∷ ms) = let r = edges_as_points ps ms in λ i. record { plane = p; start = spot m } ∷ r i
+
+  -- the corners of a face are corners as the points that they represent
+  pub corners_as_points : (f : Face) (ms : List M) → AreCorners spot f ms → AreCorners (λ v. v) f (map spot ms)
+  corners_as_points f ms k =
+      record {
+        planes = k.planes;
+        outline = subst (IsOutline f) (edges_as_points k.planes ms) k.outline;
+        paired = length-map ms spot ∙ k.paired;
+        three = subst (λ n. 3 ≤ n) (sym (length-map ms spot)) k.three;
+      }
+
+  -- the one with an index
+  pub point_at : (ms : List M) (i : ℕ) (m : M) → slice_get ms i ≡ Some m → slice_get (map spot ms) i ≡ Some (spot m)
+  point_at [] i m e = absurd (by e)
+    where
+      by : None ≡ Some m → ⊥
+      by e = cc
+  point_at (x ∷ ms) zero m e = by e
+    where
+      by : Some x ≡ Some m → Some (spot x) ≡ Some (spot m)
+      by e = cc
+  point_at (x ∷ ms) (suc i) m e = point_at ms i m e

@@ -13,19 +13,18 @@ use Rattle.ember_model.specs.declared.plane.Plane.{Plane}
 use Rattle.ember_model.specs.declared.tri.Tri.{Tri}
 use Rattle.ember_model.specs.Planes.{value_at, along, support_of, edge_planes}
 use Rattle.ember_model.specs.Points.{scaled, moved, DifferAlong}
-use Rattle.ember_model.specs.Valid.{IsValidTri}
-use Rattle.ember_model.specs.Sizes.{IsSupportSized}
+use Rattle.ember_model.specs.Within.{IsTriWithin, IsSupportWithin}
 use Rattle.ember_model.specs.Faces.{size, is_flat, face_of, edges_of, hit, between, is_inside, leg}
 use Rattle.ember_model.specs.ClearTest.{all_negative}
 use Rattle.ember_model.proofs.SignTests.{clash, size_positive, positive_in, zero_scaled, zero_times, size_nonnegative}
 use Rattle.ember_model.proofs.PlaneValues.{value_hit}
-use Rattle.ember_model.proofs.PlaneSizes.{support_sized, support_valid}
+use Rattle.ember_model.proofs.PlaneSizes.{support_within}
 use Rattle.ember_model.proofs.Hits.{Scales, same_all_negative, inside_on}
 use Rattle.ember_model.proofs.Legs.{leg_off, leg_on, between_inside}
 use Rattle.ember_model.proofs.LegSigns.{leg_is, moved_zero}
 use Rattle.ember_model.proofs.FourSigns.{hit_edges}
 use Rattle.ember_law.proofs.FlatTriangles.{flat_case, flat_out, flat_in, flat_leg}
-use Rattle.ember_point.specs.declared.meet_point.Meet.{Meet}
+use Rattle.ember_width.proofs.Slides.{support_within_planes}
 use Rattle.ember_box.specs.Boxes.{Cell}
 use Rattle.ember_box.specs.Near.{is_near}
 use Rattle.ember_ref.specs.References.{or_sign}
@@ -71,15 +70,15 @@ inside_along t k q w nz z h =
         let e = value_hit g n k q in let f = zero_times (sign (along n k) *ℤ value_at n q) (along g k)
         (zero_scaled (sign (along n k)) (value_at n q) z) in omega (arith, linear, e, f)
 
-module _ (c : Cell) (k : Axis) (a b d : Meet) (q : Spot) (n : ℕ) (s : AreStops k c.lo a b d q n) (in_box : HasPoint c q)
-    (turn : Sign → Sign) (e : Spot) (end : IsEnd k a b d turn e) (line : DifferAlong k (stop_after_second k c.lo q n) e)
+module _ (m f : ℕ) (c : Cell) (k : Axis) (a b d : Spot) (q : Spot) (n : ℕ) (s : AreStops m f k c.lo a b d q n)
+    (in_box : HasPoint c q) (turn : Sign → Sign) (e : Spot) (end : IsEnd m k a b d turn e) (line : DifferAlong k (stop_after_second k c.lo q n) e)
   where
     abbrev p : Spot
     p = stop_after_second k c.lo q n
 
     has_p : HasPoint c p
     has_p =
-        has_with c (second_of k) (stop_after_first k c.lo q n) q (has_with c (first_of k) (stop_at_start c.lo n) q (has_start c n s.large) in_box) in_box
+        has_with c (second_of k) (stop_after_first k c.lo q n) q (has_with c (first_of k) (stop_at_start c.lo n) q (has_start c n s.two) in_box) in_box
 
     line_to_q : DifferAlong k q p
     line_to_q = differ_back k p q (subst (λ (r : Spot). DifferAlong k p r) same (differ_last k (stop_at_start c.lo n) q (pos 1) (pos 0)))
@@ -89,27 +88,27 @@ module _ (c : Cell) (k : Axis) (a b d : Meet) (q : Spot) (n : ℕ) (s : AreStops
             moved_zero (scaled (pos 1) q) k ∙ (let x = one-*ℤ q.x in let y = one-*ℤ q.y in let z = one-*ℤ q.z in let w =
             one-*ℤ q.w in λ i. record { x = x i; y = y i; z = z i; w = w i })
 
-    module _ (t : Tri) (v : IsValidTri t) (nf : is_flat t ≡ false) (far : is_near c t ≡ false) where
+    module _ (t : Tri) (v : IsTriWithin m t) (nf : is_flat t ≡ false) (far : is_near c t ≡ false) where
       abbrev n' : Plane
       n' = support_of t
 
-      sized : IsSupportSized n'
-      sized = support_sized t v
+      sized : IsSupportWithin m n'
+      sized = support_within m t v
 
       at_q : sgn (value_at n' q) ≡ inside_side n' a b d
-      at_q = s.close.at_end n' (support_valid sized)
+      at_q = s.close.at_end n' (support_within_planes m n' sized)
 
       behind : all_negative (edge_planes t k) e ≡ all_negative (edge_planes t k) q
       behind =
           edges_behind (λ h. inside_side h a b d) t k e v
           (λ h i z. end.side h i ∙ or_zero (inside_side h a b d) (turn (sgn (along h k)))
           (ap turn (ap sgn z) ∙ end.level)) ∙ sym
-          (edges_behind (λ h. inside_side h a b d) t k q v (λ h i z. s.close.at_end h (support_valid i)))
+          (edges_behind (λ h. inside_side h a b d) t k q v (λ h i z. s.close.at_end h (support_within_planes m h i)))
 
       -- the plane isn't 0 at q: the end lies on the same side
       aside : sgn (value_at n' e) ≡ sgn (value_at n' q) → leg (face_of t) e p ≡ pos 0
-      aside m =
-          let x = ap is_neg (sgn-mul (value_at n' e) (value_at n' p)) ∙ (λ i. is_neg (times (m i) (sgn (value_at n' p))))
+      aside g =
+          let x = ap is_neg (sgn-mul (value_at n' e) (value_at n' p)) ∙ (λ i. is_neg (times (g i) (sgn (value_at n' p))))
           ∙ sym (ap is_neg (sgn-mul (value_at n' q) (value_at n' p))) in
           leg_is k e p t end.weight has_p.weight (differ_back k p e line)
           ∙ (λ i. cond (x i && behind i) (sign (value_at n' p)) (pos 0))
@@ -147,8 +146,8 @@ module _ (c : Cell) (k : Axis) (a b d : Meet) (q : Spot) (n : ℕ) (s : AreStops
       missed =
           by_sign (value_at n' q) (λ l. aside (same_side Pos (λ x. cc) (sgn_pos l))) on_plane (λ l. aside (same_side Neg (λ x. cc) (sgn_neg l)))
 
-    -- the last segment doesn't cross a valid triangle that isn't near the box
-    pub last_far : (t : Tri) → IsValidTri t → is_near c t ≡ false → leg (face_of t) e p ≡ pos 0
+    -- the last segment doesn't cross a triangle within m that isn't near the box
+    pub last_far : (t : Tri) → IsTriWithin m t → is_near c t ≡ false → leg (face_of t) e p ≡ pos 0
     last_far t v far = by (flat_case t)
       where
         by : (is_flat t ≡ true) ⊎ (is_flat t ≡ false) → leg (face_of t) e p ≡ pos 0

@@ -10,11 +10,11 @@ use Rattle.ember_model.specs.declared.point.Axis.TheVariants.{X, Y, Z}
 use Rattle.ember_model.specs.declared.plane.Plane.{Plane}
 use Rattle.ember_model.specs.Planes.{value_at, along, support_of, edge_planes, edge_through, times_plane, unit}
 use Rattle.ember_model.proofs.SignTests.{zero_out, zero_times}
-use Rattle.ember_point.specs.Points.{spot_of, slid}
-use Rattle.ember_ref.specs.References.{or_sign, reference_at_list}
+use Rattle.ember_point.specs.Points.{slid}
+use Rattle.ember_width.specs.declared.width.Width.{Ghosts}
+use Rattle.ember_ref.specs.References.{or_sign, reference_of_list}
 use Rattle.ember_trace.specs.declared.near_triangle.NearTriangle.{NearTriangle}
-use Rattle.ember_trace.specs.declared.path.Path.{Path}
-use Rattle.ember_trace.specs.Paths.{coordinate, side_at_start, side_at_end, side_after_first, slid_to_lo}
+use Rattle.ember_trace.specs.Paths.{Path, coordinate, side_at_start, side_at_end, side_after_first, slid_to_lo}
 use Rattle.ember_trace.specs.Lines.{all_behind}
 
 record IsEmpty (p : Plane) : Type 0 where
@@ -50,11 +50,11 @@ empty_slid p Z at e = record { a = e.a; b = e.b; c = refl; d = moved p.d p.c at 
 
 empty_at_end : (w : Path) (p : Plane) → IsEmpty p → side_at_end w p ≡ Zero
 empty_at_end w p e =
-    let x = empty_value p (spot_of w.first_corner) e in let y = empty_value p (spot_of w.second_corner) e in let z = empty_value p (spot_of w.third_corner) e in
+    let x = empty_value p w.first_corner e in let y = empty_value p w.second_corner e in let z = empty_value p w.third_corner e in
     λ i. or_sign (x i) (or_sign (y i) (z i))
 
 empty_at_start : (w : Path) (p : Plane) → IsEmpty p → side_at_start w p ≡ Zero
-empty_at_start w p e = empty_value p (reference_at_list w.lo) e
+empty_at_start w p e = empty_value p (reference_of_list w.fine w.lo) e
 
 empty_after_first : (w : Path) (p : Plane) → IsEmpty p → side_after_first w p ≡ Zero
 empty_after_first w p e =
@@ -63,7 +63,7 @@ empty_after_first w p e =
     let y = empty_at_start w p e in λ i. or_sign (x i) (y i)
 
 -- the first edge plane is empty
-level : (side : Plane → Sign) (f : NearTriangle) (k : Axis) → ((p : Plane) → IsEmpty p → side p ≡ Zero) →
+level : {W M : Type 0} {G : Ghosts W M} (side : Plane → Sign) (f : NearTriangle W M G) (k : Axis) → ((p : Plane) → IsEmpty p → side p ≡ Zero) →
     is_nil (sgn (along f.support k)) ≡ true → all_behind side (edge_planes f.tri k) ≡ false
 level side f k z h =
     let t = f.tri in let s = sign (along (support_of t) k) in
@@ -74,11 +74,11 @@ level side f k z h =
 
 -- so no segment along the axis runs through the triangle
 -- if the normal has no entry along the second axis, the second segment doesn't run through the triangle
-pub level_second : (w : Path) (f : NearTriangle) → is_nil (sgn (along f.support w.second_axis)) ≡ true →
+pub level_second : {W M : Type 0} {G : Ghosts W M} (w : Path) (f : NearTriangle W M G) → is_nil (sgn (along f.support w.second_axis)) ≡ true →
     all_behind (λ p. side_after_first w p) (edge_planes f.tri w.second_axis) ≡ false
 level_second w f h = level (λ p. side_after_first w p) f w.second_axis (empty_after_first w) h
 
 -- if the normal has no entry along the main axis, the last segment doesn't run through the triangle
-pub level_last : (w : Path) (f : NearTriangle) → is_nil (sgn (along f.support w.main)) ≡ true →
+pub level_last : {W M : Type 0} {G : Ghosts W M} (w : Path) (f : NearTriangle W M G) → is_nil (sgn (along f.support w.main)) ≡ true →
     all_behind (λ p. side_at_end w p) (edge_planes f.tri w.main) ≡ false
 level_last w f h = level (λ p. side_at_end w p) f w.main (empty_at_end w) h

@@ -13,6 +13,7 @@ use Rattle.ember_model.specs.Meshes.{faces_of, of_mesh, meshes, HasMesh}
 use Rattle.ember_law.specs.Counts.{added, with_more}
 use Rattle.ember_law.proofs.FlatTriangles.{IsFlat}
 use Rattle.ember_law.proofs.Tallies.{tally, map_same, of_one, mesh_total_is_entry, tally_more, tally_none}
+use Rattle.ember_width.specs.declared.width.Width.{Ghosts}
 use Rattle.ember_trace.specs.declared.near_triangle.NearTriangle.{NearTriangle}
 use Rattle.ember_trace.specs.NearTriangles.{tri_of}
 use Rattle.ember_trace.specs.Crossings.{taken, ray_counts}
@@ -93,7 +94,7 @@ module _ (g : Face → ℤ) (flat : LeavesFlat g) where
       (λ m. total g (faces_of (of_mesh m (t ∷ ts)))) (λ m. at_front m t ts) meshes)
 
   -- the counts that the code takes, if each triangle takes what g counts back
-  pub taken_legs : (less : NearTriangle → ℤ) (fs : List NearTriangle) →
+  pub taken_legs : {W M : Type 0} {G : Ghosts W M} (less : NearTriangle W M G → ℤ) (fs : List (NearTriangle W M G)) →
       All (λ f. g (face_of f.tri) ≡ neg_ℤ (less f)) fs → (old : List ℤ) →
       taken less fs old ≡ added old (tally g (map tri_of fs))
   taken_legs less [] h old = sym (tally_none g old)

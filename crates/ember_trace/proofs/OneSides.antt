@@ -24,7 +24,7 @@ use Rattle.ember_model.specs.Points.{scaled, moved}
 use Rattle.ember_model.specs.Faces.{is_inside, is_in_closed, is_flat, face_of}
 use Rattle.ember_model.specs.ClearTest.{all_negative}
 use Rattle.ember_model.specs.Owners.{is_coplanar}
-use Rattle.ember_model.specs.Meshes.{faces_of, vector, IsScene}
+use Rattle.ember_model.specs.Meshes.{faces_of, of_mesh, vector, IsBalanced, IsScene}
 use Rattle.ember_model.specs.Clear.{AreClear}
 use Rattle.ember_model.specs.Sides.{HasWindings, IsSides}
 use Rattle.ember_model.proofs.SignTests.{negative_in, negative_out, positive_in, zero_scaled, zero_times}
@@ -32,7 +32,7 @@ use Rattle.ember_model.proofs.PlaneValues.{value_moved, value_scaled, value-oppo
 use Rattle.ember_model.proofs.Hits.{inside_on, inside_parts, closed_parts, moved_weight}
 use Rattle.ember_law.specs.Laws.{MissesFace}
 use Rattle.ember_law.proofs.Separation.{combination, combination_value, missed_face_has_separating_edge}
-use Rattle.ember_law.proofs.Vectors.{segments_law}
+use Rattle.ember_law.proofs.Vectors.{balanced_segments}
 use Rattle.ember_law.proofs.CornerSides.{main_entry}
 use Rattle.ember_box.specs.Boxes.{Cell}
 use Rattle.ember_box.specs.Near.{is_near, near, no_tri, tri_at}
@@ -165,7 +165,7 @@ all_missed p q a k e d (u ∷ ts) h = by (is_flat u) refl (all_missed p q a k e 
         eventually_map (λ m l. (held_misses u _ _ i.plane i.low l.0.0 l.0.1, l.1)) (eventually_both i.past r)
 
 -- ---- a region of a box
-module _ (ts ns : List Tri) (count : ℕ) (c : Cell) (scene : IsScene ts count) (is_near_list : near ts c ≡ ns) (f : Face) (r : IsRegion ns c f) where
+module _ (ts ns : List Tri) (balanced : (mesh : ℕ) → IsBalanced (of_mesh mesh ts)) (c : Cell) (is_near_list : near ts c ≡ ns) (f : Face) (r : IsRegion ns c f) where
   abbrev t : Tri
   t = tri_at ns r.tri
 
@@ -230,7 +230,7 @@ module _ (ts ns : List Tri) (count : ℕ) (c : Cell) (scene : IsScene ts count) 
         record {
           from = missed_all.from + 1;
           holds =
-              λ m l cp cq x y. segments_law ts count scene x y (moved (scaled (pos m) p) a e) (moved (scaled (pos m) q) b d)
+              λ m l cp cq x y. balanced_segments ts balanced x y (moved (scaled (pos m) p) a e) (moved (scaled (pos m) q) b d)
               (weight p a e (has p hp).weight m (omega arith)) (weight q b d (has q hq).weight m (omega arith)) cp cq
               (missed_all.holds m (omega arith));
         }
@@ -263,8 +263,8 @@ module _ (ts ns : List Tri) (count : ℕ) (c : Cell) (scene : IsScene ts count) 
           by_sign (e *ℤ along (support_of t) k) (λ l. inl (l, l)) (λ z. absurd (⊎_elim (λ x. nz x) (λ x. slope x) (zero_product z))) (λ l. inr (l, l))
 
   -- a region has one pair of winding numbers on its sides
-  pub one_sides : (before after before' after' : List ℤ) → IsSides ts f before after → IsSides ts f before' after' → (before ≡ before') × (after ≡ after')
-  one_sides before after before' after' s s' = (
+  pub balanced_sides : (before after before' after' : List ℤ) → IsSides ts f before after → IsSides ts f before' after' → (before ≡ before') × (after ≡ after')
+  balanced_sides before after before' after' s s' = (
     one_value s.at s'.at s.inside s'.inside (neg_ℤ (pos 1)) (λ z. cc) s.bound s'.bound before before'
         (λ m l. s.sees_before 1 m (le_refl 1) l) (λ m l. s'.sees_before 1 m (le_refl 1) l),
     one_value s.at s'.at s.inside s'.inside (pos 1) (λ z. absurd (omega (arith, linear, z))) s.bound s'.bound after
@@ -272,14 +272,36 @@ module _ (ts ns : List Tri) (count : ℕ) (c : Cell) (scene : IsScene ts count) 
   )
 
   -- beside any inside point, along any axis: a clear point on the side of the sides sees them
-  pub sees_before : (before after : List ℤ) → IsSides ts f before after → (v : Spot) → is_inside f v ≡ true →
+  pub balanced_before : (before after : List ℤ) → IsSides ts f before after → (v : Spot) → is_inside f v ≡ true →
       (a : Axis) (e : ℤ) → OneSign (e *ℤ along (support_of t) a) (neg_ℤ (pos 1) *ℤ along (support_of t) k) →
       Eventually (λ m. AreClear (faces_of ts) (moved (scaled (pos m) v) a e) → (x : Axis) →
       vector x ts (moved (scaled (pos m) v) a e) ≡ before)
-  sees_before before after s v h a e o = sees_one v s.at h s.inside a k e (neg_ℤ (pos 1)) o s.bound before (λ m l. s.sees_before 1 m (le_refl 1) l)
+  balanced_before before after s v h a e o = sees_one v s.at h s.inside a k e (neg_ℤ (pos 1)) o s.bound before (λ m l. s.sees_before 1 m (le_refl 1) l)
 
-  pub sees_after : (before after : List ℤ) → IsSides ts f before after → (v : Spot) → is_inside f v ≡ true →
+  pub balanced_after : (before after : List ℤ) → IsSides ts f before after → (v : Spot) → is_inside f v ≡ true →
       (a : Axis) (e : ℤ) → OneSign (e *ℤ along (support_of t) a) (pos 1 *ℤ along (support_of t) k) →
       Eventually (λ m. AreClear (faces_of ts) (moved (scaled (pos m) v) a e) → (x : Axis) →
       vector x ts (moved (scaled (pos m) v) a e) ≡ after)
-  sees_after before after s v h a e o = sees_one v s.at h s.inside a k e (pos 1) o s.bound after (λ m l. s.sees_after 1 m (le_refl 1) l)
+  balanced_after before after s v h a e o = sees_one v s.at h s.inside a k e (pos 1) o s.bound after (λ m l. s.sees_after 1 m (le_refl 1) l)
+
+-- ---- in a scene
+module _ (ts ns : List Tri) (count : ℕ) (c : Cell) (scene : IsScene ts count) (is_near_list : near ts c ≡ ns) (f : Face) (r : IsRegion ns c f) where
+  abbrev t' : Tri
+  t' = tri_at ns r.tri
+
+  -- a region has one pair of winding numbers on its sides
+  pub one_sides : (before after before' after' : List ℤ) → IsSides ts f before after → IsSides ts f before' after' → (before ≡ before') × (after ≡ after')
+  one_sides = balanced_sides ts ns scene.balanced c is_near_list f r
+
+  -- beside any inside point, along any axis: a clear point on the side of the sides sees them
+  pub sees_before : (before after : List ℤ) → IsSides ts f before after → (v : Spot) → is_inside f v ≡ true →
+      (a : Axis) (e : ℤ) → OneSign (e *ℤ along (support_of t') a) (neg_ℤ (pos 1) *ℤ along (support_of t') (main_axis f.support)) →
+      Eventually (λ m. AreClear (faces_of ts) (moved (scaled (pos m) v) a e) → (x : Axis) →
+      vector x ts (moved (scaled (pos m) v) a e) ≡ before)
+  sees_before = balanced_before ts ns scene.balanced c is_near_list f r
+
+  pub sees_after : (before after : List ℤ) → IsSides ts f before after → (v : Spot) → is_inside f v ≡ true →
+      (a : Axis) (e : ℤ) → OneSign (e *ℤ along (support_of t') a) (pos 1 *ℤ along (support_of t') (main_axis f.support)) →
+      Eventually (λ m. AreClear (faces_of ts) (moved (scaled (pos m) v) a e) → (x : Axis) →
+      vector x ts (moved (scaled (pos m) v) a e) ≡ after)
+  sees_after = balanced_after ts ns scene.balanced c is_near_list f r

@@ -19,19 +19,19 @@ use Rattle.ember_model.specs.declared.point.Axis.{Axis}
 use Rattle.ember_model.specs.declared.face.Face.{Face}
 use Rattle.ember_model.specs.declared.tri.Tri.{Tri}
 use Rattle.ember_model.specs.Planes.{value_at, along, support_of, edge_planes}
-use Rattle.ember_model.specs.Valid.{IsValidPlane}
+use Rattle.ember_model.specs.Within.{IsTriWithin, IsPlaneWithin}
 use Rattle.ember_model.specs.Faces.{size, edges_of, hit, Everywhere}
 use Rattle.ember_model.specs.ClearTest.{all_negative}
 use Rattle.ember_model.proofs.SignTests.{clash, size_positive, zero_scaled, zero_times}
 use Rattle.ember_model.proofs.PlaneValues.{value_hit}
-use Rattle.ember_model.proofs.PlaneSizes.{support_valid}
 use Rattle.ember_model.proofs.Hits.{Scales, same_all_negative, inside_parts}
 use Rattle.ember_model.proofs.FourSigns.{hit_edges}
 use Rattle.ember_model.proofs.Tuples.{same_plane, same_some}
+use Rattle.ember_width.specs.declared.width.Width.{Ghosts}
+use Rattle.ember_width.proofs.Slides.{support_within_planes}
 use Rattle.ember_trace.specs.declared.near_triangle.NearTriangle.{NearTriangle}
-use Rattle.ember_trace.specs.declared.path.Path.{Path}
 use Rattle.ember_trace.specs.FirstCorners.{HasFirstCorners}
-use Rattle.ember_trace.specs.Paths.{side_at_end}
+use Rattle.ember_trace.specs.Paths.{Path, side_at_end}
 use Rattle.ember_trace.specs.Lines.{all_behind}
 use Rattle.ember_trace.proofs.Corners.{first_corners}
 use Rattle.ember_trace.proofs.SegmentCrossings.{edges_behind}
@@ -97,16 +97,13 @@ nil_out Pos e = absurd (by e)
     by e = cc
 
 -- ---- an inside point of the region, close enough to its first corner
-module _ (w : Path) (u : Found w.region.now w.first_corner w.second_corner w.third_corner) where
-  abbrev f : Face
-  f = w.region.now
-
-  on_plane : (p : Plane) → IsValidPlane p → p ≡ f.support → is_nil (side_at_end w p) ≡ true
+module _ {m : ℕ} (w : Path) (f : Face) (u : Found m f w.first_corner w.second_corner w.third_corner) where
+  on_plane : (p : Plane) → IsPlaneWithin m p → p ≡ f.support → is_nil (side_at_end w p) ≡ true
   on_plane p i e =
       ap is_nil (sym (u.close.at_end p i) ∙ ap sgn (ap (λ (n : Plane). value_at n u.q) e ∙ (inside_parts f u.q u.inside).1))
 
-  module _ (t : NearTriangle) (same : t.support ≡ f.support) (slope : is_nil (sgn (along t.support w.main)) ≡ false)
-      (behind : Everywhere f (λ v. all_negative (edges_of t.tri) v ≡ true)) where
+  module _ {W M : Type 0} {G : Ghosts W M} (t : NearTriangle W M G) (v : IsTriWithin m t.tri) (same : t.support ≡ f.support)
+      (slope : is_nil (sgn (along t.support w.main)) ≡ false) (behind : Everywhere f (λ v. all_negative (edges_of t.tri) v ≡ true)) where
     abbrev n : Plane
     n = support_of t.tri
 
@@ -134,28 +131,26 @@ module _ (w : Path) (u : Found w.region.now w.first_corner w.second_corner w.thi
     -- it is behind all edge planes along the main axis, as it is behind those of the face
     all_are_behind : all_behind (λ p. side_at_end w p) (edge_planes t.tri k) ≡ true
     all_are_behind =
-        sym (edges_behind (λ p. side_at_end w p) t.tri k q t.valid (λ h i z. u.close.at_end h (support_valid i)))
+        sym (edges_behind (λ p. side_at_end w p) t.tri k q v (λ h i z. u.close.at_end h (support_within_planes m h i)))
         ∙ sym (hit_edges t.tri k q weight entry)
         ∙ same_all_negative (size (along n k)) q (hit n k q) (edges_of t.tri) (size_positive (along n k) entry) stays
         ∙ behind.holds q u.inside
 
 -- ---- the end of a path
-found : (w : Path) → HasFirstCorners w.region.now w.first_corner w.second_corner w.third_corner →
-    Found w.region.now w.first_corner w.second_corner w.third_corner
-found w r =
-    first_corners_found w.region.now w.first_corner w.second_corner w.third_corner
-    (first_corners w.region.now r.corners w.first_corner w.second_corner w.third_corner r.are_corners r.is_first
-    r.is_second r.is_third)
+module _ (m : ℕ) (w : Path) (f : Face) (corners : ∥ HasFirstCorners f w.first_corner w.second_corner w.third_corner ∥₁) where
+  found : HasFirstCorners f w.first_corner w.second_corner w.third_corner → Found m f w.first_corner w.second_corner w.third_corner
+  found r =
+      first_corners_found m f w.first_corner w.second_corner w.third_corner
+      (first_corners f r.corners w.first_corner w.second_corner w.third_corner r.are_corners r.is_first r.is_second r.is_third)
 
--- a path ends on the region's plane
-pub end_on_plane : (w : Path) (p : Plane) → IsValidPlane p → p ≡ w.region.now.support → side_at_end w p ≡ Zero
-end_on_plane w p i e = nil_out (side_at_end w p) (∥∥₁_elim w.region_corners (Bool-set _ _) (λ r. on_plane w (found w r) p i e))
+  -- a path ends on the region's plane
+  pub end_on_plane : (p : Plane) → IsPlaneWithin m p → p ≡ f.support → side_at_end w p ≡ Zero
+  end_on_plane p i e = nil_out (side_at_end w p) (∥∥₁_elim corners (Bool-set _ _) (λ r. on_plane w f (found r) p i e))
 
--- and behind all edge planes of a triangle along its main axis, if the region lies in the triangle's plane, and behind its
--- edges
-pub own_behind : (w : Path) (t : NearTriangle) → t.support ≡ w.region.now.support →
-    is_nil (sgn (along t.support w.main)) ≡ false →
-    Everywhere w.region.now (λ v. all_negative (edges_of t.tri) v ≡ true) →
-    all_behind (λ p. side_at_end w p) (edge_planes t.tri w.main) ≡ true
-own_behind w t same slope behind =
-    ∥∥₁_elim w.region_corners (Bool-set _ _) (λ r. all_are_behind w (found w r) t same slope behind)
+  -- and behind all edge planes of a triangle along its main axis, if the region lies in the triangle's plane, and behind
+  -- its edges
+  pub own_behind : {W M : Type 0} {G : Ghosts W M} (t : NearTriangle W M G) → IsTriWithin m t.tri → t.support ≡ f.support →
+      is_nil (sgn (along t.support w.main)) ≡ false → Everywhere f (λ v. all_negative (edges_of t.tri) v ≡ true) →
+      all_behind (λ p. side_at_end w p) (edge_planes t.tri w.main) ≡ true
+  own_behind t v same slope behind =
+      ∥∥₁_elim corners (Bool-set _ _) (λ r. all_are_behind w f (found r) t v same slope behind)

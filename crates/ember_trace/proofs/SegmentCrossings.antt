@@ -1,6 +1,6 @@
 -- The crossings of the segments of a path with a triangle, as the code counts them: by the sides of its
 -- planes on which the vertices lie, and only if the bounding box lets a segment cross it.
-use Rattle.std.proofs.Common.{◌≡◌, ◌⊎◌, inl, inr, refl, sym, ap, ◌∙◌, arith, ℕ, ◌^◌, ◌≤◌, Bool, true, false, ◌&&◌, cond}
+use Rattle.std.proofs.Common.{◌≡◌, ◌⊎◌, inl, inr, refl, sym, ap, ◌∙◌, arith, ℕ, zero, suc, ◌*◌, ◌≤◌, Bool, true, false, ◌&&◌, cond}
 use Rattle.std.proofs.Common.{List, ℤ, pos, ◌+ℤ◌, ◌-ℤ◌, ◌*ℤ◌, neg_ℤ, ◌<ℤ◌, ◌≤ℤ◌, slice_index_or}
 use Rattle.std.specs.Int.{int_div_euclid, int_max}
 use Rattle.std.proofs.lemmas.Int.{clamps}
@@ -21,36 +21,35 @@ use Rattle.ember_model.specs.declared.tri.Tri.{Tri}
 use Rattle.ember_model.specs.declared.point.Corner.{Corner}
 use Rattle.ember_model.specs.Planes.{unit, value_at, along, support_of, edge_through, edge_planes, times_plane}
 use Rattle.ember_model.specs.Points.{DifferAlong}
-use Rattle.ember_model.specs.Valid.{IsValidTri, IsValidCorner}
-use Rattle.ember_model.specs.Sizes.{IsSupportSized, IsEdgeSized}
+use Rattle.ember_model.specs.Within.{IsCornerWithin, IsTriWithin, IsSupportWithin, IsEdgeWithin}
 use Rattle.ember_model.specs.Faces.{face_of, leg}
 use Rattle.ember_model.specs.ClearTest.{all_negative}
 use Rattle.ember_model.proofs.SignTests.{negative_out}
 use Rattle.ember_model.proofs.PlaneValues.{sign-number}
-use Rattle.ember_model.proofs.PlaneSizes.{support_sized, support_valid, edge_sized, sign_small}
+use Rattle.ember_model.proofs.PlaneSizes.{support_within, edge_within, sign_small}
 use Rattle.ember_model.proofs.LegSigns.{leg_is}
 use Rattle.ember_model.proofs.ScaledPoints.{leg_back}
 use Rattle.ember_algebra.proofs.Size.{small_within}
 use Rattle.ember_algebra.proofs.Booleans.{cond_and_nested}
 use Rattle.ember_algebra.proofs.Numbers.{int_le_not_out}
-use Rattle.ember_point.specs.declared.meet_point.Meet.{Meet}
-use Rattle.ember_point.specs.Points.{spot_of, slid}
+use Rattle.ember_point.specs.Points.{slid}
+use Rattle.ember_width.specs.declared.width.Width.{Ghosts}
+use Rattle.ember_width.proofs.Slides.{support_within_planes}
 use Rattle.ember_box.specs.Boxes.{Cell, axis_index}
 use Rattle.ember_box.specs.Aabbs.{interval_along, aabb_of_tri}
-use Rattle.ember_box.specs.Reference.{reference_at}
-use Rattle.ember_ref.specs.References.{or_sign, vector_of_list, reference_at_list}
+use Rattle.ember_box.specs.Reference.{reference_beside}
+use Rattle.ember_ref.specs.References.{or_sign, vector_of_list, reference_of_list}
 use Rattle.ember_ref.proofs.NearPoints.{coordinate as along_point}
-use Rattle.ember_ref.proofs.ReferenceLegs.{reference_is}
+use Rattle.ember_ref.proofs.ReferenceLegs.{beside_is}
 use Rattle.ember_trace.specs.declared.near_triangle.NearTriangle.{NearTriangle}
-use Rattle.ember_trace.specs.declared.path.Path.{Path}
-use Rattle.ember_trace.specs.NearTriangles.{HasReference}
-use Rattle.ember_trace.specs.Paths.{coordinate, inside_side, first_of, second_of, side_at_start, side_at_end, side_after_first, side_after_second, floor_at_end}
+use Rattle.ember_trace.specs.NearTriangles.{HasReferenceBeside}
+use Rattle.ember_trace.specs.Paths.{Path, coordinate, inside_side, first_of, second_of, side_at_start, side_at_end, side_after_first, side_after_second, floor_at_end}
 use Rattle.ember_trace.specs.Lines.{all_behind, contains_above, line_runs_through, first_lines_of}
 use Rattle.ember_trace.specs.Crossings.{signed_crossing, may_contain, begins_by, farthest, may_end, first_runs_through}
 use Rattle.ember_trace.specs.Crossings.{first_segment, second_segment, segments_above_wall, last_segment}
 use Rattle.ember_trace.proofs.PathVertices.{with_along, entries, weight_with, level_with, differ_with}
 use Rattle.ember_trace.proofs.VertexSides.{AreStops, stop_at_start, stop_after_first, stop_after_second, start_sign, first_sign, second_sign}
-use Rattle.ember_trace.proofs.SegmentsPast.{leg_behind, across, value_across, across_with, across_sized, IsPast}
+use Rattle.ember_trace.proofs.SegmentsPast.{leg_behind, across, value_across, across_with, across_within, IsPast}
 use Rattle.ember_trace.proofs.SegmentsPast.{past_above, past_floor, above_low, below_floor, low_small}
 
 -- ---- where the path starts
@@ -86,7 +85,7 @@ above at m e l h =
     solve 2 (λ a m. (a ⊕ num (pos 1)) ⊗ (m ⊗ num (pos 1)) ≈ m ⊗ a ⊕ m) cancels at m in
     record { from = omega (arith, linear, x, l); to = omega (arith, linear, y, h) }
 
-pub start_above : (lo : Vector) (n : ℕ) (k : Axis) → 2 ^ 27 ≤ n →
+pub start_above : (lo : Vector) (n : ℕ) (k : Axis) → 2 ≤ n →
     IsAbove (coordinate (entries lo) k) (along_point k (stop_at_start lo n)) (stop_at_start lo n).w
 start_above lo n k l = by k
   where
@@ -125,26 +124,41 @@ edge_level s u v X = solve 3 (λ s y z. s ⊗ (y ⊗ num (pos 0) ⊖ z ⊗ num (
 edge_level s u v Y = solve 3 (λ s z x. s ⊗ (z ⊗ num (pos 0) ⊖ x ⊗ num (pos 0)) ≈ num (pos 0)) cancels s (v.z -ℤ u.z) (v.x -ℤ u.x)
 edge_level s u v Z = solve 3 (λ s x y. s ⊗ (x ⊗ num (pos 0) ⊖ y ⊗ num (pos 0)) ≈ num (pos 0)) cancels s (v.x -ℤ u.x) (v.y -ℤ u.y)
 
--- the bounds of an edge plane are within those of a support plane
-pub edge_support : {p : Plane} → IsEdgeSized p → IsSupportSized p
-edge_support s =
-    record { a = small_within (omega arith) s.a; b = small_within (omega arith) s.b; c = small_within (omega arith) s.c; d = small_within (omega arith) s.d }
+-- a number is at most its square, and that at most its cube
+own_square : (m : ℕ) → m ≤ m * m
+own_square zero = omega arith
+own_square (suc m) = omega arith
+
+own_cube : (m : ℕ) → m * m ≤ m * (m * m)
+own_cube zero = omega arith
+own_cube (suc m) = omega arith
+
+-- an edge plane is within the bounds of a support plane
+pub edge_support : {m : ℕ} {p : Plane} → IsEdgeWithin m p → IsSupportWithin m p
+edge_support {m} s =
+    let q = own_square m in let r = own_cube m in
+    record {
+      a = small_within (omega (arith, q)) s.a;
+      b = small_within (omega (arith, q)) s.b;
+      c = small_within (omega (arith, q)) s.c;
+      d = small_within (omega (arith, r)) s.d;
+    }
 
 -- all edge planes are negative at p if the sides say so
-pub edges_behind : (side : Plane → Sign) (t : Tri) (k : Axis) (p : Spot) → IsValidTri t →
-    ((h : Plane) → IsSupportSized h → along h k ≡ pos 0 → sgn (value_at h p) ≡ side h) →
+pub edges_behind : {m : ℕ} (side : Plane → Sign) (t : Tri) (k : Axis) (p : Spot) → IsTriWithin m t →
+    ((h : Plane) → IsSupportWithin m h → along h k ≡ pos 0 → sgn (value_at h p) ≡ side h) →
     all_negative (edge_planes t k) p ≡ all_behind side (edge_planes t k)
-edges_behind side t k p v f =
+edges_behind {m} side t k p v f =
     let x = each t.a t.b v.a v.b in let y = each t.b t.c v.b v.c in let z = each t.c t.a v.c v.a in
     λ i. is_neg (x i) && (is_neg (y i) && (is_neg (z i) && true))
   where
     s : ℤ
     s = sign (along (support_of t) k)
 
-    each : (u w : Corner) → IsValidCorner u → IsValidCorner w →
+    each : (u w : Corner) → IsCornerWithin m u → IsCornerWithin m w →
         sgn (value_at (times_plane s (edge_through u w (unit k))) p) ≡ side (times_plane s (edge_through u w (unit k)))
     each u w iu iw =
-        f (times_plane s (edge_through u w (unit k))) (edge_support (edge_sized u w k s iu iw (sign_small (along (support_of t) k)))) (edge_level s u w k)
+        f (times_plane s (edge_through u w (unit k))) (edge_support (edge_within m u w k s iu iw (sign_small (along (support_of t) k)))) (edge_level s u w k)
 
 -- ---- a segment by signs
 told : (k : Axis) (p q : Spot) (t : Tri) (b : Bool) (s e : Sign) → pos 0 <ℤ p.w → pos 0 <ℤ q.w → DifferAlong k p q →
@@ -189,9 +203,9 @@ negative_sign z e = negative_out z (ap is_neg e)
 
 -- ---- the end of a path
 -- a point directly beside q along k, on the side that the turn of a plane's slope tells
-pub record IsEnd (k : Axis) (a b c : Meet) (turn : Sign → Sign) (e : Spot) : Type 0 where
+pub record IsEnd (m : ℕ) (k : Axis) (a b c : Spot) (turn : Sign → Sign) (e : Spot) : Type 0 where
   pub weight : pos 0 <ℤ e.w
-  pub side : (h : Plane) → IsSupportSized h → sgn (value_at h e) ≡ or_sign (inside_side h a b c) (turn (sgn (along h k)))
+  pub side : (h : Plane) → IsSupportWithin m h → sgn (value_at h e) ≡ or_sign (inside_side h a b c) (turn (sgn (along h k)))
   pub level : turn Zero ≡ Zero
   pub level_out : (s : Sign) → turn s ≡ Zero → s ≡ Zero
 
@@ -202,7 +216,7 @@ or_zero Zero t e = e
 or_zero Pos t e = refl
 
 -- the start of a path has a positive weight
-pub start_weight : (lo : Vector) (n : ℕ) → 2 ^ 27 ≤ n → pos 0 <ℤ (stop_at_start lo n).w
+pub start_weight : (lo : Vector) (n : ℕ) → 2 ≤ n → pos 0 <ℤ (stop_at_start lo n).w
 start_weight lo n l =
     let p = powers (pos n) (omega (arith, ints, l)) in let h = p.one_below in omega (arith, linear, h)
 
@@ -213,27 +227,29 @@ differ_back Y p q d = (sym d.0, sym d.1)
 differ_back Z p q d = (sym d.0, sym d.1)
 
 -- the floor at the end is that of the first corner's coordinate
-pub floor_is : (w : Path) (k : Axis) → floor_at_end w k ≡ int_div_euclid (along_point k (spot_of w.first_corner)) w.first_corner.w
+pub floor_is : (w : Path) (k : Axis) → floor_at_end w k ≡ int_div_euclid (along_point k w.first_corner) w.first_corner.w
 floor_is w X = refl
 floor_is w Y = refl
 floor_is w Z = refl
 
 -- what it means that a line runs through a triangle
-lines_are : (lo : List ℤ) (t : Tri) (a : Axis) →
-    line_runs_through lo t a ≡ contains_above (interval_along (aabb_of_tri t) (first_of a)) (coordinate lo (first_of a))
+lines_are : (fine : ℕ) (lo : List ℤ) (t : Tri) (a : Axis) →
+    line_runs_through fine lo t a ≡ contains_above (interval_along (aabb_of_tri t) (first_of a)) (coordinate lo (first_of a))
     && (contains_above (interval_along (aabb_of_tri t) (second_of a)) (coordinate lo (second_of a))
-    && all_behind (λ p. sgn (value_at p (reference_at_list lo))) (edge_planes t a))
-lines_are lo t a = refl
+    && all_behind (λ p. sgn (value_at p (reference_of_list fine lo))) (edge_planes t a))
+lines_are fine lo t a = refl
 
 greatest_below : (a b d : ℤ) → int_max a b <ℤ d → (a <ℤ d) × (b <ℤ d)
 greatest_below a b d l = (omega (arith, ints, clamps), omega (arith, ints, clamps))
 
-module _ (c : Cell) (k : Axis) (v : Path) (e : v.lo ≡ entries c.lo) (q : Spot) (n : ℕ)
-    (s : AreStops k c.lo v.first_corner v.second_corner v.third_corner q n) (f : NearTriangle) (from : HasReference c f)
+module _ {W M : Type 0} {G : Ghosts W M} (m fine : ℕ) (some : 1 ≤ m) (c : Cell) (k : Axis) (v : Path)
+    (e : v.lo ≡ entries c.lo) (vw : pos 0 <ℤ v.first_corner.w) (q : Spot) (n : ℕ)
+    (s : AreStops m fine k c.lo v.first_corner v.second_corner v.third_corner q n) (f : NearTriangle W M G)
+    (fv : IsTriWithin m f.tri) (from : HasReferenceBeside fine c f)
   where
     -- the path, with its axes told by the last
     abbrev w : Path
-    w = record v { first_axis = first_of k; second_axis = second_of k; main = k }
+    w = record v { fine = fine; first_axis = first_of k; second_axis = second_of k; main = k }
 
     abbrev t : Tri
     t = f.tri
@@ -248,7 +264,7 @@ module _ (c : Cell) (k : Axis) (v : Path) (e : v.lo ≡ entries c.lo) (q : Spot)
     p2 = stop_after_second k c.lo q n
 
     w0 : pos 0 <ℤ p0.w
-    w0 = start_weight c.lo n s.large
+    w0 = start_weight c.lo n s.two
 
     w1 : pos 0 <ℤ p1.w
     w1 = weight_with (first_of k) p0 q w0 s.close.weight
@@ -257,29 +273,29 @@ module _ (c : Cell) (k : Axis) (v : Path) (e : v.lo ≡ entries c.lo) (q : Spot)
     w2 = weight_with (second_of k) p1 q w1 s.close.weight
 
     -- ---- sides, as the code has them
-    side_start : (h : Plane) → side_at_start w h ≡ sgn (value_at h (reference_at c.lo))
-    side_start h = ap (λ (p : Spot). sgn (value_at h p)) (reference_is v.lo c (ap vector_of_list e))
+    side_start : (h : Plane) → side_at_start w h ≡ sgn (value_at h (reference_beside fine c.lo))
+    side_start h = ap (λ (p : Spot). sgn (value_at h p)) (beside_is fine v.lo c.lo (ap vector_of_list e))
 
-    side_first : (h : Plane) → IsSupportSized h → sgn (value_at h p1) ≡ side_after_first w h
+    side_first : (h : Plane) → IsSupportWithin m h → sgn (value_at h p1) ≡ side_after_first w h
     side_first h i =
-        first_sign k c.lo v.first_corner v.second_corner v.third_corner q n s h i
+        first_sign m fine k c.lo v.first_corner v.second_corner v.third_corner q n s h i
         ∙ sym (λ j. or_sign (inside_side (slid (slid h (second_of k) (coordinate (e j) (second_of k))) k
         (coordinate (e j) k)) v.first_corner v.second_corner v.third_corner) (side_start h j))
 
-    side_second : (h : Plane) → IsSupportSized h → sgn (value_at h p2) ≡ side_after_second w h
+    side_second : (h : Plane) → IsSupportWithin m h → sgn (value_at h p2) ≡ side_after_second w h
     side_second h i =
-        second_sign k c.lo v.first_corner v.second_corner v.third_corner q n s h i
+        second_sign m fine k c.lo v.first_corner v.second_corner v.third_corner q n s h i
         ∙ sym (λ j. or_sign (inside_side (slid h k (coordinate (e j) k)) v.first_corner v.second_corner v.third_corner)
         (side_start h j))
 
-    sized : IsSupportSized (support_of t)
-    sized = support_sized t f.valid
+    sized : IsSupportWithin m (support_of t)
+    sized = support_within m t fv
 
     at_start : sgn (value_at (support_of t) p0) ≡ f.reference_side
     at_start =
-        start_sign k c.lo v.first_corner v.second_corner v.third_corner q n s (support_of t) sized
-        ∙ sym (from.side ∙ ap (λ (p : Plane). sgn (value_at p (reference_at_list (entries c.lo)))) f.plane
-        ∙ ap (λ (r : Spot). sgn (value_at (support_of t) r)) (reference_is (entries c.lo) c refl))
+        start_sign m fine k c.lo v.first_corner v.second_corner v.third_corner q n s (support_of t) sized
+        ∙ sym (from.side ∙ ap (λ (p : Plane). sgn (value_at p (reference_of_list fine (entries c.lo)))) f.plane
+        ∙ ap (λ (r : Spot). sgn (value_at (support_of t) r)) (beside_is fine (entries c.lo) c.lo refl))
 
     after_first : sgn (value_at (support_of t) p1) ≡ side_after_first w f.support
     after_first = side_first (support_of t) sized ∙ ap (λ (p : Plane). side_after_first w p) (sym f.plane)
@@ -290,18 +306,18 @@ module _ (c : Cell) (k : Axis) (v : Path) (e : v.lo ≡ entries c.lo) (q : Spot)
     -- ---- past the bounding box
     -- the triangle begins above the whole number at or below the coordinates of both ends
     abbrev begins_above : (a : Axis) → floor_at_end w a <ℤ (interval_along (aabb_of_tri t) a).low →
-        IsPast t a (along_point a (spot_of v.first_corner)) v.first_corner.w
+        IsPast m t a (along_point a v.first_corner) v.first_corner.w
     begins_above a l =
         let d = (interval_along (aabb_of_tri t) a).low in let u = v.first_corner in
         record {
           s = pos 1;
           d = d;
           small_s = record { small = omega arith };
-          small_d = low_small t a f.valid;
+          small_d = low_small t a fv;
           before =
-              above_low t a f.valid;
-          past = (let y = along_point a (spot_of u) in let b =
-              below_floor y u.w d u.valid.weight (let e = floor_is w a in omega (arith, linear, l, e)) in
+              above_low t a fv;
+          past = (let y = along_point a u in let b =
+              below_floor y u.w d vw (let e = floor_is w a in omega (arith, linear, l, e)) in
               omega (arith, linear, b));
         }
 
@@ -315,7 +331,7 @@ module _ (c : Cell) (k : Axis) (v : Path) (e : v.lo ≡ entries c.lo) (q : Spot)
     beyond_start : (a : Axis) → coordinate v.lo a <ℤ (interval_along (aabb_of_tri t) a).low →
         value_at (across a (pos 1) (interval_along (aabb_of_tri t) a).low) p0 <ℤ pos 0
     beyond_start a l =
-        let d = (interval_along (aabb_of_tri t) a).low in let at = coordinate (entries c.lo) a in let i = start_above c.lo n a s.large in
+        let d = (interval_along (aabb_of_tri t) a).low in let at = coordinate (entries c.lo) a in let i = start_above c.lo n a s.two in
         let x = value_across a (pos 1) d p0 in let h = i.to in
         let g : coordinate v.lo a ≡ at = (λ j. coordinate (e j) a) in
         let z : pos 0 ≤ℤ p0.w = omega (arith, linear, w0) in
@@ -326,34 +342,34 @@ module _ (c : Cell) (k : Axis) (v : Path) (e : v.lo ≡ entries c.lo) (q : Spot)
         omega (arith, linear, x, h, m, a1, a2)
 
     -- the coordinate of the start isn't within
-    past_start : (a : Axis) → contains_above (interval_along f.aabb a) (coordinate v.lo a) ≡ false → IsPast t a (along_point a p0) p0.w
+    past_start : (a : Axis) → contains_above (interval_along f.aabb a) (coordinate v.lo a) ≡ false → IsPast m t a (along_point a p0) p0.w
     past_start a h =
-        let i = start_above c.lo n a s.large in
-        past_above t a f.valid (along_point a p0) p0.w (coordinate (entries c.lo) a) w0 i.from i.to
+        let i = start_above c.lo n a s.two in
+        past_above t a fv (along_point a p0) p0.w (coordinate (entries c.lo) a) w0 i.from i.to
         (sym (λ j. contains_above (interval_along (f.bounds j) a) (coordinate (e j) a)) ∙ h)
 
-    behind_start : (a : Axis) (i : IsPast t a (along_point a p0) p0.w) → value_at (across a i.s i.d) p0 <ℤ pos 0
+    behind_start : (a : Axis) (i : IsPast m t a (along_point a p0) p0.w) → value_at (across a i.s i.d) p0 <ℤ pos 0
     behind_start a i = let x = value_across a i.s i.d p0 in let l = i.past in omega (arith, linear, x, l)
 
     -- nor is the end's
     past_end : (a : Axis) → may_contain (interval_along f.aabb a) (floor_at_end w a) ≡ false →
-        IsPast t a (along_point a (spot_of v.first_corner)) v.first_corner.w
+        IsPast m t a (along_point a v.first_corner) v.first_corner.w
     past_end a h =
-        past_floor t a f.valid (along_point a (spot_of v.first_corner)) v.first_corner.w v.first_corner.valid.weight
+        past_floor t a fv (along_point a v.first_corner) v.first_corner.w vw
         (sym (λ j. may_contain (interval_along (f.bounds j) a) (floor_is w a j)) ∙ h)
 
-    behind_end : (a : Axis) (i : IsPast t a (along_point a (spot_of v.first_corner)) v.first_corner.w) →
+    behind_end : (a : Axis) (i : IsPast m t a (along_point a v.first_corner) v.first_corner.w) →
         inside_side (across a i.s i.d) v.first_corner v.second_corner v.third_corner ≡ Neg
     behind_end a i =
-        let g = across a i.s i.d in let x = value_across a i.s i.d (spot_of v.first_corner) in let l = i.past in
-        ap (λ (s : Sign). or_sign s (or_sign (sgn (value_at g (spot_of v.second_corner)))
-        (sgn (value_at g (spot_of v.third_corner)))))
-        (sgn_neg {a = value_at g (spot_of v.first_corner)} (omega (arith, linear, x, l)))
+        let g = across a i.s i.d in let x = value_across a i.s i.d v.first_corner in let l = i.past in
+        ap (λ (s : Sign). or_sign s (or_sign (sgn (value_at g v.second_corner))
+        (sgn (value_at g v.third_corner))))
+        (sgn_neg {a = value_at g v.first_corner} (omega (arith, linear, x, l)))
 
-    behind_q : (a : Axis) (i : IsPast t a (along_point a (spot_of v.first_corner)) v.first_corner.w) → value_at (across a i.s i.d) q <ℤ pos 0
+    behind_q : (a : Axis) (i : IsPast m t a (along_point a v.first_corner) v.first_corner.w) → value_at (across a i.s i.d) q <ℤ pos 0
     behind_q a i =
         negative_sign (value_at (across a i.s i.d) q)
-        (s.close.at_end (across a i.s i.d) (support_valid (across_sized a i.s i.d i.small_s i.small_d))
+        (s.close.at_end (across a i.s i.d) (support_within_planes m _ (across_within m a i.s i.d some i.small_s i.small_d))
         ∙ behind_end a i)
 
     -- a plane stays behind along an axis at which it has no entry
@@ -389,15 +405,15 @@ module _ (c : Cell) (k : Axis) (v : Path) (e : v.lo ≡ entries c.lo) (q : Spot)
         first : leg (face_of t) p1 p0 ≡ neg_ℤ (first_segment w f)
         first = crossed ∙ sym (ap (λ (b : Bool). neg_ℤ
             (cond b (signed_crossing f.reference_side (side_after_first w f.support)) (pos 0)))
-            (runs ∙ lines_are lo t (first_of k)))
+            (runs ∙ lines_are fine lo t (first_of k)))
           where
             lo : List ℤ
             lo = entries c.lo
 
-            runs : first_runs_through w f ≡ line_runs_through lo t (first_of k)
+            runs : first_runs_through w f ≡ line_runs_through fine lo t (first_of k)
             runs = ap (λ (bs : List Bool). slice_index_or bs (axis_index k) false) from.lines ∙ by_axis k
               where
-                by_axis : (a : Axis) → slice_index_or (first_lines_of lo t) (axis_index a) false ≡ line_runs_through lo t (first_of a)
+                by_axis : (a : Axis) → slice_index_or (first_lines_of fine lo t) (axis_index a) false ≡ line_runs_through fine lo t (first_of a)
                 by_axis X = refl
                 by_axis Y = refl
                 by_axis Z = refl
@@ -429,10 +445,10 @@ module _ (c : Cell) (k : Axis) (v : Path) (e : v.lo ≡ entries c.lo) (q : Spot)
                 (coordinate lo (first_of (first_of k)))
                 && (contains_above (interval_along (aabb_of_tri t) (second_of (first_of k)))
                 (coordinate lo (second_of (first_of k)))
-                && all_behind (λ p. sgn (value_at p (reference_at_list lo))) (edge_planes t (first_of k))))
+                && all_behind (λ p. sgn (value_at p (reference_of_list fine lo))) (edge_planes t (first_of k))))
                 (signed_crossing f.reference_side (side_after_first w f.support)) (pos 0))
             crossed =
-                let side = λ (p : Plane). sgn (value_at p (reference_at_list lo)) in
+                let side = λ (p : Plane). sgn (value_at p (reference_of_list fine lo)) in
                 let b = all_behind side (edge_planes t (first_of k)) in let u = first_of (first_of k) in let z = second_of (first_of k) in
                 let crossing = signed_crossing f.reference_side (side_after_first w f.support) in
                 tested (contains_above (interval_along (aabb_of_tri t) u) (coordinate lo u))
@@ -442,9 +458,9 @@ module _ (c : Cell) (k : Axis) (v : Path) (e : v.lo ≡ entries c.lo) (q : Spot)
                 (leg_back (face_of t) p0 p1 w0 w1 ∙ ap neg_ℤ
                 (told (first_of k) p0 p1 t b f.reference_side (side_after_first w f.support) w0 w1
                 (differ_with (first_of k) p0 q) at_start after_first
-                (edges_behind side t (first_of k) p0 f.valid
-                (λ h i z. start_sign k c.lo v.first_corner v.second_corner v.third_corner q n s h i
-                ∙ sym (ap (λ (p : Spot). sgn (value_at h p)) (reference_is lo c refl))))))
+                (edges_behind side t (first_of k) p0 fv
+                (λ h i z. start_sign m fine k c.lo v.first_corner v.second_corner v.third_corner q n s h i
+                ∙ sym (ap (λ (p : Spot). sgn (value_at h p)) (beside_is fine lo c.lo refl))))))
                 (past z (other k)))
                 (past u (one k))
 
@@ -464,11 +480,11 @@ module _ (c : Cell) (k : Axis) (v : Path) (e : v.lo ≡ entries c.lo) (q : Spot)
             (leg_back (face_of t) p1 p2 w1 w2 ∙ ap neg_ℤ
             (told (second_of k) p1 p2 t b (side_after_first w f.support) (side_after_second w f.support) w1 w2
             (differ_with (second_of k) p1 q) after_first after_second
-            (edges_behind (λ p. side_after_first w p) t (second_of k) p1 f.valid (λ h i z. side_first h i))))
+            (edges_behind (λ p. side_after_first w p) t (second_of k) p1 fv (λ h i z. side_first h i))))
             below_out)
             end_out
 
-    module _ (turn : Sign → Sign) (p3 : Spot) (end : IsEnd k v.first_corner v.second_corner v.third_corner turn p3) (line : DifferAlong k p2 p3) where
+    module _ (turn : Sign → Sign) (p3 : Spot) (end : IsEnd m k v.first_corner v.second_corner v.third_corner turn p3) (line : DifferAlong k p2 p3) where
       abbrev side_end : Sign
       side_end = or_sign (side_at_end w f.support) (turn (sgn (along f.support k)))
 
@@ -481,17 +497,17 @@ module _ (c : Cell) (k : Axis) (v : Path) (e : v.lo ≡ entries c.lo) (q : Spot)
           (told_back b (side_after_second w f.support) side_end (leg (face_of t) p3 p2)
           (told k p3 p2 t b side_end (side_after_second w f.support) end.weight w2 (differ_back k p2 p3 line)
           (end.side (support_of t) sized ∙ ap (λ (p : Plane). or_sign (side_at_end w p) (turn (sgn (along p k))))
-          (sym f.plane)) after_second (edges_behind (λ p. side_at_end w p) t k p3 f.valid
+          (sym f.plane)) after_second (edges_behind (λ p. side_at_end w p) t k p3 fv
           (λ h i z. end.side h i ∙ or_zero (inside_side h v.first_corner v.second_corner v.third_corner)
           (turn (sgn (along h k))) (ap turn (ap sgn z) ∙ end.level)))))
           (λ h. either_test (may_contain (interval_along f.aabb (first_of k)) (floor_at_end w (first_of k)))
           (may_contain (interval_along f.aabb (second_of k)) (floor_at_end w (second_of k))) first_out second_out h))
           below_out
         where
-          at_p3 : (a : Axis) (i : IsPast t a (along_point a (spot_of v.first_corner)) v.first_corner.w) → value_at (across a i.s i.d) p3 <ℤ pos 0
+          at_p3 : (a : Axis) (i : IsPast m t a (along_point a v.first_corner) v.first_corner.w) → value_at (across a i.s i.d) p3 <ℤ pos 0
           at_p3 a i =
               let g = across a i.s i.d in
-              negative_sign (value_at g p3) (end.side g (across_sized a i.s i.d i.small_s i.small_d)
+              negative_sign (value_at g p3) (end.side g (across_within m a i.s i.d some i.small_s i.small_d)
               ∙ ap (λ (s : Sign). or_sign s (turn (sgn (along g k)))) (behind_end a i))
 
           first_out : may_contain (interval_along f.aabb (first_of k)) (floor_at_end w (first_of k)) ≡ false → leg (face_of t) p3 p2 ≡ pos 0

@@ -1,5 +1,5 @@
 -- A segment that lies past the bounding box of a triangle along an axis doesn't cross its face.
-use Rattle.std.proofs.Common.{◌≡◌, add-mul, refl, sym, ap, ◌∙◌, arith, ◌⊎◌, inl, inr, ◌<◌, ◌*◌, ◌/◌, ℕ, ◌+◌, Bool, true}
+use Rattle.std.proofs.Common.{◌≡◌, add-mul, refl, sym, ap, ◌∙◌, arith, ◌⊎◌, inl, inr, ◌<◌, ◌≤◌, ◌*◌, ◌/◌, ℕ, zero, suc, ◌+◌, Bool, true}
 use Rattle.std.proofs.Common.{false, ◌&&◌, cond, ℤ, pos, negsuc, ◌+ℤ◌, ◌-ℤ◌, ◌*ℤ◌, ◌<ℤ◌, ◌≤ℤ◌, int_le, int_lt}
 use Rattle.std.specs.Int.{int_min, int_max, int_div_euclid}
 use Rattle.std.proofs.lemmas.Int.{clamps}
@@ -20,8 +20,7 @@ use Rattle.ember_model.specs.declared.plane.Plane.{Plane}
 use Rattle.ember_model.specs.declared.tri.Tri.{Tri}
 use Rattle.ember_model.specs.declared.point.Corner.{Corner}
 use Rattle.ember_model.specs.Planes.{vector_of, value_at, along}
-use Rattle.ember_model.specs.Valid.{IsValidTri}
-use Rattle.ember_model.specs.Sizes.{IsSupportSized}
+use Rattle.ember_model.specs.Within.{IsTriWithin, IsSupportWithin, normal_limit}
 use Rattle.ember_model.specs.Faces.{is_flat, face_of, between, leg}
 use Rattle.ember_model.specs.Owners.{spot_of_corner}
 use Rattle.ember_model.specs.ClearTest.{all_negative}
@@ -93,20 +92,30 @@ across_with k s d u v =
     ∙ solve 6 (λ s d x y v w. w ⊗ (s ⊗ (x ⊖ d ⊗ v)) ⊕ (v ⊗ y ⊖ w ⊗ x) ⊗ s ≈ v ⊗ (s ⊗ (y ⊖ d ⊗ w))) cancels s d
     (along_point k u) (along_point k v) u.w v.w ∙ ap (λ (z : ℤ). u.w *ℤ z) (sym (value_across k s d v))
 
--- a plane across an axis has the sizes of a support plane
-pub across_sized : (k : Axis) (s d : ℤ) → Small 1 s → Small 2047 d → IsSupportSized (across k s d)
-across_sized k s d i j = by k
-  where
-    one : Small 33554431 s
-    one = small_within (omega arith) i
+-- 1 is at most the entry of a normal
+one_entry : (m : ℕ) → 1 ≤ m → 1 ≤ normal_limit m
+one_entry zero l = absurd (omega (arith, l))
+one_entry (suc m) l = omega arith
 
-    none : Small 33554431 (pos 0)
+-- a coordinate is at most the constant of a support plane
+one_constant : (m : ℕ) → 1 * m ≤ 12 * (m * (m * m))
+one_constant zero = omega arith
+one_constant (suc m) = omega arith
+
+-- a plane across an axis has the sizes of a support plane
+pub across_within : (m : ℕ) (k : Axis) (s d : ℤ) → 1 ≤ m → Small 1 s → Small m d → IsSupportWithin m (across k s d)
+across_within m k s d l i j = by k
+  where
+    one : Small (normal_limit m) s
+    one = small_within (one_entry m l) i
+
+    none : Small (normal_limit m) (pos 0)
     none = record { small = omega arith }
 
-    rest : Small 206158430207 (s *ℤ d)
-    rest = small_within (omega arith) (small_mul i j)
+    rest : Small (12 * (m * (m * m))) (s *ℤ d)
+    rest = small_within (one_constant m) (small_mul i j)
 
-    by : (k : Axis) → IsSupportSized (across k s d)
+    by : (k : Axis) → IsSupportWithin m (across k s d)
     by X = record { a = one; b = none; c = none; d = rest }
     by Y = record { a = none; b = one; c = none; d = rest }
     by Z = record { a = none; b = none; c = one; d = rest }
@@ -114,11 +123,11 @@ across_sized k s d i j = by k
 -- ---- past the bounding box
 -- the coordinate y / w lies strictly past the triangle along the axis, below it (s is 1) or above
 -- it (s is -1)
-pub record IsPast (t : Tri) (k : Axis) (y w : ℤ) : Type 0 where
+pub record IsPast (m : ℕ) (t : Tri) (k : Axis) (y w : ℤ) : Type 0 where
   pub s : ℤ
   pub d : ℤ
   pub small_s : Small 1 s
-  pub small_d : Small 2047 d
+  pub small_d : Small m d
   pub before : LiesBefore (across k s d) t
   pub past : (s *ℤ (y -ℤ d *ℤ w)) <ℤ pos 0
 
@@ -136,17 +145,17 @@ greatest_small {m} a b i j = by (int_lt b a)
     by true = i
     by false = j
 
-record IsOver (s : Interval) (a b c : ℤ) : Type 0 where
+record IsOver (m : ℕ) (s : Interval) (a b c : ℤ) : Type 0 where
   low_a : s.low ≤ℤ a
   low_b : s.low ≤ℤ b
   low_c : s.low ≤ℤ c
   high_a : a ≤ℤ s.high
   high_b : b ≤ℤ s.high
   high_c : c ≤ℤ s.high
-  small_low : Small 2047 s.low
-  small_high : Small 2047 s.high
+  small_low : Small m s.low
+  small_high : Small m s.high
 
-over : (a b c : ℤ) → Small 2047 a → Small 2047 b → Small 2047 c → IsOver (interval_over a b c) a b c
+over : {m : ℕ} (a b c : ℤ) → Small m a → Small m b → Small m c → IsOver m (interval_over a b c) a b c
 over a b c i j k =
     record {
       low_a = omega (arith, ints, clamps);
@@ -162,7 +171,7 @@ over a b c i j k =
           greatest_small (int_max a b) c (greatest_small a b i j) k;
     }
 
-aabb : (t : Tri) (k : Axis) → IsValidTri t → IsOver (interval_along (aabb_of_tri t) k) (along_vector k (vector_of t.a))
+aabb : {m : ℕ} (t : Tri) (k : Axis) → IsTriWithin m t → IsOver m (interval_along (aabb_of_tri t) k) (along_vector k (vector_of t.a))
     (along_vector k (vector_of t.b)) (along_vector k (vector_of t.c))
 aabb t X v = over t.a.x t.b.x t.c.x v.a.x v.b.x v.c.x
 aabb t Y v = over t.a.y t.b.y t.c.y v.a.y v.b.y v.c.y
@@ -173,12 +182,12 @@ corner_is X u = refl
 corner_is Y u = refl
 corner_is Z u = refl
 
--- the least coordinate of a valid triangle is small
-pub low_small : (t : Tri) (k : Axis) → IsValidTri t → Small 2047 (interval_along (aabb_of_tri t) k).low
+-- the least coordinate of a triangle within m is at most m in size
+pub low_small : {m : ℕ} (t : Tri) (k : Axis) → IsTriWithin m t → Small m (interval_along (aabb_of_tri t) k).low
 low_small t k v = let o = aabb t k v in o.small_low
 
--- the high ends of a valid triangle's bounding box are at most 2047 in size
-pub high_small : (t : Tri) (k : Axis) → IsValidTri t → Small 2047 (interval_along (aabb_of_tri t) k).high
+-- and so is the greatest one
+pub high_small : {m : ℕ} (t : Tri) (k : Axis) → IsTriWithin m t → Small m (interval_along (aabb_of_tri t) k).high
 high_small t k v = let o = aabb t k v in o.small_high
 
 -- below it
@@ -191,7 +200,7 @@ from_high k l u h =
     let e = value_across k (negsuc 0) l (spot_of_corner u) in let f = corner_is k u in omega (arith, linear, e, f, h)
 
 -- the triangle lies above its bounding box's low end
-pub above_low : (t : Tri) (k : Axis) → IsValidTri t → LiesBefore (across k (pos 1) (interval_along (aabb_of_tri t) k).low) t
+pub above_low : {m : ℕ} (t : Tri) (k : Axis) → IsTriWithin m t → LiesBefore (across k (pos 1) (interval_along (aabb_of_tri t) k).low) t
 above_low t k v =
     let o = aabb t k v in let l = (interval_along (aabb_of_tri t) k).low in
     record { a = from_low k l t.a o.low_a; b = from_low k l t.b o.low_b; c = from_low k l t.c o.low_c }
@@ -224,11 +233,11 @@ above_floor y w h p l =
     let e = solve 2 (λ h w. w ⊗ (h ⊕ num (pos 1)) ≈ h ⊗ w ⊕ w) cancels h w in
     omega (arith, linear, floor_low y w p, mul_le z l, *ℤ_comm w f, e, p)
 
-module _ (t : Tri) (k : Axis) (v : IsValidTri t) (y w : ℤ) where
+module _ {m : ℕ} (t : Tri) (k : Axis) (v : IsTriWithin m t) (y w : ℤ) where
   abbrev span : Interval
   span = interval_along (aabb_of_tri t) k
 
-  past_low : (y -ℤ span.low *ℤ w) <ℤ pos 0 → IsPast t k y w
+  past_low : (y -ℤ span.low *ℤ w) <ℤ pos 0 → IsPast m t k y w
   past_low l =
       let o = aabb t k v in
       record {
@@ -246,7 +255,7 @@ module _ (t : Tri) (k : Axis) (v : IsValidTri t) (y w : ℤ) where
         past = omega (arith, linear, l);
       }
 
-  past_high : pos 0 <ℤ (y -ℤ span.high *ℤ w) → IsPast t k y w
+  past_high : pos 0 <ℤ (y -ℤ span.high *ℤ w) → IsPast m t k y w
   past_high l =
       let o = aabb t k v in
       record {
@@ -273,7 +282,7 @@ module _ (t : Tri) (k : Axis) (v : IsValidTri t) (y w : ℤ) where
   by_tests false h f g e = f refl
 
   -- a little above a whole number
-  pub past_above : (at : ℤ) → pos 0 <ℤ w → (at *ℤ w) <ℤ y → y <ℤ ((at +ℤ pos 1) *ℤ w) → contains_above span at ≡ false → IsPast t k y w
+  pub past_above : (at : ℤ) → pos 0 <ℤ w → (at *ℤ w) <ℤ y → y <ℤ ((at +ℤ pos 1) *ℤ w) → contains_above span at ≡ false → IsPast m t k y w
   past_above at pw lo hi e =
       by_tests (int_le span.low at) (int_lt at span.high)
       (λ f. past_low (let p = above_out span.low at f in let q = mul_le (weak pw) p in let a =
@@ -293,7 +302,7 @@ module _ (t : Tri) (k : Axis) (v : IsValidTri t) (y w : ℤ) where
       not_below a b e = grind (arith, ints)
 
   -- with a whole number at or below it outside
-  pub past_floor : pos 0 <ℤ w → may_contain span (int_div_euclid y w) ≡ false → IsPast t k y w
+  pub past_floor : pos 0 <ℤ w → may_contain span (int_div_euclid y w) ≡ false → IsPast m t k y w
   past_floor pw e =
       by_tests (int_le span.low (int_div_euclid y w)) (int_le (int_div_euclid y w) span.high)
       (λ f. past_low (let l = below_floor y w span.low pw (above_out span.low (int_div_euclid y w) f) in omega (arith, linear, l)))

@@ -21,7 +21,8 @@ use Rattle.ember_model.specs.declared.face.Face.{Face}
 use Rattle.ember_model.specs.declared.tri.Tri.{Tri}
 use Rattle.ember_model.specs.Planes.{value_at, along, main_axis, support_of}
 use Rattle.ember_model.specs.Points.{scaled, moved}
-use Rattle.ember_model.specs.Sizes.{IsSupportSized}
+use Rattle.ember_model.specs.Limits.{narrow_limit}
+use Rattle.ember_model.specs.Within.{IsTriWithin, IsSupportWithin, normal_limit}
 use Rattle.ember_model.specs.Valid.{IsValidTri}
 use Rattle.ember_model.specs.Faces.{is_inside, face_of, crossing}
 use Rattle.ember_model.specs.ClearTest.{all_negative}
@@ -29,10 +30,11 @@ use Rattle.ember_model.specs.Meshes.{vector}
 use Rattle.ember_model.specs.Sides.{HasWindings, IsSides}
 use Rattle.ember_model.proofs.FourSigns.{crossing_is}
 use Rattle.ember_model.proofs.Hits.{inside_on, inside_parts, moved_weight}
-use Rattle.ember_model.proofs.PlaneSizes.{support_sized, support_valid}
+use Rattle.ember_model.proofs.PlaneSizes.{support_within}
 use Rattle.ember_model.proofs.SignTests.{negative_in, negative_out, positive_in, zero_out, zero_scaled}
 use Rattle.ember_law.proofs.FlatTriangles.{flat_crossing}
 use Rattle.ember_law.proofs.Shifted.{NoNormal}
+use Rattle.ember_width.proofs.Slides.{support_within_planes}
 use Rattle.ember_ref.specs.References.{or_sign}
 use Rattle.ember_ref.proofs.ReferenceSigns.{both_zero}
 use Rattle.ember_trace.proofs.PathVertices.{close_to, value_close}
@@ -43,59 +45,66 @@ use Rattle.ember_trace.proofs.RegionEnds.{along_small}
 use Rattle.ember_trace.proofs.MeshSums.{tally_same}
 
 -- ---- points on one side of each plane of a triangle's size
-abbrev pub OnOneSide : Spot → Spot → Type 0
-OnOneSide p r = (h : Plane) → IsSupportSized h → sgn (value_at h p) ≡ sgn (value_at h r)
+abbrev pub OnOneSide : ℕ → Spot → Spot → Type 0
+OnOneSide m p r = (h : Plane) → IsSupportWithin m h → sgn (value_at h p) ≡ sgn (value_at h r)
 
 -- their rays cross a triangle alike
-crossing_on_one_side : (k : Axis) (p r : Spot) → pos 0 <ℤ p.w → pos 0 <ℤ r.w → OnOneSide p r → (t : Tri) →
-    IsValidTri t → crossing (face_of t) k p ≡ crossing (face_of t) k r
-crossing_on_one_side k p r wp wr same t v =
-    let h = support_of t in let e = same h (support_sized t v) in
-    let m = ap is_neg (sgn-mul (value_at h p) (along h k)) ∙ (λ i. is_neg (times (e i) (sgn (along h k))))
+crossing_on_one_side : {m : ℕ} (k : Axis) (p r : Spot) → pos 0 <ℤ p.w → pos 0 <ℤ r.w → OnOneSide m p r → (t : Tri) →
+    IsTriWithin m t → crossing (face_of t) k p ≡ crossing (face_of t) k r
+crossing_on_one_side {m} k p r wp wr same t v =
+    let h = support_of t in let e = same h (support_within m t v) in
+    let b = ap is_neg (sgn-mul (value_at h p) (along h k)) ∙ (λ i. is_neg (times (e i) (sgn (along h k))))
     ∙ sym (ap is_neg (sgn-mul (value_at h r) (along h k))) in
     let g = edges_behind (λ g. sgn (value_at g r)) t k p v (λ g i z. same g i) in
-    crossing_is k p t wp ∙ (λ i. cond (m i && g i) (sign (along h k)) (pos 0)) ∙ sym (crossing_is k r t wr)
+    crossing_is k p t wp ∙ (λ i. cond (b i && g i) (sign (along h k)) (pos 0)) ∙ sym (crossing_is k r t wr)
 
 -- and they have one vector
-pub vector_on_one_side : (k : Axis) (p r : Spot) → pos 0 <ℤ p.w → pos 0 <ℤ r.w → OnOneSide p r → (ts : List Tri) →
-    All IsValidTri ts → vector k ts p ≡ vector k ts r
+pub vector_on_one_side : {m : ℕ} (k : Axis) (p r : Spot) → pos 0 <ℤ p.w → pos 0 <ℤ r.w → OnOneSide m p r → (ts : List Tri) →
+    All (IsTriWithin m) ts → vector k ts p ≡ vector k ts r
 vector_on_one_side k p r wp wr same ts v =
     tally_same (λ f. crossing f k p) (λ f. crossing f k r) (flat_crossing k p) (flat_crossing k r) ts
     (λ i d l. crossing_on_one_side k p r wp wr same (get_or ts i d) (v i d l))
 
 -- ---- directly beside a point
 -- on no plane of a triangle's size that runs along k, but those without a normal
-record IsLeftAlong (k : Axis) (q : Spot) : Type 0 where
+record IsLeftAlong (m : ℕ) (k : Axis) (q : Spot) : Type 0 where
   weight : pos 0 <ℤ q.w
-  apart : (h : Plane) → IsSupportSized h → value_at h q ≡ pos 0 → along h k ≡ pos 0 → NoNormal h
+  apart : (h : Plane) → IsSupportWithin m h → value_at h q ≡ pos 0 → along h k ≡ pos 0 → NoNormal h
 
-module _ (ts : List Tri) (valid : All IsValidTri ts) (k : Axis) (q : Spot) (free : IsLeftAlong k q) (by : ℕ →
-    ℤ) (turn : Sign → Sign) (out : (t : Sign) → turn t ≡ Zero → t ≡ Zero) (side : (h : Plane) → IsSupportSized h →
-    (m s : ℕ) → 1 ≤ s → 33554431 * s < m → sgn (value_at h (moved (scaled (pos m) q) k (by s))) ≡ or_sign
+module _ (m : ℕ) (ts : List Tri) (valid : All (IsTriWithin m) ts) (k : Axis) (q : Spot) (free : IsLeftAlong m k q) (by : ℕ →
+    ℤ) (turn : Sign → Sign) (out : (t : Sign) → turn t ≡ Zero → t ≡ Zero) (side : (h : Plane) → IsSupportWithin m h →
+    (n s : ℕ) → 1 ≤ s → normal_limit m * s < n → sgn (value_at h (moved (scaled (pos n) q) k (by s))) ≡ or_sign
     (sgn (value_at h q)) (turn (sgn (along h k)))) where
   abbrev beside : ℕ → ℕ → Spot
-  beside m s = moved (scaled (pos m) q) k (by s)
+  beside n s = moved (scaled (pos n) q) k (by s)
 
-  weight : (m s : ℕ) → 33554431 * s < m → pos 0 <ℤ (beside m s).w
-  weight m s lm =
-      let e = moved_weight (scaled (pos m) q) k (by s) in let l : pos 0 <ℤ pos m = omega (arith, ints, lm) in let p =
+  weight : (n s : ℕ) → normal_limit m * s < n → pos 0 <ℤ (beside n s).w
+  weight n s lm =
+      let e = moved_weight (scaled (pos n) q) k (by s) in let l : pos 0 <ℤ pos n = omega (arith, ints, lm) in let p =
       pos_mul l free.weight in omega (arith, linear, e, p)
 
-  abbrev seen : List ℤ
-  seen = vector k ts (beside 33554432 1)
+  -- the first number that is large enough
+  abbrev enough : ℕ
+  enough = normal_limit m + 1
 
-  sees : (s m : ℕ) → 1 ≤ s → 33554431 * s < m → HasWindings ts k (beside m s) seen
-  sees s m ls lm =
+  is_enough : normal_limit m * 1 < enough
+  is_enough = omega arith
+
+  abbrev seen : List ℤ
+  seen = vector k ts (beside enough 1)
+
+  sees : (s n : ℕ) → 1 ≤ s → normal_limit m * s < n → HasWindings ts k (beside n s) seen
+  sees s n ls lm =
       record {
-        clear = generic_clear (beside m s) ts (weight m s lm) generic valid;
-        counts_are = vector_on_one_side k (beside m s) (beside 33554432 1) (weight m s lm)
-            (weight 33554432 1 (omega arith)) (λ h i. side h i m s ls lm
-            ∙ sym (side h i 33554432 1 (le_refl 1) (omega arith))) ts valid;
+        clear = generic_clear (beside n s) ts (weight n s lm) generic valid;
+        counts_are = vector_on_one_side k (beside n s) (beside enough 1) (weight n s lm)
+            (weight enough 1 is_enough) (λ h i. side h i n s ls lm
+            ∙ sym (side h i enough 1 (le_refl 1) is_enough)) ts valid;
       }
     where
-      generic : (h : Plane) → IsSupportSized h → value_at h (beside m s) ≡ pos 0 → NoNormal h
+      generic : (h : Plane) → IsSupportWithin m h → value_at h (beside n s) ≡ pos 0 → NoNormal h
       generic h i z =
-          let p = both_zero _ _ (sym (side h i m s ls lm) ∙ ap sgn z) in
+          let p = both_zero _ _ (sym (side h i n s ls lm) ∙ ap sgn z) in
           free.apart h i (zero_out (value_at h q) (ap is_nil p.0)) (zero_out (along h k) (ap is_nil (out (sgn (along h k)) p.1)))
 
 -- ---- two directions in a plane that isn't along k
@@ -183,23 +192,23 @@ all_stay (e ∷ es) u v w h =
     let p = and_parts (is_negative (value_at e u)) (all_negative es u) h in
     eventually_map (λ m r. λ i. r.0 i && r.1 i) (eventually_both (stays_negative e u v w p.0) (all_stay es u v w p.1))
 
-record HasLeftPoint (k : Axis) (f : Face) : Type 0 where
+record HasLeftPoint (m : ℕ) (k : Axis) (f : Face) : Type 0 where
   at : Spot
   inside : is_inside f at ≡ true
-  free : IsLeftAlong k at
+  free : IsLeftAlong m k at
 
-module _ (k : Axis) (f : Face) (p : Spot) (h : is_inside f p ≡ true) (nz : along f.support k ≢ pos 0) where
+module _ (m : ℕ) (k : Axis) (f : Face) (p : Spot) (h : is_inside f p ≡ true) (nz : along f.support k ≢ pos 0) where
   abbrev u : Spot
   u = first_way k f.support
 
   abbrev v : Spot
   v = second_way k f.support
 
-  stay : Eventually (λ m. all_negative f.edges (close_to (pos m) p u v) ≡ true)
+  stay : Eventually (λ n. all_negative f.edges (close_to (pos n) p u v) ≡ true)
   stay = all_stay f.edges p u v (inside_parts f p h).2
 
   abbrev n : ℕ
-  n = stay.from + value_bound u + value_bound v + 1
+  n = stay.from + value_bound m u + value_bound m v + 1
 
   abbrev q : Spot
   q = close_to (pos n) p u v
@@ -215,14 +224,14 @@ module _ (k : Axis) (f : Face) (p : Spot) (h : is_inside f p ≡ true) (nz : alo
       value_close f.support (pos n) p u v ∙ (λ i. horner (pos n) (a i) (l.0 i ∷ l.1 i ∷ []))
       ∙ solve 1 (λ m. (num (pos 0) ⊗ m ⊕ num (pos 0)) ⊗ m ⊕ num (pos 0) ≈ num (pos 0)) cancels (pos n)
 
-  left_point : HasLeftPoint k f
+  left_point : HasLeftPoint m k f
   left_point =
       record { at = q; inside = inside_on f q (positive_in q_weight) q_level ∙ stay.holds n (omega arith); free = record { weight = q_weight; apart = apart } }
     where
-      apart : (g : Plane) → IsSupportSized g → value_at g q ≡ pos 0 → along g k ≡ pos 0 → NoNormal g
+      apart : (g : Plane) → IsSupportWithin m g → value_at g q ≡ pos 0 → along g k ≡ pos 0 → NoNormal g
       apart g i z l =
           let a = sgn (value_at g p) in let b = sgn (value_at g u) in let d = sgn (value_at g v) in
-          let x = both_zero a (or_sign b d) (sym (close_sign n g p u v (support_valid i) (omega arith) (omega arith)) ∙ ap sgn z) in
+          let x = both_zero a (or_sign b d) (sym (close_sign n g p u v (support_within_planes m g i) (omega arith) (omega arith)) ∙ ap sgn z) in
           let y = both_zero b d x.1 in
           ways_span k f.support g nz l (zero_out (value_at g u) (ap is_nil y.0)) (zero_out (value_at g v) (ap is_nil y.1))
 
@@ -233,19 +242,44 @@ pub record HasSides (ts : List Tri) (f : Face) : Type 0 where
   pub are_sides : IsSides ts f before after
 
 -- a face that isn't along its main axis has sides
+module _ (m : ℕ) (ts : List Tri) (valid : All (IsTriWithin m) ts) (f : Face) (p : Spot) (h : is_inside f p ≡ true)
+    (nz : along f.support (main_axis f.support) ≢ pos 0) where
+  abbrev k : Axis
+  k = main_axis f.support
+
+  left : HasLeftPoint m k f
+  left = left_point m k f p h nz
+
+  abbrev back : Plane → Type 0
+  back g = (n s : ℕ) → 1 ≤ s → normal_limit m * s < n →
+      sgn (value_at g (moved (scaled (pos n) left.at) k (neg_ℤ (pos s)))) ≡ or_sign (sgn (value_at g left.at)) (flip (sgn (along g k)))
+
+  abbrev ahead : Plane → Type 0
+  ahead g = (n s : ℕ) → 1 ≤ s → normal_limit m * s < n →
+      sgn (value_at g (moved (scaled (pos n) left.at) k (pos s))) ≡ or_sign (sgn (value_at g left.at)) (sgn (along g k))
+
+  side_back : (g : Plane) → IsSupportWithin m g → back g
+  side_back g i n s = before_sign k left.at g (along_small g k i) n s
+
+  side_ahead : (g : Plane) → IsSupportWithin m g → ahead g
+  side_ahead g i n s = after_sign k left.at g (along_small g k i) n s
+
+  pub face_has_sides_within : HasSides ts f
+  face_has_sides_within =
+      record {
+        before = seen m ts valid k left.at left.free (λ s. neg_ℤ (pos s)) flip flip_zero side_back;
+        after = seen m ts valid k left.at left.free (λ s. pos s) (λ t. t) (λ t e. e) side_ahead;
+        are_sides =
+            record {
+              at = left.at;
+              inside = left.inside;
+              bound = normal_limit m;
+              sees_before = sees m ts valid k left.at left.free (λ s. neg_ℤ (pos s)) flip flip_zero side_back;
+              sees_after = sees m ts valid k left.at left.free (λ s. pos s) (λ t. t) (λ t e. e) side_ahead;
+            };
+      }
+
+-- the same of valid triangles
 pub face_has_sides : (ts : List Tri) → All IsValidTri ts → (f : Face) (p : Spot) → is_inside f p ≡ true →
     along f.support (main_axis f.support) ≢ pos 0 → HasSides ts f
-face_has_sides ts valid f p h nz =
-    let k = main_axis f.support in let q = left_point k f p h nz in
-    record {
-      before = seen ts valid k q.at q.free (λ s. neg_ℤ (pos s)) flip flip_zero (λ g i m s. before_sign k q.at g (along_small g k i) m s);
-      after = seen ts valid k q.at q.free (λ s. pos s) (λ t. t) (λ t e. e) (λ g i m s. after_sign k q.at g (along_small g k i) m s);
-      are_sides =
-          record {
-            at = q.at;
-            inside = q.inside;
-            bound = 33554431;
-            sees_before = sees ts valid k q.at q.free (λ s. neg_ℤ (pos s)) flip flip_zero (λ g i m s. before_sign k q.at g (along_small g k i) m s);
-            sees_after = sees ts valid k q.at q.free (λ s. pos s) (λ t. t) (λ t e. e) (λ g i m s. after_sign k q.at g (along_small g k i) m s);
-          };
-    }
+face_has_sides ts valid f p h nz = face_has_sides_within narrow_limit ts valid f p h nz

@@ -3,23 +3,24 @@ use Rattle.std.proofs.Common.{◌≡◌, ℕ, ◌+◌, ◌<◌, refl, sym, ap, �
 use Rattle.std.proofs.lemmas.List.{take_more}
 use Rattle.ember_model.specs.declared.tri.Tri.{Tri}
 use Rattle.ember_law.specs.Counts.{with_more}
+use Rattle.ember_width.specs.declared.width.Width.{Ghosts}
 use Rattle.ember_trace.specs.declared.near_triangle.NearTriangle.{NearTriangle}
 use Rattle.ember_trace.specs.Crossings.{taken, ray_counts}
 
-taken_push : (less : NearTriangle → ℤ) (fs : List NearTriangle) (f : NearTriangle) (counts : List ℤ) →
+taken_push : {W M : Type 0} {G : Ghosts W M} (less : NearTriangle W M G → ℤ) (fs : List (NearTriangle W M G)) (f : NearTriangle W M G) (counts : List ℤ) →
     taken less (fs ++ f ∷ []) counts ≡ with_more (taken less fs counts) f.tri.mesh (neg_ℤ (less f))
 taken_push less [] f counts = refl
 taken_push less (g ∷ fs) f counts = taken_push less fs f (with_more counts g.tri.mesh (neg_ℤ (less g)))
 
 -- one more near triangle's crossings are subtracted
-pub taken_more : (less : NearTriangle → ℤ) (fs : List NearTriangle) (i : ℕ) (f : NearTriangle) (counts old new : List ℤ)
-    (by : ℤ) → i < length fs → f ≡ get_or fs i f → old ≡ taken less (take i fs) counts → by ≡ less f →
+pub taken_more : {W M : Type 0} {G : Ghosts W M} (less : NearTriangle W M G → ℤ) (fs : List (NearTriangle W M G)) (i : ℕ)
+    (f : NearTriangle W M G) (counts old new : List ℤ) (by : ℤ) → i < length fs → f ≡ get_or fs i f → old ≡ taken less (take i fs) counts → by ≡ less f →
     new ≡ with_more old f.tri.mesh (neg_ℤ by) → new ≡ taken less (take (i + 1) fs) counts
-taken_more less fs i f counts old new by l h e b n =
-    let all : take (i + 1) fs ≡ take i fs ++ f ∷ [] = take_more fs i f l ∙ ap (λ (g : NearTriangle). take i fs ++ g ∷ []) (sym h) in
+taken_more {W} {M} {G} less fs i f counts old new by l h e b n =
+    let all : take (i + 1) fs ≡ take i fs ++ f ∷ [] = take_more fs i f l ∙ ap (λ (g : NearTriangle W M G). take i fs ++ g ∷ []) (sym h) in
     n ∙ ap (λ (vs : List ℤ). with_more vs f.tri.mesh (neg_ℤ by)) e
     ∙ ap (λ (z : ℤ). with_more (taken less (take i fs) counts) f.tri.mesh (neg_ℤ z)) b
-    ∙ sym (taken_push less (take i fs) f counts) ∙ ap (λ (gs : List NearTriangle). taken less gs counts) (sym all)
+    ∙ sym (taken_push less (take i fs) f counts) ∙ ap (λ (gs : List (NearTriangle W M G)). taken less gs counts) (sym all)
 
 ray_counts_push : (more : Tri → ℤ) (ts : List Tri) (t : Tri) (counts : List ℤ) →
     ray_counts more (ts ++ t ∷ []) counts ≡ with_more (ray_counts more ts counts) t.mesh (more t)

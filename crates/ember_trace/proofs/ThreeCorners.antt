@@ -4,9 +4,8 @@ use Rattle.ember_algebra.specs.declared.Sign.{Sign}
 use Rattle.ember_algebra.specs.declared.Sign.TheVariants.{Zero}
 use Rattle.ember_model.specs.declared.plane.Plane.{Plane}
 use Rattle.ember_ref.specs.References.{or_sign}
-use Rattle.ember_trace.specs.declared.path.Path.{Path}
 use Rattle.ember_trace.specs.Edges.{side_at}
-use Rattle.ember_trace.specs.Paths.{side_at_end}
+use Rattle.ember_trace.specs.Paths.{Path, side_at_end}
 use Rattle.ember_trace.proofs.VertexSides.{or_next, or_first}
 
 -- which of the three corners tells the side

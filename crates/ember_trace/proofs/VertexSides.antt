@@ -1,6 +1,6 @@
 -- On which side of a plane the vertices of a path lie: for points that are close enough to the corner
 -- of the box and to the first corner of the region, as the definitions of paths say.
-use Rattle.std.proofs.Common.{◌≡◌, ◌≢◌, ℕ, ◌+◌, ◌*◌, ◌^◌, ◌<◌, ◌≤◌, refl, sym, ap, ◌∙◌, arith, ℤ, pos, ◌+ℤ◌, ◌*ℤ◌, neg_ℤ, ◌<ℤ◌, [], ◌∷◌, unsigned_abs, le_refl}
+use Rattle.std.proofs.Common.{◌≡◌, ◌≢◌, ℕ, ◌+◌, ◌*◌, ◌<◌, ◌≤◌, refl, sym, ap, ◌∙◌, arith, ℤ, pos, ◌+ℤ◌, ◌*ℤ◌, neg_ℤ, ◌<ℤ◌, [], ◌∷◌, unsigned_abs, le_refl}
 use borrow.Author.Differences.{ints}
 use lib.IntN.{*ℤ_comm}
 use Rattle.ember_algebra.specs.Vector.{Vector}
@@ -22,15 +22,13 @@ use Rattle.ember_model.specs.declared.point.Axis.TheVariants.{X, Y, Z}
 use Rattle.ember_model.specs.declared.plane.Plane.{Plane}
 use Rattle.ember_model.specs.Planes.{value_at, along}
 use Rattle.ember_model.specs.Points.{scaled, moved, offset_by}
-use Rattle.ember_model.specs.Valid.{IsValidPlane}
-use Rattle.ember_model.specs.Sizes.{IsSupportSized}
+use Rattle.ember_model.specs.Within.{IsSupportWithin, IsPlaneWithin, normal_limit}
 use Rattle.ember_model.proofs.SignTests.{sgn_scaled}
 use Rattle.ember_model.proofs.PlaneValues.{value_scaled, value_moved}
 use Rattle.ember_law.proofs.Shifted.{NoNormal, value_shifted}
-use Rattle.ember_point.specs.declared.meet_point.Meet.{Meet}
 use Rattle.ember_point.specs.Points.{slid}
 use Rattle.ember_box.specs.Near.{spot_of_vector}
-use Rattle.ember_box.specs.Reference.{reference_at}
+use Rattle.ember_box.specs.Reference.{reference_beside}
 use Rattle.ember_ref.specs.References.{or_sign}
 use Rattle.ember_ref.proofs.ReferenceSigns.{sign_near, or_sign_assoc, next_sign}
 use Rattle.ember_trace.specs.Paths.{inside_side, first_of, second_of}
@@ -38,19 +36,21 @@ use Rattle.ember_trace.proofs.PathVertices.{close_to, with_along, pinned, slid_o
 use Rattle.ember_trace.proofs.PathVertices.{value_pinned, pinned_once, pinned_twice, level_with}
 
 -- ---- the first that isn't zero
--- how large a valid plane's value at a point can be
-abbrev pub value_bound : Spot → ℕ
-value_bound v = 33554431 * unsigned_abs v.x + 33554431 * unsigned_abs v.y + 33554431 * unsigned_abs v.z + 549755813887 * unsigned_abs v.w
+-- how large the value of a plane of a triangle within m can be at a point, also with fixed coordinates
+abbrev pub value_bound : ℕ → Spot → ℕ
+value_bound m v =
+    normal_limit m * unsigned_abs v.x + normal_limit m * unsigned_abs v.y + normal_limit m * unsigned_abs v.z +
+    (20 * (m * (m * m)) + 8 * (m * m)) * unsigned_abs v.w
 
 own : (z : ℤ) → Small (unsigned_abs z) z
 own z = record { small = le_refl (unsigned_abs z) }
 
-value_small : (h : Plane) (v : Spot) → IsValidPlane h → Small (value_bound v) (value_at h v)
+value_small : {m : ℕ} (h : Plane) (v : Spot) → IsPlaneWithin m h → Small (value_bound m v) (value_at h v)
 value_small h v s =
     small_sub (small_add (small_add (small_mul s.a (own v.x)) (small_mul s.b (own v.y))) (small_mul s.c (own v.z))) (small_mul s.d (own v.w))
 
 -- the sign of a plane at a point that is close to u, closest to the line from there to v
-pub close_sign : (n : ℕ) (h : Plane) (u v w : Spot) → IsValidPlane h → value_bound v < n → value_bound w < n →
+pub close_sign : {m : ℕ} (n : ℕ) (h : Plane) (u v w : Spot) → IsPlaneWithin m h → value_bound m v < n → value_bound m w < n →
     sgn (value_at h (close_to (pos n) u v w)) ≡ or_sign (sgn (value_at h u))
     (or_sign (sgn (value_at h v)) (sgn (value_at h w)))
 close_sign n h u v w i lv lw =
@@ -80,19 +80,21 @@ pinned_within h Z q s = record { a = small_mul (own q.w) s.a; b = small_mul (own
 
 -- ---- the vertices
 -- q is a point of the face close enough to the first of its corners a, b, c; k is its main axis
-pub record IsClose (k : Axis) (a b c : Meet) (q : Spot) : Type 0 where
+pub record IsClose (m : ℕ) (k : Axis) (a b c : Spot) (q : Spot) : Type 0 where
   pub weight : pos 0 <ℤ q.w
-  pub at_end : (h : Plane) → IsValidPlane h → sgn (value_at h q) ≡ inside_side h a b c
+  pub at_end : (h : Plane) → IsPlaneWithin m h → sgn (value_at h q) ≡ inside_side h a b c
   pub apart : (h : Plane) → inside_side h a b c ≡ Zero → along h k ≡ pos 0 → NoNormal h
 
--- so is n large enough, of a path from the corner lo of a box
-pub record AreStops (k : Axis) (lo : Vector) (a b c : Meet) (q : Spot) (n : ℕ) : Type 0 where
-  pub close : IsClose k a b c q
-  pub large : 2 ^ 27 ≤ n
-  pub once : unsigned_abs q.w * 33554431 < n
-  pub twice : unsigned_abs q.w * (unsigned_abs q.w * 33554431) < n
-  pub valid_once : (h : Plane) → IsSupportSized h → IsValidPlane (slid_once_to k lo h)
-  pub valid_twice : (h : Plane) → IsSupportSized h → IsValidPlane (slid_twice_to k lo h)
+-- so is n large enough, of a path from the corner lo of a box in steps, whose reference point is shifted by 1/f
+pub record AreStops (m f : ℕ) (k : Axis) (lo : Vector) (a b c : Spot) (q : Spot) (n : ℕ) : Type 0 where
+  pub close : IsClose m k a b c q
+  pub tells : normal_limit m < f
+  pub large : f ≤ n
+  pub two : 2 ≤ n
+  pub once : unsigned_abs q.w * normal_limit m < n
+  pub twice : unsigned_abs q.w * (unsigned_abs q.w * normal_limit m) < n
+  pub within_once : (h : Plane) → IsSupportWithin m h → IsPlaneWithin m (slid_once_to k lo h)
+  pub within_twice : (h : Plane) → IsSupportWithin m h → IsPlaneWithin m (slid_twice_to k lo h)
 
 abbrev pub stop_at_start : Vector → ℕ → Spot
 stop_at_start lo n = offset_by (spot_of_vector lo) (pos n)
@@ -141,25 +143,25 @@ either s Pos t f g = f clash
     clash : Pos ≡ Zero → ⊥
     clash e = cc
 
-sized_normal : (h : Plane) → IsSupportSized h → NormalWithin 33554431 h
+sized_normal : {m : ℕ} (h : Plane) → IsSupportWithin m h → NormalWithin (normal_limit m) h
 sized_normal h s = record { a = s.a; b = s.b; c = s.c }
 
-module _ (k : Axis) (lo : Vector) (a b c : Meet) (q : Spot) (n : ℕ) (s : AreStops k lo a b c q n) where
+module _ (m f : ℕ) (k : Axis) (lo : Vector) (a b c : Spot) (q : Spot) (n : ℕ) (s : AreStops m f k lo a b c q n) where
   abbrev start : Spot
   start = stop_at_start lo n
 
-  large_above : 33554431 < n
-  large_above = let l = s.large in omega arith
+  large_above : normal_limit m < n
+  large_above = omega (arith, s.tells, s.large)
 
   -- at a path's start, a plane has the sign that it has at the reference point
-  pub start_sign : (h : Plane) → IsSupportSized h → sgn (value_at h start) ≡ sgn (value_at h (reference_at lo))
+  pub start_sign : (h : Plane) → IsSupportWithin m h → sgn (value_at h start) ≡ sgn (value_at h (reference_beside f lo))
   start_sign h i =
-      sign_near n h lo large_above i.a i.b i.c ∙ sym (sign_near (2 ^ 27) h lo (omega arith) i.a i.b i.c)
+      sign_near n h lo large_above i.a i.b i.c ∙ sym (sign_near f h lo s.tells i.a i.b i.c)
 
   -- the sign of a plane behind a path's first segment
-  pub first_sign : (h : Plane) → IsSupportSized h →
+  pub first_sign : (h : Plane) → IsSupportWithin m h →
       sgn (value_at h (stop_after_first k lo q n)) ≡ or_sign (inside_side (slid_twice_to k lo h) a b c)
-      (sgn (value_at h (reference_at lo)))
+      (sgn (value_at h (reference_beside f lo)))
   first_sign h i = either _ _ _ strict level
     where
       g : Plane
@@ -168,19 +170,19 @@ module _ (k : Axis) (lo : Vector) (a b c : Meet) (q : Spot) (n : ℕ) (s : AreSt
       strict : (inside_side g a b c ≡ Zero → ⊥) → sgn (value_at h (stop_after_first k lo q n)) ≡ inside_side g a b c
       strict nz =
           let p = pinned h (first_of k) q in let w = pinned_within h (first_of k) q (sized_normal h i) in
-          let e = pinned_once h k lo q in let at = s.close.at_end g (s.valid_twice h i) in
+          let e = pinned_once h k lo q in let at = s.close.at_end g (s.within_twice h i) in
           ap sgn (value_pinned h (first_of k) start q)
           ∙ follows n p (spot_of_vector lo) s.once w.a w.b w.c (λ z. nz (sym at ∙ ap sgn (sym e ∙ z))) ∙ ap sgn e ∙ at
 
-      level : inside_side g a b c ≡ Zero → sgn (value_at h (stop_after_first k lo q n)) ≡ sgn (value_at h (reference_at lo))
+      level : inside_side g a b c ≡ Zero → sgn (value_at h (stop_after_first k lo q n)) ≡ sgn (value_at h (reference_beside f lo))
       level z =
           let l = twice_level k lo h (s.close.apart g z (slid_last (slid_once_to (second_of k) lo h) k _)) in
           ap sgn (level_with h (first_of k) start q l) ∙ sgn_scaled (value_at h start) s.close.weight ∙ start_sign h i
 
   -- the sign of a plane behind a path's second segment
-  pub second_sign : (h : Plane) → IsSupportSized h →
+  pub second_sign : (h : Plane) → IsSupportWithin m h →
       sgn (value_at h (stop_after_second k lo q n)) ≡ or_sign (inside_side (slid_once_to k lo h) a b c)
-      (sgn (value_at h (reference_at lo)))
+      (sgn (value_at h (reference_beside f lo)))
   second_sign h i = either _ _ _ strict level
     where
       g : Plane
@@ -190,11 +192,11 @@ module _ (k : Axis) (lo : Vector) (a b c : Meet) (q : Spot) (n : ℕ) (s : AreSt
       strict nz =
           let o = pinned h (second_of k) q in let p = pinned o (first_of k) q in
           let w = pinned_within o (first_of k) q (pinned_within h (second_of k) q (sized_normal h i)) in
-          let e = ap sgn (pinned_twice h k lo q) ∙ sgn_scaled (value_at g q) s.close.weight ∙ s.close.at_end g (s.valid_once h i) in
+          let e = ap sgn (pinned_twice h k lo q) ∙ sgn_scaled (value_at g q) s.close.weight ∙ s.close.at_end g (s.within_once h i) in
           ap sgn (value_pinned h (second_of k) (stop_after_first k lo q n) q ∙ value_pinned o (first_of k) start q)
           ∙ follows n p (spot_of_vector lo) s.twice w.a w.b w.c (λ z. nz (sym e ∙ ap sgn z)) ∙ e
 
-      level : inside_side g a b c ≡ Zero → sgn (value_at h (stop_after_second k lo q n)) ≡ sgn (value_at h (reference_at lo))
+      level : inside_side g a b c ≡ Zero → sgn (value_at h (stop_after_second k lo q n)) ≡ sgn (value_at h (reference_beside f lo))
       level z =
           let l = once_level k lo h (s.close.apart g z (slid_last h k _)) in
           ap sgn (level_with h (second_of k) (stop_after_first k lo q n) q l.1)
@@ -204,22 +206,22 @@ module _ (k : Axis) (lo : Vector) (a b c : Meet) (q : Spot) (n : ℕ) (s : AreSt
 
 -- ---- directly beside the end
 -- m v + s n, if m is large
-beside : (m s : ℕ) (v n : ℤ) → Small 33554431 n → 1 ≤ s → 33554431 * s < m → sgn (pos m *ℤ v +ℤ pos s *ℤ n) ≡ or_sign (sgn v) (sgn n)
-beside m s v n i ls l =
+beside : {b : ℕ} (m s : ℕ) (v n : ℤ) → Small b n → 1 ≤ s → b * s < m → sgn (pos m *ℤ v +ℤ pos s *ℤ n) ≡ or_sign (sgn v) (sgn n)
+beside {b} m s v n i ls l =
     let e = *ℤ_comm (pos m) v in let f : pos m *ℤ v +ℤ pos s *ℤ n ≡ v *ℤ pos m +ℤ pos s *ℤ n = omega (arith, linear, e) in
-    let small : Small (33554431 * s) (pos s *ℤ n) = small_within (omega arith) (small_mul (own (pos s)) i) in
+    let small : Small (b * s) (pos s *ℤ n) = small_within (omega arith) (small_mul (own (pos s)) i) in
     ap sgn f ∙ next_sign m v (pos s *ℤ n) small l ∙ ap (λ (t : Sign). or_sign (sgn v) t) (sgn_scaled {c = pos s} n (omega (arith, ints)))
 
-module _ (k : Axis) (q : Spot) (h : Plane) (i : Small 33554431 (along h k)) where
+module _ {b : ℕ} (k : Axis) (q : Spot) (h : Plane) (i : Small b (along h k)) where
   -- the sign of a plane a small step ahead
-  pub after_sign : (m s : ℕ) → 1 ≤ s → 33554431 * s < m → sgn (value_at h (moved (scaled (pos m) q) k (pos s))) ≡ or_sign (sgn (value_at h q)) (sgn (along h k))
+  pub after_sign : (m s : ℕ) → 1 ≤ s → b * s < m → sgn (value_at h (moved (scaled (pos m) q) k (pos s))) ≡ or_sign (sgn (value_at h q)) (sgn (along h k))
   after_sign m s ls l =
       ap sgn (value_moved h (scaled (pos m) q) k (pos s)
       ∙ ap (λ (z : ℤ). z +ℤ pos s *ℤ along h k) (value_scaled (pos m) h q))
       ∙ beside m s (value_at h q) (along h k) i ls l
 
   -- the sign of a plane a small step back
-  pub before_sign : (m s : ℕ) → 1 ≤ s → 33554431 * s < m →
+  pub before_sign : (m s : ℕ) → 1 ≤ s → b * s < m →
       sgn (value_at h (moved (scaled (pos m) q) k (neg_ℤ (pos s)))) ≡ or_sign (sgn (value_at h q))
       (flip (sgn (along h k)))
   before_sign m s ls l =

@@ -7,22 +7,21 @@ use Rattle.ember_model.specs.declared.point.Axis.{Axis}
 use Rattle.ember_model.specs.declared.point.Axis.TheVariants.{X, Y, Z}
 use Rattle.ember_model.specs.declared.point.Corner.{Corner}
 use Rattle.ember_model.specs.Planes.{value_at, unit, times_plane, edge_through}
-use Rattle.ember_point.specs.declared.meet_point.Meet.{Meet}
-use Rattle.ember_point.specs.Points.{spot_of, slid}
+use Rattle.ember_model.specs.declared.point.Spot.{Spot}
+use Rattle.ember_point.specs.Points.{slid}
 use Rattle.ember_trace.specs.declared.edge_line.EdgeLine.{EdgeLine}
-use Rattle.ember_trace.specs.declared.path.Path.{Path}
-use Rattle.ember_trace.specs.Paths.{second_of, slid_to_lo}
+use Rattle.ember_trace.specs.Paths.{Path, second_of, slid_to_lo}
 
 -- the plane through an edge parallel to an axis, times a sign
 abbrev pub edge_times : Corner → Corner → Axis → ℤ → Plane
 edge_times u v k s = times_plane s (edge_through u v (unit k))
 
 -- the side of a plane on which a point lies
-abbrev pub side_at : Plane → Meet → Sign
-side_at p m = sgn (value_at p (spot_of m))
+abbrev pub side_at : Plane → Spot → Sign
+side_at p m = sgn (value_at p m)
 
 -- the side of a line on which a point lies, seen along an axis: by its coordinates along the two other axes
-abbrev pub side_seen : EdgeLine → Axis → Meet → Sign
+abbrev pub side_seen : EdgeLine → Axis → Spot → Sign
 side_seen l X m = sgn (l.dq *ℤ m.y -ℤ l.dp *ℤ m.z -ℤ l.d *ℤ m.w)
 side_seen l Y m = sgn (l.dq *ℤ m.z -ℤ l.dp *ℤ m.x -ℤ l.d *ℤ m.w)
 side_seen l Z m = sgn (l.dq *ℤ m.x -ℤ l.dp *ℤ m.y -ℤ l.d *ℤ m.w)

@@ -1,5 +1,5 @@
 -- Lines along an axis that run through a triangle
-use Rattle.std.specs.Prelude.{ℤ, int_le, int_lt, Bool, ◌&&◌, List, [], ◌∷◌}
+use Rattle.std.specs.Prelude.{ℕ, ℤ, int_le, int_lt, Bool, ◌&&◌, List, [], ◌∷◌}
 use Rattle.std.specs.List.{list_all}
 use Rattle.ember_algebra.specs.declared.Sign.{Sign}
 use Rattle.ember_algebra.specs.Sign.{sgn, is_neg}
@@ -10,7 +10,7 @@ use Rattle.ember_model.specs.declared.tri.Tri.{Tri}
 use Rattle.ember_model.specs.Planes.{value_at, edge_planes}
 use Rattle.ember_box.specs.declared.aabb.Interval.{Interval}
 use Rattle.ember_box.specs.Aabbs.{interval_along, aabb_of_tri}
-use Rattle.ember_ref.specs.References.{reference_at_list}
+use Rattle.ember_ref.specs.References.{reference_of_list}
 use Rattle.ember_trace.specs.Paths.{coordinate, first_of, second_of}
 
 -- all planes of a list are negative at a vertex
@@ -21,15 +21,16 @@ all_behind side ps = list_all (λ p. is_neg (side p)) ps
 abbrev pub contains_above : Interval → ℤ → Bool
 contains_above s at = int_le s.low at && int_lt at s.high
 
--- the line along an axis through the reference point of the box with this least corner runs through the triangle: by
--- the bounding box along the two other axes, and by the edge planes
-abbrev pub line_runs_through : List ℤ → Tri → Axis → Bool
-line_runs_through lo t k =
+-- the line along an axis through the reference point beside this least corner, by shifts of 1/f, runs through the
+-- triangle: by the bounding box along the two other axes, and by the edge planes
+abbrev pub line_runs_through : ℕ → List ℤ → Tri → Axis → Bool
+line_runs_through f lo t k =
     contains_above (interval_along (aabb_of_tri t) (first_of k)) (coordinate lo (first_of k)) &&
     (contains_above (interval_along (aabb_of_tri t) (second_of k)) (coordinate lo (second_of k)) &&
-    all_behind (λ p. sgn (value_at p (reference_at_list lo))) (edge_planes t k))
+    all_behind (λ p. sgn (value_at p (reference_of_list f lo))) (edge_planes t k))
 
 -- the same for the lines of first segments, by the main axis of their path
-abbrev pub first_lines_of : List ℤ → Tri → List Bool
-first_lines_of lo t =
-    line_runs_through lo t (first_of X) ∷ line_runs_through lo t (first_of Y) ∷ line_runs_through lo t (first_of Z) ∷ []
+abbrev pub first_lines_of : ℕ → List ℤ → Tri → List Bool
+first_lines_of f lo t =
+    line_runs_through f lo t (first_of X) ∷ line_runs_through f lo t (first_of Y) ∷
+    line_runs_through f lo t (first_of Z) ∷ []

@@ -1,30 +1,44 @@
 -- Triangles near a box, and counts that leave room for crossings with them
-use Rattle.std.specs.Prelude.{◌≡◌, ℕ, ◌+◌, ◌*◌, ℤ, List, [], ◌∷◌, All, map}
+use Rattle.std.specs.Prelude.{◌≡◌, ℕ, ◌+◌, ◌*◌, ◌^◌, ℤ, List, [], ◌∷◌, All, map}
 use Rattle.ember_algebra.specs.Size.{Small}
 use Rattle.ember_algebra.specs.Sign.{sgn}
 use Rattle.ember_model.specs.declared.tri.Tri.{Tri}
 use Rattle.ember_model.specs.Planes.{value_at}
+use Rattle.ember_width.specs.declared.width.Width.{Ghosts}
 use Rattle.ember_box.specs.Boxes.{Cell}
-use Rattle.ember_ref.specs.References.{reference_at_list}
+use Rattle.ember_ref.specs.References.{reference_of_list}
 use Rattle.ember_trace.specs.declared.near_triangle.NearTriangle.{NearTriangle}
 use Rattle.ember_trace.specs.Lines.{first_lines_of}
 
 -- the triangle alone
-abbrev pub tri_of : NearTriangle → Tri
-tri_of f = f.tri
+abbrev pub tri_of : {W M : Type 0} {G : Ghosts W M} → NearTriangle W M G → Tri
+tri_of n = n.tri
 
--- the near triangle is kept with what it has of the box's reference point: the side of its plane on
--- which the point lies,
--- and the lines through the point that run through it
-pub record HasReference (c : Cell) (f : NearTriangle) : Type 0 where
-  pub side : f.reference_side ≡ sgn (value_at f.support (reference_at_list (c.lo.x ∷ c.lo.y ∷ c.lo.z ∷ [])))
-  pub lines : f.first_lines ≡ first_lines_of (c.lo.x ∷ c.lo.y ∷ c.lo.z ∷ []) f.tri
+-- the coordinates of the least corner of a box
+abbrev pub least_of : Cell → List ℤ
+least_of c = c.lo.x ∷ c.lo.y ∷ c.lo.z ∷ []
+
+-- ---- near a box in steps, whose reference point is beside its least corner by shifts of 1/f
+-- the near triangle is kept with what it has of the box's reference point: the side of its plane on which the point
+-- lies, and the lines through the point that run through it
+pub record HasReferenceBeside {W M : Type 0} {G : Ghosts W M} (f : ℕ) (c : Cell) (n : NearTriangle W M G) : Type 0 where
+  pub side : n.reference_side ≡ sgn (value_at n.support (reference_of_list f (least_of c)))
+  pub lines : n.first_lines ≡ first_lines_of f (least_of c) n.tri
 
 -- the near triangles of the box that are made of these triangles, in order
-pub record AreNearTriangles (ts : List Tri) (c : Cell) (fs : List NearTriangle) : Type 0 where
-  pub tris : map tri_of fs ≡ ts
-  pub reference_sides : All (HasReference c) fs
+pub record AreNearTrianglesBeside {W M : Type 0} {G : Ghosts W M} (f : ℕ) (ts : List Tri) (c : Cell)
+    (ns : List (NearTriangle W M G)) : Type 0 where
+  pub tris : map tri_of ns ≡ ts
+  pub reference_sides : All (HasReferenceBeside f c) ns
 
+-- ---- on the narrow grid
+abbrev pub HasReference : {W M : Type 0} {G : Ghosts W M} → Cell → NearTriangle W M G → Type 0
+HasReference c n = HasReferenceBeside (2 ^ 27) c n
+
+abbrev pub AreNearTriangles : {W M : Type 0} {G : Ghosts W M} → List Tri → Cell → List (NearTriangle W M G) → Type 0
+AreNearTriangles ts c ns = AreNearTrianglesBeside (2 ^ 27) ts c ns
+
+-- ---- counts
 -- counts of a box are at most 36 * 262144 in size: a crossing with each of at most 262144 triangles of a scene for
 -- each of at most 36 halvings. This bound is wider than it has to be: they are winding numbers at a point, and a ray
 -- from there crosses each triangle at most once

@@ -1,20 +1,49 @@
 -- The sides of a plane on which the vertices of a path lie: the path goes from beside the least corner of a
 -- box, along one axis after another, to an inside point of a region (src/path.rt)
-use Rattle.std.specs.Prelude.{◌≡◌, ℤ, pos, List, [], ◌∷◌, Some, slice_get, slice_index_or}
-use Rattle.std.specs.Int.{int_div_euclid}
+use Rattle.std.specs.Prelude.{◌≡◌, ℕ, ℤ, pos, ◌*ℤ◌, ◌<ℤ◌, List, [], ◌∷◌, Some, slice_get, slice_index_or}
 use Rattle.ember_algebra.specs.declared.Sign.{Sign}
 use Rattle.ember_algebra.specs.Sign.{sgn}
 use Rattle.ember_model.specs.declared.plane.Plane.{Plane}
 use Rattle.ember_model.specs.declared.point.Axis.{Axis}
 use Rattle.ember_model.specs.declared.point.Axis.TheVariants.{X, Y, Z}
+use Rattle.ember_model.specs.declared.point.Spot.{Spot}
 use Rattle.ember_model.specs.declared.face.Face.{Face}
 use Rattle.ember_model.specs.Planes.{value_at, main_axis}
-use Rattle.ember_point.specs.declared.meet_point.Meet.{Meet}
-use Rattle.ember_point.specs.Points.{spot_of, slid}
+use Rattle.ember_point.specs.Points.{slid}
+use Rattle.ember_width.specs.declared.width.Width.{Ghosts}
+use Rattle.ember_width.specs.RootFloors.{floor_along}
 use Rattle.ember_poly.specs.Sides.{AreCorners}
 use Rattle.ember_box.specs.Boxes.{Cell}
-use Rattle.ember_ref.specs.References.{reference_at_list, or_sign}
-use Rattle.ember_trace.specs.declared.path.Path.{Path}
+use Rattle.ember_ref.specs.References.{reference_of_list, or_sign}
+use Rattle.ember_trace.specs.declared.path.Path.{Path as PathFields}
+
+-- a path with its corners as points. `lo` is in steps of a grid. The reference point is beside it by 1/fine, and the
+-- root reaches half steps to each side
+pub record Path : Type 0 where
+  pub fine : ℕ
+  pub half : ℤ
+  pub lo : List ℤ
+  pub first_axis : Axis
+  pub second_axis : Axis
+  pub main : Axis
+  pub first_corner : Spot
+  pub second_corner : Spot
+  pub third_corner : Spot
+
+-- the path that the code keeps
+abbrev pub path_of : {W M : Type 0} {G : Ghosts W M} → PathFields W M G → Path
+path_of {W} {M} {G} w =
+    record {
+      fine = G.fine;
+      half = pos 2048 *ℤ G.UNIT;
+      lo = w.lo;
+      first_axis = w.first_axis;
+      second_axis = w.second_axis;
+      main = w.main;
+      first_corner = G.spot w.first_corner;
+      second_corner = G.spot w.second_corner;
+      third_corner = G.spot w.third_corner;
+    }
 
 -- the coordinate of a point along an axis
 abbrev pub coordinate : List ℤ → Axis → ℤ
@@ -24,13 +53,12 @@ coordinate at Z = slice_index_or at 2 (pos 0)
 
 -- the side of a plane on which the path's end lies, the point a + h (b - a) + h^2 (c - a) for small h > 0: that
 -- of the first of a, b, c that isn't on the plane (src/path.rt)
-abbrev pub inside_side : Plane → Meet → Meet → Meet → Sign
-inside_side p a b c =
-    or_sign (sgn (value_at p (spot_of a))) (or_sign (sgn (value_at p (spot_of b))) (sgn (value_at p (spot_of c))))
+abbrev pub inside_side : Plane → Spot → Spot → Spot → Sign
+inside_side p a b c = or_sign (sgn (value_at p a)) (or_sign (sgn (value_at p b)) (sgn (value_at p c)))
 
 -- the side of a plane on which the path begins: the reference point is on the same side
 abbrev pub side_at_start : Path → Plane → Sign
-side_at_start w p = sgn (value_at p (reference_at_list w.lo))
+side_at_start w p = sgn (value_at p (reference_of_list w.fine w.lo))
 
 -- the side of a plane on which it ends
 abbrev pub side_at_end : Path → Plane → Sign
@@ -51,17 +79,9 @@ side_after_first w p =
 abbrev pub side_after_second : Path → Plane → Sign
 side_after_second w p = or_sign (side_at_end w (slid_to_lo w w.main p)) (side_at_start w p)
 
--- the floor of a point's coordinate along an axis
-abbrev pub floor_of : Meet → Axis → ℤ
-floor_of m X = int_div_euclid m.x m.w
-floor_of m Y = int_div_euclid m.y m.w
-floor_of m Z = int_div_euclid m.z m.w
-
 -- the floor of the coordinate of the first corner
 abbrev pub floor_at_end : Path → Axis → ℤ
-floor_at_end w X = int_div_euclid w.first_corner.x w.first_corner.w
-floor_at_end w Y = int_div_euclid w.first_corner.y w.first_corner.w
-floor_at_end w Z = int_div_euclid w.first_corner.z w.first_corner.w
+floor_at_end w k = floor_along k w.first_corner
 
 -- the first and the second of the other two axes
 abbrev pub first_of : Axis → Axis
@@ -79,14 +99,16 @@ pub record HasAxes (w : Path) : Type 0 where
   pub first : w.first_axis ≡ first_of w.main
   pub second : w.second_axis ≡ second_of w.main
 
--- the path to the region from beside the least corner of the box
-pub record IsPathTo (c : Cell) (r : Face) (w : Path) : Type 0 where
+-- the path to the region from beside the least corner of the box in steps, by shifts of 1/f
+pub record IsPathTo (f : ℕ) (c : Cell) (r : Face) (w : Path) : Type 0 where
+  pub fine : w.fine ≡ f
   pub lo : w.lo ≡ c.lo.x ∷ c.lo.y ∷ c.lo.z ∷ []
   pub main : w.main ≡ main_axis r.support
   pub first : w.first_axis ≡ first_of (main_axis r.support)
   pub second : w.second_axis ≡ second_of (main_axis r.support)
-  pub corners : List Meet
-  pub are_corners : AreCorners spot_of r corners
+  pub corners : List Spot
+  pub are_corners : AreCorners (λ v. v) r corners
+  pub weight : pos 0 <ℤ w.first_corner.w
   pub first_corner : slice_get corners 0 ≡ Some w.first_corner
   pub second_corner : slice_get corners 1 ≡ Some w.second_corner
   pub third_corner : slice_get corners 2 ≡ Some w.third_corner

@@ -1,4 +1,4 @@
-//! The winding numbers on both sides of a region. README.md says how.
+//! The winding numbers on both sides of a region, on each grid. README.md says how.
 //!
 //! `trace_sides` (sides.rt) makes a path to the region (path.rt, vertices.rt) and counts how often
 //! the path crosses each near triangle (segments.rt). Most triangles are excluded by their bounding
@@ -26,8 +26,10 @@ mod vertices;
 mod whole_rays;
 
 pub use law::slid_support_planes_are_valid;
-pub use near::near_triangles;
+pub use near::{near_triangles, near_triangles_on};
 pub use near_triangle::NearTriangle;
 pub use region_sides::Sides;
-pub use sides::{sides_beside, sides_traced, trace_sides};
-pub use whole_rays::{sides_by_rays, sides_whole};
+pub use sides::{
+    sides_beside, sides_beside_on, sides_traced, sides_traced_on, trace_sides, trace_sides_on,
+};
+pub use whole_rays::{sides_by_rays, sides_by_rays_on, sides_whole};

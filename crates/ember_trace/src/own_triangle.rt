@@ -5,7 +5,7 @@ ghost use Rattle.ember_algebra.specs.Sign.{is_negative};
 ghost use Rattle.ember_model.specs.Planes.{value_at, edge_planes};
 ghost use Rattle.ember_model.specs.Faces.{edges_of, Everywhere};
 ghost use Rattle.ember_model.specs.ClearTest.{all_negative};
-ghost use Rattle.ember_trace.specs.Paths.{side_at_end};
+ghost use Rattle.ember_trace.specs.Paths.{path_of, side_at_end};
 ghost use Rattle.ember_trace.specs.Lines.{all_behind};
 
 use crate::crossing_signs::is_level;
@@ -14,6 +14,7 @@ use crate::path::Path;
 use ember_algebra::Sign;
 use ember_model::Plane;
 use ember_poly::{Ring, planes, support};
+use ember_width::Width;
 
 // Whether the planes have the same four numbers.
 fn is_same(p: &Plane, q: &Plane) -> bool
@@ -34,7 +35,7 @@ fn has_at(list: &[Plane], index: usize, p: &Plane) -> bool
 }
 
 // `true` only if the region lies behind the plane, because this is its plane with the index.
-fn lies_behind(r: &Ring, index: usize, p: &Plane) -> bool
+fn lies_behind<W: Width>(r: &Ring<W>, index: usize, p: &Plane) -> bool
     ensures { result ≡ true → Everywhere r.now (λ v. is_negative (value_at p.now v) ≡ true) }
 {
     has_at(planes(r), index, p)
@@ -42,7 +43,7 @@ fn lies_behind(r: &Ring, index: usize, p: &Plane) -> bool
 
 // `true` only if the region lies behind all edges of the triangle, because their planes are the
 // region's first three. `false` shows nothing.
-fn lies_behind_edges(r: &Ring, triangle: &NearTriangle) -> bool
+fn lies_behind_edges<W: Width>(r: &Ring<W>, triangle: &NearTriangle<W>) -> bool
     ensures { result ≡ true → Everywhere r.now (λ v. all_negative (edges_of triangle.now.tri) v ≡ true) }
 {
     if !lies_behind(r, 0, &triangle.edges[0]) {
@@ -55,7 +56,7 @@ fn lies_behind_edges(r: &Ring, triangle: &NearTriangle) -> bool
 }
 
 // Whether the triangle's plane has the same numbers as the region's.
-fn shares_plane(triangle: &NearTriangle, way: &Path) -> bool
+fn shares_plane<W: Width>(triangle: &NearTriangle<W>, way: &Path<W>) -> bool
     ensures { result ≡ true → triangle.now.support ≡ way.now.region.now.support }
 {
     is_same(&triangle.support, &support(way.region))
@@ -64,9 +65,9 @@ fn shares_plane(triangle: &NearTriangle, way: &Path) -> bool
 /// `true` only if the line of the last segment runs through the triangle, because the region is a
 /// part of it: all edge planes parallel to the segment are negative at its end. `false` shows
 /// nothing.
-pub fn is_own(triangle: &NearTriangle, way: &Path) -> bool
+pub fn is_own<W: Width>(triangle: &NearTriangle<W>, way: &Path<W>) -> bool
     ensures { result ≡ true →
-        all_behind (λ p. side_at_end way.now p) (edge_planes triangle.now.tri way.now.main) ≡ true }
+        all_behind (λ p. side_at_end (path_of way.now) p) (edge_planes triangle.now.tri way.now.main) ≡ true }
 {
     if !shares_plane(triangle, way) {
         return false;
@@ -79,8 +80,8 @@ pub fn is_own(triangle: &NearTriangle, way: &Path) -> bool
 
 /// The side of the triangle's plane on which the path ends. In the region's plane no corner needs
 /// to be looked at.
-pub fn support_side_at_end(triangle: &NearTriangle, way: &Path) -> Sign
-    ensures { result ≡ side_at_end way.now triangle.now.support }
+pub fn support_side_at_end<W: Width>(triangle: &NearTriangle<W>, way: &Path<W>) -> Sign
+    ensures { result ≡ side_at_end (path_of way.now) triangle.now.support }
 {
     if shares_plane(triangle, way) {
         Sign::Zero

@@ -3,15 +3,17 @@ ghost use Rattle.std.specs.Prelude.{◌≡◌, ◌<◌};
 ghost use Rattle.std.specs.Int.{int_max};
 ghost use Rattle.ember_algebra.specs.Size.{Small};
 ghost use Rattle.ember_box.specs.Boxes.{axis_index};
-ghost use Rattle.ember_trace.specs.Paths.{HasAxes, coordinate, floor_at_end};
+ghost use Rattle.ember_box.specs.Aabbs.{most_wall};
+ghost use Rattle.ember_trace.specs.Paths.{path_of, HasAxes, coordinate};
 ghost use Rattle.ember_trace.specs.Lines.{contains_above};
-ghost use Rattle.ember_trace.specs.Crossings.{begins_by, may_contain, in_root, AreLimits};
+ghost use Rattle.ember_trace.specs.Crossings.{begins_by, may_contain, floor_in_root, AreLimits};
 
 use crate::limits::Limits;
 use crate::path::Path;
 use crate::vertices::coordinate;
 use ember_box::Interval;
 use ember_model::Axis;
+use ember_width::Width;
 
 /// Whether `at` plus any small number above 0 is strictly between the ends of the interval.
 pub fn contains_above(interval: &Interval, at: i32) -> bool
@@ -46,58 +48,26 @@ pub fn index_of(k: Axis) -> usize
     }
 }
 
-// Clamps a coordinate to the root.
-fn in_root(floor: i128) -> i32
-    ensures value { result ≡ in_root floor }
-    ensures small { Small 2048 result }
+// The floor of a coordinate of the path's end, moved into the root.
+fn floor_in_root<W: Width>(way: &Path<W>, k: Axis) -> i32
+    ensures value { result ≡ floor_in_root (path_of way.now) k }
+    ensures small { Small most_wall result }
 {
-    if floor < -2048 {
-        -2048
-    } else if 2048 < floor {
-        2048
-    } else {
-        floor as i32
-    }
+    W::floor_in_root(&way.first_corner, k)
 }
 
-// Clamps a coordinate of 64 bits to the root.
-fn narrow_in_root(floor: i64) -> i32
-    ensures value { result ≡ in_root floor }
-    ensures small { Small 2048 result }
-{
-    if floor < -2048 {
-        -2048
-    } else if 2048 < floor {
-        2048
-    } else {
-        floor as i32
-    }
-}
-
-// The floor of a coordinate of the path's end, clamped to the root.
-fn floor_in_root(way: &Path, k: Axis) -> i32
-    ensures value { result ≡ in_root (floor_at_end way.now k) }
-    ensures small { Small 2048 result }
-{
-    if way.narrow {
-        narrow_in_root(way.narrow_floor_at_end(k))
-    } else {
-        in_root(way.floor_at_end(k))
-    }
-}
-
-// The greater of the coordinate of the path's start along an axis and the clamped floor of its end.
-fn farthest(way: &Path, k: Axis) -> i32
-    ensures value { result ≡ int_max (in_root (floor_at_end way.now k)) (coordinate way.now.lo k) }
-    ensures small { Small 2048 result }
+// The greater of the coordinate of the path's start along an axis and the moved floor of its end.
+fn farthest<W: Width>(way: &Path<W>, k: Axis) -> i32
+    ensures value { result ≡ int_max (floor_in_root (path_of way.now) k) (coordinate way.now.lo k) }
+    ensures small { Small most_wall result }
 {
     floor_in_root(way, k).max(coordinate(way.lo, k))
 }
 
 /// The limits of a path.
-pub fn limits_of(way: &Path) -> Limits
-    requires { HasAxes way.now }
-    ensures { AreLimits way.now result }
+pub fn limits_of<W: Width>(way: &Path<W>) -> Limits
+    requires { HasAxes (path_of way.now) }
+    ensures { AreLimits (path_of way.now) result }
 {
     let first_index = index_of(way.first_axis);
     let second_index = index_of(way.second_axis);

@@ -1,14 +1,16 @@
 // The sides of a region, by the crossings on the path to it.
-ghost use Rattle.std.specs.Prelude.{◌≡◌, ℕ, ◌+◌, ◌≤◌, All, IfOk, length, map, neg_ℤ};
+ghost use Rattle.std.specs.Prelude.{◌≡◌, ℕ, ◌+◌, ◌*◌, ◌^◌, ◌≤◌, All, IfOk, length, map, neg_ℤ};
 ghost use Rattle.ember_algebra.specs.Size.{Small};
+ghost use Rattle.ember_model.specs.Within.{IsTriWithin};
 ghost use Rattle.ember_model.specs.Valid.{IsValidTri};
 ghost use Rattle.ember_model.specs.Meshes.{HasMesh};
 ghost use Rattle.ember_law.specs.Counts.{with_more};
-ghost use Rattle.ember_trace.specs.Boxed.{AreSides, AreRegionSides, AreOnlySides};
-ghost use Rattle.ember_trace.specs.NearTriangles.{AreBoxCounts, HasReference, AreWithinBound, tri_of};
-ghost use Rattle.ember_trace.specs.Crossings.{AreTraced, AreTracedBy};
+ghost use Rattle.ember_box.specs.Boxes.{in_steps};
+ghost use Rattle.ember_trace.specs.Boxed.{AreSidesWithin, AreRegionSidesWithin, AreOnlySidesWithin, AreSides, AreRegionSides, AreOnlySides};
+ghost use Rattle.ember_trace.specs.NearTriangles.{AreBoxCounts, HasReferenceBeside, HasReference, AreWithinBound, tri_of};
+ghost use Rattle.ember_trace.specs.Crossings.{AreTracedBeside, AreTracedBesideBy, AreTraced, AreTracedBy};
 
-use crate::near::near_triangles;
+use crate::near::near_triangles_on;
 use crate::near_triangle::NearTriangle;
 use crate::path_limits::limits_of;
 use crate::region_sides::Sides;
@@ -17,6 +19,7 @@ use crate::vertices::path_to;
 use ember_box::Cell;
 use ember_model::{OutOfMemory, Tri, Vector};
 use ember_poly::Ring;
+use ember_width::{Narrow, Width};
 use std::alloc::Global;
 
 // Subtracts `less` from the count of a mesh, 1 to 64.
@@ -54,17 +57,24 @@ fn take_crossings(sides: &mut Sides, mesh: u32, less: &Crossings)
 }
 
 /// Overwrites `sides` with the sides of a region of a box: the winding numbers directly before and
-/// after it, in every scene that fits what is known at the box. `v` has the winding numbers at the
-/// box's reference point, which are those at the start p of a path (path.rt). For its end q, w(p) =
-/// w(q) + the signed crossings of the path from p to q. So this subtracts from those numbers the
-/// crossings of two paths: one that ends directly before the region, and one that ends directly
-/// after it.
-pub fn trace_sides(near: &[NearTriangle], c: &Cell, v: &Vector, r: &Ring, sides: &mut Sides)
+/// after it, in every scene on a grid that fits what is known at the box. `v` has the winding
+/// numbers at the box's reference point, which are those at the start p of a path (path.rt). For
+/// its end q, w(p) = w(q) + the signed crossings of the path from p to q. So this subtracts from
+/// those numbers the crossings of two paths: one that ends directly before the region, and one that
+/// ends directly after it. The root of the grid ends one step past the corners.
+pub fn trace_sides_on<W: Width>(
+    near: &[NearTriangle<W>],
+    c: &Cell,
+    v: &Vector,
+    r: &Ring<W>,
+    sides: &mut Sides,
+)
     requires few { length near.now ≤ 262144 }
     requires counts { AreBoxCounts v.now.counts }
-    ensures traced { AreTraced c.now near.now v.now.counts r.now sides.new }
-    ensures sides { All (HasReference c.now) near.now →
-        AreSides (map tri_of near.now) c.now v.now.counts r.now sides.new }
+    requires root { 2 ^ W.scale * 2048 ≤ W.corner + 1 }
+    ensures traced { AreTracedBeside W.fine (in_steps W.scale c.now) near.now v.now.counts r.now sides.new }
+    ensures sides { All (HasReferenceBeside W.fine (in_steps W.scale c.now)) near.now → AreSidesWithin W.corner W.fine
+        (map tri_of near.now) (in_steps W.scale c.now) v.now.counts r.now sides.new }
     ensures before { AreWithinBound (length near.now) v.now.counts sides.new.before.counts }
     ensures after { AreWithinBound (length near.now) v.now.counts sides.new.after.counts }
 {
@@ -78,7 +88,44 @@ pub fn trace_sides(near: &[NearTriangle], c: &Cell, v: &Vector, r: &Ring, sides:
     }
 }
 
-/// The sides of a region of a box, as `trace_sides` puts them. Only tests call this.
+/// The same on the narrow grid.
+pub fn trace_sides(near: &[NearTriangle], c: &Cell, v: &Vector, r: &Ring, sides: &mut Sides)
+    requires few { length near.now ≤ 262144 }
+    requires counts { AreBoxCounts v.now.counts }
+    ensures traced { AreTraced c.now near.now v.now.counts r.now sides.new }
+    ensures sides { All (HasReference c.now) near.now →
+        AreSides (map tri_of near.now) c.now v.now.counts r.now sides.new }
+    ensures before { AreWithinBound (length near.now) v.now.counts sides.new.before.counts }
+    ensures after { AreWithinBound (length near.now) v.now.counts sides.new.after.counts }
+{
+    trace_sides_on(near, c, v, r, sides);
+}
+
+/// The sides of a region of a box, as `trace_sides_on` puts them. Only tests call this.
+pub fn sides_beside_on<W: Width>(
+    near: &[NearTriangle<W>],
+    c: &Cell,
+    v: &Vector,
+    r: &Ring<W>,
+) -> Sides
+    requires few { length near.now ≤ 262144 }
+    requires counts { AreBoxCounts v.now.counts }
+    requires root { 2 ^ W.scale * 2048 ≤ W.corner + 1 }
+    ensures traced { AreTracedBeside W.fine (in_steps W.scale c.now) near.now v.now.counts r.now result }
+    ensures sides { All (HasReferenceBeside W.fine (in_steps W.scale c.now)) near.now → AreSidesWithin W.corner W.fine
+        (map tri_of near.now) (in_steps W.scale c.now) v.now.counts r.now result }
+    ensures before { AreWithinBound (length near.now) v.now.counts result.before.counts }
+    ensures after { AreWithinBound (length near.now) v.now.counts result.after.counts }
+{
+    let mut sides = Sides {
+        before: *v,
+        after: *v,
+    };
+    trace_sides_on(near, c, v, r, &mut sides);
+    sides
+}
+
+/// The same on the narrow grid, as `trace_sides` puts them. Only tests call this.
 pub fn sides_beside(near: &[NearTriangle], c: &Cell, v: &Vector, r: &Ring) -> Sides
     requires few { length near.now ≤ 262144 }
     requires counts { AreBoxCounts v.now.counts }
@@ -88,16 +135,39 @@ pub fn sides_beside(near: &[NearTriangle], c: &Cell, v: &Vector, r: &Ring) -> Si
     ensures before { AreWithinBound (length near.now) v.now.counts result.before.counts }
     ensures after { AreWithinBound (length near.now) v.now.counts result.after.counts }
 {
-    let mut sides = Sides {
-        before: *v,
-        after: *v,
-    };
-    trace_sides(near, c, v, r, &mut sides);
-    sides
+    sides_beside_on(near, c, v, r)
 }
 
-/// The sides of a region of a box, as `sides_beside` gives them for the triangles near the box.
+/// The sides of a region of a box, as `sides_beside_on` gives them for the triangles near the box.
 /// Meshes are numbered from 1 to 64. Only tests call this. The only error is out-of-memory.
+pub fn sides_traced_on<W: Width>(
+    alloc: Global,
+    near: &[Tri],
+    c: &Cell,
+    v: &Vector,
+    r: &Ring<W>,
+) -> Result<Sides, OutOfMemory>
+    requires within { All (IsTriWithin W.corner) near.now }
+    requires numbered { All (HasMesh 64) near.now }
+    requires few { length near.now ≤ 262144 }
+    requires counts { AreBoxCounts v.now.counts }
+    requires root { 2 ^ W.scale * 2048 ≤ W.corner + 1 }
+    ensures traced { IfOk result (λ s. AreTracedBesideBy W.Width W.fine
+        near.now (in_steps W.scale c.now) v.now.counts r.now s) }
+    ensures sides { IfOk result (λ s. AreSidesWithin W.corner W.fine
+        near.now (in_steps W.scale c.now) v.now.counts r.now s) }
+    ensures region { IfOk result (λ s. AreRegionSidesWithin W.corner W.fine
+        near.now (in_steps W.scale c.now) v.now.counts r.now s) }
+    ensures only { IfOk result (λ s. AreOnlySidesWithin W.corner W.fine
+        near.now (in_steps W.scale c.now) v.now.counts r.now s) }
+    ensures before { IfOk result (λ s. AreWithinBound (length near.now) v.now.counts s.before.counts) }
+    ensures after { IfOk result (λ s. AreWithinBound (length near.now) v.now.counts s.after.counts) }
+{
+    let near = near_triangles_on::<W>(alloc, near, c)?;
+    Ok(sides_beside_on(near.as_slice(), c, v, r))
+}
+
+/// The same on the narrow grid. Only tests call this.
 pub fn sides_traced(
     alloc: Global,
     near: &[Tri],
@@ -109,13 +179,12 @@ pub fn sides_traced(
     requires numbered { All (HasMesh 64) near.now }
     requires few { length near.now ≤ 262144 }
     requires counts { AreBoxCounts v.now.counts }
-    ensures traced { IfOk result (λ s. AreTracedBy near.now c.now v.now.counts r.now s) }
+    ensures traced { IfOk result (λ s. AreTracedBy ⟦<Narrow as Width>⟧ near.now c.now v.now.counts r.now s) }
     ensures sides { IfOk result (λ s. AreSides near.now c.now v.now.counts r.now s) }
     ensures region { IfOk result (λ s. AreRegionSides near.now c.now v.now.counts r.now s) }
     ensures only { IfOk result (λ s. AreOnlySides near.now c.now v.now.counts r.now s) }
     ensures before { IfOk result (λ s. AreWithinBound (length near.now) v.now.counts s.before.counts) }
     ensures after { IfOk result (λ s. AreWithinBound (length near.now) v.now.counts s.after.counts) }
 {
-    let near = near_triangles(alloc, near, c)?;
-    Ok(sides_beside(near.as_slice(), c, v, r))
+    sides_traced_on(alloc, near, c, v, r)
 }

@@ -2,7 +2,8 @@
 ghost use Rattle.std.specs.Prelude.{◌≡◌, ◌≤◌, All, IfOk, length};
 ghost use Rattle.ember_algebra.specs.Size.{Small};
 ghost use Rattle.ember_algebra.specs.Sign.{is_neg};
-ghost use Rattle.ember_model.specs.Valid.{IsValidTri, IsValidPlane};
+ghost use Rattle.ember_model.specs.Within.{IsTriWithin};
+ghost use Rattle.ember_model.specs.Valid.{IsValidTri};
 ghost use Rattle.ember_model.specs.Meshes.{HasMesh};
 ghost use Rattle.ember_model.specs.Sides.{IsSides};
 ghost use Rattle.ember_box.specs.Boxes.{Cell};
@@ -19,47 +20,47 @@ use ember_law::add_count;
 use ember_model::{
     Axis, OutOfMemory, Plane, Scene, Tri, Vector, edge_plane, main_axis, support_of,
 };
-use ember_point::Meet;
 use ember_poly::{Ring, corners, support};
+use ember_width::{Narrow, Width};
 use std::alloc::Global;
 
 // The first three corners of a region.
-#[derive(Clone, Copy)]
-struct Corners {
-    first: Meet,
-    second: Meet,
-    third: Meet,
+#[derive(Drop)]
+struct Corners<W: Width> {
+    first: W::Point,
+    second: W::Point,
+    third: W::Point,
 }
 
 // The side of a plane on which the region's inside point lies.
-fn side_of(p: &Plane, at: &Corners) -> Sign
-    requires { IsValidPlane p.now }
-    ensures { result ≡ inside_side p.now at.now.first at.now.second at.now.third }
+fn side_of<W: Width>(p: &Plane, at: &Corners<W>) -> Sign
+    requires { W.IsPlane p.now }
+    ensures { result ≡ inside_side p.now (W.spot at.now.first) (W.spot at.now.second) (W.spot at.now.third) }
 {
-    inside_side(p, &at.first, &at.second, &at.third)
+    inside_side::<W>(p, &at.first, &at.second, &at.third)
 }
 
 // Whether the region's inside point is behind the plane.
-fn is_behind(p: &Plane, at: &Corners) -> bool
-    requires { IsValidPlane p.now }
-    ensures { result ≡ is_neg (inside_side p.now at.now.first at.now.second at.now.third) }
+fn is_behind<W: Width>(p: &Plane, at: &Corners<W>) -> bool
+    requires { W.IsPlane p.now }
+    ensures { result ≡ is_neg (inside_side p.now (W.spot at.now.first) (W.spot at.now.second) (W.spot at.now.third)) }
 {
     matches!(side_of(p, at), Sign::Neg)
 }
 
 // Whether the line through the inside point along the axis runs through the triangle.
-fn is_pierced(t: &Tri, k: Axis, at: &Corners) -> bool
-    requires { IsValidTri t.now }
-    ensures { result ≡ is_pierced t.now k at.now.first at.now.second at.now.third }
+fn is_pierced<W: Width>(t: &Tri, k: Axis, at: &Corners<W>) -> bool
+    requires { IsTriWithin W.corner t.now }
+    ensures { result ≡ is_pierced t.now k (W.spot at.now.first) (W.spot at.now.second) (W.spot at.now.third) }
 {
     is_behind(&edge_plane(t, 0, k), at)
         && (is_behind(&edge_plane(t, 1, k), at) && is_behind(&edge_plane(t, 2, k), at))
 }
 
 // The crossing of the ray that begins directly before the inside point.
-fn ray_before(t: &Tri, k: Axis, at: &Corners) -> i32
-    requires { IsValidTri t.now }
-    ensures value { result ≡ ray_before t.now k at.now.first at.now.second at.now.third }
+fn ray_before<W: Width>(t: &Tri, k: Axis, at: &Corners<W>) -> i32
+    requires { IsTriWithin W.corner t.now }
+    ensures value { result ≡ ray_before t.now k (W.spot at.now.first) (W.spot at.now.second) (W.spot at.now.third) }
     ensures small { Small 1 result }
 {
     let n = support_of(t);
@@ -71,9 +72,9 @@ fn ray_before(t: &Tri, k: Axis, at: &Corners) -> i32
 }
 
 // The crossing of the ray that begins directly after the inside point.
-fn ray_after(t: &Tri, k: Axis, at: &Corners) -> i32
-    requires { IsValidTri t.now }
-    ensures value { result ≡ ray_after t.now k at.now.first at.now.second at.now.third }
+fn ray_after<W: Width>(t: &Tri, k: Axis, at: &Corners<W>) -> i32
+    requires { IsTriWithin W.corner t.now }
+    ensures value { result ≡ ray_after t.now k (W.spot at.now.first) (W.spot at.now.second) (W.spot at.now.third) }
     ensures small { Small 1 result }
 {
     let n = support_of(t);
@@ -87,8 +88,8 @@ fn ray_after(t: &Tri, k: Axis, at: &Corners) -> i32
 /// The sides of a region, from the crossings of whole rays along its main axis with all triangles:
 /// the winding numbers directly before and after it. Meshes are numbered from 1 to 64.
 /// Only tests call this.
-pub fn sides_by_rays(tris: &[Tri], r: &Ring) -> Sides
-    requires valid { All IsValidTri tris.now }
+pub fn sides_by_rays_on<W: Width>(tris: &[Tri], r: &Ring<W>) -> Sides
+    requires within { All (IsTriWithin W.corner) tris.now }
     requires numbered { All (HasMesh 64) tris.now }
     requires few { length tris.now ≤ 262144 }
     ensures ray_counts { AreRayCounts tris.now r.now result }
@@ -98,7 +99,7 @@ pub fn sides_by_rays(tris: &[Tri], r: &Ring) -> Sides
 {
     let k = main_axis(&support(r));
     let corners = corners(r);
-    let at = Corners {
+    let at: Corners<W> = Corners {
         first: corners[0],
         second: corners[1],
         third: corners[2],
@@ -110,6 +111,19 @@ pub fn sides_by_rays(tris: &[Tri], r: &Ring) -> Sides
         add_count(&mut after, t.mesh, ray_after(t, k, &at));
     }
     Sides { before, after }
+}
+
+/// The same on the narrow grid. Only tests call this.
+pub fn sides_by_rays(tris: &[Tri], r: &Ring) -> Sides
+    requires valid { All IsValidTri tris.now }
+    requires numbered { All (HasMesh 64) tris.now }
+    requires few { length tris.now ≤ 262144 }
+    ensures ray_counts { AreRayCounts tris.now r.now result }
+    ensures sides { IsSides tris.now r.now result.before.counts result.after.counts }
+    ensures before { All (Small (length tris.now)) result.before.counts }
+    ensures after { All (Small (length tris.now)) result.after.counts }
+{
+    sides_by_rays_on::<Narrow>(tris, r)
 }
 
 /// The sides of a region, as `sides_by_rays` gives them for all triangles of the scene. Only tests

@@ -6,7 +6,7 @@ use Rattle.ember_model.specs.declared.tri.Tri.{Tri}
 use Rattle.ember_model.specs.FaceFiles.{header, ending}
 use Rattle.ember_model.specs.Meshes.{IsScene, faces_of}
 use Rattle.ember_expr.specs.Formula.{Formula}
-use Rattle.ember_leaf.specs.declared.kept.Kept.{Kept}
+use Rattle.ember_leaf.specs.KeptRegions.{NarrowKept as Kept}
 use Rattle.ember_leaf.specs.Scenes.{IsWritten}
 use Rattle.ember_leaf.proofs.WrittenRegionsUnique.{written_unique}
 use Rattle.ember_pairs.specs.declared.pair.Pair.{Pair}

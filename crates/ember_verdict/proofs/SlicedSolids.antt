@@ -16,7 +16,7 @@ use Rattle.ember_box.specs.Boxes.{Cell, root}
 use Rattle.ember_box.specs.Aabbs.{aabb_of_cell}
 use Rattle.ember_box.specs.Near.{near}
 use Rattle.ember_box.specs.Halving.{leaves}
-use Rattle.ember_leaf.specs.declared.kept.Kept.{Kept}
+use Rattle.ember_leaf.specs.KeptRegions.{NarrowKept as Kept}
 use Rattle.ember_leaf.specs.Scenes.{LeafGives, regions, nothing, IsWritten}
 use Rattle.ember_leaf.specs.Written.{IsWrittenOfRegion, unowned, same_value, written, IsWrittenOf, regional, hidden, front}
 use Rattle.ember_leaf.proofs.WallClips.{each_every}

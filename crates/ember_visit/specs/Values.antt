@@ -1,15 +1,15 @@
 -- What is known of an expression in a whole box, and what becomes of a job
-use Rattle.std.specs.Prelude.{ℕ, ◌≤ℤ◌, ◌<ℤ◌, ◌==◌, ◌||◌, Bool, true, false, List, [], ◌∷◌, Option, None, Some}
+use Rattle.std.specs.Prelude.{ℕ, ◌^◌, ◌≤ℤ◌, ◌<ℤ◌, ◌==◌, ◌||◌, Bool, true, false, List, [], ◌∷◌, Option, None, Some}
 use Rattle.ember_algebra.specs.Vector.{Vector}
 use Rattle.ember_model.specs.declared.tri.Tri.{Tri}
 use Rattle.ember_model.specs.declared.point.Axis.{Axis}
 use Rattle.ember_expr.specs.Formula.{Formula}
 use Rattle.ember_known.specs.Known.{known}
 use Rattle.ember_box.specs.Boxes.{Cell, entry_along, low, high}
-use Rattle.ember_box.specs.Halving.{is_leaf, halving_axis}
+use Rattle.ember_box.specs.Halving.{is_leaf_on, halving_axis_on}
 use Rattle.ember_job.specs.declared.job.Job.{Job}
 use Rattle.ember_job.specs.Works.{Shape, halved, leafed, passed}
-use Rattle.ember_visit.specs.Jobs.{near_of, left_job, right_job}
+use Rattle.ember_visit.specs.Jobs.{near_of, left_job_on, right_job_on}
 
 -- whether a triangle of the mesh is among these
 abbrev pub has_mesh : List Tri → ℕ → Bool
@@ -37,9 +37,14 @@ abbrev pub leaf_or : Bool → Shape → Shape
 leaf_or true s = leafed
 leaf_or false s = s
 
--- a box is skipped if its value is known, and otherwise it is a leaf or is halved along its axis
-unfoldable pub shape : List Tri → Formula → Job → Shape
-shape ts f j =
-    let k = halving_axis (near_of ts j) j.cell in
+-- a box is skipped if its value is known, and otherwise it is a leaf or is halved along its axis; on a grid on which a
+-- unit has 2^s steps, with reference points beside the boxes in steps by shifts of 1/fine
+unfoldable pub shape_on : ℕ → ℕ → List Tri → Formula → Job → Shape
+shape_on s fine ts f j =
+    let k = halving_axis_on s (near_of ts j) j.cell in
     unless_known (box_value ts f j)
-    (leaf_or (is_leaf (near_of ts j) j.cell) (halved (left_job ts j k) (right_job ts j k)))
+    (leaf_or (is_leaf_on s (near_of ts j) j.cell) (halved (left_job_on s ts j k) (right_job_on s fine ts j k)))
+
+-- the same on the narrow grid
+abbrev pub shape : List Tri → Formula → Job → Shape
+shape ts f j = shape_on 0 (2 ^ 27) ts f j

@@ -3,14 +3,21 @@ ghost use Rattle.std.specs.Prelude.{ℕ, List, map};
 ghost use Rattle.std.specs.List.{AllByRecursion};
 ghost use Rattle.ember_meaning.specs.Closed.Chains.{face_from, IsOutlined};
 ghost use Rattle.ember_expr.specs.Formula.{Formula};
-ghost use Rattle.ember_leaf.specs.declared.kept.Kept.{Kept};
-ghost use Rattle.ember_leaf.specs.Scenes.{IsWritten};
-ghost use Rattle.ember_meaning.specs.Regions.Meaning.{IsFalseOutside, HaveMeaning, ReadsWithMeaning};
+ghost use Rattle.ember_leaf.specs.KeptRegions.{NarrowKept as Kept};
+ghost use Rattle.ember_leaf.specs.declared.kept.Kept.{Kept as KeptOn};
+ghost use Rattle.ember_leaf.specs.Scenes.{IsWritten, IsWrittenOn};
+ghost use Rattle.ember_meaning.specs.Regions.Meaning.{IsFalseOutside, HaveMeaning, AreSurfaceWithMeaning, ReadsWithMeaning};
 ghost use Rattle.ember_meaning.specs.Regions.Nearby.{AgreeOver, HaveMeaningNearby, WindNearbyAsHere, WindHereAsNearby, WindOnceAtMost};
 ghost use Rattle.ember_model.specs.FaceFiles.{WrittenFace};
+ghost use Rattle.ember_model.specs.Limits.{most_meshes};
 ghost use Rattle.ember_model.specs.Meshes.{IsScene};
+ghost use Rattle.ember_model.specs.declared.face.Face.{Face};
 ghost use Rattle.ember_model.specs.declared.tri.Tri.{Tri};
+ghost use Rattle.ember_width.specs.Scenes.{IsSceneWithin};
 ghost use Rattle.ember_text.specs.Documents.{IsDocumentText, written_face};
+ghost use Rattle.ember_text.specs.OutlineFaces.{AreOutlineFaces};
+
+use ember_width::Width;
 
 /// Let an expression be false if all winding numbers are 0. Take a point that is clear of the faces
 /// of a scene and of its written regions. The written regions wind around it once if the expression
@@ -25,6 +32,12 @@ pub fn written_regions_have_their_meaning()
 /// edges that lie on this line, as many start at the point as end there.
 pub fn documents_read_with_their_meaning()
     ensures { (scene : List Tri) (f : Formula) (ks : List Kept) (bytes : List ℕ) → IsScene scene 64 → IsWritten scene f ks → IsFalseOutside f → IsDocumentText (map written_face ks) bytes → ReadsWithMeaning scene f bytes }
+{}
+
+/// On each grid, the faces of the outlines of the written regions have this meaning. The edges of
+/// the outlines are their written edges, and they are a closed surface.
+pub fn written_regions_outlined_are_a_surface<W: Width>()
+    ensures { (scene : List Tri) (f : Formula) (ks : List (KeptOn W W.Point)) (faces : List Face) → IsSceneWithin W.corner scene most_meshes → IsWrittenOn W.scale scene f ks → IsFalseOutside f → AreOutlineFaces W.Width (map written_face ks) faces → AreSurfaceWithMeaning scene f faces }
 {}
 
 /// Let the written edges of each face be its outline, and let the faces have the meaning of an

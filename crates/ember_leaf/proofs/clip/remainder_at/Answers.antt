@@ -5,7 +5,7 @@ use Rattle.ember_leaf.proofs.WallClips.{low_stay, high_stay}
 use Rattle.ember_leaf.proofs.clip.remainder_at.Goals as goal
 
 pub returns-then-wall : goal.returns-then-wall
-returns-then-wall c =
+returns-then-wall g c =
     let w = c.args.wall.now in
     high_stay (wall_of w) w.axis w.at c.args.triangle.now.tri w.is_high c.remainder_at_high.result c.if-wall.true refl
     (subst (λ s. IsHighRemainder s w.at c.remainder_at_high.result)
@@ -13,7 +13,7 @@ returns-then-wall c =
     c.remainder_at_high.ensures)
 
 pub returns-else-wall : goal.returns-else-wall
-returns-else-wall c =
+returns-else-wall g c =
     let w = c.args.wall.now in
     low_stay (wall_of w) w.axis w.at c.args.triangle.now.tri w.is_high c.remainder_at_low.result c.if-wall.false refl
     (subst (λ s. IsLowRemainder s w.at c.remainder_at_low.result)

@@ -9,7 +9,7 @@ use Rattle.ember_leaf.proofs.regions.add_all.Goals.{then-is_first, else-is_first
 use Rattle.ember_leaf.proofs.regions.add_all.Goals as goal
 
 pub add_cut-requires-clause-met : goal.add_cut-requires-clause-met
-add_cut-requires-clause-met c =
+add_cut-requires-clause-met g c =
     let at = c.loop-r in let all = ap (λ l. at.yielded ++ l) (sym c.in-Some.ensures.steps.0) ∙ at.invariant.2 in
     elim c.if-is_first.branch [
       | then-is_first w ↦ first_met c.args.cutter.now (into_iter_items c.next.new.self) c.requires.met
@@ -18,7 +18,7 @@ add_cut-requires-clause-met c =
     ]
 
 pub loop-r-preserved-in-Continue-1 : goal.loop-r-preserved-in-Continue-1
-loop-r-preserved-in-Continue-1 c =
+loop-r-preserved-in-Continue-1 g c =
     let at = c.loop-r in let r = c.in-Some.r in (
       split_grows_list c.args.cutter.now c.args.out.now.items at.yielded r at.out.items c.add_cut.new.out.items
           at.invariant.0 c.in_ok-add_cut.ensures,
@@ -28,7 +28,7 @@ loop-r-preserved-in-Continue-1 c =
     )
 
 pub loop-r-preserved : goal.loop-r-preserved
-loop-r-preserved c =
+loop-r-preserved g c =
     let b = c.args.cutter.now in let at = c.loop-r in let r = c.in-Some.r in
     let u : AreLeftByCutter b r (r ∷ []) = elim c.if-is_first.branch [
       | then-is_first w ↦ absurd (clash (w.is_cut-is ∙ w.if-is_first.true) c.if-is_cut.false)

@@ -3,4 +3,4 @@ use Rattle.ember_leaf.specs.Cutters.{AreSplit}
 use Rattle.ember_leaf.proofs.regions.count_apart.Given as goal
 
 abbrev pub invariant-loop-i : goal.invariant-loop-i
-invariant-loop-i l = AreSplit l.cutter (take l.i l.list) (take l.i l.list)
+invariant-loop-i g l = AreSplit l.cutter (take l.i l.list) (take l.i l.list)

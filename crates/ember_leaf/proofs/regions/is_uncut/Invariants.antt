@@ -3,4 +3,4 @@ use Rattle.ember_leaf.proofs.Pieces.{AreUncut}
 use Rattle.ember_leaf.proofs.regions.is_uncut.Given as goal
 
 abbrev pub invariant-loop-p : goal.invariant-loop-p
-invariant-loop-p l = AreUncut l.r (take l.p-index l.planes)
+invariant-loop-p g l = AreUncut l.r (take l.p-index l.planes)

@@ -6,17 +6,17 @@ use Rattle.ember_leaf.proofs.regions.split_all.Goals.{then-index-len+in_ok-other
 use Rattle.ember_leaf.proofs.regions.split_all.Goals as goal
 
 pub add_all-requires-clause-met : goal.add_all-requires-clause-met
-add_all-requires-clause-met c =
+add_all-requires-clause-met g c =
     subst (MeetsFirst c.args.cutter.now) (ap (drop c.count_apart-index.result) c.deref.ensures.value
     ∙ sym c.in_ok-others.ensures.tail) c.count_apart-index.ensures.met
 
 pub add_all-requires-clause-may_cut : goal.add_all-requires-clause-may_cut
-add_all-requires-clause-may_cut c =
+add_all-requires-clause-may_cut g c =
     let can = CanCut c.args.cutter.now in
     subst (All can) (sym c.in_ok-others.ensures.tail) (all_drop can c.count_apart-index.result c.args.list.items c.requires)
 
 pub returns : goal.returns
-returns c =
+returns g c =
     let fs = c.args.list.items in let b = c.args.cutter.now in let k = c.count_apart-index.result in
     let whole = subst (λ l. AreSplit b (take k l) (take k l)) c.deref.ensures.value c.count_apart-index.ensures.whole in
     elim c.if-index-len.branch [

@@ -6,5 +6,5 @@ use Rattle.ember_leaf.proofs.relation.is_flat.Goals as goal
 
 pub returns : goal.returns
 unfolding is_flat
-returns c =
+returns g c =
     c.has_no_normal.ensures ∙ ap (λ (p : Plane). is_zero p.a && (is_zero p.b && is_zero p.c)) c.args.triangle.now.plane

@@ -2,57 +2,57 @@ use Rattle.std.proofs.Common.{◌≡◌, ◌<◌, All, subst, sym, ◌∙◌, ap
 use Rattle.std.proofs.lemmas.List.{length-map}
 use Rattle.std.proofs.lemmas.Result.{IfOk-weaker}
 use Rattle.ember_model.specs.declared.tri.Tri.{Tri}
-use Rattle.ember_model.specs.Valid.{IsValidTri}
+use Rattle.ember_model.specs.Within.{IsTriWithin}
 use Rattle.ember_model.specs.Meshes.{HasMesh}
+use Rattle.ember_box.specs.Boxes.{in_steps}
 use Rattle.ember_box.specs.Near.{near, listed, tri_at}
-use Rattle.ember_box.specs.Reference.{Fits}
+use Rattle.ember_box.specs.Reference.{FitsWithin}
 use Rattle.ember_expr.specs.Formula.{formula_of}
 use Rattle.ember_leaf.specs.Written.{IsWrittenIn}
 use Rattle.ember_visit.specs.Jobs.{near_of}
 use Rattle.ember_step.proofs.Outcomes.{written_by}
-use Rattle.ember_visit.proofs.IndexLists.{all_listed, numbered_less, job_places, few_listed, counts_within}
+use Rattle.ember_visit.proofs.IndexLists.{all_listed, job_places, few_listed, counts_within}
 use Rattle.ember_step.proofs.step.written_in.Goals as goal
 
-copied : (c : goal.After-deref) → c.deref.result.now ≡ listed c.args.s.now.tris c.args.job.now.list
-copied c = c.deref.ensures.value ∙ c.in_ok-near.ensures ∙ (λ i. listed (c.items.ensures i) (c.items-2.ensures i))
-
 pub listed_tris-requires : goal.listed_tris-requires
-listed_tris-requires c =
-    let ts = c.args.s.now.tris in let list = c.args.job.now.list in
-    let places : All (λ i. i < length c.items.result.now) list =
-    subst (λ us. All (λ i. i < length us) list) (sym c.items.ensures) (job_places ts c.args.job.now c.requires) in
-    subst (All (λ i. i < length c.items.result.now)) (sym c.items-2.ensures) places
+listed_tris-requires g c =
+    subst (All (λ i. i < length c.args.tris.now)) (sym c.items.ensures) (job_places c.args.tris.now c.args.job.now c.requires.job)
 
-pub leaf_faces-requires-clause-valid : goal.leaf_faces-requires-clause-valid
-leaf_faces-requires-clause-valid c =
-    subst (All IsValidTri) (sym (copied c)) (all_listed IsValidTri c.args.s.now.tris c.args.job.now.list
-    c.args.s.now.kept.valid (job_places c.args.s.now.tris c.args.job.now c.requires))
+pub leaf_faces_on-requires-clause-within : goal.leaf_faces_on-requires-clause-within
+leaf_faces_on-requires-clause-within g c =
+    let ts = c.args.tris.now in let copied = c.deref.ensures.value ∙ c.in_ok-near.ensures ∙ (λ i. listed ts (c.items.ensures i)) in
+    subst (All (IsTriWithin g.W.Width.corner)) (sym copied) (all_listed (IsTriWithin g.W.Width.corner) ts c.args.job.now.list
+    c.requires.scene.within (job_places ts c.args.job.now c.requires.job))
 
-pub leaf_faces-requires-clause-numbered : goal.leaf_faces-requires-clause-numbered
-leaf_faces-requires-clause-numbered c =
-    let kept = c.args.s.now.kept in
-    subst (All (HasMesh 64)) (sym (copied c)) (all_listed (HasMesh 64) c.args.s.now.tris c.args.job.now.list
-    (numbered_less c.args.s.now.meshes c.args.s.now.tris kept.few_meshes kept.numbered)
-    (job_places c.args.s.now.tris c.args.job.now c.requires))
+pub leaf_faces_on-requires-clause-numbered : goal.leaf_faces_on-requires-clause-numbered
+leaf_faces_on-requires-clause-numbered g c =
+    let ts = c.args.tris.now in let copied = c.deref.ensures.value ∙ c.in_ok-near.ensures ∙ (λ i. listed ts (c.items.ensures i)) in
+    subst (All (HasMesh 64)) (sym copied) (all_listed (HasMesh 64) ts c.args.job.now.list
+    c.requires.scene.numbered (job_places ts c.args.job.now c.requires.job))
 
-pub leaf_faces-requires-clause-few : goal.leaf_faces-requires-clause-few
-leaf_faces-requires-clause-few c =
+pub leaf_faces_on-requires-clause-few : goal.leaf_faces_on-requires-clause-few
+leaf_faces_on-requires-clause-few g c =
+    let ts = c.args.tris.now in let copied = c.deref.ensures.value ∙ c.in_ok-near.ensures ∙ (λ i. listed ts (c.items.ensures i)) in
     omega (
       arith,
-      ap length (copied c),
-      length-map c.args.job.now.list (λ i. tri_at c.args.s.now.tris i),
-      few_listed c.args.s.now.tris c.args.job.now c.requires c.args.s.now.kept.few,
+      ap length copied,
+      length-map c.args.job.now.list (λ i. tri_at ts i),
+      few_listed ts c.args.job.now c.requires.job c.requires.scene.few,
     )
 
-pub leaf_faces-requires-clause-counts : goal.leaf_faces-requires-clause-counts
-leaf_faces-requires-clause-counts c = counts_within c.args.s.now.tris c.args.job.now c.requires 9437184 (omega arith) c.args.s.now.kept.few
+pub leaf_faces_on-requires-clause-counts : goal.leaf_faces_on-requires-clause-counts
+leaf_faces_on-requires-clause-counts g c = counts_within c.args.tris.now c.args.job.now c.requires.job 9437184 (omega arith) c.requires.scene.few
+
+pub leaf_faces_on-requires-clause-root : goal.leaf_faces_on-requires-clause-root
+leaf_faces_on-requires-clause-root g c = c.requires.root
 
 pub returns : goal.returns
-returns c =
-    let ts = c.args.s.now.tris in let j = c.args.job.now in let f = formula_of c.args.e.now in
-    IfOk-weaker c.leaf_faces.result (λ ks. (scene : List Tri) → Fits scene (near_of ts j) j.cell j.at.counts →
-    IsWrittenIn scene f j.cell (near_of ts j) ks) (λ ks. IsWrittenIn ts f j.cell (near ts j.cell) ks)
-    (λ ks h. written_by ts c.args.s.now.meshes c.args.s.now.kept j c.requires f ks h)
-    (subst (λ us. IfOk c.leaf_faces.result (λ ks. (scene : List Tri) → Fits scene us j.cell j.at.counts →
-    IsWrittenIn scene f j.cell us ks)) (c.deref.ensures.value ∙ c.in_ok-near.ensures
-    ∙ (λ i. listed (c.items.ensures i) (c.items-2.ensures i))) c.leaf_faces.ensures.written)
+returns g c =
+    let ts = c.args.tris.now in let j = c.args.job.now in let f = formula_of c.args.e.now in
+    let box = in_steps g.W.Width.scale j.cell in
+    let copied = c.deref.ensures.value ∙ c.in_ok-near.ensures ∙ (λ i. listed ts (c.items.ensures i)) in
+    IfOk-weaker c.leaf_faces_on.result (λ ks. (scene : List Tri) → FitsWithin g.W.Width.corner g.W.Width.fine scene (near_of ts j) box j.at.counts →
+    IsWrittenIn scene f box (near_of ts j) ks) (λ ks. IsWrittenIn ts f box (near ts box) ks)
+    (λ ks h. written_by g.W.Width.corner ts c.requires.scene j c.requires.job f ks h)
+    (subst (λ us. IfOk c.leaf_faces_on.result (λ ks. (scene : List Tri) → FitsWithin g.W.Width.corner g.W.Width.fine scene us box j.at.counts →
+    IsWrittenIn scene f box us ks)) copied c.leaf_faces_on.ensures.written)

@@ -1,5 +1,5 @@
 use Rattle.std.proofs.Common.{subst}
-use Rattle.ember_leaf.specs.declared.kept.Kept.{Kept}
+use Rattle.ember_leaf.specs.KeptRegions.{NarrowKept as Kept}
 use Rattle.ember_text.specs.Documents.{written_face}
 use Rattle.ember_text.specs.Texts.{Writes}
 use Rattle.ember_text.proofs.GrownBytes.{grown_none}

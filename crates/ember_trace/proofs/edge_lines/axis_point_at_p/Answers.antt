@@ -2,6 +2,7 @@ use Rattle.std.proofs.Common.{◌≡◌, ◌∙◌, arith, ℤ, pos, ◌-ℤ◌,
 use borrow.Author.Differences.{ints}
 use mir.Syntax.{w32, w64}
 use Rattle.ember_algebra.proofs.Exact.{Code, input, number, stored, narrow, ◌⊠◌, ◌⊟◌, ◌&◌, done, exact, bounded}
+use Rattle.ember_trace.specs.LineSizes.{most_step, most_moved}
 use Rattle.ember_trace.proofs.edge_lines.axis_point_at_p.Goals as goal
 
 -- the numbers are dp, dq, d and the coordinate
@@ -18,8 +19,8 @@ pub invariant_of-result : goal.invariant_of-result
 invariant_of-result c =
     let l = c.args.line.now in
     record {
-      small_n = bounded (l.small_dp & l.small_dq & l.small_d & c.requires & done) 4094 (stored w64 n) tt;
-      small_e = bounded (l.small_dp & l.small_dq & l.small_d & c.requires & done) 25145348 (stored w64 e) tt;
+      small_n = bounded (l.small_dp & l.small_dq & l.small_d & c.requires & done) most_step (stored w64 n) tt;
+      small_e = bounded (l.small_dp & l.small_dq & l.small_d & c.requires & done) most_moved (stored w64 e) tt;
     }
 
 pub returns-clause-n : goal.returns-clause-n

@@ -1,12 +1,13 @@
-use Rattle.std.proofs.Common.{◌≡◌, sym, ap, ◌∙◌, arith, ℕ, ℤ, pos, ◌-ℤ◌, ◌*ℤ◌, neg_ℤ}
+use Rattle.std.proofs.Common.{◌≡◌, sym, ap, ◌∙◌, subst, arith, ℕ, ℤ, pos, ◌-ℤ◌, ◌*ℤ◌, neg_ℤ}
 use borrow.Author.Differences.{ints}
 use mir.Syntax.{w32, w64}
-use Rattle.ember_algebra.specs.Size.{Small}
-use Rattle.ember_algebra.proofs.Exact.{Code, input, number, stored, narrow, ◌⊠◌, ◌⊟◌, ◌&◌, done, exact, bounded, no_overflow}
+use Rattle.ember_algebra.proofs.Exact.{Code, input, number, stored, narrow, ◌⊠◌, ◌⊟◌, ◌&◌, done, exact, no_overflow}
 use Rattle.ember_algebra.proofs.Ring.{◌⊕◌, ◌⊖◌, ◌⊗◌, ◌≈◌, num, neg, solve, cancels}
 use Rattle.ember_model.specs.declared.point.Corner.{Corner}
 use Rattle.ember_model.specs.declared.point.Axis.TheVariants.{X, Y, Z}
 use Rattle.ember_model.specs.Planes.{unit, times_plane, edge_through}
+use Rattle.ember_model.specs.Within.{IsEdgeWithin}
+use Rattle.ember_model.proofs.PlaneSizes.{edge_within}
 use Rattle.ember_trace.proofs.edge_lines.edge_plane_times.Goals as goal
 
 abbrev less : Code
@@ -76,11 +77,9 @@ returns-in-X-clause-value c =
     let w = exact (l.small_d & done) (narrow 0) tt ∙ m.d ∙ ed ∙ constant_x s u v in
     rw c.in-X.is (λ i. record { a = x i; b = y i; c = z i; d = w i })
 
-pub returns-in-X-clause-small : goal.returns-in-X-clause-small
-returns-in-X-clause-small c =
-    let l = c.line_through-line.result in let none : Small 4095 (pos 0) = record { small = omega arith } in
-    let one = bounded (l.small_dq & done) 4095 (narrow 0) tt in let other = bounded (l.small_dp & done) 4095 (stored w64 less) tt in
-    record { a = none; b = one; c = other; d = bounded (l.small_d & done) 16777215 (narrow 0) tt }
+pub returns-in-X-clause-within : goal.returns-in-X-clause-within
+returns-in-X-clause-within c = λ m p q.
+    subst (λ h. IsEdgeWithin m h) (sym (returns-in-X-clause-value c)) (edge_within m c.args.u.now c.args.v.now c.args.k c.args.s p q c.requires.s)
 
 pub returns-in-Y-clause-value : goal.returns-in-Y-clause-value
 returns-in-Y-clause-value c =
@@ -95,11 +94,9 @@ returns-in-Y-clause-value c =
     let w = exact (l.small_d & done) (narrow 0) tt ∙ m.d ∙ ed ∙ constant_y s u v in
     rw c.in-Y.is (λ i. record { a = x i; b = y i; c = z i; d = w i })
 
-pub returns-in-Y-clause-small : goal.returns-in-Y-clause-small
-returns-in-Y-clause-small c =
-    let l = c.line_through-line-in-Y.result in let none : Small 4095 (pos 0) = record { small = omega arith } in
-    let one = bounded (l.small_dq & done) 4095 (narrow 0) tt in let other = bounded (l.small_dp & done) 4095 (stored w64 less) tt in
-    record { a = other; b = none; c = one; d = bounded (l.small_d & done) 16777215 (narrow 0) tt }
+pub returns-in-Y-clause-within : goal.returns-in-Y-clause-within
+returns-in-Y-clause-within c = λ m p q.
+    subst (λ h. IsEdgeWithin m h) (sym (returns-in-Y-clause-value c)) (edge_within m c.args.u.now c.args.v.now c.args.k c.args.s p q c.requires.s)
 
 pub returns-in-Z-clause-value : goal.returns-in-Z-clause-value
 returns-in-Z-clause-value c =
@@ -114,8 +111,6 @@ returns-in-Z-clause-value c =
     let w = exact (l.small_d & done) (narrow 0) tt ∙ m.d ∙ ed ∙ constant_z s u v in
     rw c.in-Z.is (λ i. record { a = x i; b = y i; c = z i; d = w i })
 
-pub returns-in-Z-clause-small : goal.returns-in-Z-clause-small
-returns-in-Z-clause-small c =
-    let l = c.line_through-line-in-Z.result in let none : Small 4095 (pos 0) = record { small = omega arith } in
-    let one = bounded (l.small_dq & done) 4095 (narrow 0) tt in let other = bounded (l.small_dp & done) 4095 (stored w64 less) tt in
-    record { a = one; b = other; c = none; d = bounded (l.small_d & done) 16777215 (narrow 0) tt }
+pub returns-in-Z-clause-within : goal.returns-in-Z-clause-within
+returns-in-Z-clause-within c = λ m p q.
+    subst (λ h. IsEdgeWithin m h) (sym (returns-in-Z-clause-value c)) (edge_within m c.args.u.now c.args.v.now c.args.k c.args.s p q c.requires.s)

@@ -1,13 +1,13 @@
-use Rattle.std.proofs.Common.{◌≡◌, ap, ◌∙◌, ℕ, ℤ, pos, ◌-ℤ◌, ◌*ℤ◌}
+use Rattle.std.proofs.Common.{◌≡◌, ap, ◌∙◌, le_refl, ℕ, ℤ, pos, ◌-ℤ◌, ◌*ℤ◌, unsigned_abs}
 use mir.Syntax.{w32}
 use Rattle.ember_algebra.specs.Sign.{sgn}
+use Rattle.ember_algebra.specs.Size.{Small}
 use Rattle.ember_algebra.proofs.Exact.{Code, input, stored, narrow, ◌⊠◌, ◌⊟◌, ◌&◌, done, exact}
 use Rattle.ember_algebra.proofs.Ring.{◌⊕◌, ◌⊖◌, ◌⊗◌, ◌≈◌, num, solve, cancels}
 use Rattle.ember_model.specs.declared.point.Corner.{Corner}
 use Rattle.ember_model.specs.declared.point.Spot.{Spot}
 use Rattle.ember_model.specs.declared.point.Axis.TheVariants.{X, Y, Z}
 use Rattle.ember_model.specs.Planes.{value_at, unit, times_plane, edge_through}
-use Rattle.ember_point.specs.Points.{spot_of}
 use Rattle.ember_trace.proofs.edge_lines.line_of_edge.Goals as goal
 
 -- a line's value, as its numbers say it
@@ -51,20 +51,24 @@ b = narrow 0 ⊠ (place 3 ⊟ place 1)
 abbrev code : Code
 code = a ⊠ input 5 ⊟ b ⊠ input 6 ⊟ (a ⊠ place 1 ⊟ b ⊠ place 2) ⊠ input 7
 
+-- nothing is stored of the point, so its numbers may be of any size
+own : (z : ℤ) → Small (unsigned_abs z) z
+own z = record { small = le_refl (unsigned_abs z) }
+
 pub returns-in-X : goal.returns-in-X
 returns-in-X c = λ m.
-    let u = c.args.u.now in let v = c.args.v.now in let n = m.valid in let r = c.requires in let l = c.line_through.ensures in
-    let e = exact (r.s & r.from.y & r.from.z & r.to.y & r.to.z & n.y & n.z & n.w & done) code tt in
-    rw c.in-X.is (ap sgn ((λ i. l.dq i *ℤ m.y -ℤ l.dp i *ℤ m.z -ℤ l.d i *ℤ m.w) ∙ e ∙ along_x c.args.s u v (spot_of m)))
+    let u = c.args.u.now in let v = c.args.v.now in let r = c.requires in let l = c.line_through.ensures in
+    let e = exact (r.s & r.from.y & r.from.z & r.to.y & r.to.z & own m.y & own m.z & own m.w & done) code tt in
+    rw c.in-X.is (ap sgn ((λ i. l.dq i *ℤ m.y -ℤ l.dp i *ℤ m.z -ℤ l.d i *ℤ m.w) ∙ e ∙ along_x c.args.s u v m))
 
 pub returns-in-Y : goal.returns-in-Y
 returns-in-Y c = λ m.
-    let u = c.args.u.now in let v = c.args.v.now in let n = m.valid in let r = c.requires in let l = c.line_through-in-Y.ensures in
-    let e = exact (r.s & r.from.z & r.from.x & r.to.z & r.to.x & n.z & n.x & n.w & done) code tt in
-    rw c.in-Y.is (ap sgn ((λ i. l.dq i *ℤ m.z -ℤ l.dp i *ℤ m.x -ℤ l.d i *ℤ m.w) ∙ e ∙ along_y c.args.s u v (spot_of m)))
+    let u = c.args.u.now in let v = c.args.v.now in let r = c.requires in let l = c.line_through-in-Y.ensures in
+    let e = exact (r.s & r.from.z & r.from.x & r.to.z & r.to.x & own m.z & own m.x & own m.w & done) code tt in
+    rw c.in-Y.is (ap sgn ((λ i. l.dq i *ℤ m.z -ℤ l.dp i *ℤ m.x -ℤ l.d i *ℤ m.w) ∙ e ∙ along_y c.args.s u v m))
 
 pub returns-in-Z : goal.returns-in-Z
 returns-in-Z c = λ m.
-    let u = c.args.u.now in let v = c.args.v.now in let n = m.valid in let r = c.requires in let l = c.line_through-in-Z.ensures in
-    let e = exact (r.s & r.from.x & r.from.y & r.to.x & r.to.y & n.x & n.y & n.w & done) code tt in
-    rw c.in-Z.is (ap sgn ((λ i. l.dq i *ℤ m.x -ℤ l.dp i *ℤ m.y -ℤ l.d i *ℤ m.w) ∙ e ∙ along_z c.args.s u v (spot_of m)))
+    let u = c.args.u.now in let v = c.args.v.now in let r = c.requires in let l = c.line_through-in-Z.ensures in
+    let e = exact (r.s & r.from.x & r.from.y & r.to.x & r.to.y & own m.x & own m.y & own m.w & done) code tt in
+    rw c.in-Z.is (ap sgn ((λ i. l.dq i *ℤ m.x -ℤ l.dp i *ℤ m.y -ℤ l.d i *ℤ m.w) ∙ e ∙ along_z c.args.s u v m))

@@ -1,6 +1,8 @@
 use Rattle.std.proofs.Common.{List, [], ◌∷◌, ℕ}
 use mir.Syntax.{w32, w64}
 use Rattle.ember_algebra.proofs.Exact.{Code, input, stored, narrow, ◌⊠◌, ◌⊟◌, Inputs, ◌&◌, done, exact, bounded, no_overflow}
+use Rattle.ember_model.specs.Limits.{broad_limit}
+use Rattle.ember_trace.specs.LineSizes.{most_step, most_edge}
 use Rattle.ember_trace.proofs.edge_lines.line_through.Goals as goal
 
 abbrev place : ℕ → Code
@@ -23,7 +25,7 @@ abbrev d : Code
 d = stored w64 ap ⊟ stored w64 bq
 
 abbrev bounds : List ℕ
-bounds = 2047 ∷ 2047 ∷ 2047 ∷ 2047 ∷ 1 ∷ []
+bounds = broad_limit ∷ broad_limit ∷ broad_limit ∷ broad_limit ∷ 1 ∷ []
 
 inputs : (c : goal.Start) → Inputs bounds (c.args.from_p ∷ c.args.from_q ∷ c.args.to_p ∷ c.args.to_q ∷ c.args.s ∷ [])
 inputs c = c.requires.from_p & c.requires.from_q & c.requires.to_p & c.requires.to_q & c.requires.s & done
@@ -46,10 +48,9 @@ overflow_sub-d c = no_overflow (inputs c) w64 d tt
 pub invariant_of-result : goal.invariant_of-result
 invariant_of-result c =
     record {
-      small_dq = bounded (inputs c) 4094 (stored w64 dq) tt;
-      small_dp =
-          bounded (inputs c) 4094 (stored w64 dp) tt;
-      small_d = bounded (inputs c) 16760836 (stored w64 d) tt;
+      small_dq = bounded (inputs c) most_step (stored w64 dq) tt;
+      small_dp = bounded (inputs c) most_step (stored w64 dp) tt;
+      small_d = bounded (inputs c) most_edge (stored w64 d) tt;
     }
 
 pub returns-clause-dq : goal.returns-clause-dq

@@ -1,14 +1,15 @@
 use Rattle.std.proofs.Common.{◌≡◌, ap, ◌∙◌, ℕ, ℤ, pos, ◌+ℤ◌, ◌-ℤ◌, ◌*ℤ◌, neg_ℤ}
-use mir.Syntax.{w32, w128}
+use mir.Syntax.{w32, w64}
 use mir.Val.{to_z, of_z}
 use Rattle.ember_algebra.specs.Sign.{sgn}
-use Rattle.ember_algebra.proofs.Exact.{Code, input, stored, kept, narrow, minus, ◌⊠◌, ◌⊞◌, ◌⊟◌, ◌&◌, done, exact}
+use Rattle.ember_algebra.proofs.Exact.{Code, input, stored, narrow, minus, ◌⊠◌, ◌⊞◌, ◌⊟◌, ◌&◌, done, exact}
 use Rattle.ember_algebra.proofs.Ring.{◌⊕◌, ◌⊖◌, ◌⊗◌, ◌≈◌, num, neg, solve, cancels}
 use Rattle.ember_model.specs.declared.point.Corner.{Corner}
 use Rattle.ember_model.specs.declared.point.Spot.{Spot}
 use Rattle.ember_model.specs.declared.point.Axis.TheVariants.{X, Y, Z}
 use Rattle.ember_model.specs.Planes.{value_at, unit, times_plane, edge_through}
-use Rattle.ember_point.specs.Points.{spot_of, slid}
+use Rattle.ember_point.specs.Points.{slid}
+use Rattle.ember_width.specs.BroadPoints.{short_spot}
 use Rattle.ember_trace.proofs.edge_lines.moved_edge_side.Goals as goal
 
 -- the value of a mark of the line through two places (i, j) and (k, l), at the coordinate x
@@ -61,14 +62,14 @@ b = narrow 0 ⊠ (place 3 ⊟ place 1)
 abbrev d : Code
 d = a ⊠ place 1 ⊟ b ⊠ place 2
 
-abbrev wide : ℤ → ℤ
-wide z = to_z w128 (of_z w128 z)
+abbrev read : ℤ → ℤ
+read z = to_z w64 (of_z w64 z)
 
 abbrev first : Code
-first = minus b ⊠ kept 6 ⊟ (d ⊟ a ⊠ place 5) ⊠ kept 7
+first = minus b ⊠ narrow 6 ⊟ (d ⊟ a ⊠ place 5) ⊠ narrow 7
 
 abbrev last : Code
-last = a ⊠ kept 6 ⊟ (d ⊞ b ⊠ place 5) ⊠ kept 7
+last = a ⊠ narrow 6 ⊟ (d ⊞ b ⊠ place 5) ⊠ narrow 7
 
 pub returns-in-X : goal.returns-in-X
 returns-in-X c = λ by.
@@ -76,9 +77,9 @@ returns-in-X c = λ by.
     let l = c.line_through.ensures in let k = c.axis_point_at_p.ensures in
     let e = exact (r.s & r.from.x & r.from.y & r.to.x & r.to.y & r.at & n.y & n.w & done) first tt in
     rw c.in-X.is (c.axis_point_side.ensures ∙ ap sgn
-    ((λ i. k.n i *ℤ wide m.y -ℤ k.e i *ℤ wide m.w)
-    ∙ (λ i. neg_ℤ (l.dp i) *ℤ wide m.y -ℤ (l.d i -ℤ l.dq i *ℤ to_z w32 (of_z w32 c.args.at)) *ℤ wide m.w) ∙ e
-    ∙ along_x c.args.s c.args.at by u v (spot_of m)))
+    ((λ i. k.n i *ℤ read m.y -ℤ k.e i *ℤ read m.w)
+    ∙ (λ i. neg_ℤ (l.dp i) *ℤ read m.y -ℤ (l.d i -ℤ l.dq i *ℤ to_z w32 (of_z w32 c.args.at)) *ℤ read m.w) ∙ e
+    ∙ along_x c.args.s c.args.at by u v (short_spot m)))
 
 pub returns-in-Y : goal.returns-in-Y
 returns-in-Y c = λ by.
@@ -86,9 +87,9 @@ returns-in-Y c = λ by.
     let l = c.line_through-in-Y.ensures in let k = c.axis_point_at_q.ensures in
     let e = exact (r.s & r.from.x & r.from.y & r.to.x & r.to.y & r.at & n.x & n.w & done) last tt in
     rw c.in-Y.is (c.axis_point_side-in-Y.ensures
-    ∙ ap sgn ((λ i. k.n i *ℤ wide m.x -ℤ k.e i *ℤ wide m.w)
-    ∙ (λ i. l.dq i *ℤ wide m.x -ℤ (l.d i +ℤ l.dp i *ℤ to_z w32 (of_z w32 c.args.at)) *ℤ wide m.w) ∙ e
-    ∙ along_y c.args.s c.args.at by u v (spot_of m)))
+    ∙ ap sgn ((λ i. k.n i *ℤ read m.x -ℤ k.e i *ℤ read m.w)
+    ∙ (λ i. l.dq i *ℤ read m.x -ℤ (l.d i +ℤ l.dp i *ℤ to_z w32 (of_z w32 c.args.at)) *ℤ read m.w) ∙ e
+    ∙ along_y c.args.s c.args.at by u v (short_spot m)))
 
 pub returns-in-Z : goal.returns-in-Z
 returns-in-Z c = λ by.
@@ -96,6 +97,6 @@ returns-in-Z c = λ by.
     let l = c.line_through-in-Z.ensures in let k = c.axis_point_at_p-in-Z.ensures in
     let e = exact (r.s & r.from.z & r.from.x & r.to.z & r.to.x & r.at & n.x & n.w & done) first tt in
     rw c.in-Z.is (c.axis_point_side-in-Z.ensures
-    ∙ ap sgn ((λ i. k.n i *ℤ wide m.x -ℤ k.e i *ℤ wide m.w)
-    ∙ (λ i. neg_ℤ (l.dp i) *ℤ wide m.x -ℤ (l.d i -ℤ l.dq i *ℤ to_z w32 (of_z w32 c.args.at)) *ℤ wide m.w) ∙ e
-    ∙ along_z c.args.s c.args.at by u v (spot_of m)))
+    ∙ ap sgn ((λ i. k.n i *ℤ read m.x -ℤ k.e i *ℤ read m.w)
+    ∙ (λ i. neg_ℤ (l.dp i) *ℤ read m.x -ℤ (l.d i -ℤ l.dq i *ℤ to_z w32 (of_z w32 c.args.at)) *ℤ read m.w) ∙ e
+    ∙ along_z c.args.s c.args.at by u v (short_spot m)))

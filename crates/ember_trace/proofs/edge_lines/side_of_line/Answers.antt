@@ -1,11 +1,11 @@
 use Rattle.std.proofs.Common.{ap, ◌∙◌}
 use Rattle.ember_algebra.specs.Sign.{sgn}
-use Rattle.ember_algebra.proofs.Exact.{Code, input, kept, ◌⊠◌, ◌⊟◌, ◌&◌, done, exact}
+use Rattle.ember_algebra.proofs.Exact.{Code, input, narrow, ◌⊠◌, ◌⊟◌, ◌&◌, done, exact}
 use Rattle.ember_trace.proofs.edge_lines.side_of_line.Goals as goal
 
 -- the numbers are those of the line, each before the one of the point
 abbrev code : Code
-code = input 0 ⊠ kept 1 ⊟ input 2 ⊠ kept 3 ⊟ input 4 ⊠ kept 5
+code = input 0 ⊠ narrow 1 ⊟ input 2 ⊠ narrow 3 ⊟ input 4 ⊠ narrow 5
 
 pub returns-in-X : goal.returns-in-X
 returns-in-X c =

@@ -4,7 +4,7 @@ use Rattle.ember_algebra.proofs.Exact.{input, stored, ◌&◌, done, exact}
 use Rattle.ember_trace.proofs.path_limits.limits_of.Goals as goal
 
 pub returns : goal.returns
-returns c =
+returns g c =
     let a = c.floor_in_root-first.ensures in let b = c.floor_in_root-second.ensures in
     let s = c.farthest-farthest_second.ensures in let m = c.farthest-farthest_main.ensures in let o = c.coordinate-start.ensures in
     record {

@@ -1,12 +1,14 @@
 use Rattle.std.proofs.Common.{sym, ◌∙◌}
+use Rattle.ember_model.proofs.PlaneSizes.{tri_within}
+use Rattle.ember_trace.proofs.SegmentCrossings.{edge_support}
 use Rattle.ember_trace.proofs.LevelTriangles.{level_second}
-use Rattle.ember_trace.specs.Paths.{side_after_first}
+use Rattle.ember_trace.specs.Paths.{path_of, side_after_first}
 use Rattle.ember_trace.proofs.ThreeEdges.{all_three, last_of_three}
 use Rattle.ember_trace.proofs.segments.second_is_behind.Goals as goal
 
 pub returns-then-is_behind_after_first-2 : goal.returns-then-is_behind_after_first-2
-returns-then-is_behind_after_first-2 c =
-    let w = c.args.way.now in
+returns-then-is_behind_after_first-2 g c =
+    let w = path_of c.args.way.now in
     last_of_three c.is_behind_after_first.result c.is_behind_after_first-then-is_behind_after_first.result
     c.is_behind_after_first-then-is_behind_after_first-2.result _ c.if-is_behind_after_first.true
     c.if-is_behind_after_first-2.true (all_three (λ p. side_after_first w p) c.args.triangle.now.tri w.second_axis _ _
@@ -16,4 +18,22 @@ returns-then-is_behind_after_first-2 c =
     c.is_behind_after_first-then-is_behind_after_first-2.ensures)
 
 pub returns-then-is_level : goal.returns-then-is_level
-returns-then-is_level c = sym (level_second c.args.way.now c.args.triangle.now (sym c.is_level.ensures ∙ c.if-is_level.true))
+returns-then-is_level g c = sym (level_second (path_of c.args.way.now) c.args.triangle.now (sym c.is_level.ensures ∙ c.if-is_level.true))
+
+pub edge_plane-requires-clause-tri : goal.edge_plane-requires-clause-tri
+edge_plane-requires-clause-tri g c = tri_within g.met.W.Width.at_most_broad c.args.triangle.now.valid
+
+pub edge_plane-requires-then-is_behind_after_first-clause-tri : goal.edge_plane-requires-then-is_behind_after_first-clause-tri
+edge_plane-requires-then-is_behind_after_first-clause-tri g c = tri_within g.met.W.Width.at_most_broad c.args.triangle.now.valid
+
+pub edge_plane-requires-then-is_behind_after_first-2-clause-tri : goal.edge_plane-requires-then-is_behind_after_first-2-clause-tri
+edge_plane-requires-then-is_behind_after_first-2-clause-tri g c = tri_within g.met.W.Width.at_most_broad c.args.triangle.now.valid
+
+pub is_behind_after_first-requires : goal.is_behind_after_first-requires
+is_behind_after_first-requires g c = edge_support (c.edge_plane.ensures.within g.W.Width.corner c.args.triangle.now.valid)
+
+pub is_behind_after_first-requires-then-is_behind_after_first : goal.is_behind_after_first-requires-then-is_behind_after_first
+is_behind_after_first-requires-then-is_behind_after_first g c = edge_support (c.edge_plane-then-is_behind_after_first.ensures.within g.W.Width.corner c.args.triangle.now.valid)
+
+pub is_behind_after_first-requires-then-is_behind_after_first-2 : goal.is_behind_after_first-requires-then-is_behind_after_first-2
+is_behind_after_first-requires-then-is_behind_after_first-2 g c = edge_support (c.edge_plane-then-is_behind_after_first-2.ensures.within g.W.Width.corner c.args.triangle.now.valid)

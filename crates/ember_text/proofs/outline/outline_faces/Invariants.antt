@@ -1,7 +1,0 @@
-use Rattle.std.proofs.Common.{map, take}
-use Rattle.ember_text.specs.Documents.{written_face}
-use Rattle.ember_text.specs.FacesInTexts.{AreFacesInTexts}
-use Rattle.ember_text.proofs.outline.outline_faces.Given as goal
-
-abbrev pub invariant-loop-k : goal.invariant-loop-k
-invariant-loop-k l = AreFacesInTexts (map written_face (take l.k-index l.kept)) l.faces.items
