@@ -1,5 +1,6 @@
 // Edges that occur more often than their reverse.
 ghost use Rattle.std.specs.Prelude.{◌≡◌, ◌<◌, ◌≤◌, ◌^◌, [], ◌∷◌, ◌++◌, length, map, All, IfOk, OnOk, IsTrue, MatchOption};
+ghost use Rattle.ember_model.specs.Limits.{most_edges, most_triangles};
 ghost use Rattle.ember_model.specs.Valid.{IsValidCorner, IsValidTri};
 ghost use Rattle.ember_model.specs.Meshes.{Edge, reversed, edges_in, IsBalanced};
 ghost use Rattle.ember_balance.specs.Counts.{count};
@@ -57,7 +58,7 @@ impl Numbers {
 
 fn numbers_of(alloc: Global, tris: &[Tri]) -> Result<Numbers, OutOfMemory>
     requires valid { All IsValidTri tris.now }
-    requires few { length tris.now ≤ 262144 }
+    requires few { length tris.now ≤ most_triangles }
     ensures there { IfOk result (λ n. n.there.items ≡ map edge_number (edges_in tris.now)) }
     ensures back { IfOk result (λ n. n.back.items ≡ map edge_number (map reversed (edges_in tris.now))) }
 {
@@ -74,7 +75,7 @@ fn numbers_of(alloc: Global, tris: &[Tri]) -> Result<Numbers, OutOfMemory>
 
 fn sorted_numbers(alloc: Global, tris: &[Tri]) -> Result<Numbers, OutOfMemory>
     requires valid { All IsValidTri tris.now }
-    requires few { length tris.now ≤ 262144 }
+    requires few { length tris.now ≤ most_triangles }
     ensures { IfOk result (λ n. AreNumbers tris.now n.there.items n.back.items) }
 {
     let mut numbers = numbers_of(alloc, tris)?;
@@ -86,8 +87,8 @@ fn sorted_numbers(alloc: Global, tris: &[Tri]) -> Result<Numbers, OutOfMemory>
 // The edge with this number, and how often it and its reverse occur.
 fn loose_with(number: u128, numbers: &Numbers) -> Loose
     requires number { number < 2 ^ 72 }
-    requires there { length numbers.now.there.items ≤ 786432 }
-    requires back { length numbers.now.back.items ≤ 786432 }
+    requires there { length numbers.now.there.items ≤ most_edges }
+    requires back { length numbers.now.back.items ≤ most_edges }
     ensures edge { (e : Edge) → IsValidEdge e → edge_number e ≡ number → edge_of result ≡ e }
     ensures there { result.there ≡ count number numbers.now.there.items }
     ensures back { result.back ≡ count number numbers.now.back.items }
@@ -114,7 +115,7 @@ fn push_two_way(numbers: &mut Vec<u128>, t: &Tri) -> Result<(), OutOfMemory>
 
 fn two_way_numbers(alloc: Global, tris: &[Tri]) -> Result<Vec<u128>, OutOfMemory>
     requires valid { All IsValidTri tris.now }
-    requires few { length tris.now ≤ 262144 }
+    requires few { length tris.now ≤ most_triangles }
     ensures { IfOk result (λ numbers. numbers.items ≡ map two_way_number (edges_in tris.now)) }
 {
     let mut numbers = Vec::with_capacity(alloc, 3 * tris.len())?;
@@ -129,7 +130,7 @@ fn two_way_numbers(alloc: Global, tris: &[Tri]) -> Result<Vec<u128>, OutOfMemory
 // `least_loose` decides.
 fn are_balanced(alloc: Global, tris: &[Tri]) -> Result<bool, OutOfMemory>
     requires valid { All IsValidTri tris.now }
-    requires few { length tris.now ≤ 262144 }
+    requires few { length tris.now ≤ most_triangles }
     ensures { IfOk result (λ b. IsTrue b → IsBalanced tris.now) }
 {
     let mut numbers = two_way_numbers(alloc, tris)?;
@@ -140,7 +141,7 @@ fn are_balanced(alloc: Global, tris: &[Tri]) -> Result<bool, OutOfMemory>
 // The least loose edge, or `None` exactly if the triangles are balanced.
 fn least_loose(alloc: Global, tris: &[Tri]) -> Result<Option<Loose>, OutOfMemory>
     requires valid { All IsValidTri tris.now }
-    requires few { length tris.now ≤ 262144 }
+    requires few { length tris.now ≤ most_triangles }
     ensures value { IfOk result (λ found. found ≡ loose_of tris.now) }
     ensures meaning { IfOk result (λ found. MatchOption found (IsBalanced tris.now) (λ l. IsLeastLoose tris.now l)) }
 {
@@ -156,7 +157,7 @@ fn least_loose(alloc: Global, tris: &[Tri]) -> Result<Option<Loose>, OutOfMemory
 /// edge occurs as often as its reverse.
 pub fn balance(alloc: Global, tris: &[Tri]) -> Result<Option<Loose>, OutOfMemory>
     requires valid { All IsValidTri tris.now }
-    requires few { length tris.now ≤ 262144 }
+    requires few { length tris.now ≤ most_triangles }
     ensures value { IfOk result (λ found. found ≡ loose_of tris.now) }
     ensures meaning { IfOk result (λ found. MatchOption found (IsBalanced tris.now) (λ l. IsLeastLoose tris.now l)) }
 {

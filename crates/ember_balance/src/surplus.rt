@@ -1,11 +1,12 @@
 // The first number that one sorted list has more often than another.
 ghost use Rattle.std.specs.Prelude.{◌≡◌, ◌≤◌, ℕ, length, MatchOption};
 ghost use Rattle.std.specs.List.Sorted.{IsNonDecreasing};
+ghost use Rattle.ember_model.specs.Limits.{most_edges};
 ghost use Rattle.ember_balance.specs.Counts.{count, IsFirstSurplus, HasNoSurplus};
 
 /// How often the number occurs in the list.
 pub fn count(number: u128, numbers: &[u128]) -> u32
-    requires { length numbers.now ≤ 786432 }
+    requires { length numbers.now ≤ most_edges }
     ensures { result ≡ count number numbers.now }
 {
     let mut found = 0;

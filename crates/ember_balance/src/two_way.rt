@@ -1,5 +1,6 @@
 // Whether each edge occurs as often as its reverse: found in one pass over sorted numbers.
 ghost use Rattle.std.specs.Prelude.{◌≡◌, ◌+◌, ◌≤◌, ◌||◌, nat_eq, List, [], ◌∷◌, ◌++◌, ℕ, length, IfSome, IsTrue};
+ghost use Rattle.ember_model.specs.Limits.{most_edges};
 ghost use Rattle.ember_balance.specs.Numbers.{has_one_end, AreTwoWay};
 ghost use Rattle.ember_balance.specs.Tallies.{IsTallied};
 
@@ -23,7 +24,7 @@ impl Tally {
 
     // The tally after one edge more. None if that is another edge and the one before isn't even.
     fn after(&self, two_way: u128) -> Option<Tally>
-        requires { self.now.there + self.now.back ≤ 786432 }
+        requires { self.now.there + self.now.back ≤ most_edges }
         ensures tallied { IfSome result (λ t. (ks : List ℕ) → IsTallied ks self.now →
             IsTallied (ks ++ two_way ∷ []) t) }
         ensures bound { IfSome result (λ t. t.there + t.back ≤ self.now.there + self.now.back + 1) }
@@ -52,7 +53,7 @@ impl Tally {
 /// `true` only if, by the two-way numbers of edges, each edge with two different ends occurs as
 /// often as its reverse. `false` proves nothing unless the numbers are sorted.
 pub fn are_two_way(numbers: &[u128]) -> bool
-    requires { length numbers.now ≤ 786432 }
+    requires { length numbers.now ≤ most_edges }
     ensures { IsTrue result → AreTwoWay numbers.now }
 {
     let mut tally = Tally {

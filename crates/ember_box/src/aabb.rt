@@ -1,7 +1,7 @@
 // Bounding boxes of boxes and of triangles.
 ghost use Rattle.std.specs.Prelude.{◌≡◌, ◌*◌, ◌^◌, ◌&&◌, pos, ◌-ℤ◌, int_le};
 ghost use Rattle.ember_algebra.specs.Size.{Small};
-ghost use Rattle.ember_model.specs.Limits.{broad_limit};
+ghost use Rattle.ember_model.specs.Limits.{broad_limit, wall_limit};
 ghost use Rattle.ember_model.specs.Within.{IsSupportWithin};
 ghost use Rattle.ember_box.specs.Boxes as boxes;
 ghost use Rattle.ember_box.specs.Boxes.{in_steps};
@@ -31,7 +31,7 @@ pub struct Aabb {
 // The interval of the closed box along an axis, in units.
 fn span_along(c: &Cell, k: Axis) -> Interval
     ensures value { result ≡ interval_between (boxes.low c.now k) (boxes.high c.now k) }
-    ensures within { IsIntervalWithin 2048 result }
+    ensures within { IsIntervalWithin wall_limit result }
 {
     let low = c.low(k);
     let side = c.side(k);
@@ -45,7 +45,7 @@ fn span_along(c: &Cell, k: Axis) -> Interval
 fn span_on<W: Width>(c: &Cell, k: Axis) -> Interval
     ensures value { result
         ≡ interval_between (boxes.low (in_steps W.scale c.now) k) (boxes.high (in_steps W.scale c.now) k) }
-    ensures within { IsIntervalWithin (2 ^ W.scale * 2048) result }
+    ensures within { IsIntervalWithin (2 ^ W.scale * wall_limit) result }
     ensures sized { IsIntervalWithin most_wall result }
 {
     let span = span_along(c, k);
@@ -58,7 +58,7 @@ fn span_on<W: Width>(c: &Cell, k: Axis) -> Interval
 /// The bounding box of a box in steps of a grid, with its upper walls.
 pub fn aabb_on<W: Width>(c: &Cell) -> Aabb
     ensures value { result ≡ aabb_of_cell (in_steps W.scale c.now) }
-    ensures within { IsAabbWithin (2 ^ W.scale * 2048) result }
+    ensures within { IsAabbWithin (2 ^ W.scale * wall_limit) result }
     ensures sized { IsAabbWithin most_wall result }
 {
     Aabb {
@@ -71,7 +71,7 @@ pub fn aabb_on<W: Width>(c: &Cell) -> Aabb
 /// The bounding box of a box, with its upper walls, where a unit is one step.
 pub fn aabb_of_cell(c: &Cell) -> Aabb
     ensures value { result ≡ aabb_of_cell c.now }
-    ensures within { IsAabbWithin 2048 result }
+    ensures within { IsAabbWithin wall_limit result }
     ensures sized { IsAabbWithin most_wall result }
 {
     aabb_on::<Narrow>(c)

@@ -1,5 +1,6 @@
 // A box that halving made from the root.
 ghost use Rattle.std.specs.Prelude.{◌≡◌, ◌<◌, ◌≤◌, ◌^◌, [], ◌∷◌, All, pos};
+ghost use Rattle.ember_model.specs.Limits.{root_side, wall_limit};
 ghost use Rattle.ember_algebra.specs.Size.{Small};
 ghost use Rattle.ember_box.specs.Boxes as boxes;
 ghost use Rattle.ember_box.specs.Boxes.{IsCell};
@@ -63,7 +64,7 @@ impl Cell {
     /// Its least corner, in units: at least -2048 along each axis.
     pub fn lo(&self) -> [i32; 3]
         ensures value { result ≡ self.now.lo.x ∷ self.now.lo.y ∷ self.now.lo.z ∷ [] }
-        ensures small { All (Small 2048) result }
+        ensures small { All (Small wall_limit) result }
     {
         [self.low(Axis::X), self.low(Axis::Y), self.low(Axis::Z)]
     }
@@ -71,7 +72,7 @@ impl Cell {
     /// The coordinate of its least corner along an axis, in units.
     pub fn low(&self, axis: Axis) -> i32
         ensures value { result ≡ boxes.low self.now axis }
-        ensures small { Small 2048 result }
+        ensures small { Small wall_limit result }
         ensures kept { IsCell self.now }
     {
         self.lo[axis_index(axis)]
@@ -112,7 +113,7 @@ fn axis_index(k: Axis) -> usize
 fn power_of_two(log: u8) -> u32
     requires { log ≤ 12 }
     ensures value { result ≡ 2 ^ log }
-    ensures bound { result ≤ 4096 }
+    ensures bound { result ≤ root_side }
 {
     1u32 << log
 }
@@ -121,7 +122,7 @@ fn power_of_two(log: u8) -> u32
 fn side_of(log: u8) -> i32
     requires { log ≤ 12 }
     ensures value { result ≡ pos (2 ^ log) }
-    ensures small { Small 4096 result }
+    ensures small { Small root_side result }
 {
     power_of_two(log) as i32
 }

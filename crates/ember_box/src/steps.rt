@@ -1,5 +1,6 @@
 // Boxes measured in the steps of a grid.
 ghost use Rattle.std.specs.Prelude.{◌≡◌, ◌*◌, ◌^◌, pos, ◌*ℤ◌, [], ◌∷◌, All};
+ghost use Rattle.ember_model.specs.Limits.{wall_limit};
 ghost use Rattle.ember_algebra.specs.Size.{Small};
 ghost use Rattle.ember_box.specs.Boxes.{in_steps};
 ghost use Rattle.ember_box.specs.Aabbs.{most_wall};
@@ -10,9 +11,9 @@ use ember_width::Width;
 
 /// A coordinate of a box, in steps. It is given in units.
 pub fn in_steps<W: Width>(x: i32) -> i32
-    requires { Small 2048 x }
+    requires { Small wall_limit x }
     ensures value { result ≡ pos (2 ^ W.scale) *ℤ x }
-    ensures within { Small (2 ^ W.scale * 2048) result }
+    ensures within { Small (2 ^ W.scale * wall_limit) result }
     ensures small { Small most_wall result }
 {
     W::UNIT * x
@@ -22,7 +23,7 @@ pub fn in_steps<W: Width>(x: i32) -> i32
 pub fn lo_on<W: Width>(c: &Cell) -> [i32; 3]
     ensures value { result
         ≡ (in_steps W.scale c.now).lo.x ∷ (in_steps W.scale c.now).lo.y ∷ (in_steps W.scale c.now).lo.z ∷ [] }
-    ensures within { All (Small (2 ^ W.scale * 2048)) result }
+    ensures within { All (Small (2 ^ W.scale * wall_limit)) result }
     ensures small { All (Small most_wall) result }
 {
     [

@@ -1,5 +1,6 @@
 // Signs at reference points, and a vector carried into a cube.
 ghost use Rattle.std.specs.Prelude.{◌<◌, ◌≤◌, length, All};
+ghost use Rattle.ember_model.specs.Limits.{most_triangles};
 ghost use Rattle.ember_model.specs.declared.point.Axis as axis;
 
 use crate::scenes::{first_counts, scene_of_files};
@@ -58,7 +59,7 @@ fn carried(s: &Scene, c: &Cell) -> [i32; 3]
 // The same by some of the triangles.
 fn carried_by(s: &Scene, list: &[u32], c: &Cell) -> [i32; 3]
     requires places { All (λ i. i < length s.now.tris) list.now }
-    requires few { length list.now ≤ 262144 }
+    requires few { length list.now ≤ most_triangles }
     requires side { 0 < c.now.log Axis.Z }
 {
     let mut v = Vector { counts: [0; 64] };

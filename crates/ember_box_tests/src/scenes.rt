@@ -1,5 +1,6 @@
 // Scenes of files, expressions over them, and counts of their first meshes.
 ghost use Rattle.std.specs.Prelude.{◌≡◌, ◌≤◌, length, All, IfOk};
+ghost use Rattle.ember_model.specs.Limits.{most_triangles};
 
 use ember_expr::{Expr, parse};
 use ember_mesh::{Closed, Parts, balanced, check, join};
@@ -10,7 +11,7 @@ use std::test::Fail;
 
 /// The triangles of a file, with this number of a mesh.
 pub fn soup_of(alloc: Global, bytes: &[u8], mesh: u32) -> Result<Soup, Fail>
-    ensures few { IfOk result (λ soup. length soup.tris ≤ 262144) }
+    ensures few { IfOk result (λ soup. length soup.tris ≤ most_triangles) }
     ensures mesh { IfOk result (λ soup. All (λ t. t.mesh ≡ mesh) soup.tris) }
 {
     if bytes.len() > 268_435_456 {

@@ -1,5 +1,6 @@
 // The winding numbers on both sides of regions, found in several ways.
 ghost use Rattle.std.specs.Prelude.{◌<◌, ◌≤◌, All, length};
+ghost use Rattle.ember_model.specs.Limits.{most_triangles};
 ghost use Rattle.ember_model.specs.Meshes.{HasMesh};
 ghost use Rattle.ember_model.specs.Valid.{IsValidTri};
 ghost use Rattle.ember_trace.specs.NearTriangles.{AreBoxCounts};
@@ -31,7 +32,7 @@ fn sides_near(
 ) -> Result<(Sides, Sides), OutOfMemory>
     requires valid { All IsValidTri near.now }
     requires numbered { All (HasMesh 64) near.now }
-    requires few { length near.now ≤ 262144 }
+    requires few { length near.now ≤ most_triangles }
     requires counts { AreBoxCounts v.now.counts }
 {
     let traced = sides_traced(alloc, near, c, v, ring)?;

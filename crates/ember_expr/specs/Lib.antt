@@ -5,3 +5,4 @@ pub mod Grammar
 pub mod Derivation
 pub mod FirstBadToken
 pub mod FirstFault
+pub mod Limits

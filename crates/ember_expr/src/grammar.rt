@@ -1,5 +1,6 @@
 // The grammar of expressions, by recursive descent over the tokens.
 ghost use Rattle.std.specs.Prelude.{◌≡◌, ◌≤◌, ◌<◌, ◌+◌, ◌⊎◌, ◌++◌, ◌∷◌, [], IfOk, IfErr, OnOk, IfSome, MatchResult, MatchOption, length, Ok, Err, Some, None};
+ghost use Rattle.ember_expr.specs.Limits.{most_expression_bytes, most_number};
 ghost use Rattle.ember_expr.specs.Formula.{formula_of, IsFit, IsFitSum, IsFitTerm, IsMeshNumber};
 ghost use Rattle.ember_expr.specs.Grammar.{read, misplaced, limited, mesh_number, mesh_winding, after_number, term, sign_before, after_first, first_term, sum, begins_with, join, chain_of, part_of, expect_close, relation, comparison, odd, not, deeper, whole};
 ghost use Rattle.ember_expr.specs.declared.fault.ExprFault.TheVariants.{Deep, OutOfMemory};
@@ -97,7 +98,7 @@ fn after_number(
     factor: u32,
     tokens: &[Token],
 ) -> Result<(Term, &[Token]), ExprFault>
-    requires { factor ≤ 1000000 }
+    requires { factor ≤ most_number }
     ensures reads { MatchResult result (λ r. after_number scope minus factor tokens.now ≡ read r.0 r.1.now) (λ e.
         after_number scope minus factor tokens.now ≡ Err e) }
     ensures fit { IfOk result (λ r. IsFitTerm scope.meshes r.0) }
@@ -191,7 +192,7 @@ fn first_term(scope: Scope, tokens: &[Token]) -> Result<(Term, &[Token]), ExprFa
 
 // sum = [ "-" ] term { ( "+" | "-" ) term }
 fn sum(alloc: Global, scope: Scope, tokens: &[Token]) -> Result<(Sum, &[Token]), ExprFault>
-    requires { length tokens.now ≤ 4096 }
+    requires { length tokens.now ≤ most_expression_bytes }
     ensures ok { IfOk result (λ r. sum scope tokens.now ≡ read r.0 r.1.now) }
     ensures fault { IfErr result (λ e. (e ≡ OutOfMemory) ⊎ (sum scope tokens.now ≡ Err e)) }
     ensures fit { IfOk result (λ r. IsFitSum scope.meshes r.0) }
@@ -259,7 +260,7 @@ fn relation(scope: Scope, tokens: &[Token]) -> Result<(Rel, &[Token]), ExprFault
 
 // sum rel sum
 fn comparison(alloc: Global, scope: Scope, tokens: &[Token]) -> Result<(Tree, &[Token]), ExprFault>
-    requires { length tokens.now ≤ 4096 }
+    requires { length tokens.now ≤ most_expression_bytes }
     ensures ok { IfOk result (λ r. comparison scope tokens.now ≡ read (formula_of r.0) r.1.now) }
     ensures fault { IfErr result (λ e. (e ≡ OutOfMemory) ⊎ (comparison scope tokens.now ≡ Err e)) }
     ensures fit { IfOk result (λ r. IsFit scope.meshes (formula_of r.0)) }
@@ -294,7 +295,7 @@ fn odd(
     depth_left: u32,
     tokens: &[Token],
 ) -> Result<(Tree, &[Token]), ExprFault>
-    requires { length tokens.now ≤ 4096 }
+    requires { length tokens.now ≤ most_expression_bytes }
     ensures ok { IfOk result (λ r. odd scope (deeper scope depth_left) tokens.now ≡ read (formula_of r.0) r.1.now) }
     ensures fault { IfErr result (λ e. (e ≡ OutOfMemory) ⊎ (odd scope (deeper scope depth_left) tokens.now ≡ Err e)) }
     ensures fit { IfOk result (λ r. IsFit scope.meshes (formula_of r.0)) }
@@ -357,7 +358,7 @@ pub fn read_tree(
     depth_left: u32,
     tokens: &[Token],
 ) -> Result<Tree, ExprFault>
-    requires { length tokens.now ≤ 4096 }
+    requires { length tokens.now ≤ most_expression_bytes }
     ensures tree { IfOk result (λ t. whole scope depth_left tokens.now ≡ Ok (formula_of t)) }
     ensures fault { IfErr result (λ e. (e ≡ OutOfMemory) ⊎ (whole scope depth_left tokens.now ≡ Err e)) }
     ensures fit { IfOk result (λ t. IsFit scope.meshes (formula_of t)) }
@@ -378,7 +379,7 @@ fn chain(
     depth_left: u32,
     tokens: &[Token],
 ) -> Result<(Tree, &[Token]), ExprFault>
-    requires { length tokens.now ≤ 4096 }
+    requires { length tokens.now ≤ most_expression_bytes }
     ensures ok { IfOk result (λ r. chain_of kind (part_of kind (not scope depth_left)) tokens.now ≡
         read (formula_of r.0) r.1.now) }
     ensures fault { IfErr result (λ e. (e ≡ OutOfMemory) ⊎
@@ -404,7 +405,7 @@ fn part(
     depth_left: u32,
     tokens: &[Token],
 ) -> Result<(Tree, &[Token]), ExprFault>
-    requires { length tokens.now ≤ 4096 }
+    requires { length tokens.now ≤ most_expression_bytes }
     ensures ok { IfOk result (λ r. part_of kind (not scope depth_left) tokens.now ≡ read (formula_of r.0) r.1.now) }
     ensures fault { IfErr result (λ e. (e ≡ OutOfMemory) ⊎ (part_of kind (not scope depth_left) tokens.now ≡ Err e)) }
     ensures fit { IfOk result (λ r. IsFit scope.meshes (formula_of r.0)) }
@@ -425,7 +426,7 @@ fn not(
     depth_left: u32,
     tokens: &[Token],
 ) -> Result<(Tree, &[Token]), ExprFault>
-    requires { length tokens.now ≤ 4096 }
+    requires { length tokens.now ≤ most_expression_bytes }
     ensures ok { IfOk result (λ r. not scope depth_left tokens.now ≡ read (formula_of r.0) r.1.now) }
     ensures fault { IfErr result (λ e. (e ≡ OutOfMemory) ⊎ (not scope depth_left tokens.now ≡ Err e)) }
     ensures fit { IfOk result (λ r. IsFit scope.meshes (formula_of r.0)) }

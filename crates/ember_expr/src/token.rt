@@ -1,5 +1,6 @@
 // The tokens of a text.
 ghost use Rattle.std.specs.Prelude.{◌≡◌, ◌≤◌, ◌<◌, ◌++◌, ◌∷◌, [], IfOk, OnOk, length, min};
+ghost use Rattle.ember_expr.specs.Limits.{most_expression_bytes};
 ghost use Rattle.ember_expr.specs.Tokens.{tokens_of, lexeme_of, sign_of, before_equals, named_by, odd_in, digit_run, value_from};
 
 use crate::trees::Rel;
@@ -48,7 +49,7 @@ const LARGE: u32 = 1_000_001;
 
 /// The tokens of a text in order.
 pub fn tokens(alloc: Global, text: &[u8]) -> Result<Vec<Token>, AllocError>
-    requires { length text.now ≤ 4096 }
+    requires { length text.now ≤ most_expression_bytes }
     ensures tokens { IfOk result (λ v. v.items ≡ tokens_of text.now) }
     ensures few { IfOk result (λ v. length v.items ≤ length text.now) }
 {

@@ -1,5 +1,6 @@
 // The truth of a tree at the winding numbers of all meshes.
 ghost use Rattle.std.specs.Prelude.{◌≡◌, ◌≤◌, pos, ◌*ℤ◌};
+ghost use Rattle.ember_expr.specs.Limits.{most_number, product_limit, winding_limit};
 ghost use Rattle.ember_algebra.specs.Size.{Small};
 ghost use Rattle.ember_expr.specs.Formula.{formula_of, IsFit, IsFitSum, IsFitTerm, IsMeshNumber};
 ghost use Rattle.ember_expr.specs.Truth.{AreCounts, count_of, unsigned_value_of, signed, term_value, sum_of, holds_between, truth};
@@ -12,17 +13,17 @@ fn count(mesh: u32, v: &Vector) -> i64
     requires mesh { IsMeshNumber 64 mesh }
     requires counts { AreCounts v.now.counts }
     ensures value { result ≡ count_of v.now.counts mesh }
-    ensures small { Small 16777216 result }
+    ensures small { Small winding_limit result }
 {
     i64::from(v.counts[mesh as usize - 1])
 }
 
 // The product of a factor and a winding number.
 fn product(factor: u32, count: i64) -> i64
-    requires factor { factor ≤ 1000000 }
-    requires count { Small 16777216 count }
+    requires factor { factor ≤ most_number }
+    requires count { Small winding_limit count }
     ensures value { result ≡ pos factor *ℤ count }
-    ensures small { Small 16777216000000 result }
+    ensures small { Small product_limit result }
 {
     i64::from(factor) * count
 }
@@ -33,7 +34,7 @@ fn unsigned_value(term: &Term, v: &Vector) -> i64
     requires fit { IsFitTerm 64 term.now }
     requires counts { AreCounts v.now.counts }
     ensures value { result ≡ unsigned_value_of v.now.counts term.now }
-    ensures small { Small 16777216000000 result }
+    ensures small { Small product_limit result }
 {
     if term.mesh == 0 {
         return product(term.factor, 1);
@@ -43,9 +44,9 @@ fn unsigned_value(term: &Term, v: &Vector) -> i64
 
 // The number, negated if `minus` holds.
 fn signed(minus: bool, number: i64) -> i64
-    requires { Small 16777216000000 number }
+    requires { Small product_limit number }
     ensures value { result ≡ signed minus number }
-    ensures small { Small 16777216000000 result }
+    ensures small { Small product_limit result }
 {
     if minus { -number } else { number }
 }
@@ -55,7 +56,7 @@ fn term_value(term: &Term, v: &Vector) -> i64
     requires fit { IsFitTerm 64 term.now }
     requires counts { AreCounts v.now.counts }
     ensures value { result ≡ term_value v.now.counts term.now }
-    ensures small { Small 16777216000000 result }
+    ensures small { Small product_limit result }
 {
     signed(term.minus, unsigned_value(term, v))
 }

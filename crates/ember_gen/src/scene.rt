@@ -1,5 +1,6 @@
 // The scene of many boxes.
 ghost use Rattle.std.specs.Prelude.{◌≡◌, ◌≤◌, ◌++◌, [], if◌then◌else◌, not, IfOk, OnOk};
+ghost use Rattle.ember_gen.specs.Limits.{most_demo_boxes};
 ghost use Rattle.ember_gen.specs.Blocks.{triangles_of};
 ghost use Rattle.ember_gen.specs.Scene.{is_even, evens, odds, mesh_of, scene_of};
 
@@ -32,7 +33,7 @@ impl Meshes {
 }
 
 fn meshes_of(alloc: Global, n: u32) -> Result<Meshes, OutOfMemory>
-    requires { n ≤ 20000 }
+    requires { n ≤ most_demo_boxes }
     ensures first { IfOk result (λ m. m.first.items ≡ mesh_of 1 (evens n)) }
     ensures second { IfOk result (λ m. m.second.items ≡ mesh_of 2 (odds n)) }
 {
@@ -52,7 +53,7 @@ fn meshes_of(alloc: Global, n: u32) -> Result<Meshes, OutOfMemory>
 /// each: all coordinates are from -1792 to 2047. The boxes with even numbers, from 0, are mesh 1,
 /// and those with odd numbers mesh 2.
 pub fn scene_of(alloc: Global, n: u32) -> Result<Scene, OutOfMemory>
-    requires { n ≤ 20000 }
+    requires { n ≤ most_demo_boxes }
     ensures tris { IfOk result (λ scene. scene.tris ≡ scene_of n) }
     ensures meshes { IfOk result (λ scene. scene.meshes ≡ 2) }
 {

@@ -1,5 +1,6 @@
 // Corners, triangles, planes and points of the tests.
 ghost use Rattle.std.specs.Prelude.{◌≡◌, ◌<◌};
+ghost use Rattle.ember_model.specs.Limits.{narrow_limit};
 ghost use Rattle.ember_algebra.specs.Size.{Small};
 ghost use Rattle.ember_model.specs.declared.point.Axis.TheVariants.{X};
 ghost use Rattle.ember_model.specs.Points.{DifferAlong};
@@ -10,7 +11,7 @@ use ember_point::{Meet, reduce};
 
 // The coordinate, or 0 in place of one that no corner has.
 fn coordinate(x: i32) -> i32
-    ensures { Small 2047 result }
+    ensures { Small narrow_limit result }
 {
     if x > 2047 || x < -2047 { 0 } else { x }
 }

@@ -1,5 +1,6 @@
 // The crossings of rays and segments with a scene.
 ghost use Rattle.std.specs.Prelude.{◌≡◌, ℕ, ◌+◌, ◌≤◌, All, length};
+ghost use Rattle.ember_model.specs.Limits.{count_limit, most_triangles};
 ghost use Rattle.ember_algebra.specs.Size.{Small};
 ghost use Rattle.ember_model.specs.Valid.{IsValidTri, IsValidSpot};
 ghost use Rattle.ember_model.specs.Points.{DifferAlong};
@@ -14,7 +15,7 @@ pub fn add_count(v: &mut Vector, mesh: u32, more: i32)
     requires first { 1 ≤ mesh }
     requires last { mesh ≤ 64 }
     requires more { Small 1 more }
-    requires room { All (Small 1073741823) v.old.counts }
+    requires room { All (Small count_limit) v.old.counts }
     ensures value { v.new.counts ≡ with_more v.old.counts mesh more }
     ensures within { (m : ℕ) → All (Small m) v.old.counts → All (Small (m + 1)) v.new.counts }
 {
@@ -26,7 +27,7 @@ pub fn add_count(v: &mut Vector, mesh: u32, more: i32)
 pub fn count_rays(tris: &[Tri], point: &Spot, axis: Axis, v: &mut Vector)
     requires valid { All IsValidTri tris.now }
     requires numbered { All (HasMesh 64) tris.now }
-    requires few { length tris.now ≤ 262144 }
+    requires few { length tris.now ≤ most_triangles }
     requires spot { IsValidSpot point.now }
     requires room { HasRoom v.old.counts }
     ensures value { v.new.counts ≡ added v.old.counts (vector axis tris.now point.now) }
@@ -42,7 +43,7 @@ pub fn count_rays(tris: &[Tri], point: &Spot, axis: Axis, v: &mut Vector)
 pub fn count_segments(tris: &[Tri], p: &Spot, q: &Spot, a: Axis, v: &mut Vector)
     requires valid { All IsValidTri tris.now }
     requires numbered { All (HasMesh 64) tris.now }
-    requires few { length tris.now ≤ 262144 }
+    requires few { length tris.now ≤ most_triangles }
     requires from { IsValidSpot p.now }
     requires to { IsValidSpot q.now }
     requires line { DifferAlong a p.now q.now }

@@ -1,6 +1,7 @@
 // The written regions of a leaf.
 ghost use Rattle.std.specs.Prelude.{◌≡◌, List, [], ◌∷◌, ◌≤◌, ◌<◌, ◌+◌, ◌*◌, ◌^◌, map, length, All};
 ghost use Rattle.std.specs.Prelude.{IfOk, IfSome, OnOk, option_to_list};
+ghost use Rattle.ember_model.specs.Limits.{most_triangles, wall_limit};
 ghost use Rattle.ember_model.specs.Within.{IsTriWithin};
 ghost use Rattle.ember_model.specs.Valid.{IsValidTri};
 ghost use Rattle.ember_model.specs.Owners.{IsOwner};
@@ -89,9 +90,9 @@ struct Leaf<'a, W: Width> {
 impl<W: Width> Leaf<'_, W> {
     // The region of triangle `i` as it is written, or `None` if it isn't. `sides` is working room.
     fn written_region(&self, i: usize, ring: Ring<W>, sides: &mut Sides) -> Option<Kept<W>>
-        requires few { length self.now.near.now ≤ 262144 }
+        requires few { length self.now.near.now ≤ most_triangles }
         requires counts { AreBoxCounts self.now.windings.now.counts }
-        requires root { 2 ^ W.scale * 2048 ≤ W.corner + 1 }
+        requires root { 2 ^ W.scale * wall_limit ≤ W.corner + 1 }
         requires index { i < length self.now.near.now }
         requires plane { LiesInPlaneOf (tri_at (tris_of self.now.near.now) i) ring }
         requires reference_sides { All (HasReferenceBeside W.fine (in_steps W.scale self.now.cell.now)) self.now.near.now }
@@ -119,9 +120,9 @@ impl<W: Width> Leaf<'_, W> {
         sides: &mut Sides,
         kept: &mut Vec<Kept<W>>,
     ) -> Result<(), OutOfMemory>
-        requires few { length self.now.near.now ≤ 262144 }
+        requires few { length self.now.near.now ≤ most_triangles }
         requires counts { AreBoxCounts self.now.windings.now.counts }
-        requires root { 2 ^ W.scale * 2048 ≤ W.corner + 1 }
+        requires root { 2 ^ W.scale * wall_limit ≤ W.corner + 1 }
         requires index { i < length self.now.near.now }
         requires plane { LiesInPlaneOf (tri_at (tris_of self.now.near.now) i) ring }
         requires regions { AreOwned (in_steps W.scale self.now.cell.now) (tris_of self.now.near.now) i (ring ∷ []) }
@@ -146,9 +147,9 @@ impl<W: Width> Leaf<'_, W> {
         sides: &mut Sides,
         kept: &mut Vec<Kept<W>>,
     ) -> Result<(), OutOfMemory>
-        requires few { length self.now.near.now ≤ 262144 }
+        requires few { length self.now.near.now ≤ most_triangles }
         requires counts { AreBoxCounts self.now.windings.now.counts }
-        requires root { 2 ^ W.scale * 2048 ≤ W.corner + 1 }
+        requires root { 2 ^ W.scale * wall_limit ≤ W.corner + 1 }
         requires index { i < length self.now.near.now }
         requires plane { All (LiesInPlaneOf (tri_at (tris_of self.now.near.now) i)) list.items }
         requires regions { AreOwned (in_steps W.scale self.now.cell.now) (tris_of self.now.near.now) i list.items }
@@ -178,9 +179,9 @@ impl<W: Width> Leaf<'_, W> {
         sides: &mut Sides,
         kept: &mut Vec<Kept<W>>,
     ) -> Result<(), OutOfMemory>
-        requires few { length self.now.near.now ≤ 262144 }
+        requires few { length self.now.near.now ≤ most_triangles }
         requires counts { AreBoxCounts self.now.windings.now.counts }
-        requires root { 2 ^ W.scale * 2048 ≤ W.corner + 1 }
+        requires root { 2 ^ W.scale * wall_limit ≤ W.corner + 1 }
         requires index { i < length self.now.near.now }
         requires walls { map wall_of walls.now ≡ box_walls (in_steps W.scale self.now.cell.now) }
         requires planes { All (λ wall. W.IsPlane (wall_of wall).plane) walls.now }
@@ -234,9 +235,9 @@ pub fn leaf_faces_on<W: Width>(
 ) -> Result<KeptList<W>, OutOfMemory>
     requires within { All (IsTriWithin W.corner) near.now }
     requires numbered { All (HasMesh 64) near.now }
-    requires few { length near.now ≤ 262144 }
+    requires few { length near.now ≤ most_triangles }
     requires counts { AreBoxCounts v.now.counts }
-    requires root { 2 ^ W.scale * 2048 ≤ W.corner + 1 }
+    requires root { 2 ^ W.scale * wall_limit ≤ W.corner + 1 }
     ensures placed { IfOk result (λ ks. ArePlaced near.now ks) }
     ensures written { IfOk result (λ ks. (scene : List TriView) →
         FitsWithin W.corner W.fine scene near.now (in_steps W.scale c.now) v.now.counts →
@@ -283,7 +284,7 @@ pub fn leaf_faces(
 ) -> Result<KeptList, OutOfMemory>
     requires valid { All IsValidTri near.now }
     requires numbered { All (HasMesh 64) near.now }
-    requires few { length near.now ≤ 262144 }
+    requires few { length near.now ≤ most_triangles }
     requires counts { AreBoxCounts v.now.counts }
     ensures placed { IfOk result (λ ks. ArePlaced near.now ks) }
     ensures written { IfOk result (λ ks. (scene : List TriView) → Fits scene near.now c.now v.now.counts →

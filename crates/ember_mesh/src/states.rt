@@ -1,5 +1,6 @@
 // The states of a file's triangles: at most 262,144 of them, and then closed too.
 ghost use Rattle.std.specs.Prelude.{◌≡◌, ◌≤◌, None, length, All, IfOk, IfErr, OnOk};
+ghost use Rattle.ember_model.specs.Limits.{most_triangles};
 ghost use Rattle.ember_model.specs.Valid.{IsValidTri};
 ghost use Rattle.ember_model.specs.Meshes.{IsBalanced};
 ghost use Rattle.ember_balance.specs.Loose.{loose_of};
@@ -74,7 +75,7 @@ impl Parts {
 /// The same triangles and lines, of a file with at most 262,144 triangles. It tests nothing: the
 /// caller has counted them, and [`balanced`] tests whether they are closed.
 pub fn check(soup: Soup) -> Solid
-    requires { length soup.tris ≤ 262144 }
+    requires { length soup.tris ≤ most_triangles }
     ensures tris { result.tris ≡ soup.tris }
     ensures lines { result.lines ≡ soup.lines }
 {

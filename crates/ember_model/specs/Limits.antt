@@ -50,3 +50,36 @@ most_triangles = 262144
 
 abbrev pub most_meshes : ℕ
 most_meshes = 64
+
+-- ---- sizes that are computed with
+-- bytes of a file, and of what is read from one: 2^28
+abbrev pub most_bytes : ℕ
+most_bytes = 268435456
+
+-- edges of the triangles of a scene: 3 * 2^18
+abbrev pub most_edges : ℕ
+most_edges = 786432
+
+-- a coordinate of a wall of a box: 2^11
+abbrev pub wall_limit : ℕ
+wall_limit = 2048
+
+-- a side of a box: 2^12
+abbrev pub root_side : ℕ
+root_side = 4096
+
+-- a difference of two coordinates on the narrow grid: 2 * 2047
+abbrev pub narrow_difference_limit : ℕ
+narrow_difference_limit = 4094
+
+-- an entry of the direction in which two planes meet: 2 * (2^25 - 1)^2
+abbrev pub direction_limit : ℕ
+direction_limit = 2251799679467522
+
+-- a winding number that is being counted: 2^30 - 1
+abbrev pub count_limit : ℕ
+count_limit = 1073741823
+
+-- a number whose double fits into 64 bits: 2^62 - 1
+abbrev pub short_limit : ℕ
+short_limit = 4611686018427387903

@@ -1,5 +1,6 @@
 // Values of planes at points, and their signs.
 ghost use Rattle.std.specs.Prelude.{◌≡◌, ◌^◌, ◌-ℤ◌, ◌*ℤ◌, All};
+ghost use Rattle.ember_model.specs.Limits.{narrow_difference_limit};
 ghost use Rattle.ember_algebra.specs.Size.{Small};
 ghost use Rattle.ember_model.specs.Valid.{IsValidCorner, IsValidPlane, IsValidSpot};
 ghost use Rattle.ember_model.specs.Planes.{value_at, along, unit, edge_through};
@@ -98,9 +99,9 @@ fn vector_from_corner(u: &Corner, p: &Spot) -> Vector3
 // The difference `a x - b y`.
 #[tactic(none)]
 fn product_difference(a: i64, x: i64, b: i64, y: i64) -> i128
-    requires a { Small 4094 a }
+    requires a { Small narrow_difference_limit a }
     requires x { Small (2 ^ 52) x }
-    requires b { Small 4094 b }
+    requires b { Small narrow_difference_limit b }
     requires y { Small (2 ^ 52) y }
     ensures value { result ≡ a *ℤ x -ℤ b *ℤ y }
     ensures small { Small (2 ^ 66) result }

@@ -1,5 +1,6 @@
 // The table of vertices and triangles, and the pass over a file.
 ghost use Rattle.std.specs.Prelude.{◌≡◌, ◌⊎◌, ◌+◌, ◌^◌, ◌<◌, ◌≤◌, [], ◌∷◌, length, All, Ok, Err, OnOk, IfOk, IfErr};
+ghost use Rattle.ember_model.specs.Limits.{most_bytes, most_triangles};
 ghost use Rattle.ember_obj.specs.Scan.{fields_of, first_three};
 ghost use Rattle.ember_obj.specs.Lines.{physical_lines, joined_lines};
 ghost use Rattle.ember_obj.specs.References.{corners_of};
@@ -170,11 +171,11 @@ impl Table {
 #[tactic(auto, using(crate::proofs::Faults::after_fault))]
 pub fn read_obj(alloc: Global, bytes: &[u8], places: u8, mesh: u32) -> Result<Soup, ObjFault>
     requires places { places ≤ 3 }
-    requires bytes { length bytes.now ≤ 268435456 }
+    requires bytes { length bytes.now ≤ most_bytes }
     ensures ok { IfOk result (λ soup. read_obj_of places mesh bytes.now ≡
         Ok (record { tris = soup.tris; lines = soup.lines })) }
     ensures fault { IfErr result (λ e. (e ≡ ObjFault.OutOfMemory) ⊎ (read_obj_of places mesh bytes.now ≡ Err e)) }
-    ensures few { IfOk result (λ soup. length soup.tris ≤ 262144) }
+    ensures few { IfOk result (λ soup. length soup.tris ≤ most_triangles) }
     ensures mesh { IfOk result (λ soup. All (λ t. t.mesh ≡ mesh) soup.tris) }
 {
     let mut table = Table::new(alloc);

@@ -1,5 +1,6 @@
 // The meet of three planes.
 ghost use Rattle.std.specs.Prelude.{◌≡◌, ◌+ℤ◌, ◌-ℤ◌, ◌*ℤ◌, ℤ, pos, neg_ℤ, if◌then◌else◌, IfSome, IsNone, ◌↔◌};
+ghost use Rattle.ember_model.specs.Limits.{direction_limit, meet_limit, meet_weight_limit, valid_constant_limit, valid_normal_limit};
 ghost use Rattle.ember_algebra.specs.Size.{Small};
 ghost use Rattle.ember_algebra.specs.Vector.{cross, dot};
 ghost use Rattle.ember_model.specs.Valid.{IsValidPlane};
@@ -13,12 +14,12 @@ use ember_model::Plane;
 
 // The determinant `a d - b c` of entries of normals. 2251799679467522 is 2 * 33554431^2.
 fn minor(a: i64, b: i64, c: i64, d: i64) -> i64
-    requires small_a { Small 33554431 a }
-    requires small_b { Small 33554431 b }
-    requires small_c { Small 33554431 c }
-    requires small_d { Small 33554431 d }
+    requires small_a { Small valid_normal_limit a }
+    requires small_b { Small valid_normal_limit b }
+    requires small_c { Small valid_normal_limit c }
+    requires small_d { Small valid_normal_limit d }
     ensures value { result ≡ a *ℤ d -ℤ b *ℤ c }
-    ensures small { Small 2251799679467522 result }
+    ensures small { Small direction_limit result }
 {
     a * d - b * c
 }
@@ -40,7 +41,7 @@ fn cross_normals(p: &Plane, q: &Plane) -> Cross
 fn product(p: &Plane, cross: &Cross) -> i128
     requires { IsValidPlane p.now }
     ensures value { result ≡ dot (normal p.now) (cross_of cross.now) }
-    ensures small { Small 302231454903657293676543 result }
+    ensures small { Small meet_weight_limit result }
 {
     p.a as i128 * cross.x as i128 + p.b as i128 * cross.y as i128 + p.c as i128 * cross.z as i128
 }
@@ -48,14 +49,14 @@ fn product(p: &Plane, cross: &Cross) -> i128
 // The sum `a x + b y + c z` of constants of planes times entries of cross products. The bounds are
 // 2^39 - 1, 2 * 33554431^2, and 2^92 - 1 for the sum.
 fn combination(a: i64, x: i64, b: i64, y: i64, c: i64, z: i64) -> i128
-    requires small_a { Small 549755813887 a }
-    requires small_b { Small 549755813887 b }
-    requires small_c { Small 549755813887 c }
-    requires small_x { Small 2251799679467522 x }
-    requires small_y { Small 2251799679467522 y }
-    requires small_z { Small 2251799679467522 z }
+    requires small_a { Small valid_constant_limit a }
+    requires small_b { Small valid_constant_limit b }
+    requires small_c { Small valid_constant_limit c }
+    requires small_x { Small direction_limit x }
+    requires small_y { Small direction_limit y }
+    requires small_z { Small direction_limit z }
     ensures value { result ≡ a *ℤ x +ℤ b *ℤ y +ℤ c *ℤ z }
-    ensures small { Small 4951760157141521099596496895 result }
+    ensures small { Small meet_limit result }
 {
     a as i128 * x as i128 + b as i128 * y as i128 + c as i128 * z as i128
 }

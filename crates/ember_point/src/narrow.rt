@@ -2,6 +2,7 @@
 // the steps. For each region ember_trace asks once whether its first three corners are narrow, and
 // then makes these calls in place of `side`.
 ghost use Rattle.std.specs.Prelude.{◌≡◌, true, ◌*ℤ◌};
+ghost use Rattle.ember_model.specs.Limits.{short_limit, valid_constant_limit};
 ghost use Rattle.ember_algebra.specs.Size.{Small};
 ghost use Rattle.ember_algebra.specs.Sign.{sgn};
 ghost use Rattle.ember_model.specs.Valid.{IsValidPlane};
@@ -23,8 +24,8 @@ pub fn is_narrow(m: &Meet) -> bool
 /// The product of a plane's entry or constant and a number of a narrow point, by one multiplication
 /// of 64 bits by 64. It is at most (2^39 - 1) (2^62 - 1) in size.
 pub fn narrow_product(a: i64, x: i128) -> i128
-    requires a { Small 549755813887 a }
-    requires x { Small 4611686018427387903 x }
+    requires a { Small valid_constant_limit a }
+    requires x { Small short_limit x }
     ensures value { result ≡ a *ℤ x }
     ensures small { Small 2535301200451847116425223208961 result }
 {

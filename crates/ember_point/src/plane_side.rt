@@ -1,5 +1,6 @@
 // Planes and points: sides, and planes with one coordinate fixed.
 ghost use Rattle.std.specs.Prelude.{◌≡◌};
+ghost use Rattle.ember_model.specs.Limits.{wall_limit};
 ghost use Rattle.ember_algebra.specs.Size.{Small};
 ghost use Rattle.ember_algebra.specs.Sign.{sgn};
 ghost use Rattle.ember_model.specs.Valid.{IsValidPlane};
@@ -23,7 +24,7 @@ pub fn side(p: &Plane, m: &Meet) -> Sign
 /// same points with that coordinate.
 pub fn slide(p: &Plane, k: Axis, at: i32) -> Plane
     requires plane { IsValidPlane p.now }
-    requires place { Small 2048 at }
+    requires place { Small wall_limit at }
     requires stays_valid { IsValidPlane (slid p.now k at) }
     ensures { result ≡ slid p.now k at }
 {

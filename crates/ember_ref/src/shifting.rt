@@ -2,7 +2,7 @@
 ghost use Rattle.std.specs.Prelude.{◌≡◌, ℕ, ◌+◌, ◌≤◌, ◌<◌, pos, ◌+ℤ◌, All, length, if◌then◌else◌};
 ghost use Rattle.ember_algebra.specs.Size.{Small};
 ghost use Rattle.ember_algebra.specs.Sign.{number, times, is_neg};
-ghost use Rattle.ember_model.specs.Limits.{broad_limit};
+ghost use Rattle.ember_model.specs.Limits.{broad_limit, count_limit, most_triangles};
 ghost use Rattle.ember_model.specs.Valid.{IsValidTri};
 ghost use Rattle.ember_model.specs.Within.{normal_limit, IsTriWithin};
 ghost use Rattle.ember_model.specs.Points.{DifferAlong};
@@ -149,7 +149,7 @@ fn add_crossing(t: &Tri, segment: &AxisSegment, v: &mut Vector)
     requires tri { IsTriWithin broad_limit t.now }
     requires numbered { HasMesh 64 t.now }
     requires straight { IsAlongAxis segment.now }
-    requires room { All (Small 1073741823) v.old.counts }
+    requires room { All (Small count_limit) v.old.counts }
     ensures value { (m f : ℕ) (c : CellView) (k : Axis) → IsTriWithin m t.now → normal_limit m < f → 0 < c.log k →
         IsSegmentBack c k segment.now → v.new.counts ≡ with_more v.old.counts t.now.mesh
         (leg (face_of t.now) (reference_beside f (right_half c k).lo) (reference_beside f c.lo)) }
@@ -167,7 +167,7 @@ fn add_crossing(t: &Tri, segment: &AxisSegment, v: &mut Vector)
 pub fn shift(near: &[Tri], c: &Cell, k: Axis, v: &mut Vector)
     requires valid { All IsValidTri near.now }
     requires numbered { All (HasMesh 64) near.now }
-    requires few { length near.now ≤ 262144 }
+    requires few { length near.now ≤ most_triangles }
     requires side { 0 < c.now.log k }
     requires room { HasRoom v.old.counts }
     ensures value { v.new.counts ≡ counts_at_right_half near.now c.now k v.old.counts }
@@ -186,7 +186,7 @@ pub fn shift_listed_on<W: Width>(tris: &[Tri], list: &[u32], c: &Cell, axis: Axi
     requires within { All (IsTriWithin W.corner) tris.now }
     requires numbered { All (HasMesh 64) tris.now }
     requires places { All (λ i. i < length tris.now) list.now }
-    requires few { length list.now ≤ 262144 }
+    requires few { length list.now ≤ most_triangles }
     requires side { 0 < c.now.log axis }
     requires room { HasRoom v.old.counts }
     ensures value { v.new.counts
@@ -206,7 +206,7 @@ pub fn shift_listed(tris: &[Tri], list: &[u32], c: &Cell, axis: Axis, v: &mut Ve
     requires valid { All IsValidTri tris.now }
     requires numbered { All (HasMesh 64) tris.now }
     requires places { All (λ i. i < length tris.now) list.now }
-    requires few { length list.now ≤ 262144 }
+    requires few { length list.now ≤ most_triangles }
     requires side { 0 < c.now.log axis }
     requires room { HasRoom v.old.counts }
     ensures value { v.new.counts ≡ counts_at_right_half (listed tris.now list.now) c.now axis v.old.counts }

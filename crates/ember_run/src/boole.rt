@@ -1,5 +1,6 @@
 // The commands `bool` and `demo`.
 ghost use Rattle.std.specs.Prelude.{◌≡◌, ◌≤◌, length, IfOk, IfErr};
+ghost use Rattle.ember_gen.specs.Limits.{most_demo_boxes};
 ghost use Rattle.ember_expr.specs.Formula.{formula_of};
 ghost use Rattle.ember_query.specs.Queries.{IsExecutor};
 ghost use Rattle.ember_meaning.specs.Regions.Solids.{IsSolidText};
@@ -115,7 +116,7 @@ pub fn demo_output<C: Fn(&Query) -> Result<Answer, OutOfMemory>>(
     boxes: u32,
     executor: &C,
 ) -> Result<Vec<u8>, Status>
-    requires boxes { boxes ≤ 20000 }
+    requires boxes { boxes ≤ most_demo_boxes }
     requires executor { IsExecutor C.pre C.post executor.now }
     ensures text { IfOk result (λ text. IsText (demo_verdict boxes) text.items) }
     ensures no_reply { IfErr result (IsNoReplyToExpression (demo_verdict boxes)) }

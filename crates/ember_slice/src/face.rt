@@ -1,5 +1,6 @@
 // Segments of faces.
 ghost use Rattle.std.specs.Prelude.{ℤ, pos, negsuc, ◌≡◌, ◌≤ℤ◌, true, false, MatchOption};
+ghost use Rattle.ember_model.specs.Limits.{narrow_limit};
 ghost use Rattle.ember_algebra.specs.Sign.{is_negative};
 ghost use Rattle.ember_model.specs.declared.face.Face.{Face};
 ghost use Rattle.ember_model.specs.Valid.{IsValidFace};
@@ -52,8 +53,8 @@ fn segment_between_ends(interval: &LineInterval) -> Result<Option<Segment>, Endl
 /// without end. Allocates nothing.
 pub fn segment(f: &Face, at: i32) -> Result<Option<Segment>, Endless>
     requires face { IsValidFace f.now }
-    requires low { negsuc 2047 ≤ℤ at }
-    requires high { at ≤ℤ pos 2047 }
+    requires low { negsuc narrow_limit ≤ℤ at }
+    requires high { at ≤ℤ pos narrow_limit }
     ensures { IsAnswer f.now at result }
 {
     if f.support.a == 0 && f.support.b == 0 {

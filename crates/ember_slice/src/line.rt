@@ -1,5 +1,6 @@
 // The line in which a support plane meets a level plane.
 ghost use Rattle.std.specs.Prelude.{ℤ, pos, negsuc, ◌≡◌, ◌-ℤ◌, ◌*ℤ◌, ◌≤ℤ◌};
+ghost use Rattle.ember_model.specs.Limits.{direction_limit, narrow_limit};
 ghost use Rattle.ember_algebra.specs.Size.{Small};
 ghost use Rattle.ember_model.specs.Valid.{IsValidPlane};
 ghost use Rattle.ember_slice.specs.Lines.{level, IsFlat};
@@ -22,8 +23,8 @@ pub(crate) enum HalfLine {
 
 // The plane z = at + 1/2.
 fn level_plane(at: i32) -> Plane
-    requires low { negsuc 2047 ≤ℤ at }
-    requires high { at ≤ℤ pos 2047 }
+    requires low { negsuc narrow_limit ≤ℤ at }
+    requires high { at ≤ℤ pos narrow_limit }
     ensures value { result ≡ level at }
     ensures valid { IsValidPlane result }
 {
@@ -40,7 +41,7 @@ fn climb(support: &Plane, p: &Plane) -> i64
     requires support { IsValidPlane support.now }
     requires plane { IsValidPlane p.now }
     ensures value { result ≡ support.now.a *ℤ p.now.b -ℤ support.now.b *ℤ p.now.a }
-    ensures small { Small 2251799679467522 result }
+    ensures small { Small direction_limit result }
 {
     support.a * p.b - support.b * p.a
 }
@@ -62,8 +63,8 @@ fn across(support: &Plane) -> Plane
 // Whether the line lies behind a plane that is parallel to it.
 fn is_behind(support: &Plane, at: i32, p: &Plane) -> bool
     requires support { IsValidPlane support.now }
-    requires low { negsuc 2047 ≤ℤ at }
-    requires high { at ≤ℤ pos 2047 }
+    requires low { negsuc narrow_limit ≤ℤ at }
+    requires high { at ≤ℤ pos narrow_limit }
     requires plane { IsValidPlane p.now }
     requires tilted { IsFlat support.now → ⊥ }
     requires parallel { support.now.a *ℤ p.now.b -ℤ support.now.b *ℤ p.now.a ≡ pos 0 }
@@ -78,8 +79,8 @@ fn is_behind(support: &Plane, at: i32, p: &Plane) -> bool
 /// The part of the line that lies behind the plane.
 pub(crate) fn part_behind(support: &Plane, at: i32, p: &Plane) -> HalfLine
     requires support { IsValidPlane support.now }
-    requires low { negsuc 2047 ≤ℤ at }
-    requires high { at ≤ℤ pos 2047 }
+    requires low { negsuc narrow_limit ≤ℤ at }
+    requires high { at ≤ℤ pos narrow_limit }
     requires plane { IsValidPlane p.now }
     requires tilted { IsFlat support.now → ⊥ }
     ensures { IsHalfLine support.now at p.now result }

@@ -1,5 +1,6 @@
 // What planes leave of a line.
 ghost use Rattle.std.specs.Prelude.{ℤ, pos, negsuc, ◌≡◌, ◌≤ℤ◌, true, false, All, MatchOption, if◌then◌else◌};
+ghost use Rattle.ember_model.specs.Limits.{narrow_limit};
 ghost use Rattle.ember_algebra.specs.Sign.{is_positive};
 ghost use Rattle.ember_model.specs.Valid.{IsValidPlane};
 ghost use Rattle.ember_model.specs.Planes.{value_at};
@@ -75,8 +76,8 @@ fn left_before(interval: LineInterval, plane: &Plane, point: Meet) -> LineInterv
 // What is left of the span behind the plane, if any of the line is.
 fn narrowed(support: &Plane, at: i32, interval: LineInterval, p: &Plane) -> Option<LineInterval>
     requires support { IsValidPlane support.now }
-    requires low { negsuc 2047 ≤ℤ at }
-    requires high { at ≤ℤ pos 2047 }
+    requires low { negsuc narrow_limit ≤ℤ at }
+    requires high { at ≤ℤ pos narrow_limit }
     requires plane { IsValidPlane p.now }
     requires tilted { IsFlat support.now → ⊥ }
     requires ends { AreEnds support.now at interval }
@@ -94,8 +95,8 @@ fn narrowed(support: &Plane, at: i32, interval: LineInterval, p: &Plane) -> Opti
 /// its front.
 pub(crate) fn span_behind(support: &Plane, at: i32, planes: &[Plane]) -> Option<LineInterval>
     requires support { IsValidPlane support.now }
-    requires low { negsuc 2047 ≤ℤ at }
-    requires high { at ≤ℤ pos 2047 }
+    requires low { negsuc narrow_limit ≤ℤ at }
+    requires high { at ≤ℤ pos narrow_limit }
     requires planes { All IsValidPlane planes.now }
     requires tilted { IsFlat support.now → ⊥ }
     ensures { MatchOption result ((v : Spot) → is_on_line support.now at v ≡ true →

@@ -1,6 +1,7 @@
 // The text of a slice.
 ghost use Rattle.std.specs.Prelude.{ℕ, ℤ, ◌≡◌, ◌⊎◌, ◌≤◌, ◌<◌, ◌^◌, ◌++◌, pos, negsuc, ◌≤ℤ◌, length, codes, All, IfOk, IfErr, OnOk};
 ghost use Rattle.std.specs.Fmt.{signed_decimal};
+ghost use Rattle.ember_model.specs.Limits.{narrow_limit};
 ghost use Rattle.ember_model.specs.Valid.{IsValidFace};
 ghost use Rattle.ember_model.specs.FaceFiles.{line_of};
 ghost use Rattle.ember_point.specs.Points.{spot_of};
@@ -50,8 +51,8 @@ fn put_segment(s: &Segment, out: &mut Vec<u8>) -> Result<(), OutOfMemory>
 // lines these are.
 fn put_face(face: &Face, number: u32, at: i32, out: &mut Vec<u8>) -> Result<u32, SliceFault>
     requires face { IsValidFace face.now }
-    requires low { negsuc 2047 ≤ℤ at }
-    requires high { at ≤ℤ pos 2047 }
+    requires low { negsuc narrow_limit ≤ℤ at }
+    requires high { at ≤ℤ pos narrow_limit }
     ensures ok { IfOk result (λ count. AddsSegment face.now at count out.old.items out.new.items) }
     ensures one { IfOk result (λ count. count ≤ 1) }
     ensures endless { IfErr result (λ e. (e ≡ SliceFault.OutOfMemory) ⊎
@@ -73,8 +74,8 @@ fn put_face(face: &Face, number: u32, at: i32, out: &mut Vec<u8>) -> Result<u32,
 pub fn slice_text(alloc: Global, faces: &FaceList, at: i32) -> Result<Vec<u8>, SliceFault>
     requires faces { All IsValidFace faces.now }
     requires few { length faces.now < 2 ^ 32 }
-    requires low { negsuc 2047 ≤ℤ at }
-    requires high { at ≤ℤ pos 2047 }
+    requires low { negsuc narrow_limit ≤ℤ at }
+    requires high { at ≤ℤ pos narrow_limit }
     ensures text { IfOk result (λ text. IsSliceText faces.now at text.items) }
     ensures endless { IfErr result (λ e. (e ≡ SliceFault.OutOfMemory) ⊎
         ((n : ℕ) × (e ≡ SliceFault.Endless n) × IsFirstEndless faces.now at n)) }

@@ -1,5 +1,6 @@
 // The sides of a region, by the crossings on the path to it.
 ghost use Rattle.std.specs.Prelude.{◌≡◌, ℕ, ◌+◌, ◌*◌, ◌^◌, ◌≤◌, All, IfOk, length, map, neg_ℤ};
+ghost use Rattle.ember_model.specs.Limits.{count_limit, most_triangles, wall_limit};
 ghost use Rattle.ember_algebra.specs.Size.{Small};
 ghost use Rattle.ember_model.specs.Within.{IsTriWithin};
 ghost use Rattle.ember_model.specs.Valid.{IsValidTri};
@@ -27,7 +28,7 @@ fn take_from(v: &mut Vector, mesh: u32, less: i32)
     requires first { 1 ≤ mesh }
     requires last { mesh ≤ 64 }
     requires less { Small 3 less }
-    requires room { All (Small 1073741823) v.old.counts }
+    requires room { All (Small count_limit) v.old.counts }
     ensures value { v.new.counts ≡ with_more v.old.counts mesh (neg_ℤ less) }
     ensures within { (m : ℕ) → All (Small m) v.old.counts → All (Small (m + 3)) v.new.counts }
 {
@@ -41,8 +42,8 @@ fn take_crossings(sides: &mut Sides, mesh: u32, less: &Crossings)
     requires last { mesh ≤ 64 }
     requires less_before { Small 3 less.now.before }
     requires less_after { Small 3 less.now.after }
-    requires room_before { All (Small 1073741823) sides.old.before.counts }
-    requires room_after { All (Small 1073741823) sides.old.after.counts }
+    requires room_before { All (Small count_limit) sides.old.before.counts }
+    requires room_after { All (Small count_limit) sides.old.after.counts }
     ensures before { sides.new.before.counts ≡ with_more sides.old.before.counts mesh (neg_ℤ less.now.before) }
     ensures after { sides.new.after.counts ≡ with_more sides.old.after.counts mesh (neg_ℤ less.now.after) }
     ensures within_before { (m : ℕ) → All (Small m) sides.old.before.counts →
@@ -69,9 +70,9 @@ pub fn trace_sides_on<W: Width>(
     r: &Ring<W>,
     sides: &mut Sides,
 )
-    requires few { length near.now ≤ 262144 }
+    requires few { length near.now ≤ most_triangles }
     requires counts { AreBoxCounts v.now.counts }
-    requires root { 2 ^ W.scale * 2048 ≤ W.corner + 1 }
+    requires root { 2 ^ W.scale * wall_limit ≤ W.corner + 1 }
     ensures traced { AreTracedBeside W.fine (in_steps W.scale c.now) near.now v.now.counts r.now sides.new }
     ensures sides { All (HasReferenceBeside W.fine (in_steps W.scale c.now)) near.now → AreSidesWithin W.corner W.fine
         (map tri_of near.now) (in_steps W.scale c.now) v.now.counts r.now sides.new }
@@ -90,7 +91,7 @@ pub fn trace_sides_on<W: Width>(
 
 /// The same on the narrow grid.
 pub fn trace_sides(near: &[NearTriangle], c: &Cell, v: &Vector, r: &Ring, sides: &mut Sides)
-    requires few { length near.now ≤ 262144 }
+    requires few { length near.now ≤ most_triangles }
     requires counts { AreBoxCounts v.now.counts }
     ensures traced { AreTraced c.now near.now v.now.counts r.now sides.new }
     ensures sides { All (HasReference c.now) near.now →
@@ -108,9 +109,9 @@ pub fn sides_beside_on<W: Width>(
     v: &Vector,
     r: &Ring<W>,
 ) -> Sides
-    requires few { length near.now ≤ 262144 }
+    requires few { length near.now ≤ most_triangles }
     requires counts { AreBoxCounts v.now.counts }
-    requires root { 2 ^ W.scale * 2048 ≤ W.corner + 1 }
+    requires root { 2 ^ W.scale * wall_limit ≤ W.corner + 1 }
     ensures traced { AreTracedBeside W.fine (in_steps W.scale c.now) near.now v.now.counts r.now result }
     ensures sides { All (HasReferenceBeside W.fine (in_steps W.scale c.now)) near.now → AreSidesWithin W.corner W.fine
         (map tri_of near.now) (in_steps W.scale c.now) v.now.counts r.now result }
@@ -127,7 +128,7 @@ pub fn sides_beside_on<W: Width>(
 
 /// The same on the narrow grid, as `trace_sides` puts them. Only tests call this.
 pub fn sides_beside(near: &[NearTriangle], c: &Cell, v: &Vector, r: &Ring) -> Sides
-    requires few { length near.now ≤ 262144 }
+    requires few { length near.now ≤ most_triangles }
     requires counts { AreBoxCounts v.now.counts }
     ensures traced { AreTraced c.now near.now v.now.counts r.now result }
     ensures sides { All (HasReference c.now) near.now →
@@ -149,9 +150,9 @@ pub fn sides_traced_on<W: Width>(
 ) -> Result<Sides, OutOfMemory>
     requires within { All (IsTriWithin W.corner) near.now }
     requires numbered { All (HasMesh 64) near.now }
-    requires few { length near.now ≤ 262144 }
+    requires few { length near.now ≤ most_triangles }
     requires counts { AreBoxCounts v.now.counts }
-    requires root { 2 ^ W.scale * 2048 ≤ W.corner + 1 }
+    requires root { 2 ^ W.scale * wall_limit ≤ W.corner + 1 }
     ensures traced { IfOk result (λ s. AreTracedBesideBy W.Width W.fine
         near.now (in_steps W.scale c.now) v.now.counts r.now s) }
     ensures sides { IfOk result (λ s. AreSidesWithin W.corner W.fine
@@ -177,7 +178,7 @@ pub fn sides_traced(
 ) -> Result<Sides, OutOfMemory>
     requires valid { All IsValidTri near.now }
     requires numbered { All (HasMesh 64) near.now }
-    requires few { length near.now ≤ 262144 }
+    requires few { length near.now ≤ most_triangles }
     requires counts { AreBoxCounts v.now.counts }
     ensures traced { IfOk result (λ s. AreTracedBy ⟦<Narrow as Width>⟧ near.now c.now v.now.counts r.now s) }
     ensures sides { IfOk result (λ s. AreSides near.now c.now v.now.counts r.now s) }

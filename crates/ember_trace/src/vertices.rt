@@ -1,5 +1,6 @@
 // On which sides of a plane the vertices of a path lie.
 ghost use Rattle.std.specs.Prelude.{◌≡◌, ◌≤◌, ◌+◌, ◌*◌, ◌^◌, ◌&&◌, true, length, All};
+ghost use Rattle.ember_model.specs.Limits.{wall_limit};
 ghost use Rattle.ember_algebra.specs.Size.{Small};
 ghost use Rattle.ember_model.specs.Within.{IsSupportWithin};
 ghost use Rattle.ember_point.specs.Points.{slid};
@@ -46,7 +47,7 @@ fn are_short<W: Width>(first: &W::Point, second: &W::Point, third: &W::Point) ->
 /// The path to the region from beside the least corner of the box. The root of the grid ends one
 /// step past the corners.
 pub fn path_to<'a, W: Width>(c: &Cell, r: &'a Ring<W>) -> Path<'a, W>
-    requires { 2 ^ W.scale * 2048 ≤ W.corner + 1 }
+    requires { 2 ^ W.scale * wall_limit ≤ W.corner + 1 }
     ensures { IsPathTo W.fine (in_steps W.scale c.now) r.now (path_of result) }
 {
     let main = main_axis(&support(r));

@@ -1,5 +1,6 @@
 // The sides of a region, by whole rays. Only tests use this; the program traces a path (sides.rt).
 ghost use Rattle.std.specs.Prelude.{◌≡◌, ◌≤◌, All, IfOk, length};
+ghost use Rattle.ember_model.specs.Limits.{most_triangles};
 ghost use Rattle.ember_algebra.specs.Size.{Small};
 ghost use Rattle.ember_algebra.specs.Sign.{is_neg};
 ghost use Rattle.ember_model.specs.Within.{IsTriWithin};
@@ -91,7 +92,7 @@ fn ray_after<W: Width>(t: &Tri, k: Axis, at: &Corners<W>) -> i32
 pub fn sides_by_rays_on<W: Width>(tris: &[Tri], r: &Ring<W>) -> Sides
     requires within { All (IsTriWithin W.corner) tris.now }
     requires numbered { All (HasMesh 64) tris.now }
-    requires few { length tris.now ≤ 262144 }
+    requires few { length tris.now ≤ most_triangles }
     ensures ray_counts { AreRayCounts tris.now r.now result }
     ensures sides { IsSides tris.now r.now result.before.counts result.after.counts }
     ensures before { All (Small (length tris.now)) result.before.counts }
@@ -117,7 +118,7 @@ pub fn sides_by_rays_on<W: Width>(tris: &[Tri], r: &Ring<W>) -> Sides
 pub fn sides_by_rays(tris: &[Tri], r: &Ring) -> Sides
     requires valid { All IsValidTri tris.now }
     requires numbered { All (HasMesh 64) tris.now }
-    requires few { length tris.now ≤ 262144 }
+    requires few { length tris.now ≤ most_triangles }
     ensures ray_counts { AreRayCounts tris.now r.now result }
     ensures sides { IsSides tris.now r.now result.before.counts result.after.counts }
     ensures before { All (Small (length tris.now)) result.before.counts }

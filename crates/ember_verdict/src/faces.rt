@@ -1,5 +1,6 @@
 // The command `faces`.
 ghost use Rattle.std.specs.Prelude.{[], ◌∷◌, ◌≡◌, ◌≤◌, length, All, IfOk, IfErr};
+ghost use Rattle.ember_model.specs.Limits.{most_triangles};
 ghost use Rattle.ember_model.specs.Valid.{IsValidTri};
 ghost use Rattle.ember_verdict.specs.FaceTexts.{AddsFace, IsFaceFileOf};
 ghost use Rattle.ember_verdict.specs.Statuses.{IsText};
@@ -36,7 +37,7 @@ fn add_face(alloc: Global, tri: &Tri, text: &mut Vec<u8>) -> Result<u32, OutOfMe
 #[tactic(auto, using(crate::proofs::FaceLists::no_texts, crate::proofs::FaceLists::more_texts))]
 fn faces_text(alloc: Global, tris: &[Tri]) -> Result<Vec<u8>, OutOfMemory>
     requires valid { All IsValidTri tris.now }
-    requires few { length tris.now ≤ 262144 }
+    requires few { length tris.now ≤ most_triangles }
     ensures { IfOk result (λ text. IsFaceFileOf tris.now text.items) }
 {
     let mut text = begin_file(alloc)?;

@@ -1,5 +1,6 @@
 // The bytes and the triangles of a file. `after_x` is a step of the verdict (specs/Verdict.antt).
 ghost use Rattle.std.specs.Prelude.{◌≡◌, ◌≤◌, length, All, IfOk, IfErr};
+ghost use Rattle.ember_model.specs.Limits.{most_triangles};
 ghost use Rattle.ember_verdict.specs.Devices.{shelf_call};
 ghost use Rattle.ember_verdict.specs.Held.{AreBytes, MayHoldOne};
 ghost use Rattle.ember_verdict.specs.NoReplies.{IsNoFile};
@@ -53,7 +54,7 @@ pub fn read_file<S: Shelf>(
     ensures later { S.faults shelf.old ≤ S.faults shelf.new }
     ensures read { IfOk result (λ soup. MayHoldOne (S.contents shelf.old name.now)
         (λ content. PassesOn (after_file places number content) soup.tris)) }
-    ensures few { IfOk result (λ soup. length soup.tris ≤ 262144) }
+    ensures few { IfOk result (λ soup. length soup.tris ≤ most_triangles) }
     ensures mesh { IfOk result (λ soup. All (λ t. t.mesh ≡ number) soup.tris) }
     ensures no_file { IfErr result (IsNoFile (after_file places number) number name.now
         (shelf_call S.contents S.faults S.fault_at shelf.old shelf.new)) }

@@ -1,5 +1,6 @@
 // The command `slice`.
 ghost use Rattle.std.specs.Prelude.{ℕ, ℤ, pos, negsuc, ◌≤ℤ◌, ◌≡◌, ◌≢◌, ◌≤◌, List, [], ◌∷◌, length, true, All, Err, IfOk, IfErr};
+ghost use Rattle.ember_model.specs.Limits.{most_bytes, narrow_limit};
 ghost use Rattle.ember_model.specs.FaceFiles.{IsFaceFile};
 ghost use Rattle.ember_model.specs.Valid.{IsValidFace};
 ghost use Rattle.ember_verdict.specs.Statuses.{IsText, is_refusal};
@@ -19,10 +20,10 @@ use std::alloc::Global;
 
 // The faces of a face file.
 fn faces_in(alloc: Global, bytes: &[u8]) -> Result<FaceList, Status>
-    requires few { length bytes.now ≤ 268435456 }
+    requires few { length bytes.now ≤ most_bytes }
     ensures faces { IfOk result (λ faces. IsFaceFile bytes.now faces) }
     ensures valid { IfOk result (λ faces. All IsValidFace faces) }
-    ensures count { IfOk result (λ faces. length faces ≤ 268435456) }
+    ensures count { IfOk result (λ faces. length faces ≤ most_bytes) }
     ensures refused { (at : ℤ) → IfErr result (λ status. is_refusal status ≡ true →
         IsSliceRefusal at bytes.now status) }
     ensures no_read_fault { (i : ℕ) → result ≢ Err (Status.ReadFault i) }
@@ -38,9 +39,9 @@ fn faces_in(alloc: Global, bytes: &[u8]) -> Result<FaceList, Status>
 // The text of the segments of these faces, which were read from the bytes.
 fn segments_text(alloc: Global, faces: &FaceList, at: i32) -> Result<Vec<u8>, Status>
     requires valid { All IsValidFace faces.now }
-    requires few { length faces.now ≤ 268435456 }
-    requires low { negsuc 2047 ≤ℤ at }
-    requires high { at ≤ℤ pos 2047 }
+    requires few { length faces.now ≤ most_bytes }
+    requires low { negsuc narrow_limit ≤ℤ at }
+    requires high { at ≤ℤ pos narrow_limit }
     ensures text { (bytes : List ℕ) → IsFaceFile bytes faces.now → IfOk result (λ text. IsSlice at bytes text.items) }
     ensures refused { (bytes : List ℕ) → IsFaceFile bytes faces.now → IfErr result (λ status. is_refusal status ≡ true →
         IsSliceRefusal at bytes status) }
@@ -56,9 +57,9 @@ fn segments_text(alloc: Global, faces: &FaceList, at: i32) -> Result<Vec<u8>, St
 
 // The slice of a face file.
 fn slice_of(alloc: Global, bytes: &[u8], at: i32) -> Result<Vec<u8>, Status>
-    requires few { length bytes.now ≤ 268435456 }
-    requires low { negsuc 2047 ≤ℤ at }
-    requires high { at ≤ℤ pos 2047 }
+    requires few { length bytes.now ≤ most_bytes }
+    requires low { negsuc narrow_limit ≤ℤ at }
+    requires high { at ≤ℤ pos narrow_limit }
     ensures text { IfOk result (λ text. IsSlice at bytes.now text.items) }
     ensures refused { IfErr result (λ status. is_refusal status ≡ true → IsSliceRefusal at bytes.now status) }
     ensures no_read_fault { (i : ℕ) → result ≢ Err (Status.ReadFault i) }
@@ -79,8 +80,8 @@ pub fn slice_output<S: Shelf>(
     file: &Text,
     shelf: &mut S,
 ) -> Result<Vec<u8>, Status>
-    requires low { negsuc 2047 ≤ℤ at }
-    requires high { at ≤ℤ pos 2047 }
+    requires low { negsuc narrow_limit ≤ℤ at }
+    requires high { at ≤ℤ pos narrow_limit }
     ensures contents { S.contents shelf.new ≡ S.contents shelf.old }
     ensures later { S.faults shelf.old ≤ S.faults shelf.new }
     ensures text { IfOk result (λ text. MayHold (S.contents shelf.old) (file.now ∷ [])

@@ -1,6 +1,7 @@
 // The halves of a job. A call whose name ends in `_among` takes the triangles of a scene on any grid,
 // and the one without it takes a scene.
 ghost use Rattle.std.specs.Prelude.{◌≡◌, ◌<◌, ◌≤◌, length, All, IfOk};
+ghost use Rattle.ember_model.specs.Limits.{most_triangles};
 ghost use Rattle.ember_model.specs.Meshes.{HasMesh};
 ghost use Rattle.ember_model.specs.Within.{IsTriWithin};
 ghost use Rattle.ember_box.specs.Near.{listed};
@@ -42,7 +43,7 @@ fn jobs_of<W: Width>(
     requires numbered { All (HasMesh 64) tris.now }
     requires side { 0 < job.now.cell.log axis }
     requires places { All (λ i. i < length tris.now) job.now.list }
-    requires few { length job.now.list ≤ 262144 }
+    requires few { length job.now.list ≤ most_triangles }
     requires room { HasRoom job.now.at.counts }
     requires lists { AreNearListsOn W.scale tris.now job.now.cell axis job.now.list near_left.items near_right.items }
     ensures { AreHalfJobsOn W.scale W.fine tris.now job.now axis result.0 result.1 }
@@ -70,7 +71,7 @@ fn jobs_of<W: Width>(
 pub fn halve_job(alloc: Global, s: &Scene, job: &Job, axis: Axis) -> Result<(Job, Job), OutOfMemory>
     requires side { 0 < job.now.cell.log axis }
     requires places { All (λ i. i < length s.now.tris) job.now.list }
-    requires few { length job.now.list ≤ 262144 }
+    requires few { length job.now.list ≤ most_triangles }
     requires room { HasRoom job.now.at.counts }
     ensures { IfOk result (λ r. AreHalfJobs s.now.tris job.now axis r.0 r.1) }
 {
@@ -90,7 +91,7 @@ pub fn halve_unless_leaf_among<W: Width>(
     requires within { All (IsTriWithin W.corner) tris.now }
     requires numbered { All (HasMesh 64) tris.now }
     requires places { All (λ i. i < length tris.now) job.now.list }
-    requires few { length job.now.list ≤ 262144 }
+    requires few { length job.now.list ≤ most_triangles }
     requires room { HasRoom job.now.at.counts }
     ensures { IfOk result (λ r. IsHalvedUnlessLeafOn W.scale W.fine tris.now job.now r) }
 {
@@ -109,7 +110,7 @@ pub fn halve_unless_leaf(
     job: &Job,
 ) -> Result<Option<(Job, Job)>, OutOfMemory>
     requires places { All (λ i. i < length s.now.tris) job.now.list }
-    requires few { length job.now.list ≤ 262144 }
+    requires few { length job.now.list ≤ most_triangles }
     requires room { HasRoom job.now.at.counts }
     ensures { IfOk result (λ r. IsHalvedUnlessLeaf s.now.tris job.now r) }
 {

@@ -5,3 +5,4 @@ pub mod Sides
 pub mod Laws
 pub mod Grid
 pub mod Voxels
+pub mod Limits

@@ -1,6 +1,8 @@
 // The text of all lattice cells. Along each axis there are n cells, with the indices 0 to n - 1. A
 // row is the line of the cells with one j along y and one l along z.
 ghost use Rattle.std.specs.Prelude.{◌≡◌, ℕ, ◌+◌, ◌-◌, ◌*◌, ◌^◌, ◌<◌, ◌≤◌, ◌==◌, ◌&&◌, Bool, nat_lt, nat_le, pos, ◌+ℤ◌, codes, decimal, ◌++◌, length, count_by, if◌then◌else◌, IfOk, OnOk};
+ghost use Rattle.ember_model.specs.Limits.{wall_limit};
+ghost use Rattle.ember_voxel.specs.Limits.{most_cells, most_columns};
 ghost use Rattle.ember_voxel.specs.Grid.{char_at, between, contains_cell, sets_cell, is_set, is_one, IsExtent, IsGridText, AddsRows, KeepsFeeds, header_of};
 ghost use Rattle.ember_box.specs.Boxes as boxes;
 ghost use Rattle.ember_voxel.specs.Grid as grids;
@@ -31,23 +33,23 @@ pub struct Block {
 fn cells_along(size: u8) -> usize
     requires { size ≤ 12 }
     ensures value { result ≡ 2 ^ (12 - size) }
-    ensures bound { result ≤ 4096 }
+    ensures bound { result ≤ most_cells }
 {
     1usize << (12 - size)
 }
 
 // The number of rows: one for each pair of indices along y and z.
 fn row_count(n: usize) -> usize
-    requires { n ≤ 4096 }
+    requires { n ≤ most_cells }
     ensures value { result ≡ n * n }
-    ensures bound { result ≤ 16777216 }
+    ensures bound { result ≤ most_columns }
 {
     n * n
 }
 
 // The index of the row of the cells with the indices j along y and l along z.
 fn row_of(n: usize, j: usize, l: usize) -> usize
-    requires few { n ≤ 4096 }
+    requires few { n ≤ most_cells }
     requires j { j < n }
     requires l { l < n }
     ensures value { result ≡ l * n + j }
@@ -58,7 +60,7 @@ fn row_of(n: usize, j: usize, l: usize) -> usize
 
 // The index of the first byte of row `r`. A row has n cells and a line feed.
 fn row_start(n: usize, r: usize) -> usize
-    requires few { n ≤ 4096 }
+    requires few { n ≤ most_cells }
     requires row { r < n * n }
     ensures value { result ≡ r * (n + 1) }
     ensures bound { result + (n + 1) ≤ n * n * (n + 1) }
@@ -68,7 +70,7 @@ fn row_start(n: usize, r: usize) -> usize
 
 // Sets the cells `x` of a row.
 fn set_row(rows: &mut [u8], n: usize, r: usize, x: &Extent)
-    requires few { n ≤ 4096 }
+    requires few { n ≤ most_cells }
     requires size { length rows.old ≡ n * n * (n + 1) }
     requires row { r < n * n }
     requires x { IsExtent n x.now }
@@ -85,7 +87,7 @@ fn set_row(rows: &mut [u8], n: usize, r: usize, x: &Extent)
 
 // Sets the cells of a block that have the index l along z.
 fn set_layer(rows: &mut [u8], n: usize, l: usize, x: &Extent, y: &Extent)
-    requires few { n ≤ 4096 }
+    requires few { n ≤ most_cells }
     requires size { length rows.old ≡ n * n * (n + 1) }
     requires layer { l < n }
     requires x { IsExtent n x.now }
@@ -103,7 +105,7 @@ fn set_layer(rows: &mut [u8], n: usize, l: usize, x: &Extent, y: &Extent)
 
 // Sets the cells of a block.
 fn set_block(rows: &mut [u8], n: usize, block: &Block)
-    requires few { n ≤ 4096 }
+    requires few { n ≤ most_cells }
     requires size { length rows.old ≡ n * n * (n + 1) }
     requires x { IsExtent n block.now.x }
     requires y { IsExtent n block.now.y }
@@ -121,8 +123,8 @@ fn set_block(rows: &mut [u8], n: usize, block: &Block)
 
 // The distance along an axis from the root's low wall to the box's.
 fn offset(c: &Cell, k: Axis) -> usize
-    ensures value { pos result ≡ boxes.low c.now k +ℤ pos 2048 }
-    ensures within { result + 2 ^ c.now.log k ≤ 4096 }
+    ensures value { pos result ≡ boxes.low c.now k +ℤ pos wall_limit }
+    ensures within { result + 2 ^ c.now.log k ≤ most_cells }
     ensures log { c.now.log k ≤ 12 }
 {
     (c.low(k) + 2048) as usize
@@ -131,7 +133,7 @@ fn offset(c: &Cell, k: Axis) -> usize
 // The number of cells whose least corner is nearer to the root's low wall than `x`, along an axis.
 fn cells_before(size: u8, x: usize) -> usize
     requires size { size ≤ 12 }
-    requires x { x ≤ 4096 }
+    requires x { x ≤ most_cells }
     ensures bound { result ≤ 2 ^ (12 - size) }
     ensures below { (i : ℕ) → nat_lt i result ≡ nat_lt (i * 2 ^ size) x }
     ensures from { (i : ℕ) → nat_le result i ≡ nat_le x (i * 2 ^ size) }
@@ -203,7 +205,7 @@ fn set_fills(rows: &mut [u8], size: u8, n: usize, fills: &[Fill])
 
 // Appends all rows, with no cell set.
 fn put_rows(alloc: Global, n: usize, text: &mut Vec<u8>) -> Result<(), OutOfMemory>
-    requires { n ≤ 4096 }
+    requires { n ≤ most_cells }
     ensures { OnOk result (AddsRows n (n * n) text.old.items text.new.items) }
 {
     let mut row = vec![in alloc; b'0'; n]?;
@@ -224,7 +226,7 @@ fn put_number(number: u64, text: &mut Vec<u8>) -> Result<(), OutOfMemory>
 
 // The first line, with room for the whole text.
 fn header(alloc: Global, size: u8, n: usize) -> Result<Vec<u8>, OutOfMemory>
-    requires { n ≤ 4096 }
+    requires { n ≤ most_cells }
     ensures { IfOk result (λ text. text.items ≡ header_of size n) }
 {
     let mut text = Vec::with_capacity(alloc, row_count(n) * (n + 1) + 64)?;

@@ -1,6 +1,7 @@
 // Floors of points' coordinates, moved into the root: with them boxes are compared.
 ghost use Rattle.std.specs.Prelude.{◌≡◌, pos, ◌<ℤ◌};
 ghost use Rattle.std.specs.Int.{int_div_euclid};
+ghost use Rattle.ember_model.specs.Limits.{wall_limit};
 ghost use Rattle.ember_algebra.specs.Size.{Small};
 ghost use Rattle.ember_point.specs.Points.{spot_of};
 ghost use Rattle.ember_wide.specs.Whole.{value_of};
@@ -58,7 +59,7 @@ fn narrow_floor(m: &Meet, axis: Axis) -> i128
 
 /// The same, moved into the root.
 pub fn narrow_floor_in_root(m: &Meet, axis: Axis) -> i32
-    ensures { result ≡ moved_within (pos 2048) (floor_along axis (spot_of m.now)) }
+    ensures { result ≡ moved_within (pos wall_limit) (floor_along axis (spot_of m.now)) }
 {
     moved_within(2048, narrow_floor(m, axis))
 }

@@ -4,7 +4,7 @@ ghost use Rattle.ember_algebra.specs.Size.{Small};
 ghost use Rattle.ember_algebra.specs.Sign.{sgn};
 ghost use Rattle.ember_model.specs.declared.plane.Plane.{Plane as PlaneView};
 ghost use Rattle.ember_model.specs.declared.point.Spot.{Spot};
-ghost use Rattle.ember_model.specs.Limits.{broad_limit};
+ghost use Rattle.ember_model.specs.Limits.{broad_limit, wall_limit};
 ghost use Rattle.ember_model.specs.Owners.{spot_of_corner};
 ghost use Rattle.ember_model.specs.Planes.{value_at, opposite};
 ghost use Rattle.ember_model.specs.Within.{IsCornerWithin, IsPlaneWithin, normal_limit};
@@ -83,7 +83,7 @@ pub trait Width {
     /// The floor of the point's coordinate along an axis, in steps. If it lies outside of the root,
     /// the nearest whole number from one wall of the root to the other.
     fn floor_in_root(m: &Self::Point, axis: Axis) -> i32
-        ensures { result ≡ moved_within (pos 2048 *ℤ UNIT) (floor_along axis (spot m.now)) };
+        ensures { result ≡ moved_within (pos wall_limit *ℤ UNIT) (floor_along axis (spot m.now)) };
 
     /// Whether the root reaches to this coordinate: whether a wall of a box can have it.
     fn is_in_root(at: i64) -> bool

@@ -2,6 +2,7 @@
 ghost use Rattle.std.specs.Prelude.{◌≡◌, ◌≤◌, ◌<◌, ◌↔◌, All, IsTrue, IfOk, IfErr, None, length, map};
 ghost use Rattle.std.specs.List.{find};
 ghost use Rattle.std.specs.Option.{option_map};
+ghost use Rattle.ember_model.specs.Limits.{most_bytes};
 ghost use Rattle.mesh_read.specs.Surface.Surfaces.{IsWithin, is_facet_too_large, point_of};
 ghost use Rattle.mesh_arrays.specs.Arrays.{ArePointsOf, IsShort, IsSurfaceOf, facets_from, point_of_bits};
 ghost use Rattle.mesh_arrays.specs.Faults.{IsMeshFault, IsTriangleFault, IsVertexFault};
@@ -24,7 +25,7 @@ fn vertex_at(bits: &[u64; 3]) -> Option<Vertex<'static>>
 
 // All vertices, or the first that isn't finite.
 fn vertices_of(alloc: Global, vertices: &[[u64; 3]]) -> Result<Vec<Vertex<'static>>, PlyFault>
-    requires { length vertices.now ≤ 268435456 }
+    requires { length vertices.now ≤ most_bytes }
     ensures points { IfOk result (λ found. ArePointsOf vertices.now (map point_of found.items)) }
     ensures fault { IfErr result (IsVertexFault vertices.now) }
 {
@@ -51,7 +52,7 @@ fn are_below(corners: &[u32; 3], count: usize) -> bool
 
 // All triangles, or the first with a corner that is none of so many vertices.
 fn facets_of(alloc: Global, triangles: &[[u32; 3]], count: usize) -> Result<Vec<Facet>, PlyFault>
-    requires { length triangles.now ≤ 268435456 }
+    requires { length triangles.now ≤ most_bytes }
     ensures facets { IfOk result (λ facets. facets.items ≡ facets_from 1 triangles.now) }
     ensures within { IfOk result (λ facets. All (IsWithin count) facets.items) }
     ensures fault { IfErr result (IsTriangleFault triangles.now count) }

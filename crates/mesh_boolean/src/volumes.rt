@@ -1,7 +1,7 @@
 // The volumes of meshes on their grid.
 ghost use Rattle.std.specs.Prelude.{◌≡◌, ◌≤◌, All, length, IfOk};
 ghost use Rattle.ember_algebra.specs.Size.{Small};
-ghost use Rattle.ember_model.specs.Limits.{support_constant_limit};
+ghost use Rattle.ember_model.specs.Limits.{support_constant_limit, most_triangles};
 ghost use Rattle.ember_model.specs.Valid.{IsValidTri};
 ghost use Rattle.mesh_boolean.specs.Volumes.{six_volumes_of_mesh, six_volumes_of_meshes, six_volumes, six_volumes_for};
 
@@ -29,7 +29,7 @@ fn six_volumes_for(t: &Tri, mesh: u32) -> i64
 // Six times the volume of the mesh with this number.
 fn six_volumes_of_mesh(tris: &[Tri], mesh: u32) -> i64
     requires valid { All IsValidTri tris.now }
-    requires few { length tris.now ≤ 262144 }
+    requires few { length tris.now ≤ most_triangles }
     ensures { result ≡ six_volumes_of_mesh tris.now mesh }
 {
     let mut sum = 0;

@@ -1,6 +1,7 @@
 // The chunks of a GLB.
 ghost use Rattle.std.specs.Prelude.{◌≡◌, ◌+◌, ◌≤◌, length, MatchOption, None, Some, Ok, Err, IfSome, IfOk, IfErr};
 ghost use Rattle.std.specs.Option.{option_map};
+ghost use Rattle.ember_model.specs.Limits.{most_bytes};
 ghost use Rattle.mesh_gltf.specs.Chunks.{is_glb, chunk_at, bytes_of_kind, with_first, chunks_within, glb_chunks, chunks_of, chunks_seen};
 
 use crate::bytes::read_number;
@@ -42,8 +43,8 @@ pub fn is_glb(bytes: &[u8]) -> bool
 // The chunk at this byte, if all of it is there.
 #[tactic(auto, unfolding(crate::specs::Chunks::chunk_at))]
 fn chunk_at(bytes: &[u8], at: usize) -> Option<Chunk>
-    requires at { at ≤ 268435456 }
-    requires bytes { length bytes.now ≤ 268435456 }
+    requires at { at ≤ most_bytes }
+    requires bytes { length bytes.now ≤ most_bytes }
     ensures chunk { result ≡ chunk_at bytes.now at }
     ensures within { IfSome result (λ c. (c.start ≤ c.end) × (c.end ≤ length bytes.now)) }
 {
@@ -72,8 +73,8 @@ fn bytes_of_kind<'a>(kind: u32, bytes: &'a [u8], chunk: Chunk) -> Option<&'a [u8
 
 // The binary chunk at this byte, if there is one.
 fn binary_at<'a>(bytes: &'a [u8], at: usize) -> Option<&'a [u8]>
-    requires at { at ≤ 268435456 }
-    requires bytes { length bytes.now ≤ 268435456 }
+    requires at { at ≤ most_bytes }
+    requires bytes { length bytes.now ≤ most_bytes }
     ensures { option_map (λ b. b.now) result ≡ bytes_of_kind 5130562 bytes.now (chunk_at bytes.now at) }
 {
     bytes_of_kind(BINARY, bytes, chunk_at(bytes, at)?)
@@ -81,7 +82,7 @@ fn binary_at<'a>(bytes: &'a [u8], at: usize) -> Option<&'a [u8]>
 
 // The chunks in these bytes of a GLB.
 fn chunks_in<'a>(bytes: &'a [u8]) -> Result<Chunks<'a>, GltfFault>
-    requires { length bytes.now ≤ 268435456 }
+    requires { length bytes.now ≤ most_bytes }
     ensures ok { IfOk result (λ c. with_first bytes.now (chunk_at bytes.now 12) ≡ Ok (chunks_seen c)) }
     ensures fault { IfErr result (λ e. with_first bytes.now (chunk_at bytes.now 12) ≡ Err e) }
 {
@@ -100,7 +101,7 @@ fn chunks_in<'a>(bytes: &'a [u8]) -> Result<Chunks<'a>, GltfFault>
 // The chunks of a GLB.
 #[tactic(auto, unfolding(crate::specs::Chunks::glb_chunks))]
 fn glb_chunks<'a>(bytes: &'a [u8]) -> Result<Chunks<'a>, GltfFault>
-    requires { length bytes.now ≤ 268435456 }
+    requires { length bytes.now ≤ most_bytes }
     ensures ok { IfOk result (λ c. glb_chunks bytes.now ≡ Ok (chunks_seen c)) }
     ensures fault { IfErr result (λ e. glb_chunks bytes.now ≡ Err e) }
 {
@@ -121,7 +122,7 @@ fn glb_chunks<'a>(bytes: &'a [u8]) -> Result<Chunks<'a>, GltfFault>
 // The chunks of a file; all of it is JSON if it is no GLB.
 #[tactic(auto, unfolding(crate::specs::Chunks::chunks_of))]
 pub(crate) fn chunks_of<'a>(bytes: &'a [u8]) -> Result<Chunks<'a>, GltfFault>
-    requires { length bytes.now ≤ 268435456 }
+    requires { length bytes.now ≤ most_bytes }
     ensures ok { IfOk result (λ c. chunks_of bytes.now ≡ Ok (chunks_seen c)) }
     ensures fault { IfErr result (λ e. chunks_of bytes.now ≡ Err e) }
 {

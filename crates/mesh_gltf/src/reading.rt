@@ -1,6 +1,7 @@
 // The reading of a document.
 ghost use Rattle.std.specs.Prelude.{◌≡◌, ◌⊎◌, ◌≤◌, length, map, Ok, Err, IfOk, IfErr};
 ghost use Rattle.std.specs.Option.{option_map};
+ghost use Rattle.ember_model.specs.Limits.{most_bytes};
 ghost use Rattle.mesh_read.specs.Surface.Surfaces.{IsSurface, content_of};
 ghost use Rattle.serde_json.specs.View.{view, items_view};
 ghost use Rattle.mesh_gltf.specs.ReadGltf.{has_text, needs, document_content, content_in, read_gltf_of};
@@ -73,7 +74,7 @@ fn read_document<'a>(
 // The vertices and triangles of a file, whatever they are.
 #[tactic(auto, unfolding(crate::specs::ReadGltf::content_in))]
 fn read_content<'a>(alloc: Global, bytes: &[u8]) -> Result<Surface<'a>, GltfFault>
-    requires { length bytes.now ≤ 268435456 }
+    requires { length bytes.now ≤ most_bytes }
     ensures ok { IfOk result (λ s. content_in bytes.now ≡ Ok (content_of s)) }
     ensures fault { IfErr result (λ e. (e ≡ GltfFault.OutOfMemory) ⊎ (content_in bytes.now ≡ Err e)) }
 {
@@ -88,7 +89,7 @@ fn read_content<'a>(alloc: Global, bytes: &[u8]) -> Result<Surface<'a>, GltfFaul
 // The surface of a file, if it is a mesh.
 #[tactic(auto, using(mesh_read::proofs::Flaws::mesh_found, mesh_read::proofs::Flaws::mesh_refused))]
 fn read_mesh<'a>(alloc: Global, bytes: &[u8]) -> Result<Surface<'a>, GltfFault>
-    requires { length bytes.now ≤ 268435456 }
+    requires { length bytes.now ≤ most_bytes }
     ensures ok { IfOk result (λ s. read_gltf_of bytes.now ≡ Ok (content_of s)) }
     ensures fault { IfErr result (λ e. (e ≡ GltfFault.OutOfMemory) ⊎ (read_gltf_of bytes.now ≡ Err e)) }
 {
@@ -112,7 +113,7 @@ fn read_mesh<'a>(alloc: Global, bytes: &[u8]) -> Result<Surface<'a>, GltfFault>
 /// textures, skins, cameras and animations are passed over. There are at most 2^24 points and 2^24
 /// corners of triangles, and at most 2^28 bytes.
 pub fn read_gltf<'a>(alloc: Global, bytes: &[u8]) -> Result<Surface<'a>, GltfFault>
-    requires { length bytes.now ≤ 268435456 }
+    requires { length bytes.now ≤ most_bytes }
     ensures ok { IfOk result (λ s. read_gltf_of bytes.now ≡ Ok (content_of s)) }
     ensures surface { IfOk result IsSurface }
     ensures fault { IfErr result (λ e. (e ≡ GltfFault.OutOfMemory) ⊎ (read_gltf_of bytes.now ≡ Err e)) }

@@ -1,5 +1,6 @@
 // How normals turn round an edge, exactly.
 ghost use Rattle.std.specs.Prelude.{◌≡◌, IfSome};
+ghost use Rattle.ember_model.specs.Limits.{valid_normal_limit};
 ghost use Rattle.ember_algebra.specs.Size.{Small};
 ghost use Rattle.ember_wide.specs.Whole.{value_of};
 ghost use Rattle.mesh_manifold.specs.Turns.{IsNormal, opposite, cross, inner, along, turn};
@@ -19,7 +20,7 @@ pub struct Normal {
 
 // A number below 2^25 in size.
 fn small(n: i64) -> Option<i128>
-    ensures { IfSome result (Small 33554431) }
+    ensures { IfSome result (Small valid_normal_limit) }
 {
     if n.unsigned_abs() < 1 << 25 {
         Some(i128::from(n))

@@ -1,5 +1,6 @@
 // What is left of a file after its header.
 ghost use Rattle.std.specs.Prelude.{◌≡◌, ◌+◌, ◌≤◌, ◌<◌, ◌∷◌, [], length, MatchOption, IfSome, Some, None};
+ghost use Rattle.ember_model.specs.Limits.{most_bytes};
 ghost use Rattle.mesh_read.specs.Scan.Parts.{words_in, lines_in};
 ghost use Rattle.mesh_ply.specs.Cursors.{rows_of, begun, next_row, next_scalar};
 ghost use Rattle.mesh_ply.specs.CursorViews.{scalar_of, cursor_of, left_at};
@@ -18,7 +19,7 @@ pub(crate) enum Cursor<'a> {
 // The beginning of what follows a header. No fault names a place in it, so its bytes are counted
 // anew.
 pub(crate) fn first_cursor<'a>(encoding: Encoding, body: &'a [u8]) -> Cursor<'a>
-    requires { length body.now ≤ 268435456 }
+    requires { length body.now ≤ most_bytes }
     ensures cursor { cursor_of result ≡ begun encoding body.entry.now }
     ensures left { left_at result ≤ length body.entry.now }
 {

@@ -1,5 +1,6 @@
 // The header of a file.
 ghost use Rattle.std.specs.Prelude.{◌≡◌, ◌⊎◌, ◌≤◌, ◌<◌, length, Some, Ok, Err, OnOk, IfOk, IfErr};
+ghost use Rattle.ember_model.specs.Limits.{most_bytes};
 ghost use Rattle.mesh_read.specs.Scan.Parts.{lines_in};
 ghost use Rattle.mesh_ply.specs.Header.{nothing_declared, with_entry, is_end, header_from, with_body, header_of_file};
 ghost use Rattle.mesh_ply.specs.HeaderViews.{header_of};
@@ -92,7 +93,7 @@ pub(crate) fn read_header<'a>(
     alloc: Global,
     bytes: &'a [u8],
 ) -> Result<(Header, &'a [u8]), PlyFault>
-    requires { length bytes.now ≤ 268435456 }
+    requires { length bytes.now ≤ most_bytes }
     ensures ok { IfOk result (λ h. header_of_file bytes.entry.now ≡ Ok (header_of h.0, h.1.now)) }
     ensures fault { IfErr result (λ e. (e ≡ PlyFault.OutOfMemory) ⊎ (header_of_file bytes.entry.now ≡ Err e)) }
     ensures length { IfOk result (λ h. length h.1.now ≤ length bytes.entry.now) }

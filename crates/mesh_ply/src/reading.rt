@@ -1,5 +1,6 @@
 // The reading of a file.
 ghost use Rattle.std.specs.Prelude.{◌≡◌, ◌⊎◌, ◌≤◌, length, Ok, Err, IfOk, IfErr};
+ghost use Rattle.ember_model.specs.Limits.{most_bytes};
 ghost use Rattle.mesh_read.specs.Surface.Surfaces.{IsSurface, content_of};
 ghost use Rattle.mesh_ply.specs.ReadPly.{no_content, elements_from, content_of_file, read_ply_of};
 ghost use Rattle.mesh_ply.specs.Cursors.{begun};
@@ -20,7 +21,7 @@ fn read_body<'a>(
     declarations: &[Declaration],
     body: &'a [u8],
 ) -> Result<Surface<'a>, PlyFault>
-    requires { length body.now ≤ 268435456 }
+    requires { length body.now ≤ most_bytes }
     ensures ok { IfOk result (λ s.
         elements_from declarations.now no_content (begun encoding body.entry.now) ≡ Ok (content_of s)) }
     ensures fault { IfErr result (λ e. (e ≡ PlyFault.OutOfMemory)
@@ -44,7 +45,7 @@ fn read_body<'a>(
 
 // The vertices and triangles of a file, whatever they are.
 fn read_content<'a>(alloc: Global, bytes: &'a [u8]) -> Result<Surface<'a>, PlyFault>
-    requires { length bytes.now ≤ 268435456 }
+    requires { length bytes.now ≤ most_bytes }
     ensures ok { IfOk result (λ s. content_of_file bytes.entry.now ≡ Ok (content_of s)) }
     ensures fault { IfErr result (λ e. (e ≡ PlyFault.OutOfMemory) ⊎ (content_of_file bytes.entry.now ≡ Err e)) }
 {
@@ -58,7 +59,7 @@ fn read_content<'a>(alloc: Global, bytes: &'a [u8]) -> Result<Surface<'a>, PlyFa
 // The surface of a file, if it is a mesh.
 #[tactic(auto, using(mesh_read::proofs::Flaws::mesh_found, mesh_read::proofs::Flaws::mesh_refused))]
 fn read_mesh<'a>(alloc: Global, bytes: &'a [u8]) -> Result<Surface<'a>, PlyFault>
-    requires { length bytes.now ≤ 268435456 }
+    requires { length bytes.now ≤ most_bytes }
     ensures ok { IfOk result (λ s. read_ply_of bytes.now ≡ Ok (content_of s)) }
     ensures fault { IfErr result (λ e. (e ≡ PlyFault.OutOfMemory) ⊎ (read_ply_of bytes.now ≡ Err e)) }
 {
@@ -81,7 +82,7 @@ fn read_mesh<'a>(alloc: Global, bytes: &'a [u8]) -> Result<Surface<'a>, PlyFault
 ///
 /// The coordinates of an ASCII file borrow their digits from `text`, which has at most 2^28 bytes.
 pub fn read_ply<'a>(alloc: Global, text: &'a [u8]) -> Result<Surface<'a>, PlyFault>
-    requires { length text.now ≤ 268435456 }
+    requires { length text.now ≤ most_bytes }
     ensures ok { IfOk result (λ s. read_ply_of text.now ≡ Ok (content_of s)) }
     ensures surface { IfOk result IsSurface }
     ensures fault { IfErr result (λ e. (e ≡ PlyFault.OutOfMemory) ⊎ (read_ply_of text.now ≡ Err e)) }

@@ -1,6 +1,7 @@
 // What is said of meshes.
 ghost use Rattle.std.specs.Prelude.{◌≡◌, ◌≤◌, ℕ, List, length, All, false, IfOk, IfErr};
 ghost use Rattle.std.specs.declared.option.Option.{Option};
+ghost use Rattle.ember_model.specs.Limits.{most_bytes};
 ghost use Rattle.ember_algebra.specs.Relations.{Each};
 ghost use Rattle.mesh_boolean.specs.Files.{AreReadings};
 ghost use Rattle.mesh_run.specs.Calls.{KeepsContents, TakesUntilFault, shelf_call, sink_call};
@@ -43,7 +44,7 @@ fn info_lines(
 fn infos_of_contents(alloc: Global, names: &[Text], contents: &[Vec<u8>]) -> Result<Vec<u8>, Status>
     requires few { length names.now ≤ 64 }
     requires one_each { length contents.now ≡ length names.now }
-    requires small { All (λ bytes. length bytes.items ≤ 268435456) contents.now }
+    requires small { All (λ bytes. length bytes.items ≤ most_bytes) contents.now }
     ensures lines { IfOk result (λ lines. (told : List ℕ → Option (List ℕ)) →
         AreContents told names.now contents.now → AreInfoLines told names.now lines.items) }
     ensures cause { IfErr result (λ status. (told : List ℕ → Option (List ℕ)) →

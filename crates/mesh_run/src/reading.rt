@@ -1,6 +1,7 @@
 // The bytes of the files, in order.
 ghost use Rattle.std.specs.Prelude.{◌≡◌, ◌<◌, ◌≤◌, ◌+◌, ℕ, List, length, map, take, All, IfOk, IfErr};
 ghost use Rattle.std.specs.declared.option.Option.{Option};
+ghost use Rattle.ember_model.specs.Limits.{most_bytes};
 ghost use Rattle.mesh_run.specs.Calls.{shelf_call};
 ghost use Rattle.mesh_run.specs.Causes.{IsEndAt, IsReadingCause, IsRefusalCause};
 ghost use Rattle.mesh_run.specs.Files.{AreContents, AreReadAs};
@@ -48,7 +49,7 @@ pub fn surfaces_of<'a>(
 ) -> Result<Vec<Surface<'a>>, Status>
     requires few { length names.now ≤ 64 }
     requires named { length contents.now ≤ length names.now }
-    requires small { All (λ bytes. length bytes.items ≤ 268435456) contents.now }
+    requires small { All (λ bytes. length bytes.items ≤ most_bytes) contents.now }
     ensures read { IfOk result (λ surfaces. (told : List ℕ → Option (List ℕ)) →
         AreContents told (take (length contents.now) names.now) contents.now →
         AreReadAs told (take (length contents.now) names.now) surfaces.items) }
@@ -74,7 +75,7 @@ fn status_after(
 ) -> Status
     requires few { length names.now ≤ 64 }
     requires named { length contents.now < length names.now }
-    requires small { All (λ bytes. length bytes.items ≤ 268435456) contents.now }
+    requires small { All (λ bytes. length bytes.items ≤ most_bytes) contents.now }
     ensures { (told : List ℕ → Option (List ℕ)) →
         AreContents told (take (length contents.now) names.now) contents.now →
         IsEndAt told names.now (length contents.now + 1) end kind result }

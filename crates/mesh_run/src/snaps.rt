@@ -1,6 +1,7 @@
 // Meshes on their grid.
 ghost use Rattle.std.specs.Prelude.{◌≡◌, ◌≤◌, ℕ, List, length, All, false, None, IfOk, IfErr};
 ghost use Rattle.std.specs.declared.option.Option.{Option};
+ghost use Rattle.ember_model.specs.Limits.{most_bytes};
 ghost use Rattle.mesh_grid.specs.Grid.Grids.{IsChoice};
 ghost use Rattle.mesh_words.specs.Commands.{IsWithinSnapLimits};
 ghost use Rattle.mesh_run.specs.Calls.{KeepsContents, TakesUntilFault, shelf_call, sink_call, target_call};
@@ -35,7 +36,7 @@ fn placed_of_contents<P: Stages>(
 ) -> Result<PlacedScene, Status>
     requires few { length names.now ≤ 64 }
     requires one_each { length contents.now ≡ length names.now }
-    requires small { All (λ bytes. length bytes.items ≤ 268435456) contents.now }
+    requires small { All (λ bytes. length bytes.items ≤ most_bytes) contents.now }
     requires choice { IsChoice wanted }
     ensures placed { IfOk result (λ placed. (told : List ℕ → Option (List ℕ)) →
         AreContents told names.now contents.now → AreFilesPlaced told names.now wanted placed) }

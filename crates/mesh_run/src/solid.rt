@@ -1,6 +1,7 @@
 // The files of a Boolean.
 ghost use Rattle.std.specs.Prelude.{◌≡◌, ◌≤◌, ℕ, List, length, All, false, None, IfOk, IfErr, option_map};
 ghost use Rattle.std.specs.declared.option.Option.{Option};
+ghost use Rattle.ember_model.specs.Limits.{most_bytes};
 ghost use Rattle.mesh_boolean.specs.Outputs.{HasFewDigits};
 ghost use Rattle.ember_expr.specs.Formula.{formula_of};
 ghost use Rattle.mesh_grid.specs.Grid.Grids.{IsChoice};
@@ -46,7 +47,7 @@ fn output_of_contents<
 ) -> Result<SolidFile, Status>
     requires few { length names.now ≤ 64 }
     requires one_each { length contents.now ≡ length names.now }
-    requires small { All (λ bytes. length bytes.items ≤ 268435456) contents.now }
+    requires small { All (λ bytes. length bytes.items ≤ most_bytes) contents.now }
     requires choice { IsChoice asked.now.wanted.grid }
     requires digits { HasFewDigits asked.now.wanted.format }
     requires executor { IsExecutor C.pre C.post executor.now }

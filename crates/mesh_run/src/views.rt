@@ -1,6 +1,7 @@
 // The page that shows meshes.
 ghost use Rattle.std.specs.Prelude.{◌≡◌, ◌++◌, ◌≤◌, ℕ, List, [], length, All, false, None, IfOk, IfErr, OnOk, codes};
 ghost use Rattle.std.specs.declared.option.Option.{Option};
+ghost use Rattle.ember_model.specs.Limits.{most_bytes};
 ghost use Rattle.mesh_info.specs.View.Views.{IsView};
 ghost use Rattle.mesh_run.specs.Calls.{KeepsContents, TakesUntilFault, shelf_call, sink_call, target_call};
 ghost use Rattle.mesh_run.specs.Causes.{IsReadingCause, IsRefusalCause};
@@ -55,7 +56,7 @@ fn page_of(alloc: Global, names: &[Text], surfaces: &[Surface]) -> Result<Vec<u8
 fn page_of_contents(alloc: Global, names: &[Text], contents: &[Vec<u8>]) -> Result<Vec<u8>, Status>
     requires few { length names.now ≤ 64 }
     requires one_each { length contents.now ≡ length names.now }
-    requires small { All (λ bytes. length bytes.items ≤ 268435456) contents.now }
+    requires small { All (λ bytes. length bytes.items ≤ most_bytes) contents.now }
     ensures page { IfOk result (λ page. (told : List ℕ → Option (List ℕ)) →
         AreContents told names.now contents.now → IsPageOf told names.now page.items) }
     ensures cause { IfErr result (λ status. (told : List ℕ → Option (List ℕ)) →

@@ -1,5 +1,6 @@
 // The boxes around triangles.
 ghost use Rattle.std.specs.Prelude.{◌≡◌, ◌⊎◌, ◌↔◌, ℤ, ◌*ℤ◌, ◌≤ℤ◌, IsTrue};
+ghost use Rattle.ember_model.specs.Limits.{narrow_limit};
 ghost use Rattle.ember_algebra.specs.Size.{Small};
 ghost use Rattle.mesh_sources.specs.Places.{coordinate, spot_at, spots_of};
 ghost use Rattle.mesh_sources.specs.Spans.{IsSpanAround, IsSpanOver, IsBoxAround, IsBoxOver};
@@ -98,13 +99,13 @@ fn numerator(p: &SpacePoint, k: Axis) -> i128
 }
 
 fn floor_along(p: &SpacePoint, k: Axis) -> i64
-    ensures { (z : ℤ) → Small 2047 z → (z ≤ℤ result) ↔ ((p.now.w *ℤ z) ≤ℤ coordinate k (spot_of p.now)) }
+    ensures { (z : ℤ) → Small narrow_limit z → (z ≤ℤ result) ↔ ((p.now.w *ℤ z) ≤ℤ coordinate k (spot_of p.now)) }
 {
     floor_of(numerator(p, k), p.w)
 }
 
 fn ceil_along(p: &SpacePoint, k: Axis) -> i64
-    ensures { (z : ℤ) → Small 2047 z → (result ≤ℤ z) ↔ (coordinate k (spot_of p.now) ≤ℤ (p.now.w *ℤ z)) }
+    ensures { (z : ℤ) → Small narrow_limit z → (result ≤ℤ z) ↔ (coordinate k (spot_of p.now) ≤ℤ (p.now.w *ℤ z)) }
 {
     ceil_of(numerator(p, k), p.w)
 }

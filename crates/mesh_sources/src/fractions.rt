@@ -1,5 +1,7 @@
 // Whole numbers next to fractions.
 ghost use Rattle.std.specs.Prelude.{◌↔◌, ℤ, pos, ◌*ℤ◌, ◌<ℤ◌, ◌≤ℤ◌};
+ghost use Rattle.ember_model.specs.Limits.{narrow_limit};
+ghost use Rattle.mesh_number.specs.Limits.{coordinate_limit};
 ghost use Rattle.ember_algebra.specs.Size.{Small};
 
 // Farther than any coordinate of the scene.
@@ -7,9 +9,9 @@ const FARTHEST: i128 = 4096;
 
 /// The greatest whole number that isn't above `x / w`, or the nearest one of at most 4096 in size.
 pub fn floor_of(x: i128, w: i128) -> i64
-    requires x { Small 77371252455336267181195263 x }
+    requires x { Small coordinate_limit x }
     requires w { pos 0 <ℤ w }
-    ensures exact { (z : ℤ) → Small 2047 z → (z ≤ℤ result) ↔ ((w *ℤ z) ≤ℤ x) }
+    ensures exact { (z : ℤ) → Small narrow_limit z → (z ≤ℤ result) ↔ ((w *ℤ z) ≤ℤ x) }
     ensures small { Small 4096 result }
 {
     x.div_euclid(w).clamp(-FARTHEST, FARTHEST) as i64
@@ -17,9 +19,9 @@ pub fn floor_of(x: i128, w: i128) -> i64
 
 /// The least whole number that isn't below `x / w`, or the nearest one of at most 4096 in size.
 pub fn ceil_of(x: i128, w: i128) -> i64
-    requires x { Small 77371252455336267181195263 x }
+    requires x { Small coordinate_limit x }
     requires w { pos 0 <ℤ w }
-    ensures { (z : ℤ) → Small 2047 z → (result ≤ℤ z) ↔ (x ≤ℤ (w *ℤ z)) }
+    ensures { (z : ℤ) → Small narrow_limit z → (result ≤ℤ z) ↔ (x ≤ℤ (w *ℤ z)) }
 {
     -floor_of(-x, w)
 }

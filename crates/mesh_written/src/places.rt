@@ -1,5 +1,6 @@
 // Where corners lie in the user's unit.
 ghost use Rattle.std.specs.Prelude.{◌≡◌, ◌^◌, ◌<◌, pos, ◌+ℤ◌, ◌*ℤ◌};
+ghost use Rattle.mesh_number.specs.Limits.{coordinate_limit, weight_limit};
 ghost use Rattle.ember_algebra.specs.Size.{Small};
 ghost use Rattle.ember_wide.specs.Whole.{value_of};
 ghost use Rattle.mesh_grid.specs.Snap.Steps.{IsStep};
@@ -14,7 +15,7 @@ use mesh_number::Wide;
 // The coordinate of the corner along the axis, times its weight.
 fn coordinate_along(axis: Axis, corner: &SpacePoint) -> i128
     ensures value { result ≡ coordinate_along axis corner.now }
-    ensures small { Small 77371252455336267181195263 result }
+    ensures small { Small coordinate_limit result }
 {
     match axis {
         Axis::X => corner.x,
@@ -36,8 +37,8 @@ fn offset_along(axis: Axis, offset: &Offset) -> i128
 // The coordinate and the offset times the weight, together, times the numerator of a step: below
 // 2^243 in size.
 fn numerator_of(coordinate: i128, weight: i128, offset: i128, step: u64) -> Wide
-    requires coordinate { Small 77371252455336267181195263 coordinate }
-    requires weight { Small 37778931862957161709567 weight }
+    requires coordinate { Small coordinate_limit coordinate }
+    requires weight { Small weight_limit weight }
     requires step { step < 2 ^ 40 }
     ensures { value_of result ≡ (coordinate +ℤ offset *ℤ weight) *ℤ pos step }
 {

@@ -1,5 +1,6 @@
 // The key of the line in which two planes meet.
 ghost use Rattle.std.specs.Prelude.{◌≡◌, ◌≢◌, ◌↔◌, [], ◌∷◌, pos, ◌-ℤ◌, ◌*ℤ◌, unsigned_abs, IfSome, IsNone, IsTrue};
+ghost use Rattle.ember_model.specs.Limits.{direction_limit, valid_constant_limit, valid_normal_limit};
 ghost use Rattle.ember_algebra.specs.Large.{first_sign};
 ghost use Rattle.ember_algebra.specs.Sign.{is_negative, sign};
 ghost use Rattle.ember_algebra.specs.Size.{Small};
@@ -28,12 +29,12 @@ pub struct LineKey {
 }
 
 fn minor(a: i64, b: i64, c: i64, d: i64) -> i64
-    requires a { Small 33554431 a }
-    requires b { Small 33554431 b }
-    requires c { Small 33554431 c }
-    requires d { Small 33554431 d }
+    requires a { Small valid_normal_limit a }
+    requires b { Small valid_normal_limit b }
+    requires c { Small valid_normal_limit c }
+    requires d { Small valid_normal_limit d }
     ensures value { result ≡ a *ℤ d -ℤ b *ℤ c }
-    ensures small { Small 2251799679467522 result }
+    ensures small { Small direction_limit result }
 {
     a * d - b * c
 }
@@ -41,10 +42,10 @@ fn minor(a: i64, b: i64, c: i64, d: i64) -> i64
 // An entry of the moment: of the first plane's entry `n` and constant `d`, and of the second's `m`
 // and `e`.
 fn moment_entry(n: i64, d: i64, m: i64, e: i64) -> i128
-    requires n { Small 33554431 n }
-    requires d { Small 549755813887 d }
-    requires m { Small 33554431 m }
-    requires e { Small 549755813887 e }
+    requires n { Small valid_normal_limit n }
+    requires d { Small valid_constant_limit d }
+    requires m { Small valid_normal_limit m }
+    requires e { Small valid_constant_limit e }
     ensures value { result ≡ e *ℤ n -ℤ d *ℤ m }
     ensures small { Small 36893487047840366594 result }
 {

@@ -1,6 +1,7 @@
 // A file of any format.
 ghost use Rattle.std.specs.Prelude.{◌≡◌, ◌⊎◌, ◌≤◌, true, length, None, Ok, Err, IfOk, IfErr};
 ghost use Rattle.std.specs.List.{find};
+ghost use Rattle.ember_model.specs.Limits.{most_bytes};
 ghost use Rattle.mesh_read.specs.Surface.Surfaces.{IsSurface, content_of, is_facet_too_large};
 ghost use Rattle.mesh_read.specs.Stl.ReadStl.{read_stl_of};
 ghost use Rattle.mesh_ply.specs.ReadPly.{read_ply_of};
@@ -78,7 +79,7 @@ fn wavefront_fault<'a>(fault: WavefrontFault<'a>) -> FileFault<'a>
 
 // The fault of a file of no format that is read, which may be of one that isn't.
 fn or_unread<'a>(bytes: &[u8], fault: FileFault<'a>) -> FileFault<'a>
-    requires length { length bytes.now ≤ 268435456 }
+    requires length { length bytes.now ≤ most_bytes }
     requires plain { is_plain fault ≡ true }
     ensures fault { fault_of result ≡ with_unread bytes.now (fault_of fault.entry) }
     ensures memory { fault.entry ≡ FileFault.OutOfMemory → result ≡ FileFault.OutOfMemory }
@@ -95,7 +96,7 @@ fn or_unread<'a>(bytes: &[u8], fault: FileFault<'a>) -> FileFault<'a>
 
 // The surface of an STL file, binary or ASCII, or the fault of one that is cut off.
 fn read_stl_file<'a>(alloc: Global, bytes: &'a [u8]) -> Result<Surface<'a>, FileFault<'a>>
-    requires { length bytes.now ≤ 268435456 }
+    requires { length bytes.now ≤ most_bytes }
     ensures ok { IfOk result (λ s. with_faults of_stl (read_stl_of bytes.now) ≡ Ok (content_of s)) }
     ensures surface { IfOk result IsSurface }
     ensures within { IfOk result (λ s. find (is_facet_too_large s.vertices.items) s.facets.items ≡ None) }
@@ -110,7 +111,7 @@ fn read_stl_file<'a>(alloc: Global, bytes: &'a [u8]) -> Result<Surface<'a>, File
 }
 
 fn read_ply_file<'a>(alloc: Global, bytes: &'a [u8]) -> Result<Surface<'a>, FileFault<'a>>
-    requires { length bytes.now ≤ 268435456 }
+    requires { length bytes.now ≤ most_bytes }
     ensures ok { IfOk result (λ s. with_faults of_ply (read_ply_of bytes.now) ≡ Ok (content_of s)) }
     ensures surface { IfOk result IsSurface }
     ensures within { IfOk result (λ s. find (is_facet_too_large s.vertices.items) s.facets.items ≡ None) }
@@ -125,7 +126,7 @@ fn read_ply_file<'a>(alloc: Global, bytes: &'a [u8]) -> Result<Surface<'a>, File
 }
 
 fn read_off_file<'a>(alloc: Global, bytes: &'a [u8]) -> Result<Surface<'a>, FileFault<'a>>
-    requires { length bytes.now ≤ 268435456 }
+    requires { length bytes.now ≤ most_bytes }
     ensures ok { IfOk result (λ s. with_faults of_off (read_off_of bytes.now) ≡ Ok (content_of s)) }
     ensures surface { IfOk result IsSurface }
     ensures within { IfOk result (λ s. find (is_facet_too_large s.vertices.items) s.facets.items ≡ None) }
@@ -140,7 +141,7 @@ fn read_off_file<'a>(alloc: Global, bytes: &'a [u8]) -> Result<Surface<'a>, File
 }
 
 fn read_gltf_file<'a>(alloc: Global, bytes: &'a [u8]) -> Result<Surface<'a>, FileFault<'a>>
-    requires { length bytes.now ≤ 268435456 }
+    requires { length bytes.now ≤ most_bytes }
     ensures ok { IfOk result (λ s. with_faults of_gltf (read_gltf_of bytes.now) ≡ Ok (content_of s)) }
     ensures surface { IfOk result IsSurface }
     ensures within { IfOk result (λ s. find (is_facet_too_large s.vertices.items) s.facets.items ≡ None) }
@@ -155,7 +156,7 @@ fn read_gltf_file<'a>(alloc: Global, bytes: &'a [u8]) -> Result<Surface<'a>, Fil
 }
 
 fn read_wavefront_file<'a>(alloc: Global, bytes: &'a [u8]) -> Result<Surface<'a>, FileFault<'a>>
-    requires { length bytes.now ≤ 268435456 }
+    requires { length bytes.now ≤ most_bytes }
     ensures ok { IfOk result (λ s. with_faults of_wavefront (read_wavefront_of bytes.now) ≡ Ok (content_of s)) }
     ensures surface { IfOk result IsSurface }
     ensures within { IfOk result (λ s. find (is_facet_too_large s.vertices.items) s.facets.items ≡ None) }
@@ -171,7 +172,7 @@ fn read_wavefront_file<'a>(alloc: Global, bytes: &'a [u8]) -> Result<Surface<'a>
 
 // The surface of a file that is STL by its name alone, or rather its fault.
 fn read_cut_off_file<'a>(alloc: Global, bytes: &'a [u8]) -> Result<Surface<'a>, FileFault<'a>>
-    requires { length bytes.now ≤ 268435456 }
+    requires { length bytes.now ≤ most_bytes }
     ensures ok { IfOk result (λ s. or_unread bytes.now (with_faults of_stl (read_stl_of bytes.now))
         ≡ Ok (content_of s)) }
     ensures surface { IfOk result IsSurface }
@@ -188,7 +189,7 @@ fn read_cut_off_file<'a>(alloc: Global, bytes: &'a [u8]) -> Result<Surface<'a>, 
 
 // The surface of any other file, if it is an OBJ.
 fn read_other_file<'a>(alloc: Global, bytes: &'a [u8]) -> Result<Surface<'a>, FileFault<'a>>
-    requires { length bytes.now ≤ 268435456 }
+    requires { length bytes.now ≤ most_bytes }
     ensures ok { IfOk result (λ s. or_unread bytes.now (with_faults of_wavefront (read_wavefront_of bytes.now))
         ≡ Ok (content_of s)) }
     ensures surface { IfOk result IsSurface }
@@ -220,7 +221,7 @@ pub fn read_file<'a>(
     name: &[u8],
     bytes: &'a [u8],
 ) -> Result<Surface<'a>, FileFault<'a>>
-    requires { length bytes.now ≤ 268435456 }
+    requires { length bytes.now ≤ most_bytes }
     ensures ok { IfOk result (λ s. reading_of name.now bytes.now ≡ Ok (content_of s)) }
     ensures surface { IfOk result IsSurface }
     ensures within { IfOk result (λ s. find (is_facet_too_large s.vertices.items) s.facets.items ≡ None) }

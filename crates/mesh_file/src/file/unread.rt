@@ -1,5 +1,6 @@
 // Formats of meshes that aren't read, by how their files begin.
 ghost use Rattle.std.specs.Prelude.{◌≡◌, ◌≤◌, length};
+ghost use Rattle.ember_model.specs.Limits.{most_bytes};
 ghost use Rattle.mesh_read.specs.Stl.ReadStl.{has_name};
 ghost use Rattle.mesh_file.specs.File.Unread.{begins_tag, is_markup, signed_format, markup_format, unread_format};
 
@@ -51,7 +52,7 @@ fn begins_tag(word: &[u8]) -> bool
 
 // Whether the first word begins a tag.
 fn is_markup(bytes: &[u8]) -> bool
-    requires { length bytes.now ≤ 268435456 }
+    requires { length bytes.now ≤ most_bytes }
     ensures { result ≡ is_markup bytes.now }
 {
     match next_word_between(Part::of_file(bytes), Blanks::Any) {
@@ -91,7 +92,7 @@ fn markup_format(head: &[u8]) -> Option<UnreadFormat>
 
 // The format that a file begins as, if it is one that isn't read.
 pub(crate) fn unread_format(bytes: &[u8]) -> Option<UnreadFormat>
-    requires { length bytes.now ≤ 268435456 }
+    requires { length bytes.now ≤ most_bytes }
     ensures { result ≡ unread_format bytes.now }
 {
     if is_markup(bytes) {

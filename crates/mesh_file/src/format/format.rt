@@ -1,5 +1,6 @@
 // The format of a file.
 ghost use Rattle.std.specs.Prelude.{◌≡◌, ◌≤◌, length};
+ghost use Rattle.ember_model.specs.Limits.{most_bytes};
 ghost use Rattle.mesh_file.specs.Format.Formats.{format_said};
 
 use crate::format::signs::{is_gltf_file, is_off_file, is_ply_file, is_stl_name};
@@ -36,7 +37,7 @@ pub enum Format {
 /// - an STL that is cut off, if its name ends in `.stl`, in any case.
 /// - OBJ.
 pub fn format_of(name: &[u8], bytes: &[u8]) -> Format
-    requires { length bytes.now ≤ 268435456 }
+    requires { length bytes.now ≤ most_bytes }
     ensures { result ≡ format_said name.now bytes.now }
 {
     if is_ply_file(bytes) {

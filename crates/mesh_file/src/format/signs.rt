@@ -1,5 +1,6 @@
 // By what a file shows its format.
 ghost use Rattle.std.specs.Prelude.{◌≡◌, ◌≤◌, length};
+ghost use Rattle.ember_model.specs.Limits.{most_bytes};
 ghost use Rattle.mesh_file.specs.Format.Formats.{ends_line, is_ply, has_ending, is_off_file, has_gltf_name, begins_object, is_gltf_file, has_stl_name};
 
 use mesh_gltf::is_glb;
@@ -32,7 +33,7 @@ fn has_ending(name: &[u8], ending: &[u8]) -> bool
 
 // Whether the first word of the file is a keyword of OFF, or a number where the name ends in `.off`.
 pub(crate) fn is_off_file(name: &[u8], bytes: &[u8]) -> bool
-    requires { length bytes.now ≤ 268435456 }
+    requires { length bytes.now ≤ most_bytes }
     ensures { result ≡ is_off_file name.now bytes.now }
 {
     is_off(bytes) || has_ending(name, b".off") && begins_with_count(bytes)
@@ -47,7 +48,7 @@ fn is_gltf_name(name: &[u8]) -> bool
 
 // Whether the first word begins an object of JSON.
 fn begins_object(bytes: &[u8]) -> bool
-    requires { length bytes.now ≤ 268435456 }
+    requires { length bytes.now ≤ most_bytes }
     ensures { result ≡ begins_object bytes.now }
 {
     match next_word_between(Part::of_file(bytes), Blanks::Any) {
@@ -58,7 +59,7 @@ fn begins_object(bytes: &[u8]) -> bool
 
 // Whether the file is a GLB, or begins an object of JSON where the name is that of a glTF.
 pub(crate) fn is_gltf_file(name: &[u8], bytes: &[u8]) -> bool
-    requires { length bytes.now ≤ 268435456 }
+    requires { length bytes.now ≤ most_bytes }
     ensures { result ≡ is_gltf_file name.now bytes.now }
 {
     is_glb(bytes) || is_gltf_name(name) && begins_object(bytes)

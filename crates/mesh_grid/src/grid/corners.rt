@@ -1,5 +1,6 @@
 // Corners on a grid.
 ghost use Rattle.std.specs.Prelude.{◌≡◌, ◌-ℤ◌, ◌&&◌};
+ghost use Rattle.ember_model.specs.Limits.{narrow_difference_limit, narrow_limit};
 ghost use Rattle.ember_algebra.specs.Size.{Small};
 ghost use Rattle.ember_algebra.specs.Sign.{is_zero};
 ghost use Rattle.mesh_grid.specs.Snap.Steps.{IsStep};
@@ -55,10 +56,10 @@ pub(crate) fn image(vertices: &[Vertex], facet: &Facet, grid: &Grid, mesh: u32) 
 }
 
 fn difference(first: i32, second: i32) -> i32
-    requires first { Small 2047 first }
-    requires second { Small 2047 second }
+    requires first { Small narrow_limit first }
+    requires second { Small narrow_limit second }
     ensures value { result ≡ first -ℤ second }
-    ensures small { Small 4094 result }
+    ensures small { Small narrow_difference_limit result }
 {
     first - second
 }

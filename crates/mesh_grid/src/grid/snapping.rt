@@ -1,5 +1,6 @@
 // The triangles of a surface on a grid.
 ghost use Rattle.std.specs.Prelude.{◌≡◌, ◌≤◌, ◌<◌, ◌^◌, ◌-◌, ◌++◌, ◌∷◌, [], List, ℕ, All, length, IfOk, IfErr, OnOk, if◌then◌else◌};
+ghost use Rattle.ember_model.specs.Limits.{most_triangles};
 ghost use Rattle.mesh_grid.specs.Snap.Steps.{IsStep};
 ghost use Rattle.mesh_read.specs.declared.surface.surface.Facet.{Facet};
 ghost use Rattle.ember_model.specs.declared.point.Corner.{Corner};
@@ -141,7 +142,7 @@ pub fn snap_surface(
     ensures vanished { IfOk result (λ s. s.vanished ≡
         length (vanished (corner_at grid.now surface.now.vertices.items) surface.now.facets.items)) }
     ensures flat { IfOk result (λ s. s.flat ≡ length (flat_ones s.soup.tris)) }
-    ensures few { IfOk result (λ s. length s.soup.tris ≤ 262144) }
+    ensures few { IfOk result (λ s. length s.soup.tris ≤ most_triangles) }
     ensures mesh { IfOk result (λ s. All (λ t. t.mesh ≡ mesh) s.soup.tris) }
     ensures closed { IfOk result (λ s. IsSurfaceClosed surface.now → IsBalanced s.soup.tris) }
     ensures fault { IfErr result (IsSnapFault

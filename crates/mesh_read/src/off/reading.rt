@@ -1,5 +1,6 @@
 // The pass over a file.
 ghost use Rattle.std.specs.Prelude.{◌≡◌, ◌⊎◌, ◌+◌, ◌<◌, ◌≤◌, ◌^◌, [], ◌∷◌, take, drop, length, Ok, Err, IfOk, IfErr};
+ghost use Rattle.ember_model.specs.Limits.{most_bytes};
 ghost use Rattle.mesh_read.specs.Scan.Parts.{piece_of, words_in};
 ghost use Rattle.mesh_read.specs.Surface.Surfaces.{IsSurface, content_of};
 ghost use Rattle.mesh_read.specs.Off.RowViews.{words_of_row, rows_in};
@@ -113,7 +114,7 @@ fn read_rows<'a>(alloc: Global, rows: Rows<'a>) -> Result<Surface<'a>, OffFault>
 // The surface of a file, if it is a mesh.
 #[tactic(auto, using(crate::proofs::Flaws::mesh_found, crate::proofs::Flaws::mesh_refused))]
 fn read_mesh<'a>(alloc: Global, bytes: &'a [u8]) -> Result<Surface<'a>, OffFault>
-    requires { length bytes.now ≤ 268435456 }
+    requires { length bytes.now ≤ most_bytes }
     ensures ok { IfOk result (λ s. read_off_of bytes.now ≡ Ok (content_of s)) }
     ensures fault { IfErr result (λ e. (e ≡ OffFault.OutOfMemory) ⊎ (read_off_of bytes.now ≡ Err e)) }
 {
@@ -134,7 +135,7 @@ fn read_mesh<'a>(alloc: Global, bytes: &'a [u8]) -> Result<Surface<'a>, OffFault
 /// [`FewLines`](OffFault::FewLines) precedes each fault of a vertex or a face, and those are in the
 /// order of lines. The coordinates borrow their digits from `bytes`. There are at most 2^28 bytes.
 pub fn read_off(alloc: Global, bytes: &[u8]) -> Result<Surface<'_>, OffFault>
-    requires { length bytes.now ≤ 268435456 }
+    requires { length bytes.now ≤ most_bytes }
     ensures ok { IfOk result (λ s. read_off_of bytes.now ≡ Ok (content_of s)) }
     ensures surface { IfOk result IsSurface }
     ensures fault { IfErr result (λ e. (e ≡ OffFault.OutOfMemory) ⊎ (read_off_of bytes.now ≡ Err e)) }

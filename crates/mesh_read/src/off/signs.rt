@@ -1,5 +1,6 @@
 // By what a file shows that it is an OFF file.
 ghost use Rattle.std.specs.Prelude.{◌≡◌, ◌≤◌, length};
+ghost use Rattle.ember_model.specs.Limits.{most_bytes};
 ghost use Rattle.mesh_read.specs.Off.Signs.{is_off, begins_with_count};
 
 use crate::off::keywords::{is_count, is_homogeneous, is_keyword};
@@ -9,7 +10,7 @@ use crate::off::rows::{first_rows, next_row};
 /// and `N` before it, in this order and in any case. Comments, empty lines and a byte order mark
 /// before it don't count. There are at most 2^28 bytes.
 pub fn is_off(bytes: &[u8]) -> bool
-    requires { length bytes.now ≤ 268435456 }
+    requires { length bytes.now ≤ most_bytes }
     ensures { result ≡ is_off bytes.now }
 {
     match next_row(first_rows(bytes)) {
@@ -21,7 +22,7 @@ pub fn is_off(bytes: &[u8]) -> bool
 /// Whether the first word of a file is a natural number, as in an OFF file without a keyword.
 /// Comments, empty lines and a byte order mark before it don't count. There are at most 2^28 bytes.
 pub fn begins_with_count(bytes: &[u8]) -> bool
-    requires { length bytes.now ≤ 268435456 }
+    requires { length bytes.now ≤ most_bytes }
     ensures { result ≡ begins_with_count bytes.now }
 {
     match next_row(first_rows(bytes)) {

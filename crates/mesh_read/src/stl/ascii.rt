@@ -1,5 +1,6 @@
 // The lines of an ASCII STL.
 ghost use Rattle.std.specs.Prelude.{◌≡◌, ◌≢◌, ◌+◌, ◌^◌, ◌<◌, ◌≤◌, [], ◌∷◌, length, Ok, Err, OnOk, IfOk, IfErr, MatchOption};
+ghost use Rattle.ember_model.specs.Limits.{most_bytes};
 ghost use Rattle.mesh_number.specs.Number.Values.{value_of};
 ghost use Rattle.mesh_read.specs.Scan.Parts.{piece_of, words_between, first_three};
 ghost use Rattle.mesh_read.specs.declared.scan.blanks.Blanks.TheVariants.{Any};
@@ -149,7 +150,7 @@ impl<'a> Reader<'a> {
 // The triangles of an ASCII STL, or its first fault.
 #[tactic(auto, using(crate::proofs::Lines::after_fault, crate::proofs::Lines::line_read))]
 pub(crate) fn read_ascii(alloc: Global, bytes: &[u8]) -> Result<Surface<'_>, StlFault>
-    requires { length bytes.now ≤ 268435456 }
+    requires { length bytes.now ≤ most_bytes }
     ensures ok { IfOk result (λ s. ascii_of bytes.now ≡ Ok (content_of s)) }
     ensures fault { IfErr result (IsErrorOf (ascii_of bytes.now)) }
     ensures surface { IfOk result (λ s. IsSurface s) }

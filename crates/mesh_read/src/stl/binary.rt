@@ -1,6 +1,7 @@
 // The facets of a binary STL.
 ghost use Rattle.std.specs.Prelude.{◌≡◌, ◌+◌, ◌*◌, ◌^◌, ◌<◌, ◌≤◌, length, Ok, Err, OnOk, IfOk, IfErr};
 ghost use Rattle.std.specs.Option.{option_map};
+ghost use Rattle.ember_model.specs.Limits.{most_bytes};
 ghost use Rattle.mesh_read.specs.Surface.Surfaces.{point_of, content_of, IsSurface};
 ghost use Rattle.mesh_read.specs.Stl.Binary.{number_at, point_at, with_facet_at, binary_of};
 ghost use Rattle.mesh_read.specs.Stl.Facets.{IsErrorOf, nothing};
@@ -70,7 +71,7 @@ fn with_room<'a>(alloc: Global, facets: usize) -> Result<Surface<'a>, AllocError
 #[tactic(auto, using(crate::proofs::Triangles::facet_added, crate::proofs::Triangles::facet_refused))]
 pub(crate) fn read_binary<'a>(alloc: Global, bytes: &'a [u8]) -> Result<Surface<'a>, StlFault>
     requires length { length bytes.now ≡ 84 + 50 * number_at bytes.now 80 }
-    requires bytes { length bytes.now ≤ 268435456 }
+    requires bytes { length bytes.now ≤ most_bytes }
     ensures ok { IfOk result (λ s. binary_of bytes.now ≡ Ok (content_of s)) }
     ensures fault { IfErr result (IsErrorOf (binary_of bytes.now)) }
     ensures surface { IfOk result (λ s. IsSurface s) }

@@ -2,6 +2,7 @@
 ghost use Rattle.std.specs.Prelude.{◌≡◌, ◌+◌, ◌*◌, ◌≤◌, [], length, take};
 ghost use Rattle.std.specs.Bool.{OnTrue};
 ghost use Rattle.std.specs.Str.{str_eq_ignore_ascii_case};
+ghost use Rattle.ember_model.specs.Limits.{most_bytes};
 ghost use Rattle.mesh_read.specs.Scan.Parts.{is_space, words_by};
 ghost use Rattle.mesh_read.specs.Stl.Binary.{number_at};
 ghost use Rattle.mesh_read.specs.Stl.ReadStl.{is_binary, is_ascii, begins_with, has_name, facets_said};
@@ -86,7 +87,7 @@ fn has(text: &[u8], name: &[u8]) -> bool
 /// Whether the first word of a file is this one, in any case. Blanks are spaces and all bytes from
 /// tab to carriage return.
 pub fn begins_with_word(bytes: &[u8], name: &[u8]) -> bool
-    requires { length bytes.now ≤ 268435456 }
+    requires { length bytes.now ≤ most_bytes }
     ensures { result ≡ begins_with name.now (words_by is_space 0 bytes.now []) }
 {
     match next_word_between(Part::of_file(bytes), Blanks::Any) {
@@ -98,7 +99,7 @@ pub fn begins_with_word(bytes: &[u8], name: &[u8]) -> bool
 /// Whether the first word is `solid`, and `facet` or `endsolid` occurs in the first 4,096 bytes,
 /// all in any case. A binary STL may have both. There are at most 2^28 bytes.
 pub fn is_ascii_stl(bytes: &[u8]) -> bool
-    requires { length bytes.now ≤ 268435456 }
+    requires { length bytes.now ≤ most_bytes }
     ensures { result ≡ is_ascii bytes.now }
 {
     let first = front(bytes, FIRST_BYTES);

@@ -1,5 +1,6 @@
 // An STL file of either form.
 ghost use Rattle.std.specs.Prelude.{◌≡◌, ◌≤◌, Ok, Err, length, IfOk, IfErr};
+ghost use Rattle.ember_model.specs.Limits.{most_bytes};
 ghost use Rattle.mesh_read.specs.Surface.Surfaces.{content_of, IsSurface};
 ghost use Rattle.mesh_read.specs.Stl.Facets.{IsErrorOf};
 ghost use Rattle.mesh_read.specs.Stl.ReadStl as spec;
@@ -43,7 +44,7 @@ fn checked<'a>(surface: Surface<'a>, binary: bool) -> Result<Surface<'a>, StlFau
 /// refused as a binary STL that was cut off. Normals, names and attributes are passed over, and
 /// several solids are one mesh. There are at most 2^28 bytes.
 pub fn read_stl(alloc: Global, bytes: &[u8]) -> Result<Surface<'_>, StlFault>
-    requires { length bytes.now ≤ 268435456 }
+    requires { length bytes.now ≤ most_bytes }
     ensures ok { IfOk result (λ s. spec.read_stl_of bytes.now ≡ Ok (content_of s)) }
     ensures fault { IfErr result (IsErrorOf (spec.read_stl_of bytes.now)) }
     ensures surface { IfOk result (λ s. IsSurface s) }

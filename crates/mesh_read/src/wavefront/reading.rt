@@ -1,5 +1,6 @@
 // The pass over a file.
 ghost use Rattle.std.specs.Prelude.{◌≡◌, ◌⊎◌, ◌+◌, ◌<◌, ◌≤◌, ◌^◌, length, map, Ok, Err, OnOk, IfOk, IfErr};
+ghost use Rattle.ember_model.specs.Limits.{most_bytes};
 ghost use Rattle.mesh_read.specs.Scan.Parts.{piece_of};
 ghost use Rattle.mesh_read.specs.Surface.Surfaces.{IsSurface, content_of};
 ghost use Rattle.mesh_read.specs.Wavefront.Faults.{fault_of};
@@ -78,7 +79,7 @@ fn add_row<'a>(
 // The vertices and faces of a file, whatever they are.
 #[tactic(auto, using(crate::proofs::RowsInOrder::row_read, crate::proofs::RowsInOrder::no_rows))]
 fn read_rows<'a>(alloc: Global, bytes: &'a [u8]) -> Result<Surface<'a>, WavefrontFault<'a>>
-    requires { length bytes.now ≤ 268435456 }
+    requires { length bytes.now ≤ most_bytes }
     ensures ok { IfOk result (λ s. content_in (rows_of bytes.now) ≡ Ok (content_of s)) }
     ensures fault { IfErr result (λ e. (e ≡ WavefrontFault.OutOfMemory)
         ⊎ (content_in (rows_of bytes.now) ≡ Err (fault_of e))) }
@@ -107,7 +108,7 @@ fn read_rows<'a>(alloc: Global, bytes: &'a [u8]) -> Result<Surface<'a>, Wavefron
 // The surface of a file, if it is a mesh.
 #[tactic(auto, using(crate::proofs::Flaws::mesh_found, crate::proofs::Flaws::mesh_refused))]
 fn read_mesh<'a>(alloc: Global, bytes: &'a [u8]) -> Result<Surface<'a>, WavefrontFault<'a>>
-    requires { length bytes.now ≤ 268435456 }
+    requires { length bytes.now ≤ most_bytes }
     ensures ok { IfOk result (λ s. read_wavefront_of bytes.now ≡ Ok (content_of s)) }
     ensures fault { IfErr result (λ e. (e ≡ WavefrontFault.OutOfMemory)
         ⊎ (read_wavefront_of bytes.now ≡ Err (fault_of e))) }
@@ -133,7 +134,7 @@ fn read_mesh<'a>(alloc: Global, bytes: &'a [u8]) -> Result<Surface<'a>, Wavefron
 /// [`TooLarge`](WavefrontFault::TooLarge) after all others. The coordinates borrow their digits
 /// from `bytes`, and a fault its bad word. There are at most 2^28 bytes.
 pub fn read_wavefront(alloc: Global, bytes: &[u8]) -> Result<Surface<'_>, WavefrontFault<'_>>
-    requires { length bytes.now ≤ 268435456 }
+    requires { length bytes.now ≤ most_bytes }
     ensures ok { IfOk result (λ s. read_wavefront_of bytes.now ≡ Ok (content_of s)) }
     ensures surface { IfOk result IsSurface }
     ensures fault { IfErr result (λ e. (e ≡ WavefrontFault.OutOfMemory)

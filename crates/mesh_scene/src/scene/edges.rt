@@ -2,6 +2,7 @@
 // itself.
 ghost use Rattle.std.specs.Prelude.{◌≡◌, ◌<◌, ◌≤◌, ◌+◌, ◌*◌, ◌^◌, ℕ, [], ◌∷◌, ◌++◌, length, map, drop, slice_index, All, IfOk, OnOk};
 ghost use Rattle.std.specs.List.Sorted.{IsNonDecreasing};
+ghost use Rattle.ember_model.specs.Limits.{most_triangles};
 ghost use Rattle.ember_model.specs.Valid.{IsValidCorner, IsValidTri};
 ghost use Rattle.ember_model.specs.Meshes.{Edge, reversed, edges_in};
 ghost use Rattle.ember_balance.specs.Counts.{count};
@@ -53,7 +54,7 @@ fn push_reverses(numbers: &mut Vec<u128>, t: &Tri) -> Result<(), OutOfMemory>
 // The numbers of the triangles' edges, in order.
 fn edge_numbers(alloc: Global, tris: &[Tri]) -> Result<Vec<u128>, OutOfMemory>
     requires valid { All IsValidTri tris.now }
-    requires few { length tris.now ≤ 262144 }
+    requires few { length tris.now ≤ most_triangles }
     ensures { IfOk result (λ ns. AreSorted (map edge_number (edges_in tris.now)) ns.items) }
 {
     let mut numbers = Vec::with_capacity(alloc, 3 * tris.len())?;
@@ -67,7 +68,7 @@ fn edge_numbers(alloc: Global, tris: &[Tri]) -> Result<Vec<u128>, OutOfMemory>
 // The numbers of their reverses, in order.
 fn reverse_numbers(alloc: Global, tris: &[Tri]) -> Result<Vec<u128>, OutOfMemory>
     requires valid { All IsValidTri tris.now }
-    requires few { length tris.now ≤ 262144 }
+    requires few { length tris.now ≤ most_triangles }
     ensures { IfOk result (λ ns. AreSorted (map edge_number (map reversed (edges_in tris.now))) ns.items) }
 {
     let mut numbers = Vec::with_capacity(alloc, 3 * tris.len())?;
@@ -119,7 +120,7 @@ fn excess(there: &[u128], back: &[u128]) -> u64
 /// edges together.
 pub fn count_loose(alloc: Global, tris: &[Tri]) -> Result<u64, OutOfMemory>
     requires valid { All IsValidTri tris.now }
-    requires few { length tris.now ≤ 262144 }
+    requires few { length tris.now ≤ most_triangles }
     ensures { IfOk result (λ n. n ≡ loose_count tris.now) }
 {
     let there = edge_numbers(alloc, tris)?;

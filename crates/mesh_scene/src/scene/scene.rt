@@ -1,6 +1,7 @@
 // The scene of surfaces.
 ghost use Rattle.std.specs.Prelude.{◌≡◌, ◌≤◌, ◌<◌, ◌++◌, [], ◌∷◌, length, map, All, IfOk, IfErr, OnOk};
 ghost use Rattle.std.specs.List.{take_while};
+ghost use Rattle.ember_model.specs.Limits.{most_triangles};
 ghost use Rattle.mesh_grid.specs.Snap.Steps.{IsStep};
 ghost use Rattle.ember_model.specs.Meshes.{IsBalanced};
 ghost use Rattle.mesh_grid.specs.Grid.Corners.{Lands};
@@ -54,7 +55,7 @@ fn too_many(surfaces: &[Surface], grid: &Grid) -> SceneFault
     requires few { length surfaces.now ≤ 64 }
     requires step { IsStep grid.now.step }
     requires lands { All (Lands grid.now) surfaces.now }
-    requires many { 262144 < length (images_of grid.now surfaces.now) }
+    requires many { most_triangles < length (images_of grid.now surfaces.now) }
     requires closed { All IsBalanced (take_while has_few (meshes_on grid.now 1 surfaces.now)) }
     ensures { IsFaultOn grid.now surfaces.now result }
 {

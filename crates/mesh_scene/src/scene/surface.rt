@@ -1,5 +1,6 @@
 // One surface on the grid.
 ghost use Rattle.std.specs.Prelude.{◌≡◌, ◌≤◌, ◌+◌, ◌<◌, ◌^◌, length, IfOk, IfErr};
+ghost use Rattle.ember_model.specs.Limits.{most_triangles};
 ghost use Rattle.mesh_grid.specs.Snap.Steps.{IsStep};
 ghost use Rattle.ember_balance.specs.Loose.{edge_of, IsLeastLoose};
 ghost use Rattle.mesh_grid.specs.Grid.Corners.{Lands};
@@ -60,7 +61,7 @@ fn open_with(
     grid: &Grid,
     file: u32,
 ) -> Result<Open, OutOfMemory>
-    requires few { length soup.now.tris ≤ 262144 }
+    requires few { length soup.now.tris ≤ most_triangles }
     requires least { IsLeastLoose soup.now.tris loose }
     ensures open { IfOk result (IsOpenMesh soup.now.tris soup.now.lines) }
     ensures grid { IfOk result (λ o. o.grid ≡ grid.now) }
@@ -78,7 +79,7 @@ fn open_with(
 
 // The triangles as a closed mesh.
 fn closed(alloc: Global, soup: Soup, grid: &Grid, file: u32) -> Result<Closed, SurfaceFault>
-    requires { length soup.tris ≤ 262144 }
+    requires { length soup.tris ≤ most_triangles }
     ensures tris { IfOk result (λ mesh. mesh.tris ≡ soup.tris) }
     ensures fault { IfErr result (IsSurfaceFault grid.now file soup.tris soup.lines) }
 {

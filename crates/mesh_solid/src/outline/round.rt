@@ -1,5 +1,6 @@
 // Edges that lead around a convex polygon.
 ghost use Rattle.std.specs.Prelude.{◌≡◌, ◌↔◌, ◌-ℤ◌, ◌*ℤ◌, IsTrue, IfOk, map};
+ghost use Rattle.ember_model.specs.Limits.{direction_limit, valid_normal_limit};
 ghost use Rattle.ember_algebra.specs.Sign.{is_positive};
 ghost use Rattle.ember_algebra.specs.Size.{Small};
 ghost use Rattle.ember_model.specs.Valid.{IsValidPlane};
@@ -14,12 +15,12 @@ use std::alloc::Global;
 
 // The determinant `a d - b c` of entries of normals. 2251799679467522 is 2 * 33554431^2.
 fn minor(a: i64, b: i64, c: i64, d: i64) -> i64
-    requires small_a { Small 33554431 a }
-    requires small_b { Small 33554431 b }
-    requires small_c { Small 33554431 c }
-    requires small_d { Small 33554431 d }
+    requires small_a { Small valid_normal_limit a }
+    requires small_b { Small valid_normal_limit b }
+    requires small_c { Small valid_normal_limit c }
+    requires small_d { Small valid_normal_limit d }
     ensures value { result ≡ a *ℤ d -ℤ b *ℤ c }
-    ensures small { Small 2251799679467522 result }
+    ensures small { Small direction_limit result }
 {
     a * d - b * c
 }

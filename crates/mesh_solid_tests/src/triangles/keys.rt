@@ -1,4 +1,5 @@
 // Keys of planes and of lines; the expected ones are from a program in another language.
+ghost use Rattle.ember_model.specs.Limits.{valid_constant_limit, valid_normal_limit};
 ghost use Rattle.ember_algebra.specs.Size.{Small};
 ghost use Rattle.ember_model.specs.Valid.{IsValidPlane};
 
@@ -8,14 +9,14 @@ use std::test::Fail;
 
 // The number, or 0 in place of one that no normal has.
 fn entry(x: i64) -> i64
-    ensures { Small 33554431 result }
+    ensures { Small valid_normal_limit result }
 {
     if x > 33554431 || x < -33554431 { 0 } else { x }
 }
 
 // The number, or 0 in place of one that no constant is.
 fn constant(x: i64) -> i64
-    ensures { Small 549755813887 result }
+    ensures { Small valid_constant_limit result }
 {
     if x > 549755813887 || x < -549755813887 {
         0

@@ -1,5 +1,6 @@
 // Solids become certified triangles.
 ghost use Rattle.std.specs.Prelude.{◌≡◌, ◌≤◌, length, All, IfOk};
+ghost use Rattle.ember_model.specs.Limits.{most_triangles};
 ghost use Rattle.ember_model.specs.Valid.{IsValidPlane};
 ghost use Rattle.ember_query.specs.Queries.{IsAnswer, IsQuery};
 ghost use Rattle.mesh_triangles.specs.PlaneQueries.{IsPlaneAnswer, IsPlaneQuery};
@@ -31,7 +32,7 @@ pub(crate) const HIGH_BOX: &[u8] = b"v 5 5 5\nv 15 5 5\nv 15 15 5\nv 5 15 5\n\
 
 // The triangles of a file, with this number of a mesh.
 fn soup_of(alloc: Global, bytes: &[u8], mesh: u32) -> Result<Soup, Fail>
-    ensures few { IfOk result (λ soup. length soup.tris ≤ 262144) }
+    ensures few { IfOk result (λ soup. length soup.tris ≤ most_triangles) }
     ensures mesh { IfOk result (λ soup. All (λ t. t.mesh ≡ mesh) soup.tris) }
 {
     if bytes.len() > 268_435_456 {
