@@ -7,15 +7,15 @@ use Rattle.ember_meaning.specs.Regions.Meaning.{IsFalseOutside}
 use Rattle.ember_model.specs.declared.tri.Tri.{Tri}
 use Rattle.mesh_arrays.specs.declared.mesh.ArrayMesh.{ArrayMesh}
 use Rattle.mesh_boolean.specs.Effects.{decimals_of}
-use Rattle.mesh_boolean.specs.Volumes.{six_volumes_of_meshes}
+use Rattle.mesh_boolean.specs.Volumes.{sixfold_volumes_of_meshes}
 use Rattle.mesh_grid.specs.declared.grid.choice.Wanted.{Wanted}
 use Rattle.mesh_grid.specs.declared.grid.grid.Grid.{Grid}
 use Rattle.mesh_scene.specs.Scene.Images.{images_of}
 use Rattle.mesh_scene.specs.declared.scene.scene.PlacedScene.{PlacedScene}
 use Rattle.mesh_solid.specs.Mesh.Asked.{IsThereIf}
-use Rattle.mesh_solid.specs.Mesh.Meshes.{IsDocumentMesh, IsMeshedSolid}
+use Rattle.mesh_solid.specs.Mesh.Meshes.{IsDocumentMesh, IsSolidRun}
 use Rattle.mesh_solid.specs.declared.mesh.mesh.SolidMesh.{SolidMesh}
-use Rattle.mesh_solid.specs.declared.mesh.solid.MeshedSolid.{MeshedSolid}
+use Rattle.mesh_solid.specs.declared.mesh.solid.SolidRun.{SolidRun}
 use Rattle.mesh_solid.proofs.MeshMeaning.{mesh_means, mesh_winds_once_at_most}
 use Rattle.mesh_written.specs.Closed.{AreDecimalsClosed}
 use Rattle.mesh_written.specs.Digits.{written_places}
@@ -50,9 +50,9 @@ sources_are_there wants wanted (Some inputs) scene mesh origins (Some sources) t
 -- the arrays of the mesh of the meshes' scene are a solid
 module _ (meshes : List ArrayMesh) (formula : Formula) (wanted : Wanted) (digits : Option ℕ) (placed : PlacedScene)
     (is : IsPlaced meshes wanted placed) where
-  pub arrays_are_solid : (meshed : MeshedSolid) → IsMeshedSolid placed.scene.tris formula false meshed → (arrays : Arrays) →
+  pub arrays_are_solid : (meshed : SolidRun) → IsSolidRun placed.scene.tris formula false meshed → (arrays : Arrays) →
       AreArrays digits placed.grid meshed.mesh arrays → (volumes : Vec ℤ) →
-      volumes.items ≡ six_volumes_of_meshes placed.scene.tris placed.scene.meshes →
+      volumes.items ≡ sixfold_volumes_of_meshes placed.scene.tris placed.scene.meshes →
       (wants : Bool) (inputs : Option (Vec InputTriangle)) →
       IsThereIf wants (λ inputs. inputs.items ≡ inputs_from placed.grid 1 is.surfaces) inputs →
       (sources : Option (Vec ArraySource)) →
@@ -66,19 +66,19 @@ module _ (meshes : List ArrayMesh) (formula : Formula) (wanted : Wanted) (digits
           grid = placed.grid;
           counts = placed.counts;
           moves = placed.moves;
-          six_volumes = volumes;
+          sixfold_volumes = volumes;
           report = meshed.report;
           kept = None;
         };
       })
   arrays_are_solid meshed solid arrays are volumes f wants inputs there sources of_inputs =
-      let of_images = subst (λ (tris : List Tri). IsMeshedSolid tris formula false meshed) is.tris solid in
+      let of_images = subst (λ (tris : List Tri). IsSolidRun tris formula false meshed) is.tris solid in
       record {
         surfaces = is.surfaces;
         are_placed = is.are_placed;
         counts = is.counts;
         moves = is.moves;
-        six_volumes = f ∙ (λ i. six_volumes_of_meshes (is.tris i) (is.count i));
+        sixfold_volumes = f ∙ (λ i. sixfold_volumes_of_meshes (is.tris i) (is.count i));
         mesh = meshed.mesh;
         is_mesh = of_images.mesh;
         report = of_images.report;

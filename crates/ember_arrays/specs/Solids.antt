@@ -9,7 +9,7 @@ use Rattle.mesh_arrays.specs.Indices.{corners_of}
 use Rattle.mesh_arrays.specs.declared.mesh.ArrayMesh.{ArrayMesh}
 use Rattle.mesh_boolean.specs.Effects.{IsDecimalEffect, decimals_of, origins_of_decimals, over_vertices}
 use Rattle.mesh_boolean.specs.Splits.{AreDecimalsOver}
-use Rattle.mesh_boolean.specs.Volumes.{six_volumes_of_meshes}
+use Rattle.mesh_boolean.specs.Volumes.{sixfold_volumes_of_meshes}
 use Rattle.mesh_boolean.specs.declared.split.SplitDecimals.{SplitDecimals}
 use Rattle.mesh_grid.specs.Moves.Shown.{AreMoves}
 use Rattle.mesh_grid.specs.declared.grid.choice.Wanted.{Wanted}
@@ -61,8 +61,8 @@ pub record IsArraySolid (meshes : List ArrayMesh) (formula : Formula) (wanted : 
   pub are_placed : ArePlaced meshes wanted surfaces solid.file.grid
   pub counts : solid.file.counts.items ≡ map (counts_on solid.file.grid) surfaces
   pub moves : AreMoves solid.file.grid surfaces solid.file.moves.items
-  pub six_volumes : solid.file.six_volumes.items
-      ≡ six_volumes_of_meshes (images_of solid.file.grid surfaces) (length surfaces)
+  pub sixfold_volumes : solid.file.sixfold_volumes.items
+      ≡ sixfold_volumes_of_meshes (images_of solid.file.grid surfaces) (length surfaces)
   pub mesh : SolidMesh
   pub is_mesh : IsSolidMesh (images_of solid.file.grid surfaces) formula mesh
   pub report : IsSolidReport (images_of solid.file.grid surfaces) formula solid.file.report

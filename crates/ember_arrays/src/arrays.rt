@@ -8,7 +8,7 @@ ghost use Rattle.ember_arrays.specs.Solids.{AreArrays};
 ghost use Rattle.ember_arrays.specs.Sources.{origin_at, origins_after};
 
 use mesh_arrays::{IndexFault, double_points, index_triples};
-use mesh_boolean::{WritingFault, Written, decimal_effect, decimals, split_decimals};
+use mesh_boolean::{OutputMesh, WritingFault, decimal_effect, decimals, split_decimals};
 use mesh_grid::Grid;
 use mesh_solid::SolidMesh;
 use mesh_written::{shared_edges_by_index, written_places};
@@ -21,7 +21,7 @@ pub(crate) struct Arrays {
     pub(crate) triangles: Vec<[u32; 3]>,
     // The index of the exact triangle that each triangle was made from.
     pub(crate) origins: Vec<usize>,
-    pub(crate) numbers: Written,
+    pub(crate) numbers: OutputMesh,
 }
 
 // Why triangles have no array of indices.
@@ -100,7 +100,7 @@ pub(crate) fn arrays_of(
     Ok(Arrays {
         vertices,
         origins,
-        numbers: Written {
+        numbers: OutputMesh {
             bytes: Vec::new(alloc),
             faces: mesh.faces,
             planes: mesh.planes.len() as u64,

@@ -15,9 +15,9 @@ use ember_expr::Expr;
 use ember_model::OutOfMemory;
 use ember_query::{Answer, Query, answer_alone};
 use mesh_arrays::ArrayMesh;
-use mesh_boolean::{BooleanFault, SolidFile, six_volumes_of_meshes};
+use mesh_boolean::{BooleanFault, SolidFile, sixfold_volumes_of_meshes};
 use mesh_grid::Wanted;
-use mesh_solid::{MeshedSolid, solid_mesh};
+use mesh_solid::{SolidRun, solid_mesh};
 use mesh_triangles::{PlaneAnswer, PlaneQuery, TrianglesFault, answer_planes_alone};
 use std::alloc::Global;
 use steal_pool::OpenGate;
@@ -67,8 +67,8 @@ pub fn array_solid(
     ensures fault { IfErr result (IsArrayFault meshes.now (formula_of expr.now) wanted digits) }
 {
     let PlacedArrays { placed, inputs } = placed_arrays(alloc, meshes, wanted, wants_sources)?;
-    let six_volumes = six_volumes_of_meshes(alloc, &placed.scene)?;
-    let MeshedSolid { mesh, report, .. } = solid_mesh(
+    let sixfold_volumes = sixfold_volumes_of_meshes(alloc, &placed.scene)?;
+    let SolidRun { mesh, report, .. } = solid_mesh(
         alloc,
         &placed.scene,
         expr,
@@ -94,7 +94,7 @@ pub fn array_solid(
             grid: placed.grid,
             counts: placed.counts,
             moves: placed.moves,
-            six_volumes,
+            sixfold_volumes,
             report,
             kept: None,
         },

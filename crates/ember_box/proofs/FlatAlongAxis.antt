@@ -11,7 +11,7 @@ use Rattle.ember_model.specs.declared.point.Axis.TheVariants.{X, Y, Z}
 use Rattle.ember_model.specs.Planes.{support_of}
 use Rattle.ember_box.specs.declared.aabb.Interval.{Interval}
 use Rattle.ember_box.specs.Boxes.{Cell, low}
-use Rattle.ember_box.specs.Aabbs.{aabb_of_cell, interval_over, aabb_of_tri, intervals_meet, aabbs_meet, is_point, is_level, crosses}
+use Rattle.ember_box.specs.Aabbs.{aabb_of_cell, interval_over, aabb_of_tri, intervals_meet, aabbs_meet, is_point, has_zero_extent, crosses}
 use Rattle.ember_box.proofs.Orders.{all3}
 use Rattle.ember_box.proofs.Crossing.{IsBetween, corner_in, crosses_at}
 
@@ -109,9 +109,9 @@ one_of false false true e = inr (inr refl)
 one_of false false false e = cc
 
 -- a triangle in a plane across an axis whose bounding box meets a box crosses the box by its plane
-pub level_crossed : (c : Cell) (t : Tri) → is_level (aabb_of_tri t) ≡ true →
+pub zero_extent_crossed : (c : Cell) (t : Tri) → has_zero_extent (aabb_of_tri t) ≡ true →
     aabbs_meet (aabb_of_tri t) (aabb_of_cell c) ≡ true → crosses (support_of t) (aabb_of_cell c) ≡ true
-level_crossed c t l o =
+zero_extent_crossed c t l o =
     let b = aabb_of_cell c in let p = support_of t in let w = corner_in c false false false in
     let r = all3 (intervals_meet (aabb_of_tri t).x b.x) (intervals_meet (aabb_of_tri t).y b.y) (intervals_meet (aabb_of_tri t).z b.z) o in
     ⊎_elim (λ e. (let i = is_at t.a.x t.b.x t.c.x b.x e r.one in

@@ -12,9 +12,9 @@ use Rattle.ember_box.specs.declared.aabb.Aabb.{Aabb}
 use Rattle.ember_box.specs.declared.half_boxes.HalfBoxes.{HalfBoxes}
 use Rattle.ember_box.specs.Boxes.{Cell, low, left_half, right_half}
 use Rattle.ember_box.specs.Near.{is_near}
-use Rattle.ember_box.specs.Aabbs.{interval_along, aabb_of_cell, aabb_of_tri, aabbs_meet, contains_aabb, is_level, crosses}
+use Rattle.ember_box.specs.Aabbs.{interval_along, aabb_of_cell, aabb_of_tri, aabbs_meet, contains_aabb, has_zero_extent, crosses}
 use Rattle.ember_box.specs.Sums.{IsPlaneOf, may_cross, AreHalves, meets_left, meets_right}
-use Rattle.ember_box.proofs.FlatAlongAxis.{level_crossed}
+use Rattle.ember_box.proofs.FlatAlongAxis.{zero_extent_crossed}
 use Rattle.ember_box.proofs.NearByAabbs.{near_is, AreInside, are_inside, inside_crossed, left_crossed, right_crossed}
 use Rattle.ember_box.proofs.HalvesMet.{left_meets, right_meets}
 
@@ -32,8 +32,8 @@ crossed_by whole c t p plane crossed = by p plane ∙ sym (near_is c t)
     by None e =
         and_true (aabbs_meet (aabb_of_tri t) (aabb_of_cell c))
         ∙ and_implied (aabbs_meet (aabb_of_tri t) (aabb_of_cell c)) (crosses (support_of t) (aabb_of_cell c))
-        (λ o. or_either (is_level (aabb_of_tri t)) (contains_aabb whole (aabb_of_tri t)) e
-        (λ l. level_crossed c t l o) (λ i. crossed (are_inside whole t i) o))
+        (λ o. or_either (has_zero_extent (aabb_of_tri t)) (contains_aabb whole (aabb_of_tri t)) e
+        (λ l. zero_extent_crossed c t l o) (λ i. crossed (are_inside whole t i) o))
       where
         or_either : {P : Type 0} (p q : Bool) → p || q ≡ true → (p ≡ true → P) → (q ≡ true → P) → P
         or_either true q e f g = f refl

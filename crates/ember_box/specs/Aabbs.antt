@@ -73,8 +73,8 @@ abbrev pub is_point : Interval → Bool
 is_point s = int_le s.high s.low
 
 -- it has no extent along some axis
-abbrev pub is_level : Aabb → Bool
-is_level b = is_point b.x || is_point b.y || is_point b.z
+abbrev pub has_zero_extent : Aabb → Bool
+has_zero_extent b = is_point b.x || is_point b.y || is_point b.z
 
 -- whether the interval contains the coordinate
 abbrev pub contains_coordinate : Interval → ℤ → Bool

@@ -13,7 +13,7 @@ use Rattle.ember_box.specs.declared.aabb.Aabb.{Aabb}
 use Rattle.ember_box.specs.declared.half_boxes.HalfBoxes.{HalfBoxes}
 use Rattle.ember_box.specs.declared.sums.Sums.{Sums}
 use Rattle.ember_box.specs.Boxes.{Cell, low, left_half, right_half, in_steps}
-use Rattle.ember_box.specs.Aabbs.{aabb_of_cell, aabb_of_tri, contains_aabb, is_level, crosses, most_wall, IsAabbWithin}
+use Rattle.ember_box.specs.Aabbs.{aabb_of_cell, aabb_of_tri, contains_aabb, has_zero_extent, crosses, most_wall, IsAabbWithin}
 use Rattle.ember_box.specs.Near.{is_near, near}
 use Rattle.ember_box.specs.Halving.{half_sum}
 
@@ -24,7 +24,7 @@ number b = if b then 1 else 0
 -- ---- one triangle
 -- the plane to test: none if the triangle lies in the box or across an axis
 abbrev pub IsPlaneOf : Aabb → Tri → Option Plane → Type 0
-IsPlaneOf whole t None = is_level (aabb_of_tri t) || contains_aabb whole (aabb_of_tri t) ≡ true
+IsPlaneOf whole t None = has_zero_extent (aabb_of_tri t) || contains_aabb whole (aabb_of_tri t) ≡ true
 IsPlaneOf whole t (Some p) = p ≡ support_of t
 
 abbrev pub IsPlaneSized : Option Plane → Type 0

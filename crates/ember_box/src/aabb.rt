@@ -6,7 +6,7 @@ ghost use Rattle.ember_model.specs.Within.{IsSupportWithin};
 ghost use Rattle.ember_box.specs.Boxes as boxes;
 ghost use Rattle.ember_box.specs.Boxes.{in_steps};
 ghost use Rattle.ember_box.specs.NearParts.{AreMargins};
-ghost use Rattle.ember_box.specs.Aabbs.{interval_between, interval_over, interval_along, aabb_of_cell, aabb_of_tri, intervals_meet, aabbs_meet, aabbs_meet_beside, covers, contains_aabb, is_point, is_level, contains_coordinate, contains_corner, least_end, greatest_end, value_without_constant, least_value, greatest_value, crosses, most_wall, most_sum, IsIntervalWithin, IsAabbWithin};
+ghost use Rattle.ember_box.specs.Aabbs.{interval_between, interval_over, interval_along, aabb_of_cell, aabb_of_tri, intervals_meet, aabbs_meet, aabbs_meet_beside, covers, contains_aabb, is_point, has_zero_extent, contains_coordinate, contains_corner, least_end, greatest_end, value_without_constant, least_value, greatest_value, crosses, most_wall, most_sum, IsIntervalWithin, IsAabbWithin};
 
 use crate::cell::Cell;
 use crate::steps::in_steps;
@@ -177,8 +177,8 @@ fn is_point(interval: &Interval) -> bool
 }
 
 /// Whether the bounding box has no extent along some axis.
-pub fn is_level(aabb: &Aabb) -> bool
-    ensures { result ≡ is_level aabb.now }
+pub fn has_zero_extent(aabb: &Aabb) -> bool
+    ensures { result ≡ has_zero_extent aabb.now }
 {
     is_point(&aabb.x) || is_point(&aabb.y) || is_point(&aabb.z)
 }

@@ -7,7 +7,7 @@ ghost use Rattle.ember_model.specs.Within.{IsTriWithin};
 ghost use Rattle.ember_box.specs.Aabbs.{aabb_of_tri};
 ghost use Rattle.ember_box.specs.Sums.{IsPlaneOf, IsPlaneSized, meets_left, meets_right, AreHalves, AreHalvesSized};
 
-use crate::aabb::{Aabb, Interval, aabb_of_cell, contains_aabb, crosses, is_level};
+use crate::aabb::{Aabb, Interval, aabb_of_cell, contains_aabb, crosses, has_zero_extent};
 use crate::cell::{Cell, halves};
 use ember_model::{Axis, Plane, Tri, support_of};
 
@@ -20,7 +20,7 @@ pub fn plane_to_test(whole: &Aabb, spans: &Aabb, t: &Tri) -> Option<Plane>
     ensures value { IsPlaneOf whole.now t.now result }
     ensures sized { IsPlaneSized result }
 {
-    if is_level(spans) || contains_aabb(whole, spans) {
+    if has_zero_extent(spans) || contains_aabb(whole, spans) {
         None
     } else {
         Some(support_of(t))

@@ -10,8 +10,8 @@ ghost use Rattle.ember_box.specs.Near.{is_near, tri_at, near_indices};
 ghost use Rattle.ember_box.specs.Sums.{AreHalves, AreHalvesSized};
 
 use crate::aabb::{
-    Aabb, aabb_of_cell, aabb_of_tri, aabb_on, aabbs_meet, contains_corner, crosses, interval_along,
-    is_level,
+    Aabb, aabb_of_cell, aabb_of_tri, aabb_on, aabbs_meet, contains_corner, crosses,
+    has_zero_extent, interval_along,
 };
 use crate::cell::Cell;
 use crate::half_boxes::{HalfBoxes, half_boxes_of, meets_left, meets_right, plane_to_test};
@@ -39,7 +39,7 @@ fn is_crossed(aabb: &Aabb, spans: &Aabb, t: &Tri) -> bool
     ensures { (c : CellView) → aabb.now ≡ aabb_of_cell c → aabbs_meet (aabb_of_tri t.now) aabb.now ≡ true →
         result ≡ crosses (support_of t.now) aabb.now }
 {
-    if is_level(spans) || contains_corner(aabb, &t.a) {
+    if has_zero_extent(spans) || contains_corner(aabb, &t.a) {
         return true;
     }
     crosses(&support_of(t), aabb)

@@ -123,7 +123,7 @@ pub fn least_axis(c: &Cell, sums: &Sums) -> Axis
 
 // Whether halving along the axis isn't possible, or isn't worth it: the halves together have at
 // least 7/4 as many near triangles as the box. The number 7/4 is part of the definition of a leaf,
-// and so of what is written (docs/DECISIONS.md): a measurement alone can't change it.
+// and so of what is written (README.md): a measurement alone can't change it.
 fn is_unprofitable(log: u8, near: u64, sum: u64) -> bool
     ensures { result ≡ (not (nat_lt 0 log) || nat_le (7 * near) (4 * sum)) }
 {

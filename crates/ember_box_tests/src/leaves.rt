@@ -10,7 +10,7 @@ use ember_leaf::{Kept, KeptList, leaf_faces};
 use ember_model::{Face, OutOfMemory, Scene};
 use ember_poly::{Ring, edges, of_tri, support};
 use ember_reread::read_faces;
-use ember_text::{document_of, faces_text};
+use ember_text::{document_of, text_of_faces};
 use ember_visit::{listed_tris, root_job};
 use std::alloc::Global;
 use std::test::Fail;
@@ -41,7 +41,7 @@ fn a_tetrahedron_is_written_whole(rt: HostRuntime) -> Result<(), Fail> {
     let job = root_job(alloc, &scene)?;
     let kept = regions(alloc, &scene, &e, &job)?;
     assert!(rt; are_all_four(kept.items()));
-    let text = faces_text(alloc, kept.items())?;
+    let text = text_of_faces(alloc, kept.items())?;
     assert!(rt; text.count() == 4);
     let file = document_of(alloc, vec![in alloc; text]?)?;
     assert!(rt; file.as_slice() == TETRA_TEXT);

@@ -47,7 +47,7 @@ use Rattle.ember_leaf.specs.EarlierTriangles.{AreEarlier, DecidesOwner}
 use Rattle.ember_leaf.specs.Written.{AreOwned}
 use Rattle.ember_poly.specs.Cuts.{HasInside}
 use Rattle.ember_leaf.specs.Cutters.{cutting_planes_in, owners_in, IsCutterOf, AreDisjoint, IsFree, AreCut, CanCut}
-use Rattle.ember_leaf.specs.Cutters.{LiesAs, SharesAs, IsWithinInterval, IsWithinAabb, IsBounded, OmitsUnmet, common}
+use Rattle.ember_leaf.specs.Cutters.{LiesAs, SharesAs, LiesInInterval, LiesInAabb, IsBounded, OmitsUnmet, common}
 use Rattle.ember_leaf.specs.Cutters.{common_of}
 use Rattle.ember_leaf.proofs.WallClips.{left_parts}
 use Rattle.ember_leaf.proofs.TriRelations.{bounds}
@@ -70,11 +70,11 @@ one_of : (P : ℤ → Type 0) {a b m : ℤ} → (m ≡ a) ⊎ (m ≡ b) → P a 
 one_of P (inl e) p q = subst P (sym e) p
 one_of P (inr e) p q = subst P (sym e) q
 
-held_common : (a b : Interval) (x w : ℤ) → IsWithinInterval a x w → IsWithinInterval b x w → IsWithinInterval (common a b) x w
+held_common : (a b : Interval) (x w : ℤ) → LiesInInterval a x w → LiesInInterval b x w → LiesInInterval (common a b) x w
 held_common a b x w p q =
     record { low = one_of (λ m. (m *ℤ w) ≤ℤ x) (max_is a.low b.low) p.low q.low; high = one_of (λ m. x ≤ℤ (m *ℤ w)) (min_is a.high b.high) p.high q.high }
 
-are_common : (a b : Aabb) (v : Spot) → IsWithinAabb a v → IsWithinAabb b v → IsWithinAabb (common_of a b) v
+are_common : (a b : Aabb) (v : Spot) → LiesInAabb a v → LiesInAabb b v → LiesInAabb (common_of a b) v
 are_common a b v p q =
     record { x = held_common a.x b.x v.x v.w p.x q.x; y = held_common a.y b.y v.y v.w p.y q.y; z = held_common a.z b.z v.z v.w p.z q.z }
 
@@ -87,12 +87,12 @@ level_value Z h v =
     solve 5 (λ x y z h w. num (pos 0) ⊗ x ⊕ num (pos 0) ⊗ y ⊕ num (pos 1) ⊗ z ⊖ h ⊗ w ≈ z ⊖ h ⊗ w) cancels v.x v.y v.z h v.w
 
 between : (k : Axis) (l h : ℤ) (v : Spot) → IsNotAbove (opposite (level k l)) v → IsNotAbove (level k h) v →
-    IsWithinInterval (interval_between l h) (coordinate k v) v.w
+    LiesInInterval (interval_between l h) (coordinate k v) v.w
 between k l h v p q =
     let a = (least_from_opposite (level k l) v p).at_least in let b = q.at_most in let d = level_value k l v in let e = level_value k h v in
     record { low = omega (arith, linear, a, d); high = omega (arith, linear, b, e) }
 
-in_cell : (c : Cell) (f : Face) (v : Spot) → LiesIn c f → is_inside f v ≡ true → IsWithinAabb (aabb_of_cell c) v
+in_cell : (c : Cell) (f : Face) (v : Spot) → LiesIn c f → is_inside f v ≡ true → LiesInAabb (aabb_of_cell c) v
 in_cell c f v l i =
     let h = all_out (map (λ w. w.plane) (walls c)) v (l.holds v i) in
     record {
@@ -134,15 +134,15 @@ module _ {W M : Type 0} {G : Ghosts W M} (c : Cell) (f : NearTriangle W M G) (ri
         within = p.within;
         bounds = record {
           holds =
-              λ v i. subst (λ (b : Aabb). IsWithinAabb b v) (sym q)
+              λ v i. subst (λ (b : Aabb). LiesInAabb b v) (sym q)
               (are_common f.aabb (aabb_of_cell c) v (own p.plane.normal v (p.within.holds v i)) (in_cell c ring v l i));
         };
       }
     where
-      own : is_flat f.tri ≡ false → (v : Spot) → is_inside (face_of f.tri) v ≡ true → IsWithinAabb f.aabb v
+      own : is_flat f.tri ≡ false → (v : Spot) → is_inside (face_of f.tri) v ≡ true → LiesInAabb f.aabb v
       own n v i =
           let k = inside_closed (face_of f.tri) v i in
-          subst (λ (b : Aabb). IsWithinAabb b v) (sym f.bounds) (record { x = bounds X f.tri v n k; y = bounds Y f.tri v n k; z = bounds Z f.tri v n k })
+          subst (λ (b : Aabb). LiesInAabb b v) (sym f.bounds) (record { x = bounds X f.tri v n k; y = bounds Y f.tri v n k; z = bounds Z f.tri v n k })
 
   leaf_regions : (ts : List Tri) (i : ℕ) (ws : List leaf.Wall) (bs : List regions.CuttingPlane) (s : Aabb)
       (list : List Face) → f.tri ≡ tri_at ts i → map wall_of ws ≡ walls c → s ≡ common_of f.aabb (aabb_of_cell c) →

@@ -34,7 +34,7 @@ use Rattle.ember_poly.proofs.TriangleRing.{tri_sides, inside_ring}
 use Rattle.ember_leaf.specs.Contact.{no_plane}
 use Rattle.ember_leaf.specs.declared.heights.Heights.{Heights}
 use Rattle.ember_leaf.specs.TriRelations.{IsBehindEdge, heights_of, none_behind, none_in_front, all_behind, all_in_front, all_on, MissesClosedFace}
-use Rattle.ember_leaf.specs.Cutters.{IsWithinInterval}
+use Rattle.ember_leaf.specs.Cutters.{LiesInInterval}
 use Rattle.ember_leaf.proofs.TriFaces.{AtCorners, AtCorner, closed_ring, inside_under, inside_over}
 use Rattle.ember_leaf.proofs.TriFaces.{closed_over, closed_at_least, ring_inside, closed_on}
 
@@ -128,7 +128,7 @@ module _ (t u : Tri) (nt : is_flat t ≡ false) (nu : is_flat u ≡ false) where
       apart t u (λ v i k. zero_under k.flat (inside_under t nt s v h (corner_under s t h f) i))
 
 -- ---- bounding boxes
-pub intervals_with_point_meet : (a b : Interval) (x w : ℤ) → pos 0 <ℤ w → IsWithinInterval a x w → IsWithinInterval b x w → intervals_meet a b ≡ true
+pub intervals_with_point_meet : (a b : Interval) (x w : ℤ) → pos 0 <ℤ w → LiesInInterval a x w → LiesInInterval b x w → intervals_meet a b ≡ true
 intervals_with_point_meet a b x w p h k =
     and_from (int_le a.low b.high) (int_le b.low a.high)
     (int_le_in a.low b.high (order a.low b.high (omega (arith, linear, h.low, k.high))))
@@ -142,7 +142,7 @@ held : (k : Axis) (s : Interval) (t : Tri) (v : Spot) → is_flat t ≡ false �
     (s.low ≤ℤ entry_along k (vector_of t.a)) × (s.low ≤ℤ entry_along k (vector_of t.b)) ×
     (s.low ≤ℤ entry_along k (vector_of t.c)) → (entry_along k (vector_of t.a) ≤ℤ s.high) ×
     (entry_along k (vector_of t.b) ≤ℤ s.high) × (entry_along k (vector_of t.c) ≤ℤ s.high) →
-    is_in_closed (face_of t) v ≡ true → IsWithinInterval s (coordinate k v) v.w
+    is_in_closed (face_of t) v ≡ true → LiesInInterval s (coordinate k v) v.w
 held k s t v n l h e =
     record {
       low = below (past_corners k (pos 1) s.low t v n (one l.0) (one l.1) (one l.2) e);
@@ -169,7 +169,7 @@ spanned Y t = (aabb_of_tri t).y
 spanned Z t = (aabb_of_tri t).z
 
 -- a triangle's closed face lies within its interval along each axis
-pub bounds : (k : Axis) (t : Tri) (v : Spot) → is_flat t ≡ false → is_in_closed (face_of t) v ≡ true → IsWithinInterval (spanned k t) (coordinate k v) v.w
+pub bounds : (k : Axis) (t : Tri) (v : Spot) → is_flat t ≡ false → is_in_closed (face_of t) v ≡ true → LiesInInterval (spanned k t) (coordinate k v) v.w
 bounds X t v n e =
     held X (aabb_of_tri t).x t v n (
       omega (arith, ints, clamps),

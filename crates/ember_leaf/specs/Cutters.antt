@@ -167,19 +167,19 @@ pub record CanCut {W M : Type 0} {G : Ghosts W M} (cutter : Cutter W M G) (f : F
 
 -- ---- bounds
 -- x / w lies in the interval, and a point in the box
-pub record IsWithinInterval (s : Interval) (x w : ℤ) : Type 0 where
+pub record LiesInInterval (s : Interval) (x w : ℤ) : Type 0 where
   pub low : (s.low *ℤ w) ≤ℤ x
   pub high : x ≤ℤ (s.high *ℤ w)
 
-pub record IsWithinAabb (b : Aabb) (v : Spot) : Type 0 where
-  pub x : IsWithinInterval b.x v.x v.w
-  pub y : IsWithinInterval b.y v.y v.w
-  pub z : IsWithinInterval b.z v.z v.w
+pub record LiesInAabb (b : Aabb) (v : Spot) : Type 0 where
+  pub x : LiesInInterval b.x v.x v.w
+  pub y : LiesInInterval b.y v.y v.w
+  pub z : LiesInInterval b.z v.z v.w
 
 -- the inside of f lies in that of t, and within the bounds
 pub record IsBounded (t : Tri) (b : Aabb) (f : Face) : Type 0 where
   pub within : Contains (face_of t) f
-  pub bounds : Everywhere f (IsWithinAabb b)
+  pub bounds : Everywhere f (LiesInAabb b)
 
 -- the second list is the first without some cutting planes whose faces no face with the property meets
 pub data OmitsUnmet (P : Face → Type 0) : List CuttingPlane → List CuttingPlane → Type 0 where

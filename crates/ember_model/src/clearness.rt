@@ -22,7 +22,7 @@ fn is_on(front: i128) -> bool
 }
 
 // Whether a ray is parallel to a plane whose normal has the entry `slope` along it.
-fn is_level(slope: i64) -> bool
+fn is_parallel(slope: i64) -> bool
     ensures { result ≡ is_zero slope }
 {
     slope == 0
@@ -94,7 +94,7 @@ fn is_ray_clear(p: &Spot, a: Axis, support: &Plane, edges: &[Plane]) -> bool
 {
     let front = plane_value(support, p);
     let slope = component(support, a);
-    if is_level(slope) {
+    if is_parallel(slope) {
         !is_on(front) || !enters(p, a, edges)
     } else if meets(front, slope) {
         let hit = hit_on_ray(front, slope, a);

@@ -17,5 +17,5 @@ abbrev pub candidates_at : List Tri → List ℕ → List Candidate
 candidates_at ts indices = map (λ i. candidate_of (tri_at ts i)) indices
 
 -- those of the listed triangles that have a face, in order; a flat triangle has none, and meets no other
-abbrev pub with_faces : List Tri → List ℕ → List ℕ
-with_faces ts indices = filter (λ i. not (is_flat (tri_at ts i))) indices
+abbrev pub not_flat : List Tri → List ℕ → List ℕ
+not_flat ts indices = filter (λ i. not (is_flat (tri_at ts i))) indices

@@ -10,7 +10,7 @@ ghost use Rattle.ember_pairs.specs.declared.pair.Pair.{Pair};
 ghost use Rattle.ember_pairs.specs.Pairs.{AreMeeting, AreMeetingPairs, Completes, row, pairs_of};
 ghost use Rattle.ember_pairs.specs.Heights.{AreSmall, ArePlaneHeights, heights_of};
 ghost use Rattle.ember_pairs.specs.ByEdges.{IsByEdges};
-ghost use Rattle.ember_pairs.specs.Candidates.{candidate_of, candidates_at, with_faces};
+ghost use Rattle.ember_pairs.specs.Candidates.{candidate_of, candidates_at, not_flat};
 
 use crate::by_edges::ByEdges;
 use crate::chords::shown_by_chord;
@@ -321,10 +321,10 @@ fn has_face(tris: &[Tri], i: u32) -> bool
 }
 
 // Those of the listed triangles that have a face, in order.
-fn with_faces(alloc: Global, tris: &[Tri], list: &[u32]) -> Result<Vec<u32>, OutOfMemory>
+fn not_flat(alloc: Global, tris: &[Tri], list: &[u32]) -> Result<Vec<u32>, OutOfMemory>
     requires valid { All IsValidTri tris.now }
     requires places { All (λ i. i < length tris.now) list.now }
-    ensures { IfOk result (λ v. v.items ≡ with_faces tris.now list.now) }
+    ensures { IfOk result (λ v. v.items ≡ not_flat tris.now list.now) }
 {
     let mut found = Vec::with_capacity(alloc, list.len())?;
     for i in list {
@@ -343,7 +343,7 @@ pub fn meeting_pairs(alloc: Global, tris: &[Tri], list: &[u32]) -> Result<PairLi
     requires places { All (λ i. i < length tris.now) list.now }
     ensures { IfOk result (λ ps. AreMeetingPairs tris.now list.now ps) }
 {
-    let kept = with_faces(alloc, tris, list)?;
+    let kept = not_flat(alloc, tris, list)?;
     let pairs = tested_pairs(alloc, tris, kept.as_slice())?;
     Ok(pairs)
 }

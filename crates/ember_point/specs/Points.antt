@@ -61,8 +61,8 @@ slid p Z at = record { a = p.a; b = p.b; c = pos 0; d = p.d -ℤ p.c *ℤ at }
 
 -- ---- points in 64 bits
 -- the sizes of the four numbers add up to less than 2^62
-abbrev pub is_narrow : Spot → Bool
-is_narrow s = ltb (unsigned_abs s.x + unsigned_abs s.y + unsigned_abs s.z + unsigned_abs s.w) (2 ^ 62)
+abbrev pub has_short_numbers : Spot → Bool
+has_short_numbers s = ltb (unsigned_abs s.x + unsigned_abs s.y + unsigned_abs s.z + unsigned_abs s.w) (2 ^ 62)
 
 -- ---- lowest terms
 -- d divides the four numbers, and each number that does divides d

@@ -15,4 +15,4 @@ pub use outlines::outlines_alone;
 pub use query::{
     Answer, Query, RunResult, query_counts, query_faces, query_fills, query_pairs, query_texts,
 };
-pub use solid::{SolidDocument, query_report, solid_of};
+pub use solid::{SolidDocument, report_of_solid, solid_of};

@@ -9,8 +9,7 @@
 // never to run.
 //
 // It is a closure and not a trait, since the borrow checker doesn't accept the bounds `Sync` and
-// `Send`, which starting a thread needs, on a trait's method. See docs/DECISIONS.md, "The top
-// call".
+// `Send`, which starting a thread needs, on a trait's method (README.md).
 ghost use Rattle.std.specs.Prelude.{◌≤◌, IfOk};
 ghost use Rattle.ember_expr.specs.Formula.{formula_of};
 ghost use Rattle.ember_query.specs.Leaves.{AreFills, ArePairsOfLeaves, AreRegionCounts};

@@ -62,7 +62,7 @@ fn total(counts: &[u64]) -> Result<u64, OutOfMemory>
 
 /// The report of the solid of an expression over a scene. The written regions are counted leaf by
 /// leaf and not kept. The only error is out-of-memory.
-pub fn query_report<C: Fn(&Query) -> Result<Answer, OutOfMemory>>(
+pub fn report_of_solid<C: Fn(&Query) -> Result<Answer, OutOfMemory>>(
     scene: &Scene,
     expr: &Expr,
     executor: &C,

@@ -1,7 +1,7 @@
 //! The top call: from words and files to the output, the line on err and the exit status.
 #![tactic(auto)]
 
-mod boole;
+mod bool_command;
 mod pairs;
 mod reply;
 mod top;

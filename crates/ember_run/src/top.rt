@@ -12,7 +12,7 @@ ghost use Rattle.ember_run.specs.Serves.{IsReplyTo, ReadsCanonical, Serves};
 ghost use Rattle.ember_verdict.specs.NoReplies.{IsNoReply};
 ghost use Rattle.ember_verdict.specs.Verdict.{names_of, verdict_of};
 
-use crate::boole::{boole_output, demo_output};
+use crate::bool_command::{bool_output, demo_output};
 use crate::pairs::pairs_output;
 use crate::reply::Reply;
 use crate::voxels::voxels_output;
@@ -87,7 +87,7 @@ fn reply_to<S: Shelf, C: Fn(&Query) -> Result<Answer, OutOfMemory>>(
             report,
             files,
             ..
-        } => boole_output(alloc, expr, *places as u8, *report, files, shelf, executor),
+        } => bool_output(alloc, expr, *places as u8, *report, files, shelf, executor),
     }
 }
 

@@ -8,7 +8,7 @@ use crate::step::box_step;
 use ember_expr::Expr;
 use ember_job::{Job, OneItem, Outcome, Work};
 use ember_model::{OutOfMemory, Scene};
-use ember_text::{FacesText, faces_text};
+use ember_text::{FacesText, text_of_faces};
 use std::alloc::Global;
 
 /// The Boolean of an expression over a scene as text: the work whose item for a leaf is the text of
@@ -64,7 +64,7 @@ pub fn text_step(
 {
     match box_step(alloc, s, e, job)? {
         Outcome::Halves(left, right) => Ok(Outcome::Halves(left, right)),
-        Outcome::Leaf(kept) => Ok(Outcome::Leaf(faces_text(alloc, kept.items())?)),
+        Outcome::Leaf(kept) => Ok(Outcome::Leaf(text_of_faces(alloc, kept.items())?)),
         Outcome::Skipped => Ok(Outcome::Skipped),
     }
 }

@@ -54,7 +54,7 @@ pub fn put_faces(alloc: Global, kept: &[Kept], out: &mut Vec<u8>) -> Result<(), 
 
 /// The texts of written regions, in order, each with the opposite front if it is flipped. The only
 /// error is out-of-memory.
-pub fn faces_text(alloc: Global, kept: &[Kept]) -> Result<FacesText, OutOfMemory>
+pub fn text_of_faces(alloc: Global, kept: &[Kept]) -> Result<FacesText, OutOfMemory>
     ensures { IfOk result (λ text. IsTextOf (map written_face kept.now) text) }
 {
     let mut bytes = Vec::new(alloc);

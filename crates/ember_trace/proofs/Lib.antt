@@ -7,7 +7,7 @@ pub mod NearTriangleLists
 pub mod FarSegments
 pub mod FilledFaces
 pub mod FlatPlanes
-pub mod LevelTriangles
+pub mod ParallelTriangles
 pub mod MeshSums
 pub mod OneSides
 pub mod OwnTriangles

@@ -52,7 +52,7 @@ fn normal_sign(p: &Plane, k: Axis) -> Sign
 }
 
 /// Whether the entry of the plane's normal along an axis is 0.
-pub fn is_level(p: &Plane, k: Axis) -> bool
+pub fn is_parallel(p: &Plane, k: Axis) -> bool
     ensures { result ≡ is_nil (sgn (along p.now k)) }
 {
     matches!(normal_sign(p, k), Sign::Zero)

@@ -59,7 +59,7 @@ fn is_behind_edge_at_end<W: Width>(u: &Corner, v: &Corner, k: Axis, s: i64, way:
 }
 
 /// Whether the line of the last segment runs through the triangle: all edge planes parallel to it
-/// are negative at its end. The corners of the region are narrow.
+/// are negative at its end. The corners of the region are short.
 pub fn short_last_is_behind<W: Width>(triangle: &NearTriangle<W>, way: &Path<W>) -> bool
     requires { way.now.is_short ≡ true }
     ensures { result ≡ all_behind (λ p. side_at_end (path_of way.now) p) (edge_planes triangle.now.tri way.now.main) }
@@ -140,7 +140,7 @@ fn is_behind_edge_after_first<W: Width>(u: &Corner, v: &Corner, s: i64, way: &Pa
 }
 
 /// Whether the line of the second segment runs through the triangle: all edge planes parallel to it
-/// are negative at its start. The corners of the region are narrow.
+/// are negative at its start. The corners of the region are short.
 pub fn short_second_is_behind<W: Width>(triangle: &NearTriangle<W>, way: &Path<W>) -> bool
     requires axes { HasAxes (path_of way.now) }
     requires short { way.now.is_short ≡ true }

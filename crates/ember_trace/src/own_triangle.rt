@@ -8,7 +8,7 @@ ghost use Rattle.ember_model.specs.ClearTest.{all_negative};
 ghost use Rattle.ember_trace.specs.Paths.{path_of, side_at_end};
 ghost use Rattle.ember_trace.specs.Lines.{all_behind};
 
-use crate::crossing_signs::is_level;
+use crate::crossing_signs::is_parallel;
 use crate::near_triangle::NearTriangle;
 use crate::path::Path;
 use ember_algebra::Sign;
@@ -72,7 +72,7 @@ pub fn is_own<W: Width>(triangle: &NearTriangle<W>, way: &Path<W>) -> bool
     if !shares_plane(triangle, way) {
         return false;
     }
-    if is_level(&triangle.support, way.main) {
+    if is_parallel(&triangle.support, way.main) {
         return false;
     }
     lies_behind_edges(way.region, triangle)

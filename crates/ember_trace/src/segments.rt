@@ -11,7 +11,7 @@ ghost use Rattle.ember_trace.specs.Paths.{path_of, HasAxes, coordinate, side_aft
 ghost use Rattle.ember_trace.specs.Lines.{all_behind, contains_above};
 ghost use Rattle.ember_trace.specs.Crossings.{begins_by, may_contain, may_end, farthest, AreLimits, first_runs_through, second_runs_through, last_runs_through, first_segment, second_segment, segments_above_wall, last_segment, side_before, side_after, crossing_before, crossing_after};
 
-use crate::crossing_signs::{is_level, side_after, side_before, signed_crossing};
+use crate::crossing_signs::{is_parallel, side_after, side_before, signed_crossing};
 use crate::edges::{
     are_behind_at_end, is_behind_at_end, is_neg, short_last_is_behind, short_second_is_behind,
 };
@@ -40,7 +40,7 @@ fn second_is_behind<W: Width>(triangle: &NearTriangle<W>, way: &Path<W>) -> bool
 {
     let k = way.second_axis;
     let t = &triangle.tri;
-    if is_level(&triangle.support, k) {
+    if is_parallel(&triangle.support, k) {
         return false;
     }
     if way.is_short {
@@ -70,7 +70,7 @@ fn last_is_behind<W: Width>(triangle: &NearTriangle<W>, way: &Path<W>, at: &Limi
     if has_main_axis(triangle, way, at) {
         return are_behind_at_end(way, &triangle.edges);
     }
-    if is_level(&triangle.support, k) {
+    if is_parallel(&triangle.support, k) {
         return false;
     }
     if way.is_short {

@@ -50,7 +50,7 @@ pub fn accepted_inputs_have_one_text()
 
 /// The number of workers changes no verdict. So the output is the same for every number of workers.
 pub fn workers_change_no_verdict()
-    ensures boole { (expr : List ℕ) (workers others places : ℕ) (report : Bool) (files : List (List ℕ))
+    ensures bool_command { (expr : List ℕ) (workers others places : ℕ) (report : Bool) (files : List (List ℕ))
         (told : List ℕ → Option (List ℕ)) →
         told_verdict (Some (Boole expr workers places report files)) told ≡
         told_verdict (Some (Boole expr others places report files)) told }

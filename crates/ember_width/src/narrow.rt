@@ -2,7 +2,7 @@
 ghost use Rattle.std.specs.Prelude.{◌^◌, pos};
 ghost use Rattle.ember_model.specs.Limits.{narrow_limit};
 ghost use Rattle.ember_model.specs.Valid.{IsValidPlane};
-ghost use Rattle.ember_point.specs.Points.{spot_of, is_narrow};
+ghost use Rattle.ember_point.specs.Points.{spot_of, has_short_numbers};
 
 use crate::across::narrow_side_across;
 use crate::corners::narrow_point_at;
@@ -37,7 +37,7 @@ impl Width for Narrow {
 
     ghost spot = { spot_of };
 
-    ghost short = { λ m. is_narrow (spot_of m) };
+    ghost short = { λ m. has_short_numbers (spot_of m) };
 
     ghost weighs = { λ m. m.valid.weight };
 
@@ -74,12 +74,12 @@ impl Width for Narrow {
 
     #[inline]
     fn is_short(m: &Meet) -> bool {
-        ember_point::is_narrow(m)
+        ember_point::has_short_numbers(m)
     }
 
     #[inline]
     fn short_side(p: &Plane, m: &Meet) -> Sign {
-        ember_point::narrow_side(p, m)
+        ember_point::short_side(p, m)
     }
 
     #[inline]

@@ -1,15 +1,15 @@
 // Points in short numbers: their sides of a plane are found in fewer steps.
 ghost use Rattle.std.specs.Prelude.{◌≡◌, true};
-ghost use Rattle.ember_point.specs.Points.{spot_of, is_narrow};
+ghost use Rattle.ember_point.specs.Points.{spot_of, has_short_numbers};
 ghost use Rattle.ember_width.specs.BroadPoints.{spot_of as broad_spot_of, short_spot, is_short};
 
 use crate::broad_point::BroadPoint;
 use crate::short_point::ShortPoint;
 use ember_point::Meet;
 
-/// The numbers of a narrow point.
+/// The numbers of a short point of the narrow grid.
 pub fn numbers_of_narrow(m: &Meet) -> ShortPoint
-    requires { is_narrow (spot_of m.now) ≡ true }
+    requires { has_short_numbers (spot_of m.now) ≡ true }
     ensures { short_spot result ≡ spot_of m.now }
 {
     ShortPoint {

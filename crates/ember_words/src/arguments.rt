@@ -76,7 +76,7 @@ fn with_workers_and_places<'a>(
     with(command, option_with_default(alloc, "places", "0"))
 }
 
-fn faces_command<'a>(alloc: Global) -> Result<Command<'a>, AllocError>
+fn faces_app<'a>(alloc: Global) -> Result<Command<'a>, AllocError>
     ensures { IfOk result (λ c. app_of c ≡ faces_app) }
 {
     let command = Command::new(alloc, "faces");
@@ -84,7 +84,7 @@ fn faces_command<'a>(alloc: Global) -> Result<Command<'a>, AllocError>
     with(command, one_word(alloc, "file"))
 }
 
-fn at_command<'a>(alloc: Global) -> Result<Command<'a>, AllocError>
+fn at_app<'a>(alloc: Global) -> Result<Command<'a>, AllocError>
     ensures { IfOk result (λ c. app_of c ≡ at_app) }
 {
     let command = Command::new(alloc, "at");
@@ -94,7 +94,7 @@ fn at_command<'a>(alloc: Global) -> Result<Command<'a>, AllocError>
     with(command, several_words(alloc, "files"))
 }
 
-fn bool_command<'a>(alloc: Global) -> Result<Command<'a>, AllocError>
+fn bool_app<'a>(alloc: Global) -> Result<Command<'a>, AllocError>
     ensures { IfOk result (λ c. app_of c ≡ bool_app) }
 {
     let command = Command::new(alloc, "bool");
@@ -104,7 +104,7 @@ fn bool_command<'a>(alloc: Global) -> Result<Command<'a>, AllocError>
     with(command, several_words(alloc, "files"))
 }
 
-fn demo_command<'a>(alloc: Global) -> Result<Command<'a>, AllocError>
+fn demo_app<'a>(alloc: Global) -> Result<Command<'a>, AllocError>
     ensures { IfOk result (λ c. app_of c ≡ demo_app) }
 {
     let command = Command::new(alloc, "demo");
@@ -112,7 +112,7 @@ fn demo_command<'a>(alloc: Global) -> Result<Command<'a>, AllocError>
     with(command, one_word(alloc, "boxes"))
 }
 
-fn voxels_command<'a>(alloc: Global) -> Result<Command<'a>, AllocError>
+fn voxels_app<'a>(alloc: Global) -> Result<Command<'a>, AllocError>
     ensures { IfOk result (λ c. app_of c ≡ voxels_app) }
 {
     let command = Command::new(alloc, "voxels");
@@ -122,7 +122,7 @@ fn voxels_command<'a>(alloc: Global) -> Result<Command<'a>, AllocError>
     with(command, several_words(alloc, "files"))
 }
 
-fn pairs_command<'a>(alloc: Global) -> Result<Command<'a>, AllocError>
+fn pairs_app<'a>(alloc: Global) -> Result<Command<'a>, AllocError>
     ensures { IfOk result (λ c. app_of c ≡ pairs_app) }
 {
     let command = Command::new(alloc, "pairs");
@@ -130,7 +130,7 @@ fn pairs_command<'a>(alloc: Global) -> Result<Command<'a>, AllocError>
     with(command, several_words(alloc, "files"))
 }
 
-fn slice_command<'a>(alloc: Global) -> Result<Command<'a>, AllocError>
+fn slice_app<'a>(alloc: Global) -> Result<Command<'a>, AllocError>
     ensures { IfOk result (λ c. app_of c ≡ slice_app) }
 {
     let command = Command::new(alloc, "slice");
@@ -143,12 +143,12 @@ pub fn clap_command<'a>(alloc: Global, verb: Verb) -> Result<Command<'a>, AllocE
     ensures { IfOk result (λ c. app_of c ≡ app_for verb) }
 {
     match verb {
-        Verb::Faces => faces_command(alloc),
-        Verb::At => at_command(alloc),
-        Verb::Boole => bool_command(alloc),
-        Verb::Demo => demo_command(alloc),
-        Verb::Voxels => voxels_command(alloc),
-        Verb::Pairs => pairs_command(alloc),
-        Verb::Slice => slice_command(alloc),
+        Verb::Faces => faces_app(alloc),
+        Verb::At => at_app(alloc),
+        Verb::Boole => bool_app(alloc),
+        Verb::Demo => demo_app(alloc),
+        Verb::Voxels => voxels_app(alloc),
+        Verb::Pairs => pairs_app(alloc),
+        Verb::Slice => slice_app(alloc),
     }
 }

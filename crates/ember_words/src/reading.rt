@@ -49,7 +49,7 @@ fn find_matches<'a>(
     }
 }
 
-fn faces(alloc: Global, matches: &ArgMatches<'_>) -> Result<Command, WordsFault>
+fn faces_command(alloc: Global, matches: &ArgMatches<'_>) -> Result<Command, WordsFault>
     ensures { Reads (faces_command_of (rows_of (found_of matches.now))) result }
 {
     let places = places_value(matches)?;
@@ -88,7 +88,7 @@ fn places_value(matches: &ArgMatches<'_>) -> Result<u32, WordsFault>
     number_value(matches, "places", 0, 3)
 }
 
-fn at(alloc: Global, matches: &ArgMatches<'_>) -> Result<Command, WordsFault>
+fn at_command(alloc: Global, matches: &ArgMatches<'_>) -> Result<Command, WordsFault>
     ensures { Reads (at_command_of (rows_of (found_of matches.now))) result }
 {
     let point = point_value(matches)?;
@@ -103,7 +103,7 @@ fn at(alloc: Global, matches: &ArgMatches<'_>) -> Result<Command, WordsFault>
     })
 }
 
-fn boole(alloc: Global, matches: &ArgMatches<'_>) -> Result<Command, WordsFault>
+fn bool_command(alloc: Global, matches: &ArgMatches<'_>) -> Result<Command, WordsFault>
     ensures { Reads (bool_command_of (rows_of (found_of matches.now))) result }
 {
     let expr = text_value(alloc, matches, "expr")?;
@@ -120,7 +120,7 @@ fn boole(alloc: Global, matches: &ArgMatches<'_>) -> Result<Command, WordsFault>
     })
 }
 
-fn demo(matches: &ArgMatches<'_>) -> Result<Command, WordsFault>
+fn demo_command(matches: &ArgMatches<'_>) -> Result<Command, WordsFault>
     ensures { Reads (demo_command_of (rows_of (found_of matches.now))) result }
 {
     let boxes = number_value(matches, "boxes", 1, 20000)?;
@@ -128,7 +128,7 @@ fn demo(matches: &ArgMatches<'_>) -> Result<Command, WordsFault>
     Ok(Command::Demo { boxes, workers })
 }
 
-fn voxels(alloc: Global, matches: &ArgMatches<'_>) -> Result<Command, WordsFault>
+fn voxels_command(alloc: Global, matches: &ArgMatches<'_>) -> Result<Command, WordsFault>
     ensures { Reads (voxels_command_of (rows_of (found_of matches.now))) result }
 {
     let expr = text_value(alloc, matches, "expr")?;
@@ -145,7 +145,7 @@ fn voxels(alloc: Global, matches: &ArgMatches<'_>) -> Result<Command, WordsFault
     })
 }
 
-fn pairs(alloc: Global, matches: &ArgMatches<'_>) -> Result<Command, WordsFault>
+fn pairs_command(alloc: Global, matches: &ArgMatches<'_>) -> Result<Command, WordsFault>
     ensures { Reads (pairs_command_of (rows_of (found_of matches.now))) result }
 {
     let workers = workers_value(matches)?;
@@ -158,7 +158,7 @@ fn pairs(alloc: Global, matches: &ArgMatches<'_>) -> Result<Command, WordsFault>
     })
 }
 
-fn slice(alloc: Global, matches: &ArgMatches<'_>) -> Result<Command, WordsFault>
+fn slice_command(alloc: Global, matches: &ArgMatches<'_>) -> Result<Command, WordsFault>
     ensures { Reads (slice_command_of (rows_of (found_of matches.now))) result }
 {
     let at = height_value(matches)?;
@@ -175,13 +175,13 @@ fn command_of_matches(
     ensures { Reads (command_of_rows verb (rows_of (found_of matches.now))) result }
 {
     match verb {
-        Verb::Faces => faces(alloc, matches),
-        Verb::At => at(alloc, matches),
-        Verb::Boole => boole(alloc, matches),
-        Verb::Demo => demo(matches),
-        Verb::Voxels => voxels(alloc, matches),
-        Verb::Pairs => pairs(alloc, matches),
-        Verb::Slice => slice(alloc, matches),
+        Verb::Faces => faces_command(alloc, matches),
+        Verb::At => at_command(alloc, matches),
+        Verb::Boole => bool_command(alloc, matches),
+        Verb::Demo => demo_command(matches),
+        Verb::Voxels => voxels_command(alloc, matches),
+        Verb::Pairs => pairs_command(alloc, matches),
+        Verb::Slice => slice_command(alloc, matches),
     }
 }
 

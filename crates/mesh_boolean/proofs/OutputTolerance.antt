@@ -9,7 +9,7 @@ use Rattle.mesh_tolerance.specs.Files.{HaveMeaningOutsideMoves, HaveMeaningOutsi
 use Rattle.mesh_tolerance.proofs.FileMeaning.{floats_mean_outside_moves, floats_mean_outside_rounding}
 use Rattle.mesh_tolerance.proofs.FileMeaning.{decimals_mean_outside_moves, decimals_mean_outside_rounding}
 use Rattle.mesh_written.specs.Digits.{written_places}
-use Rattle.mesh_boolean.specs.declared.files.MeshFile.{MeshFile}
+use Rattle.mesh_boolean.specs.declared.files.InputFile.{InputFile}
 use Rattle.mesh_boolean.specs.declared.output.SolidFile.{SolidFile}
 use Rattle.mesh_boolean.specs.declared.wanted.MeshFormat.{MeshFormat}
 use Rattle.mesh_boolean.specs.declared.wanted.MeshFormat.TheVariants.{Floats, Text}
@@ -18,7 +18,7 @@ use Rattle.mesh_boolean.specs.Effects.{decimals_of}
 use Rattle.mesh_boolean.specs.Outputs.{IsClosedAs, IsOutput}
 use Rattle.mesh_boolean.specs.Tolerance.{triangles_of_file, MeansOutsideMoves, MeansOutsideRounding}
 
-module _ (files : List MeshFile) (formula : Formula) (wanted : WantedFile) (out : SolidFile)
+module _ (files : List InputFile) (formula : Formula) (wanted : WantedFile) (out : SolidFile)
     (outside : IsFalseOutside formula) (is : IsOutput files formula wanted out) where
   solid_is : IsSolidOf out.grid is.surfaces formula is.mesh
   solid_is = record {

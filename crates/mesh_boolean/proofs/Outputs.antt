@@ -20,10 +20,10 @@ use Rattle.mesh_scene.specs.Scene.Images.{images_of}
 use Rattle.mesh_grid.specs.declared.snap.offsets.Offset.{Offset}
 use Rattle.mesh_grid.specs.declared.snap.steps.GridStep.{GridStep}
 use Rattle.mesh_solid.specs.declared.mesh.mesh.SolidMesh.{SolidMesh}
-use Rattle.mesh_solid.specs.declared.mesh.solid.MeshedSolid.{MeshedSolid}
+use Rattle.mesh_solid.specs.declared.mesh.solid.SolidRun.{SolidRun}
 use Rattle.mesh_solid.specs.Mesh.Asked.{IsThereIf}
-use Rattle.mesh_solid.specs.Mesh.Meshes.{IsDocumentMesh, IsMeshedSolid}
-use Rattle.mesh_write.specs.declared.stl.triangle.WrittenTriangle.{WrittenTriangle}
+use Rattle.mesh_solid.specs.Mesh.Meshes.{IsDocumentMesh, IsSolidRun}
+use Rattle.mesh_write.specs.declared.stl.triangle.FloatTriangle.{FloatTriangle}
 use Rattle.mesh_write.specs.declared.text.format.TextFormat.{TextFormat}
 use Rattle.mesh_write.specs.Text.Texts.{text_of}
 use Rattle.mesh_write.specs.declared.vertices.point.DecimalPoint.{DecimalPoint}
@@ -38,16 +38,16 @@ use Rattle.mesh_written.specs.Digits.{written_places}
 use Rattle.mesh_written.proofs.Proper.{proper_corners}
 use Rattle.mesh_written.proofs.WrittenClosed.{certified_are_closed, written_are_closed}
 use Rattle.mesh_written.proofs.DecimalsClosed.{decimals_are_closed, indices_are_closed}
-use Rattle.mesh_boolean.specs.declared.files.MeshFile.{MeshFile}
+use Rattle.mesh_boolean.specs.declared.files.InputFile.{InputFile}
 use Rattle.mesh_boolean.specs.declared.output.KeptDocument.{KeptDocument}
 use Rattle.mesh_boolean.specs.declared.wanted.MeshFormat.{MeshFormat}
 use Rattle.mesh_boolean.specs.declared.wanted.FloatFormat.{FloatFormat}
 use Rattle.mesh_boolean.specs.declared.wanted.MeshFormat.TheVariants.{Floats, Text}
 use Rattle.mesh_boolean.specs.declared.wanted.WantedFile.{WantedFile}
 use Rattle.mesh_boolean.specs.declared.split.SplitDecimals.{SplitDecimals}
-use Rattle.mesh_boolean.specs.declared.writing.Written.{Written}
+use Rattle.mesh_boolean.specs.declared.writing.OutputMesh.{OutputMesh}
 use Rattle.mesh_boolean.specs.Files.{IsPlaced}
-use Rattle.mesh_boolean.specs.Volumes.{six_volumes_of_meshes}
+use Rattle.mesh_boolean.specs.Volumes.{sixfold_volumes_of_meshes}
 use Rattle.mesh_boolean.specs.Effects.{decimals_of}
 use Rattle.mesh_boolean.specs.Splits.{AreDecimalsOver}
 use Rattle.mesh_boolean.specs.Outputs.{AreKept, AreRounded, AreShownIf, IsTextOver, IsOfFloats, IsText, IsWritten}
@@ -57,13 +57,13 @@ twice : (b : Bool) → b ≡ not (not b)
 twice true = refl
 twice false = refl
 
-kept_are_fewer : (ws : List WrittenTriangle) → length (kept ws) ≤ length ws
+kept_are_fewer : (ws : List FloatTriangle) → length (kept ws) ≤ length ws
 kept_are_fewer ws =
     let e = length-filter_both (λ t. not (vanishes t)) vanishes (λ t. twice (vanishes t)) ws in omega (arith, e)
 
 -- no more triangles are written than there are
 pub written_are_fewer : (s : GridStep) (o : Offset) (planes : List Plane) (corners : List SpacePoint) (ts : List Triangle)
-    (ws : List WrittenTriangle) → AreWritten s o planes corners ts ws → length ws ≤ length ts
+    (ws : List FloatTriangle) → AreWritten s o planes corners ts ws → length ws ≤ length ts
 written_are_fewer s o planes corners ts ws h =
     let all = map (triangle_at planes h.points) ts in
     let e = ap length h.written in
@@ -81,7 +81,7 @@ corners_are_there planes {corners} {cs} {triangles} {ts} a b proper =
     subst (λ (us : List Triangle). list_all (has_corners (length cs)) us ≡ true) (sym b) by_corners
 
 -- triangles are those of the mesh, rounded, by lists that equal those of the mesh
-pub mesh_is_rounded : (grid : Grid) (mesh : SolidMesh) (written : List WrittenTriangle) {planes : List Plane}
+pub mesh_is_rounded : (grid : Grid) (mesh : SolidMesh) (written : List FloatTriangle) {planes : List Plane}
     {corners : List SpacePoint} {triangles : List Triangle} → planes ≡ mesh.planes.items → corners ≡ mesh.corners.items →
     triangles ≡ mesh.triangles.items → AreWritten grid.step grid.offset planes corners triangles written →
     AreRounded grid mesh written
@@ -140,7 +140,7 @@ mesh_is_closed bytes mesh is =
     certified_are_closed mesh.planes.items is.tables.lines.items mesh.corners.items is.tables.segments.items mesh.triangles.items is.cut.certified
 
 -- and so are those of its STL and its GLB
-floats_are_closed : (format : FloatFormat) (grid : Grid) (mesh : SolidMesh) (file : Written) →
+floats_are_closed : (format : FloatFormat) (grid : Grid) (mesh : SolidMesh) (file : OutputMesh) →
     AreRoundAndClosed mesh.triangles.items → IsOfFloats format grid mesh file → IsClosedOfFloats format grid mesh file
 floats_are_closed format grid mesh file round floats =
     let closed = written_are_closed grid.step grid.offset mesh.planes.items mesh.corners.items mesh.triangles.items
@@ -148,7 +148,7 @@ floats_are_closed format grid mesh file round floats =
     record { floats = floats; closed = closed; shared = floats.shared closed }
 
 -- and of its text
-text_is_closed : (format : TextFormat) (digits : Option ℕ) (grid : Grid) (mesh : SolidMesh) (file : Written) →
+text_is_closed : (format : TextFormat) (digits : Option ℕ) (grid : Grid) (mesh : SolidMesh) (file : OutputMesh) →
     AreRoundAndClosed mesh.triangles.items → IsText format digits grid mesh file →
     IsClosedText format digits grid mesh file
 text_is_closed format digits grid mesh file round text = record {
@@ -158,20 +158,20 @@ text_is_closed format digits grid mesh file round text = record {
 }
 
 -- and so are those of its file
-file_is_closed : (format : MeshFormat) (grid : Grid) (mesh : SolidMesh) (file : Written) →
+file_is_closed : (format : MeshFormat) (grid : Grid) (mesh : SolidMesh) (file : OutputMesh) →
     AreRoundAndClosed mesh.triangles.items → IsWritten format grid mesh file → IsClosedAs format grid mesh file
 file_is_closed (Floats format) grid mesh file round floats = floats_are_closed format grid mesh file round floats
 file_is_closed (Text format digits) grid mesh file round text = text_is_closed format digits grid mesh file round text
 
 -- the file of a document's mesh is closed
-pub written_is_closed : (bytes : List ℕ) (format : MeshFormat) (grid : Grid) (mesh : SolidMesh) (file : Written) →
+pub written_is_closed : (bytes : List ℕ) (format : MeshFormat) (grid : Grid) (mesh : SolidMesh) (file : OutputMesh) →
     IsDocumentMesh bytes mesh → IsWritten format grid mesh file → IsClosedAs format grid mesh file
 written_is_closed bytes format grid mesh file is written =
     file_is_closed format grid mesh file (mesh_is_closed bytes mesh is) written
 
 -- ---- outputs
 -- triangles that are shown are those that are written
-pub shown_if_asked : (asked : Bool) (written : Vec WrittenTriangle) → IfSome (then_some asked written) (λ shown. shown.items ≡ written.items)
+pub shown_if_asked : (asked : Bool) (written : Vec FloatTriangle) → IfSome (then_some asked written) (λ shown. shown.items ≡ written.items)
 shown_if_asked true written = refl
 shown_if_asked false written = tt
 
@@ -186,30 +186,30 @@ both_are_kept keeps tris bytes scene (Some document) e h = (h.0, record { scene 
 both_are_kept keeps tris bytes scene None e h = h
 
 -- the file of the mesh of the files' scene is an output for them
-module _ (files : List MeshFile) (formula : Formula) (wanted : WantedFile) (placed : PlacedScene) (is : IsPlaced files wanted.grid placed) where
-  pub output_is : (meshed : MeshedSolid) → IsMeshedSolid placed.scene.tris formula wanted.keeps meshed →
-      (file : Written) → IsWritten wanted.format placed.grid meshed.mesh file →
+module _ (files : List InputFile) (formula : Formula) (wanted : WantedFile) (placed : PlacedScene) (is : IsPlaced files wanted.grid placed) where
+  pub output_is : (meshed : SolidRun) → IsSolidRun placed.scene.tris formula wanted.keeps meshed →
+      (file : OutputMesh) → IsWritten wanted.format placed.grid meshed.mesh file →
       AreShownIf wanted.shows placed.grid meshed.mesh file.shown → (kept : Option KeptDocument) →
       kept ≡ kept_with placed.scene meshed.document →
-      (volumes : Vec ℤ) → volumes.items ≡ six_volumes_of_meshes placed.scene.tris placed.scene.meshes →
+      (volumes : Vec ℤ) → volumes.items ≡ sixfold_volumes_of_meshes placed.scene.tris placed.scene.meshes →
       IsOutput files formula wanted (record {
         written = file;
         grid = placed.grid;
         counts = placed.counts;
         moves =
             placed.moves;
-        six_volumes = volumes;
+        sixfold_volumes = volumes;
         report = meshed.report;
         kept = kept;
       })
   output_is meshed solid file written shown kept e volumes f =
-      let of_images = subst (λ (tris : List Tri). IsMeshedSolid tris formula wanted.keeps meshed) is.tris solid in
+      let of_images = subst (λ (tris : List Tri). IsSolidRun tris formula wanted.keeps meshed) is.tris solid in
       record {
         surfaces = is.surfaces;
         are_placed = is.are_placed;
         counts = is.counts;
         moves = is.moves;
-        six_volumes = f ∙ (λ i. six_volumes_of_meshes (is.tris i) (is.meshes i));
+        sixfold_volumes = f ∙ (λ i. sixfold_volumes_of_meshes (is.tris i) (is.meshes i));
         mesh = meshed.mesh;
         solid = of_images.mesh;
         report = of_images.report;

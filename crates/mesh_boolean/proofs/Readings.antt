@@ -12,11 +12,11 @@ use Rattle.mesh_scene.specs.declared.scene.scene.PlacedScene.{PlacedScene}
 use Rattle.mesh_scene.specs.Scene.Images.{images_of, counts_on}
 use Rattle.mesh_grid.specs.Snap.Steps.{IsStep}
 use Rattle.mesh_read.specs.declared.surface.surface.Surface.{Surface}
-use Rattle.mesh_boolean.specs.declared.files.MeshFile.{MeshFile}
+use Rattle.mesh_boolean.specs.declared.files.InputFile.{InputFile}
 use Rattle.mesh_boolean.specs.Files.{reading, held, AreReadings, IsPlaced}
 
 -- the readings of one file more
-pub readings_more : (files : List MeshFile) (i : ℕ) (d : MeshFile) (before after : List Surface) (surface : Surface) →
+pub readings_more : (files : List InputFile) (i : ℕ) (d : InputFile) (before after : List Surface) (surface : Surface) →
     i < length files → AreReadings (take i files) before → after ≡ before ++ surface ∷ [] →
     reading (get_or files i d) ≡ held surface → AreReadings (take (i + 1) files) after
 readings_more files i d before after surface l h p q =
@@ -29,12 +29,12 @@ pub within_more : (before after : List Surface) (surface : Surface) → All IsWi
 within_more before after surface h p q = subst (All IsWithinLimit) (sym p) (All-push IsWithinLimit before surface h q)
 
 -- there are as many surfaces as files
-pub readings_are_as_many : (files : List MeshFile) (surfaces : List Surface) → AreReadings files surfaces → length surfaces ≡ length files
+pub readings_are_as_many : (files : List InputFile) (surfaces : List Surface) → AreReadings files surfaces → length surfaces ≡ length files
 readings_are_as_many files surfaces h =
     sym (length-map surfaces held) ∙ sym (ap length h) ∙ length-map files reading
 
 -- the scene of surfaces is that of the files whose readings give them
-pub files_are_placed : (files : List MeshFile) (wanted : Wanted) (surfaces : List Surface) (placed : PlacedScene) →
+pub files_are_placed : (files : List InputFile) (wanted : Wanted) (surfaces : List Surface) (placed : PlacedScene) →
     AreReadings files surfaces → IsStep placed.grid.step → IsGrid surfaces wanted placed.grid →
     placed.scene.tris ≡ images_of placed.grid surfaces → placed.scene.meshes ≡ length surfaces →
     placed.counts.items ≡ map (counts_on placed.grid) surfaces → AreMoves placed.grid surfaces placed.moves.items →

@@ -20,7 +20,7 @@ use Rattle.mesh_solid.specs.Mesh.Meshes.{IsSolidMesh}
 use Rattle.mesh_read.specs.declared.surface.surface.Surface.{Surface}
 use Rattle.mesh_boolean.specs.declared.fault.BooleanFault.{BooleanFault}
 use Rattle.mesh_boolean.specs.declared.fault.BooleanFault.TheVariants.{File, Scene, Solid, TooFar, TooManyTriangles, OutOfMemory}
-use Rattle.mesh_boolean.specs.declared.files.MeshFile.{MeshFile}
+use Rattle.mesh_boolean.specs.declared.files.InputFile.{InputFile}
 use Rattle.mesh_boolean.specs.declared.wanted.WantedFile.{WantedFile}
 use Rattle.mesh_boolean.specs.declared.writing_fault.WritingFault.{WritingFault}
 use Rattle.mesh_boolean.specs.declared.writing_fault.WritingFault.TheVariants as writing_fault
@@ -30,13 +30,13 @@ use Rattle.mesh_boolean.specs.Faults.{HasFault, IsRefusal, IsReadFault, IsPlacin
 use Rattle.mesh_boolean.specs.Faults.{of_scene_fault, of_solid_fault, of_writing_fault}
 
 -- ---- files
-has_fault : (file : MeshFile) (fault : FileFault) → (fault ≡ file_fault.OutOfMemory → ⊥) →
+has_fault : (file : InputFile) (fault : FileFault) → (fault ≡ file_fault.OutOfMemory → ⊥) →
     (fault ≡ file_fault.OutOfMemory) ⊎ (reading file ≡ Err (fault_of fault)) → is_plain fault ≡ true → HasFault file fault
 has_fault file fault other (inl memory) plain = absurd (other memory)
 has_fault file fault other (inr gives) plain = record { gives = gives; plain = plain; of_file = other }
 
 -- the fault of a file is that of the file with its index
-pub file_fault_is : (file : MeshFile) (index : ℕ) (fault : FileFault) →
+pub file_fault_is : (file : InputFile) (index : ℕ) (fault : FileFault) →
     (fault ≡ file_fault.OutOfMemory) ⊎ (reading file ≡ Err (fault_of fault)) → is_plain fault ≡ true →
     IsRefusal file index (of_file_fault index fault)
 file_fault_is file index (file_fault.CutOff facets) h plain =
@@ -77,7 +77,7 @@ file_fault_is file index (file_fault.Unread format) h plain =
 file_fault_is file index file_fault.OutOfMemory h plain = tt
 
 -- the fault of a file after files that are read is the first
-pub refused_file_is_first : (files : List MeshFile) (i : ℕ) (d : MeshFile) (surfaces : List Surface)
+pub refused_file_is_first : (files : List InputFile) (i : ℕ) (d : InputFile) (surfaces : List Surface)
     (fault : BooleanFault) → i < length files → AreReadings (take i files) surfaces →
     IsRefusal (get_or files i d) i fault → IsReadFault files fault
 refused_file_is_first files i d surfaces (File index fault) l h r = record {
@@ -94,7 +94,7 @@ refused_file_is_first files i d surfaces TooManyTriangles l h r = absurd r
 refused_file_is_first files i d surfaces OutOfMemory l h r = tt
 
 -- files that aren't read are no scene
-pub read_fault_is : (files : List MeshFile) (wanted : Wanted) (fault : BooleanFault) → IsReadFault files fault → IsPlacingFault files wanted fault
+pub read_fault_is : (files : List InputFile) (wanted : Wanted) (fault : BooleanFault) → IsReadFault files fault → IsPlacingFault files wanted fault
 read_fault_is files wanted (File index fault) h = h
 read_fault_is files wanted (Scene fault) h = absurd h
 read_fault_is files wanted (Solid fault) h = absurd h
@@ -104,7 +104,7 @@ read_fault_is files wanted OutOfMemory h = tt
 
 -- ---- the scene
 -- a fault of the scene of the files' surfaces
-pub scene_fault_is : (files : List MeshFile) (wanted : Wanted) (surfaces : List Surface) (cause : SceneFault) →
+pub scene_fault_is : (files : List InputFile) (wanted : Wanted) (surfaces : List Surface) (cause : SceneFault) →
     AreReadings files surfaces → IsSceneFault surfaces wanted cause → IsPlacingFault files wanted (of_scene_fault cause)
 scene_fault_is files wanted surfaces scene_fault.NoTriangles read h =
     record { surfaces = surfaces; read = read; is_fault = h; of_scene = other }
@@ -129,7 +129,7 @@ scene_fault_is files wanted surfaces (scene_fault.TooManyTriangles n) read h =
 scene_fault_is files wanted surfaces scene_fault.OutOfMemory read h = tt
 
 -- files that are no scene have no solid
-pub placing_fault_is : (files : List MeshFile) (formula : Formula) (wanted : WantedFile) (fault : BooleanFault) →
+pub placing_fault_is : (files : List InputFile) (formula : Formula) (wanted : WantedFile) (fault : BooleanFault) →
     IsPlacingFault files wanted.grid fault → IsBooleanFault files formula wanted fault
 placing_fault_is files formula wanted (File index fault) h = h
 placing_fault_is files formula wanted (Scene fault) h = h
@@ -139,7 +139,7 @@ placing_fault_is files formula wanted TooManyTriangles h = absurd h
 placing_fault_is files formula wanted OutOfMemory h = tt
 
 -- ---- the solid and its file
-module _ (files : List MeshFile) (formula : Formula) (wanted : WantedFile) (surfaces : List Surface) (grid : Grid)
+module _ (files : List InputFile) (formula : Formula) (wanted : WantedFile) (surfaces : List Surface) (grid : Grid)
     (are : ArePlaced files wanted.grid surfaces grid) where
   -- a fault of the solid of the files' scene
   pub solid_fault_is : (cause : SolidFault) → IsSolidFault (images_of grid surfaces) formula cause → IsBooleanFault files formula wanted (of_solid_fault cause)

@@ -10,7 +10,7 @@ use Rattle.ember_algebra.proofs.Size.{small_add, small_within}
 use Rattle.ember_algebra.proofs.Sums.{total-filter, total-take_more}
 use Rattle.ember_algebra.proofs.Vectors.{vector, identity, minusE, dotE, crossE}
 use Rattle.ember_model.specs.declared.tri.Tri.{Tri}
-use Rattle.mesh_boolean.specs.Volumes.{six_volumes_of_mesh, six_volumes_of_meshes, six_volumes, six_volumes_for}
+use Rattle.mesh_boolean.specs.Volumes.{sixfold_volume_of_mesh, sixfold_volumes_of_meshes, sixfold_volume, sixfold_volume_for}
 
 -- the constant of the plane through three points is their determinant
 pub constant_is_determinant : (a b c : Vector) → dot (cross (minus_v b a) (minus_v c a)) a ≡ det a b c
@@ -18,16 +18,16 @@ constant_is_determinant =
     identity (vector ∷ vector ∷ vector ∷ []) (λ a b c. dotE (crossE (minusE b a) (minusE c a)) a ≈ dotE a (crossE b c)) cancels
 
 -- the sum over the triangles of a mesh, as one over all triangles
-parts_of_mesh : (m : ℕ) (ts : List Tri) → six_volumes_of_mesh ts m ≡ total (six_volumes_for m) ts
-parts_of_mesh m ts = total-filter six_volumes (λ t. nat_eq t.mesh m) ts
+parts_of_mesh : (m : ℕ) (ts : List Tri) → sixfold_volume_of_mesh ts m ≡ total (sixfold_volume_for m) ts
+parts_of_mesh m ts = total-filter sixfold_volume (λ t. nat_eq t.mesh m) ts
 
 -- the sum with one triangle more
 pub volume_more : (m : ℕ) (ts : List Tri) (i : ℕ) (d : Tri) (sum part : ℤ) → i < length ts →
-    sum ≡ six_volumes_of_mesh (take i ts) m → part ≡ six_volumes_for m (get_or ts i d) →
-    sum +ℤ part ≡ six_volumes_of_mesh (take (i + 1) ts) m
+    sum ≡ sixfold_volume_of_mesh (take i ts) m → part ≡ sixfold_volume_for m (get_or ts i d) →
+    sum +ℤ part ≡ sixfold_volume_of_mesh (take (i + 1) ts) m
 volume_more m ts i d sum part l e f =
     (λ k. (e ∙ parts_of_mesh m (take i ts)) k +ℤ f k)
-    ∙ sym (total-take_more (six_volumes_for m) ts i d l)
+    ∙ sym (total-take_more (sixfold_volume_for m) ts i d l)
     ∙ sym (parts_of_mesh m (take (i + 1) ts))
 
 -- and how large it is at most, for parts of this size
@@ -35,8 +35,8 @@ pub small_more : (size i : ℕ) (sum part : ℤ) → Small (i * size) sum → Sm
 small_more size i sum part p q = small_within (omega arith) (small_add p q)
 
 -- the volumes with that of one mesh more
-pub volumes_more : (ts : List Tri) (n : ℕ) (before : List ℤ) (next : ℤ) → before ≡ six_volumes_of_meshes ts n →
-    next ≡ six_volumes_of_mesh ts (n + 1) → before ++ next ∷ [] ≡ six_volumes_of_meshes ts (n + 1)
+pub volumes_more : (ts : List Tri) (n : ℕ) (before : List ℤ) (next : ℤ) → before ≡ sixfold_volumes_of_meshes ts n →
+    next ≡ sixfold_volume_of_mesh ts (n + 1) → before ++ next ∷ [] ≡ sixfold_volumes_of_meshes ts (n + 1)
 volumes_more ts n before next e f =
     ap₂ (λ (vs : List ℤ) (v : ℤ). vs ++ v ∷ []) e f
-    ∙ sym (map-range_with_len_more (six_volumes_of_mesh ts) 1 n (n + 1) (omega arith))
+    ∙ sym (map-range_with_len_more (sixfold_volume_of_mesh ts) 1 n (n + 1) (omega arith))

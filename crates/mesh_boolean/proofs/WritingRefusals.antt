@@ -9,7 +9,7 @@ use Rattle.mesh_write.specs.declared.text.format.TextFormat.{TextFormat}
 use Rattle.mesh_grid.specs.declared.snap.offsets.Offset.{Offset}
 use Rattle.mesh_grid.specs.declared.snap.steps.GridStep.{GridStep}
 use Rattle.mesh_solid.specs.declared.mesh.mesh.SolidMesh.{SolidMesh}
-use Rattle.mesh_write.specs.declared.stl.triangle.WrittenTriangle.{WrittenTriangle}
+use Rattle.mesh_write.specs.declared.stl.triangle.FloatTriangle.{FloatTriangle}
 use Rattle.mesh_written.specs.declared.fault.PlaceFault.{PlaceFault}
 use Rattle.mesh_written.specs.declared.fault.PlaceFault.TheVariants as place_fault
 use Rattle.mesh_written.specs.Decimals.{IsFarPoint, IsDecimalFault}
@@ -31,14 +31,14 @@ float_fault_is format grid mesh place_fault.TooFar h = inl h
 float_fault_is format grid mesh place_fault.OutOfMemory h = tt
 
 -- too many triangles for a GLB
-pub glb_fault_is : {T : Type 0} (written : List WrittenTriangle) (result : Result T GlbWriteFault)
+pub glb_fault_is : {T : Type 0} (written : List FloatTriangle) (result : Result T GlbWriteFault)
     (cause : GlbWriteFault) → result ≡ Err cause → (result ≡ Err glb_fault.TooManyTriangles → IsTooLong written) →
     IsFloatFileFault Glb written (of_glb_fault cause)
 glb_fault_is written result glb_fault.TooManyTriangles e many = many e
 glb_fault_is written result glb_fault.OutOfMemory e many = tt
 
 -- a fault of the file of the mesh's triangles
-pub file_of_floats_fault_is : (format : FloatFormat) (grid : Grid) (mesh : SolidMesh) (written : List WrittenTriangle)
+pub file_of_floats_fault_is : (format : FloatFormat) (grid : Grid) (mesh : SolidMesh) (written : List FloatTriangle)
     (fault : WritingFault) → AreRounded grid mesh written → IsFloatFileFault format written fault →
     IsWritingFault (Floats format) grid mesh fault
 file_of_floats_fault_is format grid mesh written TooFar rounded h = absurd h

@@ -11,7 +11,7 @@ use Rattle.mesh_boolean.specs.declared.document.DocumentFileFault.TheVariants.{D
 use Rattle.mesh_boolean.specs.declared.document.DocumentFileFault.TheVariants.{TooManyTriangles}
 use Rattle.mesh_boolean.specs.declared.document.DocumentFileFault.TheVariants.{OutOfMemory}
 use Rattle.mesh_boolean.specs.declared.wanted.MeshFormat.{MeshFormat}
-use Rattle.mesh_boolean.specs.declared.writing.Written.{Written}
+use Rattle.mesh_boolean.specs.declared.writing.OutputMesh.{OutputMesh}
 use Rattle.mesh_boolean.specs.declared.writing_fault.WritingFault.{WritingFault}
 use Rattle.mesh_boolean.specs.declared.writing_fault.WritingFault.TheVariants as writing_fault
 use Rattle.mesh_boolean.specs.Outputs.{AreShownIf, IsClosedAs}
@@ -21,7 +21,7 @@ use Rattle.mesh_boolean.specs.WritingFaults.{HasTooMany, LiesTooFar}
 -- there is a mesh of the document; the file is this mesh on the grid, in this format, closed; and the
 -- triangles that are
 -- shown are there if they are asked for
-pub record IsDocumentOutput (bytes : List ℕ) (grid : Grid) (format : MeshFormat) (shows : Bool) (file : Written) :
+pub record IsDocumentOutput (bytes : List ℕ) (grid : Grid) (format : MeshFormat) (shows : Bool) (file : OutputMesh) :
     Type 0 where
   pub mesh : SolidMesh
   pub of_document : IsOutlinedMesh bytes mesh

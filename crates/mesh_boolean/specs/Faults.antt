@@ -19,7 +19,7 @@ use Rattle.mesh_read.specs.declared.surface.surface.Surface.{Surface}
 use Rattle.mesh_boolean.specs.declared.fault.BooleanFault.{BooleanFault}
 use Rattle.mesh_boolean.specs.declared.fault.BooleanFault.TheVariants.{File, Scene, Solid, TooFar}
 use Rattle.mesh_boolean.specs.declared.fault.BooleanFault.TheVariants.{TooManyTriangles, OutOfMemory}
-use Rattle.mesh_boolean.specs.declared.files.MeshFile.{MeshFile}
+use Rattle.mesh_boolean.specs.declared.files.InputFile.{InputFile}
 use Rattle.mesh_boolean.specs.declared.wanted.WantedFile.{WantedFile}
 use Rattle.mesh_boolean.specs.declared.writing_fault.WritingFault.{WritingFault}
 use Rattle.mesh_boolean.specs.declared.writing_fault.WritingFault.TheVariants as writing_fault
@@ -46,13 +46,13 @@ of_writing_fault writing_fault.OutOfMemory = OutOfMemory
 
 -- ---- files
 -- the reading of the file gives this fault, which isn't want of memory; nor is the fault of a reader in it
-pub record HasFault (file : MeshFile) (fault : FileFault) : Type 0 where
+pub record HasFault (file : InputFile) (fault : FileFault) : Type 0 where
   pub gives : reading file ≡ Err (fault_of fault)
   pub plain : is_plain fault ≡ true
   pub of_file : fault ≢ file_fault.OutOfMemory
 
 -- why the file with this index isn't read
-abbrev pub IsRefusal : MeshFile → ℕ → BooleanFault → Type 0
+abbrev pub IsRefusal : InputFile → ℕ → BooleanFault → Type 0
 IsRefusal file index (File i fault) = (i ≡ index) × HasFault file fault
 IsRefusal file index (Scene fault) = ⊥
 IsRefusal file index (Solid fault) = ⊥
@@ -61,15 +61,15 @@ IsRefusal file index TooManyTriangles = ⊥
 IsRefusal file index OutOfMemory = ⊤
 
 -- the file with this index has this fault, and the readings of those before it give surfaces
-pub record IsFirstUnread (files : List MeshFile) (index : ℕ) (fault : FileFault) : Type 0 where
-  pub file : MeshFile
+pub record IsFirstUnread (files : List InputFile) (index : ℕ) (fault : FileFault) : Type 0 where
+  pub file : InputFile
   pub found : slice_get files index ≡ Some file
   pub has : HasFault file fault
   pub surfaces : List Surface
   pub before : AreReadings (take index files) surfaces
 
 -- why files aren't read
-abbrev pub IsReadFault : List MeshFile → BooleanFault → Type 0
+abbrev pub IsReadFault : List InputFile → BooleanFault → Type 0
 IsReadFault files (File index fault) = IsFirstUnread files index fault
 IsReadFault files (Scene fault) = ⊥
 IsReadFault files (Solid fault) = ⊥
@@ -79,14 +79,14 @@ IsReadFault files OutOfMemory = ⊤
 
 -- ---- the scene
 -- the readings of the files give surfaces that are no scene, and not for want of memory
-pub record AreNoScene (files : List MeshFile) (wanted : Wanted) (fault : SceneFault) : Type 0 where
+pub record AreNoScene (files : List InputFile) (wanted : Wanted) (fault : SceneFault) : Type 0 where
   pub surfaces : List Surface
   pub read : AreReadings files surfaces
   pub is_fault : IsSceneFault surfaces wanted fault
   pub of_scene : fault ≢ scene_fault.OutOfMemory
 
 -- why files are no scene
-abbrev pub IsPlacingFault : List MeshFile → Wanted → BooleanFault → Type 0
+abbrev pub IsPlacingFault : List InputFile → Wanted → BooleanFault → Type 0
 IsPlacingFault files wanted (File index fault) = IsFirstUnread files index fault
 IsPlacingFault files wanted (Scene fault) = AreNoScene files wanted fault
 IsPlacingFault files wanted (Solid fault) = ⊥
@@ -96,7 +96,7 @@ IsPlacingFault files wanted OutOfMemory = ⊤
 
 -- ---- the solid
 -- the surfaces of the files are a scene, but its solid has no mesh, and not for want of memory
-pub record HasNoMesh (files : List MeshFile) (formula : Formula) (wanted : Wanted) (fault : SolidFault) : Type 0 where
+pub record HasNoMesh (files : List InputFile) (formula : Formula) (wanted : Wanted) (fault : SolidFault) : Type 0 where
   pub surfaces : List Surface
   pub grid : Grid
   pub are_placed : ArePlaced files wanted surfaces grid
@@ -105,7 +105,7 @@ pub record HasNoMesh (files : List MeshFile) (formula : Formula) (wanted : Wante
 
 -- ---- the file
 -- the surfaces of the files are a scene, its solid has a mesh, and the mesh has this fault
-pub record HasUnwritten (files : List MeshFile) (formula : Formula) (wanted : Wanted)
+pub record HasUnwritten (files : List InputFile) (formula : Formula) (wanted : Wanted)
     (IsFault : Grid → SolidMesh → Type 0) : Type 0 where
   pub surfaces : List Surface
   pub grid : Grid
@@ -117,7 +117,7 @@ pub record HasUnwritten (files : List MeshFile) (formula : Formula) (wanted : Wa
 -- ---- all of them
 -- the first file that isn't read, no scene, no mesh, or a mesh that isn't written; or want of memory, of which nothing
 -- is said
-abbrev pub IsBooleanFault : List MeshFile → Formula → WantedFile → BooleanFault → Type 0
+abbrev pub IsBooleanFault : List InputFile → Formula → WantedFile → BooleanFault → Type 0
 IsBooleanFault files formula wanted (File index fault) = IsFirstUnread files index fault
 IsBooleanFault files formula wanted (Scene fault) = AreNoScene files wanted.grid fault
 IsBooleanFault files formula wanted (Solid fault) = HasNoMesh files formula wanted.grid fault

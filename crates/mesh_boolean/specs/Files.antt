@@ -11,14 +11,14 @@ use Rattle.mesh_scene.specs.Scene.Faults.{IsSceneGrid}
 use Rattle.mesh_scene.specs.Scene.Images.{images_of, counts_on}
 use Rattle.mesh_read.specs.declared.surface.surface.Surface.{Surface}
 use Rattle.mesh_read.specs.Surface.Surfaces.{Content, content_of}
-use Rattle.mesh_boolean.specs.declared.files.MeshFile.{MeshFile}
+use Rattle.mesh_boolean.specs.declared.files.InputFile.{InputFile}
 
 -- at most 2^28 bytes
-abbrev pub IsSmall : MeshFile → Type 0
+abbrev pub IsSmall : InputFile → Type 0
 IsSmall file = length file.bytes.now ≤ 268435456
 
 -- what a file says, or its first fault
-abbrev pub reading : MeshFile → Result Content Fault
+abbrev pub reading : InputFile → Result Content Fault
 reading file = reading_of file.name.now file.bytes.now
 
 -- what a surface says, as a reading
@@ -26,17 +26,17 @@ abbrev pub held : Surface → Result Content Fault
 held surface = Ok (content_of surface)
 
 -- the readings of the files give these surfaces, in order
-abbrev pub AreReadings : List MeshFile → List Surface → Type 0
+abbrev pub AreReadings : List InputFile → List Surface → Type 0
 AreReadings files surfaces = map reading files ≡ map held surfaces
 
 -- the readings of the files give these surfaces, this is the grid that is wanted for them, and there they are a scene
-pub record ArePlaced (files : List MeshFile) (wanted : Wanted) (surfaces : List Surface) (grid : Grid) : Type 0 where
+pub record ArePlaced (files : List InputFile) (wanted : Wanted) (surfaces : List Surface) (grid : Grid) : Type 0 where
   pub read : AreReadings files surfaces
   pub on_grid : IsSceneGrid surfaces wanted grid
   pub scene : IsScene (images_of grid surfaces) (length surfaces)
 
 -- the triangles, counts and moves of such surfaces, each of which is a mesh
-pub record IsPlaced (files : List MeshFile) (wanted : Wanted) (placed : PlacedScene) : Type 0 where
+pub record IsPlaced (files : List InputFile) (wanted : Wanted) (placed : PlacedScene) : Type 0 where
   pub surfaces : List Surface
   pub are_placed : ArePlaced files wanted surfaces placed.grid
   pub tris : placed.scene.tris ≡ images_of placed.grid surfaces

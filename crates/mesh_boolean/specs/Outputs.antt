@@ -19,7 +19,7 @@ use Rattle.mesh_scene.specs.Scene.Images.{images_of, counts_on}
 use Rattle.mesh_solid.specs.declared.mesh.mesh.SolidMesh.{SolidMesh}
 use Rattle.mesh_solid.specs.Mesh.Asked.{IsThereIf}
 use Rattle.mesh_solid.specs.Mesh.Meshes.{IsSolidMesh}
-use Rattle.mesh_write.specs.declared.stl.triangle.WrittenTriangle.{WrittenTriangle}
+use Rattle.mesh_write.specs.declared.stl.triangle.FloatTriangle.{FloatTriangle}
 use Rattle.mesh_write.specs.Stl.ReadBack as stl
 use Rattle.mesh_write.specs.Stl.Written.{stl_bytes_of}
 use Rattle.mesh_read.specs.declared.surface.surface.Surface.{Surface}
@@ -31,7 +31,7 @@ use Rattle.mesh_written.specs.Triangles.{AreWritten}
 use Rattle.mesh_written.specs.Closed.{AreWrittenClosed, AreDecimalsClosed, AreIndicesClosed}
 use Rattle.mesh_written.specs.Shared.{IsSharedCount, IsSharedIndexCount}
 use Rattle.mesh_boolean.specs.declared.effect.RoundingEffect.{RoundingEffect}
-use Rattle.mesh_boolean.specs.declared.files.MeshFile.{MeshFile}
+use Rattle.mesh_boolean.specs.declared.files.InputFile.{InputFile}
 use Rattle.mesh_boolean.specs.declared.wanted.FloatFormat.{FloatFormat}
 use Rattle.mesh_boolean.specs.declared.wanted.FloatFormat.TheVariants.{Stl, Glb}
 use Rattle.mesh_boolean.specs.declared.wanted.MeshFormat.{MeshFormat}
@@ -39,10 +39,10 @@ use Rattle.mesh_boolean.specs.declared.wanted.MeshFormat.TheVariants.{Floats, Te
 use Rattle.mesh_boolean.specs.declared.wanted.WantedFile.{WantedFile}
 use Rattle.mesh_boolean.specs.declared.output.KeptDocument.{KeptDocument}
 use Rattle.mesh_boolean.specs.declared.output.SolidFile.{SolidFile}
-use Rattle.mesh_boolean.specs.declared.writing.Written.{Written}
+use Rattle.mesh_boolean.specs.declared.writing.OutputMesh.{OutputMesh}
 use Rattle.mesh_boolean.specs.Effects.{IsDecimalEffect, IsFloatEffect, decimals_of, over_vertices}
 use Rattle.mesh_boolean.specs.Files.{ArePlaced}
-use Rattle.mesh_boolean.specs.Volumes.{six_volumes_of_meshes}
+use Rattle.mesh_boolean.specs.Volumes.{sixfold_volumes_of_meshes}
 
 -- ---- formats
 -- at most 17 decimal places are asked for
@@ -52,30 +52,30 @@ HasFewDigits (Text format digits) = IfSome digits (λ n. n ≤ 17)
 
 -- ---- STL and GLB
 -- the bytes are the STL of the triangles, which reading them gives again
-pub record IsStlFile (written : List WrittenTriangle) (bytes : List ℕ) : Type 0 where
+pub record IsStlFile (written : List FloatTriangle) (bytes : List ℕ) : Type 0 where
   pub is : bytes ≡ stl_bytes_of written
   pub read_back : stl.IsReadBack written bytes
 
 -- or the GLB; without triangles it has no mesh that could be read
-pub record IsGlbFile (written : List WrittenTriangle) (bytes : List ℕ) : Type 0 where
+pub record IsGlbFile (written : List FloatTriangle) (bytes : List ℕ) : Type 0 where
   pub is : IsGlb written bytes
   pub read_back : 0 < length written → glb.IsReadBack written bytes
 
-abbrev pub IsFloatFile : FloatFormat → List WrittenTriangle → List ℕ → Type 0
+abbrev pub IsFloatFile : FloatFormat → List FloatTriangle → List ℕ → Type 0
 IsFloatFile Stl written bytes = IsStlFile written bytes
 IsFloatFile Glb written bytes = IsGlbFile written bytes
 
 -- the triangles of a mesh on the grid, in the user's unit and rounded
-abbrev pub AreRounded : Grid → SolidMesh → List WrittenTriangle → Type 0
+abbrev pub AreRounded : Grid → SolidMesh → List FloatTriangle → Type 0
 AreRounded grid mesh written =
     AreWritten grid.step grid.offset mesh.planes.items mesh.corners.items mesh.triangles.items written
 
 -- they are there exactly if they are asked for
-abbrev pub AreShownIf : Bool → Grid → SolidMesh → Option (Vec WrittenTriangle) → Type 0
+abbrev pub AreShownIf : Bool → Grid → SolidMesh → Option (Vec FloatTriangle) → Type 0
 AreShownIf shows grid mesh shown = IsThereIf shows (λ written. AreRounded grid mesh written.items) shown
 
 -- the triangles of the mesh, rounded, and what rounding did to it
-pub record AreRoundedWith (grid : Grid) (mesh : SolidMesh) (written : List WrittenTriangle) (effect : RoundingEffect) :
+pub record AreRoundedWith (grid : Grid) (mesh : SolidMesh) (written : List FloatTriangle) (effect : RoundingEffect) :
     Type 0 where
   pub rounded : AreRounded grid mesh written
   pub is_effect : IsFloatEffect grid mesh rounded.points effect
@@ -83,8 +83,8 @@ pub record AreRoundedWith (grid : Grid) (mesh : SolidMesh) (written : List Writt
 -- the bytes are the file of the mesh's rounded triangles, which are also those that are shown, if any are; there are none
 -- only if the mesh has none. The numbers are those of the mesh, of what rounding did to it, of its triangles that aren't
 -- written, and of the edges of more than two written triangles, if these are closed
-pub record IsOfFloats (format : FloatFormat) (grid : Grid) (mesh : SolidMesh) (file : Written) : Type 0 where
-  pub written : List WrittenTriangle
+pub record IsOfFloats (format : FloatFormat) (grid : Grid) (mesh : SolidMesh) (file : OutputMesh) : Type 0 where
+  pub written : List FloatTriangle
   pub rounded : AreRoundedWith grid mesh written file.effect
   pub bytes : IsFloatFile format written file.bytes.items
   pub shown : IfSome file.shown (λ shown. shown.items ≡ written)
@@ -115,7 +115,7 @@ pub record IsTextOver (format : TextFormat) (places : ℕ) (ts : List DecimalTri
 -- the bytes are the text of the mesh's rounded triangles; the numbers are those of the mesh, of what rounding did to it,
 -- of its triangles that aren't written, and, if the others are closed, of their edges of more than two, where each point
 -- is one vertex
-pub record IsText (format : TextFormat) (digits : Option ℕ) (grid : Grid) (mesh : SolidMesh) (file : Written) :
+pub record IsText (format : TextFormat) (digits : Option ℕ) (grid : Grid) (mesh : SolidMesh) (file : OutputMesh) :
     Type 0 where
   pub bytes : IsTextOver format (written_places digits grid.step) (decimals_of digits grid mesh) file.bytes.items
       file.written file.is_manifold
@@ -128,26 +128,26 @@ pub record IsText (format : TextFormat) (digits : Option ℕ) (grid : Grid) (mes
       IsSharedIndexCount (over_vertices (decimals_of digits grid mesh)) file.shared
 
 -- ---- any format
-abbrev pub IsWritten : MeshFormat → Grid → SolidMesh → Written → Type 0
+abbrev pub IsWritten : MeshFormat → Grid → SolidMesh → OutputMesh → Type 0
 IsWritten (Floats format) grid mesh file = IsOfFloats format grid mesh file
 IsWritten (Text format digits) grid mesh file = IsText format digits grid mesh file
 
 -- ---- closed
 -- the triangles of the STL or the GLB are closed, and so many edges belong to more than two of them
-pub record IsClosedOfFloats (format : FloatFormat) (grid : Grid) (mesh : SolidMesh) (file : Written) : Type 0 where
+pub record IsClosedOfFloats (format : FloatFormat) (grid : Grid) (mesh : SolidMesh) (file : OutputMesh) : Type 0 where
   pub floats : IsOfFloats format grid mesh file
   pub closed : AreWrittenClosed floats.written
   pub shared : IsSharedCount floats.written file.shared
 
 -- the same of a text before any of its triangles are cut; if some are, each of its edges has two (`IsTextOver`)
-pub record IsClosedText (format : TextFormat) (digits : Option ℕ) (grid : Grid) (mesh : SolidMesh) (file : Written) :
+pub record IsClosedText (format : TextFormat) (digits : Option ℕ) (grid : Grid) (mesh : SolidMesh) (file : OutputMesh) :
     Type 0 where
   pub text : IsText format digits grid mesh file
   pub closed : AreDecimalsClosed (decimals_of digits grid mesh)
   pub shared : IsSharedIndexCount (over_vertices (decimals_of digits grid mesh)) file.shared
 
 -- the file has this format, and its triangles are closed
-abbrev pub IsClosedAs : MeshFormat → Grid → SolidMesh → Written → Type 0
+abbrev pub IsClosedAs : MeshFormat → Grid → SolidMesh → OutputMesh → Type 0
 IsClosedAs (Floats format) grid mesh file = IsClosedOfFloats format grid mesh file
 IsClosedAs (Text format digits) grid mesh file = IsClosedText format digits grid mesh file
 
@@ -161,12 +161,13 @@ pub record AreKept (images : List Tri) (bytes : List ℕ) (kept : KeptDocument) 
 -- of their triangles, with this report of the run; the file is this mesh in the wanted format, closed;
 -- and the triangles
 -- that are shown, and the scene and the document of the solid, are there if they are wanted
-pub record IsOutput (files : List MeshFile) (formula : Formula) (wanted : WantedFile) (out : SolidFile) : Type 0 where
+pub record IsOutput (files : List InputFile) (formula : Formula) (wanted : WantedFile) (out : SolidFile) : Type 0 where
   pub surfaces : List Surface
   pub are_placed : ArePlaced files wanted.grid surfaces out.grid
   pub counts : out.counts.items ≡ map (counts_on out.grid) surfaces
   pub moves : AreMoves out.grid surfaces out.moves.items
-  pub six_volumes : out.six_volumes.items ≡ six_volumes_of_meshes (images_of out.grid surfaces) (length surfaces)
+  pub sixfold_volumes : out.sixfold_volumes.items
+      ≡ sixfold_volumes_of_meshes (images_of out.grid surfaces) (length surfaces)
   pub mesh : SolidMesh
   pub solid : IsSolidMesh (images_of out.grid surfaces) formula mesh
   pub report : IsSolidReport (images_of out.grid surfaces) formula out.report

@@ -8,7 +8,7 @@ use Rattle.mesh_grid.specs.declared.grid.grid.Grid.{Grid}
 use Rattle.mesh_solid.specs.declared.mesh.mesh.SolidMesh.{SolidMesh}
 use Rattle.mesh_write.specs.declared.stl.fault.StlWriteFault.{StlWriteFault}
 use Rattle.mesh_write.specs.declared.stl.fault.StlWriteFault.TheVariants as stl_fault
-use Rattle.mesh_write.specs.declared.stl.triangle.WrittenTriangle.{WrittenTriangle}
+use Rattle.mesh_write.specs.declared.stl.triangle.FloatTriangle.{FloatTriangle}
 use Rattle.mesh_written.specs.declared.fault.PlaceFault.{PlaceFault}
 use Rattle.mesh_written.specs.declared.fault.PlaceFault.TheVariants as place_fault
 use Rattle.mesh_written.specs.Decimals.{IsFarPoint}
@@ -47,19 +47,19 @@ LiesTooFar (Floats format) grid mesh =
 LiesTooFar (Text format digits) grid mesh = Any (IsFarPoint grid.step grid.offset) mesh.corners.items
 
 -- there are too many triangles for an STL, or their GLB is too long
-abbrev pub AreTooMany : FloatFormat → List WrittenTriangle → Type 0
+abbrev pub AreTooMany : FloatFormat → List FloatTriangle → Type 0
 AreTooMany Stl written = 2 ^ 32 ≤ length written
 AreTooMany Glb written = IsTooLong written
 
 -- why triangles have no file
-abbrev pub IsFloatFileFault : FloatFormat → List WrittenTriangle → WritingFault → Type 0
+abbrev pub IsFloatFileFault : FloatFormat → List FloatTriangle → WritingFault → Type 0
 IsFloatFileFault format written TooFar = ⊥
 IsFloatFileFault format written TooManyTriangles = AreTooMany format written
 IsFloatFileFault format written OutOfMemory = ⊤
 
 -- too many triangles are left
 pub record HasTooManyFor (format : FloatFormat) (grid : Grid) (mesh : SolidMesh) : Type 0 where
-  pub written : List WrittenTriangle
+  pub written : List FloatTriangle
   pub rounded : AreRounded grid mesh written
   pub many : AreTooMany format written
 

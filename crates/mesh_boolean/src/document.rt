@@ -7,7 +7,7 @@ ghost use Rattle.mesh_boolean.specs.Outputs.{HasFewDigits};
 ghost use Rattle.mesh_triangles.specs.PlaneQueries.{IsPlaneAnswer, IsPlaneQuery};
 
 use crate::wanted::MeshFormat;
-use crate::writing::{Written, written_of};
+use crate::writing::{OutputMesh, written_of};
 use crate::writing_fault::WritingFault;
 use mesh_grid::Grid;
 use mesh_solid::{DocumentFault, document_mesh};
@@ -70,7 +70,7 @@ pub fn document_file(
     grid: Grid,
     format: MeshFormat,
     shows: bool,
-) -> Result<Written, DocumentFileFault>
+) -> Result<OutputMesh, DocumentFileFault>
     requires step { IsStep grid.step }
     requires digits { HasFewDigits format }
     ensures output { IfOk result (IsDocumentOutput bytes.now grid format shows) }

@@ -12,7 +12,7 @@ use std::alloc::Global;
 
 /// A mesh file. The name may say which format it has.
 #[derive(Clone, Copy)]
-pub struct MeshFile<'a> {
+pub struct InputFile<'a> {
     pub name: &'a [u8],
     pub bytes: &'a [u8],
 }
@@ -30,7 +30,7 @@ fn file_fault<'a>(index: u32, fault: FileFault<'a>) -> BooleanFault<'a>
 // The surface of the file with this index.
 fn surface_in<'a>(
     alloc: Global,
-    file: &MeshFile<'a>,
+    file: &InputFile<'a>,
     index: u32,
 ) -> Result<Surface<'a>, BooleanFault<'a>>
     requires { IsSmall file.now }
@@ -48,7 +48,7 @@ fn surface_in<'a>(
 /// told before each of them.
 pub fn surfaces_in<'a, P: Stages>(
     alloc: Global,
-    files: &[MeshFile<'a>],
+    files: &[InputFile<'a>],
     stages: &P,
 ) -> Result<Vec<Surface<'a>>, BooleanFault<'a>>
     requires few { length files.now ≤ 64 }

@@ -9,11 +9,11 @@ ghost use Rattle.mesh_boolean.specs.WritingFaults.{IsFloatFileFault, IsWritingFa
 
 use crate::rounding::{RoundedMesh, rounded_with_effect};
 use crate::wanted::FloatFormat;
-use crate::writing::Written;
+use crate::writing::OutputMesh;
 use crate::writing_fault::WritingFault;
 use mesh_grid::Grid;
 use mesh_solid::SolidMesh;
-use mesh_write::{WrittenTriangle, glb_bytes, stl_bytes};
+use mesh_write::{FloatTriangle, glb_bytes, stl_bytes};
 use mesh_written::shared_edges;
 use std::alloc::Global;
 
@@ -21,7 +21,7 @@ use std::alloc::Global;
 fn float_bytes(
     alloc: Global,
     format: FloatFormat,
-    triangles: &[WrittenTriangle],
+    triangles: &[FloatTriangle],
 ) -> Result<Vec<u8>, WritingFault>
     ensures file { IfOk result (λ bytes. IsFloatFile format triangles.now bytes.items) }
     ensures fault { IfErr result (IsFloatFileFault format triangles.now) }
@@ -39,7 +39,7 @@ fn float_bytes(
 }
 
 // Whether a mesh has triangles, but none of them is left.
-fn is_rounded_away(mesh: &SolidMesh, written: &[WrittenTriangle]) -> bool
+fn is_rounded_away(mesh: &SolidMesh, written: &[FloatTriangle]) -> bool
     ensures lost { result ≡ true → (0 < length mesh.now.triangles.items) × (written.now ≡ []) }
     ensures kept { result ≡ false → length written.now ≡ 0 → length mesh.now.triangles.items ≡ 0 }
 {
@@ -53,7 +53,7 @@ pub(crate) fn float_file(
     grid: &Grid,
     format: FloatFormat,
     shows: bool,
-) -> Result<Written, WritingFault>
+) -> Result<OutputMesh, WritingFault>
     requires step { IsStep grid.now.step }
     requires proper { All (IsProper mesh.planes.items mesh.corners.items) mesh.triangles.items }
     requires valid { All IsValidPlane mesh.planes.items }
@@ -76,7 +76,7 @@ pub(crate) fn float_file(
     drop(mesh);
     let shared = shared_edges(alloc, &written)?;
     let bytes = float_bytes(alloc, format, &written)?;
-    Ok(Written {
+    Ok(OutputMesh {
         bytes,
         faces,
         planes,

@@ -11,7 +11,7 @@ ghost use Rattle.mesh_scene.specs.Scene.Images.{images_of};
 ghost use Rattle.mesh_solid.specs.Mesh.MeshFaces.{faces_of_mesh};
 ghost use Rattle.mesh_read.specs.declared.surface.surface.Surface.{Surface};
 ghost use Rattle.mesh_boolean.specs.declared.fault.BooleanFault.TheVariants.{Scene};
-ghost use Rattle.mesh_boolean.specs.declared.files.MeshFile.{MeshFile};
+ghost use Rattle.mesh_boolean.specs.declared.files.InputFile.{InputFile};
 ghost use Rattle.mesh_boolean.specs.declared.wanted.WantedFile.{WantedFile};
 ghost use Rattle.mesh_boolean.specs.declared.output.SolidFile.{SolidFile};
 ghost use Rattle.mesh_boolean.specs.Files.{AreReadings};
@@ -25,10 +25,10 @@ use mesh_scene::closed_surfaces_are_never_open;
 /// output cut up, before these are rounded, wind once where it is true of the files' triangles on
 /// the grid, and not at all elsewhere, and they are a closed surface.
 pub fn faces_of_outputs_have_the_meaning()
-    ensures means { (files : List MeshFile) (formula : Formula) (wanted : WantedFile) (out : SolidFile) →
+    ensures means { (files : List InputFile) (formula : Formula) (wanted : WantedFile) (out : SolidFile) →
         IsFalseOutside formula → (is : IsOutput files formula wanted out) →
         HaveMeaning (images_of out.grid is.surfaces) formula is.solid.of_document.tables_are.faces }
-    ensures closed { (files : List MeshFile) (formula : Formula) (wanted : WantedFile) (out : SolidFile) →
+    ensures closed { (files : List InputFile) (formula : Formula) (wanted : WantedFile) (out : SolidFile) →
         IsFalseOutside formula → (is : IsOutput files formula wanted out) →
         IsClosedSurface is.solid.of_document.tables_are.read.written }
 {}
@@ -38,10 +38,10 @@ pub fn faces_of_outputs_have_the_meaning()
 /// elsewhere. Around each point that is clear of the output's triangles alone, they wind once or not
 /// at all.
 pub fn triangles_of_outputs_have_the_meaning()
-    ensures means { (files : List MeshFile) (formula : Formula) (wanted : WantedFile) (out : SolidFile) →
+    ensures means { (files : List InputFile) (formula : Formula) (wanted : WantedFile) (out : SolidFile) →
         IsFalseOutside formula → (is : IsOutput files formula wanted out) →
         HaveMeaning (images_of out.grid is.surfaces) formula (faces_of_mesh is.mesh) }
-    ensures once { (files : List MeshFile) (formula : Formula) (wanted : WantedFile) (out : SolidFile) →
+    ensures once { (files : List InputFile) (formula : Formula) (wanted : WantedFile) (out : SolidFile) →
         IsFalseOutside formula → (is : IsOutput files formula wanted out) → WindOnceAtMost (faces_of_mesh is.mesh) }
 {}
 
@@ -52,10 +52,10 @@ pub fn triangles_of_outputs_have_the_meaning()
 /// triangles wind once where the expression is true of the winding numbers of the surfaces, and not
 /// at all elsewhere. With the winding numbers of the triangles on the grid this holds of all files.
 pub fn written_files_have_the_meaning()
-    ensures files { (files : List MeshFile) (formula : Formula) (wanted : WantedFile) (out : SolidFile) →
+    ensures files { (files : List InputFile) (formula : Formula) (wanted : WantedFile) (out : SolidFile) →
         IsFalseOutside formula → (is : IsOutput files formula wanted out) →
         MeansOutsideMoves files formula wanted out is }
-    ensures grid { (files : List MeshFile) (formula : Formula) (wanted : WantedFile) (out : SolidFile) →
+    ensures grid { (files : List InputFile) (formula : Formula) (wanted : WantedFile) (out : SolidFile) →
         IsFalseOutside formula → (is : IsOutput files formula wanted out) →
         MeansOutsideRounding files formula wanted out is }
 {}
@@ -63,7 +63,7 @@ pub fn written_files_have_the_meaning()
 /// Files whose surfaces are closed by the exact positions of their corners are never refused as
 /// open.
 pub fn closed_files_are_never_open()
-    ensures { (files : List MeshFile) (formula : Formula) (wanted : WantedFile) (o : Open) →
+    ensures { (files : List InputFile) (formula : Formula) (wanted : WantedFile) (o : Open) →
         ((surfaces : List Surface) → AreReadings files surfaces → All IsSurfaceClosed surfaces) →
         IsBooleanFault files formula wanted (Scene (scene_fault.Open o)) → ⊥ }
 {

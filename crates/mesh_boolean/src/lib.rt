@@ -22,7 +22,7 @@ mod writing_fault;
 pub use document::{DocumentFileFault, document_file};
 pub use effect::{RoundingEffect, decimal_effect};
 pub use fault::BooleanFault;
-pub use files::{MeshFile, surfaces_in};
+pub use files::{InputFile, surfaces_in};
 pub use laws::{
     closed_files_are_never_open, faces_of_outputs_have_the_meaning,
     triangles_of_outputs_have_the_meaning, written_files_have_the_meaning,
@@ -32,7 +32,7 @@ pub use placing::placed_files;
 pub use rounding::decimals;
 pub use solid::solid_file;
 pub use split::{SplitDecimals, split_decimals};
-pub use volumes::six_volumes_of_meshes;
+pub use volumes::sixfold_volumes_of_meshes;
 pub use wanted::{FloatFormat, MeshFormat, WantedFile};
-pub use writing::Written;
+pub use writing::OutputMesh;
 pub use writing_fault::WritingFault;

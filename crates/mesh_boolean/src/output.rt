@@ -1,5 +1,5 @@
 // The output for mesh files.
-use crate::writing::Written;
+use crate::writing::OutputMesh;
 use ember_model::Scene;
 use ember_report::Report;
 use mesh_grid::{Grid, Length};
@@ -8,7 +8,7 @@ use mesh_scene::Counts;
 /// A solid as a file, with the grid and the numbers of the run that made it.
 #[derive(Drop)]
 pub struct SolidFile {
-    pub written: Written,
+    pub written: OutputMesh,
     /// The grid on which the mesh is exact.
     pub grid: Grid,
     /// The counts of each file, in order.
@@ -16,7 +16,7 @@ pub struct SolidFile {
     /// How far a corner of each file moved to the grid at most, in order.
     pub moves: Vec<Length>,
     /// Six times the signed volume of each file's mesh on the grid, in cubes of the step, in order.
-    pub six_volumes: Vec<i64>,
+    pub sixfold_volumes: Vec<i64>,
     pub report: Report,
     /// What was computed from, and the exact result, if they were to be kept.
     pub kept: Option<KeptDocument>,

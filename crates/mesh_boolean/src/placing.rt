@@ -5,7 +5,7 @@ ghost use Rattle.mesh_boolean.specs.Files.{IsSmall, IsPlaced};
 ghost use Rattle.mesh_boolean.specs.Faults.{IsPlacingFault};
 
 use crate::fault::BooleanFault;
-use crate::files::{MeshFile, surfaces_in};
+use crate::files::{InputFile, surfaces_in};
 use mesh_grid::Wanted;
 use mesh_outside::{Stage, Stages};
 use mesh_scene::{PlacedScene, scene_of};
@@ -21,7 +21,7 @@ use std::alloc::Global;
 /// 2. The surfaces are no scene: see [`scene_of`](mesh_scene::scene_of).
 pub fn placed_files<'a, P: Stages>(
     alloc: Global,
-    files: &[MeshFile<'a>],
+    files: &[InputFile<'a>],
     wanted: Wanted,
     stages: &P,
 ) -> Result<PlacedScene, BooleanFault<'a>>

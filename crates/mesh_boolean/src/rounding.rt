@@ -13,7 +13,7 @@ ghost use Rattle.mesh_boolean.specs.Outputs.{AreRounded, AreRoundedWith, AreShow
 use crate::effect::{RoundingEffect, float_effect};
 use mesh_grid::Grid;
 use mesh_solid::SolidMesh;
-use mesh_write::WrittenTriangle;
+use mesh_write::FloatTriangle;
 use mesh_written::{
     DecimalMesh, PlaceFault, decimal_mesh, float_points, float_triangles, triangles_over,
     written_places,
@@ -25,7 +25,7 @@ pub(crate) fn rounded(
     alloc: Global,
     mesh: &SolidMesh,
     grid: &Grid,
-) -> Result<Vec<WrittenTriangle>, PlaceFault>
+) -> Result<Vec<FloatTriangle>, PlaceFault>
     requires step { IsStep grid.now.step }
     requires proper { All (IsProper mesh.now.planes.items mesh.now.corners.items) mesh.now.triangles.items }
     ensures rounded { IfOk result (λ written. AreRounded grid.now mesh.now written.items) }
@@ -44,7 +44,7 @@ pub(crate) fn rounded(
 // The written triangles of a mesh, and what rounding did to it.
 #[derive(Drop)]
 pub(crate) struct RoundedMesh {
-    pub(crate) triangles: Vec<WrittenTriangle>,
+    pub(crate) triangles: Vec<FloatTriangle>,
     pub(crate) effect: RoundingEffect,
 }
 
@@ -72,7 +72,7 @@ pub(crate) fn shown_if(
     shows: bool,
     mesh: &SolidMesh,
     grid: &Grid,
-) -> Result<Option<Vec<WrittenTriangle>>, PlaceFault>
+) -> Result<Option<Vec<FloatTriangle>>, PlaceFault>
     requires step { IsStep grid.now.step }
     requires proper { All (IsProper mesh.now.planes.items mesh.now.corners.items) mesh.now.triangles.items }
     ensures shown { IfOk result (AreShownIf shows grid.now mesh.now) }

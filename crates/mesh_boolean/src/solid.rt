@@ -10,17 +10,17 @@ ghost use Rattle.mesh_boolean.specs.Faults.{IsBooleanFault};
 ghost use Rattle.mesh_triangles.specs.PlaneQueries.{IsPlaneExecutor};
 
 use crate::fault::BooleanFault;
-use crate::files::MeshFile;
+use crate::files::InputFile;
 use crate::output::{KeptDocument, SolidFile};
 use crate::placing::placed_files;
-use crate::volumes::six_volumes_of_meshes;
+use crate::volumes::sixfold_volumes_of_meshes;
 use crate::wanted::WantedFile;
 use crate::writing::written_of;
 use ember_expr::Expr;
 use ember_model::{OutOfMemory, Scene};
 use ember_query::{Answer, Query};
 use mesh_outside::{Stage, Stages};
-use mesh_solid::{MeshedSolid, solid_mesh};
+use mesh_solid::{SolidRun, solid_mesh};
 use mesh_triangles::{PlaneAnswer, PlaneQuery, TrianglesFault};
 use std::alloc::Global;
 
@@ -56,7 +56,7 @@ pub fn solid_file<
     D: Fn(&PlaneQuery) -> Result<PlaneAnswer, TrianglesFault>,
 >(
     alloc: Global,
-    files: &[MeshFile<'a>],
+    files: &[InputFile<'a>],
     expr: &Expr,
     wanted: WantedFile,
     stages: &P,
@@ -73,8 +73,8 @@ pub fn solid_file<
     ensures fault { IfErr result (IsBooleanFault files.now (formula_of expr.now) wanted) }
 {
     let placed = placed_files(alloc, files, wanted.grid, stages)?;
-    let six_volumes = six_volumes_of_meshes(alloc, &placed.scene)?;
-    let MeshedSolid {
+    let sixfold_volumes = sixfold_volumes_of_meshes(alloc, &placed.scene)?;
+    let SolidRun {
         mesh,
         report,
         document,
@@ -94,7 +94,7 @@ pub fn solid_file<
         grid: placed.grid,
         counts: placed.counts,
         moves: placed.moves,
-        six_volumes,
+        sixfold_volumes,
         report,
         kept,
     })

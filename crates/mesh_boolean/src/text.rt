@@ -12,7 +12,7 @@ ghost use Rattle.mesh_boolean.specs.WritingFaults.{IsWritingFault};
 use crate::effect::decimal_effect;
 use crate::rounding::{decimals, shown_if};
 use crate::split::split_decimals;
-use crate::writing::Written;
+use crate::writing::OutputMesh;
 use crate::writing_fault::WritingFault;
 use ember_model::Plane;
 use mesh_grid::Grid;
@@ -58,7 +58,7 @@ pub(crate) fn text_file(
     format: TextFormat,
     digits: Option<u32>,
     shows: bool,
-) -> Result<Written, WritingFault>
+) -> Result<OutputMesh, WritingFault>
     requires step { IsStep grid.now.step }
     requires proper { All (IsProper mesh.planes.items mesh.corners.items) mesh.triangles.items }
     requires valid { All IsValidPlane mesh.planes.items }
@@ -85,7 +85,7 @@ pub(crate) fn text_file(
     let shared = shared_edges_by_index(alloc, indexed)?;
     let places = written_places(digits, &grid.step);
     let text = split_text(alloc, format, &planes, &written, places)?;
-    Ok(Written {
+    Ok(OutputMesh {
         bytes: text.bytes,
         faces,
         planes: plane_count,

@@ -13,12 +13,12 @@ use crate::wanted::MeshFormat;
 use crate::writing_fault::WritingFault;
 use mesh_grid::Grid;
 use mesh_solid::SolidMesh;
-use mesh_write::WrittenTriangle;
+use mesh_write::FloatTriangle;
 use std::alloc::Global;
 
 /// A mesh as a file, with its numbers.
 #[derive(Drop)]
-pub struct Written {
+pub struct OutputMesh {
     /// The bytes of the file: the triangles of the exact mesh in the user's unit, rounded.
     pub bytes: Vec<u8>,
     /// The number of the faces that the triangles of the exact mesh cut up.
@@ -40,7 +40,7 @@ pub struct Written {
     /// What rounding did to the exact mesh.
     pub effect: RoundingEffect,
     /// The triangles as an STL has them, if they were asked for. A page shows them.
-    pub shown: Option<Vec<WrittenTriangle>>,
+    pub shown: Option<Vec<FloatTriangle>>,
 }
 
 // The file of a mesh on a grid. The mesh isn't kept while its bytes are made.
@@ -50,7 +50,7 @@ pub(crate) fn written_of(
     grid: &Grid,
     format: MeshFormat,
     shows: bool,
-) -> Result<Written, WritingFault>
+) -> Result<OutputMesh, WritingFault>
     requires step { IsStep grid.now.step }
     requires proper { All (IsProper mesh.planes.items mesh.corners.items) mesh.triangles.items }
     requires valid { All IsValidPlane mesh.planes.items }

@@ -1,6 +1,6 @@
 pub mod Edges
 pub mod Turns
-pub mod Walls
+pub mod EdgeTriangles
 pub mod Splits
 pub mod Paired
 pub mod Middles

@@ -5,6 +5,8 @@ mod check;
 mod classes;
 mod cut;
 mod edge_set;
+mod edge_triangle;
+mod edge_triangles;
 mod edges;
 mod middles;
 mod pairing;
@@ -12,8 +14,6 @@ mod pinched;
 mod ring;
 mod split;
 mod turns;
-mod wall;
-mod walls;
 
 pub use cut::{CutMesh, cut_pinched};
 pub use split::{CheckedSplit, SplitMesh, points_of, split_vertices};

@@ -1,11 +1,11 @@
-// The walls of an edge, and which of them have solid between them.
+// The triangles at an edge, and which of them have solid between them.
 ghost use Rattle.mesh_manifold.specs.Turns.{IsNormal};
 
 use crate::classes::join;
+use crate::edge_triangle::EdgeTriangle;
+use crate::edge_triangles::insert;
 use crate::edges::HalfEdge;
 use crate::turns::{Normal, normal_of, opposite};
-use crate::wall::EdgeTriangle;
-use crate::walls::insert;
 use ember_model::Plane;
 use mesh_write::DecimalPoint;
 use std::alloc::{AllocError, Global};
@@ -18,8 +18,8 @@ fn facing(normal: Normal, is_back: bool) -> Normal
     if is_back { opposite(&normal) } else { normal }
 }
 
-// The wall of an edge, by the plane of its triangle.
-fn wall_of(planes: &[Plane], numbers: &[u32], edge: &HalfEdge) -> Option<EdgeTriangle> {
+// The triangle of an edge, by its plane.
+fn triangle_of(planes: &[Plane], numbers: &[u32], edge: &HalfEdge) -> Option<EdgeTriangle> {
     let number = *numbers.get(edge.corner / 3)?;
     let normal = normal_of(planes.get(number as usize)?)?;
     Some(EdgeTriangle {
@@ -29,7 +29,7 @@ fn wall_of(planes: &[Plane], numbers: &[u32], edge: &HalfEdge) -> Option<EdgeTri
     })
 }
 
-// The walls of the edges between u and v, counter-clockwise round the edge from u to v. An edge
+// The triangles of the edges between u and v, counter-clockwise round the edge from u to v. An edge
 // without a plane has none.
 fn ring_of(
     alloc: Global,
@@ -39,16 +39,16 @@ fn ring_of(
     v: &DecimalPoint,
     edges: &[HalfEdge],
 ) -> Result<Vec<EdgeTriangle>, AllocError> {
-    let mut walls = Vec::with_capacity(alloc, edges.len())?;
+    let mut triangles = Vec::with_capacity(alloc, edges.len())?;
     let mut first = None;
     for edge in edges {
-        if let Some(wall) = wall_of(planes, numbers, edge) {
-            let begin = first.unwrap_or(wall);
+        if let Some(triangle) = triangle_of(planes, numbers, edge) {
+            let begin = first.unwrap_or(triangle);
             first = Some(begin);
-            insert(u, v, &begin, &mut walls, wall)?;
+            insert(u, v, &begin, &mut triangles, triangle)?;
         }
     }
-    Ok(walls)
+    Ok(triangles)
 }
 
 // The corner at which the edge ends that starts at this corner.
@@ -67,8 +67,8 @@ pub fn join_along(parents: &mut [usize], one: usize, other: usize) {
 }
 
 /// Joins the triangles with edges between u and v between which solid lies. On the way round, solid
-/// follows a wall whose edge leads back and ends at one whose edge leads forward; so these match
-/// like brackets, and the way has no beginning.
+/// follows a triangle whose edge leads back and ends at one whose edge leads forward; so these
+/// match like brackets, and the way has no beginning.
 pub fn join_ring(
     alloc: Global,
     planes: &[Plane],
@@ -78,16 +78,16 @@ pub fn join_ring(
     edges: &[HalfEdge],
     parents: &mut [usize],
 ) -> Result<(), AllocError> {
-    let walls = ring_of(alloc, planes, numbers, u, v, edges)?;
+    let triangles = ring_of(alloc, planes, numbers, u, v, edges)?;
     let mut open = Vec::new(alloc);
     let mut left = Vec::new(alloc);
-    for wall in &walls {
-        if wall.is_back {
-            open.push(wall.corner)?;
+    for triangle in &triangles {
+        if triangle.is_back {
+            open.push(triangle.corner)?;
         } else if let Some(corner) = open.pop() {
-            join_along(parents, wall.corner, corner);
+            join_along(parents, triangle.corner, corner);
         } else {
-            left.push(wall.corner)?;
+            left.push(triangle.corner)?;
         }
     }
     // These come before all brackets that are still open.

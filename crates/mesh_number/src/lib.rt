@@ -1,5 +1,5 @@
-//! Numbers of mesh files: decimals and binary32, exactly; fractions with numerators of up to 256 bits;
-//! the nearest whole number, decimal and binary32.
+//! Numbers of mesh files: decimals, binary32 and binary64, exactly; fractions with numerators of up to
+//! 256 bits; the nearest whole number, decimal and binary32.
 #![tactic(auto)]
 
 mod float;

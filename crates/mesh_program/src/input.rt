@@ -8,7 +8,7 @@ use std::thread;
 
 // Whether a read that ended with this error is tried again: a signal interrupted it, or the device
 // isn't ready yet.
-fn is_passing(error: &Error) -> bool {
+fn is_transient(error: &Error) -> bool {
     matches!(error.kind(), ErrorKind::Interrupted | ErrorKind::WouldBlock)
 }
 
@@ -20,7 +20,7 @@ fn read_some<I: Read>(from: &mut I, buf: &mut [u8]) -> Option<usize>
     for _ in 0..u64::MAX {
         match from.read(buf) {
             Ok(count) => return Some(count),
-            Err(error) if is_passing(&error) => thread::yield_now(),
+            Err(error) if is_transient(&error) => thread::yield_now(),
             Err(_) => break,
         }
     }

@@ -1,6 +1,6 @@
 // The nearest binary32, and the bytes of a binary STL.
 use mesh_number::{Magnitude, Wide, nearest_binary32};
-use mesh_write::{FloatPoint, WrittenTriangle, stl_bytes};
+use mesh_write::{FloatPoint, FloatTriangle, stl_bytes};
 use std::test::Fail;
 
 // 2^128 - 2^103 and more is rounded to infinity.
@@ -59,7 +59,7 @@ fn bytes_of_a_triangle(rt: HostRuntime) -> Result<(), Fail> {
         z: 0,
     };
     let c = FloatPoint { x: 0, y: 0, z: 9 };
-    let Ok(bytes) = stl_bytes(rt.alloc(), &[WrittenTriangle { normal, a, b, c }]) else {
+    let Ok(bytes) = stl_bytes(rt.alloc(), &[FloatTriangle { normal, a, b, c }]) else {
         assert!(rt; false);
         return Ok(());
     };

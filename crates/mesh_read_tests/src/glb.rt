@@ -1,5 +1,5 @@
 // The bytes of a GLB.
-use mesh_write::{FloatPoint, WrittenTriangle, glb_bytes};
+use mesh_write::{FloatPoint, FloatTriangle, glb_bytes};
 use std::test::Fail;
 
 // The JSON of a triangle with the corners (0, 0, 0), (1.5, 0, 0) and (0, 0.1, 0), where 0.1 is the
@@ -22,7 +22,7 @@ fn point(x: u32, y: u32, z: u32) -> FloatPoint {
 
 #[test]
 fn one_triangle(rt: HostRuntime) -> Result<(), Fail> {
-    let triangle = WrittenTriangle {
+    let triangle = FloatTriangle {
         normal: point(0, 0, 0x3f80_0000),
         a: point(0, 0, 0),
         b: point(0x3fc0_0000, 0, 0),

@@ -2,7 +2,7 @@
 use mesh_gltf::{GltfFault, read_gltf};
 use mesh_number::floor_times;
 use mesh_read::{Facet, Surface};
-use mesh_write::{FloatPoint, WrittenTriangle, glb_bytes};
+use mesh_write::{FloatPoint, FloatTriangle, glb_bytes};
 use std::alloc::{AllocError, Global};
 use std::test::Fail;
 
@@ -190,7 +190,7 @@ fn point(x: u32, y: u32, z: u32) -> FloatPoint {
 
 #[test]
 fn a_glb_that_was_written(rt: HostRuntime) -> Result<(), Fail> {
-    let triangle = WrittenTriangle {
+    let triangle = FloatTriangle {
         normal: point(0, 0, 0x3f80_0000),
         a: point(0, 0, 0),
         b: point(0x3fc0_0000, 0, 0),

@@ -3,7 +3,7 @@ use Rattle.std.specs.Prelude.{◌≡◌, ◌⊎◌, ⊤, ℕ, ◌+◌, ◌<◌, 
 use Rattle.std.specs.declared.alloc.Global.{Global}
 use Rattle.mesh_boolean.specs.declared.fault.BooleanFault.{BooleanFault}
 use Rattle.mesh_boolean.specs.declared.fault.BooleanFault.TheVariants as boolean
-use Rattle.mesh_boolean.specs.declared.files.MeshFile.{MeshFile}
+use Rattle.mesh_boolean.specs.declared.files.InputFile.{InputFile}
 use Rattle.mesh_file.specs.declared.file.fault.FileFault.{FileFault}
 use Rattle.mesh_file.specs.File.Faults.{fault_of}
 use Rattle.mesh_file.specs.File.Reasons.{reason_of}
@@ -19,32 +19,32 @@ use Rattle.mesh_refusal.specs.declared.status.Status.TheVariants.{Uncertified}
 
 -- ---- what a fault says of a file
 -- this is why the file with this index is refused for its fault
-pub record HasReason (files : List MeshFile) (index : ℕ) (fault : FileFault) (reason : List ℕ) : Type 0 where
-  pub file : MeshFile
+pub record HasReason (files : List InputFile) (index : ℕ) (fault : FileFault) (reason : List ℕ) : Type 0 where
+  pub file : InputFile
   pub found : slice_get files index ≡ Some file
   pub is : reason ≡ reason_of file.bytes.now (fault_of fault)
 
 -- the file with this index has this format
-pub record HasFormat (files : List MeshFile) (index : ℕ) (format : Format) : Type 0 where
-  pub file : MeshFile
+pub record HasFormat (files : List InputFile) (index : ℕ) (format : Format) : Type 0 where
+  pub file : InputFile
   pub found : slice_get files index ≡ Some file
   pub is : format ≡ format_said file.name.now file.bytes.now
 
 -- the file that the fault names by its index, if it names one, is there
-abbrev pub NamesFile : List MeshFile → BooleanFault → Type 0
+abbrev pub NamesFile : List InputFile → BooleanFault → Type 0
 NamesFile files (boolean.File index fault) = index < length files
 NamesFile files (boolean.Scene (scene.Open o)) = o.file < length files
 NamesFile files fault = ⊤
 
 -- ---- statuses
 -- the reason of the file with this index is made, or there is no memory for it
-abbrev pub IsRefusalStatus : List MeshFile → ℕ → FileFault → Status → Type 0
+abbrev pub IsRefusalStatus : List InputFile → ℕ → FileFault → Status → Type 0
 IsRefusalStatus files index fault status =
     ((reason : String Global) × (status ≡ FileRefused (index + 1) reason) ×
     HasReason files index fault (string_bytes reason)) ⊎ (status ≡ OutOfMemory)
 
 -- the status of files with this fault
-abbrev pub IsStatusOf : List MeshFile → BooleanFault → Status → Type 0
+abbrev pub IsStatusOf : List InputFile → BooleanFault → Status → Type 0
 IsStatusOf files (boolean.File index fault) status = IsRefusalStatus files index fault status
 IsStatusOf files (boolean.Scene scene.NoTriangles) status = status ≡ NoTriangles
 IsStatusOf files (boolean.Scene (scene.StepTooSmall extent)) status = status ≡ StepTooSmall extent

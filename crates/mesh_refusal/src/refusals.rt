@@ -6,13 +6,13 @@ ghost use Rattle.mesh_file.specs.File.Reasons.{reason_of};
 ghost use Rattle.mesh_refusal.specs.Statuses.{IsRefusalStatus, IsStatusOf, NamesFile};
 
 use crate::status::Status;
-use mesh_boolean::{BooleanFault, MeshFile};
+use mesh_boolean::{BooleanFault, InputFile};
 use mesh_file::{FileFault, format_of, put_reason};
 use mesh_scene::{Open, SceneFault};
 use std::alloc::{AllocError, Global};
 
 // Why a file is refused for this fault.
-fn reason_in(alloc: Global, file: &MeshFile, fault: &FileFault) -> Result<String, AllocError>
+fn reason_in(alloc: Global, file: &InputFile, fault: &FileFault) -> Result<String, AllocError>
     ensures { IfOk result (λ reason. string_bytes reason ≡
         reason_of file.now.bytes.now (fault_of fault.now)) }
 {
@@ -22,7 +22,7 @@ fn reason_in(alloc: Global, file: &MeshFile, fault: &FileFault) -> Result<String
 }
 
 // The file with this index.
-fn file_at<'a>(files: &[MeshFile<'a>], index: u32) -> MeshFile<'a>
+fn file_at<'a>(files: &[InputFile<'a>], index: u32) -> InputFile<'a>
     requires { index < length files.now }
     ensures { slice_get files.now index ≡ Some result }
 {
@@ -30,7 +30,7 @@ fn file_at<'a>(files: &[MeshFile<'a>], index: u32) -> MeshFile<'a>
 }
 
 // The file with this index is refused for this fault.
-fn refused(alloc: Global, files: &[MeshFile], index: u32, fault: &FileFault) -> Status
+fn refused(alloc: Global, files: &[InputFile], index: u32, fault: &FileFault) -> Status
     requires few { length files.now ≤ 64 }
     requires there { index < length files.now }
     ensures { IsRefusalStatus files.now index fault.now result }
@@ -43,7 +43,7 @@ fn refused(alloc: Global, files: &[MeshFile], index: u32, fault: &FileFault) -> 
 }
 
 // A file isn't closed.
-fn not_closed(files: &[MeshFile], fault: Open) -> Status
+fn not_closed(files: &[InputFile], fault: Open) -> Status
     requires small { All IsSmall files.now }
     requires there { fault.file < length files.now }
     ensures { IsStatusOf files.now (BooleanFault.Scene (SceneFault.Open fault)) result }
@@ -54,7 +54,7 @@ fn not_closed(files: &[MeshFile], fault: Open) -> Status
 
 /// The status of files with this fault: a file has an index in the fault, and in the status a
 /// number from 1.
-pub fn status_of<'a>(alloc: Global, files: &[MeshFile<'a>], fault: BooleanFault<'a>) -> Status
+pub fn status_of<'a>(alloc: Global, files: &[InputFile<'a>], fault: BooleanFault<'a>) -> Status
     requires few { length files.now ≤ 64 }
     requires small { All IsSmall files.now }
     requires there { NamesFile files.now fault }

@@ -47,23 +47,23 @@ module _ (step : GridStep) (names : List (List ℕ)) where
         ∙ ap (λ (o : List ℕ). (old ++ o ∷ []) ++ rest) (sym made)
 
   -- the warning of a file comes before those of the files after it
-  first_warning : (volumes : List ℤ) (number i f : ℕ) (name : List ℕ) (six_volumes : ℤ) → i < length names →
-      name ≡ get_or names i name → f < length volumes → six_volumes ≡ get_or volumes f six_volumes →
-      turned_warnings number (drop i names) step (drop f volumes) ≡ turned_warning number name step six_volumes
+  first_warning : (volumes : List ℤ) (number i f : ℕ) (name : List ℕ) (sixfold_volume : ℤ) → i < length names →
+      name ≡ get_or names i name → f < length volumes → sixfold_volume ≡ get_or volumes f sixfold_volume →
+      turned_warnings number (drop i names) step (drop f volumes) ≡ turned_warning number name step sixfold_volume
       ++ turned_warnings (number + 1) (drop (i + 1) names) step (drop (f + 1) volumes)
-  first_warning volumes number i f name six_volumes inside is there found =
+  first_warning volumes number i f name sixfold_volume inside is there found =
       ap (λ (ns : List (List ℕ)). turned_warnings number ns step (drop f volumes)) (first_element names i name inside is)
-      ∙ ap (λ (vs : List ℤ). turned_warnings number (name ∷ drop (i + 1) names) step vs) (first_element volumes f six_volumes there found)
+      ∙ ap (λ (vs : List ℤ). turned_warnings number (name ∷ drop (i + 1) names) step vs) (first_element volumes f sixfold_volume there found)
 
   -- so all warnings are still those that are made and those to come
-  pub one_warning_more : (volumes : List ℤ) (number i f : ℕ) (name : List ℕ) (six_volumes : ℤ) (all old new : List (List ℕ)) →
-      i < length names → name ≡ get_or names i name → f < length volumes → six_volumes ≡ get_or volumes f six_volumes →
+  pub one_warning_more : (volumes : List ℤ) (number i f : ℕ) (name : List ℕ) (sixfold_volume : ℤ) (all old new : List (List ℕ)) →
+      i < length names → name ≡ get_or names i name → f < length volumes → sixfold_volume ≡ get_or volumes f sixfold_volume →
       all ≡ old ++ turned_warnings number (drop i names) step (drop f volumes) →
-      new ≡ old ++ turned_warning number name step six_volumes →
+      new ≡ old ++ turned_warning number name step sixfold_volume →
       all ≡ new ++ turned_warnings (number + 1) (drop (i + 1) names) step (drop (f + 1) volumes)
-  one_warning_more volumes number i f name six_volumes all old new inside is there found before put =
+  one_warning_more volumes number i f name sixfold_volume all old new inside is there found before put =
       let rest = turned_warnings (number + 1) (drop (i + 1) names) step (drop (f + 1) volumes) in
       before
-      ∙ ap (λ (xs : List (List ℕ)). old ++ xs) (first_warning volumes number i f name six_volumes inside is there found)
-      ∙ sym (append_assoc old (turned_warning number name step six_volumes) rest)
+      ∙ ap (λ (xs : List (List ℕ)). old ++ xs) (first_warning volumes number i f name sixfold_volume inside is there found)
+      ∙ sym (append_assoc old (turned_warning number name step sixfold_volume) rest)
       ∙ ap (λ (xs : List (List ℕ)). xs ++ rest) (sym put)

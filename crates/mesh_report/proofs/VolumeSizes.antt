@@ -31,32 +31,32 @@ pub volume_fits : (size unit limit : ℕ) → 0 < unit → limit ≡ unit * 10 ^
 volume_fits size unit limit p e l = fits_with_places size unit 12 p (omega (arith, e, l)) (omega arith)
 
 -- ---- texts
-module _ (six_volumes : ℤ) (size unit : ℕ) where
+module _ (sixfold_volume : ℤ) (size unit : ℕ) where
   -- a volume below the limit is shown
   below_limit : size < unit * 10 ^ 21 →
-      decimal_text (int_lt six_volumes (pos 0)) (nearest_whole (size * 10 ^ 12) unit) 12 ≡ cubic_text six_volumes size unit
+      decimal_text (int_lt sixfold_volume (pos 0)) (nearest_whole (size * 10 ^ 12) unit) 12 ≡ cubic_text sixfold_volume size unit
   below_limit l = by (nat_le (10 ^ 21 * unit) size) refl
     where
       by : (b : Bool) → nat_le (10 ^ 21 * unit) size ≡ b →
-          decimal_text (int_lt six_volumes (pos 0)) (nearest_whole (size * 10 ^ 12) unit) 12 ≡
-          (if b then codes "?" else decimal_text (int_lt six_volumes (pos 0)) (nearest_whole (size * 10 ^ 12) unit) 12)
+          decimal_text (int_lt sixfold_volume (pos 0)) (nearest_whole (size * 10 ^ 12) unit) 12 ≡
+          (if b then codes "?" else decimal_text (int_lt sixfold_volume (pos 0)) (nearest_whole (size * 10 ^ 12) unit) 12)
       by false e = refl
       by true e = absurd (grind (arith, nat_tests, e, l))
 
   -- and any other isn't
-  from_limit_on : unit * 10 ^ 21 ≤ size → codes "?" ≡ cubic_text six_volumes size unit
+  from_limit_on : unit * 10 ^ 21 ≤ size → codes "?" ≡ cubic_text sixfold_volume size unit
   from_limit_on l = by (nat_le (10 ^ 21 * unit) size) refl
     where
       by : (b : Bool) → nat_le (10 ^ 21 * unit) size ≡ b → codes "?" ≡
-          (if b then codes "?" else decimal_text (int_lt six_volumes (pos 0)) (nearest_whole (size * 10 ^ 12) unit) 12)
+          (if b then codes "?" else decimal_text (int_lt sixfold_volume (pos 0)) (nearest_whole (size * 10 ^ 12) unit) 12)
       by true e = refl
       by false e = absurd (grind (arith, nat_tests, e, l))
 
-  module _ (step : GridStep) (of_size : size ≡ unsigned_abs six_volumes * cube step.numerator)
+  module _ (step : GridStep) (of_size : size ≡ unsigned_abs sixfold_volume * cube step.numerator)
       (of_unit : unit ≡ 6 * cube step.denominator) where
     pub volume_shown : size < unit * 10 ^ 21 →
-        decimal_text (int_lt six_volumes (pos 0)) (nearest_whole (size * 10 ^ 12) unit) 12 ≡ volume_text step six_volumes
-    volume_shown l = below_limit l ∙ (λ k. cubic_text six_volumes (of_size k) (of_unit k))
+        decimal_text (int_lt sixfold_volume (pos 0)) (nearest_whole (size * 10 ^ 12) unit) 12 ≡ volume_text step sixfold_volume
+    volume_shown l = below_limit l ∙ (λ k. cubic_text sixfold_volume (of_size k) (of_unit k))
 
-    pub volume_not_shown : unit * 10 ^ 21 ≤ size → codes "?" ≡ volume_text step six_volumes
-    volume_not_shown l = from_limit_on l ∙ (λ k. cubic_text six_volumes (of_size k) (of_unit k))
+    pub volume_not_shown : unit * 10 ^ 21 ≤ size → codes "?" ≡ volume_text step sixfold_volume
+    volume_not_shown l = from_limit_on l ∙ (λ k. cubic_text sixfold_volume (of_size k) (of_unit k))

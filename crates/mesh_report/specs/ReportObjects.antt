@@ -4,8 +4,8 @@ use Rattle.std.specs.Prelude.{if◌then◌else◌}
 use Rattle.std.specs.Fmt.{signed_decimal}
 use Rattle.std.specs.Str.{bytes_eq}
 use Rattle.mesh_boolean.specs.declared.output.SolidFile.{SolidFile}
-use Rattle.mesh_boolean.specs.declared.writing.Written.{Written}
-use Rattle.mesh_boolean.specs.Volumes.{six_volumes_of_meshes}
+use Rattle.mesh_boolean.specs.declared.writing.OutputMesh.{OutputMesh}
+use Rattle.mesh_boolean.specs.Volumes.{sixfold_volumes_of_meshes}
 use Rattle.mesh_grid.specs.declared.grid.grid.Grid.{Grid}
 use Rattle.mesh_grid.specs.declared.moves.length.Length.{Length}
 use Rattle.mesh_grid.specs.declared.snap.steps.GridStep.{GridStep}
@@ -27,13 +27,13 @@ offset_value g =
 -- ---- the files
 -- a volume, or null if it isn't shown
 abbrev pub volume_value : GridStep → ℤ → List ℕ
-volume_value step six_volumes =
-    if bytes_eq (volume_text step six_volumes) (codes "?") then codes "null" else volume_text step six_volumes
+volume_value step sixfold_volume =
+    if bytes_eq (volume_text step sixfold_volume) (codes "?") then codes "null" else volume_text step sixfold_volume
 
 -- the first volume, or null if there is none
 abbrev pub first_volume : GridStep → List ℤ → List ℕ
 first_volume step [] = codes "null"
-first_volume step (six_volumes ∷ others) = volume_value step six_volumes
+first_volume step (sixfold_volume ∷ others) = volume_value step sixfold_volume
 
 -- a file whose mesh is closed on the grid, how far its corners moved, and its volume
 abbrev pub file_object : List ℕ → Counts → Rounded → List ℕ → List ℕ
@@ -53,11 +53,11 @@ file_objects (name ∷ names) step (c ∷ counts) moves volumes =
 
 -- ---- the result
 -- whether a text is a 2-manifold; null for another format
-abbrev pub manifold_value : OutputFormat → Written → List ℕ
+abbrev pub manifold_value : OutputFormat → OutputMesh → List ℕ
 manifold_value format mesh = if is_text format then truth_value mesh.is_manifold else codes "null"
 
 -- the mesh of so many faces, and what rounding did to it
-abbrev pub result_object : OutputFormat → ℕ → Written → List ℕ
+abbrev pub result_object : OutputFormat → ℕ → OutputMesh → List ℕ
 result_object format faces mesh =
     object (
     (codes "empty", truth_value (mesh.triangles == mesh.vanished)) ∷ (codes "faces", decimal faces) ∷
@@ -71,34 +71,34 @@ result_object format faces mesh =
 -- ---- warnings, as the lines have them behind the word `warning`
 -- that the file with this number may be inside out, if its volume is below 0
 abbrev pub turned_warning : ℕ → List ℕ → GridStep → ℤ → List (List ℕ)
-turned_warning number name step six_volumes =
-    if int_lt six_volumes (pos 0) then quoted (turned_text number name step six_volumes) ∷ [] else []
+turned_warning number name step sixfold_volume =
+    if int_lt sixfold_volume (pos 0) then quoted (turned_text number name step sixfold_volume) ∷ [] else []
 
 -- of each file, the first of which has this number
 abbrev pub turned_warnings : ℕ → List (List ℕ) → GridStep → List ℤ → List (List ℕ)
 turned_warnings number [] step volumes = []
 turned_warnings number (name ∷ names) step [] = []
-turned_warnings number (name ∷ names) step (six_volumes ∷ volumes) =
-    turned_warning number name step six_volumes ++ turned_warnings (number + 1) names step volumes
+turned_warnings number (name ∷ names) step (sixfold_volume ∷ volumes) =
+    turned_warning number name step sixfold_volume ++ turned_warnings (number + 1) names step volumes
 
 -- that rounding moved corners far, if it did
-abbrev pub coarse_warning : OutputFormat → Written → List (List ℕ)
+abbrev pub coarse_warning : OutputFormat → OutputMesh → List (List ℕ)
 coarse_warning format mesh = if mesh.effect.is_coarse then quoted (coarse_text format mesh) ∷ [] else []
 
 -- that a text isn't a 2-manifold, if some edge of it doesn't have two triangles
-abbrev pub unpaired_warning : OutputFormat → Written → List (List ℕ)
+abbrev pub unpaired_warning : OutputFormat → OutputMesh → List (List ℕ)
 unpaired_warning format mesh = if is_unpaired format mesh then quoted (unpaired_text format) ∷ [] else []
 
 -- both
-abbrev pub mesh_warnings : OutputFormat → Written → List (List ℕ)
+abbrev pub mesh_warnings : OutputFormat → OutputMesh → List (List ℕ)
 mesh_warnings format mesh = coarse_warning format mesh ++ unpaired_warning format mesh
 
 -- ---- reports
 abbrev pub solid_object : List (List ℕ) → OutputFormat → SolidFile → List ℕ
 solid_object names format out =
     let step = out.grid.step in
-    let files = file_objects names step out.counts.items out.moves.items out.six_volumes.items in
-    let warnings = turned_warnings 1 names step out.six_volumes.items ++ mesh_warnings format out.written in
+    let files = file_objects names step out.counts.items out.moves.items out.sixfold_volumes.items in
+    let warnings = turned_warnings 1 names step out.sixfold_volumes.items ++ mesh_warnings format out.written in
     object_line (
     (codes "step", step_text step) ∷ (codes "offset", offset_value out.grid) ∷ (codes "files", array files) ∷
     (codes "result", result_object format out.report.faces out.written) ∷ (codes "warnings", array warnings) ∷ [])
@@ -106,13 +106,13 @@ solid_object names format out =
 abbrev pub scene_object : List (List ℕ) → PlacedScene → List ℕ
 scene_object names placed =
     let step = placed.grid.step in
-    let volumes = six_volumes_of_meshes placed.scene.tris placed.scene.meshes in
+    let volumes = sixfold_volumes_of_meshes placed.scene.tris placed.scene.meshes in
     let files = file_objects names step placed.counts.items placed.moves.items volumes in
     object_line (
     (codes "step", step_text step) ∷ (codes "offset", offset_value placed.grid) ∷ (codes "files", array files) ∷
     (codes "warnings", array (turned_warnings 1 names step volumes)) ∷ [])
 
-abbrev pub mesh_object : OutputFormat → Written → List ℕ
+abbrev pub mesh_object : OutputFormat → OutputMesh → List ℕ
 mesh_object format mesh =
     object_line (
     (codes "result", result_object format mesh.faces mesh) ∷

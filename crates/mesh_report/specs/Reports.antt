@@ -3,8 +3,8 @@ use Rattle.std.specs.Prelude.{ℕ, ℤ, Bool, true, false, ◌&&◌, not, ◌==�
 use Rattle.std.specs.Prelude.{if◌then◌else◌}
 use Rattle.std.specs.Fmt.{signed_decimal}
 use Rattle.mesh_boolean.specs.declared.output.SolidFile.{SolidFile}
-use Rattle.mesh_boolean.specs.declared.writing.Written.{Written}
-use Rattle.mesh_boolean.specs.Volumes.{six_volumes_of_meshes}
+use Rattle.mesh_boolean.specs.declared.writing.OutputMesh.{OutputMesh}
+use Rattle.mesh_boolean.specs.Volumes.{sixfold_volumes_of_meshes}
 use Rattle.mesh_grid.specs.declared.grid.grid.Grid.{Grid}
 use Rattle.mesh_words.specs.declared.command.ExportRequest.{ExportRequest}
 use Rattle.mesh_words.specs.declared.command.Request.{Request}
@@ -50,11 +50,11 @@ counts_lines (name ∷ names) (c ∷ counts) moves =
 
 -- the grid, a line for each file, and one for the volume of each, which is so many sixths of the step's cube
 abbrev pub scene_lines : List (List ℕ) → Grid → List Counts → List Length → List ℤ → List ℕ
-scene_lines names g counts moves six_volumes =
-    grid_line g ++ (counts_lines names counts moves ++ volume_lines 1 names g.step six_volumes)
+scene_lines names g counts moves sixfold_volumes =
+    grid_line g ++ (counts_lines names counts moves ++ volume_lines 1 names g.step sixfold_volumes)
 
 -- whether anything is left
-abbrev pub empty_line : Written → List ℕ
+abbrev pub empty_line : OutputMesh → List ℕ
 empty_line mesh = if mesh.triangles == mesh.vanished then line (codes "the result is empty") else []
 
 -- a format in a sentence
@@ -74,7 +74,7 @@ is_text Off = true
 is_text Glb = false
 
 -- how far corners moved at most when they were rounded
-abbrev pub rounding_text : Written → List ℕ
+abbrev pub rounding_text : OutputMesh → List ℕ
 rounding_text mesh = move_text (rounded_of mesh.effect.greatest)
 
 -- what helps if this is much for the grid
@@ -84,19 +84,19 @@ remedy format =
     else codes "write OBJ, PLY or OFF, or move the parts to the origin"
 
 -- that it is
-abbrev pub coarse_text : OutputFormat → Written → List ℕ
+abbrev pub coarse_text : OutputFormat → OutputMesh → List ℕ
 coarse_text format mesh =
     codes "rounding for " ++ (name_of_format format ++
     (codes " moves corners by up to " ++ (rounding_text mesh ++
     (codes ", more than a hundredth of the step; " ++ remedy format))))
 
 -- if it is
-abbrev pub coarse_line : OutputFormat → Written → List ℕ
+abbrev pub coarse_line : OutputFormat → OutputMesh → List ℕ
 coarse_line format mesh =
     if mesh.effect.is_coarse then line (codes "warning: " ++ coarse_text format mesh) else []
 
 -- a text has an edge without two triangles
-abbrev pub is_unpaired : OutputFormat → Written → Bool
+abbrev pub is_unpaired : OutputFormat → OutputMesh → Bool
 is_unpaired format mesh = is_text format && not mesh.is_manifold
 
 -- that it has
@@ -106,36 +106,36 @@ unpaired_text format =
     codes " don't have two triangles, so it isn't a 2-manifold; let touching parts overlap, or raise --digits")
 
 -- if it has
-abbrev pub unpaired_line : OutputFormat → Written → List ℕ
+abbrev pub unpaired_line : OutputFormat → OutputMesh → List ℕ
 unpaired_line format mesh =
     if is_unpaired format mesh then line (codes "warning: " ++ unpaired_text format) else []
 
 -- the mesh of so many faces
-abbrev pub mesh_text : ℕ → Written → List ℕ
+abbrev pub mesh_text : ℕ → OutputMesh → List ℕ
 mesh_text faces mesh =
     decimal faces ++ (codes " faces -> " ++ (decimal mesh.written ++
     (codes " triangles in " ++ (decimal mesh.planes ++
     (codes " planes; greatest rounding move " ++ rounding_text mesh)))))
 
 -- what rounding did to its triangles, and how many edges more than two of them have
-abbrev pub losses_text : Written → List ℕ
+abbrev pub losses_text : OutputMesh → List ℕ
 losses_text mesh =
     decimal mesh.vanished ++ (codes " vanished, " ++
     (decimal mesh.effect.facings.without_area ++ (codes " without area, " ++
     (decimal mesh.effect.facings.turned_over ++ (codes " turned over; " ++
     (decimal mesh.shared ++ codes " edges of more than two triangles"))))))
 
-abbrev pub mesh_line : ℕ → Written → List ℕ
+abbrev pub mesh_line : ℕ → OutputMesh → List ℕ
 mesh_line faces mesh = line (mesh_text faces mesh ++ (codes "; " ++ losses_text mesh))
 
-abbrev pub mesh_lines : OutputFormat → ℕ → Written → List ℕ
+abbrev pub mesh_lines : OutputFormat → ℕ → OutputMesh → List ℕ
 mesh_lines format faces mesh =
     empty_line mesh ++ (coarse_line format mesh ++ (unpaired_line format mesh ++ mesh_line faces mesh))
 
 -- all lines of a Boolean
 abbrev pub report_lines : List (List ℕ) → OutputFormat → SolidFile → List ℕ
 report_lines names format out =
-    scene_lines names out.grid out.counts.items out.moves.items out.six_volumes.items
+    scene_lines names out.grid out.counts.items out.moves.items out.sixfold_volumes.items
     ++ mesh_lines format out.report.faces out.written
 
 -- ---- reports, unless they are to be quiet
@@ -146,7 +146,7 @@ abbrev pub snap_report : SnapRequest → PlacedScene → List ℕ
 snap_report request placed =
     if request.quiet then []
     else scene_lines request.files placed.grid placed.counts.items placed.moves.items
-    (six_volumes_of_meshes placed.scene.tris placed.scene.meshes)
+    (sixfold_volumes_of_meshes placed.scene.tris placed.scene.meshes)
 
-abbrev pub export_report : ExportRequest → Written → List ℕ
+abbrev pub export_report : ExportRequest → OutputMesh → List ℕ
 export_report request mesh = if request.quiet then [] else mesh_lines request.format mesh.faces mesh

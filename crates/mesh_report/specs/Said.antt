@@ -1,7 +1,7 @@
 -- What standard error takes of a request that is met: lines, or one object of JSON
 use Rattle.std.specs.Prelude.{◌&&◌, Bool, not, List, ℕ, if◌then◌else◌}
 use Rattle.mesh_boolean.specs.declared.output.SolidFile.{SolidFile}
-use Rattle.mesh_boolean.specs.declared.writing.Written.{Written}
+use Rattle.mesh_boolean.specs.declared.writing.OutputMesh.{OutputMesh}
 use Rattle.mesh_scene.specs.declared.scene.scene.PlacedScene.{PlacedScene}
 use Rattle.mesh_words.specs.declared.command.ExportRequest.{ExportRequest}
 use Rattle.mesh_words.specs.declared.command.Request.{Request}
@@ -18,6 +18,6 @@ abbrev pub placed_report : Bool → SnapRequest → PlacedScene → List ℕ
 placed_report json request placed =
     if json && not request.quiet then scene_object request.files placed else snap_report request placed
 
-abbrev pub exported_report : Bool → ExportRequest → Written → List ℕ
+abbrev pub exported_report : Bool → ExportRequest → OutputMesh → List ℕ
 exported_report json request mesh =
     if json && not request.quiet then mesh_object request.format mesh else export_report request mesh

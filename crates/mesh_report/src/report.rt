@@ -8,7 +8,7 @@ ghost use Rattle.mesh_report.specs.Reports.{coarse_line, coarse_text, counts_lin
 use crate::volumes::put_volumes;
 use ember_model::OutOfMemory;
 use ember_words::Text;
-use mesh_boolean::{SolidFile, Written, six_volumes_of_meshes};
+use mesh_boolean::{OutputMesh, SolidFile, sixfold_volumes_of_meshes};
 use mesh_effect::put_move as put_rounding_move;
 use mesh_grid::{Grid, Length};
 use mesh_scene::{Counts, PlacedScene};
@@ -102,7 +102,7 @@ fn put_all_counts(
 }
 
 // Appends that the result is empty, if it is.
-fn put_empty(alloc: Global, mesh: &Written, text: &mut Vec<u8>) -> Result<(), OutOfMemory>
+fn put_empty(alloc: Global, mesh: &OutputMesh, text: &mut Vec<u8>) -> Result<(), OutOfMemory>
     ensures { OnOk result (text.new.items ≡ text.old.items ++ empty_line mesh.now) }
 {
     if mesh.triangles != mesh.vanished {
@@ -147,7 +147,7 @@ fn remedy(format: OutputFormat) -> &'static [u8]
 /// Appends that rounding moves corners far, and what helps.
 pub fn put_coarse_text(
     format: OutputFormat,
-    mesh: &Written,
+    mesh: &OutputMesh,
     text: &mut Vec<u8>,
 ) -> Result<(), OutOfMemory>
     ensures { OnOk result (text.new.items ≡ text.old.items ++ coarse_text format mesh.now) }
@@ -164,7 +164,7 @@ pub fn put_coarse_text(
 fn put_coarse(
     alloc: Global,
     format: OutputFormat,
-    mesh: &Written,
+    mesh: &OutputMesh,
     text: &mut Vec<u8>,
 ) -> Result<(), OutOfMemory>
     ensures { OnOk result (text.new.items ≡ text.old.items ++ coarse_line format mesh.now) }
@@ -178,7 +178,7 @@ fn put_coarse(
 }
 
 /// Whether a text has an edge without two triangles.
-pub fn is_unpaired(format: OutputFormat, mesh: &Written) -> bool
+pub fn is_unpaired(format: OutputFormat, mesh: &OutputMesh) -> bool
     ensures { result ≡ is_unpaired format mesh.now }
 {
     is_text(format) && !mesh.is_manifold
@@ -197,7 +197,7 @@ pub fn put_unpaired_text(format: OutputFormat, text: &mut Vec<u8>) -> Result<(),
 fn put_unpaired(
     alloc: Global,
     format: OutputFormat,
-    mesh: &Written,
+    mesh: &OutputMesh,
     text: &mut Vec<u8>,
 ) -> Result<(), OutOfMemory>
     ensures { OnOk result (text.new.items ≡ text.old.items ++ unpaired_line format mesh.now) }
@@ -211,7 +211,7 @@ fn put_unpaired(
 }
 
 // Appends how large the mesh of so many faces is, and how far rounding moved its corners.
-fn put_mesh_text(faces: u64, mesh: &Written, text: &mut Vec<u8>) -> Result<(), OutOfMemory>
+fn put_mesh_text(faces: u64, mesh: &OutputMesh, text: &mut Vec<u8>) -> Result<(), OutOfMemory>
     ensures { OnOk result (text.new.items ≡ text.old.items ++ mesh_text faces mesh.now) }
 {
     put_count(faces, text)?;
@@ -224,7 +224,7 @@ fn put_mesh_text(faces: u64, mesh: &Written, text: &mut Vec<u8>) -> Result<(), O
 }
 
 // Appends what rounding did to the triangles, and how many edges more than two of them have.
-fn put_losses(mesh: &Written, text: &mut Vec<u8>) -> Result<(), OutOfMemory>
+fn put_losses(mesh: &OutputMesh, text: &mut Vec<u8>) -> Result<(), OutOfMemory>
     ensures { OnOk result (text.new.items ≡ text.old.items ++ losses_text mesh.now) }
 {
     put_count(mesh.vanished, text)?;
@@ -241,7 +241,7 @@ fn put_losses(mesh: &Written, text: &mut Vec<u8>) -> Result<(), OutOfMemory>
 fn put_mesh(
     alloc: Global,
     faces: u64,
-    mesh: &Written,
+    mesh: &OutputMesh,
     text: &mut Vec<u8>,
 ) -> Result<(), OutOfMemory>
     ensures { OnOk result (text.new.items ≡ text.old.items ++ mesh_line faces mesh.now) }
@@ -258,7 +258,7 @@ fn put_mesh_lines(
     alloc: Global,
     format: OutputFormat,
     faces: u64,
-    mesh: &Written,
+    mesh: &OutputMesh,
     text: &mut Vec<u8>,
 ) -> Result<(), OutOfMemory>
     ensures { OnOk result (text.new.items ≡ text.old.items ++ mesh_lines format faces mesh.now) }
@@ -276,16 +276,16 @@ fn put_scene(
     grid: &Grid,
     counts: &[Counts],
     moves: &[Length],
-    six_volumes: &[i64],
+    sixfold_volumes: &[i64],
     text: &mut Vec<u8>,
 ) -> Result<(), OutOfMemory>
     requires { IsStep grid.now.step }
     ensures { OnOk result (text.new.items ≡
-        text.old.items ++ scene_lines names.now grid.now counts.now moves.now six_volumes.now) }
+        text.old.items ++ scene_lines names.now grid.now counts.now moves.now sixfold_volumes.now) }
 {
     put_grid(alloc, grid, text)?;
     put_all_counts(alloc, names, counts, moves, text)?;
-    put_volumes(alloc, names, &grid.step, six_volumes, text)
+    put_volumes(alloc, names, &grid.step, sixfold_volumes, text)
 }
 
 /// The report of an output; empty if the request wants none. It has a line for the grid, a line for
@@ -311,7 +311,7 @@ pub fn report_of(
         &output.grid,
         &output.counts,
         &output.moves,
-        &output.six_volumes,
+        &output.sixfold_volumes,
         &mut text,
     )?;
     put_mesh_lines(
@@ -339,14 +339,14 @@ pub fn snap_report(
         return Ok(text);
     }
     let names = request.files.items();
-    let six_volumes = six_volumes_of_meshes(alloc, &placed.scene)?;
+    let sixfold_volumes = sixfold_volumes_of_meshes(alloc, &placed.scene)?;
     put_scene(
         alloc,
         names,
         &placed.grid,
         &placed.counts,
         &placed.moves,
-        &six_volumes,
+        &sixfold_volumes,
         &mut text,
     )?;
     Ok(text)
@@ -357,7 +357,7 @@ pub fn snap_report(
 pub fn export_report(
     alloc: Global,
     request: &ExportRequest,
-    mesh: &Written,
+    mesh: &OutputMesh,
 ) -> Result<Vec<u8>, OutOfMemory>
     ensures { IfOk result (λ text. text.items ≡ export_report request.now mesh.now) }
 {

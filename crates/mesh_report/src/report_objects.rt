@@ -12,7 +12,7 @@ use crate::report::{is_text, is_unpaired, move_at, put_coarse_text, put_unpaired
 use crate::volumes::{put_turned, put_volume, volume_at};
 use ember_model::OutOfMemory;
 use ember_words::Text;
-use mesh_boolean::{SolidFile, Written, six_volumes_of_meshes};
+use mesh_boolean::{OutputMesh, SolidFile, sixfold_volumes_of_meshes};
 use mesh_effect::put_move as put_rounding_move;
 use mesh_grid::{Grid, GridStep, Length};
 use mesh_scene::{Counts, PlacedScene};
@@ -57,7 +57,7 @@ fn move_value(alloc: Global, moved: &Length) -> Result<Vec<u8>, OutOfMemory>
     Ok(text)
 }
 
-fn rounding_value(alloc: Global, mesh: &Written) -> Result<Vec<u8>, OutOfMemory>
+fn rounding_value(alloc: Global, mesh: &OutputMesh) -> Result<Vec<u8>, OutOfMemory>
     ensures { IfOk result (λ text. text.items ≡ rounding_text mesh.now) }
 {
     let mut text = Vec::new(alloc);
@@ -66,12 +66,12 @@ fn rounding_value(alloc: Global, mesh: &Written) -> Result<Vec<u8>, OutOfMemory>
 }
 
 // A volume, or null if it is too large to be shown.
-fn volume_value(alloc: Global, six_volumes: i64, step: &GridStep) -> Result<Vec<u8>, OutOfMemory>
+fn volume_value(alloc: Global, sixfold_volume: i64, step: &GridStep) -> Result<Vec<u8>, OutOfMemory>
     requires { IsStep step.now }
-    ensures { IfOk result (λ text. text.items ≡ volume_value step.now six_volumes) }
+    ensures { IfOk result (λ text. text.items ≡ volume_value step.now sixfold_volume) }
 {
     let mut text = Vec::new(alloc);
-    put_volume(six_volumes, step, &mut text)?;
+    put_volume(sixfold_volume, step, &mut text)?;
     if text.as_slice() == b"?".as_slice() {
         return Vec::from_slice(alloc, b"null");
     }
@@ -82,17 +82,17 @@ fn volume_value(alloc: Global, six_volumes: i64, step: &GridStep) -> Result<Vec<
 // The volume with this index, or null if there is none.
 fn volume_of(
     alloc: Global,
-    six_volumes: &[i64],
+    sixfold_volumes: &[i64],
     index: usize,
     step: &GridStep,
 ) -> Result<Vec<u8>, OutOfMemory>
     requires { IsStep step.now }
-    ensures { IfOk result (λ text. text.items ≡ first_volume step.now (drop index six_volumes.now)) }
+    ensures { IfOk result (λ text. text.items ≡ first_volume step.now (drop index sixfold_volumes.now)) }
 {
-    if index >= six_volumes.len() {
+    if index >= sixfold_volumes.len() {
         return Vec::from_slice(alloc, b"null");
     }
-    volume_value(alloc, volume_at(six_volumes, index), step)
+    volume_value(alloc, volume_at(sixfold_volumes, index), step)
 }
 
 // The object of a file.
@@ -129,11 +129,11 @@ fn file_objects(
     step: &GridStep,
     counts: &[Counts],
     moves: &[Length],
-    six_volumes: &[i64],
+    sixfold_volumes: &[i64],
 ) -> Result<Vec<Vec<u8>>, OutOfMemory>
     requires { IsStep step.now }
     ensures { IfOk result (λ texts. texts_of texts.items ≡
-        file_objects names.now step.now counts.now moves.now six_volumes.now) }
+        file_objects names.now step.now counts.now moves.now sixfold_volumes.now) }
 {
     let mut texts = Vec::new(alloc);
     let mut file = 0;
@@ -143,7 +143,7 @@ fn file_objects(
         };
         let name = name.as_str().as_bytes();
         let moved = move_at(moves, file);
-        let volume = volume_of(alloc, six_volumes, file, step)?;
+        let volume = volume_of(alloc, sixfold_volumes, file, step)?;
         let object = file_object(alloc, name, counts, &moved, volume)?;
         texts.push(object)?;
         file += 1;
@@ -157,13 +157,13 @@ fn files_value(
     step: &GridStep,
     counts: &[Counts],
     moves: &[Length],
-    six_volumes: &[i64],
+    sixfold_volumes: &[i64],
 ) -> Result<Vec<u8>, OutOfMemory>
     requires { IsStep step.now }
     ensures { IfOk result (λ text. text.items ≡
-        array (file_objects names.now step.now counts.now moves.now six_volumes.now)) }
+        array (file_objects names.now step.now counts.now moves.now sixfold_volumes.now)) }
 {
-    let texts = file_objects(alloc, names, step, counts, moves, six_volumes)?;
+    let texts = file_objects(alloc, names, step, counts, moves, sixfold_volumes)?;
     array(alloc, &texts)
 }
 
@@ -172,7 +172,7 @@ fn files_value(
 fn manifold_value(
     alloc: Global,
     format: OutputFormat,
-    mesh: &Written,
+    mesh: &OutputMesh,
 ) -> Result<Vec<u8>, OutOfMemory>
     ensures { IfOk result (λ text. text.items ≡ manifold_value format mesh.now) }
 {
@@ -187,7 +187,7 @@ fn result_object(
     alloc: Global,
     format: OutputFormat,
     faces: u64,
-    mesh: &Written,
+    mesh: &OutputMesh,
 ) -> Result<Vec<u8>, OutOfMemory>
     ensures { IfOk result (λ text. text.items ≡ result_object format faces mesh.now) }
 {
@@ -223,19 +223,19 @@ fn put_turned_warning(
     alloc: Global,
     number: u64,
     name: &[u8],
-    six_volumes: i64,
+    sixfold_volume: i64,
     step: &GridStep,
     texts: &mut Vec<Vec<u8>>,
 ) -> Result<(), OutOfMemory>
     requires { IsStep step.now }
     ensures { OnOk result (texts_of texts.new.items ≡
-        texts_of texts.old.items ++ turned_warning number name.now step.now six_volumes) }
+        texts_of texts.old.items ++ turned_warning number name.now step.now sixfold_volume) }
 {
-    if six_volumes >= 0 {
+    if sixfold_volume >= 0 {
         return Ok(());
     }
     let mut said = Vec::new(alloc);
-    put_turned(number, name, six_volumes, step, &mut said)?;
+    put_turned(number, name, sixfold_volume, step, &mut said)?;
     texts.push(string(alloc, &said)?)?;
     Ok(())
 }
@@ -245,19 +245,19 @@ fn turned_warnings(
     alloc: Global,
     names: &[Text],
     step: &GridStep,
-    six_volumes: &[i64],
+    sixfold_volumes: &[i64],
 ) -> Result<Vec<Vec<u8>>, OutOfMemory>
     requires { IsStep step.now }
     ensures { IfOk result (λ texts. texts_of texts.items ≡
-        turned_warnings 1 names.now step.now six_volumes.now) }
+        turned_warnings 1 names.now step.now sixfold_volumes.now) }
 {
     let mut texts = Vec::new(alloc);
     let mut file = 0;
     for name in names {
-        if file >= six_volumes.len() {
+        if file >= sixfold_volumes.len() {
             return Ok(texts);
         }
-        let of_file = volume_at(six_volumes, file);
+        let of_file = volume_at(sixfold_volumes, file);
         file += 1;
         let name = name.as_str().as_bytes();
         put_turned_warning(alloc, file as u64, name, of_file, step, &mut texts)?;
@@ -269,7 +269,7 @@ fn turned_warnings(
 fn put_coarse_warning(
     alloc: Global,
     format: OutputFormat,
-    mesh: &Written,
+    mesh: &OutputMesh,
     texts: &mut Vec<Vec<u8>>,
 ) -> Result<(), OutOfMemory>
     ensures { OnOk result (texts_of texts.new.items ≡
@@ -288,7 +288,7 @@ fn put_coarse_warning(
 fn put_unpaired_warning(
     alloc: Global,
     format: OutputFormat,
-    mesh: &Written,
+    mesh: &OutputMesh,
     texts: &mut Vec<Vec<u8>>,
 ) -> Result<(), OutOfMemory>
     ensures { OnOk result (texts_of texts.new.items ≡
@@ -307,7 +307,7 @@ fn put_unpaired_warning(
 fn put_mesh_warnings(
     alloc: Global,
     format: OutputFormat,
-    mesh: &Written,
+    mesh: &OutputMesh,
     texts: &mut Vec<Vec<u8>>,
 ) -> Result<(), OutOfMemory>
     ensures { OnOk result (texts_of texts.new.items ≡
@@ -330,7 +330,7 @@ pub fn solid_object(
     ensures { IfOk result (λ text. text.items ≡ solid_object names.now format output.now) }
 {
     let grid = &output.grid;
-    let volumes = output.six_volumes.as_slice();
+    let volumes = output.sixfold_volumes.as_slice();
     let step = step_value(alloc, &grid.step)?;
     let offset = offset_value(alloc, grid)?;
     let files = files_value(
@@ -366,8 +366,8 @@ pub fn scene_object(
     ensures { IfOk result (λ text. text.items ≡ scene_object names.now placed.now) }
 {
     let grid = &placed.grid;
-    let six_volumes = six_volumes_of_meshes(alloc, &placed.scene)?;
-    let volumes = six_volumes.as_slice();
+    let sixfold_volumes = sixfold_volumes_of_meshes(alloc, &placed.scene)?;
+    let volumes = sixfold_volumes.as_slice();
     let step = step_value(alloc, &grid.step)?;
     let offset = offset_value(alloc, grid)?;
     let files = files_value(
@@ -393,7 +393,7 @@ pub fn scene_object(
 pub fn mesh_object(
     alloc: Global,
     format: OutputFormat,
-    mesh: &Written,
+    mesh: &OutputMesh,
 ) -> Result<Vec<u8>, OutOfMemory>
     ensures { IfOk result (λ text. text.items ≡ mesh_object format mesh.now) }
 {

@@ -6,7 +6,7 @@ ghost use Rattle.mesh_report.specs.Said.{exported_report, placed_report, solid_r
 use crate::report::{export_report, report_of, snap_report};
 use crate::report_objects::{mesh_object, scene_object, solid_object};
 use ember_model::OutOfMemory;
-use mesh_boolean::{SolidFile, Written};
+use mesh_boolean::{OutputMesh, SolidFile};
 use mesh_scene::PlacedScene;
 use mesh_words::{ExportRequest, Request, SnapRequest};
 use std::alloc::Global;
@@ -50,7 +50,7 @@ pub fn exported_report(
     alloc: Global,
     json: bool,
     request: &ExportRequest,
-    mesh: &Written,
+    mesh: &OutputMesh,
 ) -> Result<Vec<u8>, OutOfMemory>
     ensures { IfOk result (λ text. text.items ≡ exported_report json request.now mesh.now) }
 {

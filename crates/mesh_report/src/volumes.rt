@@ -26,13 +26,17 @@ fn cube(number: u64) -> u128
 
 /// Appends a volume in cubes of the user's unit. Six times this volume is a number of cubes of the
 /// step.
-pub fn put_volume(six_volumes: i64, step: &GridStep, text: &mut Vec<u8>) -> Result<(), OutOfMemory>
+pub fn put_volume(
+    sixfold_volume: i64,
+    step: &GridStep,
+    text: &mut Vec<u8>,
+) -> Result<(), OutOfMemory>
     requires { IsStep step.now }
-    ensures { OnOk result (text.new.items ≡ text.old.items ++ volume_text step.now six_volumes) }
+    ensures { OnOk result (text.new.items ≡ text.old.items ++ volume_text step.now sixfold_volume) }
 {
     let numerator = cube(step.numerator);
     let denominator = cube(step.denominator);
-    let count = u128::from(six_volumes.unsigned_abs());
+    let count = u128::from(sixfold_volume.unsigned_abs());
     let size = Magnitude::product(count, numerator);
     let unit = 6 * denominator;
     let limit = Magnitude::product(unit, LIMIT);
@@ -40,7 +44,7 @@ pub fn put_volume(six_volumes: i64, step: &GridStep, text: &mut Vec<u8>) -> Resu
         return text.extend_from_slice(b"?");
     }
     let volume = Wide {
-        negative: six_volumes < 0,
+        negative: sixfold_volume < 0,
         size,
     };
     put_decimal(&volume, unit, PLACES, text)
@@ -49,33 +53,33 @@ pub fn put_volume(six_volumes: i64, step: &GridStep, text: &mut Vec<u8>) -> Resu
 // Appends the volume of a file.
 fn put_plain(
     name: &[u8],
-    six_volumes: i64,
+    sixfold_volume: i64,
     step: &GridStep,
     text: &mut Vec<u8>,
 ) -> Result<(), OutOfMemory>
     requires { IsStep step.now }
-    ensures { OnOk result (text.new.items ≡ text.old.items ++ plain_text name.now step.now six_volumes) }
+    ensures { OnOk result (text.new.items ≡ text.old.items ++ plain_text name.now step.now sixfold_volume) }
 {
     text.extend_from_slice(name)?;
     text.extend_from_slice(b": volume ")?;
-    put_volume(six_volumes, step, text)
+    put_volume(sixfold_volume, step, text)
 }
 
 /// Appends that a file may be inside out, and how it is used then. Files are numbered from 1.
 pub fn put_turned(
     number: u64,
     name: &[u8],
-    six_volumes: i64,
+    sixfold_volume: i64,
     step: &GridStep,
     text: &mut Vec<u8>,
 ) -> Result<(), OutOfMemory>
     requires { IsStep step.now }
     ensures { OnOk result (text.new.items ≡
-        text.old.items ++ turned_text number name.now step.now six_volumes) }
+        text.old.items ++ turned_text number name.now step.now sixfold_volume) }
 {
     text.extend_from_slice(name)?;
     text.extend_from_slice(b": its volume is ")?;
-    put_volume(six_volumes, step, text)?;
+    put_volume(sixfold_volume, step, text)?;
     text.extend_from_slice(b", so it may be inside out; use w")?;
     put_count(number, text)?;
     text.extend_from_slice(b"=-1")
@@ -85,34 +89,34 @@ pub fn put_turned(
 fn put_inside_out(
     number: u64,
     name: &[u8],
-    six_volumes: i64,
+    sixfold_volume: i64,
     step: &GridStep,
     text: &mut Vec<u8>,
 ) -> Result<(), OutOfMemory>
     requires { IsStep step.now }
     ensures { OnOk result (text.new.items ≡
-        text.old.items ++ inside_out_text number name.now step.now six_volumes) }
+        text.old.items ++ inside_out_text number name.now step.now sixfold_volume) }
 {
     text.extend_from_slice(b"warning: ")?;
-    put_turned(number, name, six_volumes, step, text)
+    put_turned(number, name, sixfold_volume, step, text)
 }
 
 // Appends what is said of the volume of a file.
 fn put_said(
     number: u64,
     name: &[u8],
-    six_volumes: i64,
+    sixfold_volume: i64,
     step: &GridStep,
     text: &mut Vec<u8>,
 ) -> Result<(), OutOfMemory>
     requires { IsStep step.now }
     ensures { OnOk result (text.new.items ≡
-        text.old.items ++ said_text number name.now step.now six_volumes) }
+        text.old.items ++ said_text number name.now step.now sixfold_volume) }
 {
-    if six_volumes < 0 {
-        put_inside_out(number, name, six_volumes, step, text)
+    if sixfold_volume < 0 {
+        put_inside_out(number, name, sixfold_volume, step, text)
     } else {
-        put_plain(name, six_volumes, step, text)
+        put_plain(name, sixfold_volume, step, text)
     }
 }
 
@@ -121,25 +125,25 @@ fn put_volume_line(
     alloc: Global,
     number: u64,
     name: &[u8],
-    six_volumes: i64,
+    sixfold_volume: i64,
     step: &GridStep,
     text: &mut Vec<u8>,
 ) -> Result<(), OutOfMemory>
     requires { IsStep step.now }
     ensures { OnOk result (text.new.items ≡
-        text.old.items ++ volume_line number name.now step.now six_volumes) }
+        text.old.items ++ volume_line number name.now step.now sixfold_volume) }
 {
     let mut said = Vec::new(alloc);
-    put_said(number, name, six_volumes, step, &mut said)?;
+    put_said(number, name, sixfold_volume, step, &mut said)?;
     put_line(alloc, &said, text)
 }
 
 /// The volume with this index.
-pub fn volume_at(six_volumes: &[i64], index: usize) -> i64
-    requires { index < length six_volumes.now }
-    ensures { (other : ℤ) → result ≡ get_or six_volumes.now index other }
+pub fn volume_at(sixfold_volumes: &[i64], index: usize) -> i64
+    requires { index < length sixfold_volumes.now }
+    ensures { (other : ℤ) → result ≡ get_or sixfold_volumes.now index other }
 {
-    six_volumes[index]
+    sixfold_volumes[index]
 }
 
 /// Appends the line of each file's volume, which warns if the volume is below 0.
@@ -147,19 +151,19 @@ pub fn put_volumes(
     alloc: Global,
     names: &[Text],
     step: &GridStep,
-    six_volumes: &[i64],
+    sixfold_volumes: &[i64],
     text: &mut Vec<u8>,
 ) -> Result<(), OutOfMemory>
     requires { IsStep step.now }
     ensures { OnOk result (text.new.items ≡
-        text.old.items ++ volume_lines 1 names.now step.now six_volumes.now) }
+        text.old.items ++ volume_lines 1 names.now step.now sixfold_volumes.now) }
 {
     let mut file = 0;
     for name in names {
-        if file >= six_volumes.len() {
+        if file >= sixfold_volumes.len() {
             return Ok(());
         }
-        let of_file = volume_at(six_volumes, file);
+        let of_file = volume_at(sixfold_volumes, file);
         file += 1;
         let name = name.as_str().as_bytes();
         put_volume_line(alloc, file as u64, name, of_file, step, text)?;

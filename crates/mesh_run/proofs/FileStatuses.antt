@@ -6,7 +6,7 @@ use Rattle.std.specs.declared.option.Option.{Option}
 use Rattle.std.specs.Prelude.{string_bytes}
 use Rattle.mesh_boolean.specs.declared.fault.BooleanFault.{BooleanFault}
 use Rattle.mesh_boolean.specs.declared.fault.BooleanFault.TheVariants as boolean
-use Rattle.mesh_boolean.specs.declared.files.MeshFile.{MeshFile}
+use Rattle.mesh_boolean.specs.declared.files.InputFile.{InputFile}
 use Rattle.mesh_boolean.specs.Faults.{IsBooleanFault, IsFirstUnread, IsPlacingFault, IsReadFault}
 use Rattle.mesh_boolean.specs.Files.{AreReadings}
 use Rattle.mesh_boolean.proofs.Readings.{readings_are_as_many}
@@ -83,7 +83,7 @@ end_is_cause names shelf i end kind status one is (inr h) failed long =
 
 -- ---- the file of a fault
 -- a file that isn't read is one of the files
-pub unread_file_is_there : (files : List MeshFile) (fault : BooleanFault) → IsReadFault files fault → NamesFile files fault
+pub unread_file_is_there : (files : List InputFile) (fault : BooleanFault) → IsReadFault files fault → NamesFile files fault
 unread_file_is_there files (boolean.File index fault) h = slice_get_within files index h.file h.found
 unread_file_is_there files (boolean.Scene fault) h = absurd h
 unread_file_is_there files (boolean.Solid fault) h = absurd h
@@ -92,7 +92,7 @@ unread_file_is_there files boolean.TooManyTriangles h = absurd h
 unread_file_is_there files boolean.OutOfMemory h = tt
 
 -- a file that keeps files from their grid is one of them
-pub unplaced_file_is_there : (files : List MeshFile) (wanted : Wanted) (fault : BooleanFault) → IsPlacingFault files wanted fault → NamesFile files fault
+pub unplaced_file_is_there : (files : List InputFile) (wanted : Wanted) (fault : BooleanFault) → IsPlacingFault files wanted fault → NamesFile files fault
 unplaced_file_is_there files wanted (boolean.File index fault) h = slice_get_within files index h.file h.found
 unplaced_file_is_there files wanted (boolean.Scene scene.NoTriangles) h = tt
 unplaced_file_is_there files wanted (boolean.Scene (scene.StepTooSmall extent)) h = tt
@@ -109,7 +109,7 @@ unplaced_file_is_there files wanted boolean.TooManyTriangles h = absurd h
 unplaced_file_is_there files wanted boolean.OutOfMemory h = tt
 
 -- a file that has a fault is one of the files
-pub faulty_file_is_there : (files : List MeshFile) (formula : Formula) (wanted : WantedFile) (fault : BooleanFault) →
+pub faulty_file_is_there : (files : List InputFile) (formula : Formula) (wanted : WantedFile) (fault : BooleanFault) →
     IsBooleanFault files formula wanted fault → NamesFile files fault
 faulty_file_is_there files formula wanted (boolean.File index fault) h = unplaced_file_is_there files wanted.grid (boolean.File index fault) h
 faulty_file_is_there files formula wanted (boolean.Scene fault) h = unplaced_file_is_there files wanted.grid (boolean.Scene fault) h
@@ -119,7 +119,7 @@ faulty_file_is_there files formula wanted boolean.TooManyTriangles h = tt
 faulty_file_is_there files formula wanted boolean.OutOfMemory h = tt
 
 -- ---- faults and statuses
-module _ (told : List ℕ → Option (List ℕ)) (names : List (List ℕ)) (files : List MeshFile) (are : AreFiles told names files) where
+module _ (told : List ℕ → Option (List ℕ)) (names : List (List ℕ)) (files : List InputFile) (are : AreFiles told names files) where
   -- the first file that is refused
   refused_first : (index : ℕ) (fault : FileFault) (reason : List ℕ) → IsFirstUnread files index fault →
       HasReason files index fault reason → IsRefused told names (index + 1) reason
@@ -134,7 +134,7 @@ module _ (told : List ℕ → Option (List ℕ)) (names : List (List ℕ)) (file
         found = file_up_to files index first.file first.found;
         has = first.has;
         surfaces = first.surfaces;
-        before = subst (λ (fs : List MeshFile). AreReadings fs first.surfaces) (sym shorter) first.before;
+        before = subst (λ (fs : List InputFile). AreReadings fs first.surfaces) (sym shorter) first.before;
       } in
       let says_up : HasReason up index fault reason = record {
         file = says.file;

@@ -4,7 +4,7 @@ use Rattle.std.proofs.lemmas.List.{length-map, get_or-map, take_all, take_more}
 use Rattle.std.specs.Prelude.{Result}
 use Rattle.ember_algebra.specs.Relations.{Each}
 use Rattle.ember_algebra.proofs.Relations.{each_push}
-use Rattle.mesh_boolean.specs.declared.files.MeshFile.{MeshFile}
+use Rattle.mesh_boolean.specs.declared.files.InputFile.{InputFile}
 use Rattle.mesh_boolean.specs.Files.{AreReadings, held, reading}
 use Rattle.mesh_file.specs.File.Faults.{Fault}
 use Rattle.mesh_info.specs.Info.Lines.{IsInfoLine}
@@ -25,11 +25,11 @@ use Rattle.mesh_refusal.specs.declared.status.Status.TheVariants.{TooFar, Docume
 
 -- ---- files and their surfaces
 -- there are as many
-pub surfaces_are_as_many : (files : List MeshFile) (surfaces : List Surface) → AreReadings files surfaces → length files ≡ length surfaces
+pub surfaces_are_as_many : (files : List InputFile) (surfaces : List Surface) → AreReadings files surfaces → length files ≡ length surfaces
 surfaces_are_as_many files surfaces h = sym (length-map files reading) ∙ ap length h ∙ length-map surfaces held
 
 -- the line of one file more; d stands for any file past the end
-pub line_more : (files : List MeshFile) (surfaces : List Surface) (i : ℕ) (d : MeshFile) (surface : Surface)
+pub line_more : (files : List InputFile) (surfaces : List Surface) (i : ℕ) (d : InputFile) (surface : Surface)
     (lines line : List ℕ) → AreReadings files surfaces → i < length surfaces
     → surface ≡ get_or surfaces i surface → IsInfoLine (get_or files i d).name.now surface line →
     Each IsFileLine (take i files) lines → Each IsFileLine (take (i + 1) files) (lines ++ line)
@@ -40,14 +40,14 @@ line_more files surfaces i d surface lines line h l at says e =
     ∙ ap (λ (rs : List (Result Content Fault)). get_or rs i (held surface)) h
     ∙ get_or-map held surfaces i surface (held surface) l
     ∙ ap held (sym at) in
-    subst (λ (fs : List MeshFile). Each IsFileLine fs (lines ++ line)) (sym (take_more files i d below))
+    subst (λ (fs : List InputFile). Each IsFileLine fs (lines ++ line)) (sym (take_more files i d below))
     (each_push e (record { surface = surface; read = read; says = says }))
 
 -- the lines of all files
-pub lines_of_all : (files : List MeshFile) (surfaces : List Surface) (lines : List ℕ) → AreReadings files surfaces →
+pub lines_of_all : (files : List InputFile) (surfaces : List Surface) (lines : List ℕ) → AreReadings files surfaces →
     Each IsFileLine (take (length surfaces) files) lines → Each IsFileLine files lines
 lines_of_all files surfaces lines h e =
-    subst (λ (fs : List MeshFile). Each IsFileLine fs lines)
+    subst (λ (fs : List InputFile). Each IsFileLine fs lines)
     (ap (λ (n : ℕ). take n files) (sym (surfaces_are_as_many files surfaces h))
     ∙ take_all (length files) files (omega arith)) e
 

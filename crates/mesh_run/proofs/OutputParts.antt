@@ -4,9 +4,9 @@ use Rattle.std.proofs.lemmas.Bool.{false≢true}
 use Rattle.std.proofs.lemmas.List.{length-map}
 use Rattle.std.specs.declared.option.Option.{Option}
 use Rattle.std.specs.Prelude.{IsSome, is_some}
-use Rattle.mesh_boolean.specs.declared.files.MeshFile.{MeshFile}
+use Rattle.mesh_boolean.specs.declared.files.InputFile.{InputFile}
 use Rattle.mesh_boolean.specs.declared.output.SolidFile.{SolidFile}
-use Rattle.mesh_boolean.specs.declared.writing.Written.{Written}
+use Rattle.mesh_boolean.specs.declared.writing.OutputMesh.{OutputMesh}
 use Rattle.mesh_boolean.specs.Files.{AreReadings}
 use Rattle.mesh_grid.specs.declared.grid.grid.Grid.{Grid}
 use Rattle.mesh_words.specs.declared.command.ExportRequest.{ExportRequest}
@@ -27,19 +27,19 @@ use Rattle.mesh_run.proofs.ToldFiles.{files_are_as_many}
 
 -- ---- counts and moves
 -- there are as many surfaces as names
-named_surfaces : (told : List ℕ → Option (List ℕ)) (names : List (List ℕ)) (files : List MeshFile)
+named_surfaces : (told : List ℕ → Option (List ℕ)) (names : List (List ℕ)) (files : List InputFile)
     (surfaces : List Surface) → AreFiles told names files → AreReadings files surfaces → length surfaces ≡ length names
 named_surfaces told names files surfaces are read = sym (surfaces_are_as_many files surfaces read) ∙ files_are_as_many told names files are
 
 -- as many counts
-named_counts : (told : List ℕ → Option (List ℕ)) (names : List (List ℕ)) (files : List MeshFile)
+named_counts : (told : List ℕ → Option (List ℕ)) (names : List (List ℕ)) (files : List InputFile)
     (surfaces : List Surface) (grid : Grid) (counts : List Counts) → AreFiles told names files →
     AreReadings files surfaces → counts ≡ map (counts_on grid) surfaces → length counts ≡ length names
 named_counts told names files surfaces grid counts are read e =
     ap length e ∙ length-map surfaces (counts_on grid) ∙ named_surfaces told names files surfaces are read
 
 -- and as many moves
-named_moves : (told : List ℕ → Option (List ℕ)) (names : List (List ℕ)) (files : List MeshFile)
+named_moves : (told : List ℕ → Option (List ℕ)) (names : List (List ℕ)) (files : List InputFile)
     (surfaces : List Surface) (grid : Grid) (moves : List Length) → AreFiles told names files →
     AreReadings files surfaces → AreMoves grid surfaces moves → length moves ≡ length names
 named_moves told names files surfaces grid moves are read e =
@@ -88,6 +88,6 @@ pub shown_is_there : (request : Request) (told : List ℕ → Option (List ℕ))
 shown_is_there request told out h s = named_is_there h.wanted.shows _ out.written.shown request.view h.of_files.is_output.shown h.asks.file.shows s
 
 -- and of a document
-pub export_shown_is_there : (request : ExportRequest) (told : List ℕ → Option (List ℕ)) (mesh : Written) →
+pub export_shown_is_there : (request : ExportRequest) (told : List ℕ → Option (List ℕ)) (mesh : OutputMesh) →
     IsExport request told mesh → IsSome request.view → IsSome mesh.shown
 export_shown_is_there request told mesh h s = named_is_there (is_some request.view) _ mesh.shown request.view h.of_document.shown refl s

@@ -7,35 +7,35 @@ use Rattle.std.specs.declared.alloc.Global.{Global}
 use Rattle.std.specs.declared.option.Option.{Option}
 use Rattle.std.specs.Prelude.{Vec}
 use Rattle.std.specs.List.{All, AllZip, slice_get}
-use Rattle.mesh_boolean.specs.declared.files.MeshFile.{MeshFile}
+use Rattle.mesh_boolean.specs.declared.files.InputFile.{InputFile}
 use Rattle.mesh_boolean.specs.Files.{IsSmall, AreReadings}
 use Rattle.ember_io.specs.Shelves.{Tells}
 use Rattle.mesh_read.specs.declared.surface.surface.Surface.{Surface}
 use Rattle.mesh_run.specs.Files.{AreBytes, AreContents, AreFiles, AreReadAs}
 
-abbrev name_in : MeshFile → List ℕ
+abbrev name_in : InputFile → List ℕ
 name_in file = file.name.now
 
-abbrev bytes_in : MeshFile → List ℕ
+abbrev bytes_in : InputFile → List ℕ
 bytes_in file = file.bytes.now
 
 abbrev pub items_of : Vec ℕ Global → List ℕ
 items_of bytes = bytes.items
 
-abbrev IsTold : (List ℕ → Option (List ℕ)) → MeshFile → Type 0
+abbrev IsTold : (List ℕ → Option (List ℕ)) → InputFile → Type 0
 IsTold told file = Tells (told file.name.now) file.bytes.now
 
 -- ---- files made of names and bytes
 -- one name more
-pub names_more : (files after : List MeshFile) (names : List (List ℕ)) (i : ℕ) (d : List ℕ) (file : MeshFile) →
+pub names_more : (files after : List InputFile) (names : List (List ℕ)) (i : ℕ) (d : List ℕ) (file : InputFile) →
     i < length names → map name_in files ≡ take i names → after ≡ files ++ file ∷ [] → file.name.now ≡ get_or names i d →
     map name_in after ≡ take (i + 1) names
 names_more files after names i d file l p q e =
     ap (map name_in) q ∙ map-append name_in files (file ∷ []) ∙ (λ k. p k ++ e k ∷ []) ∙ sym (take_more names i d l)
 
 -- the bytes of one file more
-pub bytes_more : (files after : List MeshFile) (contents : List (Vec ℕ Global)) (i : ℕ) (d : Vec ℕ Global)
-    (file : MeshFile) → i < length contents → map bytes_in files ≡ map items_of (take i contents) →
+pub bytes_more : (files after : List InputFile) (contents : List (Vec ℕ Global)) (i : ℕ) (d : Vec ℕ Global)
+    (file : InputFile) → i < length contents → map bytes_in files ≡ map items_of (take i contents) →
     after ≡ files ++ file ∷ [] → file.bytes.now ≡ (get_or contents i d).items →
     map bytes_in after ≡ map items_of (take (i + 1) contents)
 bytes_more files after contents i d file l p q e =
@@ -44,21 +44,21 @@ bytes_more files after contents i d file l p q e =
     ∙ map-append items_of (take i contents) (get_or contents i d ∷ []))
 
 -- there are as many files as bytes
-pub files_are_of_contents : (files : List MeshFile) (contents : List (Vec ℕ Global)) →
+pub files_are_of_contents : (files : List InputFile) (contents : List (Vec ℕ Global)) →
     map bytes_in files ≡ map items_of contents → length files ≡ length contents
 files_are_of_contents files contents b = sym (length-map files bytes_in) ∙ ap length b ∙ length-map contents items_of
 
 abbrev IsShort : List ℕ → Type 0
 IsShort bytes = length bytes ≤ 268435456
 
-short_files : (files : List MeshFile) → All IsShort (map bytes_in files) → All IsSmall files
+short_files : (files : List InputFile) → All IsShort (map bytes_in files) → All IsSmall files
 short_files [] h = All-nil IsSmall
 short_files (file ∷ files) h =
     All-cons IsSmall file files (All-head IsShort file.bytes.now (map bytes_in files) h)
     (short_files files (All-tail IsShort file.bytes.now (map bytes_in files) h))
 
 -- files of small contents are small
-pub files_are_small : (files : List MeshFile) (contents : List (Vec ℕ Global)) →
+pub files_are_small : (files : List InputFile) (contents : List (Vec ℕ Global)) →
     map bytes_in files ≡ map items_of contents → All (λ (bytes : Vec ℕ Global). length bytes.items ≤ 268435456) contents →
     All IsSmall files
 files_are_small files contents b h = short_files files (subst (All IsShort) (sym b) (All-map IsShort items_of contents h))
@@ -75,16 +75,16 @@ contents_more told names i d before after bytes l h q b =
     (AllZip-push (AreBytes told) (take i names) (map items_of before) (get_or names i d) bytes.items h b))
 
 -- ---- files of a shelf
-all_told : (told : List ℕ → Option (List ℕ)) (files : List MeshFile) → AllZip (AreBytes told) (map name_in files) (map bytes_in files) → All (IsTold told) files
+all_told : (told : List ℕ → Option (List ℕ)) (files : List InputFile) → AllZip (AreBytes told) (map name_in files) (map bytes_in files) → All (IsTold told) files
 all_told told [] h = All-nil (IsTold told)
 all_told told (file ∷ files) h = All-cons (IsTold told) file files h.0.tells (all_told told files h.1)
 
-all_small : (told : List ℕ → Option (List ℕ)) (files : List MeshFile) → AllZip (AreBytes told) (map name_in files) (map bytes_in files) → All IsSmall files
+all_small : (told : List ℕ → Option (List ℕ)) (files : List InputFile) → AllZip (AreBytes told) (map name_in files) (map bytes_in files) → All IsSmall files
 all_small told [] h = All-nil IsSmall
 all_small told (file ∷ files) h = All-cons IsSmall file files h.0.small (all_small told files h.1)
 
 -- files with these names and bytes are those of the shelf
-pub files_are_told : (told : List ℕ → Option (List ℕ)) (names contents : List (List ℕ)) (files : List MeshFile) →
+pub files_are_told : (told : List ℕ → Option (List ℕ)) (names contents : List (List ℕ)) (files : List InputFile) →
     map name_in files ≡ names → map bytes_in files ≡ contents → AllZip (AreBytes told) names contents →
     AreFiles told names files
 files_are_told told names contents files n b h =
@@ -94,7 +94,7 @@ files_are_told told names contents files n b h =
     record { named = n; tells = all_told told files zipped; small = all_small told files zipped }
 
 -- and if they are read, these are their surfaces
-pub files_are_read : (told : List ℕ → Option (List ℕ)) (names contents : List (List ℕ)) (files : List MeshFile)
+pub files_are_read : (told : List ℕ → Option (List ℕ)) (names contents : List (List ℕ)) (files : List InputFile)
     (surfaces : List Surface) → map name_in files ≡ names → map bytes_in files ≡ contents →
     AllZip (AreBytes told) names contents → AreReadings files surfaces → AreReadAs told names surfaces
 files_are_read told names contents files surfaces n b h read =
@@ -110,12 +110,12 @@ contents_are_small told (name ∷ names) (bytes ∷ more) h =
 
 -- ---- files up to one of them
 -- there are as many files as names
-pub files_are_as_many : (told : List ℕ → Option (List ℕ)) (names : List (List ℕ)) (files : List MeshFile) →
+pub files_are_as_many : (told : List ℕ → Option (List ℕ)) (names : List (List ℕ)) (files : List InputFile) →
     AreFiles told names files → length files ≡ length names
 files_are_as_many told names files h = sym (length-map files name_in) ∙ ap length h.named
 
 -- the first n files are those of the first n names
-pub files_up_to : (told : List ℕ → Option (List ℕ)) (names : List (List ℕ)) (files : List MeshFile) (n : ℕ) →
+pub files_up_to : (told : List ℕ → Option (List ℕ)) (names : List (List ℕ)) (files : List InputFile) (n : ℕ) →
     AreFiles told names files → AreFiles told (take n names) (take n files)
 files_up_to told names files n h = record {
   named = sym (take-map name_in n files) ∙ ap (λ (ns : List (List ℕ)). take n ns) h.named;
@@ -124,14 +124,14 @@ files_up_to told names files n h = record {
 }
 
 -- a file is among the files up to it
-pub file_up_to : (files : List MeshFile) (index : ℕ) (file : MeshFile) → slice_get files index ≡ Some file →
+pub file_up_to : (files : List InputFile) (index : ℕ) (file : InputFile) → slice_get files index ≡ Some file →
     slice_get (take (index + 1) files) index ≡ Some file
 file_up_to files index file found =
     let inside = slice_get_within files index file found in
     let long = length-take-le (index + 1) files (omega (arith, inside)) in
     let same : get_or (take (index + 1) files) index file ≡ file =
     get_or-take (index + 1) files index file (omega arith) ∙ get_or_from_slice_get files index file file found in
-    slice_get-get_or (take (index + 1) files) index file (omega (arith, long)) ∙ ap (λ (f : MeshFile). Some f) same
+    slice_get-get_or (take (index + 1) files) index file (omega (arith, long)) ∙ ap (λ (f : InputFile). Some f) same
 
 -- ---- contents of all files
 -- there is one for each name

@@ -2,7 +2,7 @@
 use Rattle.std.specs.Prelude.{◌≡◌, ◌⊎◌, ⊤, ℕ, ◌-◌, List, take, string_bytes}
 use Rattle.std.specs.declared.option.Option.{Option}
 use Rattle.mesh_boolean.specs.declared.fault.BooleanFault.TheVariants as boolean
-use Rattle.mesh_boolean.specs.declared.files.MeshFile.{MeshFile}
+use Rattle.mesh_boolean.specs.declared.files.InputFile.{InputFile}
 use Rattle.mesh_boolean.specs.declared.wanted.WantedFile.{WantedFile}
 use Rattle.mesh_boolean.specs.Faults.{IsBooleanFault, IsFirstUnread, IsPlacingFault}
 use Rattle.ember_expr.specs.Formula.{Formula}
@@ -50,7 +50,7 @@ pub record IsLong (told : List ℕ → Option (List ℕ)) (names : List (List �
 -- file i is the first that is refused, for this reason; nothing is said of the files after it
 pub record IsRefused (told : List ℕ → Option (List ℕ)) (names : List (List ℕ)) (i : ℕ) (reason : List ℕ) : Type 0 where
   pub one_of : IsFileIn names i
-  pub files : List MeshFile
+  pub files : List InputFile
   pub are_files : AreFiles told (take i names) files
   pub fault : FileFault
   pub first : IsFirstUnread files (i - 1) fault
@@ -82,9 +82,9 @@ IsEndAt told names i end kind status =
 
 -- ---- all files together
 -- the files have a fault
-pub record HaveFault (told : List ℕ → Option (List ℕ)) (names : List (List ℕ)) (IsFault : List MeshFile → Type 0) :
+pub record HaveFault (told : List ℕ → Option (List ℕ)) (names : List (List ℕ)) (IsFault : List InputFile → Type 0) :
     Type 0 where
-  pub files : List MeshFile
+  pub files : List InputFile
   pub are_files : AreFiles told names files
   pub is_fault : IsFault files
 
@@ -96,7 +96,7 @@ HaveSceneFault told names wanted fault = HaveFault told names
 -- one of them isn't closed on the grid, and has this format
 pub record HaveOpen (told : List ℕ → Option (List ℕ)) (names : List (List ℕ)) (wanted : Wanted) (o : Open)
     (format : Format) : Type 0 where
-  pub files : List MeshFile
+  pub files : List InputFile
   pub are_files : AreFiles told names files
   pub is_fault : IsPlacingFault files wanted (boolean.Scene (scene.Open o))
   pub format_is : HasFormat files o.file format

@@ -3,7 +3,7 @@ use Rattle.std.specs.Prelude.{◌≡◌, ⊤, ℕ, ◌-◌, List, Some, None, Al
 use Rattle.std.specs.declared.option.Option.{Option}
 use Rattle.mesh_boolean.specs.declared.document.DocumentFileFault.{DocumentFileFault}
 use Rattle.mesh_boolean.specs.declared.document.DocumentFileFault.TheVariants as document
-use Rattle.mesh_boolean.specs.declared.writing.Written.{Written}
+use Rattle.mesh_boolean.specs.declared.writing.OutputMesh.{OutputMesh}
 use Rattle.mesh_boolean.specs.DocumentFiles.{IsDocumentFileFault, IsDocumentOutput}
 use Rattle.mesh_grid.specs.declared.grid.grid.Grid.{Grid}
 use Rattle.ember_io.specs.Shelves.{TellsMore}
@@ -40,7 +40,7 @@ IsGridGiven request told grid = MatchOption request.scene (grid ≡ unit_grid) (
 
 -- ---- the mesh
 -- the document on its grid, in the format that is asked for, and as a page shows it if a page is named
-pub record IsExport (request : ExportRequest) (told : List ℕ → Option (List ℕ)) (mesh : Written) : Type 0 where
+pub record IsExport (request : ExportRequest) (told : List ℕ → Option (List ℕ)) (mesh : OutputMesh) : Type 0 where
   pub grid : Grid
   pub grid_is : IsGridGiven request told grid
   pub bytes : List ℕ

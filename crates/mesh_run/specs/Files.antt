@@ -3,20 +3,20 @@ use Rattle.std.specs.Prelude.{◌≡◌, ℕ, ◌≤◌, List, length, map, All,
 use Rattle.std.specs.declared.alloc.Global.{Global}
 use Rattle.std.specs.declared.option.Option.{Option}
 use Rattle.std.specs.List.{AllZip}
-use Rattle.mesh_boolean.specs.declared.files.MeshFile.{MeshFile}
+use Rattle.mesh_boolean.specs.declared.files.InputFile.{InputFile}
 use Rattle.mesh_boolean.specs.Files.{IsSmall, AreReadings}
 use Rattle.ember_io.specs.Shelves.{Tells}
 use Rattle.mesh_read.specs.declared.surface.surface.Surface.{Surface}
 
 -- these are the files with these names, in order; each has the bytes that the shelf tells of it, at most 2^28
-pub record AreFiles (told : List ℕ → Option (List ℕ)) (names : List (List ℕ)) (files : List MeshFile) : Type 0 where
+pub record AreFiles (told : List ℕ → Option (List ℕ)) (names : List (List ℕ)) (files : List InputFile) : Type 0 where
   pub named : map (λ file. file.name.now) files ≡ names
   pub tells : All (λ file. Tells (told file.name.now) file.bytes.now) files
   pub small : All IsSmall files
 
 -- no file with one of these names is refused, and these are their surfaces, in order
 pub record AreReadAs (told : List ℕ → Option (List ℕ)) (names : List (List ℕ)) (surfaces : List Surface) : Type 0 where
-  pub files : List MeshFile
+  pub files : List InputFile
   pub are_files : AreFiles told names files
   pub readings : AreReadings files surfaces
 

@@ -1,7 +1,7 @@
 -- The output of a request, and what it means
 use Rattle.std.specs.Prelude.{ℕ, List}
 use Rattle.std.specs.declared.option.Option.{Option}
-use Rattle.mesh_boolean.specs.declared.files.MeshFile.{MeshFile}
+use Rattle.mesh_boolean.specs.declared.files.InputFile.{InputFile}
 use Rattle.mesh_boolean.specs.declared.wanted.WantedFile.{WantedFile}
 use Rattle.mesh_boolean.specs.declared.output.SolidFile.{SolidFile}
 use Rattle.mesh_boolean.specs.Files.{IsPlaced}
@@ -22,7 +22,7 @@ use Rattle.mesh_run.specs.Files.{AreFiles}
 -- the output is that of the files with these names
 pub record IsFilesOutput (told : List ℕ → Option (List ℕ)) (names : List (List ℕ)) (formula : Formula)
     (wanted : WantedFile) (output : SolidFile) : Type 0 where
-  pub files : List MeshFile
+  pub files : List InputFile
   pub are_files : AreFiles told names files
   pub is_output : IsOutput files formula wanted output
 
@@ -30,7 +30,7 @@ pub record IsFilesOutput (told : List ℕ → Option (List ℕ)) (names : List (
 -- grid, and not at all elsewhere; around each point that is clear of the output's triangles alone, once or not at all.
 -- The written triangles do so outside of the reported moves: with the winding numbers of the files, if these are closed,
 -- and with those of their triangles on the grid
-pub record MeansFormula (files : List MeshFile) (formula : Formula) (wanted : WantedFile) (output : SolidFile)
+pub record MeansFormula (files : List InputFile) (formula : Formula) (wanted : WantedFile) (output : SolidFile)
     (is : IsOutput files formula wanted output) : Type 0 where
   pub means : HaveMeaning (images_of output.grid is.surfaces) formula (faces_of_mesh is.mesh)
   pub once : WindOnceAtMost (faces_of_mesh is.mesh)
@@ -50,7 +50,7 @@ pub record IsOutputFor (request : Request) (told : List ℕ → Option (List ℕ
 pub record AreFilesPlaced (told : List ℕ →
     Option (List ℕ)) (names : List (List ℕ)) (wanted : Wanted) (placed : PlacedScene) :
     Type 0 where
-  pub files : List MeshFile
+  pub files : List InputFile
   pub are_files : AreFiles told names files
   pub is_placed : IsPlaced files wanted placed
 

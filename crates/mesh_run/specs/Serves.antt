@@ -2,7 +2,7 @@
 use Rattle.std.specs.Prelude.{◌≡◌, ◌≤◌, ℕ, Bool, List, [], ◌∷◌, false, None, Some, Result, Ok, Err}
 use Rattle.std.specs.declared.option.Option.{Option}
 use Rattle.mesh_boolean.specs.declared.output.SolidFile.{SolidFile}
-use Rattle.mesh_boolean.specs.declared.writing.Written.{Written}
+use Rattle.mesh_boolean.specs.declared.writing.OutputMesh.{OutputMesh}
 use Rattle.mesh_words.specs.declared.command.Command.{Command}
 use Rattle.mesh_words.specs.declared.command.Command.TheVariants.{Boole, Snap, Export, Info, View, Help, Version}
 use Rattle.mesh_words.specs.declared.command.ExportRequest.{ExportRequest}
@@ -28,7 +28,7 @@ use Rattle.mesh_refusal.specs.Said.{export_said, memory_said, output_said, readi
 use Rattle.mesh_refusal.specs.Said.{snap_said, solid_said, words_said}
 use Rattle.mesh_report.specs.Said.{exported_report, placed_report, solid_report}
 use Rattle.mesh_run.specs.Unmet.{EndsAs, EndsOn, IsUnmet}
-use Rattle.mesh_run.specs.Writes.{AreMeshFiles, AreSceneFiles, AreSolidFiles, sent_to}
+use Rattle.mesh_run.specs.Writes.{ArePageAndMesh, AreSceneFiles, AreSolidFiles, sent_to}
 use Rattle.mesh_refusal.specs.declared.status.Status.{Status}
 use Rattle.mesh_refusal.specs.declared.status.Status.TheVariants.{Done, Words, WriteFault, OutOfMemory}
 
@@ -111,10 +111,10 @@ IsSnapOutcome json request shelf target status text =
 -- is the report of the mesh
 pub record PutsExport (json : Bool) (request : ExportRequest) (shelf : ShelfCall) (target : TargetCall)
     (sent : Option (List ℕ)) (report : List ℕ) : Type 0 where
-  pub mesh : Written
+  pub mesh : OutputMesh
   pub is_export : IsExport request shelf.told mesh
   pub files : List NamedBytes
-  pub are_files : AreMeshFiles request.view request.output mesh files
+  pub are_files : ArePageAndMesh request.view request.output mesh files
   pub written : PutsEach files target.held target.held_after
   pub sent_is : sent ≡ sent_to request.output mesh.bytes.items
   pub report_is : report ≡ exported_report json request mesh
@@ -130,9 +130,9 @@ pub record WritesExport (json : Bool) (request : ExportRequest) (shelf : ShelfCa
 -- these are the files of a mesh that the request asks for
 pub record AreExportFilesFor (request : ExportRequest) (told : List ℕ → Option (List ℕ)) (files : List NamedBytes) :
     Type 0 where
-  pub mesh : Written
+  pub mesh : OutputMesh
   pub is_export : IsExport request told mesh
-  pub are_files : AreMeshFiles request.view request.output mesh files
+  pub are_files : ArePageAndMesh request.view request.output mesh files
 
 abbrev pub IsExportUnmet : ExportRequest → ShelfCall → TargetCall → Status → Type 0
 IsExportUnmet request shelf target status =

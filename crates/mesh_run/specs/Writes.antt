@@ -4,7 +4,7 @@ use Rattle.std.specs.declared.option.Option.{Option}
 use Rattle.std.specs.Global.{Vec}
 use Rattle.mesh_boolean.specs.declared.output.KeptDocument.{KeptDocument}
 use Rattle.mesh_boolean.specs.declared.output.SolidFile.{SolidFile}
-use Rattle.mesh_boolean.specs.declared.writing.Written.{Written}
+use Rattle.mesh_boolean.specs.declared.writing.OutputMesh.{OutputMesh}
 use Rattle.mesh_words.specs.declared.command.Destination.{Destination}
 use Rattle.mesh_words.specs.declared.command.Destination.TheVariants.{File, StandardOutput}
 use Rattle.mesh_words.specs.declared.command.Request.{Request}
@@ -15,7 +15,7 @@ use Rattle.mesh_write.specs.Page.ReadBack.{IsReadBack}
 use Rattle.mesh_scene.specs.declared.scene.scene.PlacedScene.{PlacedScene}
 use Rattle.mesh_scene.specs.SceneFile.Meshes.{mesh_text, triangles_of}
 use Rattle.mesh_scene.specs.SceneFile.Texts.{IsSceneText}
-use Rattle.mesh_write.specs.declared.stl.triangle.WrittenTriangle.{WrittenTriangle}
+use Rattle.mesh_write.specs.declared.stl.triangle.FloatTriangle.{FloatTriangle}
 use Rattle.mesh_outside.specs.Target.Several.{NamedBytes}
 
 -- they are there if a name is given for them
@@ -64,16 +64,17 @@ title_at StandardOutput = codes "standard output"
 
 -- ---- a mesh
 -- the page of this name that shows these triangles under that title; a reader finds them in it again
-pub record IsPageFile (title : List ℕ) (shown : Option (Vec WrittenTriangle)) (name : List ℕ)
+pub record IsPageFile (title : List ℕ) (shown : Option (Vec FloatTriangle)) (name : List ℕ)
     (files : List NamedBytes) :
     Type 0 where
-  pub triangles : Vec WrittenTriangle
+  pub triangles : Vec FloatTriangle
   pub are_shown : shown ≡ Some triangles
   pub all : files ≡ (name, page_of title triangles.items) ∷ []
   pub read_back : IsReadBack triangles.items (page_of title triangles.items)
 
 -- the page that shows a mesh, if a page is asked for, and behind it the mesh, if it goes to a file
-pub record AreMeshFiles (page : Option (List ℕ)) (output : Destination) (mesh : Written) (files : List NamedBytes) :
+pub record ArePageAndMesh (page : Option (List ℕ)) (output : Destination) (mesh : OutputMesh)
+    (files : List NamedBytes) :
     Type 0 where
   pub pages : List NamedBytes
   pub are_pages : AreFilesIf page (IsPageFile (title_at output) mesh.shown) pages
@@ -103,5 +104,5 @@ pub record AreSolidFiles (request : Request) (out : SolidFile) (files : List Nam
   pub kept : List NamedBytes
   pub are_kept : AreFilesIf request.keep (AreOutputsKept request.files out) kept
   pub mesh : List NamedBytes
-  pub are_mesh : AreMeshFiles request.view request.output out.written mesh
+  pub are_mesh : ArePageAndMesh request.view request.output out.written mesh
   pub all : files ≡ kept ++ mesh

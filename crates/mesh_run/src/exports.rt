@@ -14,12 +14,12 @@ use crate::reading::MOST_BYTES;
 use crate::writing::{Sending, say_why, send, write_files};
 use ember_io::{ReadEnd, Shelf, Sink, read_all};
 use ember_words::Text;
-use mesh_boolean::{DocumentFileFault, Written, document_file};
+use mesh_boolean::{DocumentFileFault, OutputMesh, document_file};
 use mesh_grid::{Grid, GridStep, Offset};
 use mesh_outside::Target;
 use mesh_refusal::{Status, export_said};
 use mesh_report::exported_report;
-use mesh_scene::{SceneFileFault, read_scene};
+use mesh_scene::{SceneFileFault, read_grid};
 use mesh_words::ExportRequest;
 use std::alloc::Global;
 
@@ -61,7 +61,7 @@ fn grid_in(alloc: Global, bytes: &[u8]) -> Result<Grid, Status>
     ensures grid { IfOk result (IsSceneOf bytes.now) }
     ensures cause { IfErr result (IsNoGrid bytes.now) }
 {
-    match read_scene(alloc, bytes) {
+    match read_grid(alloc, bytes) {
         Ok(grid) => Ok(grid),
         Err(SceneFileFault::NotAScene) => Err(Status::NotAScene),
         Err(SceneFileFault::OutOfMemory) => Err(Status::OutOfMemory),
@@ -113,7 +113,7 @@ fn mesh_for<S: Shelf>(
     alloc: Global,
     request: &ExportRequest,
     shelf: &mut S,
-) -> Result<Written, Status>
+) -> Result<OutputMesh, Status>
     requires { IfSome request.now.digits (λ n. n ≤ 17) }
     ensures contents { KeepsContents (shelf_call S.contents S.faults S.fault_at S.fault_kind shelf.old shelf.new) }
     ensures mesh { IfOk result (IsExport request.now (S.contents shelf.old)) }

@@ -5,20 +5,20 @@ ghost use Rattle.mesh_write.specs.Page.ReadBack.{IsReadBack};
 ghost use Rattle.mesh_grid.specs.Snap.Steps.{IsStep};
 ghost use Rattle.mesh_outside.specs.Target.Several.{names_and_bytes};
 ghost use Rattle.mesh_words.specs.Folders.{document_name, scene_name};
-ghost use Rattle.mesh_run.specs.Writes.{AreAppended, AreFilesIf, AreKeptFiles, AreMeshFiles, AreOutputsKept, AreSceneFiles, AreSolidFiles, IsPageFile, mesh_file, mesh_file_at, mesh_files, sent_to, title_at};
+ghost use Rattle.mesh_run.specs.Writes.{AreAppended, AreFilesIf, AreKeptFiles, ArePageAndMesh, AreOutputsKept, AreSceneFiles, AreSolidFiles, IsPageFile, mesh_file, mesh_file_at, mesh_files, sent_to, title_at};
 
 use ember_model::{OutOfMemory, Tri};
 use ember_words::Text;
-use mesh_boolean::{KeptDocument, SolidFile, Written};
+use mesh_boolean::{KeptDocument, OutputMesh, SolidFile};
 use mesh_outside::NamedFile;
 use mesh_scene::{PlacedScene, grid_mesh, scene_text};
 use mesh_words::{Destination, Request, document_name, mesh_name, scene_name};
-use mesh_write::{WrittenTriangle, page_bytes};
+use mesh_write::{FloatTriangle, page_bytes};
 use std::alloc::Global;
 
 /// The files of a mesh, and what of it goes to standard output.
 #[derive(Drop)]
-pub struct MeshFiles {
+pub struct OutputFiles {
     pub files: Vec<NamedFile>,
     pub sent: Option<Vec<u8>>,
 }
@@ -154,7 +154,7 @@ fn put_page(
     alloc: Global,
     page: &Text,
     title: &[u8],
-    shown: &[WrittenTriangle],
+    shown: &[FloatTriangle],
     files: &mut Vec<NamedFile>,
 ) -> Result<(), OutOfMemory>
     ensures is_page { OnOk result (names_and_bytes files.new.items ≡
@@ -170,7 +170,7 @@ fn put_pages(
     alloc: Global,
     page: &Option<Text>,
     title: &[u8],
-    shown: Option<Vec<WrittenTriangle>>,
+    shown: Option<Vec<FloatTriangle>>,
     files: &mut Vec<NamedFile>,
 ) -> Result<(), OutOfMemory>
     requires { IsSome page.now → IsSome shown }
@@ -216,19 +216,19 @@ fn put_mesh_at(
 
 // Appends the page that shows a mesh, if one is asked for, and the mesh, if it goes to a file.
 // Otherwise the bytes of the mesh come back.
-fn put_mesh_files(
+fn put_page_and_mesh(
     alloc: Global,
     page: &Option<Text>,
     output: &Destination,
-    mesh: Written,
+    mesh: OutputMesh,
     files: &mut Vec<NamedFile>,
 ) -> Result<Option<Vec<u8>>, OutOfMemory>
     requires { IsSome page.now → IsSome mesh.shown }
-    ensures put { OnOk result (AreAppended (AreMeshFiles page.now output.now mesh)
+    ensures put { OnOk result (AreAppended (ArePageAndMesh page.now output.now mesh)
         (names_and_bytes files.old.items) (names_and_bytes files.new.items)) }
     ensures sent { IfOk result (λ sent. option_map (λ b. b.items) sent ≡ sent_to output.now mesh.bytes.items) }
 {
-    let Written { bytes, shown, .. } = mesh;
+    let OutputMesh { bytes, shown, .. } = mesh;
     put_pages(alloc, page, title_at(output), shown, files)?;
     put_mesh_at(alloc, output, bytes, files)
 }
@@ -239,16 +239,16 @@ pub fn written_files(
     alloc: Global,
     page: &Option<Text>,
     output: &Destination,
-    mesh: Written,
-) -> Result<MeshFiles, OutOfMemory>
+    mesh: OutputMesh,
+) -> Result<OutputFiles, OutOfMemory>
     requires { IsSome page.now → IsSome mesh.shown }
-    ensures files { IfOk result (λ made. AreMeshFiles page.now output.now mesh (names_and_bytes made.files.items)) }
+    ensures files { IfOk result (λ made. ArePageAndMesh page.now output.now mesh (names_and_bytes made.files.items)) }
     ensures sent { IfOk result (λ made.
         option_map (λ b. b.items) made.sent ≡ sent_to output.now mesh.bytes.items) }
 {
     let mut files = Vec::new(alloc);
-    let sent = put_mesh_files(alloc, page, output, mesh, &mut files)?;
-    Ok(MeshFiles { files, sent })
+    let sent = put_page_and_mesh(alloc, page, output, mesh, &mut files)?;
+    Ok(OutputFiles { files, sent })
 }
 
 // Appends the files of a scene in a folder, and the document.
@@ -276,7 +276,7 @@ fn kept_files(
     alloc: Global,
     request: &Request,
     output: SolidFile,
-) -> Result<(Vec<NamedFile>, Written), OutOfMemory>
+) -> Result<(Vec<NamedFile>, OutputMesh), OutOfMemory>
     requires few { length request.now.files ≤ 64 }
     requires step { IsStep output.grid.step }
     requires counts { length output.counts.items ≡ length request.now.files }
@@ -322,7 +322,7 @@ pub fn solid_files(
     alloc: Global,
     request: &Request,
     output: SolidFile,
-) -> Result<MeshFiles, OutOfMemory>
+) -> Result<OutputFiles, OutOfMemory>
     requires few { length request.now.files ≤ 64 }
     requires step { IsStep output.grid.step }
     requires counts { length output.counts.items ≡ length request.now.files }
@@ -334,6 +334,6 @@ pub fn solid_files(
         option_map (λ b. b.items) made.sent ≡ sent_to request.now.output output.written.bytes.items) }
 {
     let (mut files, mesh) = kept_files(alloc, request, output)?;
-    let sent = put_mesh_files(alloc, &request.view, &request.output, mesh, &mut files)?;
-    Ok(MeshFiles { files, sent })
+    let sent = put_page_and_mesh(alloc, &request.view, &request.output, mesh, &mut files)?;
+    Ok(OutputFiles { files, sent })
 }

@@ -11,12 +11,12 @@ ghost use Rattle.mesh_run.specs.Infos.{AreInfoLines, IsFileLine};
 ghost use Rattle.mesh_run.specs.Memory.{hides_memory};
 ghost use Rattle.mesh_run.specs.Serves.{IsInfoOutcome};
 
-use crate::reading::{mesh_files, read_contents};
+use crate::reading::{input_files, read_contents};
 use crate::writing::{say, say_out_of_memory, write_bytes};
 use ember_io::{Shelf, Sink};
 use ember_model::OutOfMemory;
 use ember_words::{Text, Texts};
-use mesh_boolean::{MeshFile, surfaces_in};
+use mesh_boolean::{InputFile, surfaces_in};
 use mesh_info::put_info;
 use mesh_read::Surface;
 use mesh_refusal::{Status, reading_said, status_of};
@@ -27,7 +27,7 @@ use steal_pool::OpenGate;
 #[tactic(auto, using(crate::proofs::InfoOutcomes::surfaces_are_as_many))]
 fn info_lines(
     alloc: Global,
-    files: &[MeshFile],
+    files: &[InputFile],
     surfaces: &[Surface],
 ) -> Result<Vec<u8>, OutOfMemory>
     requires { AreReadings files.now surfaces.now }
@@ -50,7 +50,7 @@ fn infos_of_contents(alloc: Global, names: &[Text], contents: &[Vec<u8>]) -> Res
     ensures cause { IfErr result (λ status. (told : List ℕ → Option (List ℕ)) →
         AreContents told names.now contents.now → IsRefusalCause told names.now status) }
 {
-    let made = mesh_files(alloc, names, contents)?;
+    let made = input_files(alloc, names, contents)?;
     let files = made.as_slice();
     match surfaces_in(alloc, files, &OpenGate) {
         Ok(surfaces) => {

@@ -9,7 +9,7 @@ ghost use Rattle.mesh_run.specs.Files.{AreContents, AreReadAs};
 use ember_io::{FaultKind, ReadEnd, Shelf, read_all};
 use ember_model::OutOfMemory;
 use ember_words::Text;
-use mesh_boolean::{MeshFile, surfaces_in};
+use mesh_boolean::{InputFile, surfaces_in};
 use mesh_read::Surface;
 use mesh_refusal::{Status, status_of};
 use std::alloc::Global;
@@ -19,11 +19,11 @@ use steal_pool::OpenGate;
 pub const MOST_BYTES: u64 = 268_435_456;
 
 /// The files with these bytes, in order. There may be more names than bytes.
-pub fn mesh_files<'a>(
+pub fn input_files<'a>(
     alloc: Global,
     names: &'a [Text],
     contents: &'a [Vec<u8>],
-) -> Result<Vec<MeshFile<'a>>, OutOfMemory>
+) -> Result<Vec<InputFile<'a>>, OutOfMemory>
     requires few { length contents.now ≤ length names.now }
     ensures names { IfOk result (λ files.
         map (λ file. file.name.now) files.items ≡ take (length contents.now) names.now) }
@@ -32,7 +32,7 @@ pub fn mesh_files<'a>(
 {
     let mut files = Vec::with_capacity(alloc, contents.len())?;
     for (index, bytes) in contents.iter().enumerate() {
-        files.push(MeshFile {
+        files.push(InputFile {
             name: names[index].as_str().as_bytes(),
             bytes: bytes.as_slice(),
         })?;
@@ -57,7 +57,7 @@ pub fn surfaces_of<'a>(
         AreContents told (take (length contents.now) names.now) contents.now →
         IsRefusalCause told names.now status) }
 {
-    let files = mesh_files(alloc, names, contents)?;
+    let files = input_files(alloc, names, contents)?;
     match surfaces_in(alloc, &files, &OpenGate) {
         Ok(surfaces) => Ok(surfaces),
         Err(fault) => Err(status_of(alloc, &files, fault)),

@@ -13,7 +13,7 @@ ghost use Rattle.mesh_run.specs.Serves.{IsSnapOutcome, IsSnapUnmet, WritesScene}
 
 use crate::asked::wanted_of;
 use crate::files::scene_files;
-use crate::reading::{mesh_files, read_contents};
+use crate::reading::{input_files, read_contents};
 use crate::writing::{say, say_why, write_files};
 use ember_io::{Shelf, Sink};
 use ember_words::Text;
@@ -43,7 +43,7 @@ fn placed_of_contents<P: Stages>(
     ensures cause { IfErr result (λ status. (told : List ℕ → Option (List ℕ)) →
         AreContents told names.now contents.now → IsPlacingCause told names.now wanted status) }
 {
-    let files = mesh_files(alloc, names, contents)?;
+    let files = input_files(alloc, names, contents)?;
     match placed_files(alloc, &files, wanted, stages) {
         Ok(placed) => Ok(placed),
         Err(fault) => Err(status_of(alloc, &files, fault)),

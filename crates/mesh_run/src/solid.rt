@@ -17,7 +17,7 @@ ghost use Rattle.mesh_run.specs.Serves.{IsSolidOutcome, IsSolidUnmet, PutsSolid}
 
 use crate::asked::{Asked, asked_by};
 use crate::files::solid_files;
-use crate::reading::{mesh_files, read_contents};
+use crate::reading::{input_files, read_contents};
 use crate::writing::{Sending, say_why, send, write_files};
 use ember_io::{Shelf, Sink};
 use ember_model::OutOfMemory;
@@ -59,7 +59,7 @@ fn output_of_contents<
         AreContents told names.now contents.now →
         IsFilesCause told names.now (formula_of asked.now.expr) asked.now.wanted status) }
 {
-    let files = mesh_files(alloc, names, contents)?;
+    let files = input_files(alloc, names, contents)?;
     match solid_file(
         alloc,
         &files,

@@ -6,6 +6,5 @@ mod scene_file;
 
 pub use scene::{Counts, Open, PlacedScene, SceneFault, closed_surfaces_are_never_open, scene_of};
 pub use scene_file::{
-    SceneFileFault, grid_mesh, read_scene, scene_text, scenes_have_one_grid,
-    written_scenes_are_read,
+    SceneFileFault, grid_mesh, read_grid, scene_text, scenes_have_one_grid, written_scenes_are_read,
 };

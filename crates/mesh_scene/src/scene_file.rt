@@ -11,5 +11,5 @@ mod writing;
 pub use fault::SceneFileFault;
 pub use laws::{scenes_have_one_grid, written_scenes_are_read};
 pub use mesh::grid_mesh;
-pub use reading::read_scene;
+pub use reading::read_grid;
 pub use writing::scene_text;

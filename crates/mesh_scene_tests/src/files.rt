@@ -9,7 +9,7 @@ use crate::texts::{FRACTIONS, SHIFTED_CUBE, STL_TRIANGLE};
 use ember_model::OutOfMemory;
 use ember_query::{Answer, Query, answer_alone};
 use mesh_boolean::{
-    BooleanFault, FloatFormat, MeshFile, MeshFormat, WantedFile, solid_file, surfaces_in,
+    BooleanFault, FloatFormat, InputFile, MeshFormat, WantedFile, solid_file, surfaces_in,
 };
 use mesh_grid::{GridFault, Wanted, grid_of};
 use mesh_number::floor_times;
@@ -22,18 +22,18 @@ use std::cell::RefCell;
 use std::test::Fail;
 use steal_pool::OpenGate;
 
-fn file<'a>(name: &'a [u8], bytes: &'a [u8]) -> MeshFile<'a> {
-    MeshFile { name, bytes }
+fn file<'a>(name: &'a [u8], bytes: &'a [u8]) -> InputFile<'a> {
+    InputFile { name, bytes }
 }
 
 // At most 2^28 bytes.
-fn is_small(file: &MeshFile) -> bool
+fn is_small(file: &InputFile) -> bool
     ensures { IsTrue result → IsSmall file.now }
 {
     file.bytes.len() <= 268_435_456
 }
 
-fn are_small(files: &[MeshFile]) -> bool
+fn are_small(files: &[InputFile]) -> bool
     ensures { IsTrue result → All IsSmall files.now }
 {
     for file in files {
@@ -70,7 +70,7 @@ fn is_surface(surface: &Surface, vertices: &[[i128; 3]], facets: &[Facet]) -> bo
 type Shape<'a> = (&'a [[i128; 3]], &'a [Facet]);
 
 // How many of the files' surfaces are these, up to the first that isn't; 0 if their number is another.
-fn right_surfaces(alloc: Global, files: &[MeshFile], shapes: &[Shape]) -> u64 {
+fn right_surfaces(alloc: Global, files: &[InputFile], shapes: &[Shape]) -> u64 {
     if files.len() > 64 {
         return 0;
     }
@@ -132,7 +132,7 @@ impl Stages for Told {
 // Why the calling thread alone makes no STL of the union of two files. It tells of its stages.
 fn fault_of<'a>(
     alloc: Global,
-    files: &[MeshFile<'a>],
+    files: &[InputFile<'a>],
     stages: &Told,
 ) -> Result<Option<BooleanFault<'a>>, Fail> {
     if files.len() > 64 {

@@ -1,7 +1,7 @@
 // Scenes as JSON.
 use ember_words::Text;
 use mesh_grid::{Grid, GridStep, Length, Offset};
-use mesh_scene::{Counts, SceneFileFault, read_scene, scene_text};
+use mesh_scene::{Counts, SceneFileFault, read_grid, scene_text};
 use std::alloc::Global;
 use std::test::Fail;
 
@@ -64,14 +64,14 @@ fn a_scene_is_written_and_read_again(rt: HostRuntime) -> Result<(), Fail> {
         },
         offset: GRID.offset,
     };
-    assert!(rt; read_scene(alloc, &written) == Ok(grid));
+    assert!(rt; read_grid(alloc, &written) == Ok(grid));
     Ok(())
 }
 
 #[test]
 fn other_members_are_passed_over(rt: HostRuntime) -> Result<(), Fail> {
     let bytes = b"[{}]";
-    assert!(rt; read_scene(rt.alloc(), bytes) == Err(SceneFileFault::NotAScene));
+    assert!(rt; read_grid(rt.alloc(), bytes) == Err(SceneFileFault::NotAScene));
     let bytes =
         b"{\"offset\":[0,7,-9223372036854775808],\"more\":[1.5],\"step\":\"2/1099511627775\"}";
     let grid = Grid {
@@ -85,7 +85,7 @@ fn other_members_are_passed_over(rt: HostRuntime) -> Result<(), Fail> {
             z: -9_223_372_036_854_775_808,
         },
     };
-    assert!(rt; read_scene(rt.alloc(), bytes) == Ok(grid));
+    assert!(rt; read_grid(rt.alloc(), bytes) == Ok(grid));
     Ok(())
 }
 
@@ -111,7 +111,7 @@ static OTHER_FILES_ARE_NO_SCENES: [&[u8]; 16] = [
 #[test]
 fn other_files_are_no_scenes(rt: HostRuntime) -> Result<(), Fail> {
     for &bytes in &OTHER_FILES_ARE_NO_SCENES {
-        assert!(rt; read_scene(rt.alloc(), bytes) == Err(SceneFileFault::NotAScene));
+        assert!(rt; read_grid(rt.alloc(), bytes) == Err(SceneFileFault::NotAScene));
     }
     Ok(())
 }

@@ -8,7 +8,7 @@ mod tables;
 mod winding;
 
 pub use mesh::{
-    DocumentFault, MeshedSolid, SolidFault, SolidMesh, document_mesh,
+    DocumentFault, SolidFault, SolidMesh, SolidRun, document_mesh,
     faces_of_meshes_have_the_meaning, solid_mesh, triangles_of_documents_wind_as_faces,
     triangles_of_meshes_have_the_meaning,
 };

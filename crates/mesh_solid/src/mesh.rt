@@ -14,4 +14,4 @@ pub use law::{
     triangles_of_meshes_have_the_meaning,
 };
 pub use mesh::SolidMesh;
-pub use solid::{MeshedSolid, solid_mesh};
+pub use solid::{SolidRun, solid_mesh};

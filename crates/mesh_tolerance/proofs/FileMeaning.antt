@@ -23,7 +23,7 @@ use Rattle.mesh_number.proofs.DigitNumbers.{pow_ten_pos}
 use Rattle.mesh_read.specs.declared.surface.surface.Surface.{Surface}
 use Rattle.mesh_scene.specs.Scene.Images.{images_of}
 use Rattle.mesh_solid.specs.declared.mesh.mesh.SolidMesh.{SolidMesh}
-use Rattle.mesh_write.specs.declared.stl.triangle.WrittenTriangle.{WrittenTriangle}
+use Rattle.mesh_write.specs.declared.stl.triangle.FloatTriangle.{FloatTriangle}
 use Rattle.mesh_write.specs.declared.vertices.point.DecimalPoint.{DecimalPoint}
 use Rattle.mesh_write.specs.Vertices.Vertices as vertices
 use Rattle.mesh_written.specs.Closed.{Positions}
@@ -74,7 +74,7 @@ module _ (g : Grid) (ss : List Surface) (x : Formula) (mesh : SolidMesh) (is : I
         ∙ ap one_if (scene_truth b g ss q x is.scene.few_meshes ∙ ap (λ (c : List ℤ). truth c x) h.1)
 
   -- ---- floats
-  module _ (ws : List WrittenTriangle) (written : AreFloatsOf g mesh ws) where
+  module _ (ws : List FloatTriangle) (written : AreFloatsOf g mesh ws) where
     abbrev to : ℕ → Spot
     to n = float_at written.points n
 
@@ -86,7 +86,7 @@ module _ (g : Grid) (ss : List Surface) (x : Formula) (mesh : SolidMesh) (is : I
 
     same_float_faces : faces_of_triangles (triangles_of_floats ws) ≡ faces_of_triangles (moved_triangles to mesh.triangles.items)
     same_float_faces =
-        ap (λ (us : List WrittenTriangle). faces_of_triangles (triangles_of_floats us)) written.written
+        ap (λ (us : List FloatTriangle). faces_of_triangles (triangles_of_floats us)) written.written
         ∙ float_faces mesh.planes.items written.points mesh.triangles.items
 
     float_moves : AllByRecursion (CornersMoveWithin (float_move g mesh written.points).size

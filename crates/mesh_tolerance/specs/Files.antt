@@ -26,7 +26,7 @@ use Rattle.mesh_scene.specs.Scene.Images.{images_of}
 use Rattle.mesh_solid.specs.declared.mesh.mesh.SolidMesh.{SolidMesh}
 use Rattle.mesh_solid.specs.Mesh.Meshes.{IsSolidMesh}
 use Rattle.mesh_write.specs.declared.stl.triangle.FloatPoint.{FloatPoint}
-use Rattle.mesh_write.specs.declared.stl.triangle.WrittenTriangle.{WrittenTriangle}
+use Rattle.mesh_write.specs.declared.stl.triangle.FloatTriangle.{FloatTriangle}
 use Rattle.mesh_write.specs.declared.vertices.point.DecimalPoint.{DecimalPoint}
 use Rattle.mesh_write.specs.declared.vertices.point.DecimalTriangle.{DecimalTriangle}
 use Rattle.mesh_write.specs.Vertices.Vertices as vertices
@@ -116,14 +116,14 @@ pub record IsSolidOf (g : Grid) (ss : List Surface) (x : Formula) (mesh : SolidM
   pub solid : IsSolidMesh (images_of g ss) x mesh
 
 -- ---- the file as it is written
-abbrev pub triangles_of_floats : List WrittenTriangle → List (Positions Spot)
+abbrev pub triangles_of_floats : List FloatTriangle → List (Positions Spot)
 triangles_of_floats ws = map (λ w. with_points point_of_floats (positions_of w)) ws
 
 abbrev pub triangles_of_decimals : ℕ → List DecimalTriangle → List (Positions Spot)
 triangles_of_decimals places ts = map (λ t. with_points (point_of_decimals places) (decimal_positions t)) ts
 
 -- these are the triangles of the mesh, rounded to floats
-abbrev pub AreFloatsOf : Grid → SolidMesh → List WrittenTriangle → Type 0
+abbrev pub AreFloatsOf : Grid → SolidMesh → List FloatTriangle → Type 0
 AreFloatsOf g mesh ws =
     AreWritten g.step g.offset mesh.planes.items mesh.corners.items mesh.triangles.items ws
 

@@ -15,7 +15,7 @@ ghost use Rattle.mesh_grid.specs.Grid.Closed.{IsSurfaceClosed};
 ghost use Rattle.mesh_read.specs.declared.surface.surface.Surface.{Surface};
 ghost use Rattle.mesh_scene.specs.Scene.Images.{images_of};
 ghost use Rattle.mesh_solid.specs.declared.mesh.mesh.SolidMesh.{SolidMesh};
-ghost use Rattle.mesh_write.specs.declared.stl.triangle.WrittenTriangle.{WrittenTriangle};
+ghost use Rattle.mesh_write.specs.declared.stl.triangle.FloatTriangle.{FloatTriangle};
 ghost use Rattle.mesh_tolerance.specs.Files.{IsSolidOf, HaveMeaningOutsideMoves, HaveMeaningOutsideRounding};
 ghost use Rattle.mesh_tolerance.specs.Files.{AreFloatsOf, float_at, float_move, triangles_of_floats};
 ghost use Rattle.mesh_tolerance.specs.Files.{decimals_of, decimals_at, decimal_move, triangles_of_decimals, StayNear};
@@ -64,7 +64,7 @@ pub fn similar_triangles_wind_alike()
 /// expression is true of the winding numbers of the surfaces, and not at all elsewhere. Written are
 /// floats, or decimals of any number of places.
 pub fn written_triangles_have_the_meaning()
-    ensures floats { (g : Grid) (ss : List Surface) (x : Formula) (mesh : SolidMesh) (ws : List WrittenTriangle) →
+    ensures floats { (g : Grid) (ss : List Surface) (x : Formula) (mesh : SolidMesh) (ws : List FloatTriangle) →
         IsSolidOf g ss x mesh → All IsSurfaceClosed ss → (written : AreFloatsOf g mesh ws) →
         HaveMeaningOutsideMoves g ss x mesh (float_move g mesh written.points) (triangles_of_floats ws) }
     ensures decimals { (g : Grid) (ss : List Surface) (x : Formula) (mesh : SolidMesh) (places : ℕ) →
@@ -75,7 +75,7 @@ pub fn written_triangles_have_the_meaning()
 /// The second half of it holds of all surfaces, of those too that are closed only on the grid: the
 /// same with the winding numbers of the triangles on the grid, at each point that is clear of them.
 pub fn written_triangles_have_the_meaning_of_the_grid()
-    ensures floats { (g : Grid) (ss : List Surface) (x : Formula) (mesh : SolidMesh) (ws : List WrittenTriangle) →
+    ensures floats { (g : Grid) (ss : List Surface) (x : Formula) (mesh : SolidMesh) (ws : List FloatTriangle) →
         IsSolidOf g ss x mesh → (written : AreFloatsOf g mesh ws) → HaveMeaningOutsideRounding g (images_of g ss) x
         mesh (float_move g mesh written.points) (triangles_of_floats ws) }
     ensures decimals { (g : Grid) (ss : List Surface) (x : Formula) (mesh : SolidMesh) (places : ℕ) →
@@ -86,7 +86,7 @@ pub fn written_triangles_have_the_meaning_of_the_grid()
 /// And each point of an exact triangle is no farther than the greatest move of the rounding from the
 /// point with the same barycentric coordinates once the corners are rounded.
 pub fn rounded_triangles_stay_near()
-    ensures floats { (g : Grid) (ss : List Surface) (x : Formula) (mesh : SolidMesh) (ws : List WrittenTriangle) →
+    ensures floats { (g : Grid) (ss : List Surface) (x : Formula) (mesh : SolidMesh) (ws : List FloatTriangle) →
         IsSolidOf g ss x mesh → (written : AreFloatsOf g mesh ws) →
         StayNear g mesh (float_move g mesh written.points) (float_at written.points) }
     ensures decimals { (g : Grid) (ss : List Surface) (x : Formula) (mesh : SolidMesh) (places : ℕ) →

@@ -3,34 +3,34 @@ use Rattle.std.proofs.Common.{◌≡◌, ◌<◌, List, [], ◌∷◌, length, m
 use Rattle.std.specs.List.{All, fold}
 use Rattle.std.specs.Float.{NotNan}
 use Rattle.std.proofs.lemmas.List.Elements.{All-map, All-weaker}
-use Rattle.mesh_write.specs.declared.stl.triangle.WrittenTriangle.{WrittenTriangle}
+use Rattle.mesh_write.specs.declared.stl.triangle.FloatTriangle.{FloatTriangle}
 use Rattle.mesh_write.specs.declared.glb.bounds.FloatCoordinates.{FloatCoordinates}
 use Rattle.mesh_write.specs.declared.glb.bounds.Bounds.{Bounds}
 use Rattle.mesh_write.specs.Glb.Bounds.{coordinates_of, corners_of, IsFinite, IsLeast, IsGreatest, AreBounds}
 use Rattle.mesh_write.specs.Glb.Widened.{lesser, greater, widened}
 use Rattle.mesh_write.proofs.Extremes.{finite_is_number, least_from_first, greatest_from_first}
 
-low_x : (b : Bounds) (ts : List WrittenTriangle) → (fold widened b ts).low.x ≡ fold lesser b.low.x (map (λ (s : FloatCoordinates). s.x) (corners_of ts))
+low_x : (b : Bounds) (ts : List FloatTriangle) → (fold widened b ts).low.x ≡ fold lesser b.low.x (map (λ (s : FloatCoordinates). s.x) (corners_of ts))
 low_x b [] = refl
 low_x b (t ∷ ts) = low_x (widened b t) ts
 
-low_y : (b : Bounds) (ts : List WrittenTriangle) → (fold widened b ts).low.y ≡ fold lesser b.low.y (map (λ (s : FloatCoordinates). s.y) (corners_of ts))
+low_y : (b : Bounds) (ts : List FloatTriangle) → (fold widened b ts).low.y ≡ fold lesser b.low.y (map (λ (s : FloatCoordinates). s.y) (corners_of ts))
 low_y b [] = refl
 low_y b (t ∷ ts) = low_y (widened b t) ts
 
-low_z : (b : Bounds) (ts : List WrittenTriangle) → (fold widened b ts).low.z ≡ fold lesser b.low.z (map (λ (s : FloatCoordinates). s.z) (corners_of ts))
+low_z : (b : Bounds) (ts : List FloatTriangle) → (fold widened b ts).low.z ≡ fold lesser b.low.z (map (λ (s : FloatCoordinates). s.z) (corners_of ts))
 low_z b [] = refl
 low_z b (t ∷ ts) = low_z (widened b t) ts
 
-high_x : (b : Bounds) (ts : List WrittenTriangle) → (fold widened b ts).high.x ≡ fold greater b.high.x (map (λ (s : FloatCoordinates). s.x) (corners_of ts))
+high_x : (b : Bounds) (ts : List FloatTriangle) → (fold widened b ts).high.x ≡ fold greater b.high.x (map (λ (s : FloatCoordinates). s.x) (corners_of ts))
 high_x b [] = refl
 high_x b (t ∷ ts) = high_x (widened b t) ts
 
-high_y : (b : Bounds) (ts : List WrittenTriangle) → (fold widened b ts).high.y ≡ fold greater b.high.y (map (λ (s : FloatCoordinates). s.y) (corners_of ts))
+high_y : (b : Bounds) (ts : List FloatTriangle) → (fold widened b ts).high.y ≡ fold greater b.high.y (map (λ (s : FloatCoordinates). s.y) (corners_of ts))
 high_y b [] = refl
 high_y b (t ∷ ts) = high_y (widened b t) ts
 
-high_z : (b : Bounds) (ts : List WrittenTriangle) → (fold widened b ts).high.z ≡ fold greater b.high.z (map (λ (s : FloatCoordinates). s.z) (corners_of ts))
+high_z : (b : Bounds) (ts : List FloatTriangle) → (fold widened b ts).high.z ≡ fold greater b.high.z (map (λ (s : FloatCoordinates). s.z) (corners_of ts))
 high_z b [] = refl
 high_z b (t ∷ ts) = high_z (widened b t) ts
 
@@ -53,7 +53,7 @@ abbrev pub at_point : FloatCoordinates → Bounds
 at_point p = record { low = p; high = p }
 
 -- bounds that begin at the first corner and are widened by each triangle are those of all corners
-pub widened_are_bounds : (ts : List WrittenTriangle) (d : WrittenTriangle) (b : Bounds) → 0 < length ts →
+pub widened_are_bounds : (ts : List FloatTriangle) (d : FloatTriangle) (b : Bounds) → 0 < length ts →
     b ≡ fold widened (at_point (coordinates_of (get_or ts 0 d).a)) ts → All IsFinite (corners_of ts) →
     AreBounds (corners_of ts) b
 widened_are_bounds [] d b l e h = absurd (omega (arith, l))

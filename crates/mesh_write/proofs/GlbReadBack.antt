@@ -3,7 +3,7 @@ use Rattle.std.proofs.Common.{◌≡◌, ℕ, ◌+◌, ◌*◌, List, [], ◌∷
 use Rattle.std.proofs.Common.{append-nil, length-append, refl, sym, ap, subst, ◌∙◌, arith}
 use Rattle.std.proofs.lemmas.List.{take_at, drop_at}
 use Rattle.mesh_read.specs.Stl.Binary.{number_at}
-use Rattle.mesh_write.specs.declared.stl.triangle.WrittenTriangle.{WrittenTriangle}
+use Rattle.mesh_write.specs.declared.stl.triangle.FloatTriangle.{FloatTriangle}
 use Rattle.mesh_write.specs.Stl.Written.{number_bytes}
 use Rattle.mesh_write.proofs.Positions.{number_behind, number_first, number_length}
 use Rattle.mesh_write.specs.Glb.ReadBack.{chunk_size, chunk_type, chunk_bytes, chunk_end, HasChunks, IsReadBack}
@@ -80,7 +80,7 @@ data_head_length : (n : ℕ) → length (data_head n) ≡ 8
 unfolding data_head number_bytes
 data_head_length n = refl
 
-module _ (json : List ℕ) (ts : List WrittenTriangle) where
+module _ (json : List ℕ) (ts : List FloatTriangle) where
   total : length (glb_of json ts) ≡ glb_size json (length ts)
   total =
       let n = glb_size json (length ts) in
@@ -145,7 +145,7 @@ module _ (json : List ℕ) (ts : List WrittenTriangle) where
       }
 
 -- a reader finds the triangles of a GLB
-pub read_back : (ts : List WrittenTriangle) (bytes : List ℕ) → IsMeshGlb ts bytes → IsReadBack ts bytes
+pub read_back : (ts : List FloatTriangle) (bytes : List ℕ) → IsMeshGlb ts bytes → IsReadBack ts bytes
 read_back ts bytes is = record {
   json = is.json;
   numbers = data_of ts;

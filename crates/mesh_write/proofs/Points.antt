@@ -2,7 +2,7 @@
 use Rattle.std.proofs.Common.{◌≡◌, ℕ, ◌+◌, ◌*◌, List, [], ◌∷◌, ◌++◌, length, flat_map, append_assoc, append-nil, length-append, refl, sym, ap, ◌∙◌, arith}
 use Rattle.mesh_read.specs.Stl.Binary.{number_at}
 use Rattle.mesh_write.specs.declared.stl.triangle.FloatPoint.{FloatPoint}
-use Rattle.mesh_write.specs.declared.stl.triangle.WrittenTriangle.{WrittenTriangle}
+use Rattle.mesh_write.specs.declared.stl.triangle.FloatTriangle.{FloatTriangle}
 use Rattle.mesh_write.specs.Stl.Written.{number_bytes, point_bytes}
 use Rattle.mesh_write.proofs.Positions.{number_behind, number_first}
 use Rattle.mesh_write.specs.Glb.ReadBack.{points_at, corner_points, normal_points}
@@ -54,13 +54,13 @@ points_read (p ∷ ps) bytes front rest at is size =
 
 -- ---- triangles
 -- the bytes of corners are those of their points
-pub corners_are_points : (ts : List WrittenTriangle) → flat_map corner_bytes ts ≡ flat_map point_bytes (corner_points ts)
+pub corners_are_points : (ts : List FloatTriangle) → flat_map corner_bytes ts ≡ flat_map point_bytes (corner_points ts)
 unfolding corner_bytes
 corners_are_points [] = refl
 corners_are_points (t ∷ ts) = simp append_assoc (ap (λ (xs : List ℕ). point_bytes t.a ++ (point_bytes t.b ++ (point_bytes t.c ++ xs))) (corners_are_points ts))
 
 -- and those of normals
-pub normals_are_points : (ts : List WrittenTriangle) → flat_map normal_bytes ts ≡ flat_map point_bytes (normal_points ts)
+pub normals_are_points : (ts : List FloatTriangle) → flat_map normal_bytes ts ≡ flat_map point_bytes (normal_points ts)
 unfolding normal_bytes
 normals_are_points [] = refl
 normals_are_points (t ∷ ts) = simp append_assoc (ap
@@ -68,12 +68,12 @@ normals_are_points (t ∷ ts) = simp append_assoc (ap
     (normals_are_points ts))
 
 -- there are three corners for each triangle
-pub corner_count : (ts : List WrittenTriangle) → length (corner_points ts) ≡ 3 * length ts
+pub corner_count : (ts : List FloatTriangle) → length (corner_points ts) ≡ 3 * length ts
 corner_count [] = refl
 corner_count (t ∷ ts) = omega (arith, corner_count ts)
 
 -- and three normals
-pub normal_count : (ts : List WrittenTriangle) → length (normal_points ts) ≡ 3 * length ts
+pub normal_count : (ts : List FloatTriangle) → length (normal_points ts) ≡ 3 * length ts
 normal_count [] = refl
 normal_count (t ∷ ts) = omega (arith, normal_count ts)
 
@@ -84,37 +84,37 @@ points_length (p ∷ ps) =
     omega (arith, length-append (point_bytes p) (flat_map point_bytes ps), point_length p, points_length ps)
 
 -- so the corners of a triangle take 36
-pub corners_length : (ts : List WrittenTriangle) → length (flat_map corner_bytes ts) ≡ 36 * length ts
+pub corners_length : (ts : List FloatTriangle) → length (flat_map corner_bytes ts) ≡ 36 * length ts
 corners_length ts =
     omega (arith, ap length (corners_are_points ts), points_length (corner_points ts), corner_count ts)
 
-pub normals_length : (ts : List WrittenTriangle) → length (flat_map normal_bytes ts) ≡ 36 * length ts
+pub normals_length : (ts : List FloatTriangle) → length (flat_map normal_bytes ts) ≡ 36 * length ts
 normals_length ts =
     omega (arith, ap length (normals_are_points ts), points_length (normal_points ts), normal_count ts)
 
 -- and a triangle 72
-pub data_length : (ts : List WrittenTriangle) → length (data_of ts) ≡ 72 * length ts
+pub data_length : (ts : List FloatTriangle) → length (data_of ts) ≡ 72 * length ts
 data_length ts =
     omega (arith, length-append (flat_map corner_bytes ts) (flat_map normal_bytes ts), corners_length ts, normals_length ts)
 
 -- a reader finds the corners, whatever is behind them
-pub corners_before : (ts : List WrittenTriangle) (rest : List ℕ) → points_at (flat_map corner_bytes ts ++ rest) 0 (3 * length ts) ≡ corner_points ts
+pub corners_before : (ts : List FloatTriangle) (rest : List ℕ) → points_at (flat_map corner_bytes ts ++ rest) 0 (3 * length ts) ≡ corner_points ts
 corners_before ts rest =
     let all = flat_map corner_bytes ts ++ rest in
     let is : all ≡ [] ++ (flat_map point_bytes (corner_points ts) ++ rest) = ap (λ (xs : List ℕ). xs ++ rest) (corners_are_points ts) in
     ap (points_at all 0) (sym (corner_count ts)) ∙ points_read (corner_points ts) all [] rest 0 is refl
 
 -- as the normals are
-pub corners_read : (ts : List WrittenTriangle) → points_at (data_of ts) 0 (3 * length ts) ≡ corner_points ts
+pub corners_read : (ts : List FloatTriangle) → points_at (data_of ts) 0 (3 * length ts) ≡ corner_points ts
 corners_read ts = corners_before ts (flat_map normal_bytes ts)
 
 -- or nothing
-pub corners_alone : (ts : List WrittenTriangle) → points_at (flat_map corner_bytes ts) 0 (3 * length ts) ≡ corner_points ts
+pub corners_alone : (ts : List FloatTriangle) → points_at (flat_map corner_bytes ts) 0 (3 * length ts) ≡ corner_points ts
 corners_alone ts =
     ap (λ (xs : List ℕ). points_at xs 0 (3 * length ts)) (sym (append-nil (flat_map corner_bytes ts))) ∙ corners_before ts []
 
 -- and behind them the normals
-pub normals_read : (ts : List WrittenTriangle) → points_at (data_of ts) (36 * length ts) (3 * length ts) ≡ normal_points ts
+pub normals_read : (ts : List FloatTriangle) → points_at (data_of ts) (36 * length ts) (3 * length ts) ≡ normal_points ts
 normals_read ts =
     let front = flat_map corner_bytes ts in
     let is : data_of ts ≡ front ++ (flat_map point_bytes (normal_points ts) ++ []) =

@@ -6,7 +6,7 @@ use Rattle.mesh_number.specs.Number.Floats.{binary32_value}
 use Rattle.mesh_read.specs.Surface.Surfaces.{Point}
 use Rattle.mesh_read.specs.Stl.Binary.{number_at, finite_point, point_at}
 use Rattle.mesh_write.specs.declared.stl.triangle.FloatPoint.{FloatPoint}
-use Rattle.mesh_write.specs.declared.stl.triangle.WrittenTriangle.{WrittenTriangle}
+use Rattle.mesh_write.specs.declared.stl.triangle.FloatTriangle.{FloatTriangle}
 use Rattle.mesh_write.specs.Stl.Written.{stl_header, number_bytes, point_bytes, triangle_bytes}
 use Rattle.mesh_write.specs.Stl.ReadBack.{IsPoint}
 
@@ -53,19 +53,19 @@ finite x y z p q e f g is =
     ∙ ap (λ (v : Option Fraction). finite_point (Some q.x) (Some q.y) v) is.z
 
 -- the corners of a triangle among its bytes
-pub corner_a : (t : WrittenTriangle) (rest : List ℕ) (q : Point) → IsPoint t.a q → point_at (triangle_bytes t ++ rest) 12 ≡ Some q
+pub corner_a : (t : FloatTriangle) (rest : List ℕ) (q : Point) → IsPoint t.a q → point_at (triangle_bytes t ++ rest) 12 ≡ Some q
 unfolding point_at triangle_bytes point_bytes number_bytes
 corner_a t rest q is = finite (number_at (triangle_bytes t ++ rest) 12) (number_at (triangle_bytes t ++ rest) 16)
     (number_at (triangle_bytes t ++ rest) 20) t.a q (whole t.a.x) (whole t.a.y) (whole t.a.z) is
 
 -- the second corner is at byte 24 of a triangle
-pub corner_b : (t : WrittenTriangle) (rest : List ℕ) (q : Point) → IsPoint t.b q → point_at (triangle_bytes t ++ rest) 24 ≡ Some q
+pub corner_b : (t : FloatTriangle) (rest : List ℕ) (q : Point) → IsPoint t.b q → point_at (triangle_bytes t ++ rest) 24 ≡ Some q
 unfolding point_at triangle_bytes point_bytes number_bytes
 corner_b t rest q is = finite (number_at (triangle_bytes t ++ rest) 24) (number_at (triangle_bytes t ++ rest) 28)
     (number_at (triangle_bytes t ++ rest) 32) t.b q (whole t.b.x) (whole t.b.y) (whole t.b.z) is
 
 -- the third corner is at byte 36 of a triangle
-pub corner_c : (t : WrittenTriangle) (rest : List ℕ) (q : Point) → IsPoint t.c q → point_at (triangle_bytes t ++ rest) 36 ≡ Some q
+pub corner_c : (t : FloatTriangle) (rest : List ℕ) (q : Point) → IsPoint t.c q → point_at (triangle_bytes t ++ rest) 36 ≡ Some q
 unfolding point_at triangle_bytes point_bytes number_bytes
 corner_c t rest q is = finite (number_at (triangle_bytes t ++ rest) 36) (number_at (triangle_bytes t ++ rest) 40)
     (number_at (triangle_bytes t ++ rest) 44) t.c q (whole t.c.x) (whole t.c.y) (whole t.c.z) is
@@ -82,7 +82,7 @@ unfolding number_bytes
 number_length n = refl
 
 -- a triangle takes 50 bytes
-pub triangle_length : (t : WrittenTriangle) → length (triangle_bytes t) ≡ 50
+pub triangle_length : (t : FloatTriangle) → length (triangle_bytes t) ≡ 50
 unfolding triangle_bytes point_bytes number_bytes
 triangle_length t = refl
 

@@ -9,7 +9,7 @@ use Rattle.mesh_read.specs.Stl.Facets.{with_triangle}
 use Rattle.mesh_read.specs.Stl.Binary.{number_at, point_at, with_points, with_facet_at, first_facets, binary_of}
 use Rattle.mesh_read.specs.Stl.ReadStl.{is_binary, checked}
 use Rattle.mesh_read.proofs.Triangles.{facet_added}
-use Rattle.mesh_write.specs.declared.stl.triangle.WrittenTriangle.{WrittenTriangle}
+use Rattle.mesh_write.specs.declared.stl.triangle.FloatTriangle.{FloatTriangle}
 use Rattle.mesh_write.specs.Stl.Written.{stl_header, number_bytes, triangle_bytes, stl_bytes_of}
 use Rattle.mesh_write.specs.Stl.ReadBack.{IsPoint, AreCorners, facets_of, IsReadBack}
 use Rattle.mesh_write.proofs.Positions.{number_behind, point_behind, corner_a, corner_b, corner_c, header_length}
@@ -28,7 +28,7 @@ facets_more k m e =
     let s : suc k ≡ k + 1 = omega arith in
     subst (λ (i : ℕ). facets_of k ++ (record { corners = m ∷ (m + 1) ∷ (m + 2) ∷ []; place = k + 1 }) ∷ [] ≡ facets_of i) s (rw e refl)
 
-module _ (bytes front rest : List ℕ) (k : ℕ) (t : WrittenTriangle) (p q r : Point)
+module _ (bytes front rest : List ℕ) (k : ℕ) (t : FloatTriangle) (p q r : Point)
     (is : bytes ≡ front ++ (triangle_bytes t ++ rest)) (size : length front ≡ 84 + 50 * k) (a : IsPoint t.a p)
     (b : IsPoint t.b q) (c : IsPoint t.c r) where
   corner : (at i : ℕ) (o : Point) → at ≡ length front + i → point_at (triangle_bytes t ++ rest) i ≡ Some o → point_at bytes at ≡ Some o
@@ -48,7 +48,7 @@ module _ (bytes front rest : List ℕ) (k : ℕ) (t : WrittenTriangle) (p q r : 
       ∙ ap (λ (fs : List Facet). Ok (record { points = points ++ p ∷ q ∷ r ∷ []; facets = fs })) (facets_more k (length points) e)
 
 -- ---- all
-triangles_read : (ts : List WrittenTriangle) (qs : List Point) (bytes front : List ℕ) (ps : List Point) (k n : ℕ) →
+triangles_read : (ts : List FloatTriangle) (qs : List Point) (bytes front : List ℕ) (ps : List Point) (k n : ℕ) →
     bytes ≡ front ++ flat_map triangle_bytes ts → length front ≡ 84 + 50 * k → length ps ≡ 3 * k → n ≡ k + length ts →
     AreCorners ts qs → first_facets bytes k ≡ Ok (content ps k) → first_facets bytes n ≡ Ok (content (ps ++ qs) n)
 triangles_read [] [] bytes front ps k n is size count e corners h =
@@ -66,11 +66,11 @@ triangles_read (t ∷ ts) (p ∷ q ∷ r ∷ more) bytes front ps k n is size co
     (next_read bytes front (flat_map triangle_bytes ts) k t p q r is size corners.0 corners.1 corners.2 ps count h)
     ∙ ap (λ (xs : List Point). Ok (content xs n)) (append_assoc ps (p ∷ q ∷ r ∷ []) more)
 
-flat_length : (ts : List WrittenTriangle) → length (flat_map triangle_bytes ts) ≡ 50 * length ts
+flat_length : (ts : List FloatTriangle) → length (flat_map triangle_bytes ts) ≡ 50 * length ts
 flat_length [] = refl
 flat_length (t ∷ ts) = omega (arith, length-append (triangle_bytes t) (flat_map triangle_bytes ts), triangle_length t, flat_length ts)
 
-file_length : (ts : List WrittenTriangle) → length (stl_bytes_of ts) ≡ 84 + 50 * length ts
+file_length : (ts : List FloatTriangle) → length (stl_bytes_of ts) ≡ 84 + 50 * length ts
 file_length ts =
     omega (
       arith,
@@ -81,7 +81,7 @@ file_length ts =
       flat_length ts,
     )
 
-count_read : (ts : List WrittenTriangle) → number_at (stl_bytes_of ts) 80 ≡ length ts
+count_read : (ts : List FloatTriangle) → number_at (stl_bytes_of ts) 80 ≡ length ts
 count_read ts =
     number_behind stl_header (number_bytes (length ts) ++ flat_map triangle_bytes ts) 80 0
     (omega (arith, header_length)) ∙ number_first (length ts) (flat_map triangle_bytes ts)
@@ -92,7 +92,7 @@ tests_pass x y l e =
     let b : (x == y) ≡ true = grind (arith, nat_tests) in
     rw (a, b) refl
 
-binary : (ts : List WrittenTriangle) → is_binary (stl_bytes_of ts) ≡ true
+binary : (ts : List FloatTriangle) → is_binary (stl_bytes_of ts) ≡ true
 binary ts =
     tests_pass (length (stl_bytes_of ts)) (84 + 50 * number_at (stl_bytes_of ts) 80) (omega (arith, file_length ts))
     (omega (arith, file_length ts, count_read ts))
@@ -101,7 +101,7 @@ start_length : (n : ℕ) → length (stl_header ++ number_bytes n) ≡ 84
 start_length n = omega (arith, length-append stl_header (number_bytes n), header_length, number_length n)
 
 -- a reader finds the triangles that were written
-pub read_back : (ts : List WrittenTriangle) (bytes : List ℕ) → bytes ≡ stl_bytes_of ts → IsReadBack ts bytes
+pub read_back : (ts : List FloatTriangle) (bytes : List ℕ) → bytes ≡ stl_bytes_of ts → IsReadBack ts bytes
 read_back ts bytes e points corners = rw e (here points corners)
   where
     all : (points : List Point) → AreCorners ts points → binary_of (stl_bytes_of ts) ≡ Ok (content points (length ts))

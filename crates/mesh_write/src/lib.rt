@@ -11,7 +11,7 @@ mod vertices;
 pub use glb::{GlbWriteFault, glb_bytes, put_all_corners};
 pub use page::page_bytes;
 pub use reading::{obj_texts_are_read, off_texts_are_read, ply_texts_are_read};
-pub use stl::{FloatPoint, StlWriteFault, WrittenTriangle, put_number, put_point, stl_bytes};
+pub use stl::{FloatPoint, FloatTriangle, StlWriteFault, put_number, put_point, stl_bytes};
 pub use text::{TextFormat, mesh_text, put_obj_lines};
 pub use vertices::{
     DecimalPoint, DecimalTriangle, IndexedMesh, IndexedTriangle, indices_lead_to_corners,

@@ -5,5 +5,5 @@ mod triangle;
 mod writing;
 
 pub use fault::StlWriteFault;
-pub use triangle::{FloatPoint, WrittenTriangle};
+pub use triangle::{FloatPoint, FloatTriangle};
 pub use writing::{put_number, put_point, stl_bytes};

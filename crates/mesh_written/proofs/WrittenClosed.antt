@@ -5,7 +5,7 @@ use Rattle.ember_model.specs.declared.plane.Plane.{Plane}
 use Rattle.mesh_grid.specs.declared.snap.steps.GridStep.{GridStep}
 use Rattle.mesh_grid.specs.declared.snap.offsets.Offset.{Offset}
 use Rattle.mesh_write.specs.declared.stl.triangle.FloatPoint.{FloatPoint}
-use Rattle.mesh_write.specs.declared.stl.triangle.WrittenTriangle.{WrittenTriangle}
+use Rattle.mesh_write.specs.declared.stl.triangle.FloatTriangle.{FloatTriangle}
 use Rattle.mesh_certificate.specs.declared.key.lines.LineKey.{LineKey}
 use Rattle.mesh_certificate.specs.declared.certificate.segment.Segment.{Segment}
 use Rattle.mesh_certificate.specs.declared.certificate.space_point.SpacePoint.{SpacePoint}
@@ -58,7 +58,7 @@ module _ (planes : List Plane) (points : List FloatPoint) where
       by false r = ap (λ (us : List (Positions FloatPoint)). at_positions (point_at points) t ∷ us) r
 
   -- what is kept of closed triangles is closed
-  pub kept_are_closed : (ts : List Triangle) (ws : List WrittenTriangle) →
+  pub kept_are_closed : (ts : List Triangle) (ws : List FloatTriangle) →
       ws ≡ kept (map (triangle_at planes points) ts) → AreRoundAndClosed ts → AreWrittenClosed ws
   kept_are_closed ts ws e h =
       subst (λ (us : List (Positions FloatPoint)). AreTrianglesClosed same_point us)
@@ -67,5 +67,5 @@ module _ (planes : List Plane) (points : List FloatPoint) where
 
 -- the same, by the definition of written triangles
 pub written_are_closed : (s : GridStep) (o : Offset) (planes : List Plane) (cs : List SpacePoint) (ts : List Triangle)
-    (ws : List WrittenTriangle) → AreWritten s o planes cs ts ws → AreRoundAndClosed ts → AreWrittenClosed ws
+    (ws : List FloatTriangle) → AreWritten s o planes cs ts ws → AreRoundAndClosed ts → AreWrittenClosed ws
 written_are_closed s o planes cs ts ws h closed = kept_are_closed planes h.points ts ws h.written closed

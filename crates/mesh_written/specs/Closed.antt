@@ -1,7 +1,7 @@
 -- Closed triangles, by the positions of their corners
 use Rattle.std.specs.Prelude.{◌≡◌, ℕ, ◌+◌, nat_eq, Bool, true, ◌&&◌, if◌then◌else◌, List, [], ◌∷◌, map, All}
 use Rattle.mesh_write.specs.declared.stl.triangle.FloatPoint.{FloatPoint}
-use Rattle.mesh_write.specs.declared.stl.triangle.WrittenTriangle.{WrittenTriangle}
+use Rattle.mesh_write.specs.declared.stl.triangle.FloatTriangle.{FloatTriangle}
 use Rattle.mesh_write.specs.declared.vertices.point.DecimalPoint.{DecimalPoint}
 use Rattle.mesh_write.specs.declared.vertices.point.DecimalTriangle.{DecimalTriangle}
 use Rattle.mesh_write.specs.declared.vertices.point.IndexedTriangle.{IndexedTriangle}
@@ -40,11 +40,11 @@ pub record AreTrianglesClosed {P : Type 0} (same : P → P → Bool) (ts : List 
   pub each : (p q : P) → edges_between same p q ts ≡ edges_between same q p ts
 
 -- ---- positions of floats
-abbrev pub positions_of : WrittenTriangle → Positions FloatPoint
+abbrev pub positions_of : FloatTriangle → Positions FloatPoint
 positions_of t = record { a = t.a; b = t.b; c = t.c }
 
 -- the written triangles are closed: corners with equal coordinates have one position
-abbrev pub AreWrittenClosed : List WrittenTriangle → Type 0
+abbrev pub AreWrittenClosed : List FloatTriangle → Type 0
 AreWrittenClosed ws = AreTrianglesClosed same_point (map positions_of ws)
 
 -- ---- positions of decimals

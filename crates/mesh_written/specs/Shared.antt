@@ -4,7 +4,7 @@ use Rattle.std.specs.Prelude.{◌∷◌, ◌++◌, length, map}
 use Rattle.std.specs.List.{list_any}
 use Rattle.ember_algebra.specs.Sums.{occurrences}
 use Rattle.mesh_write.specs.declared.stl.triangle.FloatPoint.{FloatPoint}
-use Rattle.mesh_write.specs.declared.stl.triangle.WrittenTriangle.{WrittenTriangle}
+use Rattle.mesh_write.specs.declared.stl.triangle.FloatTriangle.{FloatTriangle}
 use Rattle.mesh_write.specs.declared.vertices.point.IndexedTriangle.{IndexedTriangle}
 use Rattle.mesh_written.specs.declared.shared.EdgeKey.{EdgeKey}
 use Rattle.mesh_written.specs.declared.shared_by_index.IndexEdge.{IndexEdge}
@@ -41,7 +41,7 @@ same_ends k l =
     (nat_eq k.to_y l.to_y && nat_eq k.to_z l.to_z))))
 
 -- so many edges belong to more than two of the written triangles
-abbrev pub IsSharedCount : List WrittenTriangle → ℕ → Type 0
+abbrev pub IsSharedCount : List FloatTriangle → ℕ → Type 0
 IsSharedCount ws count = IsCountOfShared same_point is_lower key_between same_ends (map positions_of ws) count
 
 -- ---- vertices

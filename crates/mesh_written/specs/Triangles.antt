@@ -4,7 +4,7 @@ use Rattle.ember_model.specs.declared.plane.Plane.{Plane}
 use Rattle.mesh_grid.specs.declared.snap.steps.GridStep.{GridStep}
 use Rattle.mesh_grid.specs.declared.snap.offsets.Offset.{Offset}
 use Rattle.mesh_write.specs.declared.stl.triangle.FloatPoint.{FloatPoint}
-use Rattle.mesh_write.specs.declared.stl.triangle.WrittenTriangle.{WrittenTriangle}
+use Rattle.mesh_write.specs.declared.stl.triangle.FloatTriangle.{FloatTriangle}
 use Rattle.mesh_certificate.specs.declared.certificate.space_point.SpacePoint.{SpacePoint}
 use Rattle.mesh_certificate.specs.declared.certificate.triangle.Triangle.{Triangle}
 use Rattle.mesh_written.specs.Floats.{AreFloatPoints}
@@ -20,7 +20,7 @@ abbrev pub point_at : List FloatPoint → ℕ → FloatPoint
 point_at ps number = slice_index_or ps number (record { x = 0; y = 0; z = 0 })
 
 -- the triangle with points for its corners
-abbrev pub triangle_at : List Plane → List FloatPoint → Triangle → WrittenTriangle
+abbrev pub triangle_at : List Plane → List FloatPoint → Triangle → FloatTriangle
 triangle_at planes ps t = record {
   normal = normal_at planes t.first.plane;
   a = point_at ps t.first.start;
@@ -32,15 +32,15 @@ abbrev pub same_point : FloatPoint → FloatPoint → Bool
 same_point p q = nat_eq p.x q.x && (nat_eq p.y q.y && nat_eq p.z q.z)
 
 -- two of its corners are equal
-abbrev pub vanishes : WrittenTriangle → Bool
+abbrev pub vanishes : FloatTriangle → Bool
 vanishes t = same_point t.a t.b || (same_point t.b t.c || same_point t.c t.a)
 
-abbrev pub kept : List WrittenTriangle → List WrittenTriangle
+abbrev pub kept : List FloatTriangle → List FloatTriangle
 kept ts = filter (λ t. not (vanishes t)) ts
 
 -- the triangles with their corners rounded, in order, without those with two corners that became equal
 pub record AreWritten (s : GridStep) (o : Offset) (planes : List Plane) (cs : List SpacePoint) (ts : List Triangle)
-    (ws : List WrittenTriangle) : Type 0 where
+    (ws : List FloatTriangle) : Type 0 where
   pub points : List FloatPoint
   pub rounded : AreFloatPoints s o cs points
   pub written : ws ≡ kept (map (triangle_at planes points) ts)

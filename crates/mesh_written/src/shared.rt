@@ -5,7 +5,7 @@ ghost use Rattle.mesh_written.specs.Closed.{positions_of, AreWrittenClosed};
 ghost use Rattle.mesh_written.specs.Shared.{is_lower, key_between, same_ends, has_key, with_key, rising, rising_edges, AreNoted, IsSharedCount};
 
 use indexmap::IndexSet;
-use mesh_write::{FloatPoint, WrittenTriangle};
+use mesh_write::{FloatPoint, FloatTriangle};
 use std::alloc::{AllocError, Global};
 
 // A directed edge, by the bits of the coordinates of its ends.
@@ -102,7 +102,7 @@ impl Edges {
     }
 
     // Notes those edges of the triangle whose start comes before their end.
-    fn add_triangle(&mut self, t: &WrittenTriangle) -> Result<(), AllocError>
+    fn add_triangle(&mut self, t: &FloatTriangle) -> Result<(), AllocError>
         ensures { OnOk result ((keys : List EdgeKey) →
             AreNoted same_ends keys self.old.once.keys self.old.again.keys →
             AreNoted same_ends (keys ++ rising_edges is_lower key_between (positions_of t.now ∷ []))
@@ -117,7 +117,7 @@ impl Edges {
 /// How many edges belong to more than two of the written triangles, which are closed. In a closed
 /// mesh such an edge occurs more than once in each direction, so only one of its two directions is
 /// looked at.
-pub fn shared_edges(alloc: Global, written: &[WrittenTriangle]) -> Result<u64, AllocError>
+pub fn shared_edges(alloc: Global, written: &[FloatTriangle]) -> Result<u64, AllocError>
     ensures { IfOk result (λ count. AreWrittenClosed written.now → IsSharedCount written.now count) }
 {
     let mut edges = Edges::new(alloc);

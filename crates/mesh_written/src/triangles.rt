@@ -12,7 +12,7 @@ use crate::normals::normal_at;
 use ember_model::Plane;
 use mesh_certificate::{SpacePoint, Triangle};
 use mesh_grid::{GridStep, Offset};
-use mesh_write::{FloatPoint, WrittenTriangle};
+use mesh_write::{FloatPoint, FloatTriangle};
 use std::alloc::{AllocError, Global};
 
 // Whether the numbers of the triangle's corners are below `count`.
@@ -37,11 +37,11 @@ fn point_at(points: &[FloatPoint], number: u32) -> FloatPoint
     points[number as usize]
 }
 
-fn triangle_at(planes: &[Plane], points: &[FloatPoint], t: &Triangle) -> WrittenTriangle
+fn triangle_at(planes: &[Plane], points: &[FloatPoint], t: &Triangle) -> FloatTriangle
     requires { has_corners (length points.now) t.now ≡ true }
     ensures { result ≡ triangle_at planes.now points.now t.now }
 {
-    WrittenTriangle {
+    FloatTriangle {
         normal: normal_at(planes, t.first.plane),
         a: point_at(points, t.first.start),
         b: point_at(points, t.second.start),
@@ -57,13 +57,13 @@ fn is_same_point(p: &FloatPoint, q: &FloatPoint) -> bool
 }
 
 // Whether two corners of the triangle are equal.
-fn vanishes(t: &WrittenTriangle) -> bool
+fn vanishes(t: &FloatTriangle) -> bool
     ensures { result ≡ vanishes t.now }
 {
     is_same_point(&t.a, &t.b) || (is_same_point(&t.b, &t.c) || is_same_point(&t.c, &t.a))
 }
 
-fn push_kept(written: &mut Vec<WrittenTriangle>, t: WrittenTriangle) -> Result<(), AllocError>
+fn push_kept(written: &mut Vec<FloatTriangle>, t: FloatTriangle) -> Result<(), AllocError>
     ensures { OnOk result (written.new.items ≡ written.old.items ++ kept (t ∷ [])) }
 {
     if vanishes(&t) {
@@ -80,7 +80,7 @@ pub fn triangles_over(
     planes: &[Plane],
     points: &[FloatPoint],
     triangles: &[Triangle],
-) -> Result<Vec<WrittenTriangle>, AllocError>
+) -> Result<Vec<FloatTriangle>, AllocError>
     requires { list_all (has_corners (length points.now)) triangles.now ≡ true }
     ensures { IfOk result (λ ws. ws.items ≡ kept (map (triangle_at planes.now points.now) triangles.now)) }
 {
@@ -107,7 +107,7 @@ pub fn float_triangles(
     triangles: &[Triangle],
     step: &GridStep,
     offset: &Offset,
-) -> Result<Vec<WrittenTriangle>, PlaceFault>
+) -> Result<Vec<FloatTriangle>, PlaceFault>
     requires step { IsStep step.now }
     requires corners { list_all (has_corners (length corners.now)) triangles.now ≡ true }
     ensures written { IfOk result (λ ws.

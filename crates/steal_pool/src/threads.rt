@@ -8,7 +8,7 @@ use crate::names::{BoxWeight, VisitedJobs};
 use crate::progress::Progress;
 use crate::protocol::JobStealer;
 use crate::state::WorkerState;
-use crate::worker::work;
+use crate::worker::run_until_done;
 use ember_job::{Job, OutOfMemory, Outcome};
 use std::alloc::{AllocError, Global};
 use std::sync::Wait;
@@ -35,7 +35,7 @@ fn run_worker<
     requires ready { IsReady K.is_visited K.answers stealers.now.items worker.old }
     ensures { FinishesIfDone K.is_visited K.answers K.weight stealers.now.items worker.old worker.new }
 {
-    match work(rt, alloc, call, gate, stealers, progress, worker) {
+    match run_until_done(rt, alloc, call, gate, stealers, progress, worker) {
         Ok(()) => worker.done = true,
         Err(AllocError) => {
             worker.done = false;

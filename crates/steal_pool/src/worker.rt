@@ -162,7 +162,7 @@ fn next_deque(from: usize, count: usize) -> usize {
 /// or for another worker.
 // `forever` has no end, so only a return leaves the loop.
 #[tactic(auto, using(crate::proofs::AccountSums::balances_then, crate::proofs::AccountSums::released_balances, crate::proofs::AccountSums::none_balances))]
-pub fn work<
+pub fn run_until_done<
     R: Wait,
     K: VisitedJobs + BoxWeight<I>,
     I: Drop,

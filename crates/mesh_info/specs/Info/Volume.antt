@@ -28,17 +28,17 @@ abbrev pub minor : Float → Float → Float → Float → Float → Float
 minor a b c d e = mul binary64 a (sub binary64 (mul binary64 b c) (mul binary64 d e))
 
 -- six times the volume between a triangle and the lower corner: the determinant of its corners
-unfoldable pub six_volumes : Position → Position → Position → Float
-six_volumes a b c =
+unfoldable pub sixfold_volume : Position → Position → Position → Float
+sixfold_volume a b c =
     add binary64 (add binary64 (minor a.x b.y c.z b.z c.y) (minor a.y b.z c.x b.x c.z)) (minor a.z b.x c.y b.y c.x)
 
 -- that of a triangle over points
-abbrev pub six_volumes_at : DecimalPoint → List DecimalPoint → IndexedTriangle → Float
-six_volumes_at lower points t =
-    six_volumes (offset_of lower (point_at points t.a)) (offset_of lower (point_at points t.b))
+abbrev pub sixfold_volume_at : DecimalPoint → List DecimalPoint → IndexedTriangle → Float
+sixfold_volume_at lower points t =
+    sixfold_volume (offset_of lower (point_at points t.a)) (offset_of lower (point_at points t.b))
     (offset_of lower (point_at points t.c))
 
 -- a sixth of the sum over all triangles
 unfoldable pub volume_of : DecimalPoint → List DecimalPoint → List IndexedTriangle → Float
 volume_of lower points ts =
-    div binary64 (fold (λ total t. add binary64 total (six_volumes_at lower points t)) NOTHING ts) SIX
+    div binary64 (fold (λ total t. add binary64 total (sixfold_volume_at lower points t)) NOTHING ts) SIX

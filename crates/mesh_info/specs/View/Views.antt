@@ -7,7 +7,7 @@ use Rattle.mesh_write.specs.declared.vertices.point.DecimalPoint.{DecimalPoint}
 use Rattle.mesh_write.specs.declared.vertices.point.DecimalTriangle.{DecimalTriangle}
 use Rattle.mesh_info.specs.Info.Corners.{triangles_of}
 use Rattle.mesh_write.specs.declared.stl.triangle.FloatPoint.{FloatPoint}
-use Rattle.mesh_write.specs.declared.stl.triangle.WrittenTriangle.{WrittenTriangle}
+use Rattle.mesh_write.specs.declared.stl.triangle.FloatTriangle.{FloatTriangle}
 use Rattle.mesh_write.specs.Page.Pages.{page_of}
 use Rattle.mesh_write.specs.Page.ReadBack.{IsReadBack}
 
@@ -22,19 +22,19 @@ pub record IsShownPoint (p : DecimalPoint) (shown : FloatPoint) : Type 0 where
   pub z : IsFloatOf p.z shown.z
 
 -- the triangle with its corners rounded
-pub record IsShown (t : DecimalTriangle) (shown : WrittenTriangle) : Type 0 where
+pub record IsShown (t : DecimalTriangle) (shown : FloatTriangle) : Type 0 where
   pub a : IsShownPoint t.a shown.a
   pub b : IsShownPoint t.b shown.b
   pub c : IsShownPoint t.c shown.c
 
 -- the triangles with their corners rounded, each of them, in order
-abbrev pub AreShown : List DecimalTriangle → List WrittenTriangle → Type 0
+abbrev pub AreShown : List DecimalTriangle → List FloatTriangle → Type 0
 AreShown ts shown = AllZip IsShown ts shown
 
 -- the page under this title that shows the triangles of the surfaces, one surface after another. A reader finds them
 -- in it again.
 pub record IsView (title : List ℕ) (surfaces : List Surface) (page : List ℕ) : Type 0 where
-  pub triangles : List WrittenTriangle
+  pub triangles : List FloatTriangle
   pub are_shown : AreShown (flat_map triangles_of surfaces) triangles
   pub is_page : page ≡ page_of title triangles
   pub read_back : IsReadBack triangles page

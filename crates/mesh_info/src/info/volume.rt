@@ -1,6 +1,6 @@
 // The volume inside triangles, in floats of 64 bits.
 ghost use Rattle.std.specs.Prelude.{◌≡◌};
-ghost use Rattle.mesh_info.specs.Info.Volume.{distance, offset_of, six_volumes, volume_of};
+ghost use Rattle.mesh_info.specs.Info.Volume.{distance, offset_of, sixfold_volume, volume_of};
 
 use crate::info::corners::point_at;
 use mesh_write::{DecimalPoint, IndexedTriangle};
@@ -45,9 +45,9 @@ fn offset_of(lower: &DecimalPoint, point: &DecimalPoint) -> Position
 }
 
 // Six times the volume between a triangle and the lower corner.
-#[tactic(auto, unfolding(crate::specs::Info::Volume::six_volumes))]
-fn six_volumes(a: &Position, b: &Position, c: &Position) -> f64
-    ensures { result ≡ six_volumes a.now b.now c.now }
+#[tactic(auto, unfolding(crate::specs::Info::Volume::sixfold_volume))]
+fn sixfold_volume(a: &Position, b: &Position, c: &Position) -> f64
+    ensures { result ≡ sixfold_volume a.now b.now c.now }
 {
     let x = a.x * (b.y * c.z - b.z * c.y);
     let y = a.y * (b.z * c.x - b.x * c.z);
@@ -69,7 +69,7 @@ pub(crate) fn volume_of(
         let a = offset_of(lower, &point_at(points, t.a));
         let b = offset_of(lower, &point_at(points, t.b));
         let c = offset_of(lower, &point_at(points, t.c));
-        total = total + six_volumes(&a, &b, &c);
+        total = total + sixfold_volume(&a, &b, &c);
     }
     total / SIX
 }

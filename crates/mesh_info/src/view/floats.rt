@@ -2,7 +2,7 @@
 ghost use Rattle.mesh_info.specs.View.Views.{IsFloatOf, IsShownPoint, IsShown};
 
 use mesh_number::{Wide, nearest_binary32};
-use mesh_write::{DecimalPoint, DecimalTriangle, FloatPoint, WrittenTriangle};
+use mesh_write::{DecimalPoint, DecimalTriangle, FloatPoint, FloatTriangle};
 
 const TRILLION: u128 = 1_000_000_000_000;
 
@@ -31,10 +31,10 @@ fn shown_point(point: &DecimalPoint) -> FloatPoint
 }
 
 // The triangle as the page has it.
-pub(crate) fn shown(t: &DecimalTriangle) -> WrittenTriangle
+pub(crate) fn shown(t: &DecimalTriangle) -> FloatTriangle
     ensures { IsShown t.now result }
 {
-    WrittenTriangle {
+    FloatTriangle {
         normal: NO_NORMAL,
         a: shown_point(&t.a),
         b: shown_point(&t.b),

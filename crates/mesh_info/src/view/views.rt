@@ -7,13 +7,13 @@ ghost use Rattle.mesh_info.specs.View.Views.{AreShown, IsView};
 use crate::info::triangles_of;
 use crate::view::floats::shown;
 use mesh_read::Surface;
-use mesh_write::{DecimalTriangle, WrittenTriangle, page_bytes};
+use mesh_write::{DecimalTriangle, FloatTriangle, page_bytes};
 use std::alloc::{AllocError, Global};
 
 // Appends these triangles, as the page has them, to those of others.
 fn put_shown(
     triangles: &[DecimalTriangle],
-    written: &mut Vec<WrittenTriangle>,
+    written: &mut Vec<FloatTriangle>,
 ) -> Result<(), AllocError>
     ensures { OnOk result ((others : List DecimalTriangle) → AreShown others written.old.items →
         AreShown (others ++ triangles.now) written.new.items) }
@@ -25,10 +25,7 @@ fn put_shown(
 }
 
 // The triangles of all surfaces, as the page has them.
-fn written_triangles(
-    alloc: Global,
-    surfaces: &[Surface],
-) -> Result<Vec<WrittenTriangle>, AllocError>
+fn written_triangles(alloc: Global, surfaces: &[Surface]) -> Result<Vec<FloatTriangle>, AllocError>
     ensures { IfOk result (λ written. AreShown (flat_map triangles_of surfaces.now) written.items) }
 {
     let mut written = Vec::new(alloc);

@@ -12,7 +12,7 @@ use std::{fs, io, thread};
 
 // Whether a call that ended with this error is tried again: a signal interrupted it, or the device
 // isn't ready yet.
-fn is_passing(error: &Error) -> bool {
+fn is_transient(error: &Error) -> bool {
     matches!(error.kind(), ErrorKind::Interrupted | ErrorKind::WouldBlock)
 }
 
@@ -25,7 +25,7 @@ fn write_some<W: Write>(to: &mut W, piece: &[u8]) -> Option<usize>
     for _ in 0..u64::MAX {
         match to.write(piece) {
             Ok(count) if count > 0 || piece.is_empty() => return Some(count),
-            Err(error) if is_passing(&error) => thread::yield_now(),
+            Err(error) if is_transient(&error) => thread::yield_now(),
             _ => break,
         }
     }

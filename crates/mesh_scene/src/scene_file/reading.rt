@@ -63,7 +63,7 @@ fn grid_of(value: &Value) -> Option<Grid>
 /// from 1 to 2^40 - 1, without signs and leading zeros, and whose member `offset` is an array of
 /// three whole numbers from -2^63 to 2^63 - 1. Other members are passed over. Arrays and objects
 /// nest at most 127 deep.
-pub fn read_scene(alloc: Global, bytes: &[u8]) -> Result<Grid, SceneFileFault>
+pub fn read_grid(alloc: Global, bytes: &[u8]) -> Result<Grid, SceneFileFault>
     ensures grid { IfOk result (IsSceneOf bytes.now) }
     ensures fault { IfErr result (IsFault bytes.now) }
 {

@@ -8,7 +8,7 @@ use Rattle.ember_model.specs.declared.tri.Tri.{Tri}
 use Rattle.ember_meaning.specs.Regions.Solids.{IsSolidReport, IsSolidText}
 use Rattle.mesh_solid.specs.declared.tables.tables.Tables.{Tables}
 use Rattle.mesh_solid.specs.declared.mesh.mesh.SolidMesh.{SolidMesh}
-use Rattle.mesh_solid.specs.declared.mesh.solid.MeshedSolid.{MeshedSolid}
+use Rattle.mesh_solid.specs.declared.mesh.solid.SolidRun.{SolidRun}
 use Rattle.mesh_solid.specs.Mesh.Asked.{IsThereIf}
 use Rattle.mesh_solid.specs.Mesh.FaceTables.{AreTablesIn}
 
@@ -39,7 +39,7 @@ pub record IsSolidMesh (tris : List Tri) (formula : Formula) (mesh : SolidMesh) 
 
 -- the mesh is that of the solid's document, which is there exactly if it is to be kept; and the report is that of the
 -- run
-pub record IsMeshedSolid (tris : List Tri) (formula : Formula) (keeps : Bool) (solid : MeshedSolid) : Type 0 where
+pub record IsSolidRun (tris : List Tri) (formula : Formula) (keeps : Bool) (solid : SolidRun) : Type 0 where
   pub mesh : IsSolidMesh tris formula solid.mesh
   pub report : IsSolidReport tris formula solid.report
   pub document : IsThereIf keeps (λ document. document.items ≡ mesh.bytes) solid.document

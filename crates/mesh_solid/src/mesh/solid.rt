@@ -6,7 +6,7 @@ ghost use Rattle.ember_expr.specs.Formula.{formula_of};
 ghost use Rattle.ember_query.specs.Queries.{IsExecutor};
 ghost use Rattle.mesh_solid.specs.Mesh.FaceTables.{HoldsFaces};
 ghost use Rattle.mesh_solid.specs.Mesh.Faults.{IsSolidFault};
-ghost use Rattle.mesh_solid.specs.Mesh.Meshes.{IsMeshedSolid};
+ghost use Rattle.mesh_solid.specs.Mesh.Meshes.{IsSolidRun};
 ghost use Rattle.mesh_triangles.specs.PlaneQueries.{IsPlaneExecutor};
 
 use crate::mesh::fault::SolidFault;
@@ -21,7 +21,7 @@ use std::alloc::{AllocError, Global};
 
 /// The mesh of a solid, with the numbers of the run.
 #[derive(Drop)]
-pub struct MeshedSolid {
+pub struct SolidRun {
     pub mesh: SolidMesh,
     pub report: Report,
     /// The document of the solid, if it is to be kept.
@@ -51,16 +51,16 @@ fn mesh_with_document<
     expr: &Expr,
     executor: &C,
     plane_executor: &D,
-) -> Result<MeshedSolid, SolidFault>
+) -> Result<SolidRun, SolidFault>
     requires executor { IsExecutor C.pre C.post executor.now }
     requires plane_executor { IsPlaneExecutor D.pre D.post plane_executor.now }
-    ensures solid { IfOk result (IsMeshedSolid scene.now.tris (formula_of expr.now) true) }
+    ensures solid { IfOk result (IsSolidRun scene.now.tris (formula_of expr.now) true) }
     ensures fault { IfErr result (IsSolidFault scene.now.tris (formula_of expr.now)) }
 {
     let SolidDocument { text, report } = solid_of(alloc, scene, expr, executor)?;
     let faces = faces_in(alloc, &text)?;
     let mesh = mesh_of_faces(alloc, faces, plane_executor)?;
-    Ok(MeshedSolid {
+    Ok(SolidRun {
         mesh,
         report,
         document: Some(text),
@@ -77,15 +77,15 @@ fn mesh_alone<
     expr: &Expr,
     executor: &C,
     plane_executor: &D,
-) -> Result<MeshedSolid, SolidFault>
+) -> Result<SolidRun, SolidFault>
     requires executor { IsExecutor C.pre C.post executor.now }
     requires plane_executor { IsPlaneExecutor D.pre D.post plane_executor.now }
-    ensures solid { IfOk result (IsMeshedSolid scene.now.tris (formula_of expr.now) false) }
+    ensures solid { IfOk result (IsSolidRun scene.now.tris (formula_of expr.now) false) }
     ensures fault { IfErr result (IsSolidFault scene.now.tris (formula_of expr.now)) }
 {
     let SolidFaces { faces, report } = solid_faces(alloc, scene, expr, executor)?;
     let mesh = mesh_of_faces(alloc, faces, plane_executor)?;
-    Ok(MeshedSolid {
+    Ok(SolidRun {
         mesh,
         report,
         document: None,
@@ -107,10 +107,10 @@ pub fn solid_mesh<
     keeps: bool,
     executor: &C,
     plane_executor: &D,
-) -> Result<MeshedSolid, SolidFault>
+) -> Result<SolidRun, SolidFault>
     requires executor { IsExecutor C.pre C.post executor.now }
     requires plane_executor { IsPlaneExecutor D.pre D.post plane_executor.now }
-    ensures solid { IfOk result (IsMeshedSolid scene.now.tris (formula_of expr.now) keeps) }
+    ensures solid { IfOk result (IsSolidRun scene.now.tris (formula_of expr.now) keeps) }
     ensures fault { IfErr result (IsSolidFault scene.now.tris (formula_of expr.now)) }
 {
     if keeps {

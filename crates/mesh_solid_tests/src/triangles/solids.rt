@@ -11,7 +11,7 @@ use ember_mesh::{Closed, Parts, balanced, check, join};
 use ember_model::{OutOfMemory, Scene, Soup};
 use ember_obj::read_obj;
 use ember_query::{Answer, Query, answer_alone};
-use mesh_solid::{MeshedSolid, SolidMesh, solid_mesh};
+use mesh_solid::{SolidMesh, SolidRun, solid_mesh};
 use mesh_triangles::{PlaneAnswer, PlaneQuery, TrianglesFault, answer_planes_alone};
 use std::alloc::Global;
 use std::test::Fail;
@@ -72,7 +72,7 @@ pub(crate) fn solid_of(
     scene: &Scene,
     text: &[u8],
     keeps: bool,
-) -> Result<MeshedSolid, Fail>
+) -> Result<SolidRun, Fail>
     ensures { IfOk result (λ solid. All IsValidPlane solid.mesh.planes.items) }
 {
     let expr = match parse(alloc, text, 2) {
@@ -97,7 +97,7 @@ pub(crate) fn solid_of(
 }
 
 // The number of triangles of a solid, whether its faces are as many as its report says, and whether it has a document.
-fn found(solid: &MeshedSolid) -> (usize, bool, bool) {
+fn found(solid: &SolidRun) -> (usize, bool, bool) {
     let agrees = solid.mesh.faces == solid.report.faces;
     (solid.mesh.triangles.len(), agrees, solid.document.is_some())
 }
@@ -143,7 +143,7 @@ fn are_parts_of(again: &SolidMesh, mesh: &SolidMesh) -> [bool; 4] {
 }
 
 // Whether the kept document's mesh has the parts of the solid.
-fn same_parts(alloc: Global, solid: &MeshedSolid) -> Result<[bool; 4], Fail> {
+fn same_parts(alloc: Global, solid: &SolidRun) -> Result<[bool; 4], Fail> {
     let Some(document) = &solid.document else {
         return Err(Fail::from("no document"));
     };

@@ -6,7 +6,7 @@ use crate::triangles::cuts::{plane, thirds};
 use crate::triangles::solids::{HIGH_BOX, LOW_BOX, scene_of, solid_of};
 use ember_model::{Corner, OutOfMemory, Scene, Tri};
 use mesh_certificate::{Segment, Triangle};
-use mesh_solid::MeshedSolid;
+use mesh_solid::SolidRun;
 use mesh_sources::{Source, sources_of};
 use std::alloc::Global;
 use std::test::Fail;
@@ -159,7 +159,7 @@ const NEXT_BOX: &[u8] = b"v 10 0 0\nv 20 0 0\nv 20 10 0\nv 10 10 0\n\
 fn solid_sources(
     alloc: Global,
     scene: &Scene,
-    solid: &MeshedSolid,
+    solid: &SolidRun,
 ) -> Result<Vec<Option<Source>>, OutOfMemory>
     requires { All IsValidPlane solid.now.mesh.planes.items }
 {

@@ -3,7 +3,7 @@ use crate::written::texts::point;
 use ember_model::{Axis, Plane};
 use mesh_certificate::{Segment, SpacePoint, Triangle};
 use mesh_grid::{GridStep, Offset};
-use mesh_write::{FloatPoint, IndexedTriangle, WrittenTriangle};
+use mesh_write::{FloatPoint, FloatTriangle, IndexedTriangle};
 use mesh_written::{
     DecimalMesh, PlaceFault, decimal_mesh, decimal_place, float_place, float_triangles,
     have_corners, put_place, shared_edges, shared_edges_by_index, written_places,
@@ -161,13 +161,13 @@ fn two_triangles_of_four_vanish(rt: HostRuntime) -> Result<(), Fail> {
     assert!(rt; have_corners(&triangles, corners.len()));
     let written = float_triangles(rt.alloc(), &planes, &corners, &triangles, &UNIT, &HIGH)?;
     let want = [
-        WrittenTriangle {
+        FloatTriangle {
             normal: float_point(0, 0, 0xbf80_0000),
             a: float_point(0, 0, HEIGHT),
             b: float_point(0, TEN, HEIGHT),
             c: float_point(TEN, 0, HEIGHT),
         },
-        WrittenTriangle {
+        FloatTriangle {
             normal: float_point(0x3dca_c83f, 0x3dca_c83f, 0x3f7d_7a4f),
             a: float_point(TEN, 0, HEIGHT),
             b: float_point(0, TEN, HEIGHT),
@@ -185,13 +185,13 @@ fn edges_of_more_than_two_triangles(rt: HostRuntime) -> Result<(), Fail> {
         float_point(TEN, 0, 0),
         float_point(0, TEN, 0),
     ];
-    let front = WrittenTriangle {
+    let front = FloatTriangle {
         normal: p,
         a: p,
         b: q,
         c: r,
     };
-    let back = WrittenTriangle {
+    let back = FloatTriangle {
         normal: p,
         a: q,
         b: p,

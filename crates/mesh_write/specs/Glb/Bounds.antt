@@ -2,7 +2,7 @@
 use Rattle.std.specs.Prelude.{List, [], ◌∷◌, flat_map, map, All, Contains, IsTrue, from_bits}
 use Rattle.std.specs.Float.{Float, binary32, ◌≤ᶠ◌, float_is_finite}
 use Rattle.mesh_write.specs.declared.stl.triangle.FloatPoint.{FloatPoint}
-use Rattle.mesh_write.specs.declared.stl.triangle.WrittenTriangle.{WrittenTriangle}
+use Rattle.mesh_write.specs.declared.stl.triangle.FloatTriangle.{FloatTriangle}
 use Rattle.mesh_write.specs.declared.glb.bounds.FloatCoordinates.{FloatCoordinates}
 use Rattle.mesh_write.specs.declared.glb.bounds.Bounds.{Bounds}
 
@@ -15,11 +15,11 @@ coordinates_of p = record {
 }
 
 -- the corners of a triangle
-abbrev pub three_corners : WrittenTriangle → List FloatCoordinates
+abbrev pub three_corners : FloatTriangle → List FloatCoordinates
 three_corners t = coordinates_of t.a ∷ coordinates_of t.b ∷ coordinates_of t.c ∷ []
 
 -- the corners of triangles, in order
-abbrev pub corners_of : List WrittenTriangle → List FloatCoordinates
+abbrev pub corners_of : List FloatTriangle → List FloatCoordinates
 corners_of ts = flat_map three_corners ts
 
 -- neither infinite nor NaN

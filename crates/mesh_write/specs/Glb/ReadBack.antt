@@ -2,7 +2,7 @@
 use Rattle.std.specs.Prelude.{◌≡◌, ℕ, zero, suc, ◌+◌, ◌*◌, List, [], ◌∷◌, length, take, drop, flat_map}
 use Rattle.mesh_read.specs.Stl.Binary.{number_at}
 use Rattle.mesh_write.specs.declared.stl.triangle.FloatPoint.{FloatPoint}
-use Rattle.mesh_write.specs.declared.stl.triangle.WrittenTriangle.{WrittenTriangle}
+use Rattle.mesh_write.specs.declared.stl.triangle.FloatTriangle.{FloatTriangle}
 
 -- ---- the two chunks, by the format's rules
 -- the chunk whose head is at this byte: its size, its type and its bytes
@@ -40,14 +40,14 @@ points_at bytes at (suc n) =
     points_at bytes (at + 12) n
 
 -- the corners of triangles, and the normal of each corner
-abbrev pub corner_points : List WrittenTriangle → List FloatPoint
+abbrev pub corner_points : List FloatTriangle → List FloatPoint
 corner_points ts = flat_map (λ t. t.a ∷ t.b ∷ t.c ∷ []) ts
 
-abbrev pub normal_points : List WrittenTriangle → List FloatPoint
+abbrev pub normal_points : List FloatTriangle → List FloatPoint
 normal_points ts = flat_map (λ t. t.normal ∷ t.normal ∷ t.normal ∷ []) ts
 
 -- reading the bytes gives the corners of the triangles, in order, and behind them the normals
-pub record IsReadBack (ts : List WrittenTriangle) (bytes : List ℕ) : Type 0 where
+pub record IsReadBack (ts : List FloatTriangle) (bytes : List ℕ) : Type 0 where
   pub json : List ℕ
   pub numbers : List ℕ
   pub chunks : HasChunks bytes json numbers

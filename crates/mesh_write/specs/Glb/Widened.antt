@@ -2,7 +2,7 @@
 use Rattle.std.specs.Prelude.{if◌then◌else◌}
 use Rattle.std.specs.Float.{Float}
 use Rattle.std.specs.Float.Ieee.{lt}
-use Rattle.mesh_write.specs.declared.stl.triangle.WrittenTriangle.{WrittenTriangle}
+use Rattle.mesh_write.specs.declared.stl.triangle.FloatTriangle.{FloatTriangle}
 use Rattle.mesh_write.specs.declared.glb.bounds.FloatCoordinates.{FloatCoordinates}
 use Rattle.mesh_write.specs.declared.glb.bounds.Bounds.{Bounds}
 use Rattle.mesh_write.specs.Glb.Bounds.{coordinates_of}
@@ -20,7 +20,7 @@ abbrev pub higher : FloatCoordinates → FloatCoordinates → FloatCoordinates
 higher p q = record { x = greater p.x q.x; y = greater p.y q.y; z = greater p.z q.z }
 
 -- the bounds of the points of these bounds and of the triangle
-abbrev pub widened : Bounds → WrittenTriangle → Bounds
+abbrev pub widened : Bounds → FloatTriangle → Bounds
 widened b t =
     let p = coordinates_of t.a in
     let q = coordinates_of t.b in

@@ -3,7 +3,7 @@ use Rattle.std.specs.Prelude.{ℕ, ◌==◌, List, [], ◌∷◌, ◌++◌, code
 use Rattle.base64.specs.Engines.{standard}
 use Rattle.base64.specs.GeneralPurpose.{encode_of}
 use Rattle.mesh_write.specs.Glb.Written.{corner_bytes}
-use Rattle.mesh_write.specs.declared.stl.triangle.WrittenTriangle.{WrittenTriangle}
+use Rattle.mesh_write.specs.declared.stl.triangle.FloatTriangle.{FloatTriangle}
 use Rattle.mesh_write.specs.declared.page.head.TheConstants.{HEAD, PANEL}
 use Rattle.mesh_write.specs.declared.page.counts.TheConstants.{COUNTS}
 use Rattle.mesh_write.specs.declared.page.drawing.TheConstants.{DRAWING}
@@ -20,9 +20,9 @@ abbrev pub escaped : List ℕ → List ℕ
 escaped text = flat_map escaped_byte text
 
 -- the corners of the triangles, in order, in base64
-abbrev pub numbers_text : List WrittenTriangle → List ℕ
+abbrev pub numbers_text : List FloatTriangle → List ℕ
 numbers_text ts = encode_of standard (flat_map corner_bytes ts)
 
-abbrev pub page_of : List ℕ → List WrittenTriangle → List ℕ
+abbrev pub page_of : List ℕ → List FloatTriangle → List ℕ
 page_of title ts =
     HEAD.now ++ (escaped title ++ (PANEL.now ++ (numbers_text ts ++ (COUNTS.now ++ DRAWING.now))))

@@ -5,7 +5,7 @@ use Rattle.mesh_read.specs.declared.surface.surface.Facet.{Facet}
 use Rattle.mesh_read.specs.Surface.Surfaces.{Point}
 use Rattle.mesh_read.specs.Stl.ReadStl.{read_stl_of, checked}
 use Rattle.mesh_write.specs.declared.stl.triangle.FloatPoint.{FloatPoint}
-use Rattle.mesh_write.specs.declared.stl.triangle.WrittenTriangle.{WrittenTriangle}
+use Rattle.mesh_write.specs.declared.stl.triangle.FloatTriangle.{FloatTriangle}
 
 -- the three floats are finite, and these are their values
 pub record IsPoint (p : FloatPoint) (q : Point) : Type 0 where
@@ -14,7 +14,7 @@ pub record IsPoint (p : FloatPoint) (q : Point) : Type 0 where
   pub z : binary32_value p.z ≡ Some q.z
 
 -- the points are the corners of the triangles, in order
-abbrev pub AreCorners : List WrittenTriangle → List Point → Type 0
+abbrev pub AreCorners : List FloatTriangle → List Point → Type 0
 AreCorners [] [] = ⊤
 AreCorners (t ∷ ts) (p ∷ q ∷ r ∷ points) = IsPoint t.a p × IsPoint t.b q × IsPoint t.c r × AreCorners ts points
 AreCorners ts points = ⊥
@@ -27,6 +27,6 @@ facets_of (suc k) =
 
 -- reading the bytes gives the triangles with these corners, in order, or refuses them for what no mesh has: no
 -- triangle, or a coordinate of 10^15 or more
-abbrev pub IsReadBack : List WrittenTriangle → List ℕ → Type 0
+abbrev pub IsReadBack : List FloatTriangle → List ℕ → Type 0
 IsReadBack ts bytes = (points : List Point) → AreCorners ts points →
     read_stl_of bytes ≡ checked true (Ok (record { points = points; facets = facets_of (length ts) }))

@@ -1,7 +1,7 @@
 -- The bytes of a binary STL
 use Rattle.std.specs.Prelude.{ℕ, ◌/◌, ◌%◌, List, [], ◌∷◌, ◌++◌, length, codes, flat_map}
 use Rattle.mesh_write.specs.declared.stl.triangle.FloatPoint.{FloatPoint}
-use Rattle.mesh_write.specs.declared.stl.triangle.WrittenTriangle.{WrittenTriangle}
+use Rattle.mesh_write.specs.declared.stl.triangle.FloatTriangle.{FloatTriangle}
 
 -- 80 bytes
 unfoldable pub stl_header : List ℕ
@@ -15,10 +15,10 @@ unfoldable pub point_bytes : FloatPoint → List ℕ
 point_bytes p = number_bytes p.x ++ (number_bytes p.y ++ number_bytes p.z)
 
 -- the normal, the corners, and an attribute of 0
-unfoldable pub triangle_bytes : WrittenTriangle → List ℕ
+unfoldable pub triangle_bytes : FloatTriangle → List ℕ
 triangle_bytes t =
     point_bytes t.normal ++ (point_bytes t.a ++ (point_bytes t.b ++ (point_bytes t.c ++ 0 ∷ 0 ∷ [])))
 
 -- the header, the number of triangles, and 50 bytes for each
-abbrev pub stl_bytes_of : List WrittenTriangle → List ℕ
+abbrev pub stl_bytes_of : List FloatTriangle → List ℕ
 stl_bytes_of ts = stl_header ++ (number_bytes (length ts) ++ flat_map triangle_bytes ts)

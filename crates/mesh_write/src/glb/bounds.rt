@@ -3,7 +3,7 @@ ghost use Rattle.std.specs.Prelude.{◌≡◌, ◌<◌, All, length};
 ghost use Rattle.mesh_write.specs.Glb.Bounds.{coordinates_of, corners_of, IsFinite, AreBounds};
 ghost use Rattle.mesh_write.specs.Glb.Widened.{lesser, greater, lower, higher, widened};
 
-use crate::stl::{FloatPoint, WrittenTriangle};
+use crate::stl::{FloatPoint, FloatTriangle};
 use std::num::f32_from_bits_with_nan;
 
 /// The coordinates of a point.
@@ -64,7 +64,7 @@ fn higher(p: FloatCoordinates, q: FloatCoordinates) -> FloatCoordinates
 }
 
 // The bounds of the points of these bounds and of the triangle.
-fn widened(bounds: Bounds, triangle: &WrittenTriangle) -> Bounds
+fn widened(bounds: Bounds, triangle: &FloatTriangle) -> Bounds
     ensures { result ≡ widened bounds triangle.now }
 {
     let a = coordinates_of(&triangle.a);
@@ -77,7 +77,7 @@ fn widened(bounds: Bounds, triangle: &WrittenTriangle) -> Bounds
 }
 
 /// The bounds of the triangles' corners, if all coordinates are finite.
-pub fn bounds_of(triangles: &[WrittenTriangle]) -> Bounds
+pub fn bounds_of(triangles: &[FloatTriangle]) -> Bounds
     requires { 0 < length triangles.now }
     ensures { All IsFinite (corners_of triangles.now) →
         AreBounds (corners_of triangles.now) result }

@@ -9,7 +9,7 @@ use crate::glb::bounds::bounds_of;
 use crate::glb::coordinates::vector_text;
 use crate::glb::fault::GlbWriteFault;
 use crate::glb::json::json_text;
-use crate::stl::{WrittenTriangle, put_number, put_point};
+use crate::stl::{FloatTriangle, put_number, put_point};
 use std::alloc::{AllocError, Global};
 
 const EMPTY_JSON: &[u8; 76] =
@@ -43,7 +43,7 @@ fn put_data_head(size: u32, out: &mut Vec<u8>) -> Result<(), AllocError>
 }
 
 #[tactic(auto, unfolding(crate::specs::Glb::Written::corner_bytes))]
-fn put_corners(triangle: &WrittenTriangle, out: &mut Vec<u8>) -> Result<(), AllocError>
+fn put_corners(triangle: &FloatTriangle, out: &mut Vec<u8>) -> Result<(), AllocError>
     ensures { OnOk result (out.new.items ≡ out.old.items ++ corner_bytes triangle.now) }
 {
     put_point(&triangle.a, out)?;
@@ -52,7 +52,7 @@ fn put_corners(triangle: &WrittenTriangle, out: &mut Vec<u8>) -> Result<(), Allo
 }
 
 #[tactic(auto, unfolding(crate::specs::Glb::Written::normal_bytes))]
-fn put_normals(triangle: &WrittenTriangle, out: &mut Vec<u8>) -> Result<(), AllocError>
+fn put_normals(triangle: &FloatTriangle, out: &mut Vec<u8>) -> Result<(), AllocError>
     ensures { OnOk result (out.new.items ≡ out.old.items ++ normal_bytes triangle.now) }
 {
     put_point(&triangle.normal, out)?;
@@ -61,7 +61,7 @@ fn put_normals(triangle: &WrittenTriangle, out: &mut Vec<u8>) -> Result<(), Allo
 }
 
 /// Appends the coordinates of the corners of all triangles, each in four bytes.
-pub fn put_all_corners(triangles: &[WrittenTriangle], out: &mut Vec<u8>) -> Result<(), AllocError>
+pub fn put_all_corners(triangles: &[FloatTriangle], out: &mut Vec<u8>) -> Result<(), AllocError>
     ensures { OnOk result (out.new.items ≡ out.old.items ++ flat_map corner_bytes triangles.now) }
 {
     for triangle in triangles {
@@ -70,7 +70,7 @@ pub fn put_all_corners(triangles: &[WrittenTriangle], out: &mut Vec<u8>) -> Resu
     Ok(())
 }
 
-fn put_all_normals(triangles: &[WrittenTriangle], out: &mut Vec<u8>) -> Result<(), AllocError>
+fn put_all_normals(triangles: &[FloatTriangle], out: &mut Vec<u8>) -> Result<(), AllocError>
     ensures { OnOk result (out.new.items ≡ out.old.items ++ flat_map normal_bytes triangles.now) }
 {
     for triangle in triangles {
@@ -90,7 +90,7 @@ fn without_mesh(alloc: Global) -> Result<Vec<u8>, AllocError>
 }
 
 // The JSON of the triangles.
-fn json_of(alloc: Global, triangles: &[WrittenTriangle]) -> Result<Vec<u8>, AllocError>
+fn json_of(alloc: Global, triangles: &[FloatTriangle]) -> Result<Vec<u8>, AllocError>
     requires { 0 < length triangles.now }
     ensures { IfOk result (λ json. IsJsonOf triangles.now json.items) }
 {
@@ -104,7 +104,7 @@ fn json_of(alloc: Global, triangles: &[WrittenTriangle]) -> Result<Vec<u8>, Allo
 fn with_json(
     alloc: Global,
     json: &[u8],
-    triangles: &[WrittenTriangle],
+    triangles: &[FloatTriangle],
     size: u32,
 ) -> Result<Vec<u8>, AllocError>
     requires { size ≡ glb_size json.now (length triangles.now) }
@@ -120,7 +120,7 @@ fn with_json(
 }
 
 // The GLB of some triangles.
-fn with_mesh(alloc: Global, triangles: &[WrittenTriangle]) -> Result<Vec<u8>, GlbWriteFault>
+fn with_mesh(alloc: Global, triangles: &[FloatTriangle]) -> Result<Vec<u8>, GlbWriteFault>
     requires { 0 < length triangles.now }
     ensures glb { IfOk result (λ bytes. IsMeshGlb triangles.now bytes.items) }
     ensures many { result ≡ Err TooManyTriangles → IsTooLong triangles.now }
@@ -142,7 +142,7 @@ fn with_mesh(alloc: Global, triangles: &[WrittenTriangle]) -> Result<Vec<u8>, Gl
 /// the normal of its triangle at each corner. If all coordinates are finite, it has their bounds.
 /// Its chunk of numbers, read again, gives the corners and the normals. Without triangles the asset
 /// has no mesh. Refused is a GLB of 2^32 bytes or more; the other fault is out-of-memory.
-pub fn glb_bytes(alloc: Global, triangles: &[WrittenTriangle]) -> Result<Vec<u8>, GlbWriteFault>
+pub fn glb_bytes(alloc: Global, triangles: &[FloatTriangle]) -> Result<Vec<u8>, GlbWriteFault>
     ensures glb { IfOk result (λ bytes. IsGlb triangles.now bytes.items) }
     ensures read_back { 0 < length triangles.now → IfOk result (λ bytes. IsReadBack triangles.now bytes.items) }
     ensures many { result ≡ Err TooManyTriangles → IsTooLong triangles.now }

@@ -10,7 +10,7 @@ use crate::glb::put_all_corners;
 use crate::page::counts::COUNTS;
 use crate::page::drawing::DRAWING;
 use crate::page::head::{HEAD, PANEL};
-use crate::stl::WrittenTriangle;
+use crate::stl::FloatTriangle;
 use base64::engine::general_purpose::STANDARD;
 use std::alloc::{AllocError, Global};
 
@@ -36,7 +36,7 @@ fn put_escaped(text: &[u8], out: &mut Vec<u8>) -> Result<(), AllocError>
 }
 
 // The corners of the triangles, as numbers in base64.
-fn numbers_text(alloc: Global, triangles: &[WrittenTriangle]) -> Result<String, AllocError>
+fn numbers_text(alloc: Global, triangles: &[FloatTriangle]) -> Result<String, AllocError>
     ensures text { IfOk result (λ text. string_bytes text ≡ numbers_text triangles.now) }
     ensures decoded { IfOk result (λ text.
         decode_of standard (string_bytes text) ≡ Ok (flat_map corner_bytes triangles.now)) }
@@ -56,7 +56,7 @@ fn numbers_text(alloc: Global, triangles: &[WrittenTriangle]) -> Result<String, 
 pub fn page_bytes(
     alloc: Global,
     title: &[u8],
-    triangles: &[WrittenTriangle],
+    triangles: &[FloatTriangle],
 ) -> Result<Vec<u8>, AllocError>
     ensures page { IfOk result (λ page. page.items ≡ page_of title.now triangles.now) }
     ensures read_back { IfOk result (λ page. IsReadBack triangles.now page.items) }

@@ -10,7 +10,7 @@ pub struct FloatPoint {
 
 /// A triangle of a file: its normal and its corners, counter-clockwise seen from outside.
 #[derive(Clone, Copy, Debug, PartialEq, Eq)]
-pub struct WrittenTriangle {
+pub struct FloatTriangle {
     pub normal: FloatPoint,
     pub a: FloatPoint,
     pub b: FloatPoint,

@@ -5,7 +5,7 @@ ghost use Rattle.mesh_write.specs.Stl.Written.{stl_header, number_bytes, point_b
 ghost use Rattle.mesh_write.specs.Stl.ReadBack.{IsReadBack};
 
 use crate::stl::fault::StlWriteFault;
-use crate::stl::triangle::{FloatPoint, WrittenTriangle};
+use crate::stl::triangle::{FloatPoint, FloatTriangle};
 use std::alloc::{AllocError, Global};
 
 const HEADER: &[u8; 80] =
@@ -42,7 +42,7 @@ pub fn put_point(point: &FloatPoint, out: &mut Vec<u8>) -> Result<(), AllocError
 }
 
 #[tactic(auto, unfolding(crate::specs::Stl::Written::triangle_bytes))]
-fn put_triangle(triangle: &WrittenTriangle, out: &mut Vec<u8>) -> Result<(), AllocError>
+fn put_triangle(triangle: &FloatTriangle, out: &mut Vec<u8>) -> Result<(), AllocError>
     ensures { OnOk result (out.new.items ≡ out.old.items ++ triangle_bytes triangle.now) }
 {
     put_point(&triangle.normal, out)?;
@@ -52,7 +52,7 @@ fn put_triangle(triangle: &WrittenTriangle, out: &mut Vec<u8>) -> Result<(), All
     out.extend_from_slice(&[0, 0])
 }
 
-fn put_triangles(triangles: &[WrittenTriangle], out: &mut Vec<u8>) -> Result<(), AllocError>
+fn put_triangles(triangles: &[FloatTriangle], out: &mut Vec<u8>) -> Result<(), AllocError>
     ensures { OnOk result (out.new.items ≡ out.old.items ++ flat_map triangle_bytes triangles.now) }
 {
     for triangle in triangles {
@@ -61,11 +61,7 @@ fn put_triangles(triangles: &[WrittenTriangle], out: &mut Vec<u8>) -> Result<(),
     Ok(())
 }
 
-fn all_bytes(
-    alloc: Global,
-    triangles: &[WrittenTriangle],
-    count: u32,
-) -> Result<Vec<u8>, AllocError>
+fn all_bytes(alloc: Global, triangles: &[FloatTriangle], count: u32) -> Result<Vec<u8>, AllocError>
     requires { count ≡ length triangles.now }
     ensures { IfOk result (λ bytes. bytes.items ≡ stl_bytes_of triangles.now) }
 {
@@ -79,7 +75,7 @@ fn all_bytes(
 /// The bytes of the binary STL with these triangles, in their order. Reading them gives their
 /// corners again, if all coordinates are finite. Refused are 2^32 triangles or more; the other
 /// fault is out-of-memory.
-pub fn stl_bytes(alloc: Global, triangles: &[WrittenTriangle]) -> Result<Vec<u8>, StlWriteFault>
+pub fn stl_bytes(alloc: Global, triangles: &[FloatTriangle]) -> Result<Vec<u8>, StlWriteFault>
     ensures bytes { IfOk result (λ bytes. bytes.items ≡ stl_bytes_of triangles.now) }
     ensures read_back { IfOk result (λ bytes. IsReadBack triangles.now bytes.items) }
     ensures many { result ≡ Err TooManyTriangles ↔ 2 ^ 32 ≤ length triangles.now }

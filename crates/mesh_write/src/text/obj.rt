@@ -51,7 +51,7 @@ fn put_faces(triangles: &[IndexedTriangle], out: &mut Vec<u8>) -> Result<(), All
 }
 
 /// Appends the lines of an OBJ behind its comment: one for each vertex, then one for each triangle,
-/// in their order. FloatCoordinates are units of the last of so many decimal places, of which there are
+/// in their order. Coordinates are units of the last of so many decimal places, of which there are
 /// at most 17. The one error is out-of-memory.
 pub fn put_obj_lines(
     vertices: &[DecimalPoint],

@@ -9,7 +9,7 @@ use crate::text::ply::ply_text;
 use crate::vertices::{DecimalPoint, IndexedTriangle};
 use std::alloc::{AllocError, Global};
 
-/// The file with these vertices and triangles, in their order. FloatCoordinates are units of the last of
+/// The file with these vertices and triangles, in their order. Coordinates are units of the last of
 /// so many decimal places, of which there are at most 17. They have no zeros at the end, no bare
 /// point and no sign of 0. The one error is out-of-memory.
 pub fn mesh_text(

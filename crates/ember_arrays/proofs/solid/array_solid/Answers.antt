@@ -76,5 +76,5 @@ returns-clause-solid c =
     (subst (λ (origins : List ℕ). AreSourcesIf inputs c.items-tris.result.now mesh origins sources) c.deref.ensures.value c.in_ok-sources.ensures) in
     arrays_are_solid c.args.meshes.now (formula_of c.args.expr.now) c.args.wanted c.args.digits c.in_ok-placed.field-0.placed
     c.in_ok-placed.ensures.placed.is c.in_ok-mesh.field-0 c.in_ok-mesh.ensures.solid c.in_ok-arrays.arrays
-    c.in_ok-arrays.ensures.arrays c.in_ok-six_volumes.six_volumes c.in_ok-six_volumes.ensures c.args.wants_sources inputs
+    c.in_ok-arrays.ensures.arrays c.in_ok-sixfold_volumes.sixfold_volumes c.in_ok-sixfold_volumes.ensures c.args.wants_sources inputs
     c.in_ok-placed.ensures.placed.inputs sources of_inputs

@@ -13,7 +13,7 @@ returns-then-not-none_positive c =
     let n = c.args.support.now in let p = c.args.p.now in let a = c.args.a in let es = c.args.edges.now in
     let s = exact (c.plane_value-front.ensures.small & done) (stored w128 (input 0)) tt ∙ c.plane_value-front.ensures.value in
     let k = exact (c.component-slope.ensures.small & done) (stored w64 (input 0)) tt ∙ c.component-slope.ensures.value in
-    let l : is_zero (along n a) ≡ false = (λ i. is_zero (sym k i)) ∙ sym c.is_level.ensures ∙ c.if-is_level.false in
+    let l : is_zero (along n a) ≡ false = (λ i. is_zero (sym k i)) ∙ sym c.is_parallel.ensures ∙ c.if-is_parallel.false in
     let m : is_negative (value_at n p *ℤ along n a) ≡ true = (λ i. is_negative (sym s i *ℤ sym k i)) ∙ sym c.meets.ensures ∙ c.if-meets.true in
     let q = ray_point_is_hit n a p _ _ c.hit_on_ray-hit.result s k c.hit_on_ray-hit.ensures.value in
     let h : none_positive es (hit n a p) ≡ false = (λ i. none_positive es (sym q i)) ∙ sym c.none_positive.ensures ∙ c.if-not-none_positive.true in
@@ -25,7 +25,7 @@ returns-else-not-none_positive c =
     let n = c.args.support.now in let p = c.args.p.now in let a = c.args.a in let es = c.args.edges.now in
     let s = exact (c.plane_value-front.ensures.small & done) (stored w128 (input 0)) tt ∙ c.plane_value-front.ensures.value in
     let k = exact (c.component-slope.ensures.small & done) (stored w64 (input 0)) tt ∙ c.component-slope.ensures.value in
-    let l : is_zero (along n a) ≡ false = (λ i. is_zero (sym k i)) ∙ sym c.is_level.ensures ∙ c.if-is_level.false in
+    let l : is_zero (along n a) ≡ false = (λ i. is_zero (sym k i)) ∙ sym c.is_parallel.ensures ∙ c.if-is_parallel.false in
     let m : is_negative (value_at n p *ℤ along n a) ≡ true = (λ i. is_negative (sym s i *ℤ sym k i)) ∙ sym c.meets.ensures ∙ c.if-meets.true in
     let q = ray_point_is_hit n a p _ _ c.hit_on_ray-hit.result s k c.hit_on_ray-hit.ensures.value in
     let h : none_positive es (hit n a p) ≡ true = (λ i. none_positive es (sym q i)) ∙ sym c.none_positive.ensures ∙ c.if-not-none_positive.false in

@@ -49,10 +49,10 @@ returns-in_err-text-in-Slice-clause-no_reply g c =
 
 pub returns-in-Boole-clause-no_reply : goal.returns-in-Boole-clause-no_reply
 returns-in-Boole-clause-no_reply g c =
-    let shelf = shelf_call g.S.Shelf.contents g.S.Shelf.faults g.S.Shelf.fault_at c.args.shelf.now c.boole_output.new.shelf in
-    subst (λ (command : Command). IfErr c.boole_output.result
+    let shelf = shelf_call g.S.Shelf.contents g.S.Shelf.faults g.S.Shelf.fault_at c.args.shelf.now c.bool_output.new.shelf in
+    subst (λ (command : Command). IfErr c.bool_output.result
     (IsNoReply (verdict_of (Some command)) (names_of (Some command)) shelf)) (sym c.in-Boole.is)
-    c.boole_output.ensures.no_reply
+    c.bool_output.ensures.no_reply
 
 pub returns-in_ok-text-in-Faces-clause-reply : goal.returns-in_ok-text-in-Faces-clause-reply
 returns-in_ok-text-in-Faces-clause-reply g c =
@@ -103,5 +103,5 @@ returns-in_ok-text-in-Demo-clause-reply g c =
 pub returns-in-Boole-clause-reply : goal.returns-in-Boole-clause-reply
 returns-in-Boole-clause-reply g c =
     let told = g.S.Shelf.contents c.args.shelf.now in
-    subst (λ (command : Command). IfOk c.boole_output.result (IsReplyTo command told)) (sym c.in-Boole.is)
-    c.boole_output.ensures.reply
+    subst (λ (command : Command). IfOk c.bool_output.result (IsReplyTo command told)) (sym c.in-Boole.is)
+    c.bool_output.ensures.reply

@@ -2,11 +2,11 @@ use Rattle.std.proofs.Common.{sym, ◌∙◌}
 use Rattle.ember_model.proofs.PlaneSizes.{tri_within}
 use Rattle.ember_width.proofs.TakenPlanes.{edge_taken, edges_taken}
 use Rattle.ember_trace.specs.Paths.{path_of}
-use Rattle.ember_trace.proofs.LevelTriangles.{level_last}
+use Rattle.ember_trace.proofs.ParallelTriangles.{parallel_last}
 use Rattle.ember_trace.proofs.segments.last_is_behind.Goals as goal
 
-pub returns-then-is_level : goal.returns-then-is_level
-returns-then-is_level g c = sym (level_last (path_of c.args.way.now) c.args.triangle.now (sym c.is_level.ensures ∙ c.if-is_level.true))
+pub returns-then-is_parallel : goal.returns-then-is_parallel
+returns-then-is_parallel g c = sym (parallel_last (path_of c.args.way.now) c.args.triangle.now (sym c.is_parallel.ensures ∙ c.if-is_parallel.true))
 
 pub edge_plane-requires-clause-tri : goal.edge_plane-requires-clause-tri
 edge_plane-requires-clause-tri g c = tri_within g.met.W.Width.at_most_broad c.args.triangle.now.valid

@@ -1,7 +1,7 @@
 use Rattle.std.proofs.Common.{sym, ◌∙◌}
 use Rattle.ember_model.proofs.PlaneSizes.{tri_within}
 use Rattle.ember_trace.proofs.SegmentCrossings.{edge_support}
-use Rattle.ember_trace.proofs.LevelTriangles.{level_second}
+use Rattle.ember_trace.proofs.ParallelTriangles.{parallel_second}
 use Rattle.ember_trace.specs.Paths.{path_of, side_after_first}
 use Rattle.ember_trace.proofs.ThreeEdges.{all_three, last_of_three}
 use Rattle.ember_trace.proofs.segments.second_is_behind.Goals as goal
@@ -17,8 +17,8 @@ returns-then-is_behind_after_first-2 g c =
     c.is_behind_after_first-then-is_behind_after_first.ensures
     c.is_behind_after_first-then-is_behind_after_first-2.ensures)
 
-pub returns-then-is_level : goal.returns-then-is_level
-returns-then-is_level g c = sym (level_second (path_of c.args.way.now) c.args.triangle.now (sym c.is_level.ensures ∙ c.if-is_level.true))
+pub returns-then-is_parallel : goal.returns-then-is_parallel
+returns-then-is_parallel g c = sym (parallel_second (path_of c.args.way.now) c.args.triangle.now (sym c.is_parallel.ensures ∙ c.if-is_parallel.true))
 
 pub edge_plane-requires-clause-tri : goal.edge_plane-requires-clause-tri
 edge_plane-requires-clause-tri g c = tri_within g.met.W.Width.at_most_broad c.args.triangle.now.valid

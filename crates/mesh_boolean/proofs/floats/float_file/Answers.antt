@@ -1,6 +1,6 @@
 use Rattle.std.proofs.Common.{◌≡◌, ◌∙◌, List, length, Option, ap, inr, sym, subst, refl, arith, IfSome}
 use Rattle.std.specs.Global.{Vec}
-use Rattle.mesh_write.specs.declared.stl.triangle.WrittenTriangle.{WrittenTriangle}
+use Rattle.mesh_write.specs.declared.stl.triangle.FloatTriangle.{FloatTriangle}
 use Rattle.mesh_written.specs.Closed.{AreWrittenClosed}
 use Rattle.mesh_written.specs.Shared.{IsSharedCount}
 use Rattle.mesh_boolean.specs.declared.wanted.MeshFormat.TheVariants.{Floats}
@@ -23,7 +23,7 @@ returns-then-is_rounded_away-clause-fault c =
     let lost = c.is_rounded_away.ensures.lost c.if-is_rounded_away.true in
     inr (record {
       some = lost.0;
-      none_left = subst (λ (ws : List WrittenTriangle). AreRounded c.args.grid.now c.args.mesh ws)
+      none_left = subst (λ (ws : List FloatTriangle). AreRounded c.args.grid.now c.args.mesh ws)
           (sym c.deref.ensures.value ∙ lost.1) c.in_ok-written.ensures.rounded.rounded;
     })
 
@@ -43,12 +43,12 @@ returns-in_err-bytes-clause-fault c =
 pub returns-clause-floats : goal.returns-clause-floats
 returns-clause-floats c =
     let written = c.in_ok-written.field-0.triangles in
-    let looked_at = ap (λ (ws : List WrittenTriangle). length ws) c.deref.ensures.value in
+    let looked_at = ap (λ (ws : List FloatTriangle). length ws) c.deref.ensures.value in
     record {
       written = written.items;
       rounded = c.in_ok-written.ensures.rounded;
       bytes = subst (λ ws. IsFloatFile c.args.format ws c.in_ok-bytes.bytes.items) c.deref-3.ensures.value c.in_ok-bytes.ensures.file;
-      shown = subst (λ (shown : Option (Vec WrittenTriangle)). IfSome shown (λ shown. shown.items ≡ written.items))
+      shown = subst (λ (shown : Option (Vec FloatTriangle)). IfSome shown (λ shown. shown.items ≡ written.items))
           (sym c.then_some.ensures) (shown_if_asked c.args.shows written);
       not_known = refl;
       faces = refl;
@@ -63,6 +63,6 @@ returns-clause-floats c =
 pub returns-clause-shown : goal.returns-clause-shown
 returns-clause-shown c =
     let written = c.in_ok-written.field-0.triangles in
-    let are : Vec WrittenTriangle → Type 0 = λ shown. AreRounded c.args.grid.now c.args.mesh shown.items in
+    let are : Vec FloatTriangle → Type 0 = λ shown. AreRounded c.args.grid.now c.args.mesh shown.items in
     subst (AreShownIf c.args.shows c.args.grid.now c.args.mesh) (sym c.then_some.ensures)
     (asked_is_there c.args.shows are written c.in_ok-written.ensures.rounded.rounded)

@@ -55,4 +55,4 @@ returns-clause-output g c =
     output_is c.args.files.now (formula_of c.args.expr.now) c.args.wanted c.in_ok-placed.placed
     c.in_ok-placed.ensures.placed c.in_ok-mesh.field-0 c.in_ok-mesh.ensures.solid c.in_ok-written.written
     c.in_ok-written.ensures.written c.in_ok-written.ensures.shown c.kept_with-kept.result c.kept_with-kept.ensures
-    c.in_ok-six_volumes.six_volumes c.in_ok-six_volumes.ensures
+    c.in_ok-sixfold_volumes.sixfold_volumes c.in_ok-sixfold_volumes.ensures

@@ -22,12 +22,12 @@ loop-name-preserved c =
     let measured = ap (λ (v : List ℕ). file_object c.name-item.result n first v) c.in_ok-volume.ensures in
     let made = c.in_ok-object.ensures ∙ named ∙ placed ∙ measured in
     let pushed = ap texts_of c.in_ok-push.ensures.items ∙ map-append (λ (v : Vec ℕ Global). v.items) old.texts.items (c.in_ok-object.object ∷ []) in
-    let all = file_objects c.args.names.now c.args.step.now c.args.counts.now c.args.moves.now c.args.six_volumes.now in
+    let all = file_objects c.args.names.now c.args.step.now c.args.counts.now c.args.moves.now c.args.sixfold_volumes.now in
     let rest = file_objects (drop (old.name-index + 1) c.args.names.now) c.args.step.now (drop (old.file + 1) c.args.counts.now)
-    (drop (old.file + 1) c.args.moves.now) (drop (old.file + 1) c.args.six_volumes.now) in
+    (drop (old.file + 1) c.args.moves.now) (drop (old.file + 1) c.args.sixfold_volumes.now) in
     record {
       file = omega (arith, old.invariant.file);
-      texts = one_object_more c.args.step.now c.args.names.now c.args.counts.now c.args.moves.now c.args.six_volumes.now
+      texts = one_object_more c.args.step.now c.args.names.now c.args.counts.now c.args.moves.now c.args.sixfold_volumes.now
           old.name-index old.file c.name-item.result n c.in_ok-object.object.items all (texts_of old.texts.items)
           c.loop-name-test.true c.name-item.is there look.1 old.invariant.texts made
           ∙ ap (λ (xs : List (List ℕ)). xs ++ rest) (sym pushed);

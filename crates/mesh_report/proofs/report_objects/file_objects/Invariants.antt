@@ -7,7 +7,7 @@ abbrev pub invariant-loop-name : goal.invariant-loop-name
 invariant-loop-name l =
     record {
       file : l.file ≡ l.name-index;
-      texts : file_objects l.names l.step l.counts l.moves l.six_volumes ≡ texts_of l.texts.items
+      texts : file_objects l.names l.step l.counts l.moves l.sixfold_volumes ≡ texts_of l.texts.items
           ++ file_objects (drop l.name-index l.names) l.step (drop l.file l.counts) (drop l.file l.moves)
-          (drop l.file l.six_volumes);
+          (drop l.file l.sixfold_volumes);
     }

@@ -11,11 +11,11 @@ returns c =
     let a = c.args in
     let before = texts_of a.texts.now.items in
     let turned = turned_text a.number a.name.now a.step.now in
-    let below : int_lt a.six_volumes (pos 0) ≡ true = search rules in
-    let start = ap (λ (xs : List ℕ). xs ++ turned a.six_volumes) c.new-said.ensures.items in
-    let put = c.in_ok-put_turned.ensures ∙ ap (λ (v : ℤ). c.new-said.result.items ++ turned v) (to_z-of_z c.ranges.six_volumes) ∙ start in
+    let below : int_lt a.sixfold_volume (pos 0) ≡ true = search rules in
+    let start = ap (λ (xs : List ℕ). xs ++ turned a.sixfold_volume) c.new-said.ensures.items in
+    let put = c.in_ok-put_turned.ensures ∙ ap (λ (v : ℤ). c.new-said.result.items ++ turned v) (to_z-of_z c.ranges.sixfold_volume) ∙ start in
     let said = c.in_ok-string.ensures ∙ ap quoted (c.deref.ensures.value ∙ put) in
     let pushed = ap texts_of c.in_ok-push.ensures.items
     ∙ map-append (λ (v : Vec ℕ Global). v.items) a.texts.now.items (c.in_ok-string.field-0 ∷ []) in
     pushed ∙ ap (λ (v : List ℕ). before ++ v ∷ []) said
-    ∙ ap (λ (b : Bool). before ++ (if b then quoted (turned a.six_volumes) ∷ [] else [])) (sym below)
+    ∙ ap (λ (b : Bool). before ++ (if b then quoted (turned a.sixfold_volume) ∷ [] else [])) (sym below)

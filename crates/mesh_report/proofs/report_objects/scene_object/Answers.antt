@@ -9,7 +9,7 @@ pub returns : goal.returns
 returns c =
     let names = c.args.names.now in
     let placed = c.args.placed.now in
-    let volumes = c.as_slice-volumes.ensures.value ∙ c.in_ok-six_volumes.ensures in
+    let volumes = c.as_slice-volumes.ensures.value ∙ c.in_ok-sixfold_volumes.ensures in
     let files_are = c.in_ok-files.ensures
     ∙ (λ k. array (file_objects names placed.grid.step (c.deref.ensures.value k) (c.deref-2.ensures.value k) (volumes k))) in
     let warnings_are = c.in_ok-warnings.ensures ∙ ap (λ (ts : List (Vec ℕ Global)). array (texts_of ts)) c.deref-3.ensures.value

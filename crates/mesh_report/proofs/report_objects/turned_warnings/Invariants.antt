@@ -7,6 +7,6 @@ abbrev pub invariant-loop-name : goal.invariant-loop-name
 invariant-loop-name l =
     record {
       file : l.file ≡ l.name-index;
-      texts : turned_warnings 1 l.names l.step l.six_volumes ≡ texts_of l.texts.items
-          ++ turned_warnings (l.file + 1) (drop l.name-index l.names) l.step (drop l.file l.six_volumes);
+      texts : turned_warnings 1 l.names l.step l.sixfold_volumes ≡ texts_of l.texts.items
+          ++ turned_warnings (l.file + 1) (drop l.name-index l.names) l.step (drop l.file l.sixfold_volumes);
     }

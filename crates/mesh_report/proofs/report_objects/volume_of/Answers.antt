@@ -7,9 +7,9 @@ use Rattle.mesh_report.proofs.report_objects.volume_of.Goals as goal
 pub returns : goal.returns
 returns c =
     let step = c.args.step.now in
-    let all = c.args.six_volumes.now in
+    let all = c.args.sixfold_volumes.now in
     let six = c.volume_at.result in
-    let inside : c.args.index < length all = omega (arith, c.if-index-six_volumes.false) in
+    let inside : c.args.index < length all = omega (arith, c.if-index-sixfold_volumes.false) in
     let stored : to_z w64 (of_z w64 six) ≡ six = to_z-of_z {w = w64} (record { sfits = c.volume_at.type_inv }) in
     let first : volume_value step six ≡ first_volume step (drop c.args.index all) =
     ap (volume_value step) (c.volume_at.ensures six) ∙ sym (ap (first_volume step) (drop-cons all c.args.index six inside)) in

@@ -27,11 +27,11 @@ returns c =
     let unit = 6 * c.cube-denominator.result in
     let size = size_of c.product-size.result in
     let below : size < size_of c.product-limit.result = search rules in
-    let of_size : size ≡ unsigned_abs c.args.six_volumes * cube step.numerator =
-    c.product-size.ensures ∙ (λ k. (c.from-count.ensures ∙ c.unsigned_abs.ensures.value ∙ ap unsigned_abs (to_z-of_z c.ranges.six_volumes)) k * c.cube-numerator.ensures.value k) in
+    let of_size : size ≡ unsigned_abs c.args.sixfold_volume * cube step.numerator =
+    c.product-size.ensures ∙ (λ k. (c.from-count.ensures ∙ c.unsigned_abs.ensures.value ∙ ap unsigned_abs (to_z-of_z c.ranges.sixfold_volume)) k * c.cube-numerator.ensures.value k) in
     let of_unit = ap (λ (n : ℕ). 6 * n) c.cube-denominator.ensures.value in
     let small : size < unit * 10 ^ 21 = omega (arith, below, c.product-limit.ensures) in
     on_ok_same _ _ _ c.put_decimal.result c.put_decimal.ensures
     (ap (λ (v : ℤ). c.args.text.now.items ++ decimal_text (int_lt v (pos 0)) (nearest_whole (size * 10 ^ 12) unit) 12)
-    (to_z-of_z c.ranges.six_volumes)
-    ∙ ap (λ (xs : List ℕ). c.args.text.now.items ++ xs) (volume_shown c.args.six_volumes size unit step of_size of_unit small))
+    (to_z-of_z c.ranges.sixfold_volume)
+    ∙ ap (λ (xs : List ℕ). c.args.text.now.items ++ xs) (volume_shown c.args.sixfold_volume size unit step of_size of_unit small))

@@ -6,6 +6,6 @@ abbrev pub invariant-loop-name : goal.invariant-loop-name
 invariant-loop-name l =
     record {
       file : l.file ≡ l.name-index;
-      text : l.initial.text.items ++ volume_lines 1 l.names l.step l.six_volumes ≡ l.text.items
-          ++ volume_lines (l.file + 1) (drop l.name-index l.names) l.step (drop l.file l.six_volumes);
+      text : l.initial.text.items ++ volume_lines 1 l.names l.step l.sixfold_volumes ≡ l.text.items
+          ++ volume_lines (l.file + 1) (drop l.name-index l.names) l.step (drop l.file l.sixfold_volumes);
     }

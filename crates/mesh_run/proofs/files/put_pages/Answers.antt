@@ -2,7 +2,7 @@ use Rattle.std.proofs.Common.{ℕ, List, [], ◌∷◌, ◌++◌, refl, sym, ap,
 use Rattle.std.specs.declared.option.Option.{Option}
 use Rattle.mesh_write.specs.Page.Pages.{page_of}
 use Rattle.mesh_write.specs.Page.ReadBack.{IsReadBack}
-use Rattle.mesh_write.specs.declared.stl.triangle.WrittenTriangle.{WrittenTriangle}
+use Rattle.mesh_write.specs.declared.stl.triangle.FloatTriangle.{FloatTriangle}
 use Rattle.mesh_outside.specs.Target.Several.{NamedBytes, names_and_bytes}
 use Rattle.mesh_run.specs.Writes.{AreFilesIf, IsPageFile}
 use Rattle.mesh_texts.proofs.Appended.{on_ok_both}
@@ -23,8 +23,8 @@ returns c =
             are_shown = c.unwrap-shown.ensures;
             all = refl;
             read_back =
-                subst (λ (ts : List WrittenTriangle). IsReadBack ts (page_of title ts)) c.deref.ensures.value back;
+                subst (λ (ts : List FloatTriangle). IsReadBack ts (page_of title ts)) c.deref.ensures.value back;
           });
-      all = put ∙ ap (λ (ts : List WrittenTriangle). before ++ (c.in-Some.page, page_of title ts) ∷ []) c.deref.ensures.value;
+      all = put ∙ ap (λ (ts : List FloatTriangle). before ++ (c.in-Some.page, page_of title ts) ∷ []) c.deref.ensures.value;
     })
     c.put_page.ensures.is_page c.put_page.ensures.read_back

@@ -1,7 +1,7 @@
 use Rattle.std.proofs.Common.{List, length, sym, ap, subst, ◌∙◌, arith}
 use Rattle.std.specs.List.{All}
 use Rattle.ember_algebra.specs.Relations.{Each}
-use Rattle.mesh_boolean.specs.declared.files.MeshFile.{MeshFile}
+use Rattle.mesh_boolean.specs.declared.files.InputFile.{InputFile}
 use Rattle.mesh_boolean.specs.Faults.{IsReadFault}
 use Rattle.mesh_boolean.specs.Files.{AreReadings, IsSmall}
 use Rattle.mesh_read.specs.declared.surface.surface.Surface.{Surface}
@@ -47,7 +47,7 @@ returns-in-Ok-clause-lines c = λ told h.
     record {
       files = files;
       are_files = files_are_told told _ _ files (made.names ∙ all_names _ c.args.contents.now c.requires.one_each) made.bytes h;
-      each = subst (λ (files : List MeshFile). Each IsFileLine files c.in_ok-lines-in-Ok.lines.items)
+      each = subst (λ (files : List InputFile). Each IsFileLine files c.in_ok-lines-in-Ok.lines.items)
           c.as_slice-files.ensures.value c.in_ok-lines-in-Ok.ensures;
     }
 
@@ -55,8 +55,8 @@ pub returns-clause-cause : goal.returns-clause-cause
 returns-clause-cause c = λ told h.
     let made = c.in_ok-made.ensures in
     let files = c.in_ok-made.made.items in
-    let fault = subst (λ (files : List MeshFile). IsReadFault files c.in-Err.fault) c.as_slice-files.ensures.value c.in-Err.ensures.fault in
-    let status = subst (λ (files : List MeshFile). IsStatusOf files c.in-Err.fault c.status_of.result) c.as_slice-files.ensures.value c.status_of.ensures in
+    let fault = subst (λ (files : List InputFile). IsReadFault files c.in-Err.fault) c.as_slice-files.ensures.value c.in-Err.ensures.fault in
+    let status = subst (λ (files : List InputFile). IsStatusOf files c.in-Err.fault c.status_of.result) c.as_slice-files.ensures.value c.status_of.ensures in
     refusal_caused told _ files (files_are_told told _ _ files
     (made.names ∙ all_names _ c.args.contents.now c.requires.one_each) made.bytes h) c.in-Err.fault c.status_of.result
     fault status

@@ -1,6 +1,6 @@
 use Rattle.std.proofs.Common.{List, length, sym, ap, subst, ◌∙◌, arith}
 use Rattle.std.specs.List.{All}
-use Rattle.mesh_boolean.specs.declared.files.MeshFile.{MeshFile}
+use Rattle.mesh_boolean.specs.declared.files.InputFile.{InputFile}
 use Rattle.mesh_boolean.specs.Faults.{IsBooleanFault}
 use Rattle.mesh_boolean.specs.Files.{IsSmall}
 use Rattle.mesh_boolean.specs.Outputs.{IsOutput}
@@ -35,8 +35,8 @@ pub status_of-requires-clause-there : goal.status_of-requires-clause-there
 status_of-requires-clause-there g c =
     let formula = formula_of c.args.asked.now.expr in
     let wanted = c.args.asked.now.wanted in
-    let fault = subst (λ (files : List MeshFile). IsBooleanFault files formula wanted c.in-Err.fault) c.deref.ensures.value c.in-Err.ensures.fault in
-    subst (λ (files : List MeshFile). NamesFile files c.in-Err.fault) (sym c.deref-in-Err.ensures.value)
+    let fault = subst (λ (files : List InputFile). IsBooleanFault files formula wanted c.in-Err.fault) c.deref.ensures.value c.in-Err.ensures.fault in
+    subst (λ (files : List InputFile). NamesFile files c.in-Err.fault) (sym c.deref-in-Err.ensures.value)
     (faulty_file_is_there c.in_ok-files.files.items formula wanted c.in-Err.fault fault)
 
 pub returns-in-Ok-clause-output : goal.returns-in-Ok-clause-output
@@ -46,7 +46,7 @@ returns-in-Ok-clause-output g c = λ told h.
     record {
       files = files;
       are_files = files_are_told told _ _ files (made.names ∙ all_names _ c.args.contents.now c.requires.one_each) made.bytes h;
-      is_output = subst (λ (files : List MeshFile). IsOutput files (formula_of c.args.asked.now.expr)
+      is_output = subst (λ (files : List InputFile). IsOutput files (formula_of c.args.asked.now.expr)
           c.args.asked.now.wanted c.in-Ok.output) c.deref.ensures.value c.in-Ok.ensures.output;
     }
 
@@ -56,8 +56,8 @@ returns-clause-cause g c = λ told h.
     let files = c.in_ok-files.files.items in
     let formula = formula_of c.args.asked.now.expr in
     let wanted = c.args.asked.now.wanted in
-    let fault = subst (λ (files : List MeshFile). IsBooleanFault files formula wanted c.in-Err.fault) c.deref.ensures.value c.in-Err.ensures.fault in
-    let status = subst (λ (files : List MeshFile). IsStatusOf files c.in-Err.fault c.status_of.result) c.deref-in-Err.ensures.value c.status_of.ensures in
+    let fault = subst (λ (files : List InputFile). IsBooleanFault files formula wanted c.in-Err.fault) c.deref.ensures.value c.in-Err.ensures.fault in
+    let status = subst (λ (files : List InputFile). IsStatusOf files c.in-Err.fault c.status_of.result) c.deref-in-Err.ensures.value c.status_of.ensures in
     status_caused told c.args.names.now files (files_are_told told _ _ files
     (made.names ∙ all_names _ c.args.contents.now c.requires.one_each) made.bytes h) formula wanted c.in-Err.fault
     c.status_of.result fault status

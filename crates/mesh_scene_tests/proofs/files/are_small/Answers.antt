@@ -1,7 +1,7 @@
 use Rattle.std.proofs.Common.{List, subst}
 use Rattle.std.specs.List.{All}
 use Rattle.std.proofs.lemmas.List.{take_all}
-use Rattle.mesh_boolean.specs.declared.files.MeshFile.{MeshFile}
+use Rattle.mesh_boolean.specs.declared.files.InputFile.{InputFile}
 use Rattle.mesh_boolean.specs.Files.{IsSmall}
 use Rattle.mesh_scene_tests.proofs.Checked.{All-next}
 use Rattle.mesh_scene_tests.proofs.files.are_small.Goals as goal
@@ -12,4 +12,4 @@ loop-file-preserved c =
 
 pub returns : goal.returns
 returns c =
-    λ t. subst (λ (fs : List MeshFile). All IsSmall fs) (take_all c.loop-file.file-index c.args.files.now c.loop-file-test.false) c.loop-file.invariant
+    λ t. subst (λ (fs : List InputFile). All IsSmall fs) (take_all c.loop-file.file-index c.args.files.now c.loop-file-test.false) c.loop-file.invariant

@@ -1,5 +1,0 @@
-use Rattle.std.proofs.Common.{rules}
-use Rattle.ember_words.proofs.reading.boole.Goals as goal
-
-pub returns : goal.returns
-returns c = search rules

@@ -1,6 +1,0 @@
-use Rattle.std.proofs.Common.{◌≡◌}
-use Rattle.mesh_boolean.specs.Volumes.{six_volumes_of_meshes}
-use Rattle.mesh_boolean.proofs.volumes.six_volumes_of_meshes.Given as goal
-
-abbrev pub invariant-loop-index : goal.invariant-loop-index
-invariant-loop-index l = l.volumes.items ≡ six_volumes_of_meshes l.scene.tris l.index
