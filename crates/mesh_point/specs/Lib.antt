@@ -1,0 +1,14 @@
+pub mod PlanePoints
+pub mod Turns
+pub mod FloorTurns
+pub mod Triples
+pub mod LocalPoints
+pub mod ShortTriples
+pub mod VastTriples
+pub mod Numbers
+pub mod Rests
+pub mod SpacePoints
+pub mod Sides
+pub mod Coordinates
+pub mod Fractions
+pub mod Orders
