@@ -29,7 +29,7 @@ use Rattle.ember_box.specs.Halving.{leaves}
 use Rattle.ember_box.specs.Near.{is_near, near, no_tri, tri_at}
 use Rattle.ember_box.specs.Regions.{Wall, AreLeftByWall, cut, outside, in_high, stays, CuttingPlane, AreLeftByCuttingPlane, splits, whole, IsRegions}
 use Rattle.ember_trace.proofs.BoxedRegions.{each_every}
-use Rattle.ember_leaf.specs.declared.kept.Kept.{Kept}
+use Rattle.ember_leaf.specs.KeptRegions.{NarrowKept as Kept}
 use Rattle.ember_leaf.specs.Scenes.{IsWritten, LeafGives, regions, nothing}
 use Rattle.ember_leaf.specs.Written.{IsWrittenOfRegion, unowned, same_value, written, IsWrittenOf, regional, hidden}
 use Rattle.ember_text.specs.Documents.{written_face}

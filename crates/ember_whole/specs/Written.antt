@@ -5,7 +5,7 @@ use Rattle.ember_model.specs.declared.tri.Tri.{Tri}
 use Rattle.ember_model.specs.declared.face.Face.{Face}
 use Rattle.ember_expr.specs.Formula.{Formula}
 use Rattle.ember_expr.specs.Truth.{truth}
-use Rattle.ember_leaf.specs.declared.kept.Kept.{Kept}
+use Rattle.ember_leaf.specs.KeptRegions.{NarrowKept as Kept}
 use Rattle.ember_text.specs.Documents.{written_face}
 use Rattle.ember_alone.specs.Whole.{AreMissedNearby, Fragment, IsFragmentOf, faces, without, StayWhole}
 use Rattle.ember_meaning.specs.Regions.Meaning.{HaveMeaning}

@@ -5,7 +5,7 @@ ghost use Rattle.ember_model.specs.declared.tri.Tri.{Tri};
 ghost use Rattle.ember_model.specs.FaceFiles.{WrittenFace};
 ghost use Rattle.ember_model.specs.Meshes.{IsScene};
 ghost use Rattle.ember_expr.specs.Formula.{Formula};
-ghost use Rattle.ember_leaf.specs.declared.kept.Kept.{Kept};
+ghost use Rattle.ember_leaf.specs.KeptRegions.{NarrowKept as Kept};
 ghost use Rattle.ember_leaf.specs.Scenes.{IsWritten};
 ghost use Rattle.ember_meaning.specs.Closed.Chains.{face_from, IsClosedSurface, IsOutlined};
 ghost use Rattle.ember_meaning.specs.Regions.Meaning.{HaveMeaning, IsFalseOutside};
