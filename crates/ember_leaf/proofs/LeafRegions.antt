@@ -103,7 +103,7 @@ in_cell c f v l i =
     }
 
 -- a start is the one region of a triangle that is alone
-start_lies_in : (c : Cell) (t : Tri) (f : Face) → IsStart c t (f ∷ []) → LiesIn c f
+pub start_lies_in : (c : Cell) (t : Tri) (f : Face) → IsStart c t (f ∷ []) → LiesIn c f
 start_lies_in c t f s =
     regions_lie_in c (t ∷ []) 0 0 (f ∷ []) f (record { start = f ∷ []; is_start = s; cuts = done }) refl
 

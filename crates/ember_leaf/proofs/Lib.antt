@@ -18,3 +18,5 @@ pub mod WallClips
 pub mod LinearInequalities
 pub mod TriFaces
 pub mod WallPlanes
+pub mod AmongRegions
+pub mod SeenParts

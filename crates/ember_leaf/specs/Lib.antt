@@ -8,3 +8,4 @@ pub mod TriRelations
 pub mod Scenes
 pub mod Walls
 pub mod Written
+pub mod Parts

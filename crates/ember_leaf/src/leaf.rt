@@ -1,6 +1,7 @@
 // The written regions of a leaf.
 ghost use Rattle.std.specs.Prelude.{◌≡◌, List, [], ◌∷◌, ◌≤◌, ◌<◌, ◌+◌, ◌*◌, ◌^◌, map, length, All};
 ghost use Rattle.std.specs.Prelude.{IfOk, IfSome, OnOk, option_to_list};
+ghost use Rattle.std.specs.List.{AllPairs};
 ghost use Rattle.ember_model.specs.Limits.{most_triangles, wall_limit};
 ghost use Rattle.ember_model.specs.Within.{IsTriWithin};
 ghost use Rattle.ember_model.specs.Valid.{IsValidTri};
@@ -18,6 +19,7 @@ ghost use Rattle.ember_trace.specs.Boxed.{LiesIn};
 ghost use Rattle.ember_algebra.specs.Sign.{is_positive};
 ghost use Rattle.ember_model.specs.Planes.{along, main_axis};
 ghost use Rattle.ember_expr.specs.Formula.{formula_of};
+ghost use Rattle.ember_leaf.specs.Parts.{AreWrittenAmong};
 ghost use Rattle.ember_leaf.specs.Written.{IsFlip, IsWrittenIn, AreOwned};
 ghost use Rattle.ember_leaf.specs.LeafBoxes.{WritesRegion, AddsWritten};
 ghost use Rattle.ember_leaf.specs.KeptRegions.{LiesInPlaneOf, IsKeptOf, ArePlaced, ArePlacedBelow, tris_of};
@@ -45,7 +47,7 @@ const CUTTER_ROOM: usize = 6;
 
 // Whether the plane's front is on the side of `after`: its normal has a positive entry along its
 // main axis.
-fn faces_up(p: &Plane) -> bool
+pub(crate) fn faces_up(p: &Plane) -> bool
     ensures { result ≡ is_positive (along p.now (main_axis p.now)) }
 {
     // `is_in_front(n)` is n > 0, for any number n. Its contract says so in the word of the clause
@@ -274,7 +276,60 @@ pub fn leaf_faces_on<W: Width>(
     Ok(KeptList::of(kept))
 }
 
-/// The same on the narrow grid.
+/// The written regions of some of the triangles near a leaf box: of those with the chosen indices,
+/// which ascend. They are those that `leaf_faces_on` gives of these triangles.
+pub fn leaf_faces_among_on<W: Width>(
+    alloc: Global,
+    e: &Expr,
+    c: &Cell,
+    near: &[Tri],
+    chosen: &[u32],
+    v: &Vector,
+) -> Result<KeptList<W>, OutOfMemory>
+    requires within { All (IsTriWithin W.corner) near.now }
+    requires numbered { All (HasMesh 64) near.now }
+    requires few { length near.now ≤ most_triangles }
+    requires places { All (λ i. i < length near.now) chosen.now }
+    requires ascending { AllPairs (λ i j. i < j) chosen.now }
+    requires counts { AreBoxCounts v.now.counts }
+    requires root { 2 ^ W.scale * wall_limit ≤ W.corner + 1 }
+    ensures placed { IfOk result (λ ks. ArePlaced near.now ks) }
+    ensures written { IfOk result (λ ks. (scene : List TriView) →
+        FitsWithin W.corner W.fine scene near.now (in_steps W.scale c.now) v.now.counts →
+        AreWrittenAmong scene (formula_of e.now) (in_steps W.scale c.now) near.now chosen.now ks) }
+{
+    let near_triangles = near_triangles_on::<W>(alloc, near, c)?;
+    let aabb = aabb_on::<W>(c);
+    let leaf = Leaf {
+        expr: e,
+        cell: c,
+        aabb: &aabb,
+        near: &near_triangles,
+        windings: v,
+    };
+    let walls = walls::<W>(c);
+    let mut cutters = Vec::new(alloc);
+    let mut draft = Draft::new(alloc);
+    let mut sides = Sides {
+        before: *v,
+        after: *v,
+    };
+    let mut kept = Vec::new(alloc);
+    for i in chosen {
+        leaf.write_triangle(
+            alloc,
+            &walls,
+            *i as usize,
+            &mut cutters,
+            &mut draft,
+            &mut sides,
+            &mut kept,
+        )?;
+    }
+    Ok(KeptList::of(kept))
+}
+
+/// The same as `leaf_faces_on`, on the narrow grid.
 pub fn leaf_faces(
     alloc: Global,
     e: &Expr,

@@ -15,10 +15,12 @@ mod heights;
 mod kept;
 mod law;
 mod leaf;
+mod parts;
 mod regions;
 mod relation;
 mod wall;
 
 pub use kept::{Kept, KeptList};
 pub use law::special_cases_are_the_literal_definition;
-pub use leaf::{leaf_faces, leaf_faces_on};
+pub use leaf::{leaf_faces, leaf_faces_among_on, leaf_faces_on};
+pub use parts::{PartValues, part_values_on};

@@ -4,3 +4,5 @@ pub mod Counts
 pub mod FacesOfSolids
 pub mod SolidRuns
 pub mod Findings
+pub mod RestOfScene
+pub mod WholeAndRest

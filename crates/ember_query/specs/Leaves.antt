@@ -1,5 +1,5 @@
 -- The items of the leaves of the tree of boxes: pairs, boxes of one value, numbers of written regions
-use Rattle.std.specs.Prelude.{ℕ, List}
+use Rattle.std.specs.Prelude.{ℕ, ◌^◌, List}
 use Rattle.ember_box.specs.Near.{near}
 use Rattle.ember_expr.specs.Formula.{Formula}
 use Rattle.ember_job.specs.declared.job.Job.{Job}
@@ -12,6 +12,8 @@ use Rattle.ember_pairs.specs.declared.pair.Pair.{Pair}
 use Rattle.ember_pairs.specs.Pairs.{AreMeetingPairs}
 use Rattle.ember_pairs.specs.Whole.{leaf_jobs}
 use Rattle.ember_step.specs.Counts.{IsCount}
+use Rattle.ember_touch.specs.declared.leaf.Touches.{Touches}
+use Rattle.ember_touch.specs.Works.{AreAllTouches}
 use Rattle.ember_visit.specs.Jobs.{root_job}
 use Rattle.ember_visit.specs.Values.{shape}
 use Rattle.ember_voxel.specs.declared.fill.Fill.{Fill}
@@ -35,3 +37,7 @@ IsWrittenAt tris formula job kept = IsWrittenIn tris formula job.cell (near tris
 abbrev pub AreRegionCounts : List Tri → Formula → List ℕ → Type 0
 AreRegionCounts tris formula counts =
     EachAnswers (λ job n. IsCount (IsWrittenAt tris formula job) n) (leaves (shape tris formula) (root_job tris)) counts
+
+-- what is found in each leaf of triangles that touch
+abbrev pub AreSceneTouches : List Tri → Formula → List Touches → Type 0
+AreSceneTouches tris formula items = AreAllTouches 0 (2 ^ 27) tris formula items

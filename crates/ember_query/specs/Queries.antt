@@ -1,5 +1,5 @@
 -- Queries, their answers, and who runs the boxes
-use Rattle.std.specs.Prelude.{◌≤◌, ⊤, ℕ, Result, IfOk}
+use Rattle.std.specs.Prelude.{◌≡◌, ◌≤◌, ⊤, ℕ, length, Result, IfOk}
 use Rattle.std.specs.Borrow.{Bor}
 use Rattle.std.specs.declared.alloc.AllocError.{AllocError}
 use Rattle.ember_expr.specs.Formula.{formula_of}
@@ -7,9 +7,10 @@ use Rattle.ember_query.specs.declared.query.Answer.{Answer}
 use Rattle.ember_query.specs.declared.query.Answer.TheVariants as answer
 use Rattle.ember_query.specs.declared.query.Query.{Query}
 use Rattle.ember_query.specs.declared.query.Query.TheVariants as query
-use Rattle.ember_query.specs.Leaves.{AreFills, ArePairsOfLeaves, AreRegionCounts}
+use Rattle.ember_query.specs.Leaves.{AreFills, ArePairsOfLeaves, AreRegionCounts, AreSceneTouches}
 use Rattle.ember_meaning.specs.Regions.Solids.{AreJournalsOfSolid}
 use Rattle.ember_step.specs.Faces.{AreLeafFaces}
+use Rattle.ember_step.specs.Rest.{AreAllRestFaces}
 use Rattle.ember_step.specs.Texts.{AreLeafTexts}
 
 -- the queries that may be asked: cells have a side of 2 ^ 4 to 2 ^ 12
@@ -19,6 +20,8 @@ IsQuery (query.Fills scene expr size) = (4 ≤ size) × (size ≤ 12)
 IsQuery (query.Texts scene expr) = ⊤
 IsQuery (query.Faces scene expr) = ⊤
 IsQuery (query.Counts scene expr) = ⊤
+IsQuery (query.Touches scene expr) = ⊤
+IsQuery (query.Rest scene expr cut) = length cut.now ≡ length scene.now.tris
 
 -- this is the answer to the query; it is of the same kind (`query.Pairs` is a variant of `Query`,
 -- and `answer.Pairs` the one of `Answer`)
@@ -35,6 +38,10 @@ IsAnswer (query.Faces scene expr) (answer.Faces found) =
 IsAnswer (query.Counts scene expr) (answer.Counts found) =
     AreRegionCounts scene.now.tris (formula_of expr.now) found.items.items ×
     AreJournalsOfSolid scene.now.tris (formula_of expr.now) found.journals
+IsAnswer (query.Touches scene expr) (answer.Touches items) =
+    AreSceneTouches scene.now.tris (formula_of expr.now) items.items
+IsAnswer (query.Rest scene expr cut) (answer.Rest found) =
+    AreAllRestFaces scene.now.tris (formula_of expr.now) cut.now found.items
 IsAnswer _ _ = ⊥
 
 -- the closure `call` may be called at each query, and each Ok of it is the answer

@@ -14,7 +14,9 @@ use crate::query::{Answer, Query, RunResult};
 use ember_job::{Job, Outcome, Step, Work};
 use ember_model::OutOfMemory;
 use ember_pairs::{PairWork, pair_step, root_pairs};
-use ember_step::{CountWork, FaceWork, TextWork, count_step, faces_step, text_step};
+use ember_step::{CountWork, FaceWork, RestWork, TextWork};
+use ember_step::{count_step, faces_step, rest_step, text_step};
+use ember_touch::{TouchWork, touch_step};
 use ember_tree::merge;
 use ember_visit::root_job;
 use ember_voxel::{VoxelWork, voxel_step};
@@ -129,6 +131,22 @@ macro_rules! run_query {
                     call: |job: &Job| count_step($alloc, scene, expr, job),
                 };
                 Ok(Answer::Counts($run?))
+            }
+            Query::Touches(scene, expr) => {
+                let $root = root_job($alloc, scene)?;
+                let $step = Step {
+                    work: TouchWork { scene, expr },
+                    call: |job: &Job| touch_step($alloc, scene, expr, job),
+                };
+                Ok(Answer::Touches($run?.items))
+            }
+            Query::Rest(scene, expr, cut) => {
+                let $root = root_job($alloc, scene)?;
+                let $step = Step {
+                    work: RestWork { scene, expr, cut },
+                    call: |job: &Job| rest_step($alloc, scene, expr, cut, job),
+                };
+                Ok(Answer::Rest($run?.items))
             }
         }
     };

@@ -8,11 +8,14 @@ mod faces;
 mod outlines;
 mod query;
 mod solid;
+mod whole;
 
 pub use executor::{answer_alone, answer_by_workers};
 pub use faces::{SolidFaces, solid_faces};
 pub use outlines::outlines_alone;
 pub use query::{
-    Answer, Query, RunResult, query_counts, query_faces, query_fills, query_pairs, query_texts,
+    Answer, Query, RunResult, query_counts, query_faces, query_fills, query_pairs, query_rest,
+    query_texts, query_touches,
 };
 pub use solid::{SolidDocument, report_of_solid, solid_of};
+pub use whole::{solid_by_whole_triangles, whole_triangles_and_the_rest_are_the_solid};

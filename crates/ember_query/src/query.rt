@@ -4,18 +4,19 @@
 // answer, that it gets from `run` or `run_one` (top.rt of ember_run). They make the closure of
 // `answer_by_workers` or `answer_alone` (executor.rt). The macro `run_query!` there takes the
 // root's job and the step of each query, and gives both to the pool. One closure answers queries of
-// all five kinds, so it packs its answer into the enum `Answer`. The functions here ask it and
+// all seven kinds, so it packs its answer into the enum `Answer`. The functions here ask it and
 // unpack the answer; by `IsExecutor` the answer is of the query's kind, so `unreachable!` is proved
 // never to run.
 //
 // It is a closure and not a trait, since the borrow checker doesn't accept the bounds `Sync` and
 // `Send`, which starting a thread needs, on a trait's method (README.md).
-ghost use Rattle.std.specs.Prelude.{◌≤◌, IfOk};
+ghost use Rattle.std.specs.Prelude.{◌≡◌, ◌≤◌, length, IfOk};
 ghost use Rattle.ember_expr.specs.Formula.{formula_of};
-ghost use Rattle.ember_query.specs.Leaves.{AreFills, ArePairsOfLeaves, AreRegionCounts};
+ghost use Rattle.ember_query.specs.Leaves.{AreFills, ArePairsOfLeaves, AreRegionCounts, AreSceneTouches};
 ghost use Rattle.ember_query.specs.Queries.{IsExecutor};
 ghost use Rattle.ember_meaning.specs.Regions.Solids.{AreJournalsOfSolid};
 ghost use Rattle.ember_step.specs.Faces.{AreLeafFaces};
+ghost use Rattle.ember_step.specs.Rest.{AreAllRestFaces};
 ghost use Rattle.ember_step.specs.Texts.{AreLeafTexts};
 
 use ember_expr::Expr;
@@ -24,6 +25,7 @@ use ember_model::{OutOfMemory, Scene};
 use ember_pairs::PairList;
 use ember_reread::FaceList;
 use ember_text::FacesText;
+use ember_touch::Touches;
 use ember_voxel::Fill;
 
 /// What is asked of the leaves of a scene.
@@ -39,6 +41,11 @@ pub enum Query<'a> {
     Faces(&'a Scene, &'a Expr),
     /// The number of written regions of each leaf.
     Counts(&'a Scene, &'a Expr),
+    /// The triangles that count as touched in each leaf, and what some others separate.
+    Touches(&'a Scene, &'a Expr),
+    /// The faces of the written regions of each leaf, in memory, of those triangles that are cut. There
+    /// is a flag for each triangle.
+    Rest(&'a Scene, &'a Expr, &'a [bool]),
 }
 
 /// The items of the leaves, in the order of the tree, and the journals: which boxes were ended.
@@ -56,6 +63,8 @@ pub enum Answer {
     Texts(RunResult<FacesText>),
     Faces(RunResult<FaceList>),
     Counts(RunResult<u64>),
+    Touches(Vec<Touches>),
+    Rest(Vec<FaceList>),
 }
 
 /// Asks the executor for the pairs that meet in each leaf. The only error is out-of-memory.
@@ -137,6 +146,41 @@ pub fn query_counts<C: Fn(&Query) -> Result<Answer, OutOfMemory>>(
     ensures journals { IfOk result (λ found. AreJournalsOfSolid scene.now.tris (formula_of expr.now) found.journals) }
 {
     let Answer::Counts(found) = executor(&Query::Counts(scene, expr))? else {
+        unreachable!()
+    };
+    Ok(found)
+}
+
+/// Asks the executor for the triangles that count as touched in each leaf, and for what some others
+/// separate. The only error is out-of-memory.
+pub fn query_touches<C: Fn(&Query) -> Result<Answer, OutOfMemory>>(
+    scene: &Scene,
+    expr: &Expr,
+    executor: &C,
+) -> Result<Vec<Touches>, OutOfMemory>
+    requires { IsExecutor C.pre C.post executor.now }
+    ensures { IfOk result (λ items. AreSceneTouches scene.now.tris (formula_of expr.now) items.items) }
+{
+    let Answer::Touches(items) = executor(&Query::Touches(scene, expr))? else {
+        unreachable!()
+    };
+    Ok(items)
+}
+
+/// Asks the executor for the faces of the written regions of each leaf, of those triangles that are
+/// cut. There is a flag for each triangle. The only error is out-of-memory.
+pub fn query_rest<C: Fn(&Query) -> Result<Answer, OutOfMemory>>(
+    scene: &Scene,
+    expr: &Expr,
+    cut: &[bool],
+    executor: &C,
+) -> Result<Vec<FaceList>, OutOfMemory>
+    requires flags { length cut.now ≡ length scene.now.tris }
+    requires executor { IsExecutor C.pre C.post executor.now }
+    ensures { IfOk result (λ found.
+        AreAllRestFaces scene.now.tris (formula_of expr.now) cut.now found.items) }
+{
+    let Answer::Rest(found) = executor(&Query::Rest(scene, expr, cut))? else {
         unreachable!()
     };
     Ok(found)

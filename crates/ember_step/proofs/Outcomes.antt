@@ -26,7 +26,7 @@ unknown None s e = refl
 unknown (Some b) s e = absurd (cc)
 
 module _ (s fine : ℕ) (ts : List Tri) (f : Formula) (j : Job) where
-  abbrev axis : Axis
+  abbrev pub axis : Axis
   axis = halving_axis_on s (near_of ts j) j.cell
 
   abbrev halves : Shape

@@ -10,8 +10,10 @@ mod count;
 mod faces;
 mod law;
 mod outlines;
+mod rest;
 mod step;
 mod text;
+mod whole;
 
 pub use count::{CountWork, count_step};
 pub use ember_visit::root_job;
@@ -21,5 +23,7 @@ pub use law::{
     visited_leaves_write_all, written_regions_are_one_list,
 };
 pub use outlines::{OutlineWork, outlines_step};
+pub use rest::{RestWork, rest_step, rest_step_among};
 pub use step::{BoolWork, box_step, box_step_among};
 pub use text::{TextWork, text_step};
+pub use whole::whole_faces;

@@ -3,12 +3,13 @@ use Rattle.std.proofs.Common.{◌≡◌, refl, sym, ap, subst, ◌∙◌, ℕ, z
 use Rattle.std.proofs.Common.{List, [], ◌∷◌, ◌++◌, map, filter, Some, slice_get, get_or, inl, inr, ℤ, pos, neg_ℤ, ◌<ℤ◌, arith}
 use Rattle.std.specs.List.{AllByRecursion, list_all}
 use Rattle.std.proofs.lemmas.Bool.{and_parts, and_from}
+use Rattle.std.proofs.lemmas.List.{map-append}
 use Rattle.ember_algebra.specs.Large.{Eventually}
 use Rattle.ember_algebra.specs.Relations.{Each, Chain, done, step, Every}
 use Rattle.ember_algebra.specs.Sign.{is_positive, is_zero}
 use Rattle.ember_algebra.proofs.Large.{eventually_both, eventually_map}
 use Rattle.ember_algebra.proofs.Laws.{linear}
-use Rattle.ember_algebra.proofs.Relations.{every_unit}
+use Rattle.ember_algebra.proofs.Relations.{every_map, every_unit}
 use Rattle.ember_model.specs.declared.plane.Plane.{Plane}
 use Rattle.ember_model.specs.declared.point.Spot.{Spot}
 use Rattle.ember_model.specs.declared.face.Face.{Face}
@@ -62,7 +63,7 @@ cutting_planes_keep P k done h = h
 cutting_planes_keep P k (step {x = b} r c) h = cutting_planes_keep P k c (each_every P P (λ f fs e a. cutting_plane_keeps P k b f fs e a) r h)
 
 -- ---- a face within that of a triangle
-record IsWithin (t : Tri) (f : Face) : Type 0 where
+pub record IsWithin (t : Tri) (f : Face) : Type 0 where
   full : is_flat t ≡ false
   support : f.support ≡ support_of t
   closed : (v : Spot) → is_in_closed f v ≡ true → is_in_closed (face_of t) v ≡ true
@@ -125,30 +126,39 @@ record IsKept (scene : List Tri) (k : Kept) : Type 0 where
   at : Spot
   inside : is_inside k.ring at ≡ true
 
+-- the same of a triangle
+pub record IsKeptOf (t : Tri) (k : Kept) : Type 0 where
+  pub within : IsWithin t k.ring
+  pub at : Spot
+  pub inside : is_inside k.ring at ≡ true
+
+is_kept : (scene : List Tri) (t : Tri) → IsListed scene t → (k : Kept) → IsKeptOf t k → IsKept scene k
+is_kept scene t l k h = record { tri = t; listed = l; within = h.within; at = h.at; inside = h.inside }
+
 module _ (scene : List Tri) (x : Formula) where
   of_region : (c : Cell) (i : ℕ) (f : Face) (ks : List Kept) → IsWithin (tri_at (near scene c) i) f →
-      IsWrittenOfRegion scene x (near scene c) i f ks → Every (IsKept scene) ks
+      IsWrittenOfRegion scene x (near scene c) i f ks → Every (IsKeptOf (tri_at (near scene c) i)) ks
   of_region c i f ks w (unowned o) = tt
   of_region c i f ks w (same_value s e) = tt
-  of_region c i f ks w (written o s e) = (
-    record {
-      tri = tri_at (near scene c) i;
-      listed = near_is_listed (λ t. is_near c t) scene i w.full;
-      within = w;
-      at = s.at;
-      inside = s.inside;
-    },
-    tt,
-  )
+  of_region c i f ks w (written o s e) = (record { within = w; at = s.at; inside = s.inside }, tt)
 
-  of_triangle : (c : Cell) (i : ℕ) (ks : List Kept) → IsWrittenOf scene x c (near scene c) i ks → Every (IsKept scene) ks
+  -- what is written of a triangle is of it
+  pub of_triangle : (c : Cell) (i : ℕ) (ks : List Kept) → IsWrittenOf scene x c (near scene c) i ks →
+      Every (IsKeptOf (tri_at (near scene c) i)) ks
   of_triangle c i ks (regional r) =
-      each_every (IsWithin (tri_at (near scene c) i)) (IsKept scene) (λ f ks w a. of_region c i f ks w a) r.are_written
+      each_every (IsWithin (tri_at (near scene c) i)) (IsKeptOf (tri_at (near scene c) i)) (λ f ks w a. of_region c i f ks w a) r.are_written
       (regions_are_within c (near scene c) i r.faces r.are_regions)
   of_triangle c i ks (hidden h) = tt
 
+  listed_kept : (c : Cell) (i : ℕ) (ks : List Kept) → Every (IsKeptOf (tri_at (near scene c) i)) ks → Every (IsKept scene) ks
+  listed_kept c i ks h =
+      let t = tri_at (near scene c) i in
+      every_map (IsKeptOf t) (IsKept scene)
+      (λ k o. is_kept scene t (near_is_listed (λ u. is_near c u) scene i o.within.full) k o) ks h
+
   of_leaf : (c : Cell) (ks : List Kept) → LeafGives scene x c ks → Every (IsKept scene) ks
-  of_leaf c ks (regions w) = each_every (λ i. Unit {0}) (IsKept scene) (λ i ks u a. of_triangle c i ks a) w (every_unit _)
+  of_leaf c ks (regions w) =
+      each_every (λ i. Unit {0}) (IsKept scene) (λ i ks u a. listed_kept c i ks (of_triangle c i ks a)) w (every_unit _)
   of_leaf c ks (nothing o) = tt
 
   written_are_kept : (ks : List Kept) → IsWritten scene x ks → Every (IsKept scene) ks
@@ -222,3 +232,43 @@ written_are_fragments scene f ks w =
       of_scene = all_fragments scene ks h;
       near = subst (λ (fs : List Face). AreMissedNearby fs) (sym e) (all_missed scene ks h);
     }
+
+-- ---- of one triangle, with its index
+-- regions of the triangle with this index, as fragments
+abbrev pub fragments_with : ℕ → List Kept → List Fragment
+fragments_with i [] = []
+fragments_with i (k ∷ ks) = record { triangle = i; face = written_face k } ∷ fragments_with i ks
+
+pub faces_with : (i : ℕ) (ks : List Kept) → faces (fragments_with i ks) ≡ map written_face ks
+faces_with i [] = refl
+faces_with i (k ∷ ks) = ap (λ fs. written_face k ∷ fs) (faces_with i ks)
+
+pub are_fragments_with : (scene : List Tri) (i : ℕ) (t : Tri) → slice_get scene i ≡ Some t → (ks : List Kept) → Every (IsKeptOf t) ks →
+    AllByRecursion (IsFragmentOf scene) (fragments_with i ks)
+are_fragments_with scene i t here [] h = tt
+are_fragments_with scene i t here (k ∷ ks) h = (
+  written_is_fragment scene k (is_kept scene t (record { index = i; here = here }) k h.0),
+  are_fragments_with scene i t here ks h.1,
+)
+
+pub are_missed_with : (scene : List Tri) (i : ℕ) (t : Tri) → slice_get scene i ≡ Some t → (ks : List Kept) → Every (IsKeptOf t) ks →
+    AreMissedNearby (map written_face ks)
+are_missed_with scene i t here ks h =
+    all_missed scene ks (every_map (IsKeptOf t) (IsKept scene) (λ k o. is_kept scene t (record { index = i; here = here }) k o) ks h)
+
+all_append : {A : Type 0} (P : A → Type 0) (xs ys : List A) → AllByRecursion P xs → AllByRecursion P ys → AllByRecursion P (xs ++ ys)
+all_append P [] ys h k = k
+all_append P (x ∷ xs) ys h k = (h.0, all_append P xs ys h.1 k)
+
+clear_append : (fs gs : List Fragment) (p : Spot) → AreClear (faces fs) p → AreClear (faces gs) p → AreClear (faces (fs ++ gs)) p
+clear_append [] gs p h k = k
+clear_append (f ∷ fs) gs p h k = (h.0, clear_append fs gs p h.1 k)
+
+-- two lists of fragments together
+abbrev pub together : (scene : List Tri) (ks ls : List Kept) → AreFragments scene ks → AreFragments scene ls → AreFragments scene (ks ++ ls)
+together scene ks ls a b = record {
+  fragments = a.fragments ++ b.fragments;
+  are = map-append (λ (g : Fragment). g.face) a.fragments b.fragments ∙ (λ i. a.are i ++ b.are i) ∙ sym (map-append written_face ks ls);
+  of_scene = all_append (IsFragmentOf scene) a.fragments b.fragments a.of_scene b.of_scene;
+  near = λ p w. eventually_map (λ k h. clear_append a.fragments b.fragments (offset_by p (pos k)) h.0 h.1) (eventually_both (a.near p w) (b.near p w));
+}

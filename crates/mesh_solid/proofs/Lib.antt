@@ -29,3 +29,4 @@ pub mod SolidFaces
 pub mod Outlined
 pub mod DocumentWinding
 pub mod MeshMeaning
+pub mod SurfaceMeaning

@@ -1,17 +1,25 @@
 -- Certified triangles wind as the faces that they cut up.
-use Rattle.std.proofs.Common.{◌≡◌, le_refl, sym, ◌∙◌, List, map, pos}
+use Rattle.std.proofs.Common.{◌≡◌, le_refl, sym, ap, ◌∙◌, List, [], ◌∷◌, ◌++◌, map, ℤ, pos, ◌+ℤ◌}
 use Rattle.std.specs.List.{AllByRecursion}
 use Rattle.ember_algebra.specs.Vector.{Vector}
 use Rattle.ember_algebra.proofs.Large.{eventually_both, eventually_map}
+use Rattle.ember_algebra.proofs.Sums.{total-append}
 use Rattle.ember_model.specs.declared.point.Spot.{Spot}
 use Rattle.ember_model.specs.declared.point.Axis.{Axis}
+use Rattle.ember_model.specs.declared.face.Face.{Face}
+use Rattle.ember_model.specs.Clear.{AreClear}
+use Rattle.ember_model.specs.Faces.{crossing}
 use Rattle.ember_model.specs.FaceFiles.{WrittenFace}
 use Rattle.ember_model.specs.Meshes.{wind}
 use Rattle.ember_model.specs.Points.{offset_by}
 use Rattle.ember_law.proofs.Generic.{wind_shifted}
 use Rattle.ember_meaning.specs.Closed.Chains.{face_from, IsOutlined}
+use Rattle.ember_model.specs.declared.plane.Plane.{Plane}
+use Rattle.mesh_certificate.specs.declared.key.lines.LineKey.{LineKey}
+use Rattle.mesh_certificate.specs.declared.certificate.segment.Segment.{Segment}
+use Rattle.mesh_certificate.specs.declared.certificate.space_point.SpacePoint.{SpacePoint}
 use Rattle.mesh_certificate.specs.declared.certificate.triangle.Triangle.{Triangle}
-use Rattle.mesh_certificate.specs.Certificate.Certificate.{IsCertified}
+use Rattle.mesh_certificate.specs.Certificate.Certificate.{ArePartsCertified, IsCertified}
 use Rattle.mesh_solid.specs.declared.tables.tables.Tables.{Tables}
 use Rattle.mesh_solid.specs.Tables.Edges.{face_edges_of}
 use Rattle.mesh_solid.specs.Tables.Tables.{AreTables}
@@ -21,9 +29,20 @@ use Rattle.mesh_solid.proofs.FaceSums.{faces_sum}
 use Rattle.mesh_solid.proofs.TriangleSums.{triangles_sum}
 use Rattle.mesh_solid.proofs.CertifiedSums.{certified_sum}
 
+-- certified triangles are certified plane by plane
+pub parts_are_certified : (ps : List Plane) (ls : List LineKey) (cs : List SpacePoint) (ss : List Segment) (ts : List Triangle) →
+    IsCertified ps ls cs ss ts → ArePartsCertified ps ls cs ss ts
+parts_are_certified ps ls cs ss ts c =
+    record { proper = c.proper; chains = c.chains; on_lines = c.on_lines; free_paired = c.free_paired }
+
+-- a point that is clear of two lists is clear of the second
+clear_rest : (p : Spot) (us fs : List Face) → AreClear (us ++ fs) p → AreClear fs p
+clear_rest p [] fs c = c
+clear_rest p (u ∷ us) fs c = clear_rest p us fs c.1
+
 module _ (ws : List WrittenFace) (t : Tables) (ts : List Triangle) (lines : AllByRecursion IsOutlined ws)
     (are : AreTables (face_edges_of 0 (map face_from ws)) t)
-    (certified : IsCertified t.planes.items t.lines.items t.corners.items t.segments.items ts) where
+    (certified : ArePartsCertified t.planes.items t.lines.items t.corners.items t.segments.items ts) where
   -- at a general point
   alike_at : (a : Axis) (q : Vector) (p : Spot) → IsGeneralDirection t.planes.items ws q →
       IsGeneralPoint t.planes.items t.corners.items ws a q p →
@@ -48,3 +67,11 @@ module _ (ws : List WrittenFace) (t : Tables) (ts : List Triangle) (lines : AllB
       let s = eventually_both (wind_shifted a p (map face_from ws) w clear_faces)
       (eventually_both (wind_shifted a p gs w clear_triangles) (wind_alike_nearby a p w)) in
       let h = s.holds s.from (le_refl s.from) in h.0 ∙ h.1.1 ∙ sym h.1.0
+
+  -- so do both together with any other faces
+  pub wind_alike_beside : (us : List Face) → WindAlike (us ++ map face_from ws) (us ++ triangle_faces t.planes.items t.corners.items ts)
+  wind_alike_beside us a p w clear_faces clear_triangles =
+      let gs = triangle_faces t.planes.items t.corners.items ts in
+      total-append (λ f. crossing f a p) us (map face_from ws)
+      ∙ ap (λ (z : ℤ). wind a us p +ℤ z) (wind_alike a p w (clear_rest p us (map face_from ws) clear_faces) (clear_rest p us gs clear_triangles))
+      ∙ sym (total-append (λ f. crossing f a p) us gs)

@@ -9,8 +9,9 @@ mod winding;
 
 pub use mesh::{
     DocumentFault, SolidFault, SolidMesh, SolidRun, document_mesh,
-    faces_of_meshes_have_the_meaning, solid_mesh, triangles_of_documents_wind_as_faces,
-    triangles_of_meshes_have_the_meaning,
+    faces_of_meshes_have_the_meaning, mesh_by_whole_triangles, solid_mesh,
+    triangles_of_documents_wind_as_faces, triangles_of_meshes_have_the_meaning,
+    triangles_of_surfaces_have_the_meaning,
 };
 pub use outline::{OutlineFault, check_outline, round_faces_are_outlined};
 pub use tables::{TableFault, Tables, tables_of};

@@ -17,3 +17,5 @@ mod solids;
 mod sources;
 #[cfg(test)]
 mod tables;
+#[cfg(test)]
+mod whole;

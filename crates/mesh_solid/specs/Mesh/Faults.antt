@@ -1,7 +1,11 @@
 -- Why a solid or a document gets no mesh
 use Rattle.std.specs.Prelude.{◌≢◌, ⊤, ℕ, List}
 use Rattle.ember_expr.specs.Formula.{Formula}
+use Rattle.ember_meaning.specs.Regions.Meaning.{AreSurfaceWithMeaning, IsFalseOutside}
+use Rattle.ember_model.specs.declared.face.Face.{Face}
 use Rattle.ember_model.specs.declared.tri.Tri.{Tri}
+use Rattle.mesh_solid.specs.Tables.Edges.{face_edges_of}
+use Rattle.mesh_solid.specs.Tables.Tables.{AreTables, IsFault}
 use Rattle.mesh_solid.specs.declared.outline.fault.OutlineFault.{OutlineFault}
 use Rattle.mesh_solid.specs.declared.outline.fault.OutlineFault.TheVariants as outline
 use Rattle.mesh_solid.specs.Outline.Rounds.{IsOffEdge, IsOffPlane, IsNotRound}
@@ -55,6 +59,25 @@ pub record HasNoTriangles (bytes : List ℕ) (fault : TrianglesFault) : Type 0 w
   pub tables : Tables
   pub are_tables : AreTablesIn bytes tables
   pub of_triangles : fault ≢ triangles.OutOfMemory
+
+-- why faces give no mesh: they have a fault, or they have tables but no triangles were found, or memory is short
+abbrev pub IsFacesFault : List Face → SolidFault → Type 0
+IsFacesFault faces (NoTables fault) = IsFault (face_edges_of 0 faces) fault × (fault ≢ table.OutOfMemory)
+IsFacesFault faces (NotCut fault) =
+    ((tables : Tables) × AreTables (face_edges_of 0 faces) tables) × (fault ≢ triangles.OutOfMemory)
+IsFacesFault faces OutOfMemory = ⊤
+
+-- faces that are a closed surface with the meaning of the expression, if it is false outside, have the fault
+pub record HasSurfaceFault (tris : List Tri) (formula : Formula) (fault : SolidFault) : Type 0 where
+  pub faces : List Face
+  pub surface : IsFalseOutside formula → AreSurfaceWithMeaning tris formula faces
+  pub of_faces : IsFacesFault faces fault
+
+-- why such a surface gives no mesh, or memory is short
+abbrev pub IsSurfaceFault : List Tri → Formula → SolidFault → Type 0
+IsSurfaceFault tris formula (NoTables fault) = HasSurfaceFault tris formula (NoTables fault)
+IsSurfaceFault tris formula (NotCut fault) = HasSurfaceFault tris formula (NotCut fault)
+IsSurfaceFault tris formula OutOfMemory = ⊤
 
 -- why the faces of a face file give no mesh
 abbrev pub IsFileFault : List ℕ → SolidFault → Type 0

@@ -10,6 +10,10 @@ use Rattle.mesh_solid.specs.declared.tables.tables.Tables.{Tables}
 use Rattle.mesh_solid.specs.declared.mesh.mesh.SolidMesh.{SolidMesh}
 use Rattle.mesh_solid.specs.declared.mesh.solid.SolidRun.{SolidRun}
 use Rattle.mesh_solid.specs.Mesh.Asked.{IsThereIf}
+use Rattle.ember_meaning.specs.Regions.Meaning.{AreSurfaceWithMeaning, IsFalseOutside}
+use Rattle.ember_model.specs.declared.face.Face.{Face}
+use Rattle.mesh_solid.specs.Tables.Edges.{face_edges_of}
+use Rattle.mesh_solid.specs.Tables.Tables.{AreTables}
 use Rattle.mesh_solid.specs.Mesh.FaceTables.{AreTablesIn}
 
 -- the mesh has the planes and corners of the tables, and its triangles cut up the faces of the tables' segments
@@ -18,6 +22,19 @@ pub record IsMeshOf (tables : Tables) (mesh : SolidMesh) : Type 0 where
   pub corners : mesh.corners.items ≡ tables.corners.items
   pub certified : IsCertified mesh.planes.items tables.lines.items mesh.corners.items tables.segments.items
       mesh.triangles.items
+
+-- the mesh cuts up these faces
+pub record IsMeshOfFaces (faces : List Face) (mesh : SolidMesh) : Type 0 where
+  pub tables : Tables
+  pub are_tables : AreTables (face_edges_of 0 faces) tables
+  pub cut : IsMeshOf tables mesh
+  pub count : mesh.faces ≡ length faces
+
+-- the mesh cuts up faces that are a closed surface with the meaning of the expression, if it is false outside
+pub record IsSurfaceMesh (tris : List Tri) (formula : Formula) (mesh : SolidMesh) : Type 0 where
+  pub faces : List Face
+  pub surface : IsFalseOutside formula → AreSurfaceWithMeaning tris formula faces
+  pub of_faces : IsMeshOfFaces faces mesh
 
 -- the bytes are a face file, and the mesh is that of its faces
 pub record IsDocumentMesh (bytes : List ℕ) (mesh : SolidMesh) : Type 0 where

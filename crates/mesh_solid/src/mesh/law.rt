@@ -10,7 +10,7 @@ ghost use Rattle.ember_model.specs.declared.tri.Tri.{Tri};
 ghost use Rattle.ember_model.specs.Meshes.{IsScene};
 ghost use Rattle.mesh_solid.specs.Winding.TriangleFaces.{WindAlike, WindAlikeNearby};
 ghost use Rattle.mesh_solid.specs.declared.mesh.mesh.SolidMesh.{SolidMesh};
-ghost use Rattle.mesh_solid.specs.Mesh.Meshes.{IsDocumentMesh, IsOutlinedMesh, IsSolidMesh};
+ghost use Rattle.mesh_solid.specs.Mesh.Meshes.{IsDocumentMesh, IsOutlinedMesh, IsSolidMesh, IsSurfaceMesh};
 ghost use Rattle.mesh_solid.specs.Mesh.MeshFaces.{faces_of_mesh};
 
 /// Let an expression be false if all winding numbers are 0. The faces that the mesh of its solid
@@ -49,4 +49,19 @@ pub fn triangles_of_documents_wind_as_faces()
         WindAlikeNearby is.of_document.tables_are.faces (faces_of_mesh mesh) }
     ensures closed { (bytes : List ℕ) (mesh : SolidMesh) → IsDocumentMesh bytes mesh →
         AreSegmentsClosed (edges_in mesh.triangles.items) }
+{}
+
+/// Let an expression be false if all winding numbers are 0. The triangles of a mesh that cuts up a
+/// closed surface with its meaning wind once where it is true of the scene, and not at all elsewhere,
+/// once at most around each point that is clear of them, and they are closed. The mesh of a solid is
+/// such a mesh.
+pub fn triangles_of_surfaces_have_the_meaning()
+    ensures means { (tris : List Tri) (meshes : ℕ) (formula : Formula) (mesh : SolidMesh) → IsScene tris meshes →
+        IsFalseOutside formula → IsSurfaceMesh tris formula mesh → HaveMeaning tris formula (faces_of_mesh mesh) }
+    ensures once { (tris : List Tri) (meshes : ℕ) (formula : Formula) (mesh : SolidMesh) → IsScene tris meshes →
+        IsFalseOutside formula → IsSurfaceMesh tris formula mesh → WindOnceAtMost (faces_of_mesh mesh) }
+    ensures closed { (tris : List Tri) (formula : Formula) (mesh : SolidMesh) → IsSurfaceMesh tris formula mesh →
+        AreSegmentsClosed (edges_in mesh.triangles.items) }
+    ensures solid { (tris : List Tri) (meshes : ℕ) (formula : Formula) (mesh : SolidMesh) → IsScene tris meshes →
+        IsSolidMesh tris formula mesh → IsSurfaceMesh tris formula mesh }
 {}

@@ -2,8 +2,8 @@
 ghost use Rattle.std.specs.Prelude.{◌≡◌, ℕ, List, length, All, IfOk, IfErr};
 ghost use Rattle.ember_model.specs.FaceFiles.{IsFaceFile};
 ghost use Rattle.ember_model.specs.Valid.{IsValidFace, IsValidPlane};
-ghost use Rattle.mesh_solid.specs.Mesh.Faults.{IsCutFault, IsFileFault};
-ghost use Rattle.mesh_solid.specs.Mesh.Meshes.{IsDocumentMesh, IsMeshOf};
+ghost use Rattle.mesh_solid.specs.Mesh.Faults.{IsCutFault, IsFacesFault, IsFileFault};
+ghost use Rattle.mesh_solid.specs.Mesh.Meshes.{IsDocumentMesh, IsMeshOf, IsMeshOfFaces};
 ghost use Rattle.mesh_triangles.specs.PlaneQueries.{IsPlaneExecutor};
 
 use crate::mesh::fault::SolidFault;
@@ -67,6 +67,8 @@ pub(crate) fn mesh_of_faces<D: Fn(&PlaneQuery) -> Result<PlaneAnswer, TrianglesF
 ) -> Result<SolidMesh, SolidFault>
     requires valid { All IsValidFace faces.items }
     requires plane_executor { IsPlaneExecutor D.pre D.post plane_executor.now }
+    ensures cuts { IfOk result (IsMeshOfFaces faces.items) }
+    ensures fault_of_faces { IfErr result (IsFacesFault faces.items) }
     ensures mesh { (bytes : List ℕ) → IsFaceFile bytes faces.items → IfOk result (IsDocumentMesh bytes) }
     ensures fault { (bytes : List ℕ) → IsFaceFile bytes faces.items → IfErr result (IsFileFault bytes) }
 {

@@ -18,7 +18,7 @@ use std::test::Fail;
 use steal_pool::OpenGate;
 
 // A tetrahedron that touches neither of the boxes.
-const TETRA: &[u8] =
+pub(crate) const TETRA: &[u8] =
     b"v -5 0 0\nv -4 0 0\nv -5 1 0\nv -5 0 1\nf 1 3 2\nf 1 2 4\nf 1 4 3\nf 2 3 4\n";
 
 // Boxes from 0 to 10 and from 5 to 15 along each axis.
