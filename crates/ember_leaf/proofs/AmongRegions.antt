@@ -1,15 +1,17 @@
 -- Written regions of chosen triangles, one after another.
 use Rattle.std.proofs.Common.{◌≡◌, refl, sym, ap, ◌∙◌, subst, arith, ℕ, ◌+◌, ◌<◌, ◌≤◌, List, [], ◌∷◌, ◌++◌, length, get_or, take, zero, suc, ℤ, All}
 use Rattle.std.specs.List.{AllPairs}
-use Rattle.std.proofs.lemmas.List.{get_or-take, get_or-append_right, length-append, length-take, take_more, take-all}
+use Rattle.std.proofs.lemmas.List.{get_or-take, get_or-append_right, length-append, length-take, take_all, take_more}
 use Rattle.std.proofs.lemmas.List.Elements.{All-weaker}
 use Rattle.ember_algebra.specs.Relations.{Each}
 use Rattle.ember_algebra.proofs.Relations.{each_push}
 use Rattle.ember_model.specs.declared.tri.Tri.{Tri}
+use Rattle.ember_expr.specs.Formula.{Formula}
 use Rattle.ember_box.specs.Boxes.{Cell}
 use Rattle.ember_leaf.specs.declared.kept.Kept.{Kept}
 use Rattle.ember_leaf.specs.KeptRegions.{ArePlacedBelow}
-use Rattle.ember_leaf.specs.Written.{WhereFitsWithin, HasGrown}
+use Rattle.ember_leaf.specs.Parts.{AreWrittenAmong}
+use Rattle.ember_leaf.specs.Written.{HasGrown, IsWrittenOf, WhereFitsWithin}
 use Rattle.ember_leaf.proofs.RegionOrder.{placed_none}
 
 -- the regions are placed below each number that is above all these indices
@@ -55,3 +57,13 @@ among_more m fine ns c counts R chosen k i old new l e w g scene h =
     let q = take_more chosen k i l ∙ ap (λ j. take k chosen ++ j ∷ []) (sym e) in
     subst (λ is. Each (R scene) is new) (sym q)
     (subst (λ ks. Each (R scene) (take k chosen ++ i ∷ []) ks) (sym g.is) (each_push (w scene h) (g.holds scene h)))
+
+-- after the last of them, the list is what is written of them
+pub all_among : {W M : Type 0} (m fine : ℕ) (ns near : List Tri) (c : Cell) (counts : List ℤ) (f : Formula) (chosen : List ℕ) (k : ℕ) (old new : List (Kept W M)) →
+    ns ≡ near → length chosen ≤ k → new ≡ old →
+    WhereFitsWithin m fine ns c counts (λ scene. Each (IsWrittenOf scene f c ns) (take k chosen)) old →
+    WhereFitsWithin m fine near c counts (λ scene. AreWrittenAmong scene f c near chosen) new
+all_among m fine ns near c counts f chosen k old new e l r w =
+    subst (λ (us : List Tri). WhereFitsWithin m fine us c counts (λ scene. AreWrittenAmong scene f c us chosen) new) e
+    (λ scene h. subst (λ (is : List ℕ). Each (IsWrittenOf scene f c ns) is new) (take_all k chosen l)
+    (subst (λ ks. Each (IsWrittenOf scene f c ns) (take k chosen) ks) (sym r) (w scene h)))

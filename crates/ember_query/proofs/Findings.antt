@@ -1,5 +1,5 @@
 -- What the leaves below a root give is what a query asks for.
-use Rattle.std.proofs.Common.{◌≡◌, ◌≤◌, ℕ, List, Vec, Global, Bor, sym, subst}
+use Rattle.std.proofs.Common.{◌≡◌, ◌≤◌, ◌^◌, ℕ, Bool, List, Vec, Global, Bor, sym, subst}
 use Rattle.ember_box.specs.Boxes as boxes
 use Rattle.ember_expr.specs.declared.trees.Tree.{Tree}
 use Rattle.ember_expr.specs.Formula.{formula_of}
@@ -18,7 +18,11 @@ use Rattle.ember_voxel.specs.Lattice as lattice
 use Rattle.ember_voxel.specs.Laws.{root_is_voxel_job}
 use Rattle.ember_step.specs.Counts.{IsCount}
 use Rattle.ember_step.specs.Faces.{AreBoxFaces}
+use Rattle.ember_step.specs.Rest.{AreRestFaces, rest_shape}
 use Rattle.ember_step.specs.Texts.{IsBoxText}
+use Rattle.ember_sides.specs.declared.leaf.Touches.{Touches}
+use Rattle.ember_sides.specs.Touches.{AreTouches}
+use Rattle.ember_touch.specs.Works.{touch_shape}
 use Rattle.ember_text.specs.FacesTexts.{FacesText}
 use Rattle.ember_job.specs.Items.{EachAnswers}
 use Rattle.ember_query.specs.declared.query.Answer.TheVariants as answer
@@ -97,3 +101,23 @@ counts_found asked scene expr root found e f are holds =
           (leaves (values.shape scene.now.tris (formula_of expr.now)) root) found.items.items) f are,
       subst (λ (root : Job). AreJournalsOf (values.shape scene.now.tris (formula_of expr.now)) root found.journals) f holds,
     )
+
+-- what the leaves give answers the query for touches
+pub touches_found : (asked : Query) (scene : Bor Scene) (expr : Bor Tree) (root : Job) (items : Vec Touches Global) →
+    asked ≡ query.Touches scene expr → root ≡ root_job scene.now.tris →
+    EachAnswers (λ job found. AreTouches scene.now.tris (formula_of expr.now) job found)
+    (leaves (λ job. touch_shape 0 (2 ^ 27) scene.now.tris (formula_of expr.now) job) root) items.items → IsAnswer asked (answer.Touches items)
+touches_found asked scene expr root items e f are =
+    subst (λ (asked : Query). IsAnswer asked (answer.Touches items)) (sym e)
+    (subst (λ (root : Job). EachAnswers (λ job found. AreTouches scene.now.tris (formula_of expr.now) job found)
+    (leaves (λ job. touch_shape 0 (2 ^ 27) scene.now.tris (formula_of expr.now) job) root) items.items) f are)
+
+-- what the leaves give answers the query for the rest
+pub rest_found : (asked : Query) (scene : Bor Scene) (expr : Bor Tree) (cut : Bor (List Bool)) (root : Job) (lists : Vec (List Face) Global) →
+    asked ≡ query.Rest scene expr cut → root ≡ root_job scene.now.tris →
+    EachAnswers (λ job faces. AreRestFaces scene.now.tris (formula_of expr.now) cut.now job faces)
+    (leaves (λ job. rest_shape 0 (2 ^ 27) scene.now.tris (formula_of expr.now) cut.now job) root) lists.items → IsAnswer asked (answer.Rest lists)
+rest_found asked scene expr cut root lists e f are =
+    subst (λ (asked : Query). IsAnswer asked (answer.Rest lists)) (sym e)
+    (subst (λ (root : Job). EachAnswers (λ job faces. AreRestFaces scene.now.tris (formula_of expr.now) cut.now job faces)
+    (leaves (λ job. rest_shape 0 (2 ^ 27) scene.now.tris (formula_of expr.now) cut.now job) root) lists.items) f are)

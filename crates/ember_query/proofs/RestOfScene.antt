@@ -243,22 +243,26 @@ module _ (ts : List Tri) (n : ℕ) (scene : IsScene ts n) (x : Formula) (cut : L
   abbrev high_of : Job → Job
   high_of j = right_job ts j (halving_axis_on 0 (near_of ts j) j.cell)
 
-  data Becomes (j : Job) : Type 0 where
-    passes : of j ≡ passed → Becomes j
-    ends : of j ≡ leafed → Becomes j
-    splits : is_leaf_on 0 (near_of ts j) j.cell ≡ false → of j ≡ halved (low_of j) (high_of j) → Becomes j
+  abbrev halves : Job → Shape
+  halves j = halved (low_of j) (high_of j)
 
-  becomes : (j : Job) → Becomes j
+  record Splits (j : Job) : Type 0 where
+    open_box : is_leaf_on 0 (near_of ts j) j.cell ≡ false
+    into : of j ≡ halves j
+
+  becomes : (j : Job) → (of j ≡ passed) ⊎ ((of j ≡ leafed) ⊎ Splits j)
   unfolding shape_on
   becomes j = by (box_value ts x j) (is_leaf_on 0 (near_of ts j) j.cell) refl refl
     where
-      halves : Shape
-      halves = halved (low_of j) (high_of j)
+      by : (k : Option Bool) (l : Bool) → box_value ts x j ≡ k → is_leaf_on 0 (near_of ts j) j.cell ≡ l →
+          (unless_known (box_value ts x j) (leaf_or (is_leaf_on 0 (near_of ts j) j.cell) (halves j)) ≡ passed) ⊎
+          ((unless_known (box_value ts x j) (leaf_or (is_leaf_on 0 (near_of ts j) j.cell) (halves j)) ≡ leafed) ⊎ Splits j)
+      by (Some b) l e q = inl (ap (λ k. unless_known k (leaf_or (is_leaf_on 0 (near_of ts j) j.cell) (halves j))) e)
+      by None true e q = inr (inl (λ i. unless_known (e i) (leaf_or (q i) (halves j))))
+      by None false e q = inr (inr (record { open_box = q; into = λ i. unless_known (e i) (leaf_or (q i) (halves j)) }))
 
-      by : (k : Option Bool) (l : Bool) → box_value ts x j ≡ k → is_leaf_on 0 (near_of ts j) j.cell ≡ l → Becomes j
-      by (Some b) l e q = passes (ap (λ k. unless_known k (leaf_or (is_leaf_on 0 (near_of ts j) j.cell) halves)) e)
-      by None true e q = ends (λ i. unless_known (e i) (leaf_or (q i) halves))
-      by None false e q = splits q (λ i. unless_known (e i) (leaf_or (q i) halves))
+  abbrev Becomes : Job → Type 0
+  Becomes j = (of j ≡ passed) ⊎ ((of j ≡ leafed) ⊎ Splits j)
 
   abbrev WritesAt : Job → List Kept → Type 0
   WritesAt job ks = IsWrittenIn ts x job.cell (near ts job.cell) ks
@@ -286,7 +290,7 @@ module _ (ts : List Tri) (n : ℕ) (scene : IsScene ts n) (x : Formula) (cut : L
       (halvings_left (low_of j).cell < halvings_left j.cell) × (halvings_left (high_of j).cell < halvings_left j.cell)
   halves_less j q =
       let k = halving_axis_on 0 (near_of ts j) j.cell in
-      let l = left_less j.cell k (halvable_unless_leaf 0 (near_of ts j) j.cell q) in (l, l)
+      let l = left_less j.cell k (halvable_unless_leaf 0 (near_of ts j) j.cell q) in (omega (arith, l), omega (arith, l))
 
   -- no triangle near the box is cut
   abbrev NoneCut : Job → Type 0
@@ -317,17 +321,17 @@ module _ (ts : List Tri) (n : ℕ) (scene : IsScene ts n) (x : Formula) (cut : L
   none_under zero j few is e = by (becomes j)
     where
       by : Becomes j → CantLack (Under zero j) []
-      by (passes p) lack = lack (nothing (subst (λ js. Each WritesAt js []) (sym (under_passed of zero j p)) none))
-      by (ends p) lack = under_ended zero j p [] (in_box j is [] (no_rest j e)) lack
-      by (splits q p) lack = absurd (omega (arith, few, (halves_less j q).0))
+      by (inl p) lack = lack (nothing (subst (λ js. Each WritesAt js []) (sym (under_passed of zero j p)) none))
+      by (inr (inl p)) lack = under_ended zero j p [] (in_box j is [] (no_rest j e)) lack
+      by (inr (inr p)) lack = absurd (omega (arith, few, (halves_less j p.open_box).0))
   none_under (suc d) j few is e = by (becomes j) (none_under d)
     where
       by : Becomes j → ((k : Job) → halvings_left k.cell ≤ d → IsJob ts k → NoneCut k → CantLack (Under d k) []) → CantLack (Under (suc d) j) []
-      by (passes p) below lack = lack (nothing (subst (λ js. Each WritesAt js []) (sym (under_passed of (suc d) j p)) none))
-      by (ends p) below lack = under_ended (suc d) j p [] (in_box j is [] (no_rest j e)) lack
-      by (splits q p) below lack =
-          let less = halves_less j q in let h = halves_are_jobs ts x j (low_of j) (high_of j) n scene is p in
-          under_split d j p [] [] (below (low_of j) (omega (arith, few, less.0)) h.0 (low_none j e))
+      by (inl p) below lack = lack (nothing (subst (λ js. Each WritesAt js []) (sym (under_passed of (suc d) j p)) none))
+      by (inr (inl p)) below lack = under_ended (suc d) j p [] (in_box j is [] (no_rest j e)) lack
+      by (inr (inr p)) below lack =
+          let less = halves_less j p.open_box in let h = halves_are_jobs ts x j (low_of j) (high_of j) n scene is p.into in
+          under_split d j p.into [] [] (below (low_of j) (omega (arith, few, less.0)) h.0 (low_none j e))
           (below (high_of j) (omega (arith, few, less.1)) h.1 (high_none j e)) lack
 
   -- ---- the rest
@@ -365,21 +369,21 @@ module _ (ts : List Tri) (n : ℕ) (scene : IsScene ts n) (x : Formula) (cut : L
     where
       by : (b : Bool) → list_any (is_cut cut) j.list ≡ b → Becomes j → CantLack (Under zero j) rest
       by false e s = none_there zero j few is rest e r
-      by true e (passes p) = passed_there zero j rest (shape_is j true e ∙ p) p r
-      by true e (ends p) = ended_there zero j is rest (shape_is j true e ∙ p) p r
-      by true e (splits q p) = absurd (omega (arith, few, (halves_less j q).0))
+      by true e (inl p) = passed_there zero j rest (shape_is j true e ∙ p) p r
+      by true e (inr (inl p)) = ended_there zero j is rest (shape_is j true e ∙ p) p r
+      by true e (inr (inr p)) = absurd (omega (arith, few, (halves_less j p.open_box).0))
   rest_under (suc d) j few is rest r = by (list_any (is_cut cut) j.list) refl (becomes j) (rest_under d)
     where
       by : (b : Bool) → list_any (is_cut cut) j.list ≡ b → Becomes j → ((k : Job) → halvings_left k.cell ≤ d → IsJob ts k → (us : List Kept) →
           Each RestAt (under rest_of d k) us → CantLack (Under d k) us) → CantLack (Under (suc d) j) rest
       by false e s below = none_there (suc d) j few is rest e r
-      by true e (passes p) below = passed_there (suc d) j rest (shape_is j true e ∙ p) p r
-      by true e (ends p) below = ended_there (suc d) j is rest (shape_is j true e ∙ p) p r
-      by true e (splits q p) below lack =
-          let less = halves_less j q in let h = halves_are_jobs ts x j (low_of j) (high_of j) n scene is p in
+      by true e (inl p) below = passed_there (suc d) j rest (shape_is j true e ∙ p) p r
+      by true e (inr (inl p)) below = ended_there (suc d) j is rest (shape_is j true e ∙ p) p r
+      by true e (inr (inr p)) below lack =
+          let less = halves_less j p.open_box in let h = halves_are_jobs ts x j (low_of j) (high_of j) n scene is p.into in
           let both = parted (under rest_of d (low_of j)) (under rest_of d (high_of j))
-          (subst (λ js. Each RestAt js rest) (under_halved rest_of d j (low_of j) (high_of j) (shape_is j true e ∙ p)) r) in
-          under_split d j p both.first both.second (below (low_of j) (omega (arith, few, less.0)) h.0 both.first both.firsts)
+          (subst (λ js. Each RestAt js rest) (under_halved rest_of d j (low_of j) (high_of j) (shape_is j true e ∙ p.into)) r) in
+          under_split d j p.into both.first both.second (below (low_of j) (omega (arith, few, less.0)) h.0 both.first both.firsts)
           (below (high_of j) (omega (arith, few, less.1)) h.1 both.second both.seconds)
           (λ f. lack (subst (λ ks. Filled (Under (suc d) j) ks) (sym both.is) f))
 

@@ -12,9 +12,11 @@ use Rattle.ember_algebra.specs.Relations.{Each, none, more, Every}
 use Rattle.ember_algebra.proofs.Relations.{every_map}
 use Rattle.ember_model.specs.declared.face.Face.{Face}
 use Rattle.ember_model.specs.declared.tri.Tri.{Tri}
-use Rattle.ember_model.specs.FaceFiles.{WrittenFace}
+use Rattle.ember_model.specs.FaceFiles.{IsWrittenFace, WrittenFace}
 use Rattle.ember_model.specs.Faces.{face_of, is_inside}
 use Rattle.ember_model.specs.Meshes.{IsScene}
+use Rattle.ember_model.specs.Valid.{IsValidFace}
+use Rattle.ember_reread.proofs.BodyTexts.{faces_valid}
 use Rattle.ember_alone.specs.Whole.{StaysWhole, StayWhole, faces, separating, without}
 use Rattle.ember_alone.proofs.Turned.{inside-flipped}
 use Rattle.ember_expr.specs.Formula.{Formula, IsFit}
@@ -33,8 +35,8 @@ use Rattle.ember_meaning.specs.Regions.Meaning.{AreSurfaceWithMeaning, HaveMeani
 use Rattle.ember_meaning.proofs.SameFaces.{HaveSamePoints, same_meaning}
 use Rattle.ember_text.specs.Documents.{written_face}
 use Rattle.ember_text.specs.FacesInTexts.{AreFacesInTexts, IsFaceInText}
-use Rattle.ember_touch.specs.declared.parting.Parted.{Parted}
-use Rattle.ember_touch.specs.Parting.{IsParted, index_of}
+use Rattle.ember_sides.specs.declared.parting.Parted.{Parted}
+use Rattle.ember_sides.specs.Parting.{IsParted, index_of}
 use Rattle.ember_visit.specs.Jobs.{root_job}
 use Rattle.ember_visit.proofs.IndexLists.{of_64}
 use Rattle.ember_whole.proofs.WholeFaces.{meaning_is_closed, whole_meaning}
@@ -56,9 +58,10 @@ record OutlinedAs (fs gs : List Face) : Type 0 where
   is : gs ≡ map face_from written
   same : HaveSamePoints fs (map face_from written)
   outlined : AllByRecursion IsOutlined written
+  well_formed : AllByRecursion IsWrittenFace written
 
 outlined_as : (fs gs : List Face) → Every HasInside fs → AreFacesInTexts fs gs → OutlinedAs fs gs
-outlined_as [] [] h a = record { written = []; is = refl; same = tt; outlined = tt }
+outlined_as [] [] h a = record { written = []; is = refl; same = tt; outlined = tt; well_formed = tt }
 outlined_as [] (g ∷ gs) h a = absurd a
 outlined_as (f ∷ fs) [] h a = absurd a
 outlined_as (f ∷ fs) (g ∷ gs) h a =
@@ -69,6 +72,7 @@ outlined_as (f ∷ fs) (g ∷ gs) h a =
       is = λ i. a.0.is i ∷ s.is i;
       same = (outline_has_its_points f one.outline h.0 one.is_outline, s.same);
       outlined = (outline_is_its_own f one.outline h.0 one.is_outline, s.outlined);
+      well_formed = (a.0.is_text.written, s.well_formed);
     }
 
 every_append : {X : Type 0} (P : X → Type 0) (xs ys : List X) → Every P xs → Every P ys → Every P (xs ++ ys)
@@ -112,7 +116,7 @@ distinct (p ∷ ps) a = (
 
 -- ---- the law
 module _ (ts : List Tri) (n : ℕ) (scene : IsScene ts n) (x : Formula) (fit : IsFit 64 x) (parted : Parted) (is : IsParted ts x parted)
-    (faces_given : List Face) (are : AreWholeAndRest ts x parted faces_given) (outside : IsFalseOutside x) where
+    (faces_given : List Face) (are : AreWholeAndRest ts x parted faces_given) where
   abbrev whole : List ℕ
   whole = map index_of parted.whole.items
 
@@ -126,8 +130,8 @@ module _ (ts : List Tri) (n : ℕ) (scene : IsScene ts n) (x : Formula) (fit : I
   abbrev exact : List Face
   exact = whole_faces ts parted.whole.items ++ map written_face rest.kept
 
-  meaning : HaveMeaning ts x exact
-  meaning a b p w clear_scene clear_faces =
+  meaning : IsFalseOutside x → HaveMeaning ts x exact
+  meaning outside a b p w clear_scene clear_faces =
       stays_equal _ _ (λ lack. rest_of_scene ts n scene x parted.cut.items whole is.cut fit rest.kept rest.has
       (λ f. lack (subst (λ (fs : List Face). HaveMeaning ts x (whole_faces ts parted.whole.items ++ fs)) f.left
       (whole_meaning ts x f.all (of_64 ts n scene) f.written outside f.fragments whole (whole_faces ts parted.whole.items)
@@ -144,10 +148,10 @@ module _ (ts : List Tri) (n : ℕ) (scene : IsScene ts n) (x : Formula) (fit : I
       (AllZip-append IsFaceInText (whole_faces ts parted.whole.items) (map written_face rest.kept) are.whole
       (flat_map (λ (list : List Face). list) are.lists) are.of_whole rest.faces_of)
 
-  pub surface_is : AreSurfaceWithMeaning ts x faces_given
-  surface_is =
+  pub surface_is : IsFalseOutside x → AreSurfaceWithMeaning ts x faces_given
+  surface_is outside =
       let o = outlined_as exact faces_given inside in_texts in
-      let m = same_meaning ts x exact (map face_from o.written) o.same meaning in
+      let m = same_meaning ts x exact (map face_from o.written) o.same (meaning outside) in
       record {
         written = o.written;
         faces_are = o.is;
@@ -155,3 +159,9 @@ module _ (ts : List Tri) (n : ℕ) (scene : IsScene ts n) (x : Formula) (fit : I
         meaning = subst (λ (fs : List Face). HaveMeaning ts x fs) (sym o.is) m;
         closed = meaning_is_closed ts x o.written o.outlined m;
       }
+
+  -- they are valid
+  pub surface_is_valid : All IsValidFace faces_given
+  surface_is_valid =
+      let o = outlined_as exact faces_given inside in_texts in
+      subst (λ (fs : List Face). All IsValidFace fs) (sym o.is) (faces_valid o.written o.well_formed)

@@ -12,8 +12,8 @@ use Rattle.ember_pairs.specs.declared.pair.Pair.{Pair}
 use Rattle.ember_pairs.specs.Pairs.{AreMeetingPairs}
 use Rattle.ember_pairs.specs.Whole.{leaf_jobs}
 use Rattle.ember_step.specs.Counts.{IsCount}
-use Rattle.ember_touch.specs.declared.leaf.Touches.{Touches}
-use Rattle.ember_touch.specs.Works.{AreAllTouches}
+use Rattle.ember_sides.specs.declared.leaf.Touches.{Touches}
+use Rattle.ember_sides.specs.Touches.{AreAllTouches}
 use Rattle.ember_visit.specs.Jobs.{root_job}
 use Rattle.ember_visit.specs.Values.{shape}
 use Rattle.ember_voxel.specs.declared.fill.Fill.{Fill}

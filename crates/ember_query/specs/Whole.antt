@@ -6,7 +6,7 @@ use Rattle.ember_model.specs.declared.tri.Tri.{Tri}
 use Rattle.ember_step.specs.Rest.{AreAllRestFaces}
 use Rattle.ember_step.specs.WholeFaces.{whole_faces}
 use Rattle.ember_text.specs.FacesInTexts.{AreFacesInTexts}
-use Rattle.ember_touch.specs.declared.parting.Parted.{Parted}
+use Rattle.ember_sides.specs.declared.parting.Parted.{Parted}
 
 -- the faces of the triangles that stay whole, as their texts would hold them, and then those of the written regions of
 -- all others

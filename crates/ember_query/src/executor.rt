@@ -14,9 +14,10 @@ use crate::query::{Answer, Query, RunResult};
 use ember_job::{Job, Outcome, Step, Work};
 use ember_model::OutOfMemory;
 use ember_pairs::{PairWork, pair_step, root_pairs};
-use ember_step::{CountWork, FaceWork, RestWork, TextWork};
-use ember_step::{count_step, faces_step, rest_step, text_step};
-use ember_touch::{TouchWork, touch_step};
+use ember_sides::{TouchWork, touch_step};
+use ember_step::{
+    CountWork, FaceWork, RestWork, TextWork, count_step, faces_step, rest_step, text_step,
+};
 use ember_tree::merge;
 use ember_visit::root_job;
 use ember_voxel::{VoxelWork, voxel_step};

@@ -24,8 +24,8 @@ use ember_job::Journals;
 use ember_model::{OutOfMemory, Scene};
 use ember_pairs::PairList;
 use ember_reread::FaceList;
+use ember_sides::Touches;
 use ember_text::FacesText;
-use ember_touch::Touches;
 use ember_voxel::Fill;
 
 /// What is asked of the leaves of a scene.
@@ -161,10 +161,10 @@ pub fn query_touches<C: Fn(&Query) -> Result<Answer, OutOfMemory>>(
     requires { IsExecutor C.pre C.post executor.now }
     ensures { IfOk result (λ items. AreSceneTouches scene.now.tris (formula_of expr.now) items.items) }
 {
-    let Answer::Touches(items) = executor(&Query::Touches(scene, expr))? else {
+    let Answer::Touches(touches) = executor(&Query::Touches(scene, expr))? else {
         unreachable!()
     };
-    Ok(items)
+    Ok(touches)
 }
 
 /// Asks the executor for the faces of the written regions of each leaf, of those triangles that are

@@ -10,15 +10,15 @@ ghost use Rattle.ember_query.specs.Whole.{AreWholeAndRest};
 ghost use Rattle.ember_step.specs.Rest.{AreAllRestFaces};
 ghost use Rattle.ember_step.specs.WholeFaces.{whole_faces};
 ghost use Rattle.ember_text.specs.FacesInTexts.{AreFacesInTexts};
-ghost use Rattle.ember_touch.specs.declared.parting.Parted.{Parted as PartedView};
-ghost use Rattle.ember_touch.specs.Parting.{IsParted};
+ghost use Rattle.ember_sides.specs.declared.parting.Parted.{Parted as PartedView};
+ghost use Rattle.ember_sides.specs.Parting.{IsParted};
 
 use crate::faces::joined;
 use crate::query::{Answer, Query, query_rest, query_touches};
 use ember_expr::{Expr, tree};
 use ember_model::{Face, OutOfMemory, Scene};
+use ember_sides::part_triangles;
 use ember_step::whole_faces;
-use ember_touch::part_triangles;
 use ember_width::Narrow;
 use std::alloc::Global;
 

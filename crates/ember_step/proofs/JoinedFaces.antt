@@ -32,7 +32,7 @@ both_faces ks ls fs gs a b =
 abbrev all_of : List (List Face) → List Face
 all_of lists = flat_map (λ (faces : List Face). faces) lists
 
-faces_of : (Has : Job → List Kept → Type 0) (jobs : List Job) (lists : List (List Face)) →
+pub faces_of : (Has : Job → List Kept → Type 0) (jobs : List Job) (lists : List (List Face)) →
     EachAnswers (λ job faces. AreRegionsFaces (Has job) faces) jobs lists → AreRegionsFaces (Each Has jobs) (all_of lists)
 faces_of Has [] [] h = record { kept = []; has = none; faces_of = tt }
 faces_of Has [] (fs ∷ lists) h = absurd h

@@ -27,29 +27,30 @@ use Rattle.ember_job.specs.Items.{EachAnswers}
 use Rattle.ember_visit.specs.Jobs.{near_of, IsJobOn, root_job_on}
 use Rattle.ember_visit.specs.Values.{box_value}
 use Rattle.ember_visit.proofs.Laws.{root_is_job_on}
-use Rattle.ember_touch.specs.declared.leaf.Touches.{Touches}
 use Rattle.ember_touch.specs.Suspects.{is_suspect, is_touched, touched_places}
-use Rattle.ember_touch.specs.Works.{number_at, touch_shape, touched_in, AreTouches, AreAllTouches}
-use Rattle.ember_touch.specs.Parting.{all_touched}
+use Rattle.ember_touch.specs.Works.{number_at, touch_shape, touched_in, AreAllTouched, all_of}
 use Rattle.ember_touch.proofs.ApartBoxes.{no_point}
 use Rattle.ember_touch.proofs.Leaves.{LeafAt, leaf_has}
 use Rattle.ember_touch.proofs.Listed.{in_range, in_filter, in_map, in_flat_map, place_of, listed_at, found_at}
 use Rattle.ember_touch.proofs.Points.{root_has}
 
--- the item of a leaf
-record ItemOf (ts : List Tri) (x : Formula) (items : List Touches) (job : Job) : Type 0 where
-  item : Touches
-  member : In item items
-  is : AreTouches ts x job item
+-- the list of a leaf
+abbrev IsOf : List Tri → Formula → Job → List ℕ → Type 0
+IsOf ts x j list = list ≡ touched_in ts x j
 
-item_of : (ts : List Tri) (x : Formula) (jobs : List Job) (items : List Touches) (job : Job) → EachAnswers (AreTouches ts x) jobs items →
-    In job jobs → ItemOf ts x items job
-item_of ts x [] items job a n = absurd n
-item_of ts x (j ∷ jobs) [] job a n = absurd a
-item_of ts x (j ∷ jobs) (one ∷ items) job a (inl e) =
-    record { item = one; member = inl refl; is = subst (λ (k : Job). AreTouches ts x k one) (sym e) a.0 }
-item_of ts x (j ∷ jobs) (one ∷ items) job a (inr n) =
-    let r = item_of ts x jobs items job a.1 n in record { item = r.item; member = inr r.member; is = r.is }
+record ListOf (ts : List Tri) (x : Formula) (lists : List (List ℕ)) (job : Job) : Type 0 where
+  list : List ℕ
+  member : In list lists
+  is : list ≡ touched_in ts x job
+
+list_of : (ts : List Tri) (x : Formula) (jobs : List Job) (lists : List (List ℕ)) (job : Job) → EachAnswers (IsOf ts x) jobs lists →
+    In job jobs → ListOf ts x lists job
+list_of ts x [] lists job a n = absurd n
+list_of ts x (j ∷ jobs) [] job a n = absurd a
+list_of ts x (j ∷ jobs) (one ∷ lists) job a (inl e) =
+    record { list = one; member = inl refl; is = subst (λ (k : Job). IsOf ts x k one) (sym e) a.0 }
+list_of ts x (j ∷ jobs) (one ∷ lists) job a (inr n) =
+    let r = list_of ts x jobs lists job a.1 n in record { list = r.list; member = inr r.member; is = r.is }
 
 -- ---- two triangles with a common point, near one box
 module _ (ts : List Tri) (x : Formula) (j : Job) (a b : ℕ) (other : b ≢ a) (here : In a j.list) (there : In b j.list)
@@ -80,14 +81,14 @@ module _ (ts : List Tri) (x : Formula) (j : Job) (a b : ℕ) (other : b ≢ a) (
 
 -- ---- the law
 module _ (s m fine : ℕ) (tells : normal_limit m < fine) (wide : pos m <ℤ (pos 2048 *ℤ pos (2 ^ s))) (over : 2 ^ s * 2048 ≤ m + 1)
-    (ts : List Tri) (scene : IsSceneWithin m ts most_meshes) (x : Formula) (items : List Touches) (answers : AreAllTouches s fine ts x items) where
+    (ts : List Tri) (scene : IsSceneWithin m ts most_meshes) (x : Formula) (lists : List (List ℕ)) (answers : AreAllTouched s fine ts x lists) where
   near_in : (j : Job) → IsJobOn s fine ts j → (i : ℕ) (v : Spot) → i < length ts → is_flat (tri_at ts i) ≡ false →
       is_in_closed (face_of (tri_at ts i)) v ≡ true → HasPoint (in_steps s j.cell) v → In i j.list
   near_in j is i v l nf h p =
       subst (λ (list : List ℕ). In i list) (sym is.list)
       (in_filter (λ k. is_near (in_steps s j.cell) (tri_at ts k)) i (all_indices ts) (in_range (length ts) i l) (near_point (in_steps s j.cell) (tri_at ts i) v nf p h))
 
-  shared : (i j : ℕ) (v : Spot) → list_any (nat_eq i) (all_touched items) ≡ false → j ≢ i → i < length ts → j < length ts →
+  shared : (i j : ℕ) (v : Spot) → list_any (nat_eq i) (all_of lists) ≡ false → j ≢ i → i < length ts → j < length ts →
       is_flat (tri_at ts i) ≡ false → is_flat (tri_at ts j) ≡ false → is_in_closed (face_of (tri_at ts i)) v ≡ true →
       is_in_closed (face_of (tri_at ts j)) v ≡ true → IsInCommon (tri_at ts i) (tri_at ts j) v
   shared i j v unlisted other l k ni nj hi hj =
@@ -95,11 +96,11 @@ module _ (s m fine : ℕ) (tells : normal_limit m < fine) (wide : pos m <ℤ (po
       let start = root_is_job_on s m fine (pos (2 ^ s)) ts over tells refl wide scene in
       let leaf = leaf_has s m fine tells ts scene x v (root_job_on s ts) start
       (root_has m s wide t v (All-get_or (IsTriWithin m) ts i no_tri l scene.within) ni hi) in
-      let item = item_of ts x (leaves (touch_shape s fine ts x) (root_job_on s ts)) items leaf.job answers leaf.member in
+      let found = list_of ts x (leaves (touch_shape s fine ts x) (root_job_on s ts)) lists leaf.job answers leaf.member in
       let listed_i = near_in leaf.job leaf.is i v l ni hi leaf.has in let listed_j = near_in leaf.job leaf.is j v k nj hj leaf.has in
-      let none : is_suspect t u ≡ true → ⊥ = λ e. clash (any_from (nat_eq i) i (all_touched items)
-      (in_flat_map (λ (found : Touches). found.touched.items) item.item i items item.member
-      (subst (λ (list : List ℕ). In i list) (sym item.is.touched) (counts_as_touched ts x leaf.job i j other listed_i listed_j e)))
+      let none : is_suspect t u ≡ true → ⊥ = λ e. clash (any_from (nat_eq i) i (all_of lists)
+      (in_flat_map (λ (touched : List ℕ). touched) found.list i lists found.member
+      (subst (λ (list : List ℕ). In i list) (sym found.is) (counts_as_touched ts x leaf.job i j other listed_i listed_j e)))
       (eq-eqb i i refl)) unlisted in
       by (is_suspect t u) refl none
     where
@@ -116,7 +117,7 @@ module _ (s m fine : ℕ) (tells : normal_limit m < fine) (wide : pos m <ℤ (po
           ⊎_elim apart conform (and_cases (aabbs_meet (aabb_of_tri (tri_at ts i)) (aabb_of_tri (tri_at ts j))) (may_touch (tri_at ts i) (tri_at ts j)) e)
 
   -- a triangle that counts as touched in no leaf is alone
-  pub unlisted_is_alone : (i : ℕ) → list_any (nat_eq i) (all_touched items) ≡ false → IsAlone ts i
+  pub unlisted_is_alone : (i : ℕ) → list_any (nat_eq i) (all_of lists) ≡ false → IsAlone ts i
   unlisted_is_alone i unlisted = record {
     conforms = λ j t u other e d. record {
       common = λ nt nu p ht hu.

@@ -1,5 +1,5 @@
 -- The leaf that has a point: one of the visited leaves does, since no box is skipped.
-use Rattle.std.proofs.Common.{◌≡◌, ⊎_elim, inl, ℕ, zero, suc, ◌<◌, ◌≤◌, refl, sym, ap, ◌∙◌, subst, arith, Bool, true, false, Option, None, Some, List}
+use Rattle.std.proofs.Common.{◌≡◌, ◌⊎◌, ⊎_elim, inl, inr, ℕ, zero, suc, ◌<◌, ◌≤◌, refl, sym, ap, ◌∙◌, subst, arith, Bool, true, false, Option, None, Some, List}
 use Rattle.ember_model.specs.declared.tri.Tri.{Tri}
 use Rattle.ember_model.specs.declared.point.Spot.{Spot}
 use Rattle.ember_model.specs.declared.point.Axis.{Axis}
@@ -44,23 +44,28 @@ module _ (s m fine : ℕ) (tells : normal_limit m < fine) (ts : List Tri) (scene
     pub is : IsJobOn s fine ts job
     pub has : HasPoint (in_steps s job.cell) v
 
-  -- what becomes of a job
-  data Becomes (j : Job) : Type 0 where
-    ends : of j ≡ leafed → Becomes j
-    splits : is_leaf_on s (near_of ts j) j.cell ≡ false → of j ≡ halved (low_of j) (high_of j) →
-        shape_on s fine ts x j ≡ halved (low_of j) (high_of j) → Becomes j
+  -- what becomes of a job: it is a leaf, or it is halved
+  abbrev halves : Job → Shape
+  halves j = halved (low_of j) (high_of j)
 
-  becomes : (j : Job) → Becomes j
+  record Splits (j : Job) : Type 0 where
+    open_box : is_leaf_on s (near_of ts j) j.cell ≡ false
+    shape_is : of j ≡ halves j
+    same : shape_on s fine ts x j ≡ halves j
+
+  becomes : (j : Job) → (of j ≡ leafed) ⊎ Splits j
   unfolding shape_on
   becomes j = by (box_value ts x j) (is_leaf_on s (near_of ts j) j.cell) refl refl
     where
-      halves : Shape
-      halves = halved (low_of j) (high_of j)
-
-      by : (k : Option Bool) (l : Bool) → box_value ts x j ≡ k → is_leaf_on s (near_of ts j) j.cell ≡ l → Becomes j
-      by (Some b) l e q = ends (ap (λ k. leaf_if_passed (unless_known k (leaf_or (is_leaf_on s (near_of ts j) j.cell) halves))) e)
-      by None true e q = ends (λ i. leaf_if_passed (unless_known (e i) (leaf_or (q i) halves)))
-      by None false e q = splits q (λ i. leaf_if_passed (unless_known (e i) (leaf_or (q i) halves))) (λ i. unless_known (e i) (leaf_or (q i) halves))
+      by : (k : Option Bool) (l : Bool) → box_value ts x j ≡ k → is_leaf_on s (near_of ts j) j.cell ≡ l →
+          (leaf_if_passed (unless_known (box_value ts x j) (leaf_or (is_leaf_on s (near_of ts j) j.cell) (halves j))) ≡ leafed) ⊎ Splits j
+      by (Some b) l e q = inl (ap (λ k. leaf_if_passed (unless_known k (leaf_or (is_leaf_on s (near_of ts j) j.cell) (halves j)))) e)
+      by None true e q = inl (λ i. leaf_if_passed (unless_known (e i) (leaf_or (q i) (halves j))))
+      by None false e q = inr (record {
+        open_box = q;
+        shape_is = λ i. leaf_if_passed (unless_known (e i) (leaf_or (q i) (halves j)));
+        same = λ i. unless_known (e i) (leaf_or (q i) (halves j));
+      })
 
   here : (n : ℕ) (j : Job) → IsJobOn s fine ts j → HasPoint (in_steps s j.cell) v → of j ≡ leafed → LeafAt (under of n j)
   here n j is h e = record {
@@ -73,19 +78,19 @@ module _ (s m fine : ℕ) (tells : normal_limit m < fine) (ts : List Tri) (scene
   leaf_under : (n : ℕ) (j : Job) → halvings_left j.cell ≤ n → IsJobOn s fine ts j → HasPoint (in_steps s j.cell) v → LeafAt (under of n j)
   leaf_under zero j few is h = by (becomes j)
     where
-      by : Becomes j → LeafAt (under of zero j)
-      by (ends e) = here zero j is h e
-      by (splits q e f) = absurd (omega (arith, few, left_less j.cell (axis_of j) (halvable_unless_leaf s (near_of ts j) j.cell q)))
+      by : (of j ≡ leafed) ⊎ Splits j → LeafAt (under of zero j)
+      by (inl e) = here zero j is h e
+      by (inr p) = absurd (omega (arith, few, left_less j.cell (axis_of j) (halvable_unless_leaf s (near_of ts j) j.cell p.open_box)))
   leaf_under (suc n) j few is h = by (becomes j) (leaf_under n)
     where
-      by : Becomes j → ((k : Job) → halvings_left k.cell ≤ n → IsJobOn s fine ts k → HasPoint (in_steps s k.cell) v → LeafAt (under of n k)) →
+      by : (of j ≡ leafed) ⊎ Splits j → ((k : Job) → halvings_left k.cell ≤ n → IsJobOn s fine ts k → HasPoint (in_steps s k.cell) v → LeafAt (under of n k)) →
           LeafAt (under of (suc n) j)
-      by (ends e) below = here (suc n) j is h e
-      by (splits q e f) below =
-          let may = halvable_unless_leaf s (near_of ts j) j.cell q in let less = left_less j.cell (axis_of j) may in
-          let both = halves_are_jobs_on s fine ts x j (low_of j) (high_of j) m tells scene is f in
+      by (inl e) below = here (suc n) j is h e
+      by (inr p) below =
+          let may = halvable_unless_leaf s (near_of ts j) j.cell p.open_box in let less = left_less j.cell (axis_of j) may in
+          let both = halves_are_jobs_on s fine ts x j (low_of j) (high_of j) m tells scene is p.same in
           let first = under of n (low_of j) in let second = under of n (high_of j) in
-          subst (λ (jobs : List Job). LeafAt jobs) (sym (under_halved of n j (low_of j) (high_of j) e))
+          subst (λ (jobs : List Job). LeafAt jobs) (sym (under_halved of n j (low_of j) (high_of j) p.shape_is))
           (⊎_elim (λ a. let r = below (low_of j) (omega (arith, few, less)) both.0 a in
           record { job = r.job; member = in_append_left r.job first second r.member; is = r.is; has = r.has })
           (λ a. let r = below (high_of j) (omega (arith, few, less)) both.1 a in

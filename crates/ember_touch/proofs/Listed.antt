@@ -1,5 +1,5 @@
 -- Members of lists of indices, and the triangles at their places.
-use Rattle.std.proofs.Common.{◌≡◌, inl, inr, ℕ, zero, suc, ◌+◌, ◌<◌, refl, sym, ap, subst, ◌∙◌, arith, Bool, true, cond}
+use Rattle.std.proofs.Common.{◌≡◌, inl, inr, ℕ, zero, suc, ◌+◌, ◌<◌, refl, sym, ap, subst, ◌∙◌, arith, Bool, true, false, cond}
 use Rattle.std.proofs.Common.{List, [], ◌∷◌, ◌++◌, map, flat_map, filter, length, get_or, Some, slice_get}
 use Rattle.std.specs.List.{range_with_len}
 use Rattle.ember_model.specs.declared.tri.Tri.{Tri}

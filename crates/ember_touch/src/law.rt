@@ -5,9 +5,7 @@ ghost use Rattle.ember_expr.specs.Formula.{Formula};
 ghost use Rattle.ember_model.specs.Limits.{most_meshes};
 ghost use Rattle.ember_width.specs.Scenes.{IsSceneWithin};
 ghost use Rattle.ember_alone.specs.Touch.{IsAlone};
-ghost use Rattle.ember_touch.specs.declared.leaf.Touches.{Touches as TouchesView};
-ghost use Rattle.ember_touch.specs.Works.{AreAllTouches};
-ghost use Rattle.ember_touch.specs.Parting.{all_touched};
+ghost use Rattle.ember_touch.specs.Works.{AreAllTouched, all_of};
 
 use ember_model::Tri;
 use ember_width::Width;
@@ -18,6 +16,6 @@ use ember_width::Width;
 pub fn unlisted_triangles_are_alone<W: Width>(_tris: &[Tri])
     requires scene { IsSceneWithin W.corner _tris.now most_meshes }
     requires root { 2 ^ W.scale * 2048 ≤ W.corner + 1 }
-    ensures { (e : Formula) (items : List TouchesView) (i : ℕ) → AreAllTouches W.scale W.fine _tris.now e items →
-        list_any (nat_eq i) (all_touched items) ≡ false → IsAlone _tris.now i }
+    ensures { (e : Formula) (lists : List (List ℕ)) (i : ℕ) → AreAllTouched W.scale W.fine _tris.now e lists →
+        list_any (nat_eq i) (all_of lists) ≡ false → IsAlone _tris.now i }
 {}

@@ -1,8 +1,8 @@
 // Which of the triangles near a box may be touched.
-ghost use Rattle.std.specs.Prelude.{◌≡◌, ◌≤◌, ◌<◌, length, All, IfOk};
+ghost use Rattle.std.specs.Prelude.{◌≡◌, ◌≤◌, ◌<◌, length, map, IfOk};
 ghost use Rattle.ember_model.specs.Limits.{most_triangles};
 ghost use Rattle.ember_box.specs.Boxes.{in_steps};
-ghost use Rattle.ember_leaf.specs.KeptRegions.{tris_of};
+ghost use Rattle.ember_trace.specs.NearTriangles.{tri_of};
 ghost use Rattle.ember_touch.specs.Suspects.{is_suspect, is_touched, touched_places};
 ghost use Rattle.ember_touch.specs.Homes.{places_at_home};
 
@@ -32,7 +32,7 @@ fn is_suspect<W: Width>(first: &NearTriangle<W>, second: &NearTriangle<W>) -> bo
 // Whether the triangle at a place may touch another one of the list.
 fn is_touched<W: Width>(near: &[NearTriangle<W>], place: usize) -> bool
     requires { place < length near.now }
-    ensures { result ≡ is_touched (tris_of near.now) place }
+    ensures { result ≡ is_touched (map tri_of near.now) place }
 {
     for other in 0..near.len() {
         if other != place && is_suspect(&near[place], &near[other]) {
@@ -50,9 +50,9 @@ pub fn places_of<W: Width>(
     near: &[NearTriangle<W>],
 ) -> Result<Places, OutOfMemory>
     requires { length near.now ≤ most_triangles }
-    ensures touched { IfOk result (λ found. found.touched.items ≡ touched_places (tris_of near.now)) }
+    ensures touched { IfOk result (λ found. found.touched.items ≡ touched_places (map tri_of near.now)) }
     ensures at_home { IfOk result (λ found.
-        found.at_home.items ≡ places_at_home (in_steps W.scale c.now) (tris_of near.now)) }
+        found.at_home.items ≡ places_at_home (in_steps W.scale c.now) (map tri_of near.now)) }
 {
     let mut touched = Vec::new(alloc);
     let mut at_home = Vec::new(alloc);

@@ -10,6 +10,7 @@ use Rattle.ember_model.specs.declared.plane.Plane.{Plane}
 use Rattle.ember_model.specs.declared.tri.Tri.{Tri}
 use Rattle.ember_model.specs.FaceFiles.{IsFaceFile}
 use Rattle.mesh_certificate.specs.declared.key.lines.LineKey.{LineKey}
+use Rattle.ember_meaning.specs.Regions.Meaning.{AreSurfaceWithMeaning, IsFalseOutside}
 use Rattle.ember_meaning.specs.Regions.Solids.{IsSolidText}
 use Rattle.ember_reread.specs.declared.fault.RereadFault.{RereadFault}
 use Rattle.ember_reread.specs.declared.fault.RereadFault.TheVariants as reread
@@ -22,8 +23,8 @@ use Rattle.mesh_solid.specs.declared.mesh.fault.SolidFault.{SolidFault}
 use Rattle.mesh_solid.specs.declared.mesh.fault.SolidFault.TheVariants.{NoTables, NotCut, OutOfMemory}
 use Rattle.mesh_solid.specs.declared.mesh.mesh.SolidMesh.{SolidMesh}
 use Rattle.mesh_solid.specs.Mesh.FaceTables.{AreTablesIn}
-use Rattle.mesh_solid.specs.Mesh.Faults.{IsCutFault, IsDocumentFault, IsFileFault, IsSolidFault, of_mesh_fault, of_reading_fault, of_table_fault}
-use Rattle.mesh_solid.specs.Mesh.Meshes.{IsMeshOf, IsDocumentMesh}
+use Rattle.mesh_solid.specs.Mesh.Faults.{IsCutFault, IsDocumentFault, IsFacesFault, IsFileFault, IsSolidFault, IsSurfaceFault, of_mesh_fault, of_reading_fault, of_table_fault}
+use Rattle.mesh_solid.specs.Mesh.Meshes.{IsMeshOf, IsMeshOfFaces, IsDocumentMesh}
 
 -- triangles are certified of equal lists
 pub certified_of : {ps qs : List Plane} {ls ks : List LineKey} {cs ds : List SpacePoint} {ss us : List Segment}
@@ -87,3 +88,39 @@ pub solid_fault_is : (tris : List Tri) (formula : Formula) (bytes : List ℕ) �
 solid_fault_is tris formula bytes text (NoTables fault) is = (bytes, text, is)
 solid_fault_is tris formula bytes text (NotCut fault) is = (bytes, text, is)
 solid_fault_is tris formula bytes text OutOfMemory is = tt
+
+-- ---- any faces
+module _ (faces given : List Face) (e : given ≡ faces) where
+  -- the fault of their tables is one of the faces
+  pub faces_table_fault_is : (fault : TableFault) → IsFault (face_edges_of 0 given) fault → IsFacesFault faces (of_table_fault fault)
+  faces_table_fault_is fault h = of_faces fault (subst (λ (fs : List Face). IsFault (face_edges_of 0 fs) fault) e h)
+    where
+      of_faces : (fault : TableFault) → IsFault (face_edges_of 0 faces) fault → IsFacesFault faces (of_table_fault fault)
+      of_faces (table.NoLine n) h = (h, λ q. cc)
+      of_faces (table.NoCorner n) h = (h, λ q. cc)
+      of_faces table.TooMany h = (h, λ q. cc)
+      of_faces table.OutOfMemory h = tt
+
+  module _ (tables : Tables) (are : AreTables (face_edges_of 0 given) tables) where
+    same_tables : AreTables (face_edges_of 0 faces) tables
+    same_tables = subst (λ (fs : List Face). AreTables (face_edges_of 0 fs) tables) e are
+
+    -- the mesh of their tables cuts them up
+    pub faces_mesh_is : (result : Result SolidMesh SolidFault) (count : ℕ) → count ≡ length faces →
+        IfOk result (IsMeshOf tables) → IfOk result (λ mesh. mesh.faces ≡ count) → IfOk result (IsMeshOfFaces faces)
+    faces_mesh_is (Ok mesh) count many cut counted =
+        record { tables = tables; are_tables = same_tables; cut = cut; count = counted ∙ many }
+    faces_mesh_is (Err fault) count many cut counted = tt
+
+    -- and its fault is one of the faces
+    pub faces_cut_fault_is : (fault : SolidFault) → IsCutFault fault → IsFacesFault faces fault
+    faces_cut_fault_is (NoTables fault) is = absurd is
+    faces_cut_fault_is (NotCut fault) is = ((tables, same_tables), is)
+    faces_cut_fault_is OutOfMemory is = tt
+
+-- the fault of a surface with the meaning
+pub surface_fault_is : (tris : List Tri) (formula : Formula) (faces : List Face) → (IsFalseOutside formula → AreSurfaceWithMeaning tris formula faces) →
+    (fault : SolidFault) → IsFacesFault faces fault → IsSurfaceFault tris formula fault
+surface_fault_is tris formula faces surface (NoTables fault) is = record { faces = faces; surface = surface; of_faces = is }
+surface_fault_is tris formula faces surface (NotCut fault) is = record { faces = faces; surface = surface; of_faces = is }
+surface_fault_is tris formula faces surface OutOfMemory is = tt

@@ -1,4 +1,4 @@
-use Rattle.ember_query.proofs.Findings.{counts_found, faces_found, fills_found, fills_root, texts_found, pairs_found}
+use Rattle.ember_query.proofs.Findings.{counts_found, faces_found, fills_found, fills_root, rest_found, texts_found, touches_found, pairs_found}
 use Rattle.ember_query.proofs.executor.answer_alone.Goals as goal
 
 pub results_alone-requires-in-Fills-clause-root : goal.results_alone-requires-in-Fills-clause-root
@@ -27,3 +27,11 @@ pub returns-in_ok-results_alone-in-Counts : goal.returns-in_ok-results_alone-in-
 returns-in_ok-results_alone-in-Counts g c =
     counts_found _ _ _ _ _ c.in-Counts.is c.in_ok-root-in-Counts.ensures.value
     c.in_ok-results_alone-in-Counts.ensures.items c.in_ok-results_alone-in-Counts.ensures.journals
+
+pub returns-in_ok-results_alone-in-Touches : goal.returns-in_ok-results_alone-in-Touches
+returns-in_ok-results_alone-in-Touches g c =
+    touches_found _ _ _ _ _ c.in-Touches.is c.in_ok-root-in-Touches.ensures.value c.in_ok-results_alone-in-Touches.ensures.items
+
+pub returns-in_ok-results_alone-in-Rest : goal.returns-in_ok-results_alone-in-Rest
+returns-in_ok-results_alone-in-Rest g c =
+    rest_found _ _ _ _ _ _ c.in-Rest.is c.in_ok-root-in-Rest.ensures.value c.in_ok-results_alone-in-Rest.ensures.items

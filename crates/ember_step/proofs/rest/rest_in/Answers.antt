@@ -14,7 +14,7 @@ use Rattle.ember_leaf.specs.Parts.{AreWrittenAmong}
 use Rattle.ember_visit.specs.Jobs.{near_of}
 use Rattle.ember_step.specs.Rest.{IsRestOfJob, cut_places, is_cut}
 use Rattle.ember_step.proofs.RestOutcomes.{places_ascend, rest_by}
-use Rattle.ember_touch.proofs.SeenParts.{filtered_below}
+use Rattle.ember_sides.proofs.SeenParts.{filtered_below}
 use Rattle.ember_visit.proofs.IndexLists.{all_listed, job_places, few_listed, counts_within}
 use Rattle.ember_step.proofs.rest.rest_in.Goals as goal
 

@@ -1,8 +1,8 @@
 use Rattle.std.proofs.Common.{arith}
 use Rattle.std.proofs.lemmas.Result.{IfErr-weaker}
-use Rattle.mesh_solid.specs.Mesh.Faults.{IsFileFault, of_table_fault}
+use Rattle.mesh_solid.specs.Mesh.Faults.{IsFacesFault, IsFileFault, of_table_fault}
 use Rattle.mesh_solid.proofs.Passing.{passed_on}
-use Rattle.mesh_solid.proofs.SolidSteps.{document_mesh_is, cut_fault_is, table_fault_is}
+use Rattle.mesh_solid.proofs.SolidSteps.{document_mesh_is, cut_fault_is, table_fault_is, faces_mesh_is, faces_cut_fault_is, faces_table_fault_is}
 use Rattle.mesh_solid.proofs.mesh.mesh.mesh_of_faces.Goals as goal
 
 pub returns-clause-mesh : goal.returns-clause-mesh
@@ -22,3 +22,20 @@ returns-in_err-tables-clause-fault g c = λ bytes read.
     passed_on (IsFileFault bytes) c.from_residual.result (of_table_fault cause) c.from_residual.ensures.1
     (table_fault_is bytes c.args.faces.items c.deref.result.now read c.deref.ensures.value cause
     c.in_err-tables.ensures.fault)
+
+pub returns-clause-cuts : goal.returns-clause-cuts
+returns-clause-cuts g c =
+    faces_mesh_is c.args.faces.items c.deref.result.now c.deref.ensures.value c.in_ok-tables.tables
+    c.in_ok-tables.ensures.tables c.mesh_of.result c.len-count.result (omega arith) c.mesh_of.ensures.mesh
+    c.mesh_of.ensures.faces
+
+pub returns-clause-fault_of_faces : goal.returns-clause-fault_of_faces
+returns-clause-fault_of_faces g c =
+    IfErr-weaker c.mesh_of.result _ _ (faces_cut_fault_is c.args.faces.items c.deref.result.now
+    c.deref.ensures.value c.in_ok-tables.tables c.in_ok-tables.ensures.tables) c.mesh_of.ensures.fault
+
+pub returns-in_err-tables-clause-fault_of_faces : goal.returns-in_err-tables-clause-fault_of_faces
+returns-in_err-tables-clause-fault_of_faces g c =
+    let cause = c.in_err-tables.field-0.0 in
+    passed_on (IsFacesFault c.args.faces.items) c.from_residual.result (of_table_fault cause) c.from_residual.ensures.1
+    (faces_table_fault_is c.args.faces.items c.deref.result.now c.deref.ensures.value cause c.in_err-tables.ensures.fault)

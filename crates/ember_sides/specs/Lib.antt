@@ -1,0 +1,3 @@
+pub mod Touches
+pub mod Halves
+pub mod Parting
