@@ -1,3 +1,4 @@
+pub mod Images
 pub mod Readings
 pub mod Refusals
 pub mod WritingRefusals

@@ -186,7 +186,7 @@ both_are_kept keeps tris bytes scene (Some document) e h = (h.0, record { scene 
 both_are_kept keeps tris bytes scene None e h = h
 
 -- the file of the mesh of the files' scene is an output for them
-module _ (files : List InputFile) (formula : Formula) (wanted : WantedFile) (placed : PlacedScene) (is : IsPlaced files wanted.grid placed) where
+module _ (files : List InputFile) (formula : Formula) (wanted : WantedFile) (placed : PlacedScene) (is : IsPlaced files wanted.placings.now wanted.grid placed) where
   pub output_is : (meshed : SolidRun) → IsSolidRun placed.scene.tris formula wanted.keeps meshed →
       (file : OutputMesh) → IsWritten wanted.format placed.grid meshed.mesh file →
       AreShownIf wanted.shows placed.grid meshed.mesh file.shown → (kept : Option KeptDocument) →

@@ -1,3 +1,4 @@
+pub mod Images
 pub mod Files
 pub mod Volumes
 pub mod Effects

@@ -157,13 +157,13 @@ pub record AreKept (images : List Tri) (bytes : List ℕ) (kept : KeptDocument) 
   pub scene : kept.scene.tris ≡ images
   pub document : kept.document.items ≡ bytes
 
--- the surfaces of the files are a scene on the wanted grid, with these counts, moves and volumes; there is a mesh of the solid
+-- the surfaces of the files, where they are placed, are a scene on the wanted grid, with these counts, moves and volumes; there is a mesh of the solid
 -- of their triangles, with this report of the run; the file is this mesh in the wanted format, closed;
 -- and the triangles
 -- that are shown, and the scene and the document of the solid, are there if they are wanted
 pub record IsOutput (files : List InputFile) (formula : Formula) (wanted : WantedFile) (out : SolidFile) : Type 0 where
   pub surfaces : List Surface
-  pub are_placed : ArePlaced files wanted.grid surfaces out.grid
+  pub are_placed : ArePlaced files wanted.placings.now wanted.grid surfaces out.grid
   pub counts : out.counts.items ≡ map (counts_on out.grid) surfaces
   pub moves : AreMoves out.grid surfaces out.moves.items
   pub sixfold_volumes : out.sixfold_volumes.items

@@ -7,6 +7,7 @@ mod effect;
 mod fault;
 mod files;
 mod floats;
+mod images;
 mod laws;
 mod output;
 mod placing;

@@ -143,6 +143,7 @@ fn fault_of<'a>(
     }
     let expr = expression(alloc, b"m1|m2")?;
     let wanted = WantedFile {
+        placings: &[],
         grid: Wanted::Nice,
         format: MeshFormat::Floats(FloatFormat::Stl),
         shows: false,
