@@ -1,5 +1,5 @@
 -- Conjunctions, and tests that agree
-use Rattle.std.proofs.Common.{◌≡◌, Bool, true, false, ◌&&◌, refl, sym, cond, ℤ, pos}
+use Rattle.std.proofs.Common.{◌≡◌, Bool, true, false, ◌&&◌, refl, sym, cond, ℤ, pos, Some}
 use Rattle.std.proofs.lemmas.Bool.{false≢true, and_parts}
 
 -- the parts of a conjunction change places
@@ -52,3 +52,8 @@ pub record Three (A B C : Type 0) : Type 0 where
 pub and_three : (x y z : Bool) → x && (y && z) ≡ true → Three (x ≡ true) (y ≡ true) (z ≡ true)
 and_three x y z e =
     let p = and_parts x (y && z) e in let q = and_parts y z p.1 in record { a = p.0; b = q.0; c = q.1 }
+
+-- ---- options
+-- what two equal options hold is equal
+pub same_some : {X : Type 0} {x y : X} → Some x ≡ Some y → x ≡ y
+same_some e = cc

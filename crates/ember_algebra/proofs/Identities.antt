@@ -1,10 +1,11 @@
 -- Identities of vectors and planes, to be used by name.
-use Rattle.std.proofs.Common.{◌≡◌, ap, ◌∙◌, arith, [], ◌∷◌, ℤ, pos, ◌-ℤ◌, ◌*ℤ◌}
+use Rattle.std.proofs.Common.{◌≡◌, ap, ◌∙◌, arith, [], ◌∷◌, ℤ, pos, ◌-ℤ◌, ◌*ℤ◌, ◌≤ℤ◌}
 use lib.IntN.{zero-*ℤ}
 use Rattle.ember_algebra.specs.Vector.{Vector, zero_v, minus_v, scale_v, dot, cross}
 use Rattle.ember_algebra.proofs.Laws.{linear}
 use Rattle.ember_algebra.proofs.Ring.{◌⊖◌, ◌⊗◌, ◌≈◌, cancels}
 use Rattle.ember_algebra.proofs.Vectors.{vector, identity, same_v, vector_identity, ◌≈v◌, cancels_v, minusE, scaleE, dotE, crossE}
+use Rattle.ember_algebra.proofs.Order.{square_nonneg}
 
 -- ---- products of three and four vectors
 
@@ -37,3 +38,8 @@ orthogonal_parallel n f g p q =
   where
     by : (a b : ℤ) → pos 0 *ℤ a -ℤ pos 0 *ℤ b ≡ pos 0
     by a b = omega (arith, linear, zero-*ℤ a, zero-*ℤ b)
+
+-- a vector's square isn't negative
+pub dot_nonneg : (d : Vector) → pos 0 ≤ℤ dot d d
+dot_nonneg d =
+    let x = square_nonneg d.x in let y = square_nonneg d.y in let z = square_nonneg d.z in omega (arith, linear, x, y, z)

@@ -1,11 +1,12 @@
 -- Numbers in order, sizes and greatest numbers, and what tests of code say of two numbers
 use borrow.Author.Differences.{ints}
 use Rattle.std.specs.Prelude.{int_lt}
-use Rattle.std.proofs.Common.{◌≡◌, true, arith, ℤ, ◌<ℤ◌, false, ◌≤ℤ◌, int_le, ℕ, suc, pos, neg_ℤ, ◌*ℤ◌, ⊎_elim, zero}
+use Rattle.std.proofs.Common.{◌≡◌, true, arith, ℤ, ◌<ℤ◌, false, ◌≤ℤ◌, int_le, ℕ, suc, pos, neg_ℤ, ◌*ℤ◌, ⊎_elim, zero, nat_lt, ◌<◌}
 use Rattle.std.proofs.Common.{refl, negsuc, unsigned_abs, ◌≤◌, max}
 use Rattle.std.proofs.Math.Nat.{le-max_left, le-max_right, max-le}
 use Rattle.ember_algebra.proofs.Laws.{linear}
 use Rattle.ember_algebra.proofs.Order.{zero_product}
+use Rattle.ember_algebra.proofs.Ring.{◌⊗◌, ◌≈◌, neg, solve, cancels}
 
 -- ---- tests of code
 -- the test answers true of a number and a greater one
@@ -79,3 +80,15 @@ negative_at_most e = omega (arith, linear)
 -- 0 is at most 0
 pub zero_at_most : {x : ℤ} → x ≡ pos 0 → x ≤ℤ pos 0
 zero_at_most e = omega (arith, linear)
+
+-- the product of two opposites
+pub neg-neg : (a b : ℤ) → neg_ℤ a *ℤ neg_ℤ b ≡ a *ℤ b
+neg-neg a b = solve 2 (λ a b. neg a ⊗ neg b ≈ a ⊗ b) cancels a b
+
+-- numbers of which the test answers true are in order
+pub nat_lt_out : (j i : ℕ) → nat_lt j i ≡ true → j < i
+nat_lt_out j i e = grind arith
+
+-- the test answers true of numbers in order
+pub nat_lt_in : (j i : ℕ) → j < i → nat_lt j i ≡ true
+nat_lt_in j i l = grind arith

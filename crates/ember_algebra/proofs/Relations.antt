@@ -1,5 +1,5 @@
 -- Laws of lists that are made member by member, or step by step: one result, built from the front, counts.
-use Rattle.std.proofs.Common.{◌≡◌, ℕ, refl, ◌∙◌, sym, subst, List, [], ◌∷◌, ◌++◌, Bool, cond, append_assoc}
+use Rattle.std.proofs.Common.{◌≡◌, ℕ, refl, ◌∙◌, sym, subst, List, [], ◌∷◌, ◌++◌, Bool, cond, append_assoc, slice_get, Some, suc}
 use Rattle.std.specs.List.{sum_by, count_by}
 use Rattle.std.proofs.lemmas.List.Sums.{sum_by-append, sum_by-cons}
 use Rattle.std.proofs.lemmas.List.{append-nil}
@@ -88,3 +88,8 @@ pub chain_keeps : {X A : Type 0} {R : X → A → A → Type 0} (B : X → Type 
     Chain R xs b c → Q a c
 chain_keeps B Q a h q f done = q
 chain_keeps B Q a h q f (step {x = x} {a = s} {b = t} r e) = chain_keeps B Q a h.1 (f x s t h.0 q r) f e
+
+-- what holds at each place holds of each member
+pub every_from : {X : Type 0} (P : X → Type 0) (xs : List X) → ((j : ℕ) (x : X) → slice_get xs j ≡ Some x → P x) → Every P xs
+every_from P [] h = tt
+every_from P (x ∷ xs) h = (h 0 x refl, every_from P xs (λ j y e. h (suc j) y e))

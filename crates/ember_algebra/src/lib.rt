@@ -1,9 +1,13 @@
-//! The signs of integers. The crate's proofs are the algebra that all other crates use: README.md
-//! has a list.
+//! The signs of integers, and greatest common divisors. The crate's proofs are the algebra that all
+//! other crates use: README.md has a list.
 #![tactic(auto)]
 
 ghost use Rattle.std.specs.Prelude.{◌≡◌, ℤ, ◌*ℤ◌};
 ghost use Rattle.ember_algebra.specs.Sign.{sgn, flip, times};
+
+mod divisors;
+
+pub use divisors::{gcd, long_gcd};
 
 /// The sign of an integer.
 #[derive(Copy, Clone, Debug, PartialEq, Eq)]

@@ -25,7 +25,7 @@ use Rattle.ember_law.proofs.CornerSides.{above_corners}
 use Rattle.ember_law.proofs.Separation.{combination_value, missed_face_has_separating_edge}
 use Rattle.ember_alone.specs.Touch.{HasCorner, IsInCommon, IsAlone}
 use Rattle.ember_alone.specs.UniformSides.{AreBalanced}
-use Rattle.ember_alone.proofs.Beside.{faces_each}
+use Rattle.ember_law.proofs.Beside.{faces_each}
 use Rattle.ember_alone.proofs.CloseTo.{close, value_close, stays_positive, weight_close, IsKeptOff, by_other, by_own, close_points_see}
 use Rattle.ember_alone.proofs.Frames.{IsTurned, corner_of_turned, Frame, frame}
 use Rattle.ember_alone.proofs.UniformSides.{Sees}

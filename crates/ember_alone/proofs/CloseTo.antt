@@ -25,7 +25,7 @@ use Rattle.ember_law.proofs.Shifted.{weight_shifted}
 use Rattle.ember_law.proofs.Vectors.{balanced_segments}
 use Rattle.ember_alone.specs.Touch.{IsAlone}
 use Rattle.ember_alone.specs.UniformSides.{AreBalanced}
-use Rattle.ember_alone.proofs.Beside.{separated_face_is_missed, value_beside, weight_beside, OneSign, eventually_each}
+use Rattle.ember_law.proofs.Beside.{separated_face_is_missed, value_beside, weight_beside, OneSign, eventually_each}
 use Rattle.ember_alone.proofs.UniformSides.{Sees, each_face, shifted_points_see}
 use Rattle.ember_alone.proofs.Short.{separated_both_shifted}
 

@@ -5,7 +5,7 @@ use Rattle.ember_algebra.specs.Vector.{Vector}
 use Rattle.ember_algebra.proofs.Laws.{linear}
 use Rattle.ember_algebra.proofs.Order.{mul_pos_neg}
 use Rattle.ember_algebra.proofs.Ring.{◌≈◌, num, cancels}
-use Rattle.ember_algebra.proofs.Vectors.{VectorE, TupleE, vector, identity, valueE}
+use Rattle.ember_algebra.proofs.Vectors.{vector, identity, valueE}
 use Rattle.ember_model.specs.declared.point.Corner.{Corner}
 use Rattle.ember_model.specs.declared.point.Spot.{Spot}
 use Rattle.ember_model.specs.declared.plane.Plane.{Plane}
@@ -17,12 +17,11 @@ use Rattle.ember_model.proofs.SignTests.{In, zero_scaled}
 use Rattle.ember_model.proofs.PlaneValues.{value_scaled, value_times, edgeE}
 use Rattle.ember_model.proofs.Hits.{inside_parts}
 use Rattle.ember_model.proofs.LastZero.{all_negative_member}
+use Rattle.ember_model.proofs.Tuples.{cornerE}
 use Rattle.ember_law.proofs.Separation.{combination_value}
 use Rattle.ember_alone.specs.Touch.{HasCorner, IsInCommon, IsCommonCorner, Conform}
 
 -- ---- edge planes
-abbrev pub cornerE : VectorE → TupleE
-cornerE u = record { x = u.x; y = u.y; z = u.z; w = num (pos 1) }
 
 -- an edge plane is 0 at the corner at which its edge starts
 pub zero_at_start : (u v : Corner) (f : Vector) → value_at (edge_through u v f) (spot_of_corner u) ≡ pos 0

@@ -15,8 +15,7 @@ use Rattle.ember_model.specs.Planes.{vector_of, value_at, along, support_of, edg
 use Rattle.ember_model.specs.Owners.{spot_of_corner}
 use Rattle.ember_model.proofs.SignTests.{zero_scaled, zero_times}
 use Rattle.ember_model.proofs.PlaneValues.{cross_product, supportE, edgeE}
-use Rattle.ember_model.proofs.Tuples.{same_plane}
-use Rattle.ember_alone.proofs.Common.{cornerE}
+use Rattle.ember_model.proofs.Tuples.{same_plane, cornerE}
 use Rattle.ember_alone.proofs.Frames.{IsTurned, from_a, from_b, from_c}
 
 -- ---- the support plane, with any edge taken as the first

@@ -15,9 +15,10 @@ use Rattle.ember_model.specs.ClearTest.{all_negative, none_positive}
 use Rattle.ember_model.specs.Owners.{spot_of_corner}
 use Rattle.ember_model.proofs.SignTests.{negative_in, not_positive_in, size_positive}
 use Rattle.ember_model.proofs.PlaneValues.{value_times, size-is, along_dot, cross_product, supportE, edgeE}
+use Rattle.ember_model.proofs.Tuples.{cornerE}
 use Rattle.ember_law.proofs.CornerSides.{main_entry}
 use Rattle.ember_alone.specs.Touch.{HasCorner}
-use Rattle.ember_alone.proofs.Common.{cornerE, zero_at_start, zero_at_end, edge_zero}
+use Rattle.ember_alone.proofs.Common.{zero_at_start, zero_at_end, edge_zero}
 
 -- ---- the corners in order, from any of them
 pub data IsTurned (t : Tri) (u v w : Corner) : Type 0 where

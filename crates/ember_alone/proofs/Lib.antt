@@ -1,10 +1,8 @@
 pub mod Common
 pub mod Weights
 pub mod Parted
-pub mod Beside
 pub mod UniformSides
 pub mod Short
-pub mod Turned
 pub mod Shares
 pub mod WholeFaces
 pub mod Frames

@@ -3,9 +3,8 @@ use Rattle.std.proofs.Common.{◌≡◌, ◌⊎◌, ⊎_elim, inl, inr, refl, sy
 use Rattle.std.specs.List.{list_any}
 use Rattle.std.proofs.lemmas.Bool.{and_parts, or_cases}
 use Rattle.ember_algebra.specs.Sign.{is_positive, is_zero}
-use Rattle.ember_algebra.proofs.Laws.{linear}
+use Rattle.ember_algebra.proofs.Laws.{linear, *ℤ-neg}
 use Rattle.ember_algebra.proofs.Order.{by_sign, pos_mul, nonneg_mul}
-use Rattle.ember_algebra.proofs.Ring.{◌⊗◌, ◌≈◌, neg, solve, cancels}
 use Rattle.ember_model.specs.declared.point.Corner.{Corner}
 use Rattle.ember_model.specs.declared.point.Spot.{Spot}
 use Rattle.ember_model.specs.declared.plane.Plane.{Plane}
@@ -19,9 +18,10 @@ use Rattle.ember_model.proofs.PlaneValues.{value-opposite}
 use Rattle.ember_model.proofs.SameEdges.{same_corner_out}
 use Rattle.ember_model.proofs.Hits.{closed_parts}
 use Rattle.ember_model.proofs.LastZero.{none_positive_member}
-use Rattle.ember_alone.specs.declared.corners.CornerValues.{CornerValues}
+use Rattle.ember_width.specs.declared.heights.Heights.{Heights}
 use Rattle.ember_alone.specs.Touch.{HasCorner, IsCommonCorner, IsInCommon, Conform}
-use Rattle.ember_alone.specs.Parting.{has_corner, common_corners, values_of, is_beyond, is_some_in_front, are_beyond, planes_of, values_over}
+use Rattle.ember_width.specs.Heights.{heights_of}
+use Rattle.ember_alone.specs.Parting.{has_corner, common_corners, is_beyond, is_some_in_front, are_beyond, planes_of, heights_over}
 use Rattle.ember_alone.specs.Parting.{is_parted, may_touch}
 use Rattle.ember_alone.proofs.Common.{conform_turned}
 use Rattle.ember_alone.proofs.Weights.{sum_is_in_common, Weights, closed_has_weights}
@@ -79,16 +79,13 @@ weightless : (k v rest : ℤ) → pos 0 ≤ℤ k → pos 0 <ℤ v → pos 0 ≤�
 weightless k v rest lk lv lr l =
     by_sign k (λ p. let m = pos_mul p lv in absurd (omega (arith, linear, m, lr, l))) (λ z. z) (λ p. absurd (omega (arith, linear, p, lk)))
 
-times_opposite : (k v : ℤ) → k *ℤ neg_ℤ v ≡ neg_ℤ (k *ℤ v)
-times_opposite k v = solve 2 (λ k v. k ⊗ neg v ≈ neg (k ⊗ v)) cancels k v
-
 -- a plane that has no point of t in front is at most 0 at a shared point
 low_sum : (u : Tri) (g : Plane) (x : Spot) (w : Weights u x) → value_at g x ≤ℤ pos 0 → (w.of_a *ℤ value_at g (spot_of_corner u.a) +ℤ
     w.of_b *ℤ value_at g (spot_of_corner u.b) +ℤ w.of_c *ℤ value_at g (spot_of_corner u.c)) ≤ℤ pos 0
 low_sum u g x w l =
     let n : pos 0 ≤ℤ neg_ℤ (value_at g x) = omega (arith, linear, l) in
     let f : pos 0 ≤ℤ w.factor = let p = w.positive in omega (arith, linear, p) in
-    let m = nonneg_mul f n in let e = w.sum g in omega (arith, linear, m, e, times_opposite w.factor (value_at g x))
+    let m = nonneg_mul f n in let e = w.sum g in omega (arith, linear, m, e, *ℤ-neg w.factor (value_at g x))
 
 -- two planes that have no point of t's closed face in front, and all corners of u beyond
 module _ (t u : Tri) (g h : Plane) (low : (x : Spot) → is_in_closed (face_of t) x ≡ true → value_at g x ≤ℤ pos 0)
@@ -187,7 +184,7 @@ module _ (t u : Tri) (g h : Plane) (low : (x : Spot) → is_in_closed (face_of t
     by_second (inr (inr l)) = without_c (second_c l)
 
 -- ---- the test
-some_in_front : (g : Plane) (u : Tri) → is_some_in_front (values_of g u) ≡ true → (pos 0 <ℤ value_at g (spot_of_corner u.a)) ⊎
+some_in_front : (g : Plane) (u : Tri) → is_some_in_front (heights_of g u) ≡ true → (pos 0 <ℤ value_at g (spot_of_corner u.a)) ⊎
     ((pos 0 <ℤ value_at g (spot_of_corner u.b)) ⊎ (pos 0 <ℤ value_at g (spot_of_corner u.c)))
 some_in_front g u e =
     let a = value_at g (spot_of_corner u.a) in let b = value_at g (spot_of_corner u.b) in let c = value_at g (spot_of_corner u.c) in
@@ -197,19 +194,19 @@ some_in_front g u e =
 
 parted_by : (t u : Tri) (g h : Plane) → ((x : Spot) → is_in_closed (face_of t) x ≡ true → value_at g x ≤ℤ pos 0) →
     ((x : Spot) → is_in_closed (face_of t) x ≡ true → value_at h x ≤ℤ pos 0) →
-    are_beyond (values_of g u) (values_of h u) (common_corners t u) ≡ true → Conform t u
+    are_beyond (heights_of g u) (heights_of h u) (common_corners t u) ≡ true → Conform t u
 parted_by t u g h low low_too e =
     let a = is_beyond (value_at g (spot_of_corner u.a)) (value_at h (spot_of_corner u.a)) (has_corner t u.a) in
     let b = is_beyond (value_at g (spot_of_corner u.b)) (value_at h (spot_of_corner u.b)) (has_corner t u.b) in
     let c = is_beyond (value_at g (spot_of_corner u.c)) (value_at h (spot_of_corner u.c)) (has_corner t u.c) in
-    let f = is_some_in_front (values_of g u) || is_some_in_front (values_of h u) in
+    let f = is_some_in_front (heights_of g u) || is_some_in_front (heights_of h u) in
     let p = and_parts (a && (b && c)) f e in let q = and_parts a (b && c) p.0 in let r = and_parts b c q.1 in
     let ha = beyond_out t g h u.a q.0 in let hb = beyond_out t g h u.b r.0 in let hc = beyond_out t g h u.c r.1 in
     record {
       common = λ ft fu x hx hy. let w = closed_has_weights u x fu hy in
           ⊎_elim (λ s. by_first t u g h low low_too ha hb hc x hx hy w (some_in_front g u s))
           (λ s. by_second t u g h low low_too ha hb hc x hx hy w (some_in_front h u s))
-          (or_cases (is_some_in_front (values_of g u)) (is_some_in_front (values_of h u)) p.1);
+          (or_cases (is_some_in_front (heights_of g u)) (is_some_in_front (heights_of h u)) p.1);
     }
 
 -- no point of the closed face lies in front of one of these planes
@@ -223,12 +220,12 @@ planes_are_low t g (inr (inl e)) x h =
 planes_are_low t g (inr (inr m)) x h = none_positive_member x (edges_of t) g (closed_parts (face_of t) x h).2 m
 
 -- the plane of which a member has the values
-record HasPlane (u : Tri) (ps : List Plane) (v : CornerValues) : Type 0 where
+record HasPlane (u : Tri) (ps : List Plane) (v : Heights) : Type 0 where
   plane : Plane
   member : In plane ps
-  are : v ≡ values_of plane u
+  are : v ≡ heights_of plane u
 
-plane_of : (u : Tri) (ps : List Plane) (v : CornerValues) → In v (map (λ p. values_of p u) ps) → HasPlane u ps v
+plane_of : (u : Tri) (ps : List Plane) (v : Heights) → In v (map (λ p. heights_of p u) ps) → HasPlane u ps v
 plane_of u [] v m = absurd m
 plane_of u (p ∷ ps) v (inl e) = record { plane = p; member = inl refl; are = e }
 plane_of u (p ∷ ps) v (inr m) = let r = plane_of u ps v m in record { plane = r.plane; member = inr r.member; are = r.are }
@@ -236,7 +233,7 @@ plane_of u (p ∷ ps) v (inr m) = let r = plane_of u ps v m in record { plane = 
 -- if two planes of t's face part them, two triangles conform
 parted_triangles_conform : (t u : Tri) → is_parted t u ≡ true → Conform t u
 parted_triangles_conform t u e =
-    let s = common_corners t u in let vs = values_over t u in
+    let s = common_corners t u in let vs = heights_over t u in
     let f = any_out (λ v. list_any (λ w. are_beyond v w s) vs) vs e in
     let k = any_out (λ w. are_beyond f.item w s) vs f.passes in
     let g = plane_of u (planes_of t) f.item f.member in let h = plane_of u (planes_of t) k.item k.member in

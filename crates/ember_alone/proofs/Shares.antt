@@ -23,7 +23,7 @@ use Rattle.ember_model.specs.Meshes.{faces_of, wind, vector}
 use Rattle.ember_model.specs.Clear.{IsClear, AreClear}
 use Rattle.ember_model.specs.Sides.{IsSides}
 use Rattle.ember_model.proofs.SignTests.{negative_out, positive_in, positive_out, zero_scaled, zero_times, size_positive, clash, and_false}
-use Rattle.ember_model.proofs.Hits.{inside_parts, slope_nonzero}
+use Rattle.ember_model.proofs.Hits.{inside_parts, slope_nonzero, inside_closed}
 use Rattle.ember_law.proofs.CornerSides.{main_entry}
 use Rattle.ember_law.proofs.GenericClear.{clear_shifted, clear_faces}
 use Rattle.ember_law.proofs.Paths.{along_itself}
@@ -31,10 +31,10 @@ use Rattle.ember_law.proofs.Shifted.{weight_shifted}
 use Rattle.ember_alone.specs.Touch.{IsAlone}
 use Rattle.ember_alone.specs.UniformSides.{AreBalanced, IsPart}
 use Rattle.ember_alone.specs.Whole.{WindWhere, AreMissedNearby, Fragment, IsFragmentOf, faces, behind, in_front, separating}
-use Rattle.ember_alone.proofs.Beside.{inside_closed, weight_beside, OneSign, faces_member}
+use Rattle.ember_law.proofs.Beside.{weight_beside, OneSign, faces_member}
 use Rattle.ember_alone.proofs.UniformSides.{SidesAt, others_are_off, shifted_points_see, sides_of_part}
 use Rattle.ember_alone.proofs.Short.{Counts, count_at, counted_legs, IsOffBoundary, short_segments_count}
-use Rattle.ember_alone.proofs.Turned.{along-opposite, hit-opposite, ahead-opposite, crossing-flipped}
+use Rattle.ember_model.proofs.FlippedFaces.{along-opposite, hit-opposite, ahead-opposite, crossing-flipped}
 
 -- ---- numbers
 abbrev pub one : Bool → ℤ

@@ -18,14 +18,14 @@ use Rattle.ember_model.specs.Points.{scaled, moved, offset_by}
 use Rattle.ember_model.specs.Faces.{size, is_inside, is_in_closed, between, leg}
 use Rattle.ember_model.specs.ClearTest.{all_negative}
 use Rattle.ember_model.proofs.SignTests.{negative_in, negative_out, zero_times, size_positive, size_nonnegative, clash, positive_out}
-use Rattle.ember_model.proofs.Hits.{inside_parts, closed_scaled, closed_parts}
+use Rattle.ember_model.proofs.Hits.{inside_parts, closed_scaled, closed_parts, inside_closed}
 use Rattle.ember_model.proofs.Legs.{leg_off, leg_on, value_between, between_weight, between_inside, ends_nonzero}
 use Rattle.ember_model.proofs.NearClearPoints.{FollowsEach, all_below}
 use Rattle.ember_law.specs.Laws.{MissesFace}
 use Rattle.ember_law.specs.Counts.{leg_wind}
 use Rattle.ember_law.proofs.Separation.{Separates, combination, combination_value, missed_face_has_separating_edge}
 use Rattle.ember_law.proofs.Shifted.{follows_shifted, eventually_true}
-use Rattle.ember_alone.proofs.Beside.{all_combined, inside_closed, value_beside, separated_beside, eventually_each}
+use Rattle.ember_law.proofs.Beside.{all_combined, value_beside, separated_beside, eventually_each}
 use Rattle.ember_alone.proofs.UniformSides.{each_face}
 
 -- ---- a face on the other side of a plane

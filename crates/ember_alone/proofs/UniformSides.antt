@@ -11,7 +11,6 @@ use Rattle.ember_algebra.proofs.Order.{by_sign, zero_product}
 use Rattle.ember_model.specs.declared.plane.Plane.{Plane}
 use Rattle.ember_model.specs.declared.point.Spot.{Spot}
 use Rattle.ember_model.specs.declared.point.Axis.{Axis}
-use Rattle.ember_model.specs.declared.point.Axis.TheVariants.{X, Y, Z}
 use Rattle.ember_model.specs.declared.face.Face.{Face}
 use Rattle.ember_model.specs.declared.tri.Tri.{Tri}
 use Rattle.ember_model.specs.Planes.{value_at, along, unit, main_axis, support_of, edge_through, times_plane}
@@ -22,10 +21,10 @@ use Rattle.ember_model.specs.Clear.{AreClear}
 use Rattle.ember_model.specs.Sides.{HasWindings, IsSides}
 use Rattle.ember_model.proofs.SignTests.{clash, zero_times}
 use Rattle.ember_model.proofs.PlaneValues.{value_times}
-use Rattle.ember_model.proofs.Hits.{inside_parts, closed_parts}
+use Rattle.ember_model.proofs.Hits.{inside_parts, closed_parts, inside_closed}
 use Rattle.ember_model.proofs.LastZero.{all_negative_member}
 use Rattle.ember_law.specs.Laws.{MissesFace}
-use Rattle.ember_law.proofs.FlatTriangles.{IsFlat, flat_out, flat_case}
+use Rattle.ember_law.proofs.FlatTriangles.{flat_out, flat_case, flat_along}
 use Rattle.ember_law.proofs.Separation.{Separates, combination, missed_face_has_separating_edge}
 use Rattle.ember_law.proofs.Shifted.{weight_shifted}
 use Rattle.ember_law.proofs.Vectors.{balanced_segments}
@@ -33,8 +32,8 @@ use Rattle.ember_law.proofs.CornerSides.{main_entry}
 use Rattle.ember_alone.specs.Touch.{IsAlone}
 use Rattle.ember_alone.specs.UniformSides.{IsPart, HasUniformSides, AreBalanced, AloneHaveUniformSides}
 use Rattle.ember_alone.proofs.Common.{inside_is_not_in_common}
-use Rattle.ember_alone.proofs.Beside.{inside_combination, inside_closed, separated_face_is_missed, weight_beside, separated_beside}
-use Rattle.ember_alone.proofs.Beside.{separated_shifted, OneSign, separated_by_support, eventually_each, faces_each}
+use Rattle.ember_law.proofs.Beside.{inside_combination, separated_face_is_missed, weight_beside, separated_beside}
+use Rattle.ember_law.proofs.Beside.{separated_shifted, OneSign, separated_by_support, eventually_each, faces_each}
 
 -- what follows of each face follows of all
 pub each_face : (P Q : Face → Type 0) → ((f : Face) → P f → Q f) → (fs : List Face) → AllByRecursion P fs → AllByRecursion Q fs
@@ -54,17 +53,13 @@ pub record SidesAt (ts : List Tri) (t : Tri) (before after : List ℤ) : Type 0 
   pub sees_after : Sees ts (main_axis (support_of t)) at (pos 1) bound after
 
 -- ---- a flat triangle has no inside points
-flat_entry : (t : Tri) (k : Axis) → IsFlat t → along (support_of t) k ≡ pos 0
-flat_entry t X f = f.a
-flat_entry t Y f = f.b
-flat_entry t Z f = f.c
 
 flat_has_no_inside : (t : Tri) (v : Spot) → is_flat t ≡ true → is_inside (face_of t) v ≡ true → ⊥
 unfolding face_of
 flat_has_no_inside t v e h =
     let n = support_of t in let k = main_axis n in let s = sign (along n k) in let g = edge_through t.a t.b (unit k) in
     let l = all_negative_member v (edges_of t) (times_plane s g) (inside_parts (face_of t) v h).2 (inl refl) in
-    let m = value_times s g v in let o = zero_times s (value_at g v) (ap sign (flat_entry t k (flat_out t e))) in
+    let m = value_times s g v in let o = zero_times s (value_at g v) (ap sign (flat_along t k (flat_out t e))) in
     omega (arith, linear, l, m, o)
 
 -- a triangle that is alone in a list of closed meshes

@@ -1,26 +1,24 @@
 -- A point of a triangle's closed face is a sum of the corners with weights that aren't negative.
-use Rattle.std.proofs.Common.{◌≡◌, ◌⊎◌, inl, inr, sym, ap, ◌∙◌, arith, true, false, not, [], ◌∷◌, ℤ, pos, negsuc, ◌+ℤ◌, ◌*ℤ◌, neg_ℤ, ◌<ℤ◌, ◌≤ℤ◌}
+use Rattle.std.proofs.Common.{◌≡◌, ◌⊎◌, inl, inr, sym, ap, ◌∙◌, arith, true, false, not, [], ◌∷◌, ℤ, pos, ◌+ℤ◌, ◌*ℤ◌, neg_ℤ, ◌<ℤ◌, ◌≤ℤ◌}
 use Rattle.std.proofs.lemmas.Bool.{and_parts}
 use Rattle.ember_algebra.specs.Sign.{sign, is_positive}
 use Rattle.ember_algebra.proofs.Laws.{linear}
 use Rattle.ember_algebra.proofs.Order.{pos_mul}
 use Rattle.ember_algebra.proofs.Ring.{◌⊕◌, ◌⊖◌, ◌⊗◌, ◌≈◌, num, neg, solve, cancels}
-use Rattle.ember_algebra.proofs.Vectors.{vector, tuple, identity, dotE, vector_partE, valueE}
 use Rattle.ember_model.specs.declared.point.Corner.{Corner}
 use Rattle.ember_model.specs.declared.point.Spot.{Spot}
-use Rattle.ember_model.specs.declared.point.Axis.{Axis}
 use Rattle.ember_model.specs.declared.plane.Plane.{Plane}
 use Rattle.ember_model.specs.declared.tri.Tri.{Tri}
-use Rattle.ember_model.specs.Planes.{vector_of, unit, value_at, along, main_axis, times_plane, support_of, edge_through}
+use Rattle.ember_model.specs.Planes.{unit, value_at, along, main_axis, times_plane, support_of, edge_through}
 use Rattle.ember_model.specs.Points.{scaled, plus_s}
 use Rattle.ember_model.specs.Faces.{is_flat, face_of, is_in_closed}
 use Rattle.ember_model.specs.ClearTest.{none_positive}
 use Rattle.ember_model.specs.Owners.{spot_of_corner}
 use Rattle.ember_model.proofs.SignTests.{not_positive_out, size_positive, zero_scaled, zero_times}
-use Rattle.ember_model.proofs.PlaneValues.{value_scaled, value_times, size-is, along_dot, tuple_of, supportE, edgeE}
-use Rattle.ember_model.proofs.Hits.{closed_parts}
-use Rattle.ember_model.proofs.Tuples.{plane_tuple, same_spot}
-use Rattle.ember_law.proofs.CornerSides.{main_entry}
+use Rattle.ember_model.proofs.PlaneValues.{value_scaled, value_times, size-is}
+use Rattle.ember_model.proofs.Hits.{closed_parts, weight_plane, weight_is}
+use Rattle.ember_model.proofs.Tuples.{same_spot}
+use Rattle.ember_law.proofs.CornerSides.{main_entry, by_corners}
 use Rattle.ember_law.proofs.Separation.{combination_value}
 use Rattle.ember_alone.specs.Touch.{IsCommonCorner, IsInCommon}
 
@@ -39,9 +37,6 @@ second_plane = record { a = pos 0; b = pos 1; c = pos 0; d = pos 0 }
 abbrev third_plane : Plane
 third_plane = record { a = pos 0; b = pos 0; c = pos 1; d = pos 0 }
 
-abbrev weight_plane : Plane
-weight_plane = record { a = pos 0; b = pos 0; c = pos 0; d = negsuc 0 }
-
 first_is : (v : Spot) → value_at first_plane v ≡ v.x
 first_is v = solve 4 (λ x y z w. num (pos 1) ⊗ x ⊕ num (pos 0) ⊗ y ⊕ num (pos 0) ⊗ z ⊖ num (pos 0) ⊗ w ≈ x) cancels v.x v.y v.z v.w
 
@@ -50,9 +45,6 @@ second_is v = solve 4 (λ x y z w. num (pos 0) ⊗ x ⊕ num (pos 1) ⊗ y ⊕ n
 
 third_is : (v : Spot) → value_at third_plane v ≡ v.z
 third_is v = solve 4 (λ x y z w. num (pos 0) ⊗ x ⊕ num (pos 0) ⊗ y ⊕ num (pos 1) ⊗ z ⊖ num (pos 0) ⊗ w ≈ z) cancels v.x v.y v.z v.w
-
-weight_is : (v : Spot) → value_at weight_plane v ≡ v.w
-weight_is v = solve 4 (λ x y z w. num (pos 0) ⊗ x ⊕ num (pos 0) ⊗ y ⊕ num (pos 0) ⊗ z ⊖ num (negsuc 0) ⊗ w ≈ w) cancels v.x v.y v.z v.w
 
 -- points at which all planes have the same values are equal
 same_values : (u v : Spot) → ((g : Plane) → value_at g u ≡ value_at g v) → u ≡ v
@@ -119,25 +111,7 @@ pub record Weights (t : Tri) (x : Spot) : Type 0 where
   pub sum : (g : Plane) → factor *ℤ value_at g x ≡ of_a *ℤ value_at g (spot_of_corner t.a) +ℤ of_b *ℤ value_at g
       (spot_of_corner t.b) +ℤ of_c *ℤ value_at g (spot_of_corner t.c)
 
--- the value at x by the values at the corners, and those of the edge planes at x
-by_corners : (t : Tri) (p : Plane) (x : Spot) (k : Axis) →
-    along (support_of t) k *ℤ value_at p x ≡ neg_ℤ
-    (value_at (edge_through t.b t.c (unit k)) x *ℤ value_at p (spot_of_corner t.a) +ℤ value_at
-    (edge_through t.c t.a (unit k)) x *ℤ value_at p (spot_of_corner t.b) +ℤ value_at (edge_through t.a t.b (unit k)) x *ℤ
-    value_at p (spot_of_corner t.c)) +ℤ along p k *ℤ value_at (support_of t) x
-by_corners t p x k =
-    ap (λ (n : ℤ). n *ℤ value_at p x) (along_dot (support_of t) k)
-    ∙ identity (vector ∷ vector ∷ vector ∷ vector ∷ tuple ∷ tuple ∷ [])
-    (λ a b c f p x. dotE (vector_partE (supportE a b c)) f ⊗ valueE p x ≈ neg
-    (valueE (edgeE b c f) x ⊗ (p.x ⊗ a.x ⊕ p.y ⊗ a.y ⊕ p.z ⊗ a.z ⊖ p.w ⊗ num (pos 1)) ⊕ valueE (edgeE c a f) x ⊗
-    (p.x ⊗ b.x ⊕ p.y ⊗ b.y ⊕ p.z ⊗ b.z ⊖ p.w ⊗ num (pos 1)) ⊕ valueE (edgeE a b f) x ⊗
-    (p.x ⊗ c.x ⊕ p.y ⊗ c.y ⊕ p.z ⊗ c.z ⊖ p.w ⊗ num (pos 1))) ⊕ dotE (vector_partE p) f ⊗ valueE (supportE a b c) x)
-    cancels (vector_of t.a) (vector_of t.b) (vector_of t.c) (unit k) (plane_tuple p) (tuple_of x)
-    ∙ ap (λ (n : ℤ). neg_ℤ (value_at (edge_through t.b t.c (unit k)) x *ℤ value_at p (spot_of_corner t.a) +ℤ value_at
-    (edge_through t.c t.a (unit k)) x *ℤ value_at p (spot_of_corner t.b) +ℤ value_at (edge_through t.a t.b (unit k)) x
-    *ℤ value_at p (spot_of_corner t.c)) +ℤ n *ℤ value_at (support_of t) x) (sym (along_dot p k))
-
--- the same times the sign of the normal along k, on the support plane
+-- the value at x by the values at the corners, times the sign of the normal along k, on the support plane
 with_sign : (s n v e f g a b c k z : ℤ) → z ≡ pos 0 → n *ℤ v ≡ neg_ℤ (e *ℤ a +ℤ f *ℤ b +ℤ g *ℤ c) +ℤ k *ℤ z →
     s *ℤ n *ℤ v ≡ neg_ℤ (s *ℤ e) *ℤ a +ℤ neg_ℤ (s *ℤ f) *ℤ b +ℤ neg_ℤ (s *ℤ g) *ℤ c
 with_sign s n v e f g a b c k z hz h =

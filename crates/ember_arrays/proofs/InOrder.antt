@@ -1,15 +1,14 @@
 -- The surfaces of meshes, one after the other, and the scene of them
 use Rattle.std.proofs.Common.{◌≡◌, ℕ, ◌+◌, ◌<◌, List, [], ◌∷◌, ◌++◌, map, length, take, get_or, ap, refl, suc, sym, subst}
-use Rattle.std.specs.List.{All, AllZip}
+use Rattle.std.specs.List.{AllZip}
 use Rattle.std.proofs.lemmas.List.{take_more}
-use Rattle.std.proofs.lemmas.List.Elements.{All-push}
 use Rattle.ember_algebra.proofs.Lists.{AllZip-push}
 use Rattle.ember_model.specs.declared.tri.Tri.{Tri}
 use Rattle.ember_model.specs.Meshes.{IsScene}
 use Rattle.mesh_arrays.specs.Arrays.{IsSurfaceOf}
 use Rattle.mesh_arrays.specs.declared.mesh.ArrayMesh.{ArrayMesh}
 use Rattle.mesh_grid.specs.declared.grid.choice.Wanted.{Wanted}
-use Rattle.mesh_grid.specs.Grid.Grids.{IsGrid, IsWithinLimit}
+use Rattle.mesh_grid.specs.Grid.Grids.{IsGrid}
 use Rattle.mesh_grid.specs.Moves.Shown.{AreMoves}
 use Rattle.mesh_grid.specs.Snap.Steps.{IsStep}
 use Rattle.mesh_read.specs.declared.surface.surface.Surface.{Surface}
@@ -25,11 +24,6 @@ surfaces_more meshes i d before after surface l h p is =
     subst (λ ms. AllZip IsSurfaceOf ms after) (sym (take_more meshes i d l))
     (subst (AllZip IsSurfaceOf (take i meshes ++ get_or meshes i d ∷ [])) (sym p)
     (AllZip-push IsSurfaceOf (take i meshes) before (get_or meshes i d) surface h is))
-
--- surfaces within the limit, with one more
-pub within_more : (before after : List Surface) (surface : Surface) → All IsWithinLimit before →
-    after ≡ before ++ surface ∷ [] → IsWithinLimit surface → All IsWithinLimit after
-within_more before after surface h p q = subst (All IsWithinLimit) (sym p) (All-push IsWithinLimit before surface h q)
 
 -- there are as many surfaces as meshes
 pub surfaces_are_as_many : (meshes : List ArrayMesh) (surfaces : List Surface) → AreSurfacesOf meshes surfaces → length surfaces ≡ length meshes

@@ -8,14 +8,11 @@ use borrow.Author.Differences.{ints}
 use Rattle.ember_algebra.specs.Size.{Small}
 use Rattle.ember_algebra.proofs.Exact.{input, stored, ◌&◌, done, exact}
 use Rattle.ember_algebra.proofs.Laws.{linear}
-use Rattle.ember_algebra.proofs.Size.{small_within}
 use Rattle.ember_algebra.proofs.Ring.{solve, ◌⊕◌, ◌⊗◌, ◌≈◌, num, cancels}
 use Rattle.ember_model.specs.declared.point.Axis.{Axis}
 use Rattle.ember_model.specs.declared.point.Axis.TheVariants.{X, Y, Z}
-use Rattle.ember_box.specs.declared.aabb.Interval.{Interval}
-use Rattle.ember_box.specs.declared.aabb.Aabb.{Aabb}
 use Rattle.ember_box.specs.Boxes.{Cell, low, high, side, put, left_half, right_half, doubled, in_steps}
-use Rattle.ember_box.specs.Aabbs.{interval_between, most_wall, IsIntervalWithin, IsAabbWithin}
+use Rattle.ember_box.specs.Aabbs.{most_wall}
 
 -- ---- numbers
 twice : (m : ℕ) (x : ℤ) → pos m *ℤ x +ℤ pos m *ℤ x ≡ pos (2 * m) *ℤ x
@@ -49,11 +46,6 @@ low_in_steps n c k = grown (λ b. low b k) (low_doubled k) n c
 pub high_in_steps : (n : ℕ) (c : Cell) (k : Axis) → high (in_steps n c) k ≡ pos (2 ^ n) *ℤ high c k
 high_in_steps n c k = grown (λ b. high b k) (high_doubled k) n c
 
--- the interval of a box along an axis, in steps
-pub span_in_steps : (n : ℕ) (c : Cell) (k : Axis) → interval_between (pos (2 ^ n) *ℤ low c k) (pos (2 ^ n) *ℤ high c k)
-    ≡ interval_between (low (in_steps n c) k) (high (in_steps n c) k)
-span_in_steps n c k = λ i. interval_between (sym (low_in_steps n c k) i) (sym (high_in_steps n c k) i)
-
 -- ---- sizes
 -- a unit has at most 256 steps
 pub few_steps : {n : ℕ} → n ≤ 8 → 2 ^ n ≤ 256
@@ -65,13 +57,6 @@ unit_small e l = subst (λ z. Small 256 z) (sym e) (record { small = few_steps l
 -- 2048 units are at most 524,288 steps
 pub wall_steps : {n : ℕ} → n ≤ 8 → 2 ^ n * 2048 ≤ most_wall
 wall_steps {n} l = let f = few_steps l in omega (arith, f)
-
-interval_within : {m n : ℕ} {s : Interval} → m ≤ n → IsIntervalWithin m s → IsIntervalWithin n s
-interval_within l s = record { low = small_within l s.low; high = small_within l s.high }
-
--- a bounding box within a limit is within each greater one
-pub aabb_within : {m n : ℕ} {b : Aabb} → m ≤ n → IsAabbWithin m b → IsAabbWithin n b
-aabb_within l s = record { x = interval_within l s.x; y = interval_within l s.y; z = interval_within l s.z }
 
 -- ---- as the code reads them
 -- a coordinate that was taken in units, and passed on, in steps

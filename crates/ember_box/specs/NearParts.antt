@@ -1,5 +1,6 @@
 -- Which halves of a box along each axis a triangle is near, and what decides it
-use Rattle.std.specs.Prelude.{◌≡◌, ℕ, ◌*◌, ◌<◌, ℤ, ◌-ℤ◌, ◌*ℤ◌, neg_ℤ, false, if◌then◌else◌, List, length, slice_index_or}
+use Rattle.std.specs.Prelude.{◌≡◌, ℕ, ◌*◌, ◌<◌, ℤ, ◌-ℤ◌, ◌*ℤ◌, neg_ℤ, false, if◌then◌else◌, List, length}
+use Rattle.std.specs.Prelude.{slice_index_or}
 use Rattle.ember_algebra.specs.Size.{Small}
 use Rattle.ember_algebra.specs.Sign.{is_negative}
 use Rattle.ember_model.specs.declared.tri.Tri.{Tri}

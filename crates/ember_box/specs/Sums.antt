@@ -13,7 +13,8 @@ use Rattle.ember_box.specs.declared.aabb.Aabb.{Aabb}
 use Rattle.ember_box.specs.declared.half_boxes.HalfBoxes.{HalfBoxes}
 use Rattle.ember_box.specs.declared.sums.Sums.{Sums}
 use Rattle.ember_box.specs.Boxes.{Cell, low, left_half, right_half, in_steps}
-use Rattle.ember_box.specs.Aabbs.{aabb_of_cell, aabb_of_tri, contains_aabb, has_zero_extent, crosses, most_wall, IsAabbWithin}
+use Rattle.ember_box.specs.Aabbs.{aabb_of_cell, aabb_of_tri, contains_aabb, has_zero_extent, crosses, most_wall}
+use Rattle.ember_box.specs.Aabbs.{IsAabbWithin}
 use Rattle.ember_box.specs.Near.{is_near, near}
 use Rattle.ember_box.specs.Halving.{half_sum}
 

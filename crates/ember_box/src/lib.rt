@@ -26,6 +26,6 @@ pub use cell::{Cell, halves, root};
 pub use halved_box::{HalvedBox, halve_box, halve_box_among};
 pub use law::near_triangles_decide_the_halving;
 pub use nearness::{near_halves, near_list, near_list_among};
-pub use one_triangle::{near, near_tri};
+pub use one_triangle::near;
 pub use steps::lo_on;
 pub use sums::{halving, is_leaf, split_axis};

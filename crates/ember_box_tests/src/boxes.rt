@@ -2,10 +2,10 @@
 ghost use Rattle.std.specs.Prelude.{◌<◌, ◌≤◌, length};
 ghost use Rattle.ember_visit.specs.Jobs.{IsJob};
 
-use crate::scenes::{scene_of_files, soup_of};
+use crate::scenes::scene_of_files;
 use crate::texts::{APART, C, D, STAR, TETRA, TOUCHING};
 use ember_box::{
-    Cell, HalvedBox, halve_box, halves, halving, is_leaf, near_halves, near_list, near_tri, root,
+    Cell, HalvedBox, halve_box, halves, halving, is_leaf, near, near_halves, near_list, root,
     split_axis,
 };
 use ember_job::Job;
@@ -66,20 +66,22 @@ fn unit_box() -> Cell {
     c
 }
 
-// A triangle whose plane touches that box, one whose plane doesn't, and a flat one.
+// A triangle whose plane touches that box and its reverse, two whose plane doesn't, and a flat one.
 const BESIDE: &[u8] = b"\
-v 3 0 0\nv 0 3 0\nv 0 0 3\nv 4 0 0\nv 0 4 0\nv 0 0 4\nf 1 2 3\nf 4 5 6\nf 4 5 4\n";
+v 3 0 0\nv 0 3 0\nv 0 0 3\nv 4 0 0\nv 0 4 0\nv 0 0 4\n\
+f 1 2 3\nf 3 2 1\nf 4 5 6\nf 6 5 4\nf 4 5 4\n";
 
 #[test]
 fn a_plane_beside_a_box_keeps_its_triangle_away(rt: HostRuntime) -> Result<(), Fail> {
     let unit = unit_box();
     assert!(rt; unit.lo() == [0, 0, 0]);
-    let soup = soup_of(rt.alloc(), BESIDE, 1)?;
-    let tris = soup.tris.items();
-    assert!(rt; tris.len() == 3);
-    assert!(rt; near_tri(&unit, &tris[0]));
-    assert!(rt; !near_tri(&unit, &tris[1]));
-    assert!(rt; near_tri(&unit, &tris[2]));
+    let scene = scene_of_files(rt.alloc(), &[BESIDE])?;
+    assert!(rt; scene.tris.items().len() == 5);
+    assert!(rt; near(&scene, &unit, 0));
+    assert!(rt; near(&scene, &unit, 1));
+    assert!(rt; !near(&scene, &unit, 2));
+    assert!(rt; !near(&scene, &unit, 3));
+    assert!(rt; near(&scene, &unit, 4));
     Ok(())
 }
 

@@ -8,7 +8,8 @@ use crate::texts::C;
 use ember_algebra::Sign;
 use ember_box::{Cell, halves, root};
 use ember_model::{Axis, Plane, Scene, Vector};
-use ember_ref::{lex_side, shift, shift_listed};
+use ember_ref::{lex_side, shift, shift_listed_on};
+use ember_width::Narrow;
 use std::test::Fail;
 
 const DIAGONAL: Plane = Plane {
@@ -63,7 +64,7 @@ fn carried_by(s: &Scene, list: &[u32], c: &Cell) -> [i32; 3]
     requires side { 0 < c.now.log Axis.Z }
 {
     let mut v = Vector { counts: [0; 64] };
-    shift_listed(s.tris.items(), list, c, Axis::Z, &mut v);
+    shift_listed_on::<Narrow>(s.tris.items(), list, c, Axis::Z, &mut v);
     first_counts(&v)
 }
 

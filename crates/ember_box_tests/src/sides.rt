@@ -1,9 +1,5 @@
-// The winding numbers on both sides of regions, found in several ways.
-ghost use Rattle.std.specs.Prelude.{◌<◌, ◌≤◌, All, length};
-ghost use Rattle.ember_model.specs.Limits.{most_triangles};
-ghost use Rattle.ember_model.specs.Meshes.{HasMesh};
-ghost use Rattle.ember_model.specs.Valid.{IsValidTri};
-ghost use Rattle.ember_trace.specs.NearTriangles.{AreBoxCounts};
+// The winding numbers on both sides of regions, found in two ways.
+ghost use Rattle.std.specs.Prelude.{◌<◌, ◌≤◌, length};
 ghost use Rattle.ember_visit.specs.Jobs.{IsJob};
 
 use crate::scenes::{expression, scene_of_files};
@@ -16,55 +12,20 @@ use ember_leaf::Kept;
 use ember_model::{Axis, OutOfMemory, Scene, Tri, Vector};
 use ember_poly::{Ring, of_tri};
 use ember_step::{box_step, root_job};
-use ember_trace::{Sides, near_triangles, sides_beside, sides_traced, sides_whole};
+use ember_trace::{Sides, sides_traced, sides_whole};
 use ember_visit::listed_tris;
 use std::alloc::Global;
 use std::process::Abort;
 use std::test::Fail;
 
-// The sides of a region of a box: from the triangles near it, and from their facets.
-fn sides_near(
-    alloc: Global,
-    near: &[Tri],
-    c: &Cell,
-    v: &Vector,
-    ring: &Ring,
-) -> Result<(Sides, Sides), OutOfMemory>
-    requires valid { All IsValidTri near.now }
-    requires numbered { All (HasMesh 64) near.now }
-    requires few { length near.now ≤ most_triangles }
-    requires counts { AreBoxCounts v.now.counts }
-{
-    let traced = sides_traced(alloc, near, c, v, ring)?;
-    let found = near_triangles(alloc, near, c)?;
-    Ok((traced, sides_beside(found.as_slice(), c, v, ring)))
-}
-
-// The sides of a region of a leaf by these ways, and from all triangles of the scene.
-fn sides_by_each_way(
-    alloc: Global,
-    s: &Scene,
-    job: &Job,
-    ring: &Ring,
-) -> Result<[Sides; 3], OutOfMemory>
-    requires { IsJob s.now.tris job.now }
-{
-    let near = listed_tris(alloc, s.tris.items(), job.list.items())?;
-    let (traced, beside) = sides_near(alloc, &near, &job.cell, &job.at, ring)?;
-    let whole = sides_whole(alloc, s, ring)?;
-    Ok([traced, beside, whole])
-}
-
-// The sides of the region, or none if the ways differ.
+// The sides of the region, or none if they differ from those that all triangles of the scene give.
 fn sides_of(alloc: Global, s: &Scene, job: &Job, ring: &Ring) -> Result<Option<Sides>, OutOfMemory>
     requires { IsJob s.now.tris job.now }
 {
-    let [traced, beside, whole] = sides_by_each_way(alloc, s, job, ring)?;
-    Ok(if traced == beside && traced == whole {
-        Some(traced)
-    } else {
-        None
-    })
+    let near = listed_tris(alloc, s.tris.items(), job.list.items())?;
+    let traced = sides_traced(alloc, &near, &job.cell, &job.at, ring)?;
+    let whole = sides_whole(alloc, s, ring)?;
+    Ok(if traced == whole { Some(traced) } else { None })
 }
 
 fn one_count(count: i32) -> Vector {

@@ -8,7 +8,8 @@ use ember_expr::Expr;
 use ember_gen::scene_of;
 use ember_job::Job;
 use ember_model::{Axis, OutOfMemory, Scene, Tri};
-use ember_visit::{box_value, halve_job, halve_unless_leaf, listed_tris, root_job};
+use ember_visit::{box_value, halve_job, halve_unless_leaf_among, listed_tris, root_job};
+use ember_width::Narrow;
 use std::alloc::Global;
 use std::test::Fail;
 
@@ -102,7 +103,7 @@ fn halves_unless_leaf(
 ) -> Result<Option<(Job, Job)>, OutOfMemory>
     requires { IsJob s.now.tris job.now }
 {
-    halve_unless_leaf(alloc, s, job)
+    halve_unless_leaf_among::<Narrow>(alloc, s.tris.items(), job)
 }
 
 // Whether the root over these files is a leaf.

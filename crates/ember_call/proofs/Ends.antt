@@ -1,8 +1,9 @@
 -- How a call of `ember` ends over lent files, if no memory was lacking
 use Rattle.std.proofs.Common.{◌≡◌, ◌≢◌, ◌<◌, ℕ, List, [], map, Some, sym, ap, ◌∙◌, subst, arith, unwrap_or, inl, inr}
 use Rattle.std.specs.declared.option.Option.{Option}
+use Rattle.ember_io.specs.declared.shelf.FaultKind.TheVariants.{NotFound}
 use Rattle.ember_run.specs.Serves.{Serves}
-use Rattle.ember_verdict.specs.Devices.{ShelfCall, SinkCall, shelf_call, sink_call}
+use Rattle.ember_io.specs.Calls.{ShelfCall, SinkCall, shelf_call, sink_call}
 use Rattle.ember_verdict.specs.Lines.{number_of}
 use Rattle.ember_verdict.specs.Statuses.{IsText}
 use Rattle.ember_verdict.specs.Verdict.{names_of, told_verdict, verdict_of}
@@ -17,7 +18,7 @@ use Rattle.ember_call.specs.Taken.{GrownState}
 use Rattle.ember_call.proofs.Known.{AreThere, contents_are_known, is_done, named_files_are_there}
 
 -- a sink that took these bytes, and failed as often as this
-abbrev sink_after : List ℕ → ℕ → ℕ → SinkCall
+abbrev pub sink_after : List ℕ → ℕ → ℕ → SinkCall
 sink_after bytes flushed faults = record {
   taken = Some [];
   taken_after = Some bytes;
@@ -37,7 +38,8 @@ new_sink = record { bytes = []; flushed = 0; faults = 0 }
 -- what a call saw of them
 abbrev pub lent_call : LentState → LentState → ShelfCall
 lent_call old new =
-    shelf_call (λ (s : LentState). contents_of s.files) (λ (s : LentState). s.faults) (λ (s : LentState). s.fault_at) old new
+    shelf_call (λ (s : LentState). contents_of s.files) (λ (s : LentState). s.faults) (λ (s : LentState). s.fault_at)
+    (λ (s : LentState). NotFound) old new
 
 abbrev pub grown_call : GrownState → GrownState → SinkCall
 grown_call old new =
@@ -46,13 +48,13 @@ grown_call old new =
 -- what is promised of devices that had no fault, and of a shelf that has what it had
 pub serves_over : (command : Option Command) (files : List (List ℕ × List ℕ)) (after : List ℕ → Option (List ℕ)) (faults fault_at : ℕ)
     (out err : List ℕ) (out_flushed err_flushed out_faults err_faults : ℕ) (s : Status) → out_faults ≡ 0 → err_faults ≡ 0
-    → Serves command (record { told = contents_of files; told_after = after; faults = 0; faults_after = faults; fault_at = fault_at })
+    → Serves command (record { told = contents_of files; told_after = after; faults = 0; faults_after = faults; fault_at = fault_at; fault_kind = NotFound })
     (sink_after out out_flushed out_faults) (sink_after err err_flushed err_faults) s
     → Serves command (shelf_over files faults fault_at) (sink_with out out_flushed) (sink_with err err_flushed) s
 serves_over command files after faults fault_at out err out_flushed err_flushed out_faults err_faults s o e h =
     subst (λ n. Serves command (shelf_over files faults fault_at) (sink_with out out_flushed) (sink_after err err_flushed n) s) e
     (subst (λ n. Serves command (shelf_over files faults fault_at) (sink_after out out_flushed n) (sink_after err err_flushed err_faults) s) o
-    (subst (λ told. Serves command (record { told = contents_of files; told_after = told; faults = 0; faults_after = faults; fault_at = fault_at })
+    (subst (λ told. Serves command (record { told = contents_of files; told_after = told; faults = 0; faults_after = faults; fault_at = fault_at; fault_kind = NotFound })
     (sink_after out out_flushed out_faults) (sink_after err err_flushed err_faults) s) h.contents h))
 
 -- a call over new devices whose sinks had no fault has this outcome

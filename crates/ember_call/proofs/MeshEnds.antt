@@ -9,7 +9,8 @@ use Rattle.mesh_outside.specs.Target.Several.{NamedBytes, names_and_bytes}
 use Rattle.mesh_refusal.specs.Numbers.{document_number, number_of, uncut_number}
 use Rattle.mesh_refusal.specs.declared.status.Status.{Status}
 use Rattle.mesh_refusal.specs.declared.status.Status.TheVariants as status
-use Rattle.mesh_run.specs.Calls.{ShelfCall, SinkCall, TakesUntilFault, TargetCall, shelf_call, sink_call, target_call}
+use Rattle.ember_io.specs.Calls.{TakesUntilFault}
+use Rattle.mesh_run.specs.Calls.{TargetCall, target_call}
 use Rattle.mesh_run.specs.Serves.{IsOutcome, IsSent, MeshServes}
 use Rattle.mesh_solid.specs.declared.mesh.fault.DocumentFault.{DocumentFault}
 use Rattle.mesh_solid.specs.declared.mesh.fault.DocumentFault.TheVariants as document
@@ -23,21 +24,13 @@ use Rattle.ember_call.specs.declared.outcome.Outcome.{Outcome}
 use Rattle.ember_call.specs.Lent.{LentState, contents_of}
 use Rattle.ember_call.specs.MeshCalls.{HasSolid, HaveNoFault, IsMeshDone, IsMeshOutcome, IsOutcomeOver, IsOutcomeWith, IsRefusal}
 use Rattle.ember_call.specs.MeshCalls.{MeshEndsWith}
-use Rattle.ember_call.specs.MeshCalls.{mesh_shelf_over, mesh_sink_with, target_with}
+use Rattle.ember_call.specs.Calls.{shelf_over, sink_with}
+use Rattle.ember_call.specs.MeshCalls.{target_with}
 use Rattle.ember_call.specs.Taken.{GrownState, HaveOwnNames, TakenState, held_by}
-use Rattle.ember_call.proofs.Ends.{new_shelf, new_sink}
+use Rattle.ember_call.proofs.Ends.{new_shelf, new_sink, sink_after, lent_call, grown_call}
 use Rattle.ember_call.proofs.MeshKnown.{told_files_are_there}
 
--- devices that failed as often as this
-abbrev sink_after : List ℕ → ℕ → ℕ → SinkCall
-sink_after bytes flushed faults = record {
-  taken = Some [];
-  taken_after = Some bytes;
-  flushed = flushed;
-  faults = 0;
-  faults_after = faults;
-}
-
+-- a target that failed as often as this
 abbrev target_after : List NamedBytes → Option (List ℕ) → ℕ → TargetCall
 target_after files begun faults = record {
   held = held_by [];
@@ -64,13 +57,13 @@ ends_over words files after faults fault_at written begun out err out_flushed er
       fault_at = fault_at;
       out_flushed = out_flushed;
       outcome =
-          subst (λ said. IsOutcome (words_ask_json words) words (command_of words) (mesh_shelf_over files faults fault_at) (target_with written)
-          (mesh_sink_with out out_flushed) s said) (sym (all_is_said h.text err err_flushed err_faults e h.said))
-          (subst (λ n. IsOutcome (words_ask_json words) words (command_of words) (mesh_shelf_over files faults fault_at) (target_with written)
+          subst (λ said. IsOutcome (words_ask_json words) words (command_of words) (shelf_over files faults fault_at) (target_with written)
+          (sink_with out out_flushed) s said) (sym (all_is_said h.text err err_flushed err_faults e h.said))
+          (subst (λ n. IsOutcome (words_ask_json words) words (command_of words) (shelf_over files faults fault_at) (target_with written)
           (sink_after out out_flushed n) s h.text) o
-          (subst (λ n. IsOutcome (words_ask_json words) words (command_of words) (mesh_shelf_over files faults fault_at) (target_after written None n)
+          (subst (λ n. IsOutcome (words_ask_json words) words (command_of words) (shelf_over files faults fault_at) (target_after written None n)
           (sink_after out out_flushed out_faults) s h.text) t
-          (subst (λ b. IsOutcome (words_ask_json words) words (command_of words) (mesh_shelf_over files faults fault_at) (target_after written b target_faults)
+          (subst (λ b. IsOutcome (words_ask_json words) words (command_of words) (shelf_over files faults fault_at) (target_after written b target_faults)
           (sink_after out out_flushed out_faults) s h.text) h.none_begun
           (subst (λ told. IsOutcome (words_ask_json words) words (command_of words)
           (record { told = contents_of files; told_after = told; faults = 0; faults_after = faults; fault_at = fault_at; fault_kind = NotFound })
@@ -83,19 +76,10 @@ ends_over words files after faults fault_at written begun out err out_flushed er
 abbrev pub new_target : TakenState
 new_target = record { files = []; begun = None; faults = 0 }
 
--- what a call saw of its devices
-abbrev pub lent_call : LentState → LentState → ShelfCall
-lent_call old new =
-    shelf_call (λ (s : LentState). contents_of s.files) (λ (s : LentState). s.faults) (λ (s : LentState). s.fault_at)
-    (λ (s : LentState). NotFound) old new
-
+-- what a call saw of it
 abbrev pub taken_call : TakenState → TakenState → TargetCall
 taken_call old new =
     target_call (λ (s : TakenState). held_by s.files) (λ (s : TakenState). s.begun) (λ (s : TakenState). s.faults) old new
-
-abbrev pub grown_call : GrownState → GrownState → SinkCall
-grown_call old new =
-    sink_call (λ (s : GrownState). Some s.bytes) (λ (s : GrownState). s.flushed) (λ (s : GrownState). s.faults) old new
 
 -- a call over new devices, of which only the shelf had faults, ends so
 call_ends : (words : List (List ℕ)) (files : List (List ℕ × List ℕ)) (s : Status) (shelf after : LentState)
@@ -209,7 +193,7 @@ is_done (status.Uncertified fault) e = absurd (cc)
 -- ---- a Boolean that is done
 -- standard output has what was sent to it, and nothing else; and what is said is the report
 sent_is_taken : (json : Bool) (sent : Option (List ℕ)) (report said bytes : List ℕ) (flushed : ℕ) →
-    IsSent json sent report (mesh_sink_with bytes flushed) status.Done said → (bytes ≡ unwrap_or sent []) × (said ≡ report)
+    IsSent json sent report (sink_with bytes flushed) status.Done said → (bytes ≡ unwrap_or sent []) × (said ≡ report)
 sent_is_taken json None report said bytes flushed h = (ap (λ o. unwrap_or o []) h.2, h.1)
 sent_is_taken json (Some mesh) report said bytes flushed h = (h.0.taken, h.1)
 
@@ -217,8 +201,8 @@ done_has_solid : (words : List (List ℕ)) (files : List (List ℕ × List ℕ))
     → command_of words ≡ Ok (Boole request) → HasSolid (words_ask_json words) request files outcome
 done_has_solid words files outcome request is e =
     let ends = is.ends in
-    let made = subst (λ c. IsOutcome (words_ask_json words) words c (mesh_shelf_over files ends.faults ends.fault_at)
-    (target_with (names_and_bytes outcome.files.items)) (mesh_sink_with outcome.out.items ends.out_flushed)
+    let made = subst (λ c. IsOutcome (words_ask_json words) words c (shelf_over files ends.faults ends.fault_at)
+    (target_with (names_and_bytes outcome.files.items)) (sink_with outcome.out.items ends.out_flushed)
     status.Done outcome.err.items) e ends.outcome in
     let puts = made.puts in
     let taken = sent_is_taken (words_ask_json words) made.sent made.report outcome.err.items outcome.out.items ends.out_flushed made.is_sent in

@@ -13,7 +13,7 @@ use Rattle.std.proofs.lemmas.Slice.Eq.{bytes_eq-Decides}
 use Rattle.ember_io.specs.Files.{first_of}
 use Rattle.mesh_outside.specs.declared.target.several.NamedFile.{NamedFile}
 use Rattle.mesh_outside.specs.Target.Several.{NamedBytes, names_and_bytes}
-use Rattle.mesh_outside.specs.Target.Targets.{Grows, Moves, Puts}
+use Rattle.mesh_outside.specs.Target.Targets.{Grows, Moves}
 use Rattle.ember_call.specs.Taken.{HaveOwnNames, IsIndexOf, IsWithout, held_by, with_new}
 
 -- ---- the first file of a name
@@ -98,15 +98,6 @@ own_names_behind (file ∷ files) name bytes own none = (
 )
 
 -- ---- a new file
--- none is begun
-pub none_is_begun : (new : Option NamedFile) → option_map (λ (file : NamedFile). string_bytes file.name) new ≡ None → new ≡ None
-none_is_begun None e = refl
-none_is_begun (Some file) e = absurd (cc)
-
--- it is begun
-pub new_file_is_put : (kept : List NamedBytes) (path : List ℕ) → Puts (held_by kept) (held_by ((path, []) ∷ kept)) path (Some [])
-new_file_is_put kept path =
-    (first_has (path, []) kept path refl, λ other n. first_has_another (path, []) kept other (λ same. n (sym same)))
 
 -- it takes bytes
 pub new_file_grows : (kept : List NamedBytes) (path bytes piece : List ℕ)
@@ -117,12 +108,6 @@ new_file_grows kept path bytes piece = (
   λ other n. first_has_another (path, bytes ++ piece) kept other (λ same. n (sym same))
       ∙ sym (first_has_another (path, bytes) kept other (λ same. n (sym same))),
 )
-
--- it is discarded
-pub new_file_is_removed : (kept : List NamedBytes) (path bytes : List ℕ) → HaveOwnNames ((path, bytes) ∷ kept)
-    → Puts (held_by ((path, bytes) ∷ kept)) (held_by kept) path None
-new_file_is_removed kept path bytes own =
-    (own.0, λ other n. sym (first_has_another (path, bytes) kept other (λ same. n (sym same))))
 
 -- it takes the name of a file that was removed
 pub new_file_is_kept : (kept without : List NamedBytes) (path bytes name : List ℕ) → HaveOwnNames ((path, bytes) ∷ kept) →

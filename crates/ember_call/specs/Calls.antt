@@ -4,10 +4,11 @@ use Rattle.ember_call.specs.declared.outcome.Outcome.{Outcome}
 use Rattle.ember_call.specs.Lent.{contents_of}
 use Rattle.ember_call.specs.Outcomes.{LacksMemory, LacksText}
 use Rattle.ember_call.specs.Taken.{GrownState}
+use Rattle.ember_io.specs.declared.shelf.FaultKind.TheVariants.{NotFound}
 use Rattle.ember_obj.specs.declared.fault.ObjFault.{ObjFault}
 use Rattle.ember_obj.specs.declared.fault.ObjFault.TheVariants as obj
 use Rattle.ember_run.specs.Serves.{Serves}
-use Rattle.ember_verdict.specs.Devices.{ShelfCall, SinkCall}
+use Rattle.ember_io.specs.Calls.{ShelfCall, SinkCall}
 use Rattle.ember_verdict.specs.Lines.{number_of}
 use Rattle.ember_verdict.specs.declared.status.FaceFault.TheVariants.{Endless}
 use Rattle.ember_verdict.specs.declared.status.LimitKind.TheVariants.{Bytes}
@@ -51,6 +52,7 @@ shelf_over files faults fault_at = record {
   faults = 0;
   faults_after = faults;
   fault_at = fault_at;
+  fault_kind = NotFound;
 }
 
 -- a stream that took these bytes, and never failed

@@ -1,13 +1,13 @@
 -- What a call of `ember-mesh` gives
-use Rattle.std.specs.Prelude.{◌≡◌, ◌≢◌, ◌⊎◌, Bool, ℕ, ◌+◌, ◌-◌, ◌^◌, min, List, [], All, IsSome, None, Some, false}
+use Rattle.std.specs.Prelude.{◌≡◌, ◌≢◌, ◌⊎◌, Bool, ℕ, ◌+◌, ◌-◌, ◌^◌, min, List, [], All, IsSome, None, false}
 use Rattle.std.specs.Prelude.{Vec, unwrap_or}
 use Rattle.std.specs.declared.alloc.Global.{Global}
 use Rattle.ember_call.specs.declared.outcome.Outcome.{Outcome}
+use Rattle.ember_call.specs.Calls.{shelf_over, sink_with}
 use Rattle.ember_call.specs.Lent.{contents_of}
 use Rattle.ember_call.specs.Outcomes.{LacksMemory, LacksText}
 use Rattle.ember_call.specs.Taken.{GrownState, HaveOwnNames, TakenState, held_by}
 use Rattle.ember_io.specs.Files.{first_of}
-use Rattle.ember_io.specs.declared.shelf.FaultKind.TheVariants.{NotFound}
 use Rattle.mesh_boolean.specs.declared.output.SolidFile.{SolidFile}
 use Rattle.mesh_outside.specs.declared.target.several.NamedFile.{NamedFile}
 use Rattle.mesh_outside.specs.Target.Several.{NamedBytes, PutsEach, names_and_bytes}
@@ -16,7 +16,7 @@ use Rattle.mesh_report.specs.Said.{solid_report}
 use Rattle.mesh_refusal.specs.declared.status.Status.{Status}
 use Rattle.mesh_refusal.specs.declared.status.Status.TheVariants.{Done, ReadFault, FileRefused, NotAScene}
 use Rattle.mesh_refusal.specs.declared.status.Status.TheVariants.{NotClosed, LongFile}
-use Rattle.mesh_run.specs.Calls.{ShelfCall, SinkCall, TargetCall}
+use Rattle.mesh_run.specs.Calls.{TargetCall}
 use Rattle.mesh_run.specs.Memory.{hides_memory}
 use Rattle.mesh_run.specs.Outputs.{IsOutputFor}
 use Rattle.mesh_run.specs.Serves.{IsOutcome}
@@ -41,33 +41,12 @@ mesh_place_of (NotClosed hole format) = hole.place
 mesh_place_of _ = 0
 
 -- ---- what a call saw
--- these files: as often as this, no file had a name that was asked for, the last time under this number
-abbrev pub mesh_shelf_over : List (List ℕ × List ℕ) → ℕ → ℕ → ShelfCall
-mesh_shelf_over files faults fault_at = record {
-  told = contents_of files;
-  told_after = contents_of files;
-  faults = 0;
-  faults_after = faults;
-  fault_at = fault_at;
-  fault_kind = NotFound;
-}
-
 -- a target that had no file, took these, and never failed
 abbrev pub target_with : List NamedBytes → TargetCall
 target_with files = record {
   held = held_by [];
   held_after = held_by files;
   begun = None;
-  faults = 0;
-  faults_after = 0;
-}
-
--- a stream that took these bytes, and never failed
-abbrev pub mesh_sink_with : List ℕ → ℕ → SinkCall
-mesh_sink_with bytes flushed = record {
-  taken = Some [];
-  taken_after = Some bytes;
-  flushed = flushed;
   faults = 0;
   faults_after = 0;
 }
@@ -79,8 +58,8 @@ pub record MeshEndsWith (words : List (List ℕ)) (files : List (List ℕ × Lis
   pub faults : ℕ
   pub fault_at : ℕ
   pub out_flushed : ℕ
-  pub outcome : IsOutcome (words_ask_json words) words (command_of words) (mesh_shelf_over files faults fault_at)
-      (target_with written) (mesh_sink_with out out_flushed) status said
+  pub outcome : IsOutcome (words_ask_json words) words (command_of words) (shelf_over files faults fault_at)
+      (target_with written) (sink_with out out_flushed) status said
   pub memory : hides_memory status ≡ false
 
 -- it does what the words ask for
@@ -153,7 +132,8 @@ IsMeshOutcome words files outcome = IsMeshDone words files outcome ⊎
 -- ---- a Boolean
 -- all files of the request are there; the files of the solid that it asks for are written, and nothing else; and
 -- standard error has the report, as lines or as an object
-pub record HasSolid (json : Bool) (request : Request) (files : List (List ℕ × List ℕ)) (outcome : Outcome) : Type 0 where
+pub record HasSolid (json : Bool) (request : Request) (files : List (List ℕ × List ℕ))
+    (outcome : Outcome) : Type 0 where
   pub there : All (λ name. IsSome (first_of files name)) request.files
   pub output : SolidFile
   pub is_output : IsOutputFor request (contents_of files) output

@@ -108,7 +108,8 @@ pub fn command(alloc: Global, words: &[Lent], files: &[LentFile]) -> Outcome
     ensures there { result.status ≡ 0 → All (λ name. IsSome (first_of (named_bytes files.now) name))
         (names_of (command_of (word_bytes words.now))) }
     ensures output { result.status ≡ 0 →
-        IsText (told_verdict (command_of (word_bytes words.now)) (contents_of (named_bytes files.now))) result.out.items }
+        IsText (told_verdict (command_of (word_bytes words.now))
+        (contents_of (named_bytes files.now))) result.out.items }
 
     ensures nothing { result.status ≢ 0 → result.out.items ≡ [] }
     ensures no_files { result.files.items ≡ [] }

@@ -19,7 +19,7 @@ use Rattle.ember_model.specs.Faces.{is_flat}
 use Rattle.ember_model.specs.Owners.{spot_of_corner, lies_in_plane_of, is_coplanar}
 use Rattle.ember_model.specs.Edges.{normal}
 use Rattle.ember_model.proofs.SignTests.{zero_out, clash}
-use Rattle.ember_model.proofs.Tuples.{plane_tuple, spot_tuple}
+use Rattle.ember_model.proofs.Tuples.{plane_tuple, spot_tuple, cornerE}
 use Rattle.ember_coplanar.specs.TrianglePlane.{LiesOn}
 
 -- ---- vectors: what is orthogonal to two sides is so to all that is orthogonal to their normal
@@ -29,9 +29,6 @@ both_orthogonal =
     identity (vector ∷ vector ∷ vector ∷ vector ∷ [])
     (λ p e f q. dotE (crossE e f) (crossE e f) ⊗ dotE p q ≈ dotE p (crossE e f) ⊗ dotE (crossE e f) q ⊕ dotE p e ⊗
     dotE f (crossE (crossE e f) q) ⊖ dotE p f ⊗ dotE e (crossE (crossE e f) q)) cancels
-
-abbrev cornerE : VectorE → TupleE
-cornerE c = record { x = c.x; y = c.y; z = c.z; w = num (pos 1) }
 
 -- how far v is from the corner, times the weight of v
 abbrev away : Corner → Spot → Vector

@@ -2,7 +2,7 @@
 use Rattle.std.specs.List.{list_all}
 use Rattle.std.proofs.Common.{Bool, true, false, ◌&&◌, take, ◌≡◌, ◌<◌, ℕ, zero, suc, length, drop, get_or, ◌+◌, ◌-◌}
 use Rattle.std.proofs.Common.{◌*◌, min, List, [], ◌∷◌, ◌++◌, replicate, refl, ◌∙◌, sym, ap, arith}
-use Rattle.ember_dec.specs.Decimal.{number_from}
+use Rattle.ember_dec.specs.Digits.{number_from}
 use Rattle.ember_dec.proofs.Numbers.{number_from-append, number_from-drop}
 
 -- two numbers that are equal up to the limit stay so as digits are appended

@@ -1,6 +1,6 @@
 -- The number that decimal digits spell.
 use Rattle.std.proofs.Common.{◌≡◌, ◌≤◌, ◌<◌, ℕ, zero, suc, length, drop, get_or, ◌+◌, ◌-◌, ◌*◌, List, [], ◌∷◌, ◌++◌, refl, arith}
-use Rattle.ember_dec.specs.Decimal.{number_from}
+use Rattle.ember_dec.specs.Digits.{number_from}
 
 -- reading two lists of digits is reading the first and then the second
 pub number_from-append : (v : ℕ) (xs ys : List ℕ) → number_from v (xs ++ ys) ≡ number_from (number_from v xs) ys

@@ -1,16 +1,12 @@
 -- A coordinate's text, and its value in units of 10^-places.
-use Rattle.std.specs.Prelude.{ℕ, ◌+◌, ◌-◌, ◌*◌, Bool, false, ◌&&◌, ◌||◌, List, [], ◌∷◌, ◌++◌}
+use Rattle.std.specs.Prelude.{ℕ, ◌+◌, ◌-◌, Bool, false, ◌&&◌, ◌||◌, List, [], ◌∷◌, ◌++◌}
 use Rattle.std.specs.Prelude.{if◌then◌else◌, ◌==◌, nat_lt, nat_le, length, take, drop, replicate, ℤ, pos}
 use Rattle.std.specs.Prelude.{neg_ℤ, Result, Ok, Err}
 use Rattle.std.specs.List.{list_all}
 use Rattle.std.specs.Char.{is_ascii_digit}
+use Rattle.ember_dec.specs.Digits.{number_from}
 use Rattle.ember_dec.specs.declared.DecFault.{DecFault}
 use Rattle.ember_dec.specs.declared.DecFault.TheVariants.{Malformed, Fraction, Range}
-
--- `start` followed by these decimal digits, as a number
-abbrev pub number_from : ℕ → List ℕ → ℕ
-number_from start [] = start
-number_from start (d ∷ ds) = number_from (start * 10 + (d - 48)) ds
 
 -- whether the text begins with a minus
 abbrev pub is_minus : List ℕ → Bool

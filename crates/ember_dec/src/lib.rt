@@ -1,11 +1,15 @@
-//! Reads decimal coordinates.
+//! Reads decimal digits and decimal coordinates.
 #![tactic(auto)]
 
-ghost use Rattle.std.specs.Prelude.{◌≡◌, ◌≤◌, length, min, true, drop, take, replicate, ◌==◌};
+ghost use Rattle.std.specs.Prelude.{◌≡◌, ◌≤◌, min, true, drop, take, replicate, ◌==◌};
 ghost use Rattle.std.specs.List.{list_all};
 ghost use Rattle.std.specs.Char.{is_ascii_digit};
-ghost use Rattle.ember_dec.specs.Decimal.{before_point, behind_point, number_from, units, value_in_units, coordinate_of};
+ghost use Rattle.ember_dec.specs.Digits.{number_from};
+ghost use Rattle.ember_dec.specs.Decimal.{before_point, behind_point, units, value_in_units, coordinate_of};
 
+mod digits;
+
+pub use digits::{append_digits, are_digits, split_digits};
 use thiserror::Error;
 
 /// Why a text is no coordinate, numbered from 1 in the order in which the faults are looked for.
@@ -24,14 +28,7 @@ pub enum DecFault {
 }
 
 // The least size that is out of range.
-const LIMIT: u32 = 2048;
-
-// Whether all bytes are decimal digits.
-fn are_digits(text: &[u8]) -> bool
-    ensures { result ≡ list_all is_ascii_digit text.now }
-{
-    text.iter().all(|b| b.is_ascii_digit())
-}
+const LIMIT: u64 = 2048;
 
 // Whether all bytes are the digit 0.
 fn are_zeros(text: &[u8]) -> bool
@@ -40,23 +37,8 @@ fn are_zeros(text: &[u8]) -> bool
     text.iter().all(|b| *b == b'0')
 }
 
-// `start` followed by these digits, as a number, or the limit if the number is above it.
-#[tactic(auto, using(crate::proofs::Capped::number_from_capped))]
-fn append_digits(start: u32, digits: &[u8]) -> u32
-    requires digits { list_all is_ascii_digit digits.now ≡ true }
-    requires small { start ≤ LIMIT }
-    ensures value { result ≡ min LIMIT (number_from start digits.now) }
-    ensures small { result ≤ LIMIT }
-{
-    let mut value = start;
-    for digit in digits {
-        value = (value * 10 + u32::from(*digit - b'0')).min(LIMIT);
-    }
-    value
-}
-
 // `start` followed by this many zeros, as a number, or the limit if the number is above it.
-fn append_zeros(start: u32, count: usize) -> u32
+fn append_zeros(start: u64, count: usize) -> u64
     requires { start ≤ LIMIT }
     ensures value { result ≡ min LIMIT (number_from start (replicate count 48)) }
     ensures small { result ≤ LIMIT }
@@ -83,13 +65,13 @@ fn split_places(fraction: &[u8], places: usize) -> (&[u8], &[u8])
 // The size in units of the number with these digits before and after the point, or the limit if the
 // size is above it.
 #[tactic(auto, using(crate::proofs::Capped::capped_parts))]
-fn capped_units(places: usize, whole: &[u8], fraction: &[u8]) -> u32
+fn capped_units(places: usize, whole: &[u8], fraction: &[u8]) -> u64
     requires whole { list_all is_ascii_digit whole.now ≡ true }
     requires fraction { list_all is_ascii_digit fraction.now ≡ true }
     ensures { result ≡ min LIMIT (units places whole.now fraction.now) }
 {
-    let value = append_digits(0, whole);
-    let value = append_digits(value, split_places(fraction, places).0);
+    let value = append_digits(0, whole, LIMIT);
+    let value = append_digits(value, split_places(fraction, places).0, LIMIT);
     append_zeros(value, places.saturating_sub(fraction.len()))
 }
 

@@ -19,7 +19,7 @@ use Rattle.ember_expr.specs.FirstBadToken.{IsPrefix}
 use Rattle.ember_expr.specs.FirstFault.{HasLargeNumber, NamesNoMesh, Opens, IsShallowPrefix, IsOverLimit}
 use Rattle.ember_expr.specs.FirstFault.{HasFaultNext, AreFaultless, IsFirstFault, HasFault}
 use Rattle.ember_expr.proofs.Complete.{every_after}
-use Rattle.ember_expr.proofs.OneTree.{parsed_has_tree, unplaced, whole_not_deep}
+use Rattle.ember_expr.proofs.OneTree.{parsed_has_tree, unplaced, whole_not_deep, err_same}
 use Rattle.ember_expr.proofs.Stops.{SameFirst, IsNextAtFault, IsUpToOdd, allowed_words, Completes}
 use Rattle.ember_expr.proofs.TreeStops.{IsPhrase}
 use Rattle.ember_expr.proofs.FirstBadToken.{StopsShort, whole_stops, words_are_prefix, none_goes_on, place_here}
@@ -135,9 +135,6 @@ as_fault text meshes (fault.Number place) h = h
 as_fault text meshes Long h = absurd (none_is_long (length text) meshes (words h.before) h.rest h.here)
 as_fault text meshes OutOfMemory h = h
 
-error_same : (a b : ExprFault) → ◌≡◌ {A = Result Formula ExprFault} (Err a) (Err b) → a ≡ b
-error_same a b e = cc
-
 fault_by : (text : List ℕ) (meshes : ℕ) (fault : ExprFault) (short : Bool) → nat_le (length text) 4096 ≡ short →
     ◌≡◌ {A = Result Formula ExprFault} (if short then whole (record { meshes = meshes; end = length text }) 64
     (tokens_of text) else Err Long) (Err fault) → HasFault text meshes fault
@@ -146,7 +143,7 @@ fault_by text meshes fault true short e =
     (whole_stops (record { meshes = meshes; end = length text }) 64 (tokens_of text) fault e))
 fault_by text meshes fault false short e =
     let long : 4096 < length text = search (rules, short) in
-    subst (HasFault text meshes) (error_same Long fault e) long
+    subst (HasFault text meshes) (err_same Long fault e) long
 
 -- the fault of a text is at its first token that has one
 pub fault_is_first : (text : List ℕ) (meshes : ℕ) (fault : ExprFault) → expr_of text meshes ≡ Err fault → HasFault text meshes fault

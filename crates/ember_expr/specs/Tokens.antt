@@ -1,6 +1,7 @@
 -- The tokens of a text: at each place the longest one, and spaces between tokens
-use Rattle.std.specs.Prelude.{ℕ, zero, suc, ◌+◌, ◌-◌, ◌*◌, ◌==◌, min, ◌&&◌, if◌then◌else◌, List, [], ◌∷◌, length}
+use Rattle.std.specs.Prelude.{ℕ, zero, suc, ◌+◌, ◌-◌, ◌==◌, min, ◌&&◌, if◌then◌else◌, List, [], ◌∷◌, length}
 use Rattle.std.specs.Char.{is_ascii_digit}
+use Rattle.ember_dec.specs.Digits.{number_from, digits_of}
 use Rattle.ember_expr.specs.declared.trees.Rel.{Rel}
 use Rattle.ember_expr.specs.declared.trees.Rel.TheVariants.{Less, LessEqual, Equal, NotEqual, GreaterEqual, Greater}
 use Rattle.ember_expr.specs.declared.token.Word.{Word}
@@ -10,19 +11,9 @@ use Rattle.ember_expr.specs.declared.token.Word.TheVariants.{Wind, Unknown}
 use Rattle.ember_expr.specs.declared.token.Token.{Token}
 use Rattle.ember_expr.specs.declared.token.Lexeme.{Lexeme}
 
--- the digits at the front
-abbrev pub digit_run : List ℕ → List ℕ
-digit_run [] = []
-digit_run (b ∷ bs) = if is_ascii_digit b then b ∷ digit_run bs else []
-
--- the value of the digits so far and those that follow
-abbrev pub value_from : ℕ → List ℕ → ℕ
-value_from start [] = start
-value_from start (d ∷ ds) = value_from (start * 10 + (d - 48)) ds
-
 -- 1,000,001 for each number above 1,000,000
-abbrev pub number_from : ℕ → List ℕ → ℕ
-number_from start bs = min 1000001 (value_from start (digit_run bs))
+abbrev pub capped_number : ℕ → List ℕ → ℕ
+capped_number start bs = min 1000001 (number_from start (digits_of bs))
 
 abbrev pub unknown : Lexeme
 unknown = record { word = Unknown; bytes_after = 0 }
@@ -53,9 +44,9 @@ sign_of b =
 -- the longest token at the front of a text, by its first byte: 109 is `m`, 119 `w`, 111 `o`, 33 `!`, 60 `<`, 62 `>`
 abbrev pub lexeme_of : ℕ → List ℕ → Lexeme
 lexeme_of b bs =
-    if is_ascii_digit b then record { word = Number (number_from (b - 48) bs); bytes_after = length (digit_run bs) }
-    else if b == 109 then named_by (Mesh (number_from 0 bs)) (length (digit_run bs)) else if b == 119
-    then named_by (Wind (number_from 0 bs)) (length (digit_run bs)) else if b == 111 then odd_in bs
+    if is_ascii_digit b then record { word = Number (capped_number (b - 48) bs); bytes_after = length (digits_of bs) }
+    else if b == 109 then named_by (Mesh (capped_number 0 bs)) (length (digits_of bs)) else if b == 119
+    then named_by (Wind (capped_number 0 bs)) (length (digits_of bs)) else if b == 111 then odd_in bs
     else if b == 33 then before_equals Bang NotEqual bs else if b == 60
     then before_equals (Compare Less) LessEqual bs else if b == 62
     then before_equals (Compare Greater) GreaterEqual bs else record { word = sign_of b; bytes_after = 0 }

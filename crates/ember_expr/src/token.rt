@@ -1,9 +1,11 @@
 // The tokens of a text.
 ghost use Rattle.std.specs.Prelude.{◌≡◌, ◌≤◌, ◌<◌, ◌++◌, ◌∷◌, [], IfOk, OnOk, length, min};
 ghost use Rattle.ember_expr.specs.Limits.{most_expression_bytes};
-ghost use Rattle.ember_expr.specs.Tokens.{tokens_of, lexeme_of, sign_of, before_equals, named_by, odd_in, digit_run, value_from};
+ghost use Rattle.ember_dec.specs.Digits.{number_from, digits_of};
+ghost use Rattle.ember_expr.specs.Tokens.{tokens_of, lexeme_of, sign_of, before_equals, named_by, odd_in};
 
 use crate::trees::Rel;
+use ember_dec::{append_digits, split_digits};
 use std::alloc::{AllocError, Global};
 
 /// What a token is.
@@ -45,7 +47,7 @@ pub struct Lexeme {
 }
 
 // Each number above the largest that is allowed is read as this one.
-const LARGE: u32 = 1_000_001;
+const LARGE: u64 = 1_000_001;
 
 /// The tokens of a text in order.
 pub fn tokens(alloc: Global, text: &[u8]) -> Result<Vec<Token>, AllocError>
@@ -114,22 +116,13 @@ fn longest(first: u8, after: &[u8]) -> Lexeme
 // many these are.
 fn number(start: u32, text: &[u8]) -> (u32, usize)
     requires { start < 10 }
-    ensures value { result.0 ≡ min 1000001 (value_from start (digit_run text.now)) }
-    ensures bytes_after { result.1 ≡ length (digit_run text.now) }
+    ensures value { result.0 ≡ min 1000001 (number_from start (digits_of text.now)) }
+    ensures bytes_after { result.1 ≡ length (digits_of text.now) }
     ensures within { result.1 ≤ length text.now }
 {
-    let mut value = start;
-    let mut bytes_after = 0;
-    let mut rest = text;
-    'digits: while let Some((digit, after)) = rest.split_first() {
-        if !digit.is_ascii_digit() {
-            break;
-        }
-        value = LARGE.min(value * 10 + u32::from(*digit - b'0'));
-        bytes_after += 1;
-        rest = after;
-    }
-    (value, bytes_after)
+    let (digits, _) = split_digits(text);
+    let value = append_digits(u64::from(start), digits, LARGE);
+    (value as u32, digits.len())
 }
 
 // A letter and a number of `bytes_after` digits.

@@ -8,9 +8,9 @@ ghost use Rattle.ember_width.specs.Broad.{IsBroadPlane};
 
 use ember_algebra::Sign;
 use ember_coplanar::same_plane;
-use ember_model::{Corner, OutOfMemory, Plane, Tri, support_of};
+use ember_model::{Corner, OutOfMemory, Plane, Tri, main_edges, support_of};
 use ember_poly::{
-    Cut, Draft, Reach, Ring, corners, cut, main_edges, meets, of_tri_on, reach, rings_are_bounded,
+    Cut, Draft, Reach, Ring, corners, cut, meets, of_tri_on, reach, rings_are_bounded,
 };
 use ember_width::{Broad, BroadPoint, Width};
 use std::alloc::Global;

@@ -4,10 +4,10 @@ ghost use Rattle.ember_model.specs.Faces.{is_flat};
 ghost use Rattle.ember_model.specs.Valid.{IsValidPlane, IsValidTri};
 
 use crate::shapes::{is_at, plane, triangle};
-use ember_model::{OutOfMemory, Plane, Tri, support_of};
+use ember_model::{OutOfMemory, Plane, Tri, main_edges, support_of};
 use ember_poly::{
-    Cut, Draft, Reach, Ring, above, clip, copy, corners, cut, edges, main_edges, meets, meets_face,
-    of_tri, outline, parts, planes, reach, support,
+    Cut, Draft, Reach, Ring, above, clip, copy, corners, cut, edges, meets, meets_face, of_tri,
+    outline, parts, planes, reach, support,
 };
 use std::alloc::Global;
 use std::process::Abort;

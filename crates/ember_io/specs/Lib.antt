@@ -3,3 +3,4 @@ pub mod Shelves
 pub mod Sinks
 pub mod Files
 pub mod Memory
+pub mod Calls

@@ -52,7 +52,8 @@ FailsToBegin s name = Contains s.failing (next_count s.calls) ⊎ (first_of s.fi
 -- a call that isn't chosen to fail fails for want of a file, and any other as it may
 abbrev pub IsKindOfBegin : ShelfState → FaultKind → Type 0
 IsKindOfBegin s kind =
-    (Contains s.failing (next_count s.calls) → kind ≡ Other) × (¬ Contains s.failing (next_count s.calls) → kind ≡ NotFound)
+    (Contains s.failing (next_count s.calls) → kind ≡ Other)
+    × (¬ Contains s.failing (next_count s.calls) → kind ≡ NotFound)
 
 -- the next call is chosen to fail, or there are bytes to take and the room is used up
 abbrev pub FailsToWrite : SinkState → List ℕ → Type 0

@@ -19,11 +19,7 @@ pub use real::{FileShelf, StdSink};
 pub use safe_shelf::SafeShelf;
 pub use shelf::{FaultKind, ReadEnd, Shelf, read_all};
 pub use sink::{Sink, WriteFault, write_all};
-use std::alloc::AllocError;
 use thiserror::Error;
-
-/// The error of a call that allocates.
-pub type OutOfMemory = AllocError;
 
 /// A call to the outside failed.
 #[derive(Clone, Copy, Debug, PartialEq, Eq, Error)]

@@ -10,8 +10,8 @@ ghost use Rattle.ember_io.specs.Shelves.{MarksFault};
 use crate::failing::is_failing;
 use crate::file_index::{bytes_of, file_index_of, give, past_files};
 use crate::shelf::{FaultKind, Shelf};
-use crate::{Calls, Failed, FileSet, OutOfMemory};
-use std::alloc::Global;
+use crate::{Calls, Failed, FileSet};
+use std::alloc::{AllocError, Global};
 use std::marker::Model;
 
 /// Files in memory, read in pieces. Calls of `begin` and `read` are numbered together from 1, and
@@ -60,7 +60,7 @@ impl MemoryShelf {
         files: FileSet,
         piece: usize,
         failing: Calls,
-    ) -> Result<MemoryShelf, OutOfMemory>
+    ) -> Result<MemoryShelf, AllocError>
         requires { 0 < piece }
         ensures { IfOk result (λ s. s ≡ record {
           files = files;

@@ -8,8 +8,8 @@ ghost use Rattle.ember_io.specs.Sinks.{IsFlushed};
 
 use crate::failing::is_failing;
 use crate::sink::Sink;
-use crate::{Calls, Failed, OutOfMemory};
-use std::alloc::Global;
+use crate::{Calls, Failed};
+use std::alloc::{AllocError, Global};
 use std::marker::Model;
 
 /// Room in memory that takes bytes in pieces. Calls of `write` and `flush` are numbered together
@@ -52,7 +52,7 @@ impl MemorySink {
         room: usize,
         piece: usize,
         failing: Calls,
-    ) -> Result<MemorySink, OutOfMemory>
+    ) -> Result<MemorySink, AllocError>
         requires { 0 < piece }
         ensures { IfOk result (λ s. s ≡ record {
           bytes = [];

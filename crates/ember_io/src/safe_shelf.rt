@@ -8,8 +8,8 @@ ghost use Rattle.ember_io.specs.Shelves.{MarksFault};
 
 use crate::file_index::{bytes_of, file_index_or_end, give, past_files};
 use crate::shelf::{FaultKind, Shelf};
-use crate::{Failed, FileSet, OutOfMemory};
-use std::alloc::Global;
+use crate::{Failed, FileSet};
+use std::alloc::{AllocError, Global};
 use std::marker::Model;
 
 /// Files in memory that never fail. A name that isn't there is an empty file. Only tests use this.
@@ -37,7 +37,7 @@ impl Model for SafeShelf {
 
 impl SafeShelf {
     /// A shelf of these files. It allocates nothing.
-    pub fn new(_alloc: Global, files: FileSet) -> Result<SafeShelf, OutOfMemory>
+    pub fn new(_alloc: Global, files: FileSet) -> Result<SafeShelf, AllocError>
         ensures { IfOk result (λ s. s ≡ record { files = files; unread = []; begun = 0 }) }
     {
         let file_index = past_files(files.items());

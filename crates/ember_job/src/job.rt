@@ -2,10 +2,6 @@
 use crate::Numbers;
 use ember_box::Cell;
 use ember_model::Vector;
-use std::alloc::AllocError;
-
-/// The out-of-memory error.
-pub type OutOfMemory = AllocError;
 
 /// A box, the triangles that its step looks at, and the winding numbers at its reference point.
 #[derive(Drop)]

@@ -11,6 +11,6 @@ mod job;
 mod lists;
 mod step;
 
-pub use job::{Entry, Job, Kind, OutOfMemory, Outcome};
+pub use job::{Entry, Job, Kind, Outcome};
 pub use lists::{Journals, Numbers};
 pub use step::{OneItem, Step, Work};

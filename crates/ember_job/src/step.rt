@@ -3,7 +3,8 @@ ghost use Rattle.std.specs.Prelude.{◌≡◌, ℕ, IfOk};
 ghost use Rattle.ember_job.specs.declared.job.Job.{Job};
 ghost use Rattle.ember_job.specs.Works.{Shape, halved, IsSplit, Answers, AnswersAll};
 
-use crate::{Job, OutOfMemory, Outcome};
+use crate::{Job, Outcome};
+use ember_model::OutOfMemory;
 
 /// What a run does at its boxes. An outcome answers a job if it has the job's shape and, for a
 /// leaf, an item that answers the job.
@@ -21,16 +22,19 @@ pub trait Work {
     ghost item: { Self → Job → Self.Item → Type 0 };
 
     /// The two halves that answer a valid job are valid.
-    ghost halves_valid: { (work : Self) (job low high : Job) → valid work job → shape work job ≡ halved low high → valid work low × valid work high };
+    ghost halves_valid: { (work : Self) (job low high : Job) → valid work job →
+        shape work job ≡ halved low high → valid work low × valid work high };
 
     /// They are the two halves of its box along one axis.
-    ghost halves_split: { (work : Self) (job low high : Job) → valid work job → shape work job ≡ halved low high → IsSplit job.cell low.cell high.cell };
+    ghost halves_split: { (work : Self) (job low high : Job) → valid work job →
+        shape work job ≡ halved low high → IsSplit job.cell low.cell high.cell };
 }
 
 /// A work whose jobs have one answer each.
 pub trait OneItem: Work {
     /// Two items that answer one job are equal.
-    ghost one_item: { (work : Self) (job : Job) (one other : Self.Item) → Self.item work job one → Self.item work job other → one ≡ other };
+    ghost one_item: { (work : Self) (job : Job) (one other : Self.Item) → Self.item work job one →
+        Self.item work job other → one ≡ other };
 }
 
 /// A step: a closure, kept with the work whose jobs it answers.

@@ -30,7 +30,7 @@ main_entry t e z =
     clash (flat_in t (record { a = main_zero n X z; b = main_zero n Y z; c = main_zero n Z z })) e
 
 -- the value at x by the values at the corners
-by_corners : (t : Tri) (p : Plane) (x : Spot) (k : Axis) →
+pub by_corners : (t : Tri) (p : Plane) (x : Spot) (k : Axis) →
     along (support_of t) k *ℤ value_at p x ≡ neg_ℤ
     (value_at (edge_through t.b t.c (unit k)) x *ℤ value_at p (spot_of_corner t.a) +ℤ value_at
     (edge_through t.c t.a (unit k)) x *ℤ value_at p (spot_of_corner t.b) +ℤ value_at (edge_through t.a t.b (unit k)) x *ℤ

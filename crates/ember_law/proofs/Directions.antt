@@ -23,7 +23,8 @@ use Rattle.ember_law.proofs.FlatTriangles.{IsFlat, flat_seen, flat_seen_crossing
 abbrev seen_term : Vector → Vector → Spot → Edge → ℤ
 seen_term f g p e = edge_term (cross f g) f g (seen p e.from) (seen p e.to)
 
-turned_dot : (f u v : Vector) → dot f (cross v u) ≡ neg_ℤ (dot f (cross u v))
+-- a cross product the other way round
+pub turned_dot : (f u v : Vector) → dot f (cross v u) ≡ neg_ℤ (dot f (cross u v))
 turned_dot = identity (vector ∷ vector ∷ vector ∷ []) (λ f u v. dotE f (crossE v u) ≈ neg (dotE f (crossE u v))) cancels
 
 turned_edge : (a b c d : Sign) → edge b a (flip c) (flip d) ≡ neg_ℤ (edge a b c d)

@@ -53,7 +53,8 @@ flat_case t = by (is_flat t) refl
     by true e = inl e
     by false e = inr e
 
-flat_along : (t : Tri) (a : Axis) → IsFlat t → along (support_of t) a ≡ pos 0
+-- the normal of a flat triangle has no entries
+pub flat_along : (t : Tri) (a : Axis) → IsFlat t → along (support_of t) a ≡ pos 0
 flat_along t X f = f.a
 flat_along t Y f = f.b
 flat_along t Z f = f.c

@@ -16,7 +16,7 @@ use Rattle.ember_model.specs.declared.plane.Plane.{Plane}
 use Rattle.ember_model.specs.declared.point.Spot.{Spot}
 use Rattle.ember_model.specs.declared.point.Axis.{Axis}
 use Rattle.ember_model.specs.declared.face.Face.{Face}
-use Rattle.ember_model.specs.Planes.{vector_of, value_at, along, support_of, edge_through}
+use Rattle.ember_model.specs.Planes.{vector_of, value_at, along, support_of, edge_through, HasNoNormal}
 use Rattle.ember_model.specs.Points.{offset_by}
 use Rattle.ember_model.specs.Faces.{size, hit, crossing}
 use Rattle.ember_model.specs.Clear.{IsClear, AreClear}
@@ -24,7 +24,7 @@ use Rattle.ember_model.specs.Meshes.{wind}
 use Rattle.ember_model.proofs.SignTests.{zero_scaled}
 use Rattle.ember_model.proofs.PlaneValues.{value_hit, edge_value, support_value, seen, seenE, tuple_of}
 use Rattle.ember_model.proofs.NearClearPoints.{Follows, FollowsEach, same_crossing}
-use Rattle.ember_law.proofs.Shifted.{NoNormal, follows_shifted, off_shifted, weight_shifted, eventually_true}
+use Rattle.ember_law.proofs.Shifted.{follows_shifted, off_shifted, weight_shifted, eventually_true}
 use Rattle.ember_law.proofs.FlatTriangles.{IsFlat}
 use Rattle.ember_law.proofs.Directions.{IsGeneric, AreGeneric}
 
@@ -34,11 +34,11 @@ pub cancel_zero : (w v : ℤ) → pos 0 <ℤ w → w *ℤ v ≡ pos 0 → v ≡ 
 cancel_zero w v p e = cancel_eq {c = w} {a = v} {b = pos 0} (λ z. omega (arith, linear)) (e ∙ sym (*ℤ-zero w))
 
 edge_generic : (u v : Corner) (f : Vector) (p : Spot) →
-    (value_at (edge_through u v f) p ≡ pos 0 → NoNormal (edge_through u v f)) → pos 0 <ℤ p.w →
+    (value_at (edge_through u v f) p ≡ pos 0 → HasNoNormal (edge_through u v f)) → pos 0 <ℤ p.w →
     Generic (seen p u) (seen p v) f
 edge_generic u v f p h w =
     let s = vector ∷ vector ∷ vector ∷ tuple ∷ [] in let a = vector_of u in let b = vector_of v in let q = tuple_of p in let n = edge_through u v f in
-    let none : dot f (cross (seen p u) (seen p v)) ≡ pos 0 → NoNormal (edge_through u v f) =
+    let none : dot f (cross (seen p u) (seen p v)) ≡ pos 0 → HasNoNormal (edge_through u v f) =
     λ z. h (cancel_zero p.w (value_at (edge_through u v f) p) w (edge_value u v f p ∙ ap neg_ℤ z)) in
     record {
       x = λ z. identity s (λ u v f p. (crossE (minusE (seenE p v) (seenE p u)) f).x ≈ p.w ⊗ (crossE (minusE v u) f).x)
@@ -52,10 +52,10 @@ edge_generic u v f p h w =
 -- p lies on none of the planes through the triangle and, along f, its edges that have a normal
 pub record IsOff (f : Vector) (p : Spot) (t : Tri) : Type 0 where
   pub weight : pos 0 <ℤ p.w
-  pub plane : value_at (support_of t) p ≡ pos 0 → NoNormal (support_of t)
-  pub first : value_at (edge_through t.a t.b f) p ≡ pos 0 → NoNormal (edge_through t.a t.b f)
-  pub second : value_at (edge_through t.b t.c f) p ≡ pos 0 → NoNormal (edge_through t.b t.c f)
-  pub third : value_at (edge_through t.c t.a f) p ≡ pos 0 → NoNormal (edge_through t.c t.a f)
+  pub plane : value_at (support_of t) p ≡ pos 0 → HasNoNormal (support_of t)
+  pub first : value_at (edge_through t.a t.b f) p ≡ pos 0 → HasNoNormal (edge_through t.a t.b f)
+  pub second : value_at (edge_through t.b t.c f) p ≡ pos 0 → HasNoNormal (edge_through t.b t.c f)
+  pub third : value_at (edge_through t.c t.a f) p ≡ pos 0 → HasNoNormal (edge_through t.c t.a f)
 
 generic_off : (f : Vector) (p : Spot) (t : Tri) → IsOff f p t → IsFlat t ⊎ IsGeneric f p t
 generic_off f p t m =

@@ -9,6 +9,8 @@ pub mod Tallies
 pub mod Vectors
 pub mod CountBounds
 pub mod Separation
+pub mod Beside
 pub mod GenericClear
+pub mod SegmentTriangles
 pub mod Segments
 pub mod CornerSides

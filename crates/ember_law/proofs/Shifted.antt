@@ -8,12 +8,9 @@ use Rattle.ember_algebra.proofs.Large.{horner_pos, horner_neg}
 use Rattle.ember_algebra.proofs.Ring.{◌⊕◌, ◌⊖◌, ◌⊗◌, ◌≈◌, num, solve, cancels}
 use Rattle.ember_model.specs.declared.plane.Plane.{Plane}
 use Rattle.ember_model.specs.declared.point.Spot.{Spot}
-use Rattle.ember_model.specs.Planes.{value_at}
+use Rattle.ember_model.specs.Planes.{value_at, HasNoNormal}
 use Rattle.ember_model.specs.Points.{offset_by}
 use Rattle.ember_model.proofs.NearClearPoints.{Follows}
-
-abbrev pub NoNormal : Plane → Type 0
-NoNormal h = (h.a ≡ pos 0) × (h.b ≡ pos 0) × (h.c ≡ pos 0)
 
 -- a plane's value at a shifted point, as a polynomial
 pub value_shifted : (h : Plane) (p : Spot) (m : ℤ) → value_at h (offset_by p m) ≡ horner m (value_at h p) (h.a ∷ h.b ∷ h.c ∷ [])
@@ -59,7 +56,7 @@ off_horner n v a b c l s e =
     (λ p. let q = horner_neg (a ∷ b ∷ c ∷ []) v l s p in absurd (omega (arith, linear, q, e)))
 
 -- a point that is shifted by little enough is on no plane with a normal
-pub off_shifted : (p : Spot) (h : Plane) → Eventually (λ n. value_at h (offset_by p (pos n)) ≡ pos 0 → NoNormal h)
+pub off_shifted : (p : Spot) (h : Plane) → Eventually (λ n. value_at h (offset_by p (pos n)) ≡ pos 0 → HasNoNormal h)
 off_shifted p h =
     record { from = reach h + 1; holds = λ n l e. off_horner n (value_at h p) h.a h.b h.c (omega arith) (sizes h) (sym (value_shifted h p (pos n)) ∙ e) }
 

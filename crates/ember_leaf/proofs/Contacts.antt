@@ -11,7 +11,7 @@ use Rattle.ember_model.specs.declared.point.Corner.{Corner}
 use Rattle.ember_model.specs.declared.point.Spot.{Spot}
 use Rattle.ember_model.specs.declared.tri.Tri.{Tri}
 use Rattle.ember_model.specs.declared.face.Face.{Face}
-use Rattle.ember_model.specs.Planes.{value_at, along, unit, main_axis, support_of}
+use Rattle.ember_model.specs.Planes.{value_at, along, unit, main_axis, support_of, zero_plane}
 use Rattle.ember_model.specs.Faces.{is_flat, face_of, is_in_closed, Meets}
 use Rattle.ember_model.specs.Edges.{IsOutline}
 use Rattle.ember_model.specs.Owners.{spot_of_corner}
@@ -25,7 +25,7 @@ use Rattle.ember_poly.proofs.InsidePoints.{corner_closed}
 use Rattle.ember_poly.proofs.OutlinePoints.{outline_has_its_points}
 use Rattle.ember_poly.proofs.Triangle.{side_along}
 use Rattle.ember_poly.proofs.TriangleRing.{stands}
-use Rattle.ember_leaf.specs.Contact.{no_plane, HasParting, IsBehind}
+use Rattle.ember_leaf.specs.Contact.{HasParting, IsBehind}
 use Rattle.ember_leaf.specs.Cutters.{ShareAPlane}
 use Rattle.ember_leaf.proofs.TriRelations.{front_at_least, under_least}
 use Rattle.ember_leaf.proofs.TriFaces.{closed_at_least, closed_ring, ring_closed}
@@ -37,11 +37,11 @@ behind_push P (e ∷ es) g h p = (h.0, behind_push P es g h.1 p)
 
 -- a corner that is behind the first i planes, and behind the next one
 pub behind_more : (es : List Plane) (i : ℕ) (c : Corner) {old new : Bool} {x : ℤ} → i < length es →
-    x ≡ value_at (get_or es i no_plane) (spot_of_corner c) → new ≡ old && is_negative x →
+    x ≡ value_at (get_or es i zero_plane) (spot_of_corner c) → new ≡ old && is_negative x →
     (old ≡ true → IsBehind (take i es) c) → new ≡ true → IsBehind (take (i + 1) es) c
 behind_more es i c {old} {new} {x} l e q h t =
-    let k = and_parts old (is_negative x) (sym q ∙ t) in let g = get_or es i no_plane in
-    subst (λ (us : List Plane). IsBehind us c) (sym (take_more es i no_plane l))
+    let k = and_parts old (is_negative x) (sym q ∙ t) in let g = get_or es i zero_plane in
+    subst (λ (us : List Plane). IsBehind us c) (sym (take_more es i zero_plane l))
     (behind_push (λ g. IsBelow g (spot_of_corner c)) (take i es) g (h k.0)
     (record { under = subst (λ z. z <ℤ pos 0) e (negative_out x k.1) }))
 
@@ -87,8 +87,8 @@ module _ {M : Type 0} (spot : M → Spot) (f : Face) (es : List Plane) (ms : Lis
   -- an edge that has no corner of the triangle behind it parts the two
   pub parting_unmet : (t : Tri) → is_flat t ≡ false → HasParting es t → Meets f (face_of t) → ⊥
   parting_unmet t n h m =
-      let v = m.at in let k = same (record { at = v; inside = m.inside; holds = tt }) in let g = get_or es h.index no_plane in
-      let u = at_place (λ e. IsBelow e v) es h.index no_plane h.before
+      let v = m.at in let k = same (record { at = v; inside = m.inside; holds = tt }) in let g = get_or es h.index zero_plane in
+      let u = at_place (λ e. IsBelow e v) es h.index zero_plane h.before
       (inside_out (record { support = f.support; edges = es }) v (sym (k.inside v) ∙ m.inside)).within in
       under_least u (closed_at_least t n g v (front_at_least g t h.parts) (closed_ring t v m.holds))
 

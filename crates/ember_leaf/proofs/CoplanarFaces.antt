@@ -15,6 +15,7 @@ use Rattle.ember_model.specs.ClearTest.{none_positive}
 use Rattle.ember_model.specs.Faces.{is_flat, face_of, edges_of, is_inside, is_in_closed, Somewhere, Meets}
 use Rattle.ember_model.specs.Owners.{is_coplanar}
 use Rattle.ember_model.proofs.SignTests.{clash, zero_in}
+use Rattle.ember_model.proofs.Hits.{inside_closed}
 use Rattle.ember_poly.specs.Rings.{IsBelow, InFace}
 use Rattle.ember_poly.specs.Chords.{combination}
 use Rattle.ember_poly.specs.Cuts.{HasInside, IsWhole}
@@ -27,7 +28,6 @@ use Rattle.ember_poly.proofs.TriangleRing.{tri_sides, inside_ring}
 use Rattle.ember_coplanar.proofs.Coplanar.{lies_on_both}
 use Rattle.ember_coplanar.proofs.Owning.{lies_by_support}
 use Rattle.ember_width.specs.declared.width.Width.{Ghosts}
-use Rattle.ember_ref.proofs.FarTriangles.{inside_closed}
 use Rattle.ember_trace.proofs.FlatPlanes.{lies_flat, shared_face}
 use Rattle.ember_leaf.specs.declared.cutter.Cutter.{Cutter}
 use Rattle.ember_leaf.specs.KeptRegions.{LiesInPlaneOf}

@@ -1,8 +1,8 @@
 -- The triangles that are listed before another one in its plane decide which of its regions it owns.
-use Rattle.std.proofs.Common.{◌≡◌, ◌⊎◌, inl, inr, refl, sym, ap, subst, ◌∙◌, arith, ℕ, zero, suc, ◌+◌, ◌<◌, nat_lt}
+use Rattle.std.proofs.Common.{◌≡◌, ◌⊎◌, inl, inr, refl, sym, ap, subst, ◌∙◌, arith, ℕ, zero, suc, ◌+◌, ◌<◌}
 use Rattle.std.proofs.Common.{Bool, true, false, None, Some, slice_get, List, [], ◌∷◌, ◌++◌, length, All}
 use Rattle.std.proofs.lemmas.Option.{slice_get_within, get_or_from_slice_get, slice_get-get_or}
-use Rattle.std.proofs.lemmas.List.Elements.{All-nil, All-push, All-get_or}
+use Rattle.std.proofs.lemmas.List.Elements.{All-nil, All-push}
 use Rattle.ember_model.specs.declared.tri.Tri.{Tri}
 use Rattle.ember_model.specs.declared.face.Face.{Face}
 use Rattle.ember_model.specs.Faces.{is_inside, is_flat, face_of, Meets, Contains}
@@ -13,10 +13,11 @@ use Rattle.ember_box.specs.declared.aabb.Aabb.{Aabb}
 use Rattle.ember_algebra.specs.Relations.{Every}
 use Rattle.ember_algebra.proofs.Relations.{every_append}
 use Rattle.std.proofs.lemmas.List.{append-nil}
+use Rattle.ember_algebra.proofs.Lists.{all_at}
+use Rattle.ember_model.proofs.Hits.{inside_closed}
 use Rattle.ember_box.specs.Regions.{cutting_planes_of}
 use Rattle.ember_box.specs.Near.{tri_at, no_tri}
 use Rattle.ember_box.specs.Aabbs.{aabb_of_tri, aabbs_meet}
-use Rattle.ember_ref.proofs.FarTriangles.{inside_closed}
 use Rattle.ember_poly.specs.Cuts.{HasInside}
 use Rattle.ember_trace.proofs.FlatPlanes.{lies_flat, shared_face}
 use Rattle.ember_leaf.specs.declared.cutter.Cutter.{Cutter}
@@ -113,9 +114,6 @@ owners_coplanar t cs h = every_all (IsCoplanarWith t) (owners_in cs) (by cs (all
         every_append (IsCoplanarWith t) (owners_by c) (owners_in cs) (owner_coplanar t c e.0) (by cs e.1)
 
 -- ---- lists
-all_at : {X : Type 0} (P : X → Type 0) (xs : List X) (i : ℕ) (x : X) → All P xs → slice_get xs i ≡ Some x → P x
-all_at P xs i x a e =
-    subst P (get_or_from_slice_get xs i x x e) (All-get_or P xs i x (slice_get_within xs i x e) a)
 
 get_push : {X : Type 0} (xs : List X) (x : X) (i : ℕ) (y : X) → slice_get xs i ≡ Some y → slice_get (xs ++ x ∷ []) i ≡ Some y
 get_push [] x i y e = absurd (by e)
@@ -138,14 +136,6 @@ below_next (suc m) (suc n) l = up (below_next m n (omega (arith, l)))
     up : (m < n) ⊎ (m ≡ n) → (suc m < suc n) ⊎ (suc m ≡ suc n)
     up (inl k) = inl (omega (arith, k))
     up (inr e) = inr (ap suc e)
-
--- numbers of which the test answers true are in order
-pub lt_out : (j i : ℕ) → nat_lt j i ≡ true → j < i
-lt_out j i e = grind arith
-
--- j < i as a truth value
-pub lt_in : (j i : ℕ) → j < i → nat_lt j i ≡ true
-lt_in j i l = grind arith
 
 -- ---- one triangle more
 module _ (ts : List Tri) (i : ℕ) (t : Tri) (b : Aabb) where

@@ -19,6 +19,7 @@ use Rattle.ember_model.specs.Planes.{value_at, opposite}
 use Rattle.ember_model.specs.Faces.{is_inside, is_flat, face_of, Contains}
 use Rattle.ember_model.specs.Owners.{IsOwner}
 use Rattle.ember_model.proofs.SignTests.{clash}
+use Rattle.ember_model.proofs.Hits.{inside_closed}
 use Rattle.ember_width.specs.declared.width.Width.{Ghosts}
 use Rattle.ember_box.specs.declared.aabb.Interval.{Interval}
 use Rattle.ember_box.specs.declared.aabb.Aabb.{Aabb}
@@ -28,7 +29,6 @@ use Rattle.ember_box.specs.Aabbs.{aabb_of_cell, interval_between}
 use Rattle.ember_box.specs.Regions.{level, walls, IsStart, AreLeftByCuttingPlane, splits, whole, cutting_planes, IsRegions}
 use Rattle.ember_box.specs.Regions as regions
 use Rattle.ember_ref.proofs.NearPoints.{coordinate}
-use Rattle.ember_ref.proofs.FarTriangles.{inside_closed}
 use Rattle.ember_poly.specs.Rings.{IsNotAbove}
 use Rattle.ember_poly.proofs.FaceTests.{all_out}
 use Rattle.ember_poly.proofs.ReachBySigns.{least_from_opposite}

@@ -12,6 +12,7 @@ use Rattle.ember_model.specs.declared.face.Face.{Face}
 use Rattle.ember_model.specs.Planes.{value_at, support_of, opposite}
 use Rattle.ember_model.specs.Faces.{face_of, edges_of, is_flat, is_inside, Contains, Cuts, Meets, below, above}
 use Rattle.ember_model.proofs.SignTests.{negative_in, negative_out, positive_out, zero_out}
+use Rattle.ember_model.proofs.Hits.{inside_closed}
 use Rattle.ember_width.specs.declared.width.Width.{Ghosts}
 use Rattle.ember_box.specs.Regions.{AreLeftByCuttingPlane, splits, whole}
 use Rattle.ember_poly.specs.Rings.{IsBelow}
@@ -21,7 +22,6 @@ use Rattle.ember_poly.specs.declared.reach_and_cut.Reach.TheVariants.{Below, Abo
 use Rattle.ember_poly.proofs.Chains.{each-push}
 use Rattle.ember_poly.proofs.FaceTests.{inside_in, inside_out, closed_out}
 use Rattle.ember_poly.proofs.ReachBySigns.{over_from_opposite}
-use Rattle.ember_ref.proofs.FarTriangles.{inside_closed}
 use Rattle.ember_trace.proofs.FilledFaces.{inside_below}
 use Rattle.ember_leaf.specs.declared.cutter.Cutter.{Cutter}
 use Rattle.ember_leaf.specs.declared.cutter.Role.{Role}

@@ -13,16 +13,15 @@ use Rattle.ember_model.specs.declared.plane.Plane.{Plane}
 use Rattle.ember_model.specs.declared.point.Spot.{Spot}
 use Rattle.std.proofs.lemmas.Option.{slice_get-get_or}
 use Rattle.ember_algebra.proofs.Numbers.{int_le_in}
-use Rattle.ember_algebra.proofs.Booleans.{and_three}
+use Rattle.ember_algebra.proofs.Booleans.{and_three, same_some}
 use Rattle.ember_model.specs.declared.point.Axis.{Axis}
 use Rattle.ember_model.specs.declared.point.Axis.TheVariants.{X, Y, Z}
 use Rattle.ember_model.specs.declared.tri.Tri.{Tri}
-use Rattle.ember_model.specs.Planes.{vector_of, value_at, support_of, opposite}
+use Rattle.ember_model.specs.Planes.{vector_of, value_at, support_of, opposite, zero_plane}
 use Rattle.ember_model.specs.Faces.{is_flat, face_of, edges_of, is_in_closed, Everywhere, Contains, is_inside}
 use Rattle.ember_model.specs.Owners.{is_coplanar}
 use Rattle.ember_model.proofs.SignTests.{negative_out, positive_out, not_positive_out, zero_out, not_true, negative_in}
 use Rattle.ember_model.proofs.SignTests.{not_negative_out, some_positive, some_negative}
-use Rattle.ember_model.proofs.Tuples.{same_some}
 use Rattle.ember_model.proofs.PlaneValues.{value-opposite}
 use Rattle.ember_box.specs.declared.aabb.Interval.{Interval}
 use Rattle.ember_box.specs.Boxes.{entry_along}
@@ -31,9 +30,9 @@ use Rattle.ember_ref.proofs.NearPoints.{past_corners, coordinate}
 use Rattle.ember_poly.specs.Rings.{IsBelow, IsAbove, IsNotAbove, IsNotBelow, IsOnPlane, IsInsideRing, IsInClosedRing}
 use Rattle.ember_poly.proofs.ReachBySigns.{under_opposite, closed_from_inside}
 use Rattle.ember_poly.proofs.TriangleRing.{tri_sides, inside_ring}
-use Rattle.ember_leaf.specs.Contact.{no_plane}
-use Rattle.ember_leaf.specs.declared.heights.Heights.{Heights}
-use Rattle.ember_leaf.specs.TriRelations.{IsBehindEdge, heights_of, none_behind, none_in_front, all_behind, all_in_front, all_on, MissesClosedFace}
+use Rattle.ember_width.specs.declared.heights.Heights.{Heights}
+use Rattle.ember_width.specs.Heights.{heights_of, none_behind, none_in_front, all_behind, all_in_front, all_on}
+use Rattle.ember_leaf.specs.TriRelations.{IsBehindEdge, MissesClosedFace}
 use Rattle.ember_leaf.specs.Cutters.{LiesInInterval}
 use Rattle.ember_leaf.proofs.TriFaces.{AtCorners, AtCorner, closed_ring, inside_under, inside_over}
 use Rattle.ember_leaf.proofs.TriFaces.{closed_over, closed_at_least, ring_inside, closed_on}
@@ -276,16 +275,16 @@ module _ (f : Heights → Bool) where
   heights_test_moved u {p} {q} {h} e k r s = sym (ap f (k ∙ ap (λ (p : Plane). heights_of p u) e)) ∙ sym r ∙ s
 
 -- the edge plane of a triangle at a place of its list
-edge_here : (t : Tri) (es : List Plane) (i : ℕ) → es ≡ edges_of t → i < 3 → slice_get (edges_of t) i ≡ Some (get_or es i no_plane)
+edge_here : (t : Tri) (es : List Plane) (i : ℕ) → es ≡ edges_of t → i < 3 → slice_get (edges_of t) i ≡ Some (get_or es i zero_plane)
 edge_here t es i e l =
-    subst (λ us. slice_get us i ≡ Some (get_or es i no_plane)) e (slice_get-get_or es i no_plane (subst (λ us. i < length us) (sym e) l))
+    subst (λ us. slice_get us i ≡ Some (get_or es i zero_plane)) e (slice_get-get_or es i zero_plane (subst (λ us. i < length us) (sym e) l))
 
 -- an edge plane of t that has u in front of it keeps the two apart
 pub parted_by : (t u : Tri) (es : List Plane) (i : ℕ) {h : Heights} {b : Bool} → is_flat t ≡ false → is_flat u ≡ false →
-    es ≡ edges_of t → i < 3 → h ≡ heights_of (get_or es i no_plane) u → b ≡ none_behind h && not (all_on h) → b ≡ true →
+    es ≡ edges_of t → i < 3 → h ≡ heights_of (get_or es i zero_plane) u → b ≡ none_behind h && not (all_on h) → b ≡ true →
     MissesClosedFace t u × MissesClosedFace u t
 parted_by t u es i {h} n m e l q r z =
-    let p = get_or es i no_plane in
+    let p = get_or es i zero_plane in
     let x = and_parts (none_behind (heights_of p u)) (not (all_on (heights_of p u)))
     (heights_test_moved (λ h. none_behind h && not (all_on h)) u {p = p} refl q r z) in
     edge_parts_triangles t u i p n m (edge_here t es i e l) x.0 (not_true (all_on (heights_of p u)) x.1)
@@ -314,10 +313,10 @@ module _ (t u : Tri) (n : is_flat t ≡ false) (m : is_flat u ≡ false) where
 
 -- the triangle u lies behind the plane of an edge of t
 pub behind_by : (t u : Tri) (es : List Plane) (i : ℕ) {h : Heights} {b : Bool} → is_flat u ≡ false → es ≡ edges_of t →
-    i < 3 → h ≡ heights_of (get_or es i no_plane) u → b ≡ none_in_front h && not (all_on h) → b ≡ true →
+    i < 3 → h ≡ heights_of (get_or es i zero_plane) u → b ≡ none_in_front h && not (all_on h) → b ≡ true →
     IsBehindEdge t u i
 behind_by t u es i {h} m e l q r z =
-    let p = get_or es i no_plane in
+    let p = get_or es i zero_plane in
     let x = and_parts (none_in_front (heights_of p u)) (not (all_on (heights_of p u)))
     (heights_test_moved (λ h. none_in_front h && not (all_on h)) u {p = p} refl q r z) in
     let w = behind_edge u p m x.0 (not_true (all_on (heights_of p u)) x.1) in

@@ -35,7 +35,7 @@ use Rattle.ember_poly.proofs.ReachBySigns.{closed_from_inside, most_opposite, un
 use Rattle.ember_poly.proofs.TriangleRing.{tri_sides, inside_ring}
 use Rattle.ember_poly.proofs.InsidePoints.{below_is_not_above}
 use Rattle.ember_trace.proofs.FilledFaces.{inside_below}
-use Rattle.ember_leaf.specs.TriRelations.{heights_of, all_on}
+use Rattle.ember_width.specs.Heights.{heights_of, all_on}
 use Rattle.ember_leaf.specs.declared.clip.Remainder.{Remainder}
 use Rattle.ember_leaf.specs.declared.clip.Remainder.TheVariants.{Whole, Nothing, Unknown}
 use Rattle.ember_leaf.specs.declared.wall.Wall as leaf

@@ -1,10 +1,10 @@
 -- The written regions of a leaf are one list, and so are those of a scene.
-use Rattle.std.proofs.Common.{◌≡◌, ℕ, suc, refl, sym, ap, ap₂, ◌∙◌, subst, arith, le_refl, ◌+◌, ◌*◌, true, List, []}
-use Rattle.std.proofs.Common.{◌∷◌, ◌++◌, Some, slice_get, length, ℤ, pos, neg_ℤ}
+use Rattle.std.proofs.Common.{◌≡◌, ℕ, refl, sym, ap, ap₂, ◌∙◌, subst, arith, le_refl, ◌+◌, ◌*◌, true, List, []}
+use Rattle.std.proofs.Common.{◌∷◌, ◌++◌, length, ℤ, pos, neg_ℤ}
 use Rattle.std.specs.List.{range_with_len}
 use Rattle.std.proofs.lemmas.Option.{get_or_from_slice_get}
 use Rattle.ember_algebra.specs.Relations.{Each, none, more, Every}
-use Rattle.ember_algebra.proofs.Relations.{each_unique, each_unique_where}
+use Rattle.ember_algebra.proofs.Relations.{each_unique, each_unique_where, every_from}
 use Rattle.ember_model.specs.declared.face.Face.{Face}
 use Rattle.ember_model.specs.declared.point.Spot.{Spot}
 use Rattle.ember_model.specs.declared.tri.Tri.{Tri}
@@ -29,11 +29,6 @@ use Rattle.ember_leaf.specs.KeptRegions.{NarrowKept}
 use Rattle.ember_leaf.specs.Written.{front, IsWrittenOfRegion, unowned, same_value, written, AreRegionsWritten}
 use Rattle.ember_leaf.specs.Written.{IsCovered, IsWrittenOf, regional, hidden, IsWrittenIn}
 use Rattle.ember_leaf.specs.Scenes.{HasOneValue, LeafGivesOn, regions, nothing, IsWrittenOn, IsWritten}
-
--- what holds at each place holds of each member
-every_from : {X : Type 0} (P : X → Type 0) (xs : List X) → ((j : ℕ) (x : X) → slice_get xs j ≡ Some x → P x) → Every P xs
-every_from P [] h = tt
-every_from P (x ∷ xs) h = (h 0 x refl, every_from P xs (λ j y e. h (suc j) y e))
 
 -- if no member gives anything, all give nothing
 each_nothing : {X Y : Type 0} {R : X → List Y → Type 0} (Q : X → Type 0) →

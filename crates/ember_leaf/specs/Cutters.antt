@@ -189,7 +189,8 @@ pub data OmitsUnmet (P : Face → Type 0) : List CuttingPlane → List CuttingPl
       OmitsUnmet P xs ys → OmitsUnmet P (b ∷ xs) ys
 
 -- the cutting planes of a list have grown by `bs`, without some whose faces no face with the property meets
-abbrev pub AddsCuttingPlanes : {W M : Type 0} {G : Ghosts W M} → (Face → Type 0) → List CuttingPlane → List (Cutter W M G) → List (Cutter W M G) → Type 0
+abbrev pub AddsCuttingPlanes : {W M : Type 0} {G : Ghosts W M} → (Face → Type 0) → List CuttingPlane →
+    List (Cutter W M G) → List (Cutter W M G) → Type 0
 AddsCuttingPlanes P bs old new =
     (front : List CuttingPlane) → OmitsUnmet P front (cutting_planes_in old) →
     OmitsUnmet P (front ++ bs) (cutting_planes_in new)

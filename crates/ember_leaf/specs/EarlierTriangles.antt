@@ -59,29 +59,35 @@ pub record DecidesOwner (earlier : List Tri) (ts : List Tri) (i : ℕ) (f : Face
 
 -- ---- what is known of the list of triangles that may cut the regions of t, after one more or all
 -- after u, unless u covers t: the list has the cutting planes of u that may cut a part of t within the bounds
-abbrev pub AddsCuttingPlanesWithin : {W M : Type 0} {G : Ghosts W M} → Aabb → Tri → Tri → List (Cutter W M G) → List (Cutter W M G) → Bool → Type 0
+abbrev pub AddsCuttingPlanesWithin : {W M : Type 0} {G : Ghosts W M} → Aabb → Tri → Tri → List (Cutter W M G) →
+    List (Cutter W M G) → Bool → Type 0
 AddsCuttingPlanesWithin b t u old new covered =
     covered ≡ false → AddsCuttingPlanes (IsBounded t b) (cutting_planes_of t u) old new
 
 -- the same within all bounds
-abbrev pub AddsPlanesOf : {W M : Type 0} {G : Ghosts W M} → Tri → Tri → List (Cutter W M G) → List (Cutter W M G) → Bool → Type 0
+abbrev pub AddsPlanesOf : {W M : Type 0} {G : Ghosts W M} → Tri → Tri → List (Cutter W M G) → List (Cutter W M G) →
+    Bool → Type 0
 AddsPlanesOf t u old new covered =
     covered ≡ false → (b : Aabb) → AddsCuttingPlanes (IsBounded t b) (cutting_planes_of t u) old new
 
 -- after u: the owners in the list have grown by u, if u may own a part of t within the bounds
-abbrev pub AddsOwnersWithin : {W M : Type 0} {G : Ghosts W M} → Aabb → Tri → Tri → Bool → List (Cutter W M G) → List (Cutter W M G) → Bool → Type 0
+abbrev pub AddsOwnersWithin : {W M : Type 0} {G : Ghosts W M} → Aabb → Tri → Tri → Bool → List (Cutter W M G) →
+    List (Cutter W M G) → Bool → Type 0
 AddsOwnersWithin b t u is_before old new covered = AddsEarlier t u b is_before (owners_in old) covered (owners_in new)
 
 -- the same within all bounds
-abbrev pub AddsOwners : {W M : Type 0} {G : Ghosts W M} → Tri → Tri → Bool → List (Cutter W M G) → List (Cutter W M G) → Bool → Type 0
+abbrev pub AddsOwners : {W M : Type 0} {G : Ghosts W M} → Tri → Tri → Bool → List (Cutter W M G) →
+    List (Cutter W M G) → Bool → Type 0
 AddsOwners t u is_before old new covered =
     (b : Aabb) → AddsEarlier t u b is_before (owners_in old) covered (owners_in new)
 
 -- after all, unless t is covered: the list has all cutting planes that may cut a part of t within the bounds
-abbrev pub AreCuttingPlanesFound : {W M : Type 0} {G : Ghosts W M} → List Tri → ℕ → Tri → Aabb → List (Cutter W M G) → Bool → Type 0
+abbrev pub AreCuttingPlanesFound : {W M : Type 0} {G : Ghosts W M} → List Tri → ℕ → Tri → Aabb → List (Cutter W M G) →
+    Bool → Type 0
 AreCuttingPlanesFound ts i t b cutters covered =
     covered ≡ false → OmitsUnmet (IsBounded t b) (cutting_planes ts i) (cutting_planes_in cutters)
 
 -- after all: t is covered, or the owners in the list decide who owns a part of t within the bounds
-abbrev pub AreOwnersFound : {W M : Type 0} {G : Ghosts W M} → List Tri → ℕ → Tri → Aabb → List (Cutter W M G) → Bool → Type 0
+abbrev pub AreOwnersFound : {W M : Type 0} {G : Ghosts W M} → List Tri → ℕ → Tri → Aabb → List (Cutter W M G) → Bool →
+    Type 0
 AreOwnersFound ts i t b cutters covered = AreEarlierOrCovered ts i t b (owners_in cutters) covered

@@ -1,6 +1,5 @@
 // The part of a triangle that belongs to a box.
-ghost use Rattle.std.specs.Prelude.{◌≡◌, ◌≤◌, ◌+◌, ◌*◌, ◌^◌, true, false, [], ◌∷◌, All, map, if◌then◌else◌, IfOk, OnOk};
-ghost use Rattle.ember_model.specs.Limits.{wall_limit};
+ghost use Rattle.std.specs.Prelude.{◌≡◌, true, false, [], ◌∷◌, All, map, if◌then◌else◌, IfOk, OnOk};
 ghost use Rattle.ember_algebra.specs.Size.{Small};
 ghost use Rattle.ember_box.specs.Aabbs.{IsIntervalWithin, most_wall};
 ghost use Rattle.ember_model.specs.Planes.{opposite};
@@ -65,10 +64,8 @@ fn high_wall(interval: &Interval, axis: Axis) -> Wall
     }
 }
 
-/// The walls of a box in steps of a grid: along each axis the low one, then the high one. The root
-/// of the grid ends one step past the corners.
+/// The walls of a box in steps of a grid: along each axis the low one, then the high one.
 pub fn walls<W: Width>(c: &Cell) -> [Wall; 6]
-    requires { 2 ^ W.scale * wall_limit ≤ W.corner + 1 }
     ensures walls { map wall_of result ≡ regions.walls (in_steps W.scale c.now) }
     ensures planes { All (λ wall. W.IsPlane (wall_of wall).plane) result }
 {

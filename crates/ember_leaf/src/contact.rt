@@ -6,8 +6,8 @@ ghost use Rattle.ember_model.specs.Within.{IsTriWithin};
 ghost use Rattle.ember_width.specs.Broad.{IsBroadPlane};
 ghost use Rattle.ember_leaf.specs.Contact.{IsContact};
 
-use crate::heights::{Heights, heights_of, is_behind};
 use ember_model::{Plane, Tri};
+use ember_width::{Heights, heights_of, is_behind};
 
 /// What the corners of a triangle show of a region in its plane.
 #[derive(Clone, Copy)]

@@ -1,7 +1,7 @@
 // The written regions of a leaf.
-ghost use Rattle.std.specs.Prelude.{◌≡◌, List, [], ◌∷◌, ◌≤◌, ◌<◌, ◌+◌, ◌*◌, ◌^◌, map, length, All};
+ghost use Rattle.std.specs.Prelude.{◌≡◌, List, [], ◌∷◌, ◌≤◌, ◌<◌, ◌+◌, ◌*◌, map, length, All};
 ghost use Rattle.std.specs.Prelude.{IfOk, IfSome, OnOk, option_to_list};
-ghost use Rattle.ember_model.specs.Limits.{most_triangles, wall_limit};
+ghost use Rattle.ember_model.specs.Limits.{most_triangles};
 ghost use Rattle.ember_model.specs.Within.{IsTriWithin};
 ghost use Rattle.ember_model.specs.Valid.{IsValidTri};
 ghost use Rattle.ember_model.specs.Owners.{IsOwner};
@@ -25,7 +25,6 @@ ghost use Rattle.ember_leaf.specs.KeptRegions.{LiesInPlaneOf, IsKeptOf, ArePlace
 use crate::clip::{clip_to_box, common_spans, is_outside, walls};
 use crate::cutter::Cutter;
 use crate::cutters::find_cutters_unless_covered;
-use crate::heights::is_in_front;
 use crate::kept::{Kept, KeptList};
 use crate::regions::regions;
 use crate::relation::is_flat;
@@ -35,7 +34,7 @@ use ember_expr::{Expr, value};
 use ember_model::{Axis, OutOfMemory, Plane, Tri, Vector, main_axis};
 use ember_poly::{Draft, Ring, support};
 use ember_trace::{NearTriangle, Sides, near_triangles_on, trace_sides_on};
-use ember_width::{Narrow, Width};
+use ember_width::{Narrow, Width, is_in_front};
 use std::alloc::Global;
 
 // Room in a ring's lists for its first cuts by cutters, at most this many. The walls have already
@@ -92,10 +91,10 @@ impl<W: Width> Leaf<'_, W> {
     fn written_region(&self, i: usize, ring: Ring<W>, sides: &mut Sides) -> Option<Kept<W>>
         requires few { length self.now.near.now ≤ most_triangles }
         requires counts { AreBoxCounts self.now.windings.now.counts }
-        requires root { 2 ^ W.scale * wall_limit ≤ W.corner + 1 }
         requires index { i < length self.now.near.now }
         requires plane { LiesInPlaneOf (tri_at (tris_of self.now.near.now) i) ring }
-        requires reference_sides { All (HasReferenceBeside W.fine (in_steps W.scale self.now.cell.now)) self.now.near.now }
+        requires reference_sides { All (HasReferenceBeside W.fine
+            (in_steps W.scale self.now.cell.now)) self.now.near.now }
         requires inside { LiesIn (in_steps W.scale self.now.cell.now) ring }
         requires owner { IsOwner (tris_of self.now.near.now) i ring }
         ensures placed { IfSome result (IsKeptOf (tri_at (tris_of self.now.near.now) i) i) }
@@ -122,11 +121,11 @@ impl<W: Width> Leaf<'_, W> {
     ) -> Result<(), OutOfMemory>
         requires few { length self.now.near.now ≤ most_triangles }
         requires counts { AreBoxCounts self.now.windings.now.counts }
-        requires root { 2 ^ W.scale * wall_limit ≤ W.corner + 1 }
         requires index { i < length self.now.near.now }
         requires plane { LiesInPlaneOf (tri_at (tris_of self.now.near.now) i) ring }
         requires regions { AreOwned (in_steps W.scale self.now.cell.now) (tris_of self.now.near.now) i (ring ∷ []) }
-        requires reference_sides { All (HasReferenceBeside W.fine (in_steps W.scale self.now.cell.now)) self.now.near.now }
+        requires reference_sides { All (HasReferenceBeside W.fine
+            (in_steps W.scale self.now.cell.now)) self.now.near.now }
         requires inside { LiesIn (in_steps W.scale self.now.cell.now) ring }
         requires owner { IsOwner (tris_of self.now.near.now) i ring }
         requires kept { ArePlacedBelow (tris_of self.now.near.now) (i + 1) kept.old.items }
@@ -149,11 +148,11 @@ impl<W: Width> Leaf<'_, W> {
     ) -> Result<(), OutOfMemory>
         requires few { length self.now.near.now ≤ most_triangles }
         requires counts { AreBoxCounts self.now.windings.now.counts }
-        requires root { 2 ^ W.scale * wall_limit ≤ W.corner + 1 }
         requires index { i < length self.now.near.now }
         requires plane { All (LiesInPlaneOf (tri_at (tris_of self.now.near.now) i)) list.items }
         requires regions { AreOwned (in_steps W.scale self.now.cell.now) (tris_of self.now.near.now) i list.items }
-        requires reference_sides { All (HasReferenceBeside W.fine (in_steps W.scale self.now.cell.now)) self.now.near.now }
+        requires reference_sides { All (HasReferenceBeside W.fine
+            (in_steps W.scale self.now.cell.now)) self.now.near.now }
         requires inside { All (LiesIn (in_steps W.scale self.now.cell.now)) list.items }
         requires owners { All (IsOwner (tris_of self.now.near.now) i) list.items }
         requires kept { ArePlacedBelow (tris_of self.now.near.now) (i + 1) kept.old.items }
@@ -181,12 +180,12 @@ impl<W: Width> Leaf<'_, W> {
     ) -> Result<(), OutOfMemory>
         requires few { length self.now.near.now ≤ most_triangles }
         requires counts { AreBoxCounts self.now.windings.now.counts }
-        requires root { 2 ^ W.scale * wall_limit ≤ W.corner + 1 }
         requires index { i < length self.now.near.now }
         requires walls { map wall_of walls.now ≡ box_walls (in_steps W.scale self.now.cell.now) }
         requires planes { All (λ wall. W.IsPlane (wall_of wall).plane) walls.now }
         requires aabb { self.now.aabb.now ≡ aabb_of_cell (in_steps W.scale self.now.cell.now) }
-        requires reference_sides { All (HasReferenceBeside W.fine (in_steps W.scale self.now.cell.now)) self.now.near.now }
+        requires reference_sides { All (HasReferenceBeside W.fine
+            (in_steps W.scale self.now.cell.now)) self.now.near.now }
         requires kept { ArePlacedBelow (tris_of self.now.near.now) (i + 1) kept.old.items }
         ensures placed { OnOk result (ArePlacedBelow (tris_of self.now.near.now) (i + 1) kept.new.items) }
         ensures written { OnOk result (AddsWritten self.now i kept.old.items kept.new.items) }
@@ -222,8 +221,7 @@ impl<W: Width> Leaf<'_, W> {
 /// order of its regions. `near` has the triangles near the box, and `v` the winding numbers at its
 /// reference point; the result is right in every scene that fits these (`written`). Even if no
 /// scene does, each region lies in the plane of the triangle that it names (`placed`). Meshes are
-/// numbered from 1 to 64, and at most 262,144 triangles are near. The root of the grid ends one step
-/// past the corners. The only error is out-of-memory.
+/// numbered from 1 to 64, and at most 262,144 triangles are near. The only error is out-of-memory.
 /// In clauses, `TriView` is `Tri` as contracts see it: the import needs another name beside the
 /// struct.
 pub fn leaf_faces_on<W: Width>(
@@ -237,7 +235,6 @@ pub fn leaf_faces_on<W: Width>(
     requires numbered { All (HasMesh 64) near.now }
     requires few { length near.now ≤ most_triangles }
     requires counts { AreBoxCounts v.now.counts }
-    requires root { 2 ^ W.scale * wall_limit ≤ W.corner + 1 }
     ensures placed { IfOk result (λ ks. ArePlaced near.now ks) }
     ensures written { IfOk result (λ ks. (scene : List TriView) →
         FitsWithin W.corner W.fine scene near.now (in_steps W.scale c.now) v.now.counts →

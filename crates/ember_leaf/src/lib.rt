@@ -11,7 +11,6 @@ mod clip;
 mod contact;
 mod cutter;
 mod cutters;
-mod heights;
 mod kept;
 mod law;
 mod leaf;

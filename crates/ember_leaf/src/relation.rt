@@ -4,10 +4,9 @@ ghost use Rattle.ember_model.specs.Faces.{is_flat, face_of, Contains};
 ghost use Rattle.ember_model.specs.Owners.{is_coplanar};
 ghost use Rattle.ember_leaf.specs.TriRelations.{MissesClosedFace, IsBehindEdge, IsRelation};
 
-use crate::heights::heights_of;
 use ember_model::has_no_normal;
 use ember_trace::NearTriangle;
-use ember_width::Width;
+use ember_width::{Width, heights_of};
 
 /// How a triangle lies relative to the closed face of another one.
 #[derive(Clone, Copy)]

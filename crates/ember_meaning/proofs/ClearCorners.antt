@@ -13,7 +13,7 @@ use Rattle.ember_model.specs.declared.plane.Plane.{Plane}
 use Rattle.ember_model.specs.declared.point.Spot.{Spot}
 use Rattle.ember_model.specs.declared.point.Axis.{Axis}
 use Rattle.ember_model.specs.declared.face.Face.{Face}
-use Rattle.ember_model.specs.Planes.{value_at, along}
+use Rattle.ember_model.specs.Planes.{value_at, along, HasNoNormal}
 use Rattle.ember_model.specs.Points.{scaled, moved}
 use Rattle.ember_model.specs.Faces.{size, hit, is_in_closed, is_inside}
 use Rattle.ember_model.specs.Clear.{IsClear}
@@ -25,7 +25,6 @@ use Rattle.ember_model.proofs.PlaneValues.{value_scaled}
 use Rattle.ember_model.proofs.Hits.{same_all_negative, same_none_positive, value_ray, ray_weight, inside_on, closed_parts}
 use Rattle.ember_model.proofs.ClearPoints.{hit_is_one_point, nonzero_product}
 use Rattle.ember_model.proofs.Tuples.{plane_tuple, normalE}
-use Rattle.ember_law.proofs.Shifted.{NoNormal}
 use Rattle.ember_law.proofs.Generic.{at_hit_of, value_at_hit, cancel_zero}
 use Rattle.ember_law.proofs.GenericClear.{strict}
 use Rattle.ember_poly.proofs.OutlinePoints.{Ended, edge_has_end}
@@ -41,7 +40,7 @@ all_strict x (g ∷ es) o h =
     strict (value_at g x) o.0 p.0 in let r = all_strict x es o.1 p.1 in λ i. q i && r i
 
 -- a point off the support plane whose axis rays miss the edge planes where they meet that plane is clear
-missed_face_is_clear : (f : Face) (p : Spot) → pos 0 <ℤ p.w → value_at f.support p ≢ pos 0 →
+pub missed_face_is_clear : (f : Face) (p : Spot) → pos 0 <ℤ p.w → value_at f.support p ≢ pos 0 →
     ((a : Axis) → along f.support a ≢ pos 0 → AllByRecursion (λ g. value_at g (hit f.support a p) ≢ pos 0) f.edges) →
     IsClear f p
 missed_face_is_clear f p w off o =
@@ -76,7 +75,7 @@ hit_course n g a =
     scaleE m (crossE (normalE n) (normalE g))) cancels_v (plane_tuple n) (plane_tuple g) (size (along n a))
     (neg_ℤ (sign (along n a)) *ℤ along g a)
 
-hit_has_normal : (f : Face) (a : Axis) → along f.support a ≢ pos 0 → (e : RingEdge) → Ended f e → NoNormal (at_hit_of e.plane f.support a) → ⊥
+hit_has_normal : (f : Face) (a : Axis) → along f.support a ≢ pos 0 → (e : RingEdge) → Ended f e → HasNoNormal (at_hit_of e.plane f.support a) → ⊥
 hit_has_normal f a nz e d n =
     course_nonzero f e d.end d.is (same_v (entry (ap (λ (v : Vector). v.x) whole))
     (entry (ap (λ (v : Vector). v.y) whole)) (entry (ap (λ (v : Vector). v.z) whole)))
@@ -92,8 +91,8 @@ hit_has_normal f a nz e d n =
 -- p isn't on the planes of f, as its rays meet them, that have a normal
 pub record IsOffFace (f : Face) (p : Spot) : Type 0 where
   pub weight : pos 0 <ℤ p.w
-  pub support : value_at f.support p ≡ pos 0 → NoNormal f.support
-  pub hits : (a : Axis) → AllByRecursion (λ g. value_at (at_hit_of g f.support a) p ≡ pos 0 → NoNormal (at_hit_of g f.support a)) f.edges
+  pub support : value_at f.support p ≡ pos 0 → HasNoNormal f.support
+  pub hits : (a : Axis) → AllByRecursion (λ g. value_at (at_hit_of g f.support a) p ≡ pos 0 → HasNoNormal (at_hit_of g f.support a)) f.edges
 
 -- a point off the planes of an outlined face is clear of it
 pub off_face_is_clear : (w : WrittenFace) (p : Spot) → IsOutlined w → IsOffFace (face_from w) p → IsClear (face_from w) p
@@ -110,7 +109,7 @@ off_face_is_clear w p line o =
     missed : (a : Axis) → along w.support a ≢ pos 0 → (es : List RingEdge) →
         AllByRecursion (λ e. Ended (face_from w) e) es →
         AllByRecursion (λ g. value_at (at_hit_of g w.support a) p ≡ pos 0 →
-        NoNormal (at_hit_of g w.support a)) (map (λ e. e.plane) es) →
+        HasNoNormal (at_hit_of g w.support a)) (map (λ e. e.plane) es) →
         AllByRecursion (λ g. value_at g (hit w.support a p) ≢ pos 0) (map (λ e. e.plane) es)
     missed a nz [] ds o = tt
     missed a nz (e ∷ es) ds o =

@@ -11,11 +11,10 @@ use Rattle.ember_model.specs.declared.point.Spot.{Spot}
 use Rattle.ember_model.specs.declared.point.Axis.{Axis}
 use Rattle.ember_model.specs.declared.point.Axis.TheVariants.{X, Y, Z}
 use Rattle.ember_model.specs.declared.tri.Tri.{Tri}
-use Rattle.ember_model.specs.Planes.{value_at, unit, support_of, edge_through}
+use Rattle.ember_model.specs.Planes.{value_at, unit, support_of, edge_through, HasNoNormal}
 use Rattle.ember_model.specs.Clear.{IsClear, IsClearOf, AreClear}
 use Rattle.ember_model.specs.Meshes.{faces_of}
 use Rattle.ember_model.specs.FaceFiles.{WrittenFace}
-use Rattle.ember_law.proofs.Shifted.{NoNormal}
 use Rattle.ember_law.proofs.Generic.{IsOff, at_hit_of}
 use Rattle.ember_law.proofs.GenericClear.{off_clear, clear_faces}
 use Rattle.ember_poly.proofs.Chains.{each_map}
@@ -120,11 +119,11 @@ module _ (x : Spot) (d : Vector) (t : Spot) (c : Axis) (sa sb : ℤ) (heavy : po
 
   -- the planes are missed
   off_all : (hs : List Plane) → AllByRecursion (λ h. IsGeneral d t h) hs →
-      Eventually (λ m. AllByRecursion (λ h. value_at h (corner c t (pos m) sa sb) ≡ pos 0 → NoNormal h) hs)
+      Eventually (λ m. AllByRecursion (λ h. value_at h (corner c t (pos m) sa sb) ≡ pos 0 → HasNoNormal h) hs)
   off_all hs g =
       eventually_each (λ h m. value_at h (corner c t (pos m) sa sb) ≡ pos 0 →
-      NoNormal h) hs (each_map (λ h. IsGeneral d t h)
-      (λ h. Eventually (λ m. value_at h (corner c t (pos m) sa sb) ≡ pos 0 → NoNormal h)) hs
+      HasNoNormal h) hs (each_map (λ h. IsGeneral d t h)
+      (λ h. Eventually (λ m. value_at h (corner c t (pos m) sa sb) ≡ pos 0 → HasNoNormal h)) hs
       (λ h. off_corner h c d t sa sb nc na nb) g)
 
   clear_tri : (u : Tri) → IsReadyTri d t u → Eventually (λ m. IsClearOf u (corner c t (pos m) sa sb))
@@ -151,13 +150,13 @@ module _ (x : Spot) (d : Vector) (t : Spot) (c : Axis) (sa sb : ℤ) (heavy : po
     where
       off_hits : (a : Axis) → Eventually (λ m. AllByRecursion
           (λ g. value_at (at_hit_of g w.support a) (corner c t (pos m) sa sb) ≡ pos 0 →
-          NoNormal (at_hit_of g w.support a)) (map (λ e. e.plane) w.edges))
+          HasNoNormal (at_hit_of g w.support a)) (map (λ e. e.plane) w.edges))
       off_hits a =
           eventually_each (λ g m. value_at (at_hit_of g w.support a) (corner c t (pos m) sa sb) ≡ pos 0 →
-          NoNormal (at_hit_of g w.support a)) (map (λ e. e.plane) w.edges)
+          HasNoNormal (at_hit_of g w.support a)) (map (λ e. e.plane) w.edges)
           (each_map (λ g. IsGeneral d t (at_hit_of g w.support a))
           (λ g. Eventually (λ m. value_at (at_hit_of g w.support a) (corner c t (pos m) sa sb) ≡ pos 0 →
-          NoNormal (at_hit_of g w.support a))) (map (λ e. e.plane) w.edges)
+          HasNoNormal (at_hit_of g w.support a))) (map (λ e. e.plane) w.edges)
           (λ g. off_corner (at_hit_of g w.support a) c d t sa sb nc na nb) (r.hits a))
 
   clear_all : (ws : List WrittenFace) → AllByRecursion IsOutlined ws → AllByRecursion (λ w. IsReadyFace x d t w) ws →

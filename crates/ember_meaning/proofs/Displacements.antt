@@ -4,19 +4,21 @@ use Rattle.std.proofs.lemmas.Bool.{and_parts}
 use Rattle.ember_algebra.specs.Vector.{Vector, zero_v, plus_v, minus_v, scale_v, dot, cross}
 use Rattle.ember_algebra.specs.Sign.{is_zero}
 use Rattle.ember_algebra.proofs.Laws.{linear}
-use Rattle.ember_algebra.proofs.Order.{zero_product, pos_mul, mul_neg_neg}
-use Rattle.ember_algebra.proofs.Ring.{◌⊖◌, ◌⊗◌, ◌≈◌, num, cancels}
-use Rattle.ember_algebra.proofs.Vectors.{vector, tuple, scalar, identity, vector_identity, same_v, TupleE, VectorE}
-use Rattle.ember_algebra.proofs.Vectors.{dotE, crossE, valueE, scaleE, plusE, minusE, ◌≈v◌, cancels_v, square_positive}
+use Rattle.ember_algebra.proofs.Order.{zero_product}
+use Rattle.ember_algebra.proofs.Ring.{◌≈◌, num, cancels}
+use Rattle.ember_algebra.proofs.Vectors.{vector, tuple, scalar, identity, vector_identity, same_v, VectorE}
+use Rattle.ember_algebra.proofs.Vectors.{dotE, crossE, scaleE, plusE, minusE, ◌≈v◌, cancels_v, square_positive}
 use Rattle.ember_algebra.proofs.Identities.{dot_zero, parallel_products}
 use Rattle.ember_model.specs.declared.plane.Plane.{Plane}
 use Rattle.ember_model.specs.declared.point.Spot.{Spot}
 use Rattle.ember_model.specs.Planes.{value_at}
 use Rattle.ember_model.specs.Edges.{normal}
 use Rattle.ember_model.proofs.SignTests.{clash, zero_out, positive_nonzero, zero_scaled, zero_times}
-use Rattle.ember_model.proofs.Tuples.{plane_tuple, spot_tuple, normalE}
+use Rattle.ember_model.proofs.Tuples.{spot_tuple}
+use Rattle.ember_model.specs.Points.{displacement}
+use Rattle.ember_model.proofs.Displacements.{displacementE, displacement_value}
 use Rattle.ember_law.proofs.Generic.{cancel_zero}
-use Rattle.ember_meaning.specs.Closed.Chains.{displacement, is_zero_vector}
+use Rattle.ember_meaning.specs.Closed.Chains.{is_zero_vector}
 
 -- ---- a vector that is 0
 -- a vector that passes the test is 0
@@ -39,15 +41,6 @@ orthogonal_to_none h {v} e =
     dot_zero h v (ap (λ (v : Vector). v.x) e) (ap (λ (v : Vector). v.y) e) (ap (λ (v : Vector). v.z) e)
 
 -- ---- displacements on expressions
-abbrev pub displacementE : TupleE → TupleE → VectorE
-displacementE u v =
-    record { x = u.w ⊗ v.x ⊖ v.w ⊗ u.x; y = u.w ⊗ v.y ⊖ v.w ⊗ u.y; z = u.w ⊗ v.z ⊖ v.w ⊗ u.z }
-
--- how a plane's value changes over a displacement
-pub displacement_value : (h : Plane) (u v : Spot) → u.w *ℤ value_at h v -ℤ v.w *ℤ value_at h u ≡ dot (normal h) (displacement u v)
-displacement_value h u v =
-    identity (tuple ∷ tuple ∷ tuple ∷ []) (λ h u v. u.w ⊗ valueE h v ⊖ v.w ⊗ valueE h u ≈ dotE (normalE h)
-    (displacementE u v)) cancels (plane_tuple h) (spot_tuple u) (spot_tuple v)
 
 -- a plane that is 0 at u is 0 if its normal has no product with the way
 pub zero_carried : (h : Plane) (u v : Spot) → pos 0 <ℤ u.w → value_at h u ≡ pos 0 → dot (normal h) (displacement u v) ≡ pos 0 → value_at h v ≡ pos 0

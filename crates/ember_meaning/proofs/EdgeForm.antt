@@ -16,22 +16,23 @@ use Rattle.ember_algebra.proofs.Identities.{parallel_products, orthogonal_parall
 use Rattle.ember_model.specs.declared.plane.Plane.{Plane}
 use Rattle.ember_model.specs.declared.point.Spot.{Spot}
 use Rattle.ember_model.specs.declared.face.Face.{Face}
-use Rattle.ember_model.specs.Planes.{value_at}
+use Rattle.ember_model.specs.Planes.{value_at, HasNoNormal}
 use Rattle.ember_model.specs.Edges.{RingEdge, IsEdge, normal, is_on_edge, IsEdgeChain, IsOutline}
 use Rattle.ember_model.specs.FaceFiles.{WrittenFace}
 use Rattle.ember_model.proofs.SignTests.{clash, negative_in, negative_not, positive_nonzero, zero_scaled, zero_times}
 use Rattle.ember_model.proofs.Tuples.{spot_tuple, normalE}
+use Rattle.ember_model.specs.Points.{displacement}
+use Rattle.ember_model.proofs.Displacements.{displacementE, displacement_value}
 use Rattle.ember_poly.specs.Rings.{IsNotAbove}
 use Rattle.ember_poly.proofs.Planar.{both_zero}
 use Rattle.ember_poly.proofs.FaceTests.{OnEdge, edge_in, edge_out}
 use Rattle.ember_poly.proofs.RingOutline.{each_get}
 use Rattle.ember_poly.proofs.Chains.{each_both}
 use Rattle.ember_poly.proofs.OutlinePoints.{Ended}
-use Rattle.ember_law.proofs.Shifted.{NoNormal}
-use Rattle.ember_meaning.specs.Closed.Chains.{DirectedEdge, displacement, is_zero_vector, is_parallel, is_on_line, reached}
+use Rattle.ember_meaning.specs.Closed.Chains.{DirectedEdge, is_zero_vector, is_parallel, is_on_line, reached}
 use Rattle.ember_meaning.specs.Closed.Chains.{coverage, edges_to, directed_edges, face_from, IsOutlined}
 use Rattle.ember_meaning.proofs.RectangleRound.{IsGeneral, IsGeneralFace, IsOffEnds, edge_turn}
-use Rattle.ember_meaning.proofs.Displacements.{displacementE, none_parallel, displacement_value, zero_carried}
+use Rattle.ember_meaning.proofs.Displacements.{none_parallel, zero_carried}
 use Rattle.ember_meaning.proofs.Displacements.{parallel_onward, Parallel, parallel_swap, parallel_orthogonal}
 use Rattle.ember_meaning.proofs.Displacements.{parallel_both, dot_swap, zero_vector_in, zero_vector_out}
 use Rattle.ember_meaning.proofs.Displacements.{zero_not, orthogonal_to_none}
@@ -271,7 +272,7 @@ edge_form d t f e end wt nd general edge off = by (is_on_edge f e.plane t) refl
         off_edge f e end edge d t wt (zero_not nd) h ∙ sym (ap (λ (b : Bool). cond b (sign (dot (cross (normal f.support) (normal e.plane)) d)) (pos 0)) h)
 
 -- a face with an edge has a support plane with a normal
-pub has_normal : (f : Face) (e : RingEdge) → Ended f e → NoNormal f.support → ⊥
+pub has_normal : (f : Face) (e : RingEdge) → Ended f e → HasNoNormal f.support → ⊥
 has_normal f e p n = course_nonzero f e p.end p.is (none_parallel (normal e.plane) (same_v n.0 n.1 n.2))
 
 path_form : (d : Vector) (t : Spot) (f : Face) (end : Spot) (es : List RingEdge) → pos 0 <ℤ t.w →

@@ -19,7 +19,7 @@ use Rattle.ember_model.specs.declared.point.Spot.{Spot}
 use Rattle.ember_model.specs.declared.point.Axis.{Axis}
 use Rattle.ember_model.specs.declared.point.Axis.TheVariants.{X, Y, Z}
 use Rattle.ember_model.specs.declared.face.Face.{Face}
-use Rattle.ember_model.specs.Planes.{value_at, along, unit}
+use Rattle.ember_model.specs.Planes.{value_at, along, unit, HasNoNormal}
 use Rattle.ember_model.specs.Faces.{is_in_closed, between, leg}
 use Rattle.ember_model.specs.ClearTest.{none_positive}
 use Rattle.ember_model.specs.Edges.{RingEdge, normal}
@@ -27,7 +27,7 @@ use Rattle.ember_model.specs.FaceFiles.{WrittenFace}
 use Rattle.ember_model.proofs.SignTests.{positive_in, zero_out, nonzero_out}
 use Rattle.ember_model.proofs.NearClearPoints.{FollowsEach}
 use Rattle.ember_model.proofs.Hits.{closed_on}
-use Rattle.ember_law.proofs.Shifted.{NoNormal, eventually_true}
+use Rattle.ember_law.proofs.Shifted.{eventually_true}
 use Rattle.ember_poly.specs.Rings.{IsBelow, IsNotAbove, InClosedFace}
 use Rattle.ember_poly.proofs.FaceTests.{closed_in, closed_out}
 use Rattle.ember_poly.proofs.OutlinePoints.{Ended, edge_has_end}
@@ -240,7 +240,7 @@ follow_corner c t sa sb [] = eventually_true (λ m. tt)
 follow_corner c t sa sb (h ∷ hs) = eventually_both (follows_corner h c t sa sb) (follow_corner c t sa sb hs)
 
 beside_corner : (c : Axis) (d : Vector) (t : Spot) (f : Face) (sa sb : ℤ) → pos 0 <ℤ t.w → component d c ≢ pos 0 →
-    sa ≢ pos 0 → sb ≢ pos 0 → IsGeneral d t f.support → (NoNormal f.support → ⊥) →
+    sa ≢ pos 0 → sb ≢ pos 0 → IsGeneral d t f.support → (HasNoNormal f.support → ⊥) →
     Eventually (λ m. IsBeside f t (corner c t (pos m) sa sb))
 beside_corner c d t f sa sb wt nc na nb g n =
     eventually_map (λ m h. record { weight = h.0; off = λ z. n (h.1.0 z); support = h.1.1.0; edges = h.1.1.1 })

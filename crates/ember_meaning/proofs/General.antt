@@ -22,10 +22,9 @@ use Rattle.ember_model.specs.Meshes.{of_mesh, IsBalanced, vector, faces_of}
 use Rattle.ember_algebra.specs.Large.{Eventually}
 use Rattle.ember_expr.specs.Truth.{truth}
 use Rattle.ember_box.specs.Sums.{number}
-use Rattle.ember_ref.proofs.FarTriangles.{inside_closed}
 use Rattle.ember_ref.proofs.NearPoints.{near_point}
 use Rattle.ember_trace.specs.Boxed.{IsRegion}
-use Rattle.ember_model.proofs.Hits.{inside_parts}
+use Rattle.ember_model.proofs.Hits.{inside_parts, inside_closed}
 use Rattle.ember_expr.specs.Formula.{Formula}
 use Rattle.ember_box.specs.Boxes.{Cell}
 use Rattle.ember_box.specs.Near.{near, is_near, tri_at, no_tri}

@@ -18,7 +18,7 @@ use Rattle.ember_model.specs.declared.plane.Plane.{Plane}
 use Rattle.ember_model.specs.declared.point.Spot.{Spot}
 use Rattle.ember_model.specs.declared.point.Axis.{Axis}
 use Rattle.ember_model.specs.declared.point.Axis.TheVariants.{X, Y, Z}
-use Rattle.ember_model.specs.Planes.{value_at, along, unit, support_of, edge_through}
+use Rattle.ember_model.specs.Planes.{value_at, along, unit, support_of, edge_through, HasNoNormal}
 use Rattle.ember_model.specs.Points.{scaled, moved, offset_by}
 use Rattle.ember_model.specs.Faces.{size, hit, is_inside, is_flat, face_of}
 use Rattle.ember_model.specs.Clear.{AreClear, IsClearOf}
@@ -30,7 +30,7 @@ use Rattle.ember_law.proofs.FlatTriangles.{flat_in}
 use Rattle.ember_law.proofs.Generic.{cancel_zero, at_hit_of}
 use Rattle.ember_law.proofs.Generic.{IsOff as IsOffEdges, value_at_hit}
 use Rattle.ember_law.proofs.GenericClear.{off_clear, clear_faces}
-use Rattle.ember_law.proofs.Shifted.{NoNormal, off_shifted, weight_shifted}
+use Rattle.ember_law.proofs.Shifted.{off_shifted, weight_shifted}
 use Rattle.ember_box.specs.Boxes.{Cell}
 use Rattle.ember_box.specs.Near.{near, tri_at}
 use Rattle.ember_box.specs.Regions.{walls, cutting_planes}
@@ -95,7 +95,7 @@ module _ (a : Axis) (n g : Plane) (m : IsMultiple a n g) (crosses : along n a �
       outer (inr e) = absurd (s e)
 
 -- a plane that is 0 everywhere has no normal
-no_normal : (g : Plane) → ((v : Spot) → value_at g v ≡ pos 0) → NoNormal g
+no_normal : (g : Plane) → ((v : Spot) → value_at g v ≡ pos 0) → HasNoNormal g
 no_normal g z = (
   sym (solve 4 (λ a b c d. a ⊗ num (pos 1) ⊕ b ⊗ num (pos 0) ⊕ c ⊗ num (pos 0) ⊖ d ⊗ num (pos 0) ≈ a) cancels g.a g.b
       g.c g.d) ∙ z (record { x = pos 1; y = pos 0; z = pos 0; w = pos 0 }),
@@ -106,11 +106,11 @@ no_normal g z = (
 )
 
 -- a plane with no normal that is 0 at one point is 0 everywhere
-constant : (h : Plane) → NoNormal h → (v : Spot) → value_at h v ≡ neg_ℤ (v.w *ℤ h.d)
+constant : (h : Plane) → HasNoNormal h → (v : Spot) → value_at h v ≡ neg_ℤ (v.w *ℤ h.d)
 constant h n v =
     rw (n.0, n.1, n.2) (solve 5 (λ d x y z w. num (pos 0) ⊗ x ⊕ num (pos 0) ⊗ y ⊕ num (pos 0) ⊗ z ⊖ d ⊗ w ≈ neg (w ⊗ d)) cancels h.d v.x v.y v.z v.w)
 
-all_zero : (h : Plane) (q : Spot) → pos 0 <ℤ q.w → NoNormal h → value_at h q ≡ pos 0 → (v : Spot) → value_at h v ≡ pos 0
+all_zero : (h : Plane) (q : Spot) → pos 0 <ℤ q.w → HasNoNormal h → value_at h q ≡ pos 0 → (v : Spot) → value_at h v ≡ pos 0
 all_zero h q w n e v =
     constant h n v ∙ ap neg_ℤ (zero_scaled v.w h.d (cancel_zero q.w h.d w (none (q.w *ℤ h.d) (sym (constant h n q) ∙ e))))
   where
@@ -194,17 +194,17 @@ module _ (k : Axis) (q : Spot) (weight : pos 0 <ℤ q.w) (n : Plane) (crosses : 
   at m = moved (scaled (pos m) (hit n k q)) k e
 
   -- directly beside the place no plane with a normal is met
-  off_beside : (g : Plane) → IsGeneralTo k q n g → Eventually (λ m. value_at g (at m) ≡ pos 0 → NoNormal g)
+  off_beside : (g : Plane) → IsGeneralTo k q n g → Eventually (λ m. value_at g (at m) ≡ pos 0 → HasNoNormal g)
   off_beside g h = by_sign (value_at g (hit n k q)) above on under
     where
       ray : (m : ℕ) → value_at g (at m) ≡ pos 0 → pos m *ℤ value_at g (hit n k q) +ℤ e *ℤ along g k ≡ pos 0
       ray m z = sym (value_ray g k (hit n k q) (pos m) e) ∙ z
 
-      above : pos 0 <ℤ value_at g (hit n k q) → Eventually (λ m. value_at g (at m) ≡ pos 0 → NoNormal g)
+      above : pos 0 <ℤ value_at g (hit n k q) → Eventually (λ m. value_at g (at m) ≡ pos 0 → HasNoNormal g)
       above l =
           eventually_map (λ m p z. absurd (not_up (pos m) (value_at g (hit n k q)) (e *ℤ along g k) p (ray m z))) (eventually_pos (e *ℤ along g k) l)
 
-      under : value_at g (hit n k q) <ℤ pos 0 → Eventually (λ m. value_at g (at m) ≡ pos 0 → NoNormal g)
+      under : value_at g (hit n k q) <ℤ pos 0 → Eventually (λ m. value_at g (at m) ≡ pos 0 → HasNoNormal g)
       under l =
           eventually_map (λ m p z. absurd (not_down (pos m) (value_at g (hit n k q)) (e *ℤ along g k) p (ray m z)))
           (eventually_pos {a = neg_ℤ (value_at g (hit n k q))} (neg_ℤ (e *ℤ along g k)) (omega (arith, linear, l)))
@@ -216,7 +216,7 @@ module _ (k : Axis) (q : Spot) (weight : pos 0 <ℤ q.w) (n : Plane) (crosses : 
       flat (inl z) = absurd (steps z)
       flat (inr z) = z
 
-      on : value_at g (hit n k q) ≡ pos 0 → Eventually (λ m. value_at g (at m) ≡ pos 0 → NoNormal g)
+      on : value_at g (hit n k q) ≡ pos 0 → Eventually (λ m. value_at g (at m) ≡ pos 0 → HasNoNormal g)
       on l =
           record {
             from = 0;

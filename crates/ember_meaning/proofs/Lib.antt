@@ -45,3 +45,6 @@ pub mod SameFaces
 pub mod ReadFaces
 pub mod Nearby
 pub mod SameWritten
+pub mod MissedNearby
+pub mod Fragments
+pub mod WholeFaces

@@ -10,11 +10,11 @@ use Rattle.ember_model.specs.declared.point.Spot.{Spot}
 use Rattle.ember_model.specs.declared.face.Face.{Face}
 use Rattle.ember_model.specs.Planes.{value_at}
 use Rattle.ember_model.specs.Edges.{RingEdge, SameEdge, HaveDistinctEdges, normal, is_on_edge}
+use Rattle.ember_model.specs.Points.{displacement}
 use Rattle.ember_poly.specs.Rings.{IsBelow, IsNotAbove, InClosedFace}
 use Rattle.ember_poly.proofs.Chains.{each_both}
 use Rattle.ember_poly.proofs.FaceTests.{edge_in, edge_out}
 use Rattle.ember_poly.proofs.OutlinePoints.{Ended}
-use Rattle.ember_meaning.specs.Closed.Chains.{displacement}
 use Rattle.ember_meaning.proofs.RectangleRound.{IsGeneral}
 use Rattle.ember_meaning.proofs.Displacements.{zero_carried, parallel_orthogonal}
 use Rattle.ember_meaning.proofs.EdgeForm.{on_line}

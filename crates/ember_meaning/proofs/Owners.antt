@@ -10,11 +10,11 @@ use Rattle.ember_model.specs.declared.face.Face.{Face}
 use Rattle.ember_model.specs.Faces.{is_inside, is_flat, face_of}
 use Rattle.ember_model.specs.Owners.{is_coplanar, IsOwner}
 use Rattle.ember_model.proofs.SignTests.{clash}
+use Rattle.ember_model.proofs.Hits.{inside_closed}
 use Rattle.ember_box.specs.Boxes.{Cell}
 use Rattle.ember_box.specs.Near.{near, tri_at, no_tri}
 use Rattle.ember_box.specs.Sums.{number}
 use Rattle.ember_box.specs.Regions.{IsRegions}
-use Rattle.ember_ref.proofs.FarTriangles.{inside_closed}
 use Rattle.ember_trace.proofs.BoxedRegions.{region_inside}
 use Rattle.ember_trace.proofs.CutRegions.{IsCutOut, region_cut}
 use Rattle.ember_trace.proofs.FlatPlanes.{lies_flat, shared_face}

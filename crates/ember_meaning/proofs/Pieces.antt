@@ -19,12 +19,15 @@ use Rattle.ember_algebra.proofs.Booleans.{same_test}
 use Rattle.ember_model.specs.declared.point.Spot.{Spot}
 use Rattle.ember_model.proofs.SignTests.{negative_in, negative_not, positive_in, clash, is_positive-neg}
 use Rattle.ember_model.proofs.Tuples.{spot_tuple}
-use Rattle.ember_meaning.specs.Closed.Chains.{DirectedEdge, displacement, is_zero_vector, is_same_point, is_parallel, is_on_line}
+use Rattle.ember_model.specs.Points.{displacement}
+use Rattle.ember_model.proofs.Displacements.{displacementE}
+use Rattle.ember_meaning.specs.Closed.Chains.{DirectedEdge, is_zero_vector, is_same_point, is_parallel, is_on_line}
 use Rattle.ember_meaning.specs.Closed.Chains.{reached, coverage, IsEvenlyCovered, is_ahead, is_between, IsUnbroken, leads_over}
 use Rattle.ember_meaning.specs.Closed.Chains.{ArePiecesPaired}
-use Rattle.ember_meaning.proofs.Displacements.{zeroE, displacementE, Parallel, parallel_onward}
+use Rattle.ember_meaning.proofs.Displacements.{zeroE, Parallel, parallel_onward}
 use Rattle.ember_meaning.proofs.Displacements.{parallel_back, zero_vector_in, zero_vector_out, zero_not}
-use Rattle.ember_meaning.proofs.Starts.{one_if, againstE, parallel_against}
+use Rattle.ember_meaning.proofs.Starts.{againstE, parallel_against}
+use Rattle.ember_meaning.specs.Regions.Meaning.{one_if}
 
 -- ---- tests of a number and its negative
 module _ (x y : Spot) where

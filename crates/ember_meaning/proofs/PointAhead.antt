@@ -20,8 +20,10 @@ use Rattle.ember_model.specs.Planes.{value_at}
 use Rattle.ember_model.specs.Edges.{normal}
 use Rattle.ember_model.proofs.SignTests.{negative_in, negative_not, nonzero_out, positive_nonzero, negative_nonzero, sgn_scaled}
 use Rattle.ember_model.proofs.Tuples.{plane_tuple, spot_tuple, normalE}
-use Rattle.ember_meaning.specs.Closed.Chains.{DirectedEdge, displacement, is_zero_vector, is_on_line, is_parallel, reached, coverage}
-use Rattle.ember_meaning.proofs.Displacements.{displacementE, zero_not}
+use Rattle.ember_model.specs.Points.{displacement}
+use Rattle.ember_model.proofs.Displacements.{displacementE}
+use Rattle.ember_meaning.specs.Closed.Chains.{DirectedEdge, is_zero_vector, is_on_line, is_parallel, reached, coverage}
+use Rattle.ember_meaning.proofs.Displacements.{zero_not}
 use Rattle.ember_meaning.proofs.RectangleRound.{ahead, IsGeneral, IsOffEnds, component}
 
 -- ---- directions

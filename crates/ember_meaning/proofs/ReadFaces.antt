@@ -7,9 +7,10 @@ use Rattle.ember_algebra.specs.Relations.{Each, none, more, Every}
 use Rattle.ember_algebra.proofs.Relations.{every_unit}
 use Rattle.ember_model.specs.declared.tri.Tri.{Tri}
 use Rattle.ember_model.specs.declared.face.Face.{Face}
-use Rattle.ember_model.specs.FaceFiles.{WrittenFace, IsWrittenFace, face_lines, header, ending}
+use Rattle.ember_model.specs.FaceFiles.{WrittenFace, IsWrittenFace, header, ending, written_lines}
 use Rattle.ember_model.specs.Limits.{most_meshes}
 use Rattle.ember_model.specs.Meshes.{IsScene}
+use Rattle.ember_model.proofs.FlippedFaces.{inside-flipped}
 use Rattle.ember_width.specs.declared.width.Width.{Ghosts}
 use Rattle.ember_width.specs.Scenes.{IsSceneWithin}
 use Rattle.ember_poly.specs.Cuts.{HasInside}
@@ -31,7 +32,6 @@ use Rattle.ember_text.specs.Texts.{IsTextInRange, oriented_face}
 use Rattle.ember_text.specs.Documents.{IsDocumentText, written_face}
 use Rattle.ember_text.specs.OutlineFaces.{AreOutlineFaces}
 use Rattle.ember_meaning.specs.Regions.Meaning.{IsFalseOutside, HaveMeaning, AreSurfaceWithMeaning, ReadsWithMeaning}
-use Rattle.ember_meaning.proofs.FlippedFaces.{inside-turned}
 use Rattle.ember_meaning.proofs.Tree.{leaf_boxes}
 use Rattle.ember_meaning.proofs.ClearMeaning.{narrowed, written_of_boxes, meaning_within, meaning_of_written}
 use Rattle.ember_meaning.proofs.SameFaces.{HaveSamePoints, same_meaning}
@@ -48,7 +48,7 @@ of_region scene x near i face ks (written {before = a} {after = b} o s n) =
     (filled (truth (front face a b) x), tt)
   where
     filled : (b : Bool) → HasInside (oriented_face face b)
-    filled true = record { at = s.at; inside = inside-turned face s.at ∙ s.inside; holds = tt }
+    filled true = record { at = s.at; inside = inside-flipped face s.at ∙ s.inside; holds = tt }
     filled false = record { at = s.at; inside = s.inside; holds = tt }
 
 of_place : (scene : List Tri) (x : Formula) (c : Cell) (near : List Tri) (i : ℕ) (ks : List Kept) → IsWrittenOf scene x c near i ks → Every IsFilled ks
@@ -69,14 +69,12 @@ written_regions_are_filled : (scene : List Tri) (x : Formula) (ks : List Kept) �
 written_regions_are_filled scene x ks w = leaves_are_filled scene x (leaves scene root) ks w
 
 -- ---- the faces of texts
-abbrev lines_of : WrittenFace → List ℕ
-lines_of w = face_lines w.support w.edges
 
 -- the texts are the lines of written faces, whose points are those of these faces
 record ReadAs (fs : List Face) (texts : List ℕ) : Type 0 where
   written : List WrittenFace
   well_formed : All IsWrittenFace written
-  is : texts ≡ flat_map lines_of written
+  is : texts ≡ flat_map written_lines written
   count : length fs ≡ length written
   same : HaveSamePoints fs (map face_from written)
   outlined : AllByRecursion IsOutlined written
@@ -89,7 +87,7 @@ texts_read (k ∷ ks) h (more {ys = ys} {zs = zs} t ts) =
     record {
       written = w ∷ s.written;
       well_formed = All-cons IsWrittenFace w s.written t.written s.well_formed;
-      is = (λ i. t.text_is.is i ++ s.is i) ∙ sym (flat_map-cons lines_of w s.written);
+      is = (λ i. t.text_is.is i ++ s.is i) ∙ sym (flat_map-cons written_lines w s.written);
       count = ap (λ n. suc n) s.count;
       same = (outline_has_its_points f t.text_is.outline h.0 t.text_is.is_outline, s.same);
       outlined = (outline_is_its_own f t.text_is.outline h.0 t.text_is.is_outline, s.outlined);

@@ -12,12 +12,11 @@ use Rattle.ember_model.specs.declared.plane.Plane.{Plane}
 use Rattle.ember_model.specs.declared.point.Spot.{Spot}
 use Rattle.ember_model.specs.declared.point.Axis.{Axis}
 use Rattle.ember_model.specs.declared.point.Axis.TheVariants.{X, Y, Z}
-use Rattle.ember_model.specs.Planes.{value_at, along}
+use Rattle.ember_model.specs.Planes.{value_at, along, HasNoNormal}
 use Rattle.ember_model.specs.Points.{scaled, moved}
 use Rattle.ember_model.specs.Edges.{normal}
 use Rattle.ember_model.proofs.NearClearPoints.{Follows}
 use Rattle.ember_model.proofs.PlaneValues.{value_scaled, value_moved}
-use Rattle.ember_law.proofs.Shifted.{NoNormal}
 use Rattle.ember_meaning.proofs.RectangleRound.{IsGeneral, component, next, corner}
 
 -- the value of a plane at a corner
@@ -76,14 +75,14 @@ lone k x b y c z n eb ec e =
 
 -- a normal with no part along two axes and no product with d
 no_normal : (h : Plane) (c : Axis) (d : Vector) → component d c ≢ pos 0 → dot (normal h) d ≡ pos 0 →
-    along h (next (next c)) ≡ pos 0 → along h (next c) ≡ pos 0 → NoNormal h
+    along h (next (next c)) ≡ pos 0 → along h (next c) ≡ pos 0 → HasNoNormal h
 no_normal h X d n z b a = (lone h.a d.x h.b d.y h.c d.z n a b z, a, b)
 no_normal h Y d n z b a = (b, lone h.b d.y h.a d.x h.c d.z n b a (omega (arith, linear, z)), a)
 no_normal h Z d n z b a = (a, b, lone h.c d.z h.a d.x h.b d.y n a b (omega (arith, linear, z)))
 
 -- a plane that is 0 at a corner has no normal
 pub off_corner : (h : Plane) (c : Axis) (d : Vector) (t : Spot) (sa sb : ℤ) → component d c ≢ pos 0 → sa ≢ pos 0 →
-    sb ≢ pos 0 → IsGeneral d t h → Eventually (λ m. value_at h (corner c t (pos m) sa sb) ≡ pos 0 → NoNormal h)
+    sb ≢ pos 0 → IsGeneral d t h → Eventually (λ m. value_at h (corner c t (pos m) sa sb) ≡ pos 0 → HasNoNormal h)
 off_corner h c d t sa sb n na nb g =
     record {
       from = reach h c sa sb + 1;
@@ -104,6 +103,6 @@ off_corner h c d t sa sb n na nb g =
         (λ p. let q = horner_neg (b ∷ []) a l s.1 p in absurd (omega (arith, linear, q, ea))))
         (λ p. let q = horner_neg (a ∷ b ∷ []) v l s p in absurd (omega (arith, linear, q, e)))
 
-    from : (value_at h t ≡ pos 0) × (step_one h c sb ≡ pos 0) × (step_two h c sa ≡ pos 0) → NoNormal h
+    from : (value_at h t ≡ pos 0) × (step_one h c sb ≡ pos 0) × (step_two h c sa ≡ pos 0) → HasNoNormal h
     from z =
         no_normal h c d n (g.contains z.0) (⊎_elim (λ e. absurd (nb e)) (λ e. e) (zero_product z.1)) (⊎_elim (λ e. absurd (na e)) (λ e. e) (zero_product z.2))

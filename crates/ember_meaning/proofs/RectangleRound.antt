@@ -9,10 +9,10 @@ use Rattle.ember_model.specs.declared.point.Axis.{Axis}
 use Rattle.ember_model.specs.declared.point.Axis.TheVariants.{X, Y, Z}
 use Rattle.ember_model.specs.declared.face.Face.{Face}
 use Rattle.ember_model.specs.Planes.{value_at}
-use Rattle.ember_model.specs.Points.{scaled, moved}
+use Rattle.ember_model.specs.Points.{scaled, moved, displacement}
 use Rattle.ember_model.specs.Faces.{leg}
 use Rattle.ember_model.specs.Edges.{RingEdge, normal, is_on_edge}
-use Rattle.ember_meaning.specs.Closed.Chains.{DirectedEdge, displacement}
+use Rattle.ember_meaning.specs.Closed.Chains.{DirectedEdge}
 
 -- ---- on a line
 -- the point a little ahead of x along d, if m is large

@@ -5,11 +5,11 @@ use Rattle.ember_algebra.specs.Large.{Eventually}
 use Rattle.ember_algebra.proofs.Large.{eventually_both, eventually_map}
 use Rattle.ember_model.specs.declared.point.Spot.{Spot}
 use Rattle.ember_model.specs.declared.point.Axis.{Axis}
-use Rattle.ember_model.specs.Planes.{value_at}
+use Rattle.ember_model.specs.Planes.{value_at, HasNoNormal}
 use Rattle.ember_model.specs.Points.{offset_by}
 use Rattle.ember_model.specs.Clear.{IsClear, AreClear}
 use Rattle.ember_model.specs.FaceFiles.{WrittenFace}
-use Rattle.ember_law.proofs.Shifted.{NoNormal, off_shifted, weight_shifted, eventually_true}
+use Rattle.ember_law.proofs.Shifted.{off_shifted, weight_shifted, eventually_true}
 use Rattle.ember_law.proofs.Generic.{at_hit_of}
 use Rattle.ember_poly.proofs.InsideSigns.{eventually_each}
 use Rattle.ember_meaning.specs.Closed.Chains.{face_from, IsOutlined}
@@ -25,12 +25,12 @@ module _ (p : Spot) (weight : pos 0 <ℤ p.w) where
     where
       off_hits : (a : Axis) → Eventually (λ k. AllByRecursion
           (λ g. value_at (at_hit_of g w.support a) (offset_by p (pos k)) ≡ pos 0 →
-          NoNormal (at_hit_of g w.support a)) (map (λ e. e.plane) w.edges))
+          HasNoNormal (at_hit_of g w.support a)) (map (λ e. e.plane) w.edges))
       off_hits a =
           eventually_each (λ g k. value_at (at_hit_of g w.support a) (offset_by p (pos k)) ≡ pos 0 →
-          NoNormal (at_hit_of g w.support a)) (map (λ e. e.plane) w.edges)
+          HasNoNormal (at_hit_of g w.support a)) (map (λ e. e.plane) w.edges)
           (all_of (λ g. Eventually (λ k. value_at (at_hit_of g w.support a) (offset_by p (pos k)) ≡ pos 0 →
-          NoNormal (at_hit_of g w.support a))) (map (λ e. e.plane) w.edges)
+          HasNoNormal (at_hit_of g w.support a))) (map (λ e. e.plane) w.edges)
           (λ g. off_shifted p (at_hit_of g w.support a)))
 
   -- near every point there are points that are clear of outlined faces

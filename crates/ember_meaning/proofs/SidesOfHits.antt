@@ -26,7 +26,8 @@ use Rattle.ember_box.specs.Near.{near, tri_at}
 use Rattle.ember_leaf.specs.Written.{front}
 use Rattle.ember_trace.specs.Boxed.{IsRegion}
 use Rattle.ember_trace.proofs.CutRegions.{IsCutOut, region_cut}
-use Rattle.ember_trace.proofs.OneSides.{OneSign, balanced_before, balanced_after}
+use Rattle.ember_law.proofs.Beside.{OneSign}
+use Rattle.ember_trace.proofs.OneSides.{balanced_before, balanced_after}
 use Rattle.ember_meaning.proofs.HitConditions.{behind, before_hit, after_hit}
 
 -- ---- signs

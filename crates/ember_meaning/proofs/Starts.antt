@@ -14,10 +14,12 @@ use Rattle.ember_algebra.proofs.Vectors.{VectorE, vector, identity, vector_ident
 use Rattle.ember_algebra.proofs.Booleans.{same_test}
 use Rattle.ember_model.specs.declared.point.Spot.{Spot}
 use Rattle.ember_model.proofs.SignTests.{clash, zero_out, and_true}
-use Rattle.ember_meaning.specs.Closed.Chains.{DirectedEdge, displacement, is_zero_vector, is_same_point, is_parallel, is_on_line}
+use Rattle.ember_model.specs.Points.{displacement}
+use Rattle.ember_meaning.specs.Closed.Chains.{DirectedEdge, is_zero_vector, is_same_point, is_parallel, is_on_line}
 use Rattle.ember_meaning.specs.Closed.Chains.{reached, coverage, IsEvenlyCovered, IsClosed}
 use Rattle.ember_meaning.proofs.Displacements.{Parallel, parallel_none, none_parallel, parallel_back, parallel_onward}
 use Rattle.ember_meaning.proofs.Displacements.{orthogonal_to_none, dot_swap, zero_vector_in, zero_vector_out, zero_not}
+use Rattle.ember_meaning.specs.Regions.Meaning.{one_if}
 
 -- ---- the other direction
 -- the vector with the opposite direction
@@ -44,8 +46,6 @@ dot_against : (v d : Vector) → dot v (against d) ≡ neg_ℤ (dot v d)
 dot_against = identity (vector ∷ vector ∷ []) (λ v d. dotE v (againstE d) ≈ neg (dotE v d)) cancels
 
 -- ---- one end
-abbrev pub one_if : Bool → ℤ
-one_if b = cond b (pos 1) (pos 0)
 
 -- reached both ways, where the end is at x
 both_ways : (d : Vector) (u x : Spot) → reached d u x +ℤ reached (against d) u x ≡ pos 1 +ℤ one_if (is_zero (dot (displacement u x) d))

@@ -1,2 +1,3 @@
 pub mod Closed
 pub mod Regions
+pub mod Whole

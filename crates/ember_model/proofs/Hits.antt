@@ -1,8 +1,9 @@
 -- Edge planes at two points of one place, and the hit of a ray: it lies on the support plane, so that the edge planes decide.
-use Rattle.std.proofs.Common.{◌≡◌, ◌≢◌, refl, sym, ap, ◌∙◌, Bool, true, false, cond, not, ◌&&◌, List, [], ◌∷◌, ℤ, pos, negsuc, ◌+ℤ◌, ◌*ℤ◌, neg_ℤ, ◌<ℤ◌}
+use Rattle.std.proofs.Common.{◌≡◌, ◌≢◌, refl, sym, ap, ◌∙◌, Bool, true, false, cond, not, ◌&&◌, List, [], ◌∷◌, ℤ, pos, negsuc, ◌+ℤ◌, ◌*ℤ◌, neg_ℤ, ◌<ℤ◌, arith}
 use Rattle.std.proofs.lemmas.Bool.{and_parts}
 use Rattle.ember_algebra.specs.declared.Sign.{Sign}
 use Rattle.ember_algebra.specs.Sign.{sign, sgn, is_neg, is_nil, is_pos, is_negative, is_zero, is_positive}
+use Rattle.ember_algebra.proofs.Laws.{linear}
 use Rattle.ember_algebra.proofs.Order.{pos_mul}
 use Rattle.ember_algebra.proofs.Ring.{◌⊕◌, ◌⊖◌, ◌⊗◌, ◌≈◌, num, solve, cancels}
 use Rattle.ember_model.specs.declared.plane.Plane.{Plane}
@@ -14,7 +15,7 @@ use Rattle.ember_model.specs.Planes.{value_at, along}
 use Rattle.ember_model.specs.Points.{scaled, moved}
 use Rattle.ember_model.specs.Faces.{size, is_inside, is_in_closed, hit, crossing}
 use Rattle.ember_model.specs.ClearTest.{none_positive, all_negative}
-use Rattle.ember_model.proofs.SignTests.{sgn_scaled, positive_in, size_positive, clash, zero_scaled, positive_out, zero_out}
+use Rattle.ember_model.proofs.SignTests.{sgn_scaled, positive_in, size_positive, clash, zero_scaled, positive_out, zero_out, negative_out, not_positive_in}
 use Rattle.ember_model.proofs.PlaneValues.{value_scaled, value_moved, hit_flat}
 
 -- ---- one place
@@ -26,11 +27,12 @@ Scales c x y = (g : Plane) → value_at g y ≡ c *ℤ value_at g x
 pub scaled_point_scales : (k : ℤ) (p : Spot) → Scales k p (scaled k p)
 scaled_point_scales k p g = value_scaled k g p
 
--- the weight is the value of a plane too
-abbrev weight_plane : Plane
+-- the plane whose value is the weight
+abbrev pub weight_plane : Plane
 weight_plane = record { a = pos 0; b = pos 0; c = pos 0; d = negsuc 0 }
 
-weight_is : (x : Spot) → value_at weight_plane x ≡ x.w
+-- the weight is the value of a plane too
+pub weight_is : (x : Spot) → value_at weight_plane x ≡ x.w
 weight_is x =
     solve 4 (λ x y z w. num (pos 0) ⊗ x ⊕ num (pos 0) ⊗ y ⊕ num (pos 0) ⊗ z ⊖ num (negsuc 0) ⊗ w ≈ w) cancels x.x x.y x.z x.w
 
@@ -144,3 +146,14 @@ unfolding crossing
 crossing_across f a p w nz =
     let h = hit_inside f a p nz w in
     λ i. cond (is_negative (value_at f.support p *ℤ along f.support a) && h i) (sign (along f.support a)) (pos 0)
+
+-- ---- inside points are in the closed face
+not_above : (x : Spot) (es : List Plane) → all_negative es x ≡ true → none_positive es x ≡ true
+not_above x [] h = refl
+not_above x (e ∷ es) h =
+    let p = and_parts (is_negative (value_at e x)) (all_negative es x) h in let n = negative_out (value_at e x) p.0 in
+    let a = not_positive_in (value_at e x) (omega (arith, linear, n)) in let b = not_above x es p.1 in λ i. a i && b i
+
+-- an inside point of a face is in the closed face
+pub inside_closed : (f : Face) (x : Spot) → is_inside f x ≡ true → is_in_closed f x ≡ true
+inside_closed f x h = let p = inside_parts f x h in closed_on f x (positive_in p.0) p.1 ∙ not_above x f.edges p.2

@@ -13,3 +13,5 @@ pub mod ScaledPoints
 pub mod Tuples
 pub mod LegSigns
 pub mod SameEdges
+pub mod FlippedFaces
+pub mod Displacements

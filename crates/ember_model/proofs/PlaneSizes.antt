@@ -1,5 +1,5 @@
 -- How large the planes of a valid triangle are.
-use Rattle.std.proofs.Common.{◌≡◌, ℕ, zero, suc, ◌+◌, ◌*◌, ◌≤◌, ℤ, pos, negsuc, ◌+ℤ◌, ◌-ℤ◌, ◌*ℤ◌, unsigned_abs}
+use Rattle.std.proofs.Common.{ℕ, zero, suc, ◌+◌, ◌*◌, ◌≤◌, ℤ, pos, negsuc, ◌-ℤ◌, ◌*ℤ◌, unsigned_abs}
 use Rattle.std.proofs.Common.{sym, subst, le_refl, mul-le-mul, lit≤, arith, List, [], ◌∷◌, All}
 use borrow.Author.Differences.{ints}
 use Rattle.std.proofs.lemmas.List.Elements.{All-cons, All-nil}
@@ -65,7 +65,8 @@ differences_within {m} {a} {b} {c} p q r = omega (arith, ints, p.small, q.small,
 times_sum : (m x y z : ℕ) → x + y + z ≤ 4 * m → m * x + m * y + m * z ≤ normal_limit m
 times_sum m x y z l = let k : m * (x + y + z) ≤ m * (4 * m) = mul-le-mul (le_refl m) l in omega (arith, k)
 
-own_size : (z : ℤ) → Small (unsigned_abs z) z
+-- a number is at most its own size
+pub own_size : (z : ℤ) → Small (unsigned_abs z) z
 own_size z = record { small = le_refl (unsigned_abs z) }
 
 -- an entry of a normal, by the corners' coordinates a, b, c along the next axis and u, v, w along the one after it
@@ -170,10 +171,6 @@ edge_sized_within s =
       d = small_within (lit≤ tt) s.d;
     }
 
--- a plane through two valid corners and an axis has the sizes of an edge plane
-pub edge_sized : (u v : Corner) (k : Axis) (s : ℤ) → IsValidCorner u → IsValidCorner v → Small 1 s → IsEdgeSized (times_plane s (edge_through u v (unit k)))
-edge_sized u v k s p q r = edge_sized_within (edge_within narrow_limit u v k s p q r)
-
 -- a sign is at most 1 in size
 pub sign_small : (z : ℤ) → Small 1 (sign z)
 sign_small (pos zero) = record { small = omega arith }
@@ -184,11 +181,6 @@ sign_small (negsuc n) = record { small = omega arith }
 pub three_within : {m : ℕ} {x y z : Plane} → IsEdgeWithin m x → IsEdgeWithin m y → IsEdgeWithin m z → All (IsEdgeWithin m) (x ∷ y ∷ z ∷ [])
 three_within {m} {x} {y} {z} p q r =
     All-cons (IsEdgeWithin m) x (y ∷ z ∷ []) p (All-cons (IsEdgeWithin m) y (z ∷ []) q (All-cons (IsEdgeWithin m) z [] r (All-nil (IsEdgeWithin m))))
-
--- three planes with the sizes of edge planes, as a list
-pub three_sized : {x y z : Plane} → IsEdgeSized x → IsEdgeSized y → IsEdgeSized z → All IsEdgeSized (x ∷ y ∷ z ∷ [])
-three_sized {x} {y} {z} p q r =
-    All-cons IsEdgeSized x (y ∷ z ∷ []) p (All-cons IsEdgeSized y (z ∷ []) q (All-cons IsEdgeSized z [] r (All-nil IsEdgeSized)))
 
 -- ---- the face
 -- planes with the sizes of edge planes are valid

@@ -95,7 +95,8 @@ opposite_signs s t l =
     (λ z. absurd (let r = ap (λ (x : ℤ). s *ℤ x) z ∙ *ℤ-zero s in omega (arith, linear, l, r)))
     (λ q. absurd (let r = mul_neg_neg p q in omega (arith, linear, l, r))))
 
-neg_cond : (b : Bool) (v : ℤ) → cond b (neg_ℤ v) (pos 0) ≡ neg_ℤ (cond b v (pos 0))
+-- a condition on a number and its opposite
+pub neg_cond : (b : Bool) (v : ℤ) → cond b (neg_ℤ v) (pos 0) ≡ neg_ℤ (cond b v (pos 0))
 neg_cond true v = refl
 neg_cond false v = refl
 

@@ -1,7 +1,8 @@
 -- Planes and points as tuples, for identities.
-use Rattle.std.proofs.Common.{◌≡◌, Some}
+use Rattle.std.proofs.Common.{◌≡◌, pos}
 use Rattle.ember_algebra.specs.Vector.{Tuple}
 use Rattle.ember_algebra.proofs.Vectors.{VectorE, TupleE}
+use Rattle.ember_algebra.proofs.Ring.{num}
 use Rattle.ember_model.specs.declared.plane.Plane.{Plane}
 use Rattle.ember_model.specs.declared.point.Spot.{Spot}
 
@@ -26,6 +27,6 @@ same_plane {p} {q} ea eb ec ed = λ i. record { a = ea i; b = eb i; c = ec i; d 
 pub same_spot : {u v : Spot} → u.x ≡ v.x → u.y ≡ v.y → u.z ≡ v.z → u.w ≡ v.w → u ≡ v
 same_spot {u} {v} ex ey ez ew = λ i. record { x = ex i; y = ey i; z = ez i; w = ew i }
 
--- planes that options hold are equal if the options are
-pub same_some : {g h : Plane} → Some g ≡ Some h → g ≡ h
-same_some e = cc
+-- a corner on expressions
+abbrev pub cornerE : VectorE → TupleE
+cornerE v = record { x = v.x; y = v.y; z = v.z; w = num (pos 1) }

@@ -87,3 +87,7 @@ pub record IsFileText (fs : List Face) (bytes : List ℕ) : Type 0 where
   pub texts : List ℕ
   pub are_texts : Each IsFaceText fs texts
   pub is : bytes ≡ header ++ (texts ++ ending (length fs))
+
+-- the lines of a written face
+abbrev pub written_lines : WrittenFace → List ℕ
+written_lines w = face_lines w.support w.edges

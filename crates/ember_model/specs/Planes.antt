@@ -1,5 +1,6 @@
 -- Planes, and those of a triangle
-use Rattle.std.specs.Prelude.{ℤ, pos, ◌+ℤ◌, ◌-ℤ◌, ◌*ℤ◌, neg_ℤ, ◌&&◌, if◌then◌else◌, List, [], ◌∷◌, unsigned_abs, leb}
+use Rattle.std.specs.Prelude.{◌≡◌, ℤ, pos, ◌+ℤ◌, ◌-ℤ◌, ◌*ℤ◌, neg_ℤ, ◌&&◌, if◌then◌else◌, List, [], ◌∷◌}
+use Rattle.std.specs.Prelude.{unsigned_abs, leb}
 use Rattle.ember_algebra.specs.Vector.{Vector}
 use Rattle.ember_algebra.specs.Vector.{dot, cross, minus_v}
 use Rattle.ember_algebra.specs.Sign.{sign}
@@ -66,3 +67,11 @@ edge_planes t k =
 -- the same plane with the opposite front
 abbrev pub opposite : Plane → Plane
 opposite p = record { a = neg_ℤ p.a; b = neg_ℤ p.b; c = neg_ℤ p.c; d = neg_ℤ p.d }
+
+-- the plane of zeros
+abbrev pub zero_plane : Plane
+zero_plane = record { a = pos 0; b = pos 0; c = pos 0; d = pos 0 }
+
+-- the normal is zero
+abbrev pub HasNoNormal : Plane → Type 0
+HasNoNormal p = (p.a ≡ pos 0) × (p.b ≡ pos 0) × (p.c ≡ pos 0)

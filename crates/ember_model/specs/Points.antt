@@ -1,5 +1,6 @@
 -- Points: moved, scaled, and shifted a little along all axes
-use Rattle.std.specs.Prelude.{◌≡◌, ℤ, pos, ◌+ℤ◌, ◌*ℤ◌}
+use Rattle.std.specs.Prelude.{◌≡◌, ℤ, pos, ◌+ℤ◌, ◌-ℤ◌, ◌*ℤ◌}
+use Rattle.ember_algebra.specs.Vector.{Vector}
 use Rattle.ember_model.specs.declared.point.Spot.{Spot}
 use Rattle.ember_model.specs.declared.point.Axis.{Axis}
 use Rattle.ember_model.specs.declared.point.Axis.TheVariants.{X, Y, Z}
@@ -34,3 +35,8 @@ abbrev pub DifferAlong : Axis → Spot → Spot → Type 0
 DifferAlong X p q = (q.w *ℤ p.y ≡ p.w *ℤ q.y) × (q.w *ℤ p.z ≡ p.w *ℤ q.z)
 DifferAlong Y p q = (q.w *ℤ p.x ≡ p.w *ℤ q.x) × (q.w *ℤ p.z ≡ p.w *ℤ q.z)
 DifferAlong Z p q = (q.w *ℤ p.x ≡ p.w *ℤ q.x) × (q.w *ℤ p.y ≡ p.w *ℤ q.y)
+
+-- the vector from u to v, times both weights
+abbrev pub displacement : Spot → Spot → Vector
+displacement u v =
+    record { x = u.w *ℤ v.x -ℤ v.w *ℤ u.x; y = u.w *ℤ v.y -ℤ v.w *ℤ u.y; z = u.w *ℤ v.z -ℤ v.w *ℤ u.z }

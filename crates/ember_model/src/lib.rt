@@ -5,6 +5,7 @@
 #![tactic(auto)]
 
 mod clearness;
+mod corner;
 mod face;
 mod plane;
 mod point;
@@ -17,12 +18,15 @@ mod vector;
 mod vector3;
 
 pub use clearness::{clear, face_clear};
-pub use face::Face;
+pub use corner::is_same_corner;
+pub use face::{Face, FaceList};
 pub use plane::{Plane, Planes};
 pub use point::{Axis, Corner, Spot};
 pub use rays::{crossing, face_crossing, leg};
 pub use scene::Scene;
 pub use tri::{Lines, Soup, Tri, Tris};
-pub use triangle_planes::{OutOfMemory, edge_plane, face_of, has_no_normal, main_axis, support_of};
+pub use triangle_planes::{
+    OutOfMemory, edge_plane, face_of, has_no_normal, main_axis, main_edges, support_of,
+};
 pub use values::plane_value;
 pub use vector::Vector;

@@ -118,6 +118,7 @@ pub fn main_edges(t: &Tri, support: &Plane) -> [Plane; 3]
     requires support { support.now ≡ support_of t.now }
     ensures value { result ≡ edges_of t.now }
     ensures within { (m : ℕ) → IsTriWithin m t.now → All (IsEdgeWithin m) result }
+    ensures valid { IsValidTri t.now → All IsValidPlane result }
 {
     let k = main_axis(support);
     let s = sign_along(support, k);

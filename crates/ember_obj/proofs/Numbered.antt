@@ -4,7 +4,7 @@ use Rattle.std.specs.Prelude.{if◌then◌else◌, reverse}
 use Rattle.std.proofs.lemmas.Bool.{ne_eqb}
 use Rattle.std.proofs.lemmas.Option.{slice_get_past}
 use Rattle.std.proofs.lemmas.List.{length-reverse}
-use Rattle.ember_dec.specs.Decimal.{number_from}
+use Rattle.ember_dec.specs.Digits.{number_from}
 use Rattle.ember_dec.proofs.Numbers.{number_from-grows, number_from-drop}
 use Rattle.ember_model.specs.declared.point.Corner.{Corner}
 use Rattle.ember_obj.specs.References.{nth_corner}

@@ -8,7 +8,8 @@ use Rattle.std.proofs.lemmas.Bool.{cases_Bool, leb-true, leb-false, ltb-false}
 use Rattle.std.proofs.lemmas.List.{length-reverse, get_or-reverse, length-replicate}
 use Rattle.std.proofs.lemmas.List.Elements.{All-nil, All-cons, All-head, All-tail, All-append, All-push}
 use Rattle.ember_algebra.specs.Size.{Small}
-use Rattle.ember_dec.specs.Decimal.{coordinate_of, in_range, is_decimal, units, is_minus, before_point, behind_point, unsigned, number_from}
+use Rattle.ember_dec.specs.Digits.{number_from}
+use Rattle.ember_dec.specs.Decimal.{coordinate_of, in_range, is_decimal, units, is_minus, before_point, behind_point, unsigned}
 use Rattle.ember_dec.specs.declared.DecFault.{DecFault}
 use Rattle.ember_dec.specs.declared.DecFault.TheVariants.{Malformed, Fraction, Range}
 use Rattle.ember_model.specs.Valid.{IsValidCorner, IsValidTri}

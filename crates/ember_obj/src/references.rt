@@ -2,21 +2,15 @@
 ghost use Rattle.std.specs.Prelude.{◌≡◌, ◌⊎◌, ◌≤◌, ◌^◌, ◌++◌, true, length, replicate, reverse, if◌then◌else◌, Ok, Err, OnOk, IfErr, MatchOption};
 ghost use Rattle.std.specs.List.{list_all};
 ghost use Rattle.std.specs.Char.{is_ascii_digit};
-ghost use Rattle.ember_dec.specs.Decimal.{number_from};
+ghost use Rattle.ember_dec.specs.Digits.{number_from};
 ghost use Rattle.ember_obj.specs.Scan.{fields_of};
 ghost use Rattle.ember_obj.specs.References.{nth_corner, vertex_at, vertex_named, corners_of, fan};
 
 use crate::fault::ObjFault;
 use crate::scan::{cut_before, next_field};
+use ember_dec::are_digits;
 use ember_model::{Corner, Tri};
 use std::alloc::AllocError;
-
-// Whether all bytes are decimal digits.
-fn are_digits(text: &[u8]) -> bool
-    ensures { result ≡ list_all is_ascii_digit text.now }
-{
-    text.iter().all(|b| b.is_ascii_digit())
-}
 
 // The number that these digits spell, if it fits.
 #[tactic(auto, using(crate::proofs::Numbered::too_large, crate::proofs::Numbered::too_large_so_far))]

@@ -17,9 +17,10 @@ use Rattle.ember_poly.proofs.Hull.{corners_at_most}
 use Rattle.ember_poly.proofs.Face.{closed_from_face, inside_from_face}
 use Rattle.ember_poly.proofs.FaceTests.{inside_out, closed_out}
 use Rattle.ember_poly.proofs.ReachBySigns.{all_above, most_opposite, least_from_opposite}
-use Rattle.ember_poly.proofs.TriangleRing.{tri_sides, tri_planes, stands}
-use Rattle.ember_pairs.specs.declared.heights.Heights.{Heights}
-use Rattle.ember_pairs.specs.Heights.{heights_of, none_behind, all_on, heights_over, lie_beyond, lies_beyond_some}
+use Rattle.ember_poly.proofs.TriangleRing.{tri_sides, stands}
+use Rattle.ember_width.specs.declared.heights.Heights.{Heights}
+use Rattle.ember_width.specs.Heights.{heights_of, none_behind, all_on, lie_in_front}
+use Rattle.ember_pairs.specs.Heights.{heights_over, lies_beyond_some}
 use Rattle.ember_pairs.specs.Pairs.{AreMeeting}
 
 -- ---- one plane
@@ -43,17 +44,17 @@ module _ (t : Tri) (full : is_flat t ≡ false) (p : Plane) where
       }
 
   -- if no corner is behind a plane, neither is a point of the closed face
-  pub closed_beyond : lie_beyond (heights_of p t) ≡ true → (v : Spot) → is_in_closed (face_of t) v ≡ true → IsNotBelow p v
+  pub closed_beyond : lie_in_front (heights_of p t) ≡ true → (v : Spot) → is_in_closed (face_of t) v ≡ true → IsNotBelow p v
   unfolding face_of
   closed_beyond e v k =
       let q = and_parts (none_behind (heights_of p t)) (not (all_on (heights_of p t))) e in
       let o = corners q.0 in
       least_from_opposite p v (corners_at_most (support_of t) (opposite p) v (tri_sides t) (stands t full).sound
       (most_opposite p _ o.a, (most_opposite p _ o.b, (most_opposite p _ o.c, tt)))
-      (closed_from_face (support_of t) (tri_planes t) (tri_sides t) v (stands t full) (closed_out (face_of t) v k)))
+      (closed_from_face (support_of t) (edges_of t) (tri_sides t) v (stands t full) (closed_out (face_of t) v k)))
 
   -- if also not all are on it, the inside points are in front
-  pub inside_beyond : lie_beyond (heights_of p t) ≡ true → (v : Spot) → is_inside (face_of t) v ≡ true → IsAbove p v
+  pub inside_beyond : lie_in_front (heights_of p t) ≡ true → (v : Spot) → is_inside (face_of t) v ≡ true → IsAbove p v
   unfolding face_of
   inside_beyond e v i =
       let q = and_parts (none_behind (heights_of p t)) (not (all_on (heights_of p t))) e in
@@ -61,7 +62,7 @@ module _ (t : Tri) (full : is_flat t ≡ false) (p : Plane) where
       (corners q.0).c.at_least (not_true (all_on (heights_of p t)) q.1))
     where
       ring : IsInsideRing (support_of t) (tri_sides t) v
-      ring = inside_from_face (support_of t) (tri_planes t) (tri_sides t) v (stands t full) (inside_out (face_of t) v i)
+      ring = inside_from_face (support_of t) (edges_of t) (tri_sides t) v (stands t full) (inside_out (face_of t) v i)
 
       over : Corners → (pos 0 <ℤ h.a) ⊎ ((pos 0 <ℤ h.b) ⊎ (pos 0 <ℤ h.c)) → IsAbove p v
       over o (inl r) =
@@ -80,7 +81,7 @@ module _ (t : Tri) (full : is_flat t ≡ false) (v : Spot) where
   closed_not_behind (p ∷ planes) e k a =
       ⊎_elim (λ here. omega (arith, linear, a.0.under, (closed_beyond t full p here v k).at_least))
       (λ later. closed_not_behind planes later k a.1)
-      (or_cases (lie_beyond (heights_of p t)) (lies_beyond_some (heights_over planes t)) e)
+      (or_cases (lie_in_front (heights_of p t)) (lies_beyond_some (heights_over planes t)) e)
 
   -- an inside point is in front of one
   inside_in_front : (planes : List Plane) → lies_beyond_some (heights_over planes t) ≡ true →
@@ -89,7 +90,7 @@ module _ (t : Tri) (full : is_flat t ≡ false) (v : Spot) where
   inside_in_front (p ∷ planes) e i a =
       ⊎_elim (λ here. omega (arith, linear, a.0.at_most, (inside_beyond t full p here v i).over))
       (λ later. inside_in_front planes later i a.1)
-      (or_cases (lie_beyond (heights_of p t)) (lies_beyond_some (heights_over planes t)) e)
+      (or_cases (lie_in_front (heights_of p t)) (lies_beyond_some (heights_over planes t)) e)
 
 -- a triangle beyond an edge plane of another doesn't meet it
 parted_by_edge : (t u : Tri) → lies_beyond_some (heights_over (edges_of t) u) ≡ true → AreMeeting t u → ⊥

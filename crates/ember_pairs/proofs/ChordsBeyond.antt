@@ -16,12 +16,13 @@ use Rattle.ember_model.specs.Owners.{spot_of_corner}
 use Rattle.ember_model.proofs.SignTests.{ap2}
 use Rattle.ember_poly.specs.Rings.{IsBelow, IsNotAbove}
 use Rattle.ember_poly.proofs.FaceTests.{inside_out, closed_out}
-use Rattle.ember_pairs.specs.declared.heights.Heights.{Heights}
+use Rattle.ember_width.specs.declared.heights.Heights.{Heights}
 use Rattle.ember_pairs.specs.declared.chords.CornerName.{CornerName}
 use Rattle.ember_pairs.specs.declared.chords.CornerName.TheVariants.{A, B, C}
 use Rattle.ember_pairs.specs.declared.chords.LoneCorner.{LoneCorner}
 use Rattle.ember_pairs.specs.declared.chords.ChordHeights.{ChordHeights}
-use Rattle.ember_pairs.specs.Heights.{heights_of, heights_over, lie_beyond}
+use Rattle.ember_width.specs.Heights.{heights_of, lie_in_front}
+use Rattle.ember_pairs.specs.Heights.{heights_over}
 use Rattle.ember_pairs.specs.Chords.{turned, end_height, IsLone, chord_heights, chord_over, is_beyond, HasChordBeyond}
 use Rattle.ember_pairs.specs.Pairs.{AreMeeting}
 use Rattle.ember_pairs.proofs.BeyondEdges.{closed_beyond, inside_beyond}
@@ -34,13 +35,13 @@ conjunction_turned : (x y z : Bool) → x && (y && z) ≡ z && (x && y)
 conjunction_turned x y z = sym (and_assoc x y z) ∙ and_comm (x && y) z
 
 -- a triangle lies beyond a plane exactly if it does so with its second corner first
-beyond_from_next_corner : (h : Heights) → lie_beyond (turned B h) ≡ lie_beyond h
+beyond_from_next_corner : (h : Heights) → lie_in_front (turned B h) ≡ lie_in_front h
 beyond_from_next_corner h =
     ap2 (λ x y. x && not y) (conjunction_turned (not (is_negative h.b)) (not (is_negative h.c)) (not (is_negative h.a)))
     (conjunction_turned (is_zero h.b) (is_zero h.c) (is_zero h.a))
 
 -- a triangle lies beyond a plane if it does so with any corner first
-beyond_from_any_corner : (name : CornerName) (h : Heights) → lie_beyond (turned name h) ≡ true → lie_beyond h ≡ true
+beyond_from_any_corner : (name : CornerName) (h : Heights) → lie_in_front (turned name h) ≡ true → lie_in_front h ≡ true
 beyond_from_any_corner A h e = e
 beyond_from_any_corner B h e = sym (beyond_from_next_corner h) ∙ e
 beyond_from_any_corner C h e = beyond_from_next_corner (turned C h) ∙ e
@@ -115,10 +116,10 @@ module _ (u : Tri) (name : CornerName) (full : is_flat u ≡ false) (m e : Plane
   q = mixed (heights_of m first).a e (heights_of e first).a m
 
   -- if the chord lies beyond the edge plane e, the triangle lies beyond the mixed plane
-  lies_beyond_mixed : is_beyond (chord_of (heights_of m first) (heights_of e first)) ≡ true → lie_beyond (heights_of q u) ≡ true
+  lies_beyond_mixed : is_beyond (chord_of (heights_of m first) (heights_of e first)) ≡ true → lie_in_front (heights_of q u) ≡ true
   lies_beyond_mixed b =
-      let x : lie_beyond (heights_of q first) ≡ true = ap lie_beyond (mixed_heights e m first) ∙ b in
-      beyond_from_any_corner name (heights_of q u) (sym (ap lie_beyond (turned_triangle_heights name q u)) ∙ x)
+      let x : lie_in_front (heights_of q first) ≡ true = ap lie_in_front (mixed_heights e m first) ∙ b in
+      beyond_from_any_corner name (heights_of q u) (sym (ap lie_in_front (turned_triangle_heights name q u)) ∙ x)
 
   module _ (above : pos 0 <ℤ (heights_of m first).a)
       (b : is_beyond (chord_of (heights_of m first) (heights_of e first)) ≡ true) (v : Spot) (on : value_at m v ≡ pos 0)

@@ -14,10 +14,11 @@ use Rattle.ember_model.proofs.SignTests.{not_true, negative_out, not_positive_ou
 use Rattle.ember_poly.specs.Rings.{IsBelow, IsNotAbove}
 use Rattle.ember_poly.proofs.Chains.{each_map}
 use Rattle.ember_poly.proofs.FaceTests.{inside_in, closed_in}
-use Rattle.ember_pairs.specs.declared.heights.Heights.{Heights}
+use Rattle.ember_width.specs.declared.heights.Heights.{Heights}
 use Rattle.ember_pairs.specs.declared.samples.Weights.{Weights}
 use Rattle.ember_pairs.specs.declared.chords.LoneCorner.{LoneCorner}
-use Rattle.ember_pairs.specs.Heights.{heights_of, heights_over}
+use Rattle.ember_width.specs.Heights.{heights_of}
+use Rattle.ember_pairs.specs.Heights.{heights_over}
 use Rattle.ember_pairs.specs.Samples.{sample_point, sample_height}
 use Rattle.ember_pairs.specs.Chords.{turned, end_height, IsFirstAlone, chord_heights, chord_over, is_first_behind}
 use Rattle.ember_pairs.specs.Chords.{is_second_behind, is_middle_within, is_edge, HasChordWithin}

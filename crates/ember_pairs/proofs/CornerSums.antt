@@ -14,11 +14,11 @@ use Rattle.ember_poly.specs.Rings.{IsBelow, IsNotAbove}
 use Rattle.ember_poly.proofs.Chains.{each_map}
 use Rattle.ember_poly.proofs.FaceTests.{inside_in, closed_in}
 use Rattle.ember_poly.proofs.TriangleRing.{stands}
-use Rattle.ember_pairs.specs.declared.heights.Heights.{Heights}
+use Rattle.ember_width.specs.declared.heights.Heights.{Heights}
 use Rattle.ember_pairs.specs.declared.samples.Weights.{Weights}
 use Rattle.ember_pairs.specs.declared.chords.CornerName.{CornerName}
 use Rattle.ember_pairs.specs.declared.chords.CornerName.TheVariants.{A, B, C}
-use Rattle.ember_pairs.specs.Heights.{heights_of}
+use Rattle.ember_width.specs.Heights.{heights_of}
 use Rattle.ember_pairs.specs.Samples.{sample_point, sample_height}
 use Rattle.ember_pairs.specs.Chords.{turned}
 

@@ -8,7 +8,7 @@ use Rattle.ember_model.specs.Planes.{value_at, opposite}
 use Rattle.ember_model.specs.Owners.{spot_of_corner}
 use Rattle.ember_model.proofs.PlaneValues.{value-opposite}
 use Rattle.ember_pairs.specs.declared.chords.LoneCorner.{LoneCorner}
-use Rattle.ember_pairs.specs.Heights.{heights_of}
+use Rattle.ember_width.specs.Heights.{heights_of}
 use Rattle.ember_pairs.specs.Chords.{turned, opposite_heights, IsLone}
 use Rattle.ember_pairs.proofs.CornerSums.{turned_triangle, turned_triangle_heights}
 

@@ -14,11 +14,10 @@ use Rattle.ember_model.specs.declared.point.Axis.{Axis}
 use Rattle.ember_model.specs.declared.point.Axis.TheVariants.{X, Y, Z}
 use Rattle.ember_model.specs.Planes.{vector_of}
 use Rattle.ember_model.specs.Faces.{is_flat, face_of, is_in_closed}
-use Rattle.ember_model.proofs.Hits.{closed_parts}
+use Rattle.ember_model.proofs.Hits.{closed_parts, inside_closed}
 use Rattle.ember_box.specs.Boxes.{entry_along}
 use Rattle.ember_box.specs.Aabbs.{aabb_of_tri, interval_over, intervals_meet, aabbs_meet}
 use Rattle.ember_ref.proofs.NearPoints.{past_corners}
-use Rattle.ember_ref.proofs.FarTriangles.{inside_closed}
 use Rattle.ember_pairs.specs.Pairs.{AreMeeting}
 
 -- a point of both closed faces, with all corners of t past those of u along an axis

@@ -12,7 +12,7 @@ use Rattle.ember_model.specs.Owners.{spot_of_corner}
 use Rattle.ember_model.proofs.SignTests.{zero_out, clash}
 use Rattle.ember_box.specs.Near.{tri_at}
 use Rattle.ember_pairs.specs.declared.pair.Pair.{Pair}
-use Rattle.ember_pairs.specs.Heights.{heights_of, all_on}
+use Rattle.ember_width.specs.Heights.{heights_of, all_on}
 use Rattle.ember_pairs.specs.Pairs.{AtPair, apart, pair, row, pairs_of, AreMeetingPairs}
 use Rattle.ember_pairs.specs.Candidates.{not_flat}
 

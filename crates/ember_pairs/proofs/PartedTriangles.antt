@@ -18,8 +18,8 @@ use Rattle.ember_poly.proofs.FaceTests.{closed_out}
 use Rattle.ember_poly.proofs.OneSide.{one_side_meets_not}
 use Rattle.ember_poly.proofs.ReachBySigns.{all_below, all_above}
 use Rattle.ember_poly.proofs.TriangleRing.{tri_sides, stands, inside_ring}
-use Rattle.ember_pairs.specs.declared.heights.Heights.{Heights}
-use Rattle.ember_pairs.specs.Heights.{heights_of, all_in_front, all_behind, none_in_front, none_behind, all_on}
+use Rattle.ember_width.specs.declared.heights.Heights.{Heights}
+use Rattle.ember_width.specs.Heights.{heights_of, all_in_front, all_behind, none_in_front, none_behind, all_on}
 use Rattle.ember_pairs.specs.Pairs.{AreMeeting}
 
 -- ---- from tests of heights to facts at the corners

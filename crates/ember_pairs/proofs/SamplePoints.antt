@@ -13,7 +13,8 @@ use Rattle.ember_model.proofs.SignTests.{zero_out, not_positive_out}
 use Rattle.ember_poly.specs.Rings.{IsNotAbove}
 use Rattle.ember_poly.proofs.FaceTests.{closed_in}
 use Rattle.ember_pairs.specs.declared.samples.Weights.{Weights}
-use Rattle.ember_pairs.specs.Heights.{heights_of, heights_over}
+use Rattle.ember_width.specs.Heights.{heights_of}
+use Rattle.ember_pairs.specs.Heights.{heights_over}
 use Rattle.ember_pairs.specs.Samples.{AreWeights, sample_point, sample_height, is_sample_within, HasSampleWithin}
 use Rattle.ember_pairs.specs.ByEdges.{HasInPlane}
 use Rattle.ember_pairs.specs.Pairs.{AreMeeting}

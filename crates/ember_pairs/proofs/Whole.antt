@@ -14,10 +14,10 @@ use Rattle.ember_model.specs.declared.point.Spot.{Spot}
 use Rattle.ember_model.specs.Valid.{IsValidTri}
 use Rattle.ember_model.specs.Faces.{face_of}
 use Rattle.ember_model.proofs.SignTests.{In}
+use Rattle.ember_model.proofs.Hits.{inside_closed}
 use Rattle.ember_box.specs.Boxes.{Cell, root, halvings_left, left_half, right_half}
 use Rattle.ember_box.specs.Near.{is_near, tri_at, no_tri, near_indices, all_indices}
 use Rattle.ember_box.specs.Halving.{halving_axis, is_leaf}
-use Rattle.ember_ref.proofs.FarTriangles.{inside_closed}
 use Rattle.ember_job.specs.declared.job.Job.{Job}
 use Rattle.ember_job.specs.Works.{Shape, halved, leafed, passed}
 use Rattle.ember_job.specs.Visited.{below_shape, visited_within, if_leafed, leaves_among}

@@ -5,7 +5,7 @@ use Rattle.std.specs.List.{list_any, list_all}
 use Rattle.ember_algebra.specs.Sign.{is_negative, is_zero, is_positive}
 use Rattle.ember_pairs.specs.declared.by_edges.ByEdges.{ByEdges}
 use Rattle.ember_pairs.specs.declared.by_edges.ByEdges.TheVariants as by_edges
-use Rattle.ember_pairs.specs.declared.heights.Heights.{Heights}
+use Rattle.ember_width.specs.declared.heights.Heights.{Heights}
 use Rattle.ember_pairs.specs.declared.chords.CornerName.{CornerName}
 use Rattle.ember_pairs.specs.declared.chords.CornerName.TheVariants.{A, B, C}
 use Rattle.ember_pairs.specs.declared.chords.LoneCorner.{LoneCorner}

@@ -7,7 +7,7 @@ use Rattle.ember_model.specs.declared.point.Spot.{Spot}
 use Rattle.ember_model.specs.declared.tri.Tri.{Tri}
 use Rattle.ember_model.specs.Points.{scaled, plus_s}
 use Rattle.ember_model.specs.Owners.{spot_of_corner}
-use Rattle.ember_pairs.specs.declared.heights.Heights.{Heights}
+use Rattle.ember_width.specs.declared.heights.Heights.{Heights}
 use Rattle.ember_pairs.specs.declared.samples.Weights.{Weights}
 
 -- the weight of a corner: from 1 to 256

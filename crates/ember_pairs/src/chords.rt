@@ -10,7 +10,7 @@ ghost use Rattle.ember_pairs.specs.Chords.{end_height, is_beyond, is_first_behin
 ghost use Rattle.ember_pairs.specs.Chords.{is_edge, is_within, IsByChord};
 
 use crate::by_edges::ByEdges;
-use crate::heights::Heights;
+use ember_width::Heights;
 
 /// The name of a triangle's corner.
 #[derive(Clone, Copy)]

@@ -5,9 +5,9 @@ ghost use Rattle.ember_model.specs.Planes.{support_of};
 ghost use Rattle.ember_model.specs.Faces.{edges_of};
 ghost use Rattle.ember_pairs.specs.Heights.{AreSmall, heights_over, lies_beyond_some};
 
-use crate::heights::{Heights, heights_of};
-use ember_model::{Plane, Tri};
-use ember_poly::main_edges;
+use crate::heights::small_heights;
+use ember_model::{Plane, Tri, main_edges};
+use ember_width::Heights;
 
 /// The heights of `u` over the three edge planes of `t`, or `None` if it lies beyond one of them.
 /// `support` is the plane of `t`.
@@ -20,16 +20,16 @@ pub fn edge_heights(t: &Tri, support: &Plane, u: &Tri) -> Option<[Heights; 3]>
     ensures small { IfSome result (λ hs. All AreSmall hs) }
 {
     let edges = main_edges(t, support);
-    let first = heights_of(&edges[0], u);
-    if first.lie_beyond() {
+    let first = small_heights(&edges[0], u);
+    if first.lie_in_front() {
         return None;
     }
-    let second = heights_of(&edges[1], u);
-    if second.lie_beyond() {
+    let second = small_heights(&edges[1], u);
+    if second.lie_in_front() {
         return None;
     }
-    let third = heights_of(&edges[2], u);
-    if third.lie_beyond() {
+    let third = small_heights(&edges[2], u);
+    if third.lie_in_front() {
         return None;
     }
     Some([first, second, third])

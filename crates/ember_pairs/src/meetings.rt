@@ -1,26 +1,28 @@
 // Which triangles meet.
 ghost use Rattle.std.specs.Prelude.{◌≡◌, ◌+◌, ◌<◌, ◌↔◌, false, true, not, List, [], ◌∷◌, ◌++◌, if◌then◌else◌, drop};
-ghost use Rattle.std.specs.Prelude.{map, length, All, slice_index, IfSome, IsNone, IfOk, OnOk, IsTrue};
+ghost use Rattle.std.specs.Prelude.{length, All, slice_index, IfSome, IsNone, IfOk, OnOk, IsTrue};
 ghost use Rattle.ember_model.specs.Valid.{IsValidTri};
 ghost use Rattle.ember_model.specs.Planes.{support_of};
 ghost use Rattle.ember_model.specs.Owners.{lies_in_plane_of};
 ghost use Rattle.ember_model.specs.Faces.{is_flat, face_of, Meets};
 ghost use Rattle.ember_box.specs.Near.{tri_at};
 ghost use Rattle.ember_pairs.specs.declared.pair.Pair.{Pair};
-ghost use Rattle.ember_pairs.specs.Pairs.{AreMeeting, AreMeetingPairs, Completes, row, pairs_of};
-ghost use Rattle.ember_pairs.specs.Heights.{AreSmall, ArePlaneHeights, heights_of};
+ghost use Rattle.ember_pairs.specs.Pairs.{AreMeeting, AreMeetingPairs, Completes, row};
+ghost use Rattle.ember_width.specs.Heights.{heights_of};
+ghost use Rattle.ember_pairs.specs.Heights.{AreSmall, ArePlaneHeights};
 ghost use Rattle.ember_pairs.specs.ByEdges.{IsByEdges};
 ghost use Rattle.ember_pairs.specs.Candidates.{candidate_of, candidates_at, not_flat};
 
 use crate::by_edges::ByEdges;
 use crate::chords::shown_by_chord;
 use crate::edge_heights::edge_heights;
-use crate::heights::{Heights, PlaneHeights, heights_of};
+use crate::heights::{PlaneHeights, are_on_one_side, lean_to_one_side, small_heights};
 use crate::pair::{Pair, PairList};
 use crate::samples::has_sample_within;
 use ember_box::{Aabb, aabb_of_tri, aabbs_meet};
 use ember_model::{OutOfMemory, Plane, Scene, Tri, has_no_normal, support_of};
 use ember_poly::{meets, of_tri};
+use ember_width::Heights;
 use std::alloc::Global;
 
 // What the test of two triangles first looks at: the bounding box and the plane of each.
@@ -52,15 +54,15 @@ fn plane_heights(first: &Candidate, t: &Tri, second: &Candidate, u: &Tri) -> Opt
     ensures value { IfSome result (ArePlaneHeights t.now u.now) }
     ensures parted { IsNone result → AreMeeting t.now u.now → ⊥ }
 {
-    let theirs = heights_of(&first.support, u);
-    if theirs.are_on_one_side() {
+    let theirs = small_heights(&first.support, u);
+    if are_on_one_side(&theirs) {
         return None;
     }
-    let own = heights_of(&second.support, t);
-    if own.are_on_one_side() {
+    let own = small_heights(&second.support, t);
+    if are_on_one_side(&own) {
         return None;
     }
-    if own.lean_to_one_side() && theirs.lean_to_one_side() {
+    if lean_to_one_side(&own) && lean_to_one_side(&theirs) {
         return None;
     }
     Some(PlaneHeights { theirs, own })

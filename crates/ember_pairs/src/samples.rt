@@ -1,10 +1,9 @@
 // Sample points of triangles: inside points with small weights at the corners.
-ghost use Rattle.std.specs.Prelude.{◌≡◌, ◌||◌, not, All, IsTrue};
-ghost use Rattle.ember_algebra.specs.Sign.{is_positive};
+ghost use Rattle.std.specs.Prelude.{◌≡◌, ◌||◌, All, IsTrue};
 ghost use Rattle.ember_pairs.specs.Heights.{AreSmall};
 ghost use Rattle.ember_pairs.specs.Samples.{AreWeights, sample_height, is_sample_within, HasSampleWithin};
 
-use crate::heights::Heights;
+use ember_width::Heights;
 
 /// The weights of a triangle's corners at a sample point.
 #[derive(Clone, Copy)]

@@ -9,8 +9,8 @@ ghost use Rattle.ember_pairs.specs.Works.{no_windings, job_at, IsPairsJob, pairs
 use crate::meetings::meeting_pairs;
 use crate::pair::PairList;
 use ember_box::{Cell, HalvedBox, halve_box, halves, near_list, root};
-use ember_job::{Job, Numbers, OneItem, OutOfMemory, Outcome, Work};
-use ember_model::{Scene, Vector};
+use ember_job::{Job, Numbers, OneItem, Outcome, Work};
+use ember_model::{OutOfMemory, Scene, Vector};
 use std::alloc::Global;
 
 /// The work that looks for the pairs of triangles of a scene that meet. Its item for a leaf is the

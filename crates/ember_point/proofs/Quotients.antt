@@ -4,7 +4,7 @@ use Rattle.std.proofs.Common.{int_div, int_rem, refl, sym, ap, subst, ◌∙◌,
 use Rattle.std.specs.Int.{IsGcd, ◌∣◌}
 use Rattle.std.proofs.lemmas.Int.{ints, quot-rem, unsigned_abs-mul}
 use Rattle.std.proofs.lemmas.Nat.Gcd.{mod-eq-zero_of_dvd, dvd_antisymm, dvd_trans, le_of_dvd}
-use Rattle.std.proofs.Math.Nat.{mul-dvd-mul_right, dvd_of_mul-dvd-mul_right, dvd-mul_right}
+use Rattle.std.proofs.Math.Nat.{mul-dvd-mul_right, dvd_of_mul-dvd-mul_right, one-dvd}
 use mir.Syntax.{w128}
 use mir.Val.{to_z, of_z}
 use Rattle.ember_algebra.specs.Size.{Small}
@@ -79,17 +79,13 @@ pub quotient_same : {u v : Spot} {d : ℤ} → IsQuotient u v d → SamePoint u 
 quotient_same {u} {v} {d} q =
     record { x = same_ratio v.x v.w u.x u.w d q.x q.w; y = same_ratio v.y v.w u.y u.w d q.y q.w; z = same_ratio v.z v.w u.z u.w d q.z q.w }
 
--- 1 divides every number
-pub one_dvd : (k : ℕ) → 1 ∣ k
-one_dvd k = subst (λ n. 1 ∣ n) (omega arith) (dvd-mul_right 1 k)
-
 -- a point divided by the greatest common divisor is in lowest terms
 pub quotient_lowest : {u v : Spot} {d : ℤ} → IsGreatestDivisor u d → IsQuotient u v d → IsLowest v
 quotient_lowest {u} {v} {d} g q =
     record {
       lowest = λ k x y z w. dvd_antisymm (only_one k
           (g.greatest (k * unsigned_abs d) (up v.x u.x k x q.x) (up v.y u.y k y q.y) (up v.z u.z k z q.z)
-          (up v.w u.w k w q.w))) (one_dvd k);
+          (up v.w u.w k w q.w))) (one-dvd k);
     }
   where
     up : (a b : ℤ) (k : ℕ) → k ∣ unsigned_abs a → a *ℤ d ≡ b → (k * unsigned_abs d) ∣ unsigned_abs b
@@ -104,7 +100,7 @@ quotient_lowest {u} {v} {d} g q =
 -- it is one already if nothing but 1 divides it
 pub lowest_if_one : {u : Spot} {d : ℤ} → IsGreatestDivisor u d → d ≡ pos 1 → IsLowest u
 lowest_if_one {u} {d} g e =
-    record { lowest = λ k x y z w. dvd_antisymm (subst (λ (n : ℤ). k ∣ unsigned_abs n) e (g.greatest k x y z w)) (one_dvd k) }
+    record { lowest = λ k x y z w. dvd_antisymm (subst (λ (n : ℤ). k ∣ unsigned_abs n) e (g.greatest k x y z w)) (one-dvd k) }
 
 -- ---- the greatest common divisor of four
 module _ (u : Spot) (valid : IsValidMeet u) (w x y z a b g : ℕ) (ew : w ≡ unsigned_abs u.w) (ex : x ≡ unsigned_abs u.x)

@@ -14,4 +14,4 @@ pub use lowest::reduce;
 pub use meet_point::Meet;
 pub use meeting::meet;
 pub use plane_side::{side, slide};
-pub use short::{has_short_numbers, short_product, short_side};
+pub use short::{has_short_numbers, short_side};

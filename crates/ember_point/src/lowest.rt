@@ -1,56 +1,19 @@
 // Points in lowest terms.
 ghost use Rattle.std.specs.Prelude.{◌≡◌, ◌^◌, ◌<◌, pos, ◌<ℤ◌, unsigned_abs, int_div};
-ghost use Rattle.std.specs.Int.{IsGcd};
 ghost use Rattle.ember_model.specs.Edges.{SamePoint};
 ghost use Rattle.ember_model.specs.FaceFiles.{IsLowest};
 ghost use Rattle.ember_point.specs.Points.{spot_of, IsGreatestDivisor};
 
 use crate::meet_point::Meet;
-
-// The greatest common divisor of two numbers of 64 bits.
-fn small_gcd(a: u64, b: u64) -> u64
-    ensures { IsGcd a b result }
-{
-    let mut x = a;
-    let mut y = b;
-    while y != 0 {
-        let rest = x % y;
-        x = y;
-        y = rest;
-    }
-    x
-}
-
-// The greatest common divisor. Divides in 128 bits only while both numbers need more than 64.
-fn gcd(a: u128, b: u128) -> u128
-    ensures { IsGcd a b result }
-{
-    if a == 1 {
-        return 1;
-    }
-    let mut x = a;
-    let mut y = b;
-    while y > u64::MAX as u128 {
-        let rest = x % y;
-        x = y;
-        y = rest;
-    }
-    if y == 0 {
-        return x;
-    }
-    if x <= u64::MAX as u128 {
-        return small_gcd(x as u64, y as u64) as u128;
-    }
-    small_gcd(y as u64, (x % y) as u64) as u128
-}
+use ember_algebra::long_gcd;
 
 // The greatest common divisor of the four numbers.
 fn common_divisor(m: &Meet) -> i128
     ensures { IsGreatestDivisor (spot_of m.now) result }
 {
-    let first = gcd(m.w.unsigned_abs(), m.x.unsigned_abs());
-    let second = gcd(first, m.y.unsigned_abs());
-    let third = gcd(second, m.z.unsigned_abs());
+    let first = long_gcd(m.w.unsigned_abs(), m.x.unsigned_abs());
+    let second = long_gcd(first, m.y.unsigned_abs());
+    let third = long_gcd(second, m.z.unsigned_abs());
     third as i128
 }
 

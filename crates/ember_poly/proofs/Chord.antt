@@ -8,10 +8,11 @@ use Rattle.ember_poly.specs.Rings.{with_start, closing_side, Side, IsBelow, IsNo
 use Rattle.ember_poly.proofs.Planar.{most_at}
 use Rattle.ember_poly.proofs.Chains.{each_both, each-back, each-front, chain_ends, ends_under}
 use Rattle.ember_poly.proofs.Rotations.{each-join}
-use Rattle.ember_poly.proofs.RingBelow.{Outcome, head_of}
+use Rattle.ember_poly.proofs.RingBelow.{Outcome}
 use Rattle.ember_poly.specs.Chords.{combination}
 use Rattle.ember_poly.proofs.InsidePoints.{scaled_under, scaled_first}
 use Rattle.ember_poly.proofs.InsideBelow.{ring-closed}
+use Rattle.ember_poly.proofs.RingOutline.{head_or}
 
 -- the kept sides' planes: f at y, the others at z
 pub front_y : (n : Plane) (f l p : Side) (ks : List Side) → IsConvexRing n (f ∷ (ks ++ l ∷ []) ++ p ∷ []) → IsBelow f.plane p.corner
@@ -28,7 +29,7 @@ kept_z n f l p (k ∷ ks) s =
 
 module _ (n p : Plane) (f l : Side) (ks ds : List Side) (y z : Spot) (b : ℕ) (c : Spot)
     (h : IsConvexRing n (f ∷ (ks ++ l ∷ []) ++ ds)) (at : IsInClosedRing n (f ∷ (ks ++ l ∷ []) ++ ds) c)
-    (o : Outcome n p (with_start f z ∷ (ks ++ l ∷ []) ++ closing_side p y b ∷ []) l.corner c y (head_of l ks).corner
+    (o : Outcome n p (with_start f z ∷ (ks ++ l ∷ []) ++ closing_side p y b ∷ []) l.corner c y (head_or l ks).corner
     f.corner z) where
   abbrev whole : List Side
   whole = f ∷ (ks ++ l ∷ []) ++ ds
@@ -47,11 +48,11 @@ module _ (n p : Plane) (f l : Side) (ks ds : List Side) (y z : Spot) (b : ℕ) (
 
   pub at_z : AllByRecursion (λ s. IsNotAbove s.plane z) whole
   at_z =
-      each_both (λ s. IsNotAbove s.plane (head_of l ks).corner) (λ s. IsNotAbove s.plane f.corner)
+      each_both (λ s. IsNotAbove s.plane (head_or l ks).corner) (λ s. IsNotAbove s.plane f.corner)
       (λ s. IsNotAbove s.plane z) whole (λ s u v. most_at o.entry s.plane u v) (first ks kept_closed).within
       corners.0.within
     where
-      first : (ks' : List Side) → AllByRecursion (λ s. IsInClosedRing n whole s.corner) (ks' ++ l ∷ []) → IsInClosedRing n whole (head_of l ks').corner
+      first : (ks' : List Side) → AllByRecursion (λ s. IsInClosedRing n whole s.corner) (ks' ++ l ∷ []) → IsInClosedRing n whole (head_or l ks').corner
       first [] a = a.0
       first (k ∷ ks') a = a.0
 

@@ -9,9 +9,9 @@ use Rattle.ember_poly.specs.Rings.{with_start, closing_side, Side, IsBelow, IsNo
 use Rattle.ember_poly.specs.Rings.{IsConvexRing, EndsAt, IsBelowAllButOne, IsNotEmpty}
 use Rattle.ember_poly.proofs.Planar.{Crossing, under_past, under_first}
 use Rattle.ember_poly.proofs.Chains.{each_map, each_both, each-back, each-push, chain_ends}
-use Rattle.ember_poly.proofs.RingBelow.{head_of}
 use Rattle.ember_poly.proofs.InsideBelow.{ring-closed}
 use Rattle.ember_poly.proofs.OnePoint.{lone-join}
+use Rattle.ember_poly.proofs.RingOutline.{head_or}
 
 -- each later plane at each earlier corner
 chain_across : (n g : Plane) (xs ys : List Side) → IsSideChain n g (xs ++ ys) → AllByRecursion (λ t. AllByRecursion (λ s. IsBelow t.plane s.corner) xs) ys
@@ -63,7 +63,7 @@ rest_ends n f l (k ∷ ks) ds h =
 
 module _ (n p : Plane) (f l d : Side) (ks ds : List Side) (y z : Spot) (b : ℕ)
     (h : IsConvexRing n (f ∷ (ks ++ l ∷ []) ++ d ∷ ds)) (exit : Crossing p l.corner d.corner y)
-    (entry : Crossing p (head_of l ks).corner f.corner z) where
+    (entry : Crossing p (head_or l ks).corner f.corner z) where
   all_across : AllByRecursion (λ t. AllByRecursion (λ s. IsBelow t.plane s.corner) (ks ++ l ∷ [])) (d ∷ ds)
   all_across = across n p f l ks y z b (d ∷ ds) h
 
@@ -72,12 +72,12 @@ module _ (n p : Plane) (f l d : Side) (ks ds : List Side) (y z : Spot) (b : ℕ)
       each_map (λ t. AllByRecursion (λ s. IsBelow t.plane s.corner) (ks ++ l ∷ [])) (λ t. IsBelow t.plane l.corner)
       (d ∷ ds) (λ t a. (each-back (λ s. IsBelow t.plane s.corner) ks (l ∷ []) a).0) all_across
 
-  at_head : AllByRecursion (λ t. IsBelow t.plane (head_of l ks).corner) (d ∷ ds)
+  at_head : AllByRecursion (λ t. IsBelow t.plane (head_or l ks).corner) (d ∷ ds)
   at_head =
       each_map (λ t. AllByRecursion (λ s. IsBelow t.plane s.corner) (ks ++ l ∷ []))
-      (λ t. IsBelow t.plane (head_of l ks).corner) (d ∷ ds) (λ t a. first t ks a) all_across
+      (λ t. IsBelow t.plane (head_or l ks).corner) (d ∷ ds) (λ t a. first t ks a) all_across
     where
-      first : (t : Side) (ks' : List Side) → AllByRecursion (λ s. IsBelow t.plane s.corner) (ks' ++ l ∷ []) → IsBelow t.plane (head_of l ks').corner
+      first : (t : Side) (ks' : List Side) → AllByRecursion (λ s. IsBelow t.plane s.corner) (ks' ++ l ∷ []) → IsBelow t.plane (head_or l ks').corner
       first t [] a = a.0
       first t (k ∷ ks') a = a.0
 
@@ -89,7 +89,7 @@ module _ (n p : Plane) (f l d : Side) (ks ds : List Side) (y z : Spot) (b : ℕ)
 
   at_entry : pos 0 <ℤ value_at p f.corner → AllByRecursion (λ t. IsBelow t.plane z ⊎ IsBelow t.plane y) (d ∷ ds)
   at_entry q =
-      each_both (λ t. IsBelow t.plane (head_of l ks).corner) (λ t. IsNotAbove t.plane f.corner)
+      each_both (λ t. IsBelow t.plane (head_or l ks).corner) (λ t. IsNotAbove t.plane f.corner)
       (λ t. IsBelow t.plane z ⊎ IsBelow t.plane y) (d ∷ ds) (λ t u v. inl (under_first entry t.plane q u v.at_most))
       at_head (closed_at f.corner corners.0)
 
@@ -103,7 +103,7 @@ module _ (n p : Plane) (f l d : Side) (ks ds : List Side) (y z : Spot) (b : ℕ)
 -- at least two are dropped
 two : (n p : Plane) (f l d e : Side) (ks es : List Side) (y z : Spot) (b : ℕ) →
     IsConvexRing n (f ∷ (ks ++ l ∷ []) ++ d ∷ e ∷ es) → Crossing p l.corner d.corner y →
-    Crossing p (head_of l ks).corner f.corner z → AllByRecursion (λ t. IsBelow t.plane z ⊎ IsBelow t.plane y) (d ∷ e ∷ es)
+    Crossing p (head_or l ks).corner f.corner z → AllByRecursion (λ t. IsBelow t.plane z ⊎ IsBelow t.plane y) (d ∷ e ∷ es)
 two n p f l d e ks es y z b h exit entry =
     let first = (at_head n p f l d ks (e ∷ es) y z b h exit entry).0 in
     let others = (at_last n p f l d ks (e ∷ es) y z b h exit entry).1 in (
@@ -119,7 +119,7 @@ two n p f l d e ks es y z b h exit entry =
 -- a dropped edge is negative at one of the two ends of the chord
 pub dropped_side_is_above_one_corner : (n p : Plane) (f l d : Side) (ks ds : List Side) (y z : Spot) (b : ℕ) →
     IsConvexRing n (f ∷ (ks ++ l ∷ []) ++ d ∷ ds) → Crossing p l.corner d.corner y →
-    Crossing p (head_of l ks).corner f.corner z → ((pos 0 <ℤ value_at p f.corner) ⊎
+    Crossing p (head_or l ks).corner f.corner z → ((pos 0 <ℤ value_at p f.corner) ⊎
     ((pos 0 <ℤ value_at p d.corner) ⊎ IsNotEmpty ds)) →
     AllByRecursion (λ t. IsBelow t.plane z ⊎ IsBelow t.plane y) (d ∷ ds)
 dropped_side_is_above_one_corner n p f l d ks ds y z b h exit entry q =
@@ -133,7 +133,7 @@ dropped_side_is_above_one_corner n p f l d ks ds y z b h exit entry q =
 -- a dropped edge is negative at all corners of the part but one at most
 pub dropped_lone : (n p : Plane) (f l d : Side) (ks ds : List Side) (y z : Spot) (b : ℕ) →
     IsConvexRing n (f ∷ (ks ++ l ∷ []) ++ d ∷ ds) → Crossing p l.corner d.corner y →
-    Crossing p (head_of l ks).corner f.corner z → ((pos 0 <ℤ value_at p f.corner) ⊎
+    Crossing p (head_or l ks).corner f.corner z → ((pos 0 <ℤ value_at p f.corner) ⊎
     ((pos 0 <ℤ value_at p d.corner) ⊎ IsNotEmpty ds)) →
     AllByRecursion (λ t. IsBelowAllButOne t.plane (with_start f z ∷ (ks ++ l ∷ []) ++ closing_side p y b ∷ [])) (d ∷ ds)
 dropped_lone n p f l d ks ds y z b h exit entry q =

@@ -15,7 +15,8 @@ use Rattle.ember_poly.proofs.Planar.{turnE}
 use Rattle.ember_poly.proofs.CutOrientation.{value_difference_by_orientation}
 use Rattle.ember_poly.proofs.Hull.{ring-rooted}
 
-abbrev alongE : TupleE → TupleE → TupleE
+-- the line of two planes on expressions
+abbrev pub alongE : TupleE → TupleE → TupleE
 alongE n g =
     record { x = n.y ⊗ g.z ⊖ n.z ⊗ g.y; y = n.z ⊗ g.x ⊖ n.x ⊗ g.z; z = n.x ⊗ g.y ⊖ n.y ⊗ g.x; w = num (pos 0) }
 

@@ -8,10 +8,11 @@ use Rattle.ember_poly.specs.Rings.{with_start, closing_side, Side, IsBelow, IsNo
 use Rattle.ember_poly.proofs.Planar.{most_at}
 use Rattle.ember_poly.proofs.Chains.{each_map, each_both, each-back, each-front}
 use Rattle.ember_poly.proofs.Rotations.{each-join}
-use Rattle.ember_poly.proofs.RingBelow.{Rooted, Outcome, head_of}
+use Rattle.ember_poly.proofs.RingBelow.{Rooted, Outcome}
 use Rattle.ember_poly.proofs.Hull.{ring-rooted, corners_at_most}
 use Rattle.ember_poly.proofs.InsideSigns.{corners_under}
 use Rattle.ember_poly.proofs.InsidePoints.{corner_closed}
+use Rattle.ember_poly.proofs.RingOutline.{head_or}
 
 -- a relation of all members of two lists holds in either order
 pub each_swap : {X Y : Type 0} (R : X → Y → Type 0) (xs : List X) (ys : List Y) →
@@ -62,21 +63,21 @@ module _ (n p : Plane) (f l : Side) (ks ds : List Side) (y z : Spot) (b : ℕ) (
   dropped : (v : Spot) → IsInClosedRing n old v → AllByRecursion (λ d. IsNotAbove d.plane v) ds
   dropped v c = each-back (λ d. IsNotAbove d.plane v) (ks ++ l ∷ []) ds c.within.1
 
-  head-closed-of : AllByRecursion (λ s. IsInClosedRing n old s.corner) (ks ++ l ∷ []) → IsInClosedRing n old (head_of l ks).corner
+  head-closed-of : AllByRecursion (λ s. IsInClosedRing n old s.corner) (ks ++ l ∷ []) → IsInClosedRing n old (head_or l ks).corner
   head-closed-of h = by ks h
     where
-      by : (ks' : List Side) → AllByRecursion (λ s. IsInClosedRing n old s.corner) (ks' ++ l ∷ []) → IsInClosedRing n old (head_of l ks').corner
+      by : (ks' : List Side) → AllByRecursion (λ s. IsInClosedRing n old s.corner) (ks' ++ l ∷ []) → IsInClosedRing n old (head_or l ks').corner
       by [] h = h.0
       by (k ∷ ks') h = h.0
 
   dropped_at : IsConvexRing n old → IsInClosedRing n old at →
-      Outcome n p new l.corner at y (head_of l ks).corner f.corner z →
+      Outcome n p new l.corner at y (head_or l ks).corner f.corner z →
       AllByRecursion (λ d. AllByRecursion (λ s. IsNotAbove d.plane s.corner) new) ds
   dropped_at h c o =
       let all = ring-closed n old h in let kept = each-front (λ s. IsInClosedRing n old s.corner) (ks ++ l ∷ []) ds all.1 in
       let last = (each-back (λ s. IsInClosedRing n old s.corner) ks (l ∷ []) kept).0 in let first = head-closed-of kept in
-      let at_z = each_both (λ d. IsNotAbove d.plane (head_of l ks).corner) (λ d. IsNotAbove d.plane f.corner)
-      (λ d. IsNotAbove d.plane z) ds (λ d u v. most_at o.entry d.plane u v) (dropped (head_of l ks).corner first)
+      let at_z = each_both (λ d. IsNotAbove d.plane (head_or l ks).corner) (λ d. IsNotAbove d.plane f.corner)
+      (λ d. IsNotAbove d.plane z) ds (λ d u v. most_at o.entry d.plane u v) (dropped (head_or l ks).corner first)
       (dropped f.corner all.0) in
       let at_y = each_both (λ d. IsNotAbove d.plane l.corner) (λ d. IsNotAbove d.plane at) (λ d. IsNotAbove d.plane y)
       ds (λ d u v. most_at o.exit d.plane u v) (dropped l.corner last) (dropped at c) in
@@ -100,7 +101,7 @@ module _ (n p : Plane) (f l : Side) (ks ds : List Side) (y z : Spot) (b : ℕ) (
       by (k ∷ ks') h = chain_after n f.plane (k ∷ ks') l ds h.1
 
   -- what a cut leaves of a ring is its part below the plane
-  pub part_of : IsConvexRing n old → IsInClosedRing n old at → Outcome n p new l.corner at y (head_of l ks).corner f.corner z → Part n p old new
+  pub part_of : IsConvexRing n old → IsInClosedRing n old at → Outcome n p new l.corner at y (head_or l ks).corner f.corner z → Part n p old new
   part_of h c o =
       let low = dropped_at h c o in let sharp = strict h in
       let root = (each-back (λ s. Rooted n s) ks (l ∷ []) (each-front (λ s. Rooted n s) (ks ++ l ∷ []) ds (ring-rooted n old h).1)).0 in

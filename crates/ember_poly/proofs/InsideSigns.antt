@@ -38,7 +38,8 @@ eventually_each P (x ∷ xs) h =
     eventually_map (λ m p. (p.0, p.1)) (eventually_both h.0 (eventually_each P xs h.1))
 
 -- ---- a plane that is at most 0 at the corners, and negative somewhere in the ring's plane, is negative inside
-abbrev oppositeE : TupleE → TupleE
+-- the opposite of a plane on expressions
+abbrev pub oppositeE : TupleE → TupleE
 oppositeE v = record { x = neg v.x; y = neg v.y; z = neg v.z; w = neg v.w }
 
 abbrev negated : Spot → Spot

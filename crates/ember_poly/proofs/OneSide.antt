@@ -9,7 +9,7 @@ use Rattle.ember_model.specs.declared.point.Spot.{Spot}
 use Rattle.ember_model.specs.declared.tri.Tri.{Tri}
 use Rattle.ember_model.specs.declared.face.Face.{Face}
 use Rattle.ember_model.specs.Planes.{value_at, opposite, support_of}
-use Rattle.ember_model.specs.Faces.{Meets, is_flat, face_of}
+use Rattle.ember_model.specs.Faces.{Meets, is_flat, face_of, edges_of}
 use Rattle.ember_poly.specs.Rings.{Side, IsBelow, IsInClosedRing, IsConvexRing}
 use Rattle.ember_poly.specs.Chords.{IsOnOneSide}
 use Rattle.ember_poly.proofs.Chains.{each-back}
@@ -17,7 +17,7 @@ use Rattle.ember_poly.proofs.RingBelow.{Rooted}
 use Rattle.ember_poly.proofs.Hull.{ring-rooted, Best, find_best, best_above}
 use Rattle.ember_poly.proofs.Face.{closed_from_face}
 use Rattle.ember_poly.proofs.FaceTests.{inside_out, closed_out}
-use Rattle.ember_poly.proofs.TriangleRing.{tri_sides, tri_planes, stands}
+use Rattle.ember_poly.proofs.TriangleRing.{tri_sides, stands}
 use Rattle.ember_poly.proofs.ReachBySigns.{over_opposite, over_from_opposite}
 
 -- a plane that is negative at each corner is negative at each closed point
@@ -58,7 +58,7 @@ one_side_meets_not f n t e full s m = by s
 
     closed : IsInClosedRing (support_of t) (tri_sides t) m.at
     closed =
-        closed_from_face (support_of t) (tri_planes t) (tri_sides t) m.at (stands t full) (closed_out (face_of t) m.at m.holds)
+        closed_from_face (support_of t) (edges_of t) (tri_sides t) m.at (stands t full) (closed_out (face_of t) m.at m.holds)
 
     below : (p : Plane) → AllByRecursion (λ r. IsBelow p r.corner) (tri_sides t) → IsBelow p m.at
     below p a = corners_negative (support_of t) p m.at (tri_sides t) (stands t full).sound a closed

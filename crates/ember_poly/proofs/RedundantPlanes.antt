@@ -5,8 +5,8 @@ use Rattle.std.specs.List.{AllByRecursion}
 use Rattle.ember_algebra.specs.Large.{Eventually}
 use Rattle.ember_algebra.proofs.Large.{eventually_both, eventually_map, eventually_pos}
 use Rattle.ember_algebra.proofs.Laws.{linear}
-use Rattle.ember_algebra.proofs.Ring.{◌⊕◌, ◌⊖◌, ◌⊗◌, neg, num, ◌≈◌, solve, cancels}
-use Rattle.ember_algebra.proofs.Vectors.{tuple, identity, TupleE, valueE}
+use Rattle.ember_algebra.proofs.Ring.{◌⊕◌, ◌⊗◌, neg, num, ◌≈◌, solve, cancels}
+use Rattle.ember_algebra.proofs.Vectors.{tuple, identity, valueE}
 use Rattle.ember_algebra.proofs.Order.{mul_pos_neg, zero_product}
 use Rattle.ember_model.specs.declared.plane.Plane.{Plane}
 use Rattle.ember_model.specs.declared.point.Spot.{Spot}
@@ -24,6 +24,7 @@ use Rattle.ember_poly.proofs.CutOrientation.{swap_last}
 use Rattle.ember_poly.proofs.InsideSigns.{combination_value, eventually_each}
 use Rattle.ember_poly.proofs.InsidePoints.{below_is_not_above, on_is_not_above, flat_sum, weight_sum, scaled_under}
 use Rattle.ember_poly.proofs.FaceTests.{edge_in, closed_out}
+use Rattle.ember_poly.proofs.EdgeEnds.{alongE}
 
 -- ---- points of a face, by its planes
 closed_of_inside : {n : Plane} {gs : List Plane} {v : Spot} → InFace n gs v → InClosedFace n gs v
@@ -74,20 +75,16 @@ closed_follows n gs hs o io low follow r ir =
 abbrev way : Plane → Plane → Spot
 way n h = record { x = (edge_direction n h).a; y = (edge_direction n h).b; z = (edge_direction n h).c; w = pos 0 }
 
-abbrev wayE : TupleE → TupleE → TupleE
-wayE n g =
-    record { x = n.y ⊗ g.z ⊖ n.z ⊗ g.y; y = n.z ⊗ g.x ⊖ n.x ⊗ g.z; z = n.x ⊗ g.y ⊖ n.y ⊗ g.x; w = num (pos 0) }
-
 way_flat : (n h : Plane) → value_at n (way n h) ≡ pos 0
-way_flat n h = identity (tuple ∷ tuple ∷ []) (λ n h. valueE n (wayE n h) ≈ num (pos 0)) cancels (plane_tuple n) (plane_tuple h)
+way_flat n h = identity (tuple ∷ tuple ∷ []) (λ n h. valueE n (alongE n h) ≈ num (pos 0)) cancels (plane_tuple n) (plane_tuple h)
 
 way_zero : (n h : Plane) → value_at h (way n h) ≡ pos 0
-way_zero n h = identity (tuple ∷ tuple ∷ []) (λ n h. valueE h (wayE n h) ≈ num (pos 0)) cancels (plane_tuple n) (plane_tuple h)
+way_zero n h = identity (tuple ∷ tuple ∷ []) (λ n h. valueE h (alongE n h) ≈ num (pos 0)) cancels (plane_tuple n) (plane_tuple h)
 
 turn_way : (n h p : Plane) → orientation h p n ≡ p.a *ℤ (way n h).x +ℤ p.b *ℤ (way n h).y +ℤ p.c *ℤ (way n h).z
 turn_way n h p =
-    identity (tuple ∷ tuple ∷ tuple ∷ []) (λ n h p. turnE h p n ≈ p.x ⊗ (wayE n h).x ⊕ p.y ⊗ (wayE n h).y ⊕ p.z ⊗
-    (wayE n h).z) cancels (plane_tuple n) (plane_tuple h) (plane_tuple p)
+    identity (tuple ∷ tuple ∷ tuple ∷ []) (λ n h p. turnE h p n ≈ p.x ⊗ (alongE n h).x ⊕ p.y ⊗ (alongE n h).y ⊕ p.z ⊗
+    (alongE n h).z) cancels (plane_tuple n) (plane_tuple h) (plane_tuple p)
 
 no_way : (n h p : Plane) → (way n h).x ≡ pos 0 → (way n h).y ≡ pos 0 → (way n h).z ≡ pos 0 → orientation h p n ≡ pos 0
 no_way n h p ex ey ez = turn_way n h p ∙ rw (ex, ey, ez) (nothing p.a p.b p.c)

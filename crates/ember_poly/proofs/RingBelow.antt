@@ -11,6 +11,7 @@ use Rattle.ember_poly.specs.Rings.{IsMeet, with_start, closing_side, Side, IsBel
 use Rattle.ember_poly.proofs.Planar.{Crossing, crossing_is_meet, under_past, under_first}
 use Rattle.ember_poly.proofs.Chains.{each_both, each-push, each-front, each-back, chain_ends, chain-front, ends_under, chain_is_closed}
 use Rattle.ember_poly.proofs.CutOrientation.{swap_last, turn_exit, turn_entry}
+use Rattle.ember_poly.proofs.RingOutline.{head_or}
 
 -- a corner of the ring
 pub record Rooted (n : Plane) (s : Side) : Type 0 where
@@ -84,10 +85,6 @@ pub record Outcome (n p : Plane) (new : List Side) (l b y k f z : Spot) : Type 0
   pub exit : Crossing p l b y
   pub entry : Crossing p k f z
 
-abbrev pub head_of : Side → List Side → Side
-head_of l [] = l
-head_of l (k ∷ ks) = k
-
 -- ---- some sides are dropped: d is the first of them
 module _ (n p : Plane) (f l d : Side) (ds : List Side) (y z : Spot) (b : ℕ) (pf : pos 0 ≤ℤ value_at p f.corner)
     (pd : pos 0 ≤ℤ value_at p d.corner) (my : IsMeet n l.plane p y) (mz : IsMeet n f.plane p z) where
@@ -109,7 +106,7 @@ module _ (n p : Plane) (f l d : Side) (ds : List Side) (y z : Spot) (b : ℕ) (p
   -- the part below a plane, if sides were dropped
   pub below_some : (ks : List Side) → IsConvexRing n (f ∷ (ks ++ l ∷ []) ++ d ∷ ds) →
       AllByRecursion (λ r. IsBelow p r.corner) (ks ++ l ∷ []) →
-      Outcome n p (with_start f z ∷ (ks ++ l ∷ []) ++ closing_side p y b ∷ []) l.corner d.corner y (head_of l ks).corner
+      Outcome n p (with_start f z ∷ (ks ++ l ∷ []) ++ closing_side p y b ∷ []) l.corner d.corner y (head_or l ks).corner
       f.corner z
   below_some [] h q =
       let x = exit_facts [] h.1 q.0.under in
@@ -146,7 +143,7 @@ module _ (n p : Plane) (f l : Side) (y z : Spot) (b : ℕ) (pf : pos 0 <ℤ valu
   -- the part below a plane, if no side was dropped
   pub below_all : (ks : List Side) → IsConvexRing n (f ∷ (ks ++ l ∷ [])) →
       AllByRecursion (λ r. IsBelow p r.corner) (ks ++ l ∷ []) →
-      Outcome n p (with_start f z ∷ (ks ++ l ∷ []) ++ closing_side p y b ∷ []) l.corner f.corner y (head_of l ks).corner
+      Outcome n p (with_start f z ∷ (ks ++ l ∷ []) ++ closing_side p y b ∷ []) l.corner f.corner y (head_or l ks).corner
       f.corner z
   below_all [] h q = absurd h.0
   below_all (m ∷ ks) h q =

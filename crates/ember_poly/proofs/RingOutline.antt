@@ -51,7 +51,8 @@ member_is_here_or_else P (y ∷ us) c ws zero x h k e = inl (subst P (by e) h.0)
 member_is_here_or_else P (y ∷ us) c ws (suc i) x h k e =
     ⊎_elim (λ p. inl p) (λ q. inr (q.0, ap (λ n. suc n) q.1)) (member_is_here_or_else P us c ws i x h.1 k e)
 
-abbrev head_or : Side → List Side → Side
+-- the first side of a list
+abbrev pub head_or : Side → List Side → Side
 head_or c [] = c
 head_or c (s ∷ xs) = s
 

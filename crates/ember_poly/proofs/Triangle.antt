@@ -10,6 +10,8 @@ use Rattle.ember_model.specs.declared.point.Corner.{Corner}
 use Rattle.ember_model.specs.declared.plane.Plane.{Plane}
 use Rattle.ember_model.specs.Planes.{value_at, vector_of, vector_between, plane_through, times_plane, edge_through}
 use Rattle.ember_model.specs.Owners.{spot_of_corner}
+use Rattle.ember_model.proofs.PlaneValues.{throughE}
+use Rattle.ember_model.proofs.Tuples.{cornerE}
 use Rattle.ember_poly.specs.Rings.{Side, IsBelow, IsCornerOf, IsConvexRing, Represents, orientation}
 use Rattle.ember_poly.proofs.Planar.{turnE}
 
@@ -25,12 +27,6 @@ edge_along s f u v = times_plane s (edge_through u v f)
 
 abbrev pub side_along : ℤ → Vector → Corner → Corner → ℕ → Side
 side_along s f u v b = record { plane = edge_along s f u v; corner = spot_of_corner u; plane_index = b }
-
-abbrev pointE : VectorE → TupleE
-pointE u = record { x = u.x; y = u.y; z = u.z; w = num (pos 1) }
-
-abbrev throughE : VectorE → VectorE → TupleE
-throughE n u = record { x = n.x; y = n.y; z = n.z; w = dotE n u }
 
 abbrev timesE : Expr → TupleE → TupleE
 timesE s p = record { x = s ⊗ p.x; y = s ⊗ p.y; z = s ⊗ p.z; w = s ⊗ p.w }
@@ -50,40 +46,40 @@ module _ (s : ℤ) (f : Vector) (u v w : Corner) where
 
   flat_u : value_at (support_plane u v w) (spot_of_corner u) ≡ pos 0
   flat_u =
-      identity (vector ∷ vector ∷ vector ∷ []) (λ u v w. valueE (supportE u v w) (pointE u) ≈ num (pos 0)) cancels (vector_of u) (vector_of v) (vector_of w)
+      identity (vector ∷ vector ∷ vector ∷ []) (λ u v w. valueE (supportE u v w) (cornerE u) ≈ num (pos 0)) cancels (vector_of u) (vector_of v) (vector_of w)
 
   flat_v : value_at (support_plane u v w) (spot_of_corner v) ≡ pos 0
   flat_v =
-      identity (vector ∷ vector ∷ vector ∷ []) (λ u v w. valueE (supportE u v w) (pointE v) ≈ num (pos 0)) cancels (vector_of u) (vector_of v) (vector_of w)
+      identity (vector ∷ vector ∷ vector ∷ []) (λ u v w. valueE (supportE u v w) (cornerE v) ≈ num (pos 0)) cancels (vector_of u) (vector_of v) (vector_of w)
 
   flat_w : value_at (support_plane u v w) (spot_of_corner w) ≡ pos 0
   flat_w =
-      identity (vector ∷ vector ∷ vector ∷ []) (λ u v w. valueE (supportE u v w) (pointE w) ≈ num (pos 0)) cancels (vector_of u) (vector_of v) (vector_of w)
+      identity (vector ∷ vector ∷ vector ∷ []) (λ u v w. valueE (supportE u v w) (cornerE w) ≈ num (pos 0)) cancels (vector_of u) (vector_of v) (vector_of w)
 
   starts : value_at (edge_along s f u v) (spot_of_corner u) ≡ pos 0
   starts =
-      identity (scalar ∷ vector ∷ vector ∷ vector ∷ []) (λ s f u v. valueE (edgeE s f u v) (pointE u) ≈ num (pos 0)) cancels s f (vector_of u) (vector_of v)
+      identity (scalar ∷ vector ∷ vector ∷ vector ∷ []) (λ s f u v. valueE (edgeE s f u v) (cornerE u) ≈ num (pos 0)) cancels s f (vector_of u) (vector_of v)
 
   ends : value_at (edge_along s f u v) (spot_of_corner v) ≡ pos 0
   ends =
-      identity (scalar ∷ vector ∷ vector ∷ vector ∷ []) (λ s f u v. valueE (edgeE s f u v) (pointE v) ≈ num (pos 0)) cancels s f (vector_of u) (vector_of v)
+      identity (scalar ∷ vector ∷ vector ∷ vector ∷ []) (λ s f u v. valueE (edgeE s f u v) (cornerE v) ≈ num (pos 0)) cancels s f (vector_of u) (vector_of v)
 
   opposite_uv : value_at (edge_along s f u v) (spot_of_corner w) ≡ neg_ℤ size
   opposite_uv =
       identity (scalar ∷ vector ∷ vector ∷ vector ∷ vector ∷ [])
-      (λ s f u v w. valueE (edgeE s f u v) (pointE w) ≈ neg (s ⊗ dotE (normalOfE u v w) f)) cancels s f (vector_of u)
+      (λ s f u v w. valueE (edgeE s f u v) (cornerE w) ≈ neg (s ⊗ dotE (normalOfE u v w) f)) cancels s f (vector_of u)
       (vector_of v) (vector_of w)
 
   opposite_vw : value_at (edge_along s f v w) (spot_of_corner u) ≡ neg_ℤ size
   opposite_vw =
       identity (scalar ∷ vector ∷ vector ∷ vector ∷ vector ∷ [])
-      (λ s f u v w. valueE (edgeE s f v w) (pointE u) ≈ neg (s ⊗ dotE (normalOfE u v w) f)) cancels s f (vector_of u)
+      (λ s f u v w. valueE (edgeE s f v w) (cornerE u) ≈ neg (s ⊗ dotE (normalOfE u v w) f)) cancels s f (vector_of u)
       (vector_of v) (vector_of w)
 
   opposite_wu : value_at (edge_along s f w u) (spot_of_corner v) ≡ neg_ℤ size
   opposite_wu =
       identity (scalar ∷ vector ∷ vector ∷ vector ∷ vector ∷ [])
-      (λ s f u v w. valueE (edgeE s f w u) (pointE v) ≈ neg (s ⊗ dotE (normalOfE u v w) f)) cancels s f (vector_of u)
+      (λ s f u v w. valueE (edgeE s f w u) (cornerE v) ≈ neg (s ⊗ dotE (normalOfE u v w) f)) cancels s f (vector_of u)
       (vector_of v) (vector_of w)
 
   turn_v : orientation (support_plane u v w) (edge_along s f u v) (edge_along s f v w) ≡ size *ℤ size

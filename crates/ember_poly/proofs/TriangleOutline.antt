@@ -17,7 +17,7 @@ use Rattle.ember_poly.proofs.EdgeEnds.{no_earlier, not_after}
 use Rattle.ember_poly.proofs.FaceTests.{edge_out}
 use Rattle.ember_poly.proofs.RingOutline.{ring_outline}
 use Rattle.ember_poly.proofs.Triangle.{edge_along}
-use Rattle.ember_poly.proofs.TriangleRing.{tri_sides, tri_planes, stands, counted}
+use Rattle.ember_poly.proofs.TriangleRing.{tri_sides, stands, counted}
 
 -- ---- the edge after an edge
 not_both : {n g : Plane} {u v : Spot} → IsBefore n g u v → IsNotAfter n g v u → ⊥
@@ -131,7 +131,7 @@ unfolding face_of
 triangle_outline t es e o =
     let k = main_axis (support_of t) in let s = sign (along (support_of t) k) in
     let st = stands t e in
-    let ring = ring_outline (support_of t) (tri_planes t) (tri_sides t) st (counted t) (omega arith, (omega arith, tt)) in
+    let ring = ring_outline (support_of t) (edges_of t) (tri_sides t) st (counted t) (omega arith, (omega arith, tt)) in
     let first : HasEdge (face_of t) (edge_along s (unit k) t.a t.b) =
     subst (λ (d : RingEdge). HasEdge (face_of t) d.plane) (sym (first_of ring.begins)) ring.earliest.holds in
     in_order (support_of t) (edge_along s (unit k) t.a t.b) (edge_along s (unit k) t.b t.c)

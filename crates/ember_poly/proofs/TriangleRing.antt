@@ -14,8 +14,8 @@ use Rattle.ember_model.specs.declared.point.Axis.{Axis}
 use Rattle.ember_model.specs.declared.point.Axis.TheVariants.{X, Y, Z}
 use Rattle.ember_model.specs.declared.plane.Plane.{Plane}
 use Rattle.ember_model.specs.declared.tri.Tri.{Tri}
-use Rattle.ember_model.specs.Planes.{along, unit, main_axis, support_of, edge_planes}
-use Rattle.ember_model.specs.Faces.{is_flat, face_of, is_inside}
+use Rattle.ember_model.specs.Planes.{along, unit, main_axis, support_of}
+use Rattle.ember_model.specs.Faces.{is_flat, face_of, is_inside, edges_of}
 use Rattle.ember_model.specs.Owners.{spot_of_corner}
 use Rattle.ember_model.specs.declared.point.Spot.{Spot}
 use Rattle.ember_poly.specs.Rings.{Side, Represents, IsInsideRing}
@@ -80,17 +80,14 @@ tri_sides t =
     let k = main_axis (support_of t) in let s = sign (along (support_of t) k) in
     side_along s (unit k) t.a t.b 0 ∷ side_along s (unit k) t.b t.c 1 ∷ side_along s (unit k) t.c t.a 2 ∷ []
 
-abbrev pub tri_planes : Tri → List Plane
-tri_planes t = edge_planes t (main_axis (support_of t))
-
 -- the ring of a triangle that isn't flat is its face
-pub stands : (t : Tri) → is_flat t ≡ false → Represents (support_of t) (tri_planes t) (tri_sides t)
+pub stands : (t : Tri) → is_flat t ≡ false → Represents (support_of t) (edges_of t) (tri_sides t)
 stands t e =
     let k = main_axis (support_of t) in
     triangle_stands (sign (along (support_of t) k)) (unit k) t.a t.b t.c (faces_axis t e)
 
 -- each edge plane of a triangle is that of a side
-pub counted : (t : Tri) → EachHasSideOrNoEdge (support_of t) (tri_planes t) (tri_sides t)
+pub counted : (t : Tri) → EachHasSideOrNoEdge (support_of t) (edges_of t) (tri_sides t)
 counted t zero h e = inl (record { at = 0; side = _; here = refl; plane_index = refl })
 counted t (suc zero) h e = inl (record { at = 1; side = _; here = refl; plane_index = refl })
 counted t (suc (suc zero)) h e = inl (record { at = 2; side = _; here = refl; plane_index = refl })
@@ -131,7 +128,7 @@ module _ {M : Type 0} (spot : M → Spot) where
   places u v w = u ∷ v ∷ w ∷ []
 
   same_sides : (t : Tri) (u v w : M) → spot u ≡ spot_of_corner t.a → spot v ≡ spot_of_corner t.b →
-      spot w ≡ spot_of_corner t.c → sides_of spot (tri_planes t) (places u v w) (0 ∷ 1 ∷ 2 ∷ []) ≡ tri_sides t
+      spot w ≡ spot_of_corner t.c → sides_of spot (edges_of t) (places u v w) (0 ∷ 1 ∷ 2 ∷ []) ≡ tri_sides t
   same_sides t u v w eu ev ew =
       let k = main_axis (support_of t) in let s = sign (along (support_of t) k) in
       λ i. record { plane = (side_along s (unit k) t.a t.b 0).plane; corner = eu i; plane_index = 0 }
@@ -140,15 +137,15 @@ module _ {M : Type 0} (spot : M → Spot) where
 
   ring_of : {IsPlane : Plane → Type 0} (t : Tri) (u v w : M) → is_flat t ≡ false → spot u ≡ spot_of_corner t.a →
       spot v ≡ spot_of_corner t.b → spot w ≡ spot_of_corner t.c → IsPlane (support_of t) →
-      All IsPlane (tri_planes t) → IsRing IsPlane spot (support_of t) (tri_planes t) (tri_planes t) (places u v w) (0 ∷ 1 ∷ 2 ∷ [])
+      All IsPlane (edges_of t) → IsRing IsPlane spot (support_of t) (edges_of t) (edges_of t) (places u v w) (0 ∷ 1 ∷ 2 ∷ [])
   ring_of {IsPlane} t u v w e eu ev ew vn vs =
       let q = sym (same_sides t u v w eu ev ew) in
       record {
-        represents = subst (λ xs. Represents (support_of t) (tri_planes t) xs) q (stands t e);
+        represents = subst (λ xs. Represents (support_of t) (edges_of t) xs) q (stands t e);
         oldest =
             subst (λ xs. OldestFirst xs) q (omega arith, (omega arith, tt));
         counted =
-            subst (λ xs. EachHasSideOrNoEdge (support_of t) (tri_planes t) xs) q (counted t);
+            subst (λ xs. EachHasSideOrNoEdge (support_of t) (edges_of t) xs) q (counted t);
         corners = refl;
         plane_indices =
             refl;
@@ -158,7 +155,7 @@ module _ {M : Type 0} (spot : M → Spot) where
 
   -- from what the code holds
   pub tri_ring : {IsPlane : Plane → Type 0} (t : Tri) (n : Plane) {fs gs es : List Plane} {ms : List M} {bs : List ℕ} → is_flat t ≡ false →
-      n ≡ support_of t → IsPlane n → fs ≡ tri_planes t → All IsPlane fs → gs ≡ fs → es ≡ fs →
+      n ≡ support_of t → IsPlane n → fs ≡ edges_of t → All IsPlane fs → gs ≡ fs → es ≡ fs →
       map spot ms ≡ tri_corners t → bs ≡ 0 ∷ 1 ∷ 2 ∷ [] → IsRing IsPlane spot n gs es ms bs
   tri_ring {IsPlane} t n {fs} {gs} {es} {ms} {bs} e en vn ef vs eg ee em eb =
       let k = three spot ms (spot_of_corner t.a) (spot_of_corner t.b) (spot_of_corner t.c) em in
@@ -173,7 +170,7 @@ flat_is t n b en e =
     ap (λ (p : Plane). is_zero p.a && (is_zero p.b && is_zero p.c)) (sym en) ∙ sym e
 
 -- the support plane with the three edge planes is the face of a triangle that isn't flat
-pub face_is : (t : Tri) (n : Plane) (gs : List Plane) → is_flat t ≡ false → n ≡ support_of t → gs ≡ tri_planes t →
+pub face_is : (t : Tri) (n : Plane) (gs : List Plane) → is_flat t ≡ false → n ≡ support_of t → gs ≡ edges_of t →
     Some (record { support = n; edges = gs }) ≡ cond (is_flat t) None (Some (face_of t))
 unfolding face_of
 face_is t n gs e en eg =
@@ -181,7 +178,7 @@ face_is t n gs e en eg =
 
 -- ---- of a triangle that is not flat
 -- the support plane with the three edge planes is the triangle's face
-pub tri_face : (t : Tri) (n : Plane) (gs : List Plane) → n ≡ support_of t → gs ≡ tri_planes t → record { support = n; edges = gs } ≡ face_of t
+pub tri_face : (t : Tri) (n : Plane) (gs : List Plane) → n ≡ support_of t → gs ≡ edges_of t → record { support = n; edges = gs } ≡ face_of t
 unfolding face_of
 tri_face t n gs en eg = λ i. record { support = en i; edges = eg i }
 

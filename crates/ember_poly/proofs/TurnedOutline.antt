@@ -5,7 +5,7 @@ use Rattle.std.specs.List.{AllByRecursion, list_all}
 use Rattle.ember_algebra.specs.Sign.{is_zero, is_positive}
 use Rattle.ember_algebra.proofs.Laws.{linear}
 use Rattle.ember_algebra.proofs.Ring.{◌⊗◌, neg, ◌≈◌, solve, cancels}
-use Rattle.ember_algebra.proofs.Vectors.{tuple, identity, dotE, crossE, TupleE}
+use Rattle.ember_algebra.proofs.Vectors.{tuple, identity, dotE, crossE}
 use Rattle.ember_model.specs.declared.plane.Plane.{Plane}
 use Rattle.ember_model.specs.declared.point.Spot.{Spot}
 use Rattle.ember_model.specs.declared.face.Face.{Face}
@@ -17,6 +17,7 @@ use Rattle.ember_model.proofs.Tuples.{plane_tuple, spot_tuple, normalE}
 use Rattle.ember_model.proofs.SignTests.{is_zero-neg}
 use Rattle.ember_model.proofs.PlaneValues.{value-opposite}
 use Rattle.ember_poly.proofs.Chains.{each-push}
+use Rattle.ember_poly.proofs.InsideSigns.{oppositeE}
 
 -- ---- the same points, the opposite way
 on_turned : (f : Face) (g : Plane) (v : Spot) → is_on_edge (flipped_face f) g v ≡ is_on_edge f g v
@@ -51,9 +52,6 @@ counts_back f g c =
           sym (on_turned f g c.other) ∙ c.holds_other;
       different = c.different;
     }
-
-abbrev oppositeE : TupleE → TupleE
-oppositeE v = record { x = neg v.x; y = neg v.y; z = neg v.z; w = neg v.w }
 
 reach_turned : (n g : Plane) (v : Spot) → position_along (opposite n) g v ≡ neg_ℤ (position_along n g v)
 reach_turned n g v =

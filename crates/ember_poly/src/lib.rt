@@ -26,6 +26,4 @@ pub use law::{rings_are_bounded, rings_are_valid_and_bounded};
 pub use meeting::{has_point_within, meets, meets_face};
 pub use reach_and_cut::{Cut, Reach};
 pub use reaching::reach;
-pub use ring::{
-    Ring, copy, corners, edges, main_edges, of_tri, of_tri_on, outline, planes, support,
-};
+pub use ring::{Ring, copy, corners, edges, of_tri, of_tri_on, outline, planes, support};

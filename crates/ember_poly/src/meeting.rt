@@ -13,9 +13,9 @@ use crate::passage::{classify, find_passage};
 use crate::reach_and_cut::Reach;
 use crate::reaching::reach;
 use crate::ring;
-use crate::ring::{Ring, main_edges};
+use crate::ring::Ring;
 use ember_algebra::Sign;
-use ember_model::{Plane, Tri, support_of};
+use ember_model::{Plane, Tri, main_edges, support_of};
 use ember_width::{Width, value_at_corner};
 
 // What a plane leaves of the chord between two points.

@@ -1,15 +1,14 @@
 // Rings: faces that keep their corners beside their edges.
-ghost use Rattle.std.specs.Prelude.{◌≡◌, ℕ, ◌≤◌, None, Some, IfOk, length, All, if◌then◌else◌};
-ghost use Rattle.ember_model.specs.Limits.{broad_limit};
-ghost use Rattle.ember_model.specs.Within.{IsTriWithin, IsEdgeWithin};
-ghost use Rattle.ember_model.specs.Valid.{IsValidTri, IsValidPlane};
+ghost use Rattle.std.specs.Prelude.{◌≡◌, ◌≤◌, None, Some, IfOk, length, All, if◌then◌else◌};
+ghost use Rattle.ember_model.specs.Within.{IsTriWithin};
+ghost use Rattle.ember_model.specs.Valid.{IsValidTri};
 ghost use Rattle.ember_model.specs.Planes.{support_of};
-ghost use Rattle.ember_model.specs.Faces.{is_flat, face_of, edges_of};
+ghost use Rattle.ember_model.specs.Faces.{is_flat, face_of};
 ghost use Rattle.ember_model.specs.Edges.{IsOutline};
 ghost use Rattle.ember_poly.specs.Sides.{ring_edges, AreEdges, AreCorners};
 
 use crate::boundary::{Boundary, put_corners, with_room};
-use ember_model::{OutOfMemory, Plane, Tri, edge_plane, has_no_normal, main_axis, support_of};
+use ember_model::{OutOfMemory, Plane, Tri, has_no_normal, main_edges, support_of};
 use ember_width::{Narrow, Width};
 use std::alloc::Global;
 use std::marker::Model;
@@ -38,23 +37,6 @@ impl<W: Width> Model for Ring<W> {
 
 // Room for this many cuts is reserved in a new ring: one by each wall of a box.
 const ROOM: usize = 6;
-
-/// The edge planes of a triangle with this support plane, parallel to its main axis. The same as
-/// `main_edges` of ember_model, which that crate keeps to itself.
-pub fn main_edges(t: &Tri, support: &Plane) -> [Plane; 3]
-    requires tri { IsTriWithin broad_limit t.now }
-    requires support { support.now ≡ support_of t.now }
-    ensures value { result ≡ edges_of t.now }
-    ensures within { (m : ℕ) → IsTriWithin m t.now → All (IsEdgeWithin m) result }
-    ensures valid { IsValidTri t.now → All IsValidPlane result }
-{
-    let k = main_axis(support);
-    [
-        edge_plane(t, 0, k),
-        edge_plane(t, 1, k),
-        edge_plane(t, 2, k),
-    ]
-}
 
 /// The triangle's face on a grid, and `None` exactly if the triangle's normal is zero.
 pub fn of_tri_on<W: Width>(alloc: Global, t: &Tri) -> Result<Option<Ring<W>>, OutOfMemory>

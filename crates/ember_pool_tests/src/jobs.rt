@@ -3,8 +3,8 @@ ghost use Rattle.std.specs.Prelude.{◌≡◌, IfOk};
 ghost use Rattle.ember_job.specs.Works.{Answers, leafed};
 
 use ember_box::root;
-use ember_job::{Job, Numbers, OneItem, OutOfMemory, Outcome, Step, Work};
-use ember_model::Vector;
+use ember_job::{Job, Numbers, OneItem, Outcome, Step, Work};
+use ember_model::{OutOfMemory, Vector};
 use std::test::Fail;
 
 #[derive(Drop)]

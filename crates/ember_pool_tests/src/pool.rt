@@ -5,8 +5,8 @@ ghost use Rattle.ember_job.specs.Works.{Answers};
 ghost use Rattle.ember_pool_tests.specs.Halving.{halving_shape, is_path};
 
 use ember_box::{halves, root};
-use ember_job::{Entry, Job, Numbers, OneItem, OutOfMemory, Outcome, Step, Work};
-use ember_model::{Axis, Vector};
+use ember_job::{Entry, Job, Numbers, OneItem, Outcome, Step, Work};
+use ember_model::{Axis, OutOfMemory, Vector};
 use ember_tree::merge;
 use std::alloc::{AllocError, Global};
 use std::process::Abort;

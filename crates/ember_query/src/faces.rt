@@ -7,9 +7,8 @@ ghost use Rattle.ember_meaning.specs.Regions.Solids.{AreSolidFaces, IsSolidRepor
 
 use crate::query::{Answer, Query, query_faces};
 use ember_expr::Expr;
-use ember_model::{Face, OutOfMemory, Scene};
+use ember_model::{Face, FaceList, OutOfMemory, Scene};
 use ember_report::{Report, report_of};
-use ember_reread::FaceList;
 use ember_step::leaf_faces_join;
 use std::alloc::Global;
 

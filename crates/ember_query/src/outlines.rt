@@ -1,5 +1,5 @@
 // The faces of the outlines of the written regions of each leaf, in memory, on any grid.
-ghost use Rattle.std.specs.Prelude.{◌≤◌, ◌+◌, ◌*◌, ◌^◌, IfOk};
+ghost use Rattle.std.specs.Prelude.{IfOk};
 ghost use Rattle.ember_expr.specs.Formula.{formula_of};
 ghost use Rattle.ember_model.specs.Limits.{most_meshes};
 ghost use Rattle.ember_report.specs.Runs.{AreJournalsOf};
@@ -12,8 +12,7 @@ use crate::executor::results_alone;
 use crate::query::RunResult;
 use ember_expr::Expr;
 use ember_job::{Job, Step};
-use ember_model::{OutOfMemory, Tri};
-use ember_reread::FaceList;
+use ember_model::{FaceList, OutOfMemory, Tri};
 use ember_step::{OutlineWork, outlines_step};
 use ember_visit::root_job_among;
 use ember_width::Width;
@@ -22,16 +21,15 @@ use std::marker::PhantomData;
 use steal_pool::Gate;
 
 /// The faces of the outlines of the written regions of each leaf, for the triangles of a scene on a
-/// grid. This thread alone runs the boxes, and calls the gate before each. The root of the grid ends
-/// one step past the corners. The only error is out-of-memory.
+/// grid. This thread alone runs the boxes, and calls the gate before each. The only error is
+/// out-of-memory.
 pub fn outlines_alone<W: Width, G: Gate>(
     alloc: Global,
     gate: &G,
     tris: &[Tri],
     expr: &Expr,
 ) -> Result<RunResult<FaceList>, OutOfMemory>
-    requires scene { IsSceneWithin W.corner tris.now most_meshes }
-    requires root { 2 ^ W.scale * 2048 ≤ W.corner + 1 }
+    requires { IsSceneWithin W.corner tris.now most_meshes }
     ensures items { IfOk result (λ found.
         AreLeafOutlines W.Width tris.now (formula_of expr.now) found.items.items) }
     ensures journals { IfOk result (λ found. AreJournalsOf

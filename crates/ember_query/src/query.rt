@@ -20,9 +20,8 @@ ghost use Rattle.ember_step.specs.Texts.{AreLeafTexts};
 
 use ember_expr::Expr;
 use ember_job::Journals;
-use ember_model::{OutOfMemory, Scene};
+use ember_model::{FaceList, OutOfMemory, Scene};
 use ember_pairs::PairList;
-use ember_reread::FaceList;
 use ember_text::FacesText;
 use ember_voxel::Fill;
 

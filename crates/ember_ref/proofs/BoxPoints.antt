@@ -116,10 +116,6 @@ has_half_beside f c k above l = has_shifted (pos f) c (right_half c k).lo (omega
 pub has_reference : (c : Cell) → HasPoint c (reference c)
 has_reference c = has_beside (2 ^ 27) c (lit< tt)
 
--- and that of its right half
-pub has_half_reference : (c : Cell) (k : Axis) → 0 < c.log k → HasPoint c (reference (right_half c k))
-has_half_reference c k l = has_half_beside (2 ^ 27) c k (lit< tt) l
-
 -- ---- points between two of them
 combined : (s : Interval) (k m x y v w : ℤ) → pos 0 ≤ℤ k → pos 0 ≤ℤ m → IsAcross s x v → IsAcross s y w → IsAcross s (k *ℤ x +ℤ m *ℤ y) (k *ℤ v +ℤ m *ℤ w)
 combined s k m x y v w a b f g =

@@ -11,14 +11,14 @@ use Rattle.ember_model.specs.declared.point.Axis.{Axis}
 use Rattle.ember_model.specs.declared.point.Axis.TheVariants.{X, Y, Z}
 use Rattle.ember_model.specs.declared.plane.Plane.{Plane}
 use Rattle.ember_model.specs.declared.tri.Tri.{Tri}
-use Rattle.ember_model.specs.Planes.{unit, value_at, support_of, edge_through}
+use Rattle.ember_model.specs.Planes.{unit, value_at, support_of, edge_through, HasNoNormal}
 use Rattle.ember_model.specs.Limits.{narrow_limit}
 use Rattle.ember_model.specs.Valid.{IsValidTri}
 use Rattle.ember_model.specs.Within.{normal_limit, IsCornerWithin, IsTriWithin}
 use Rattle.ember_model.specs.Clear.{IsClearOf, AreClear}
 use Rattle.ember_model.specs.Meshes.{faces_of}
 use Rattle.ember_model.proofs.PlaneSizes.{support_within, edge_within}
-use Rattle.ember_law.proofs.Shifted.{NoNormal, value_shifted, off_horner}
+use Rattle.ember_law.proofs.Shifted.{value_shifted, off_horner}
 use Rattle.ember_law.proofs.Generic.{IsOff}
 use Rattle.ember_law.proofs.GenericClear.{off_clear, clear_faces}
 use Rattle.ember_box.specs.Near.{spot_of_vector}
@@ -26,14 +26,14 @@ use Rattle.ember_width.proofs.Slides.{edge_within_planes}
 use Rattle.ember_box.specs.Reference.{reference_beside, reference_at}
 use Rattle.ember_ref.proofs.ReferenceLegs.{weight_beside}
 
-off_plane : {m f : ℕ} (h : Plane) (v : Vector) → m < f → EachSmall m (h.a ∷ h.b ∷ h.c ∷ []) → value_at h (reference_beside f v) ≡ pos 0 → NoNormal h
+off_plane : {m f : ℕ} (h : Plane) (v : Vector) → m < f → EachSmall m (h.a ∷ h.b ∷ h.c ∷ []) → value_at h (reference_beside f v) ≡ pos 0 → HasNoNormal h
 off_plane {m} {f} h v l s e =
     off_horner f (value_at h (spot_of_vector v)) h.a h.b h.c l s (sym (value_shifted h (spot_of_vector v) (pos f)) ∙ e)
 
 -- ---- of triangles within m, by shifts that their planes don't reach
 module _ (m f : ℕ) (v : Vector) (l : normal_limit m < f) where
   off_edge : (u w : Corner) (k : Axis) → IsCornerWithin m u → IsCornerWithin m w →
-      value_at (edge_through u w (unit k)) (reference_beside f v) ≡ pos 0 → NoNormal (edge_through u w (unit k))
+      value_at (edge_through u w (unit k)) (reference_beside f v) ≡ pos 0 → HasNoNormal (edge_through u w (unit k))
   off_edge u w k iu iw =
       let h = edge_through u w (unit k) in
       let s = edge_within_planes m _ (edge_within m u w k (pos 1) iu iw (record { small = le_refl 1 })) in

@@ -1,22 +1,18 @@
 -- Triangles that aren't near a box: no segment in the box meets their faces.
-use Rattle.std.proofs.Common.{◌≡◌, ◌⊎◌, inl, inr, refl, ap, ◌∙◌, arith, Bool, true, false, not, cond, ◌&&◌, List, [], ◌∷◌, All, map, filter, pos, ◌*ℤ◌}
+use Rattle.std.proofs.Common.{◌≡◌, ◌⊎◌, inl, inr, refl, ap, ◌∙◌, Bool, true, false, not, cond, ◌&&◌, List, [], ◌∷◌, All, map, filter, pos, ◌*ℤ◌}
 use Rattle.std.specs.List.{AllByRecursion}
 use Rattle.std.proofs.lemmas.List.Elements.{All-head, All-tail}
-use Rattle.std.proofs.lemmas.Bool.{and_parts}
 use Rattle.ember_algebra.specs.Sign.{sign, is_negative}
-use Rattle.ember_algebra.proofs.Laws.{linear}
 use Rattle.ember_model.specs.declared.point.Spot.{Spot}
 use Rattle.ember_model.specs.declared.point.Axis.{Axis}
 use Rattle.ember_model.specs.declared.face.Face.{Face}
-use Rattle.ember_model.specs.declared.plane.Plane.{Plane}
 use Rattle.ember_model.specs.declared.tri.Tri.{Tri}
 use Rattle.ember_model.specs.Planes.{value_at}
 use Rattle.ember_model.specs.Faces.{is_flat, face_of, is_inside, is_in_closed, between, leg}
 use Rattle.ember_model.specs.Clear.{AreClear}
 use Rattle.ember_model.specs.Meshes.{wind, faces_of, IsBalanced}
-use Rattle.ember_model.specs.ClearTest.{none_positive, all_negative}
-use Rattle.ember_model.proofs.SignTests.{clash, positive_in, negative_out, not_positive_in}
-use Rattle.ember_model.proofs.Hits.{inside_parts, closed_on, closed_parts}
+use Rattle.ember_model.proofs.SignTests.{clash}
+use Rattle.ember_model.proofs.Hits.{inside_parts, closed_parts, inside_closed}
 use Rattle.ember_law.specs.Counts.{leg_vector}
 use Rattle.ember_law.specs.Laws.{MissesFace}
 use Rattle.ember_law.proofs.FlatTriangles.{flat_case, flat_out, flat_leg}
@@ -30,15 +26,6 @@ use Rattle.ember_ref.proofs.NearPoints.{near_point}
 use Rattle.ember_ref.proofs.BoxPoints.{has_combination, has_between}
 
 -- ---- crossings
-not_above : (x : Spot) (es : List Plane) → all_negative es x ≡ true → none_positive es x ≡ true
-not_above x [] h = refl
-not_above x (e ∷ es) h =
-    let p = and_parts (is_negative (value_at e x)) (all_negative es x) h in let n = negative_out (value_at e x) p.0 in
-    let a = not_positive_in (value_at e x) (omega (arith, linear, n)) in let b = not_above x es p.1 in λ i. a i && b i
-
--- an inside point of a face is in the closed face
-pub inside_closed : (f : Face) (x : Spot) → is_inside f x ≡ true → is_in_closed f x ≡ true
-inside_closed f x h = let p = inside_parts f x h in closed_on f x (positive_in p.0) p.1 ∙ not_above x f.edges p.2
 
 leg_outside : (f : Face) (p q : Spot) → is_inside f (between f.support p q) ≡ false → leg f p q ≡ pos 0
 unfolding leg

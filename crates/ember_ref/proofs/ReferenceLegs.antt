@@ -23,8 +23,8 @@ use Rattle.ember_model.proofs.PlaneValues.{sign-number}
 use Rattle.ember_model.proofs.LegSigns.{leg_is}
 use Rattle.ember_box.specs.Boxes.{Cell, shifted_by, right_half}
 use Rattle.ember_box.specs.Near.{spot_of_vector}
-use Rattle.ember_box.specs.Reference.{reference_beside, reference_at, reference}
-use Rattle.ember_ref.specs.References.{vector_of_list, reference_of_list, reference_at_list, IsBoxCornerWithin}
+use Rattle.ember_box.specs.Reference.{reference_beside, reference_at}
+use Rattle.ember_ref.specs.References.{vector_of_list, reference_of_list, IsBoxCornerWithin}
 
 -- ---- reference points
 pub box_corner : {m : ℕ} (cs : List ℤ) → All (Small m) cs → IsBoxCornerWithin m (vector_of_list cs)
@@ -62,10 +62,6 @@ differ_along m Z by v = (refl, refl)
 pub beside_is : (f : ℕ) (lo : List ℤ) (v : Vector) → vector_of_list lo ≡ v → reference_of_list f lo ≡ reference_beside f v
 unfolding reference_of_list
 beside_is f lo v e = ap (λ w. reference_beside f w) e
-
--- on the narrow grid: that of the box
-pub reference_is : (lo : List ℤ) (c : Cell) → vector_of_list lo ≡ c.lo → reference_at_list lo ≡ reference c
-reference_is lo c e = beside_is (2 ^ 27) lo c.lo e
 
 -- the reference points of a box and its right half
 pub halves_differ : (f : ℕ) (c : Cell) (k : Axis) → DifferAlong k (reference_beside f (right_half c k).lo) (reference_beside f c.lo)

@@ -1,6 +1,6 @@
 -- The sign of a plane at a reference point: that of the first of its value at the corner and its
 -- normal's entries that isn't 0.
-use Rattle.std.proofs.Common.{◌≡◌, ℕ, ◌^◌, ◌<◌, refl, sym, ap, ◌∙◌, arith, None, Some, ℤ, pos, ◌+ℤ◌, ◌*ℤ◌}
+use Rattle.std.proofs.Common.{◌≡◌, ℕ, ◌<◌, refl, sym, ap, ◌∙◌, arith, ℤ, pos, ◌+ℤ◌, ◌*ℤ◌}
 use Rattle.ember_algebra.specs.Vector.{Vector}
 use Rattle.ember_algebra.specs.Size.{Small}
 use Rattle.ember_algebra.specs.declared.Sign.{Sign}
@@ -10,17 +10,13 @@ use Rattle.ember_algebra.proofs.Laws.{linear}
 use Rattle.ember_algebra.proofs.Order.{by_sign, large_pos, large_neg}
 use Rattle.ember_algebra.proofs.Signs.{sgn_pos, sgn_neg}
 use Rattle.ember_model.specs.declared.plane.Plane.{Plane}
-use Rattle.ember_model.specs.Planes.{value_at}
+use Rattle.ember_model.specs.Planes.{value_at, HasNoNormal}
 use Rattle.ember_model.proofs.SignTests.{zero_times, zero_out}
 use Rattle.ember_law.proofs.Shifted.{value_shifted}
 use Rattle.ember_model.specs.Points.{offset_by}
 use Rattle.ember_box.specs.Near.{spot_of_vector}
-use Rattle.ember_box.specs.Reference.{reference_beside, reference_at}
-use Rattle.ember_ref.specs.References.{or_sign, HasNormalWithin, HasNoNormal}
-
--- what is equal within `Some` is equal
-pub some_is : {x y : Plane} → Some x ≡ Some y → x ≡ y
-some_is {x} e = ap (λ o. elim o [ None ↦ x | Some p ↦ p ]) e
+use Rattle.ember_box.specs.Reference.{reference_beside}
+use Rattle.ember_ref.specs.References.{or_sign, HasNormalWithin}
 
 -- the sign of three numbers, from either side
 pub or_sign_assoc : (s t r : Sign) → or_sign (or_sign s t) r ≡ or_sign s (or_sign t r)
@@ -51,11 +47,6 @@ sign_near n p v l a b c =
     ∙ ap (λ (s : Sign). or_sign s (sgn p.c)) (or_sign_assoc (sgn x) (sgn p.a) (sgn p.b))
     ∙ or_sign_assoc (sgn x) (or_sign (sgn p.a) (sgn p.b)) (sgn p.c)
     ∙ ap (λ (s : Sign). or_sign (sgn x) s) (or_sign_assoc (sgn p.a) (sgn p.b) (sgn p.c))
-
--- the sign of a plane at a reference point, by the corner and then by the plane's coefficients
-pub sign_at_reference : {m : ℕ} (p : Plane) (v : Vector) → m < 2 ^ 27 → Small m p.a → Small m p.b → Small m p.c →
-    sgn (value_at p (reference_at v)) ≡ sign_beside p v
-sign_at_reference p v l a b c = sign_near (2 ^ 27) p v l a b c
 
 -- the same with shifts by 1/f, 1/f^2 and 1/f^3
 pub sign_beside_is : {m : ℕ} (f : ℕ) (p : Plane) (v : Vector) → HasNormalWithin m p → m < f → sgn (value_at p (reference_beside f v)) ≡ sign_beside p v

@@ -19,14 +19,13 @@ use Rattle.ember_model.specs.Valid.{IsValidTri}
 use Rattle.ember_model.specs.Within.{IsTriWithin}
 use Rattle.ember_model.specs.Meshes.{meshes, IsScene}
 use Rattle.ember_model.proofs.SignTests.{zero_times, size_nonnegative}
-use Rattle.ember_model.proofs.Hits.{inside_parts}
+use Rattle.ember_model.proofs.Hits.{inside_parts, inside_closed}
 use Rattle.ember_law.proofs.FlatTriangles.{flat_case, flat_out, flat_crossing}
 use Rattle.ember_law.proofs.Tallies.{tally_zero}
 use Rattle.ember_width.specs.Scenes.{IsSceneWithin}
 use Rattle.ember_box.specs.Boxes.{low, root, in_steps}
 use Rattle.ember_box.specs.Reference.{reference_beside, vector_beside, reference, vector_at}
 use Rattle.ember_ref.proofs.NearPoints.{past_corners}
-use Rattle.ember_ref.proofs.FarTriangles.{inside_closed}
 
 -- y lies below -m times the weight, so k * y does
 below_all : (m k y w : ℤ) → pos 0 ≤ℤ k → (y +ℤ m *ℤ w) <ℤ pos 0 → (neg_ℤ m *ℤ (k *ℤ w)) ≤ℤ (pos 1 *ℤ (k *ℤ y)) → pos 0 <ℤ (k *ℤ w) → ⊥

@@ -50,10 +50,6 @@ pub record HasNormalWithin (m : ℕ) (p : Plane) : Type 0 where
   pub b : Small m p.b
   pub c : Small m p.c
 
--- the normal is zero
-abbrev pub HasNoNormal : Plane → Type 0
-HasNoNormal p = (p.a ≡ pos 0) × (p.b ≡ pos 0) × (p.c ≡ pos 0)
-
 -- ---- of a box in steps
 -- the counts at the reference point of the right half: those at the box's point, plus the signed crossings of the
 -- segment from the half's point back to the box's

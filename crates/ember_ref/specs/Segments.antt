@@ -17,7 +17,8 @@ pub record IsAlongAxis (w : AxisSegment) : Type 0 where
   pub to : IsBoxCornerWithin most_wall (vector_of_list w.to)
   pub line : (f : ℕ) → DifferAlong w.axis (reference_of_list f w.from) (reference_of_list f w.to)
 
--- the segment from the reference point of the right half of a box in steps to that of the box, with a bounding box of it
+-- the segment from the reference point of the right half of a box in steps to that of the box, with a bounding box of
+-- it
 pub record IsSegmentBack (c : Cell) (k : Axis) (w : AxisSegment) : Type 0 where
   pub from : vector_of_list w.from ≡ (right_half c k).lo
   pub to : vector_of_list w.to ≡ c.lo

@@ -8,5 +8,5 @@ mod shifting;
 mod signs;
 
 pub use law::reference_points_are_clear;
-pub use shifting::{shift, shift_listed, shift_listed_on};
+pub use shifting::{shift, shift_listed_on};
 pub use signs::{lex_side, or_sign, side_beside};

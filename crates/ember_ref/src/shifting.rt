@@ -163,7 +163,7 @@ fn add_crossing(t: &Tri, segment: &AxisSegment, v: &mut Vector)
 /// w(p) = w(q) + the signed crossings of the segment from p to q. So it adds, to the count of each
 /// mesh, the crossings of the segment from the right half's point back to the box's.
 /// The side of the box along that axis is above 1. Only tests call this; the program calls
-/// `shift_listed`.
+/// `shift_listed_on`.
 pub fn shift(near: &[Tri], c: &Cell, k: Axis, v: &mut Vector)
     requires valid { All IsValidTri near.now }
     requires numbered { All (HasMesh 64) near.now }
@@ -199,19 +199,4 @@ pub fn shift_listed_on<W: Width>(tris: &[Tri], list: &[u32], c: &Cell, axis: Axi
     for i in list {
         add_crossing(&tris[*i as usize], &segment, v);
     }
-}
-
-/// The same as `shift`; `list` has the indices of the near triangles in `tris`.
-pub fn shift_listed(tris: &[Tri], list: &[u32], c: &Cell, axis: Axis, v: &mut Vector)
-    requires valid { All IsValidTri tris.now }
-    requires numbered { All (HasMesh 64) tris.now }
-    requires places { All (λ i. i < length tris.now) list.now }
-    requires few { length list.now ≤ most_triangles }
-    requires side { 0 < c.now.log axis }
-    requires room { HasRoom v.old.counts }
-    ensures value { v.new.counts ≡ counts_at_right_half (listed tris.now list.now) c.now axis v.old.counts }
-    ensures law { ShiftsAll (listed tris.now list.now) c.now axis v.old.counts v.new.counts }
-    ensures within { (m : ℕ) → All (Small m) v.old.counts → All (Small (m + length list.now)) v.new.counts }
-{
-    shift_listed_on::<Narrow>(tris, list, c, axis, v);
 }

@@ -4,12 +4,12 @@ ghost use Rattle.ember_algebra.specs.Sign.{sgn, is_negative};
 ghost use Rattle.ember_model.specs.Limits.{broad_limit};
 ghost use Rattle.ember_model.specs.Valid.{IsValidPlane};
 ghost use Rattle.ember_model.specs.Within.{normal_limit, IsTriWithin};
-ghost use Rattle.ember_model.specs.Planes.{value_at, edge_planes};
+ghost use Rattle.ember_model.specs.Planes.{value_at, edge_planes, HasNoNormal};
 ghost use Rattle.ember_model.specs.ClearTest.{all_negative};
 ghost use Rattle.ember_width.specs.Broad.{IsBroadPlane};
 ghost use Rattle.ember_box.specs.Near.{spot_of_vector};
 ghost use Rattle.ember_box.specs.Aabbs.{most_wall};
-ghost use Rattle.ember_ref.specs.References.{vector_of_list, reference_of_list, reference_at_list, or_sign, HasNormalWithin, IsBoxCorner, IsBoxCornerWithin, HasNoNormal};
+ghost use Rattle.ember_ref.specs.References.{vector_of_list, reference_of_list, reference_at_list, or_sign, HasNormalWithin, IsBoxCorner, IsBoxCornerWithin};
 
 use ember_algebra::{Sign, sign_of};
 use ember_model::{Axis, Corner, Plane, Tri, edge_plane};

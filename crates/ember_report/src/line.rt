@@ -3,7 +3,7 @@ ghost use Rattle.std.specs.Prelude.{◌≡◌, ◌++◌, codes, decimal, IfOk, O
 ghost use Rattle.ember_report.specs.Reports.{report_line_of};
 
 use crate::Report;
-use ember_job::OutOfMemory;
+use ember_model::OutOfMemory;
 use itoa::Buffer;
 use std::alloc::Global;
 

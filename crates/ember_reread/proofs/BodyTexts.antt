@@ -9,14 +9,11 @@ use Rattle.ember_algebra.specs.Relations.{Chain, done, step}
 use Rattle.ember_algebra.proofs.Relations.{chain_push}
 use Rattle.ember_model.specs.declared.face.Face.{Face}
 use Rattle.ember_model.specs.Valid.{IsValidFace}
-use Rattle.ember_model.specs.FaceFiles.{face_lines, header, ending, WrittenFace, IsWrittenFace, IsWrittenEdge, IsFaceFile}
+use Rattle.ember_model.specs.FaceFiles.{header, ending, WrittenFace, IsWrittenFace, IsWrittenEdge, IsFaceFile, written_lines}
 use Rattle.ember_reread.specs.Lines.{IsFaceLines, face_in, HasFace, HasFaces, IsBody}
 use Rattle.ember_reread.proofs.Chains.{chain_ahead, chain_same_end}
 use Rattle.ember_reread.proofs.NumberTexts.{head_injective, tail_injective}
 use Rattle.ember_reread.proofs.FaceTexts.{face_begins, face_shorter, face_end, all_of, planes_valid}
-
-abbrev lines_in : WrittenFace → List ℕ
-lines_in w = face_lines w.support w.edges
 
 -- no bytes are read for no faces
 pub no_faces : {fs : List Face} (bytes : List ℕ) → fs ≡ [] → HasFaces fs bytes bytes
@@ -70,20 +67,20 @@ no_body {fs} {bytes} {rest} q h f e gs k =
 
 -- ---- the faces of the whole file
 -- the lines of faces, in one piece
-pub faces_text : {ws : List WrittenFace} {a b : List ℕ} → Chain IsFaceLines ws a b → (a ≡ flat_map lines_in ws ++ b) × AllByRecursion IsWrittenFace ws
+pub faces_text : {ws : List WrittenFace} {a b : List ℕ} → Chain IsFaceLines ws a b → (a ≡ flat_map written_lines ws ++ b) × AllByRecursion IsWrittenFace ws
 faces_text done = (refl, tt)
 faces_text (step {x = w} {xs = ws} {c = c} h k) =
     let t = faces_text k in (
-      h.is ∙ ap (λ l. lines_in w ++ l) t.0 ∙ sym (append_assoc (lines_in w) (flat_map lines_in ws) c)
-          ∙ ap (λ l. l ++ c) (sym (flat_map-cons lines_in w ws)),
+      h.is ∙ ap (λ l. written_lines w ++ l) t.0 ∙ sym (append_assoc (written_lines w) (flat_map written_lines ws) c)
+          ∙ ap (λ l. l ++ c) (sym (flat_map-cons written_lines w ws)),
       (h.written, t.1),
     )
 
 -- written faces, face by face
-pub faces_chain : (ws : List WrittenFace) (rest : List ℕ) → AllByRecursion IsWrittenFace ws → Chain IsFaceLines ws (flat_map lines_in ws ++ rest) rest
+pub faces_chain : (ws : List WrittenFace) (rest : List ℕ) → AllByRecursion IsWrittenFace ws → Chain IsFaceLines ws (flat_map written_lines ws ++ rest) rest
 faces_chain [] rest h = done
 faces_chain (w ∷ ws) rest h =
-    let l = ap (λ q. q ++ rest) (flat_map-cons lines_in w ws) ∙ append_assoc (lines_in w) (flat_map lines_in ws) rest in
+    let l = ap (λ q. q ++ rest) (flat_map-cons written_lines w ws) ∙ append_assoc (written_lines w) (flat_map written_lines ws) rest in
     step (record { written = h.0; is = l }) (faces_chain ws rest h.1)
 
 -- a header with a body of these faces is a file of them
@@ -93,7 +90,7 @@ file_found {fs} {bytes} {s} e h =
     record {
       written = h.faces.faces;
       well_formed = all_of IsWrittenFace h.faces.faces t.1;
-      is = e ∙ ap (λ l. header ++ l) (t.0 ∙ ap (λ n. flat_map lines_in h.faces.faces ++ ending n) (sym (count_of h.faces)));
+      is = e ∙ ap (λ l. header ++ l) (t.0 ∙ ap (λ n. flat_map written_lines h.faces.faces ++ ending n) (sym (count_of h.faces)));
       faces = h.faces.are;
     }
 
@@ -101,10 +98,10 @@ file_found {fs} {bytes} {s} e h =
 pub no_file : {bytes s : List ℕ} → bytes ≡ header ++ s → ((fs : List Face) → IsBody fs s → ⊥) → (fs : List Face) → IsFaceFile bytes fs → ⊥
 no_file {bytes} {s} e f fs h =
     let n : length fs ≡ length h.written = ap (λ (l : List Face). length l) h.faces ∙ length-map h.written face_in in
-    let rest : s ≡ flat_map lines_in h.written ++ ending (length fs) =
+    let rest : s ≡ flat_map written_lines h.written ++ ending (length fs) =
     tail_injective (tail_injective (tail_injective
     (tail_injective (tail_injective (tail_injective (tail_injective (tail_injective (sym e ∙ h.is))))))))
-    ∙ ap (λ k. flat_map lines_in h.written ++ ending k) (sym n) in
+    ∙ ap (λ k. flat_map written_lines h.written ++ ending k) (sym n) in
     f fs (record {
       faces = record {
         faces = h.written;

@@ -10,15 +10,12 @@ use Rattle.std.proofs.lemmas.Str.Parse.{IsNumeralModel, numerals_by_fold, digit_
 use Rattle.std.proofs.lemmas.Fmt.{decimal_is_IsNumeral_wide, decimal_digit, decimal_step_wide, decimal_by_steps_wide}
 use Rattle.std.proofs.lemmas.Bool.{ne_eqb}
 use Rattle.std.proofs.Math.ListN.{get_or-append}
-use Rattle.ember_reread.specs.Numbers.{number_from, is_padded, IsSize}
-
--- digits behind a number don't make it smaller
-pub number_from-grows : (v : ℕ) (ds : List ℕ) → v ≤ number_from v ds
-number_from-grows v [] = omega arith
-number_from-grows v (d ∷ ds) = omega (arith, number_from-grows (v * 10 + (d - 48)) ds)
+use Rattle.ember_dec.specs.Digits.{number_from}
+use Rattle.ember_reread.specs.Numbers.{is_padded, IsSize}
 
 -- ---- from a number to its digits, and back
-abbrev AreDigits : List ℕ → Type 0
+-- all bytes are digits
+abbrev pub AreDigits : List ℕ → Type 0
 AreDigits ds = list_all is_ascii_digit ds ≡ true
 
 own : IsNumeralModel AreDigits (number_from 0)

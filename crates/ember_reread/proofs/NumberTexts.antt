@@ -5,8 +5,10 @@ use Rattle.std.specs.List.{list_all}
 use Rattle.std.specs.Char.{is_ascii_digit}
 use Rattle.std.specs.Fmt.{digits, digits_onto, digit_glyph}
 use Rattle.std.proofs.lemmas.Bool.{le-leb, leb-true, and_parts}
-use Rattle.ember_reread.specs.Numbers.{digits_of, behind_digits, IsEnd, IsSize, IsSizeAt, IsNumberAt}
-use Rattle.ember_reread.proofs.Digits.{decimal_injective_wide}
+use Rattle.ember_dec.proofs.Fronts.{digits_whole}
+use Rattle.ember_dec.specs.Digits.{digits_of, behind_digits}
+use Rattle.ember_reread.specs.Numbers.{IsEnd, IsSize, IsSizeAt, IsNumberAt}
+use Rattle.ember_reread.proofs.Digits.{decimal_injective_wide, AreDigits}
 
 -- equal lists have equal head_injective
 pub head_injective : {X : Type 0} {x y : X} {xs ys : List X} → x ∷ xs ≡ y ∷ ys → x ≡ y
@@ -15,9 +17,6 @@ head_injective e = cc
 -- equal lists have equal tail_injective
 pub tail_injective : {X : Type 0} {x y : X} {xs ys : List X} → x ∷ xs ≡ y ∷ ys → xs ≡ ys
 tail_injective e = cc
-
-abbrev AreDigits : List ℕ → Type 0
-AreDigits ds = list_all is_ascii_digit ds ≡ true
 
 -- ---- digits and what follows them
 no_digit : (b : ℕ) → b ≤ 32 → is_ascii_digit b ≡ false
@@ -46,24 +45,6 @@ front (d ∷ ds) r p e =
       digit_passed (d ∷ digits_of (ds ++ r)) [] (is_ascii_digit d) q.0 ∙ ap (λ l. d ∷ l) f.0,
       digit_passed (behind_digits (ds ++ r)) (d ∷ (ds ++ r)) (is_ascii_digit d) q.0 ∙ f.1,
     )
-
--- the bytes are their first digits and what follows them
-digits_whole : (bs : List ℕ) → bs ≡ digits_of bs ++ behind_digits bs
-digits_whole [] = refl
-digits_whole (b ∷ bs) = by (is_ascii_digit b) (digits_whole bs)
-  where
-    by : (t : Bool) → bs ≡ digits_of bs ++ behind_digits bs → b ∷ bs ≡ cond t (b ∷ digits_of bs) [] ++ cond t (behind_digits bs) (b ∷ bs)
-    by true e = ap (λ l. b ∷ l) e
-    by false e = refl
-
--- they are digits
-pub digits_are : (bs : List ℕ) → list_all is_ascii_digit (digits_of bs) ≡ true
-digits_are [] = refl
-digits_are (b ∷ bs) = by (is_ascii_digit b) refl (digits_are bs)
-  where
-    by : (t : Bool) → is_ascii_digit b ≡ t → AreDigits (digits_of bs) → AreDigits (cond t (b ∷ digits_of bs) [])
-    by true e h = λ i. e i && h i
-    by false e h = refl
 
 -- ---- the text of a number
 digit_is : (d : ℕ) → d < 10 → is_ascii_digit (digit_glyph false d) ≡ true

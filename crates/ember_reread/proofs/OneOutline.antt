@@ -10,10 +10,11 @@ use Rattle.ember_algebra.specs.Vector.{dot, cross}
 use Rattle.ember_algebra.specs.Sign.{is_zero}
 use Rattle.ember_algebra.proofs.Relations.{each_unique}
 use Rattle.ember_algebra.proofs.Laws.{linear}
-use Rattle.ember_algebra.proofs.Order.{by_sign, pos_mul, mul_le, zero_product, square_nonneg}
+use Rattle.ember_algebra.proofs.Order.{by_sign, pos_mul, mul_le, zero_product}
 use Rattle.ember_algebra.proofs.Ring.{◌⊕◌, ◌⊖◌, ◌⊗◌, ◌≈◌, num, neg, solve, cancels}
 use Rattle.ember_algebra.proofs.Vectors.{vector, identity, dotE, crossE}
 use Rattle.ember_algebra.proofs.Booleans.{same_test}
+use Rattle.ember_algebra.proofs.Identities.{dot_nonneg}
 use Rattle.ember_model.specs.declared.plane.Plane.{Plane}
 use Rattle.ember_model.specs.declared.point.Spot.{Spot}
 use Rattle.ember_model.specs.declared.face.Face.{Face}
@@ -24,20 +25,18 @@ use Rattle.ember_model.specs.FaceFiles.{IsLowest, face_lines, header, ending, Is
 use Rattle.ember_model.proofs.SignTests.{zero_out, zero_scaled, zero_times, not_positive_out}
 use Rattle.ember_model.specs.ClearTest.{none_positive}
 use Rattle.ember_model.proofs.Hits.{closed_parts}
+use Rattle.ember_model.specs.Points.{displacement}
 use Rattle.ember_reread.proofs.Lowest.{same_lowest}
 
 -- ---- vectors
--- how far v is from s, times the weights
-abbrev away : Spot → Spot → Vector
-away s v = record { x = s.w *ℤ v.x -ℤ v.w *ℤ s.x; y = s.w *ℤ v.y -ℤ v.w *ℤ s.y; z = s.w *ℤ v.z -ℤ v.w *ℤ s.z }
 
-dot_away : (q : Vector) (s v : Spot) → dot q (away s v) ≡ s.w *ℤ dot q (record { x = v.x; y = v.y; z = v.z }) -ℤ v.w *ℤ
+dot_away : (q : Vector) (s v : Spot) → dot q (displacement s v) ≡ s.w *ℤ dot q (record { x = v.x; y = v.y; z = v.z }) -ℤ v.w *ℤ
     dot q (record { x = s.x; y = s.y; z = s.z })
 dot_away q s v =
     solve 11 (λ a b c x y z w e f g h. a ⊗ (w ⊗ e ⊖ h ⊗ x) ⊕ b ⊗ (w ⊗ f ⊖ h ⊗ y) ⊕ c ⊗ (w ⊗ g ⊖ h ⊗ z) ≈ w ⊗
     (a ⊗ e ⊕ b ⊗ f ⊕ c ⊗ g) ⊖ h ⊗ (a ⊗ x ⊕ b ⊗ y ⊕ c ⊗ z)) cancels q.x q.y q.z s.x s.y s.z s.w v.x v.y v.z v.w
 
-plane_away : (p : Plane) (s v : Spot) → dot (normal p) (away s v) ≡ s.w *ℤ value_at p v -ℤ v.w *ℤ value_at p s
+plane_away : (p : Plane) (s v : Spot) → dot (normal p) (displacement s v) ≡ s.w *ℤ value_at p v -ℤ v.w *ℤ value_at p s
 plane_away p s v =
     solve 12 (λ a b c d x y z w e f g h. a ⊗ (w ⊗ e ⊖ h ⊗ x) ⊕ b ⊗ (w ⊗ f ⊖ h ⊗ y) ⊕ c ⊗ (w ⊗ g ⊖ h ⊗ z) ≈ w ⊗
     (a ⊗ e ⊕ b ⊗ f ⊕ c ⊗ g ⊖ d ⊗ h) ⊖ h ⊗ (a ⊗ x ⊕ b ⊗ y ⊕ c ⊗ z ⊖ d ⊗ w)) cancels p.a p.b p.c p.d s.x s.y s.z s.w v.x
@@ -82,45 +81,42 @@ module _ (f : Face) (g : Plane) (s v : Spot) (os : On f g s) (ov : On f g v) whe
   abbrev z : Vector
   z = cross n (normal g)
 
-  along_line : (q : Vector) → dot z z *ℤ dot q (away s v) ≡ dot z (away s v) *ℤ dot q z
+  along_line : (q : Vector) → dot z z *ℤ dot q (displacement s v) ≡ dot z (displacement s v) *ℤ dot q z
   along_line q =
-      let e = split_along n (normal g) (away s v) q in
+      let e = split_along n (normal g) (displacement s v) q in
       let a = plane_away f.support s v in let b = plane_away g s v in
       let a1 = zero_scaled s.w (value_at f.support v) ov.flat in let a2 = zero_scaled v.w (value_at f.support s) os.flat in
       let b1 = zero_scaled s.w (value_at g v) ov.zero in let b2 = zero_scaled v.w (value_at g s) os.zero in
-      let x : dot n (away s v) ≡ pos 0 = omega (arith, linear, a, a1, a2) in let y : dot (normal g) (away s v) ≡ pos 0 = omega (arith, linear, b, b1, b2) in
-      let u = zero_times (dot n (away s v)) (dot q (cross (normal g) z)) x in let w = zero_times (dot (normal g) (away s v)) (dot q (cross z n)) y in
+      let x : dot n (displacement s v) ≡ pos 0 = omega (arith, linear, a, a1, a2) in let y : dot (normal g) (displacement s v) ≡ pos 0 = omega (arith, linear, b, b1, b2) in
+      let u = zero_times (dot n (displacement s v)) (dot q (cross (normal g) z)) x in let w = zero_times (dot (normal g) (displacement s v)) (dot q (cross z n)) y in
       omega (arith, linear, e, u, w)
 
   -- the two points differ
-  some_length : pos 0 <ℤ dot z (away s v) → dot z z ≡ pos 0 → ⊥
+  some_length : pos 0 <ℤ dot z (displacement s v) → dot z z ≡ pos 0 → ⊥
   some_length l e =
-      let a = along_line (away s v) in let b = zero_times (dot z z) (dot (away s v) (away s v)) e in
-      let c = solve 6 (λ a b c x y z. a ⊗ x ⊕ b ⊗ y ⊕ c ⊗ z ≈ x ⊗ a ⊕ y ⊗ b ⊕ z ⊗ c) cancels z.x z.y z.z (away s v).x (away s v).y (away s v).z in
+      let a = along_line (displacement s v) in let b = zero_times (dot z z) (dot (displacement s v) (displacement s v)) e in
+      let c = solve 6 (λ a b c x y z. a ⊗ x ⊕ b ⊗ y ⊕ c ⊗ z ≈ x ⊗ a ⊕ y ⊗ b ⊕ z ⊗ c) cancels z.x z.y z.z (displacement s v).x (displacement s v).y (displacement s v).z in
       let d = pos_mul l (subst (λ t. pos 0 <ℤ t) c l) in absurd (omega (arith, linear, a, b, d))
 
-  one_place : (dot z z ≡ pos 0 → ⊥) → dot z (away s v) ≡ pos 0 → SamePoint s v
+  one_place : (dot z z ≡ pos 0 → ⊥) → dot z (displacement s v) ≡ pos 0 → SamePoint s v
   one_place nz e =
       let x = entry (record { x = pos 1; y = pos 0; z = pos 0 }) in let y =
       entry (record { x = pos 0; y = pos 1; z = pos 0 }) in let t =
       entry (record { x = pos 0; y = pos 0; z = pos 1 }) in
-      let d = away s v in
+      let d = displacement s v in
       let ex = solve 3 (λ a b c. num (pos 1) ⊗ a ⊕ num (pos 0) ⊗ b ⊕ num (pos 0) ⊗ c ≈ a) cancels d.x d.y d.z in
       let ey = solve 3 (λ a b c. num (pos 0) ⊗ a ⊕ num (pos 1) ⊗ b ⊕ num (pos 0) ⊗ c ≈ b) cancels d.x d.y d.z in
       let et = solve 3 (λ a b c. num (pos 0) ⊗ a ⊕ num (pos 0) ⊗ b ⊕ num (pos 1) ⊗ c ≈ c) cancels d.x d.y d.z in
       record { x = omega (arith, linear, x, ex); y = omega (arith, linear, y, ey); z = omega (arith, linear, t, et) }
     where
-      entry : (q : Vector) → dot q (away s v) ≡ pos 0
+      entry : (q : Vector) → dot q (displacement s v) ≡ pos 0
       entry q =
-          let a = along_line q in let b = zero_times (dot z (away s v)) (dot q z) e in
-          ⊎_elim (λ o. absurd (nz o)) (λ o. o) (zero_product {a = dot z z} {b = dot q (away s v)} (omega (arith, linear, a, b)))
+          let a = along_line q in let b = zero_times (dot z (displacement s v)) (dot q z) e in
+          ⊎_elim (λ o. absurd (nz o)) (λ o. o) (zero_product {a = dot z z} {b = dot q (displacement s v)} (omega (arith, linear, a, b)))
 
 -- ---- edges
 abbrev side : Plane → Spot → RingEdge
 side g s = record { plane = g; start = s }
-
-square_length : (z : Vector) → pos 0 ≤ℤ dot z z
-square_length z = let a = square_nonneg z.x in let b = square_nonneg z.y in let c = square_nonneg z.z in omega (arith, linear, a, b, c)
 
 module _ (f : Face) (g : Plane) (s a : Spot) (e : IsEdge f (side g s) a) where
   abbrev way : Vector
@@ -132,7 +128,7 @@ module _ (f : Face) (g : Plane) (s a : Spot) (e : IsEdge f (side g s) a) where
   at_end : On f g a
   at_end = on_edge f g a e.ends
 
-  ahead : pos 0 <ℤ dot way (away s a)
+  ahead : pos 0 <ℤ dot way (displacement s a)
   ahead = let b = e.leads.before in let d = dot_away way s a in omega (arith, linear, b, d)
 
   long : dot way way ≡ pos 0 → ⊥
@@ -159,8 +155,8 @@ module _ (f : Face) (g : Plane) (s a : Spot) (e : IsEdge f (side g s) a) where
         let c = plane_away k s a in let c0 = zero_scaled a.w (value_at k s) k_at_start in
         let ws = at_start.weight in let w : pos 0 ≤ℤ s.w = omega (arith, linear, ws) in
         let c1 = mul_le w m in let c2 = zero_scaled s.w (pos 0) refl in
-        let l : dot (normal k) (away s a) ≤ℤ pos 0 = omega (arith, linear, c, c0, c1, c2) in
-        let q = square_length way in let r = mul_le q l in let r0 = zero_scaled (dot way way) (pos 0) refl in
+        let l : dot (normal k) (displacement s a) ≤ℤ pos 0 = omega (arith, linear, c, c0, c1, c2) in
+        let q = dot_nonneg way in let r = mul_le q l in let r0 = zero_scaled (dot way way) (pos 0) refl in
         let t = along_line f g s a at_start at_end (normal k) in
         by_sign (dot (normal k) way) (λ o. absurd (let u = pos_mul ahead o in omega (arith, linear, u, t, r, r0)))
         (λ o. omega (arith, linear, o)) (λ o. omega (arith, linear, o))
@@ -168,11 +164,11 @@ module _ (f : Face) (g : Plane) (s a : Spot) (e : IsEdge f (side g s) a) where
     zero_too : dot (normal k) way ≡ pos 0 → (v : Spot) → is_on_edge f g v ≡ true → is_on_edge f k v ≡ true
     zero_too z v i =
         let ov = on_edge f g v i in
-        let t = along_line f g s v at_start ov (normal k) in let t0 = zero_scaled (dot way (away s v)) (dot (normal k) way) z in
+        let t = along_line f g s v at_start ov (normal k) in let t0 = zero_scaled (dot way (displacement s v)) (dot (normal k) way) z in
         let c = plane_away k s v in let c0 = zero_scaled v.w (value_at k s) k_at_start in
-        let u : dot (normal k) (away s v) ≡ pos 0 =
+        let u : dot (normal k) (displacement s v) ≡ pos 0 =
         ⊎_elim (λ o. absurd (long o)) (λ o. o)
-        (zero_product {a = dot way way} {b = dot (normal k) (away s v)} (omega (arith, linear, t, t0))) in
+        (zero_product {a = dot way way} {b = dot (normal k) (displacement s v)} (omega (arith, linear, t, t0))) in
         let ws = at_start.weight in
         let x : value_at k v ≡ pos 0 = ⊎_elim (λ o. absurd (omega (arith, linear, o, ws))) (λ o. o)
         (zero_product {a = s.w} {b = value_at k v} (omega (arith, linear, u, c, c0))) in

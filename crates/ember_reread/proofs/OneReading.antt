@@ -1,11 +1,11 @@
 -- A face file is that of one list of written faces, with their start corners.
-use Rattle.std.proofs.Common.{◌≡◌, refl, sym, subst, ◌∙◌, arith, ℕ, List, ◌∷◌, length}
+use Rattle.std.proofs.Common.{◌≡◌, refl, sym, subst, ◌∙◌, arith, ℕ, List, ◌∷◌, length, ap, map}
 use Rattle.std.proofs.lemmas.List.Elements.{recursion_from_All}
 use Rattle.ember_algebra.specs.Relations.{Chain, done, step}
 use Rattle.ember_model.specs.declared.face.Face.{Face}
 use Rattle.ember_model.specs.Edges.{RingEdge}
 use Rattle.ember_model.specs.FaceFiles.{ending, WrittenFace, IsWrittenFace, IsWrittenEdge, IsFaceFile}
-use Rattle.ember_reread.specs.Lines.{IsEdgeLine, IsFaceLines}
+use Rattle.ember_reread.specs.Lines.{IsEdgeLine, IsFaceLines, face_in}
 use Rattle.ember_reread.proofs.NumberTexts.{head_injective, tail_injective}
 use Rattle.ember_reread.proofs.LineTexts.{NoEdge, same_edge, edge_begins, support_line_once}
 use Rattle.ember_reread.proofs.FaceTexts.{edges_chain, face_support, face_begins}
@@ -65,3 +65,10 @@ face_file_is_read_once bytes fs gs h k =
     (subst (λ z. Chain IsFaceLines h.written z (ending (length h.written))) e
     (faces_chain h.written (ending (length h.written)) (recursion_from_All IsWrittenFace h.written h.well_formed)))
     (faces_chain k.written (ending (length k.written)) (recursion_from_All IsWrittenFace k.written k.well_formed))
+
+-- ---- faces
+
+-- two lists of faces that the bytes hold are equal
+pub one_reading : (bytes : List ℕ) (fs gs : List Face) → IsFaceFile bytes fs → IsFaceFile bytes gs → fs ≡ gs
+one_reading bytes fs gs h k =
+    h.faces ∙ ap (λ (ws : List WrittenFace). map face_in ws) (face_file_is_read_once bytes fs gs h k) ∙ sym k.faces

@@ -1,30 +1,14 @@
--- Digits, and numbers in their canonical spelling
-use Rattle.std.specs.Prelude.{◌≡◌, ℕ, ◌+◌, ◌-◌, ◌*◌, ◌≤◌, ◌==◌, ℤ, Bool, true, not, ◌&&◌, if◌then◌else◌}
+-- Numbers in their canonical spelling
+use Rattle.std.specs.Prelude.{◌≡◌, ℕ, ◌+◌, ◌≤◌, ◌==◌, ℤ, Bool, true, not, ◌&&◌}
 use Rattle.std.specs.Prelude.{List, [], ◌∷◌, ◌++◌, length, decimal, ⊤}
-use Rattle.std.specs.Char.{is_ascii_digit}
 use Rattle.std.specs.Fmt.{signed_decimal}
 use Rattle.ember_algebra.specs.Size.{Small}
 
--- ---- digits
--- the decimal digits before the first other byte, and from it on
-abbrev pub digits_of : List ℕ → List ℕ
-digits_of [] = []
-digits_of (b ∷ bs) = if is_ascii_digit b then b ∷ digits_of bs else []
-
-abbrev pub behind_digits : List ℕ → List ℕ
-behind_digits [] = []
-behind_digits (b ∷ bs) = if is_ascii_digit b then behind_digits bs else b ∷ bs
-
+-- ---- numbers
 -- no word goes on here
 abbrev pub IsEnd : List ℕ → Type 0
 IsEnd [] = ⊤
 IsEnd (b ∷ bs) = b ≤ 32
-
--- ---- numbers
--- n followed by these digits, as a number
-abbrev pub number_from : ℕ → List ℕ → ℕ
-number_from n [] = n
-number_from n (d ∷ ds) = number_from (n * 10 + (d - 48)) ds
 
 -- no digit, or a 0 before others
 abbrev pub is_padded : List ℕ → Bool

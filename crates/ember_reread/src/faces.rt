@@ -7,8 +7,8 @@ ghost use Rattle.ember_reread.specs.Lines.{IsBody};
 
 use crate::edges::take_face;
 use crate::fault::RereadFault;
-use crate::list::FaceList;
 use crate::parts::{skip_byte, skip_bytes};
+use ember_model::FaceList;
 use itoa::Buffer;
 use std::alloc::Global;
 

@@ -8,7 +8,6 @@ mod faces;
 mod fault;
 mod fields;
 mod law;
-mod list;
 mod number;
 mod parts;
 
@@ -17,4 +16,3 @@ pub use cornered_face::{CorneredEdge, CorneredFace};
 pub use faces::read_faces;
 pub use fault::RereadFault;
 pub use law::faces_have_one_text;
-pub use list::FaceList;

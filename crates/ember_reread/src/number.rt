@@ -1,6 +1,7 @@
 // Numbers in their canonical spelling, at the front of bytes.
 ghost use Rattle.std.specs.Prelude.{ℕ, ℤ, List, ◌≡◌, ◌≤◌, ◌<◌, ◌^◌, ◌∷◌, length, drop, true, IsTrue, ◌↔◌, MatchOption};
-ghost use Rattle.ember_reread.specs.Numbers.{digits_of, behind_digits, number_from, is_padded};
+ghost use Rattle.ember_dec.specs.Digits.{digits_of, behind_digits, number_from};
+ghost use Rattle.ember_reread.specs.Numbers.{is_padded};
 ghost use Rattle.ember_reread.specs.Numbers.{IsEnd, IsSizeAt, IsNumberAt};
 
 // A number below it has a tenfold that still fits into 64 bits with a digit more.

@@ -13,13 +13,14 @@ use Rattle.ember_verdict.specs.Outputs.{Output}
 use Rattle.ember_verdict.specs.Statuses.{HasOutput, IsBegun, IsBegunIfTold, IsRefusal, IsRefusalIfTold, IsText}
 use Rattle.ember_verdict.specs.Statuses.{IsTextIfTold, IsWritten, IsWrittenIfTold, hides_memory, is_before_files}
 use Rattle.ember_verdict.specs.Statuses.{is_refusal, refused_file}
-use Rattle.ember_verdict.specs.Devices.{ShelfCall, SinkCall, HasShelfFailed, HasSinkFailed}
+use Rattle.ember_io.specs.Calls.{ShelfCall, SinkCall, HasShelfFailed, HasSinkFailed}
+use Rattle.ember_io.specs.Shelves.{IsFileIn}
 use Rattle.ember_verdict.specs.Held.{MayHold}
-use Rattle.ember_verdict.specs.Lines.{line_on_err, text_on_err}
+use Rattle.ember_verdict.specs.Lines.{text_on_err}
 use Rattle.ember_verdict.specs.Messages.{AppendsUntilFault}
 use Rattle.ember_verdict.specs.Reported.{IsErrText, IsReported, IsReportOfVerdictIfAsked, asks_report}
 use Rattle.ember_run.specs.Serves.{IsReply, IsReplyTo, Serves}
-use Rattle.ember_verdict.specs.NoReplies.{IsFileIn, IsNoReply, with_others}
+use Rattle.ember_verdict.specs.NoReplies.{IsNoReply, with_others}
 use Rattle.ember_verdict.specs.Slices.{IsFaceFault, IsSliceRefusal, IsSliceable}
 use Rattle.ember_verdict.specs.Verdict.{Contents, Verdict, Unknown, Refused, Writes, Slices, first_told, names_of, told_verdict, verdict_before, verdict_of}
 use Rattle.ember_verdict.specs.declared.status.FaceFault.{FaceFault}
@@ -28,7 +29,7 @@ use Rattle.ember_verdict.proofs.SliceFaults.{one_fault, slice_or_fault, sliceabl
 use Rattle.ember_verdict.proofs.SolidVerdicts.{err_text}
 use Rattle.ember_verdict.proofs.ToldVerdicts.{verdict_told}
 use Rattle.ember_verdict.proofs.Verdicts.{IsSameIfTold, refusal_if_told, refusal_then, text_told}
-use Rattle.ember_verdict.proofs.NoReplies.{before_is_refusal, file_is_refusal, length_told, none_some}
+use Rattle.ember_verdict.proofs.NoReplies.{before_is_refusal, file_is_refusal, length_told}
 
 -- what a status must be for, by the verdict v
 pub record Owes (v : Verdict) (R W : Type 0) (old new : Option (List ℕ)) (status : Status) : Type 0 where
@@ -314,32 +315,3 @@ stopped_call_serves command shelf out err status same later out_later untouched 
     })
     (err_text (Some command) shelf.told status [] (λ e. absurd (no_reply.never.0 e))) said
     (λ e. absurd (no_reply.never.0 e))
-
--- ---- a call that reads no command
-pub refused_words_serve : (command : Option Command) (shelf : ShelfCall) (out err : SinkCall) → command ≡ None →
-    shelf.told_after ≡ shelf.told → shelf.faults ≤ shelf.faults_after → out.faults ≤ out.faults_after →
-    out.taken_after ≡ out.taken → AppendsUntilFault err.faults err.faults_after err.taken err.taken_after
-    (line_on_err [] Words) → Serves command shelf out err Words
-refused_words_serve command shelf out err none same later out_later untouched said =
-    subst (λ (command : Option Command). Serves command shelf out err Words) (sym none)
-    (served None shelf out err Words (line_on_err [] Words)
-    (record {
-      contents = same;
-      later = later;
-      out_later = out_later;
-      done = λ e. absurd (cc);
-      done_read = λ e. absurd (cc);
-      begun_read = λ e. absurd (cc);
-      refused = λ r. refl;
-      refused_read = λ r. ([], tt, refl);
-      words = λ e. refl;
-      before_files = λ b. refl;
-      in_file = λ i e. absurd (none_some e);
-      one_of = λ i e. absurd (none_some e);
-      memory = refl;
-      read_fault = λ i e. absurd (cc);
-      read_fault_read = λ i e. absurd (cc);
-      write_fault = λ e. absurd (cc);
-      untouched = λ d w. untouched;
-    })
-    refl said (λ e. absurd (cc)))

@@ -8,11 +8,12 @@ use Rattle.ember_words.specs.WordsCommand.{command_of}
 use Rattle.ember_verdict.specs.Statuses.{HasOutput, IsBegun, IsBegunIfTold, IsRefusal, IsRefusalIfTold}
 use Rattle.ember_verdict.specs.Statuses.{IsText, IsWritten, IsWrittenIfTold, hides_memory}
 use Rattle.ember_verdict.specs.Statuses.{is_before_files, is_refusal, refused_file}
-use Rattle.ember_verdict.specs.Devices.{ShelfCall, SinkCall, HasShelfFailed, HasSinkFailed}
+use Rattle.ember_io.specs.Calls.{ShelfCall, SinkCall, HasShelfFailed, HasSinkFailed}
+use Rattle.ember_io.specs.Shelves.{IsFileIn}
 use Rattle.ember_verdict.specs.Held.{MayHold}
 use Rattle.ember_verdict.specs.Messages.{AppendsUntilFault}
 use Rattle.ember_verdict.specs.Reported.{IsErrText, IsReported, IsReportOfVerdictIfAsked, asks_report}
-use Rattle.ember_verdict.specs.NoReplies.{IsFileIn, with_others}
+use Rattle.ember_verdict.specs.NoReplies.{with_others}
 use Rattle.ember_verdict.specs.Verdict.{Contents, Verdict, Unknown, Refused, names_of, told_verdict, verdict_before}
 use Rattle.ember_verdict.specs.Verdict.{first_told, verdict_of}
 use Rattle.ember_run.specs.declared.reply.Reply.{Reply}

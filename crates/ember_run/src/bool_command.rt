@@ -6,7 +6,7 @@ ghost use Rattle.ember_query.specs.Queries.{IsExecutor};
 ghost use Rattle.ember_meaning.specs.Regions.Solids.{IsSolidText};
 ghost use Rattle.ember_run.specs.Serves.{IsReply};
 ghost use Rattle.ember_verdict.specs.Statuses.{IsText};
-ghost use Rattle.ember_verdict.specs.Devices.{shelf_call};
+ghost use Rattle.ember_io.specs.Calls.{shelf_call};
 ghost use Rattle.ember_verdict.specs.Held.{MayHold};
 ghost use Rattle.ember_verdict.specs.NoReplies.{IsNoReply, IsNoReplyToExpression};
 ghost use Rattle.ember_verdict.specs.Solids.{IsReportTextIfAsked, IsReportText, line_if_asked};
@@ -75,7 +75,7 @@ pub fn bool_output<S: Shelf, C: Fn(&Query) -> Result<Answer, OutOfMemory>>(
         (λ contents. IsReply reported (bool_verdict expr.now places contents) reply)) }
     ensures no_reply { IfErr result
         (IsNoReply (bool_verdict expr.now places) files.now
-        (shelf_call S.contents S.faults S.fault_at shelf.old shelf.new)) }
+        (shelf_call S.contents S.faults S.fault_at S.fault_kind shelf.old shelf.new)) }
 {
     let files = files.items();
     let expr = match parse_bounded(alloc, expr, files.len() as u32) {

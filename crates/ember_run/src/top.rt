@@ -7,7 +7,7 @@ ghost use Rattle.ember_io.specs.Sinks.{AppendsPrefix, IsFlushed};
 ghost use Rattle.ember_query.specs.Queries.{IsAnswer, IsExecutor, IsExecutorOfAny, IsQuery};
 ghost use Rattle.ember_words.specs.WordsCommand.{command_of};
 ghost use Rattle.ember_words.specs.Within.{IsWithinLimits};
-ghost use Rattle.ember_verdict.specs.Devices.{shelf_call, sink_call};
+ghost use Rattle.ember_io.specs.Calls.{shelf_call, sink_call};
 ghost use Rattle.ember_run.specs.Serves.{IsReplyTo, ReadsCanonical, Serves};
 ghost use Rattle.ember_verdict.specs.NoReplies.{IsNoReply};
 ghost use Rattle.ember_verdict.specs.Verdict.{names_of, verdict_of};
@@ -42,7 +42,7 @@ fn reply_to<S: Shelf, C: Fn(&Query) -> Result<Answer, OutOfMemory>>(
     ensures reply { IfOk result (IsReplyTo command.now (S.contents shelf.old)) }
     ensures no_reply { IfErr result
         (IsNoReply (verdict_of (Some command.now)) (names_of (Some command.now))
-        (shelf_call S.contents S.faults S.fault_at shelf.old shelf.new)) }
+        (shelf_call S.contents S.faults S.fault_at S.fault_kind shelf.old shelf.new)) }
 {
     match command {
         Command::Faces { places, file } => {
@@ -118,7 +118,7 @@ fn serve<S: Shelf, O: Sink, E: Sink, C: Fn(&Query) -> Result<Answer, OutOfMemory
     requires command { IsWithinLimits command.now }
     requires executor { IsExecutor C.pre C.post executor.now }
     ensures { Serves (Some command.now)
-        (shelf_call S.contents S.faults S.fault_at shelf.old shelf.new)
+        (shelf_call S.contents S.faults S.fault_at S.fault_kind shelf.old shelf.new)
         (sink_call O.taken O.flushed O.faults out.old out.new)
         (sink_call E.taken E.flushed E.faults err.old err.new)
         result }
@@ -166,7 +166,7 @@ fn run_with<S: Shelf, O: Sink, E: Sink, C: Fn(u32, &Query) -> Result<Answer, Out
 ) -> Status
     requires { IsExecutorOfAny C.pre C.post executor.now }
     ensures serves { Serves (command_of (map string_bytes words.now))
-        (shelf_call S.contents S.faults S.fault_at shelf.old shelf.new)
+        (shelf_call S.contents S.faults S.fault_at S.fault_kind shelf.old shelf.new)
         (sink_call O.taken O.flushed O.faults out.old out.new)
         (sink_call E.taken E.flushed E.faults err.old err.new)
         result }
@@ -210,7 +210,7 @@ pub fn run_one<S: Shelf, O: Sink, E: Sink, G: Gate>(
     gate: &G,
 ) -> Status
     ensures serves { Serves (command_of (map string_bytes words.now))
-        (shelf_call S.contents S.faults S.fault_at shelf.old shelf.new)
+        (shelf_call S.contents S.faults S.fault_at S.fault_kind shelf.old shelf.new)
         (sink_call O.taken O.flushed O.faults out.old out.new)
         (sink_call E.taken E.flushed E.faults err.old err.new)
         result }
@@ -243,7 +243,7 @@ pub fn run<R: Threads + Wait + Sync, S: Shelf, O: Sink, E: Sink, G: Gate + Sync>
     gate: &G,
 ) -> Status
     ensures serves { Serves (command_of (map string_bytes words.now))
-        (shelf_call S.contents S.faults S.fault_at shelf.old shelf.new)
+        (shelf_call S.contents S.faults S.fault_at S.fault_kind shelf.old shelf.new)
         (sink_call O.taken O.flushed O.faults out.old out.new)
         (sink_call E.taken E.flushed E.faults err.old err.new)
         result }

@@ -4,7 +4,7 @@ ghost use Rattle.ember_expr.specs.Formula.{formula_of};
 ghost use Rattle.ember_query.specs.Queries.{IsExecutor};
 ghost use Rattle.ember_verdict.specs.Lattices.{IsLatticeText};
 ghost use Rattle.ember_verdict.specs.Statuses.{IsText};
-ghost use Rattle.ember_verdict.specs.Devices.{shelf_call};
+ghost use Rattle.ember_io.specs.Calls.{shelf_call};
 ghost use Rattle.ember_verdict.specs.Held.{MayHold};
 ghost use Rattle.ember_verdict.specs.NoReplies.{IsNoReply};
 ghost use Rattle.ember_verdict.specs.Verdict.{voxels_verdict};
@@ -60,7 +60,7 @@ pub fn voxels_output<S: Shelf, C: Fn(&Query) -> Result<Answer, OutOfMemory>>(
         (λ contents. IsText (voxels_verdict expr.now size places contents) text.items)) }
     ensures no_reply { IfErr result
         (IsNoReply (voxels_verdict expr.now size places) files.now
-        (shelf_call S.contents S.faults S.fault_at shelf.old shelf.new)) }
+        (shelf_call S.contents S.faults S.fault_at S.fault_kind shelf.old shelf.new)) }
 {
     let files = files.items();
     let expr = match parse_text(alloc, expr, files.len() as u32) {

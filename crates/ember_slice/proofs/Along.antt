@@ -5,7 +5,7 @@ use Rattle.std.proofs.lemmas.Bool.{and_parts}
 use Rattle.ember_algebra.specs.Sign.{sgn, is_zero, is_positive}
 use Rattle.ember_algebra.proofs.Laws.{linear, from_one, from_two}
 use Rattle.ember_algebra.proofs.Ring.{Expr, num, neg, ◌⊕◌, ◌⊖◌, ◌⊗◌, ◌≈◌, solve, cancels}
-use Rattle.ember_algebra.proofs.Vectors.{scalar, tuple, identity, TupleE, detE}
+use Rattle.ember_algebra.proofs.Vectors.{scalar, tuple, identity, TupleE, detE, valueE}
 use Rattle.ember_algebra.proofs.Order.{by_sign, pos_mul, square_nonneg, square_pos, cancel_eq}
 use Rattle.ember_algebra.proofs.Numbers.{twice_positive}
 use Rattle.ember_model.specs.declared.plane.Plane.{Plane}
@@ -55,9 +55,6 @@ square_above n t =
 
     below : {a : ℤ} → a <ℤ pos 0 → a ≢ pos 0
     below h e = omega (arith, linear, h, e)
-
-abbrev pub valueE : TupleE → TupleE → Expr
-valueE p v = p.x ⊗ v.x ⊕ p.y ⊗ v.y ⊕ p.z ⊗ v.z ⊖ p.w ⊗ v.w
 
 abbrev pub levelE : Expr → TupleE
 levelE e = record { x = num (pos 0); y = num (pos 0); z = num (pos 2); w = e }

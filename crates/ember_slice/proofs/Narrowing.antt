@@ -8,7 +8,7 @@ use Rattle.ember_algebra.proofs.Laws.{linear}
 use Rattle.ember_algebra.proofs.Booleans.{and_swapped, and_with_true, and_implied}
 use Rattle.ember_model.specs.declared.plane.Plane.{Plane}
 use Rattle.ember_model.specs.declared.point.Spot.{Spot}
-use Rattle.ember_model.specs.Planes.{value_at}
+use Rattle.ember_model.specs.Planes.{value_at, zero_plane}
 use Rattle.ember_model.proofs.SignTests.{negative_in, negative_out, positive_out, not_positive_out, and_true}
 use Rattle.ember_point.specs.Points.{spot_of}
 use Rattle.ember_slice.specs.declared.interval.End.{End}
@@ -186,9 +186,6 @@ module _ {n : Plane} {at : ℤ} {ps qs : List Plane} {p : Plane} {s : LineInterv
       never : (b : Bool) → b && false ≡ false
       never true = refl
       never false = refl
-
-abbrev pub zero_plane : Plane
-zero_plane = record { a = pos 0; b = pos 0; c = pos 0; d = pos 0 }
 
 -- by the place of the next plane
 pub next_plane : {n : Plane} {at : ℤ} {s : LineInterval} (ps : List Plane) (i : ℕ) → i < length ps →

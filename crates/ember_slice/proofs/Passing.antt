@@ -6,9 +6,8 @@ use Rattle.ember_algebra.specs.Sums.{total}
 use Rattle.ember_algebra.specs.Relations.{Each, none, more}
 use Rattle.ember_algebra.proofs.Laws.{linear, from_one}
 use Rattle.ember_algebra.proofs.Ring.{num, neg, ◌⊕◌, ◌⊖◌, ◌⊗◌, ◌≈◌, solve, cancels}
-use Rattle.ember_algebra.proofs.Vectors.{scalar, tuple, identity}
+use Rattle.ember_algebra.proofs.Vectors.{scalar, tuple, identity, valueE}
 use Rattle.ember_algebra.proofs.Order.{by_sign, sign_pos, sign_neg, cancel_eq}
-use Rattle.ember_algebra.proofs.Signs.{is_neg-flip, is_pos-flip}
 use Rattle.ember_algebra.proofs.Sums.{total-append}
 use Rattle.ember_algebra.proofs.Numbers.{neg_positive, twice_positive}
 use Rattle.ember_model.specs.declared.plane.Plane.{Plane}
@@ -28,7 +27,7 @@ use Rattle.ember_slice.specs.Lines.{level, IsFlat, along_line, ahead, is_before}
 use Rattle.ember_slice.specs.Intervals.{is_behind}
 use Rattle.ember_slice.specs.Segments.{IsSegment, GivesNone, Directed, GivesSegments}
 use Rattle.ember_slice.specs.Crossings.{gap, is_lower, orientation, passing, ray_x, ray_y}
-use Rattle.ember_slice.proofs.Along.{OnLine, on_line_out, on_line_in, square, square_above, nothing, valueE, levelE, alongE}
+use Rattle.ember_slice.proofs.Along.{OnLine, on_line_out, on_line_in, square, square_above, nothing, levelE, alongE}
 use Rattle.ember_slice.proofs.Orders.{weak_first, tilted}
 use Rattle.ember_slice.proofs.Bounds.{cut_on_line}
 

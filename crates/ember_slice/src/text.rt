@@ -11,8 +11,7 @@ ghost use Rattle.ember_slice.specs.Texts.{AddsSegment};
 use crate::ends::Segment;
 use crate::face::segment;
 use crate::fault::SliceFault;
-use ember_model::{Face, OutOfMemory};
-use ember_reread::FaceList;
+use ember_model::{Face, FaceList, OutOfMemory};
 use itoa::Buffer;
 use std::alloc::Global;
 

@@ -29,7 +29,8 @@ both_faces ks ls fs gs a b =
     subst (λ (hs : List Face). AreFacesInTexts hs (fs ++ gs)) (sym (map-append written_face ks ls))
     (AllZip-append IsFaceInText (map written_face ks) (map written_face ls) fs gs a b)
 
-abbrev all_of : List (List Face) → List Face
+-- the faces of all lists
+abbrev pub all_of : List (List Face) → List Face
 all_of lists = flat_map (λ (faces : List Face). faces) lists
 
 faces_of : (Has : Job → List Kept → Type 0) (jobs : List Job) (lists : List (List Face)) →

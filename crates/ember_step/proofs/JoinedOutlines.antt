@@ -1,5 +1,5 @@
 -- The faces of the outlines of leaves, one list after another, are those of all their written regions.
-use Rattle.std.proofs.Common.{ℕ, ◌<◌, List, [], ◌∷◌, ◌++◌, map, flat_map, sym, subst}
+use Rattle.std.proofs.Common.{◌<◌, List, [], ◌∷◌, ◌++◌, map, sym, subst}
 use Rattle.std.proofs.lemmas.List.{map-append}
 use Rattle.std.proofs.lemmas.List.Concat.{flat_map-cons}
 use Rattle.ember_algebra.specs.Relations.{Each, none, more}
@@ -18,10 +18,7 @@ use Rattle.ember_text.specs.OutlineFaces.{AreOutlineFaces, IsOutlineFace}
 use Rattle.ember_visit.specs.Jobs.{IsJobOn, root_job_on}
 use Rattle.ember_step.specs.Outlines.{AreRegionsOutlines, LeafOutlinesJoin}
 use Rattle.ember_step.proofs.FullTree.{visited_written_on}
-use Rattle.ember_step.proofs.JoinedFaces.{AllZip-append}
-
-abbrev all_of : List (List Face) → List Face
-all_of lists = flat_map (λ (faces : List Face). faces) lists
+use Rattle.ember_step.proofs.JoinedFaces.{AllZip-append, all_of}
 
 module _ {W M : Type 0} (G : Ghosts W M) where
   both_outlines : (ks ls : List (Kept W M)) (fs gs : List Face) → AreOutlineFaces G (map written_face ks) fs →

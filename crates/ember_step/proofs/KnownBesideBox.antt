@@ -28,6 +28,7 @@ use Rattle.ember_law.specs.Laws.{MissesFace}
 use Rattle.ember_law.proofs.Shifted.{eventually_true}
 use Rattle.ember_law.proofs.Segments.{segment_law}
 use Rattle.ember_law.proofs.Separation.{missed_face_has_separating_edge}
+use Rattle.ember_law.proofs.Beside.{separated_face_is_missed, value_beside}
 use Rattle.ember_law.proofs.Vectors.{of_mesh_all}
 use Rattle.ember_width.specs.Scenes.{IsSceneWithin}
 use Rattle.ember_box.specs.Boxes.{Cell, in_steps}
@@ -37,7 +38,6 @@ use Rattle.ember_ref.specs.ClosedBoxes.{HasPoint}
 use Rattle.ember_ref.proofs.BoxPoints.{has_beside}
 use Rattle.ember_ref.proofs.ClearReferences.{clear_beside}
 use Rattle.ember_ref.proofs.FarTriangles.{misses_far}
-use Rattle.ember_trace.proofs.OneSides.{value_beside, held_misses}
 use Rattle.ember_leaf.specs.Scenes.{HasOneValue}
 use Rattle.ember_job.specs.declared.job.Job.{Job}
 use Rattle.ember_visit.specs.Jobs.{near_of, IsJobOn, IsJob}
@@ -97,7 +97,8 @@ module _ (s limit fine : ℕ) (tells : normal_limit limit < fine) (ts : List Tri
           missed_face_has_separating_edge (face_of u) v origin has.weight o.weight
           (misses_far box u v origin y x has o) in
           eventually_map (λ m l f nf. let e = value_beside s.plane m v k by in
-          held_misses u (at m) origin s.plane s.low (omega (arith, linear, l, e)) s.far)
+          separated_face_is_missed (face_of u) (at m) origin
+          (record { plane = s.plane; near = omega (arith, linear, l, e); far = s.far; low = s.low }))
           (eventually_pos (by *ℤ along s.plane k) s.near)
 
   all_missed : (us : List Tri) → Eventually (λ m. AllByRecursion (MissesFar box (at m) origin) us)

@@ -19,7 +19,8 @@ use Rattle.ember_visit.specs.Values.{shape_on}
 use Rattle.ember_step.specs.Boxes.{IsWrittenInBox}
 
 -- the faces of the outlines of some list of regions with the property
-pub record AreRegionsOutlines {W M : Type 0} (G : Ghosts W M) (Has : List (Kept W M) → Type 0) (faces : List Face) : Type 0 where
+pub record AreRegionsOutlines {W M : Type 0} (G : Ghosts W M) (Has : List (Kept W M) → Type 0)
+    (faces : List Face) : Type 0 where
   pub kept : List (Kept W M)
   pub has : Has kept
   pub faces_of : AreOutlineFaces G (map written_face kept) faces
@@ -32,7 +33,8 @@ AreBoxOutlines {W} {M} G tris formula c faces =
 -- what becomes of a job, with the faces of the outlines of what is written for a leaf
 abbrev pub AnswersByOutlines : {W M : Type 0} → Ghosts W M → List Tri → Formula → Job → Outcome (List Face) → Type 0
 AnswersByOutlines G tris formula job outcome =
-    Answers (shape_on G.scale G.fine tris formula) (λ job faces. AreBoxOutlines G tris formula job.cell faces) job outcome
+    Answers (shape_on G.scale G.fine tris formula)
+    (λ job faces. AreBoxOutlines G tris formula job.cell faces) job outcome
 
 -- the lists of such faces of the visited leaves, in tree order
 abbrev pub AreLeafOutlines : {W M : Type 0} → Ghosts W M → List Tri → Formula → List (List Face) → Type 0

@@ -7,8 +7,7 @@ ghost use Rattle.ember_visit.specs.Jobs.{IsJob};
 use crate::step::box_step;
 use ember_expr::Expr;
 use ember_job::{Job, OneItem, Outcome, Work};
-use ember_model::{OutOfMemory, Scene};
-use ember_reread::FaceList;
+use ember_model::{FaceList, OutOfMemory, Scene};
 use ember_text::outline_faces;
 use std::alloc::Global;
 

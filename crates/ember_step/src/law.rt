@@ -1,5 +1,5 @@
 // The laws of the written regions: the visited leaves write all of them, and they are one list.
-ghost use Rattle.std.specs.Prelude.{◌≡◌, ◌≤◌, ◌+◌, ◌*◌, ◌^◌, ℕ, Bool, List, [], Some, ℤ};
+ghost use Rattle.std.specs.Prelude.{◌≡◌, ℕ, Bool, List, [], Some, ℤ};
 ghost use Rattle.ember_algebra.specs.Relations.{Each};
 ghost use Rattle.ember_model.specs.declared.tri.Tri.{Tri as TriView};
 ghost use Rattle.ember_model.specs.declared.face.Face.{Face};
@@ -70,10 +70,9 @@ pub fn leaf_faces_join(_s: &Scene, e: &Expr)
 }
 
 /// On each grid, the faces of the outlines of the visited leaves, one list after another, are those of
-/// the written regions of the scene. The root of the grid ends one step past the corners.
+/// the written regions of the scene.
 pub fn leaf_outlines_join<W: Width>(_tris: &[Tri], e: &Expr)
-    requires scene { IsSceneWithin W.corner _tris.now most_meshes }
-    requires root { 2 ^ W.scale * 2048 ≤ W.corner + 1 }
+    requires { IsSceneWithin W.corner _tris.now most_meshes }
     ensures { LeafOutlinesJoin W.Width _tris.now (formula_of e.now) }
 {
     // Called only for its clause `fit`, which the prover then knows of `e`.

@@ -2,7 +2,7 @@
 //! with its written regions, or its two halves.
 //!
 //! `box_step` asks ember_visit (`box_value`) whether the box is skipped, and ember_visit
-//! (`halve_unless_leaf`, by ember_box) whether it is a leaf. ember_leaf makes the regions of a
+//! (`halve_unless_leaf_among`, by ember_box) whether it is a leaf. ember_leaf makes the regions of a
 //! leaf. steal_pool calls the step for each box (`run_step`).
 #![tactic(auto)]
 

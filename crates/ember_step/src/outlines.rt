@@ -1,5 +1,5 @@
 // The faces of the outlines of what a box writes, in memory, on any grid.
-ghost use Rattle.std.specs.Prelude.{◌≤◌, ◌<◌, ◌+◌, ◌*◌, ◌^◌, IfOk};
+ghost use Rattle.std.specs.Prelude.{◌<◌, IfOk};
 ghost use Rattle.ember_expr.specs.Formula.{formula_of};
 ghost use Rattle.ember_model.specs.Limits.{most_meshes};
 ghost use Rattle.ember_model.specs.Within.{normal_limit};
@@ -10,8 +10,7 @@ ghost use Rattle.ember_width.specs.Scenes.{IsSceneWithin};
 use crate::step::box_step_among;
 use ember_expr::Expr;
 use ember_job::{Job, Outcome, Work};
-use ember_model::{OutOfMemory, Tri};
-use ember_reread::FaceList;
+use ember_model::{FaceList, OutOfMemory, Tri};
 use ember_text::outline_faces_on;
 use ember_width::Width;
 use std::alloc::Global;
@@ -59,7 +58,6 @@ pub fn outlines_step<W: Width>(
     job: &Job,
 ) -> Result<Outcome<FaceList>, OutOfMemory>
     requires scene { IsSceneWithin W.corner tris.now most_meshes }
-    requires root { 2 ^ W.scale * 2048 ≤ W.corner + 1 }
     requires job { IsJobOn W.scale W.fine tris.now job.now }
     ensures { IfOk result (λ o. AnswersByOutlines W.Width tris.now (formula_of e.now) job.now o) }
 {

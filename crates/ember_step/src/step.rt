@@ -1,5 +1,5 @@
 // What becomes of a box.
-ghost use Rattle.std.specs.Prelude.{◌≤◌, ◌+◌, ◌*◌, ◌^◌, IfOk};
+ghost use Rattle.std.specs.Prelude.{IfOk};
 ghost use Rattle.ember_model.specs.Limits.{most_meshes};
 ghost use Rattle.ember_expr.specs.Formula.{formula_of};
 ghost use Rattle.ember_job.specs.Works.{Answers};
@@ -66,7 +66,6 @@ fn written_in<W: Width>(
     job: &Job,
 ) -> Result<KeptList<W>, OutOfMemory>
     requires scene { IsSceneWithin W.corner tris.now most_meshes }
-    requires root { 2 ^ W.scale * 2048 ≤ W.corner + 1 }
     requires job { IsJobOn W.scale W.fine tris.now job.now }
     ensures { IfOk result (λ kept. IsWrittenInBox W.scale tris.now (formula_of e.now) job.now.cell kept) }
 {
@@ -76,7 +75,7 @@ fn written_in<W: Width>(
 
 /// What becomes of a job, for the triangles of a scene on a grid: it is skipped if the expression's
 /// value is known in the whole box, and otherwise it is a leaf with the written regions, or it is
-/// halved. The root of the grid ends one step past the corners. The only error is out-of-memory.
+/// halved. The only error is out-of-memory.
 pub fn box_step_among<W: Width>(
     alloc: Global,
     tris: &[Tri],
@@ -84,7 +83,6 @@ pub fn box_step_among<W: Width>(
     job: &Job,
 ) -> Result<Outcome<KeptList<W>>, OutOfMemory>
     requires scene { IsSceneWithin W.corner tris.now most_meshes }
-    requires root { 2 ^ W.scale * 2048 ≤ W.corner + 1 }
     requires job { IsJobOn W.scale W.fine tris.now job.now }
     ensures { IfOk result (λ o. AnswersByRegions W.scale W.fine tris.now (formula_of e.now) job.now o) }
 {

@@ -4,13 +4,10 @@ use Rattle.std.proofs.lemmas.List.Concat.{flat_map-cons}
 use Rattle.std.proofs.lemmas.List.Elements.{All-cons, All-nil}
 use Rattle.ember_algebra.specs.Relations.{none, more}
 use Rattle.ember_model.specs.declared.face.Face.{Face}
-use Rattle.ember_model.specs.FaceFiles.{WrittenFace, IsWrittenFace, IsFaceFile, face_lines, header, ending}
+use Rattle.ember_model.specs.FaceFiles.{WrittenFace, IsWrittenFace, IsFaceFile, header, ending, written_lines}
 use Rattle.ember_poly.specs.Outlines.{face_of_edges}
 use Rattle.ember_text.specs.Documents.{AreTextsInRange, IsDocumentText}
 use Rattle.ember_text.specs.FacesInTexts.{AreFacesInTexts}
-
-abbrev lines_of : WrittenFace → List ℕ
-lines_of w = face_lines w.support w.edges
 
 abbrev face_in : WrittenFace → Face
 face_in w = face_of_edges w.support w.edges
@@ -21,7 +18,7 @@ record HaveTexts (fs gs : List Face) : Type 0 where
   are_texts : AreTextsInRange fs texts
   written : List WrittenFace
   well_formed : All IsWrittenFace written
-  is : texts ≡ flat_map lines_of written
+  is : texts ≡ flat_map written_lines written
   count : length fs ≡ length written
   faces : gs ≡ map face_in written
 
@@ -37,7 +34,7 @@ have_texts (f ∷ fs) (g ∷ gs) h =
       are_texts = more one.is_text rest.are_texts;
       written = w ∷ rest.written;
       well_formed = All-cons IsWrittenFace w rest.written one.is_text.written rest.well_formed;
-      is = (λ i. one.is_text.text_is.is i ++ rest.is i) ∙ sym (flat_map-cons lines_of w rest.written);
+      is = (λ i. one.is_text.text_is.is i ++ rest.is i) ∙ sym (flat_map-cons written_lines w rest.written);
       count = ap (λ n. suc n) rest.count;
       faces = λ i. one.is i ∷ rest.faces i;
     }

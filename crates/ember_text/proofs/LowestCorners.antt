@@ -5,7 +5,7 @@ use mir.Syntax.{w128}
 use mir.Val.{to_z, of_z}
 use Rattle.ember_algebra.specs.Size.{Small}
 use Rattle.ember_algebra.proofs.Size.{small_within}
-use Rattle.ember_algebra.proofs.Divisors.{HasGcd, gcd_within}
+use Rattle.ember_algebra.proofs.CommonDivisors.{HasGcd, gcd_within}
 use Rattle.ember_model.specs.declared.point.Spot.{Spot}
 use Rattle.ember_model.specs.Valid.{IsValidMeet}
 use Rattle.ember_model.specs.FaceFiles.{IsWrittenCorner}

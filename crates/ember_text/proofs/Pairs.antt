@@ -1,8 +1,9 @@
 -- Edge planes with their start corners, place by place.
-use Rattle.std.proofs.Common.{◌≡◌, refl, sym, ap, ◌∙◌, arith, ℕ, zero, suc, ◌<◌, List, [], ◌∷◌, length, pos}
+use Rattle.std.proofs.Common.{◌≡◌, refl, sym, ap, ◌∙◌, arith, ℕ, zero, suc, ◌<◌, List, [], ◌∷◌, length}
 use lib.ListN.{get_or}
 use Rattle.ember_model.specs.declared.plane.Plane.{Plane}
 use Rattle.ember_model.specs.Edges.{RingEdge}
+use Rattle.ember_model.specs.Planes.{zero_plane}
 use Rattle.ember_point.specs.declared.meet_point.Meet.{Meet}
 use Rattle.ember_point.specs.Points.{spot_of}
 use Rattle.ember_poly.specs.Sides.{ring_edges}
@@ -13,9 +14,6 @@ pub length-ring_edges : (es : List Plane) (ms : List Meet) → length ms ≡ len
 length-ring_edges [] ms p = refl
 length-ring_edges (e ∷ es) [] p = absurd (omega (arith, p))
 length-ring_edges (e ∷ es) (m ∷ ms) p = ap (λ n. suc n) (length-ring_edges es ms (omega (arith, p)))
-
-abbrev pub zero_plane : Plane
-zero_plane = record { a = pos 0; b = pos 0; c = pos 0; d = pos 0 }
 
 ring_get : (es : List Plane) (ms : List Meet) (i : ℕ) (d : RingEdge) (e : Plane) (m : Meet) → length ms ≡ length es →
     i < length es → get_or (ring_edges spot_of es ms) i d ≡ record { plane = get_or es i e; start = spot_of (get_or ms i m) }

@@ -9,13 +9,13 @@ use Rattle.ember_model.specs.declared.point.Spot.{Spot}
 use Rattle.ember_model.specs.declared.face.Face.{Face}
 use Rattle.ember_model.specs.Faces.{flipped_face}
 use Rattle.ember_model.specs.Edges.{RingEdge, IsOutline}
+use Rattle.ember_model.specs.Planes.{zero_plane}
 use Rattle.ember_point.specs.declared.meet_point.Meet.{Meet}
 use Rattle.ember_point.specs.Points.{spot_of}
 use Rattle.ember_poly.specs.Sides.{ring_edges}
 use Rattle.ember_poly.proofs.TurnedOutline.{from_end, turn_back, outline_turned}
 use Rattle.ember_text.specs.Texts.{IsEdgeText, edge_with, turned}
 use Rattle.ember_text.proofs.GrownBytes.{grown_none, grown_push}
-use Rattle.ember_text.proofs.Pairs.{zero_plane}
 
 -- the first edge, and those from the last one back to place n
 abbrev pub turned_from : List RingEdge → ℕ → List RingEdge

@@ -1,7 +1,6 @@
 // Triangles of a file with their lines, lists that lend and give back their vectors, and types that threads share.
 use crate::shapes::TETRA;
-use ember_model::{Face, Lines, Planes, Scene, Soup, Spot, Tri, Tris, Vector};
-use ember_reread::FaceList;
+use ember_model::{Face, FaceList, Lines, Planes, Scene, Soup, Spot, Tri, Tris, Vector};
 use std::test::Fail;
 
 #[test]

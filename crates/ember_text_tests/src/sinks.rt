@@ -1,14 +1,14 @@
 // Bytes that sinks take.
 ghost use Rattle.std.specs.Prelude.{◌<◌};
 
-use ember_io::{Calls, MemorySink, OutOfMemory, StdSink, WriteFault, write_all};
-use std::alloc::Global;
+use ember_io::{Calls, MemorySink, StdSink, WriteFault, write_all};
+use std::alloc::{AllocError, Global};
 use std::process::Abort;
 use std::test::Fail;
 
 // A sink of this room that takes so many bytes at once, and whose call of this number fails. No
 // call has the number 0.
-fn sink(alloc: Global, room: usize, piece: usize, failing: u64) -> Result<MemorySink, OutOfMemory>
+fn sink(alloc: Global, room: usize, piece: usize, failing: u64) -> Result<MemorySink, AllocError>
     requires { 0 < piece }
 {
     MemorySink::new(alloc, room, piece, Calls::of(vec![in alloc; failing]?))

@@ -18,13 +18,12 @@ use Rattle.ember_model.specs.declared.point.Axis.TheVariants.{X, Y, Z}
 use Rattle.ember_model.specs.declared.point.Corner.{Corner}
 use Rattle.ember_model.specs.declared.plane.Plane.{Plane}
 use Rattle.ember_model.specs.declared.tri.Tri.{Tri}
-use Rattle.ember_model.specs.Planes.{unit, value_at, along, support_of, edge_through}
+use Rattle.ember_model.specs.Planes.{unit, value_at, along, support_of, edge_through, HasNoNormal}
 use Rattle.ember_model.specs.Within.{IsCornerWithin, IsTriWithin, IsSupportWithin, normal_limit}
 use Rattle.ember_model.specs.Clear.{IsClearOf, AreClear}
 use Rattle.ember_model.specs.Meshes.{faces_of}
 use Rattle.ember_model.proofs.SignTests.{zero_out}
 use Rattle.ember_model.proofs.PlaneSizes.{support_within, edge_within}
-use Rattle.ember_law.proofs.Shifted.{NoNormal}
 use Rattle.ember_law.proofs.Generic.{IsOff}
 use Rattle.ember_law.proofs.GenericClear.{off_clear, clear_faces}
 use Rattle.ember_box.specs.declared.aabb.Interval.{Interval}
@@ -36,11 +35,12 @@ use Rattle.ember_ref.specs.ClosedBoxes.{HasPoint, IsAcross}
 use Rattle.ember_trace.proofs.PathVertices.{with_along}
 use Rattle.ember_trace.proofs.VertexSides.{IsClose, AreStops, stop_at_start, stop_after_first}
 use Rattle.ember_trace.proofs.VertexSides.{stop_after_second, start_sign, first_sign, second_sign}
-use Rattle.ember_trace.proofs.SegmentCrossings.{IsEnd, edge_support, start_above, start_weight}
+use Rattle.ember_trace.proofs.SegmentSigns.{edge_support, start_above}
+use Rattle.ember_trace.proofs.SegmentCrossings.{IsEnd, start_weight}
 
 -- a point that is on no plane of the size of a triangle within m but those without a normal
 abbrev pub IsGeneric : ℕ → Spot → Type 0
-IsGeneric m p = (h : Plane) → IsSupportWithin m h → value_at h p ≡ pos 0 → NoNormal h
+IsGeneric m p = (h : Plane) → IsSupportWithin m h → value_at h p ≡ pos 0 → HasNoNormal h
 
 line_within : {m : ℕ} (u v : Corner) (k : Axis) → IsCornerWithin m u → IsCornerWithin m v → IsSupportWithin m (edge_through u v (unit k))
 line_within {m} u v k iu iv =
@@ -77,7 +77,7 @@ generic_clear {m} p ts w g i = clear_faces p ts (each ts i)
     each (t ∷ ts) i = (generic_of p t w g (All-head (IsTriWithin m) t ts i), each ts (All-tail (IsTriWithin m) t ts i))
 
 reference_level : {m f : ℕ} (lo : Vector) (h : Plane) → normal_limit m < f → IsSupportWithin m h →
-    sgn (value_at h (reference_beside f lo)) ≡ Zero → NoNormal h
+    sgn (value_at h (reference_beside f lo)) ≡ Zero → HasNoNormal h
 reference_level {m} {f} lo h tells i e =
     level_from h lo (sym (sign_beside_is {m = normal_limit m} f h lo (record { a = i.a; b = i.b; c = i.c }) tells) ∙ e)
 

@@ -17,7 +17,7 @@ use Rattle.ember_model.specs.declared.point.Spot.{Spot}
 use Rattle.ember_model.specs.declared.point.Axis.{Axis}
 use Rattle.ember_model.specs.declared.point.Axis.TheVariants.{X, Y, Z}
 use Rattle.ember_model.specs.declared.face.Face.{Face}
-use Rattle.ember_model.specs.Planes.{value_at, along, main_axis}
+use Rattle.ember_model.specs.Planes.{value_at, along, main_axis, HasNoNormal}
 use Rattle.ember_model.specs.Faces.{is_in_closed, is_inside}
 use Rattle.ember_model.specs.ClearTest.{none_positive, all_negative}
 use Rattle.ember_model.specs.Edges.{normal, position_along, RingEdge, IsEdge, IsBefore, IsEdgeChain, HasEdgeOf, IsOutline, SameEdge, SamePoint, is_on_edge}
@@ -25,11 +25,11 @@ use Rattle.ember_model.proofs.SignTests.{zero_out, zero_scaled, zero_times, clas
 use Rattle.ember_model.proofs.Hits.{closed_parts, inside_on}
 use Rattle.ember_model.proofs.SeenCrossings.{main_zero}
 use Rattle.ember_model.proofs.Tuples.{plane_tuple, spot_tuple, normalE}
-use Rattle.ember_law.proofs.Shifted.{NoNormal}
 use Rattle.ember_poly.specs.Rings.{orientation}
 use Rattle.ember_poly.specs.Sides.{ring_edges, AreCorners}
 use Rattle.ember_law.proofs.Generic.{cancel_zero}
 use Rattle.ember_poly.proofs.Planar.{places, same_place, turnE, both_zero}
+use Rattle.ember_poly.proofs.SameSide.{toward}
 use Rattle.ember_trace.proofs.PathVertices.{close_to, value_close}
 
 -- the plane that grows along an edge, as its reach does
@@ -37,16 +37,12 @@ abbrev grows : Plane → Plane → Plane
 grows n g =
     let z = cross (normal n) (normal g) in record { a = z.x; b = z.y; c = z.z; d = pos 0 }
 
--- the path from u to v, as a plane
-abbrev way : Spot → Spot → Plane
-way u v = record { a = u.w *ℤ v.x -ℤ v.w *ℤ u.x; b = u.w *ℤ v.y -ℤ v.w *ℤ u.y; c = u.w *ℤ v.z -ℤ v.w *ℤ u.z; d = pos 0 }
-
 reach_value : (n g : Plane) (v : Spot) → value_at (grows n g) v ≡ position_along n g v
 reach_value n g v =
     let z = cross (normal n) (normal g) in
     solve 7 (λ a b c x y z w. a ⊗ x ⊕ b ⊗ y ⊕ c ⊗ z ⊖ num (pos 0) ⊗ w ≈ a ⊗ x ⊕ b ⊗ y ⊕ c ⊗ z) cancels z.x z.y z.z v.x v.y v.z v.w
 
-way_turn : (n g : Plane) (u v : Spot) → orientation (way u v) n g ≡ u.w *ℤ position_along n g v -ℤ v.w *ℤ position_along n g u
+way_turn : (n g : Plane) (u v : Spot) → orientation (toward u v) n g ≡ u.w *ℤ position_along n g v -ℤ v.w *ℤ position_along n g u
 way_turn n g u v =
     identity (tuple ∷ tuple ∷ tuple ∷ tuple ∷ [])
     (λ n g u v. dotE (record { x = u.w ⊗ v.x ⊖ v.w ⊗ u.x; y = u.w ⊗ v.y ⊖ v.w ⊗ u.y; z = u.w ⊗ v.z ⊖ v.w ⊗ u.z })
@@ -168,7 +164,7 @@ pub record Parallel (n p : Plane) : Type 0 where
   pub z : n.a *ℤ p.b -ℤ n.b *ℤ p.a ≡ pos 0
 
 -- a plane that is parallel to one with an entry along k, and has none, has no normal
-pub no_entry : (n p : Plane) (k : Axis) → Parallel n p → along n k ≢ pos 0 → along p k ≡ pos 0 → NoNormal p
+pub no_entry : (n p : Plane) (k : Axis) → Parallel n p → along n k ≢ pos 0 → along p k ≡ pos 0 → HasNoNormal p
 no_entry n p X l s e = (
   e,
   other_zero n.a p.b s (let q = zero_scaled n.b p.a e in let r = l.z in omega (arith, linear, q, r)),
@@ -205,10 +201,10 @@ module _ (f : Face) (g h : Plane) (u v w : Spot) (j : Joins f g h u v w) where
   then_w : OnEdge f h w
   then_w = on_edge f h w j.second.ends
 
-  leads : pos 0 <ℤ orientation (way u v) n g
+  leads : pos 0 <ℤ orientation (toward u v) n g
   leads = let e = way_turn n g u v in let l = j.first.leads.before in omega (arith, linear, e, l)
 
-  leads_on : pos 0 <ℤ orientation (way v w) n h
+  leads_on : pos 0 <ℤ orientation (toward v w) n h
   leads_on = let e = way_turn n h v w in let l = j.second.leads.before in omega (arith, linear, e, l)
 
   -- the second edge turns from the first: otherwise they would be one
@@ -221,14 +217,14 @@ module _ (f : Face) (g h : Plane) (u v w : Spot) (j : Joins f g h u v w) where
 
       to : (x : Spot) → value_at n x ≡ pos 0 → value_at g x ≡ pos 0 → value_at h x ≡ pos 0
       to x nx gx =
-          let e = way u v in
+          let e = toward u v in
           last_zero (orientation n g h) (v.w *ℤ value_at e x -ℤ x.w *ℤ value_at e v) (orientation e g h)
           (orientation e h n) (orientation e n g) v.w x.w (value_at n x) (value_at n v) (value_at g x) (value_at g v)
           (value_at h x) (value_at h v) leads at_v.weight t nx at_v.flat gx at_v.zero then_v.zero (places n g h e v x)
 
       from : (x : Spot) → value_at n x ≡ pos 0 → value_at h x ≡ pos 0 → value_at g x ≡ pos 0
       from x nx hx =
-          let e = way v w in
+          let e = toward v w in
           last_zero (orientation n h g) (v.w *ℤ value_at e x -ℤ x.w *ℤ value_at e v) (orientation e h g)
           (orientation e g n) (orientation e n h) v.w x.w (value_at n x) (value_at n v) (value_at h x) (value_at h v)
           (value_at g x) (value_at g v) leads_on at_v.weight back nx at_v.flat hx then_v.zero at_v.zero
@@ -273,14 +269,14 @@ module _ (f : Face) (g h : Plane) (u v w : Spot) (j : Joins f g h u v w) where
   -- the normal of the support plane has an entry along its main axis
   slope : along n (main_axis n) ≢ pos 0
   slope z =
-      let e = way u v in
+      let e = toward u v in
       let t = identity (tuple ∷ tuple ∷ tuple ∷ [])
       (λ n g e. turnE e n g ≈ dotE (crossE (normalE g) (normalE e)) (normalE n)) cancels (plane_tuple n)
       (plane_tuple g) (plane_tuple e) in
       let d = dot_zero (cross (normal g) (normal e)) (normal n) (main_zero n X z) (main_zero n Y z) (main_zero n Z z) in
       let l = leads in absurd (omega (arith, linear, l, t, d))
 
-  no_normal : (p : Plane) → IsZeroAt p u v w → along p (main_axis n) ≡ pos 0 → NoNormal p
+  no_normal : (p : Plane) → IsZeroAt p u v w → along p (main_axis n) ≡ pos 0 → HasNoNormal p
   no_normal p z e = no_entry n p (main_axis n) (parallel p z) slope e
 
   -- it is 0 at the whole face
@@ -357,7 +353,7 @@ module _ (f : Face) (g h : Plane) (u v w : Spot) (j : Joins f g h u v w) where
 -- three corners of a face
 pub record AreFirst (f : Face) (u v w : Spot) : Type 0 where
   pub inside : (k : ℤ) → pos 0 <ℤ k → is_inside f (close_to k u v w) ≡ true
-  pub apart : (p : Plane) → value_at p u ≡ pos 0 → value_at p v ≡ pos 0 → value_at p w ≡ pos 0 → along p (main_axis f.support) ≡ pos 0 → NoNormal p
+  pub apart : (p : Plane) → value_at p u ≡ pos 0 → value_at p v ≡ pos 0 → value_at p w ≡ pos 0 → along p (main_axis f.support) ≡ pos 0 → HasNoNormal p
 
 joined : (f : Face) (g h i : Plane) (ps : List Plane) (a b c : Spot) (ms : List Spot) →
     IsOutline f (ring_edges (λ v. v) (g ∷ h ∷ i ∷ ps) (a ∷ b ∷ c ∷ ms)) → AreFirst f a b c

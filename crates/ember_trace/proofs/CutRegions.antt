@@ -27,7 +27,8 @@ use Rattle.ember_trace.proofs.SharedPlanes.{on_plane, shared_inside}
 use Rattle.ember_trace.proofs.BoxedRegions.{each_every, every_at, region_inside}
 
 -- ---- what every cut keeps
-abbrev Keeps : (Face → Type 0) → Type 0
+-- what holds of a face still holds below each plane
+abbrev pub Keeps : (Face → Type 0) → Type 0
 Keeps P = (f : Face) (p : Plane) → P f → P (below f p)
 
 wall_keeps : (P : Face → Type 0) → Keeps P → (w : Wall) (f : Face) (fs : List Face) → P f → AreLeftByWall w f fs → Every P fs
@@ -36,7 +37,8 @@ wall_keeps P k w f fs h (outside a) = tt
 wall_keeps P k w f fs h (in_high b o) = tt
 wall_keeps P k w f fs h (stays c a o) = (h, tt)
 
-walls_keep : (P : Face → Type 0) → Keeps P → {ws : List Wall} {fs gs : List Face} → Chain (λ w. Each (AreLeftByWall w)) ws fs gs → Every P fs → Every P gs
+-- what every cut keeps holds of all faces that walls leave
+pub walls_keep : (P : Face → Type 0) → Keeps P → {ws : List Wall} {fs gs : List Face} → Chain (λ w. Each (AreLeftByWall w)) ws fs gs → Every P fs → Every P gs
 walls_keep P k done h = h
 walls_keep P k (step {x = w} r c) h = walls_keep P k c (each_every P P (λ f fs e a. wall_keeps P k w f fs e a) r h)
 
@@ -44,7 +46,8 @@ cutting_plane_keeps : (P : Face → Type 0) → Keeps P → (b : CuttingPlane) (
 cutting_plane_keeps P k b f fs h (splits m c) = (k f b.plane h, (k f (opposite b.plane) h, tt))
 cutting_plane_keeps P k b f fs h (whole m) = (h, tt)
 
-cutting_planes_keep : (P : Face → Type 0) → Keeps P → {bs : List CuttingPlane} {fs gs : List Face} →
+-- and of all that cutting planes leave
+pub cutting_planes_keep : (P : Face → Type 0) → Keeps P → {bs : List CuttingPlane} {fs gs : List Face} →
     Chain (λ b. Each (AreLeftByCuttingPlane b)) bs fs gs → Every P fs → Every P gs
 cutting_planes_keep P k done h = h
 cutting_planes_keep P k (step {x = b} r c) h = cutting_planes_keep P k c (each_every P P (λ f fs e a. cutting_plane_keeps P k b f fs e a) r h)

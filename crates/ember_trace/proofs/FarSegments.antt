@@ -19,7 +19,7 @@ use Rattle.ember_model.specs.ClearTest.{all_negative}
 use Rattle.ember_model.proofs.SignTests.{clash, size_positive, positive_in, zero_scaled, zero_times, size_nonnegative}
 use Rattle.ember_model.proofs.PlaneValues.{value_hit}
 use Rattle.ember_model.proofs.PlaneSizes.{support_within}
-use Rattle.ember_model.proofs.Hits.{Scales, same_all_negative, inside_on}
+use Rattle.ember_model.proofs.Hits.{Scales, same_all_negative, inside_on, inside_closed}
 use Rattle.ember_model.proofs.Legs.{leg_off, leg_on, between_inside}
 use Rattle.ember_model.proofs.LegSigns.{leg_is, moved_zero}
 use Rattle.ember_model.proofs.FourSigns.{hit_edges}
@@ -30,12 +30,13 @@ use Rattle.ember_box.specs.Near.{is_near}
 use Rattle.ember_ref.specs.References.{or_sign}
 use Rattle.ember_ref.specs.ClosedBoxes.{HasPoint}
 use Rattle.ember_ref.proofs.NearPoints.{near_point}
-use Rattle.ember_ref.proofs.FarTriangles.{inside_closed, misses_far}
+use Rattle.ember_ref.proofs.FarTriangles.{misses_far}
 use Rattle.ember_trace.specs.Paths.{inside_side, first_of, second_of}
 use Rattle.ember_trace.proofs.PathVertices.{differ_last}
 use Rattle.ember_trace.proofs.VertexSides.{AreStops, stop_at_start, stop_after_first, stop_after_second}
 use Rattle.ember_trace.proofs.ClearVertices.{has_with, has_start}
-use Rattle.ember_trace.proofs.SegmentCrossings.{IsEnd, edges_behind, or_zero, differ_back}
+use Rattle.ember_trace.proofs.SegmentSigns.{edges_behind}
+use Rattle.ember_trace.proofs.SegmentCrossings.{IsEnd, or_zero, differ_back}
 
 -- a segment in the box
 leg_far : (c : Cell) (t : Tri) (p q : Spot) → is_flat t ≡ false → is_near c t ≡ false → HasPoint c p → HasPoint c q → leg (face_of t) p q ≡ pos 0

@@ -2,6 +2,7 @@ pub mod BoxedRegions
 pub mod ClearVertices
 pub mod Corners
 pub mod CutRegions
+pub mod SegmentSigns
 pub mod SegmentCrossings
 pub mod NearTriangleLists
 pub mod FarSegments

@@ -13,12 +13,13 @@ use Rattle.ember_algebra.specs.declared.Sign.{Sign}
 use Rattle.ember_algebra.specs.declared.Sign.TheVariants.{Neg, Zero, Pos}
 use Rattle.ember_algebra.specs.Sign.{sign, sgn, is_nil, is_negative}
 use Rattle.ember_algebra.proofs.Laws.{linear}
+use Rattle.ember_algebra.proofs.Booleans.{same_some}
 use Rattle.ember_model.specs.declared.plane.Plane.{Plane}
 use Rattle.ember_model.specs.declared.point.Spot.{Spot}
 use Rattle.ember_model.specs.declared.point.Axis.{Axis}
 use Rattle.ember_model.specs.declared.face.Face.{Face}
 use Rattle.ember_model.specs.declared.tri.Tri.{Tri}
-use Rattle.ember_model.specs.Planes.{value_at, along, support_of, edge_planes}
+use Rattle.ember_model.specs.Planes.{value_at, along, support_of, edge_planes, zero_plane}
 use Rattle.ember_model.specs.Within.{IsTriWithin, IsPlaneWithin}
 use Rattle.ember_model.specs.Faces.{size, edges_of, hit, Everywhere}
 use Rattle.ember_model.specs.ClearTest.{all_negative}
@@ -26,7 +27,7 @@ use Rattle.ember_model.proofs.SignTests.{clash, size_positive, zero_scaled, zero
 use Rattle.ember_model.proofs.PlaneValues.{value_hit}
 use Rattle.ember_model.proofs.Hits.{Scales, same_all_negative, inside_parts}
 use Rattle.ember_model.proofs.FourSigns.{hit_edges}
-use Rattle.ember_model.proofs.Tuples.{same_plane, same_some}
+use Rattle.ember_model.proofs.Tuples.{same_plane}
 use Rattle.ember_width.specs.declared.width.Width.{Ghosts}
 use Rattle.ember_width.proofs.Slides.{support_within_planes}
 use Rattle.ember_trace.specs.declared.near_triangle.NearTriangle.{NearTriangle}
@@ -34,7 +35,7 @@ use Rattle.ember_trace.specs.FirstCorners.{HasFirstCorners}
 use Rattle.ember_trace.specs.Paths.{Path, side_at_end}
 use Rattle.ember_trace.specs.Lines.{all_behind}
 use Rattle.ember_trace.proofs.Corners.{first_corners}
-use Rattle.ember_trace.proofs.SegmentCrossings.{edges_behind}
+use Rattle.ember_trace.proofs.SegmentSigns.{edges_behind}
 use Rattle.ember_trace.proofs.RegionEnds.{Found, first_corners_found}
 
 -- ---- planes
@@ -45,10 +46,6 @@ planes_are_equal p q =
     (λ t. same_plane t.0 t.1.0 t.1.1.0 t.1.1.1)
     (λ e. (ap (λ (s : Plane). s.a) e, (ap (λ (s : Plane). s.b) e, (ap (λ (s : Plane). s.c) e, ap (λ (s : Plane). s.d) e))))
     (Decides-and _ _ (Decides-int_eq p.a q.a) (Decides-and _ _ (Decides-int_eq p.b q.b) (Decides-and _ _ (Decides-int_eq p.c q.c) (Decides-int_eq p.d q.d))))
-
--- a default for an index out of range
-abbrev pub no_plane : Plane
-no_plane = record { a = pos 0; b = pos 0; c = pos 0; d = pos 0 }
 
 -- if all planes of a list are negative at a point, each of them is
 negative_at : (es : List Plane) (x : Spot) → all_negative es x ≡ true → (i : ℕ) (p : Plane) → slice_get es i ≡ Some p → is_negative (value_at p x) ≡ true
@@ -69,9 +66,9 @@ behind_plane f i p e = record { holds = λ v h. negative_at f.edges v (inside_pa
 
 -- and behind the edges of a triangle, if it lies behind each of the three planes
 pub behind_edges : (f : Face) (t : Tri) (es : List Plane) → es ≡ edges_of t →
-    Everywhere f (λ v. is_negative (value_at (get_or es 0 no_plane) v) ≡ true) →
-    Everywhere f (λ v. is_negative (value_at (get_or es 1 no_plane) v) ≡ true) →
-    Everywhere f (λ v. is_negative (value_at (get_or es 2 no_plane) v) ≡ true) →
+    Everywhere f (λ v. is_negative (value_at (get_or es 0 zero_plane) v) ≡ true) →
+    Everywhere f (λ v. is_negative (value_at (get_or es 1 zero_plane) v) ≡ true) →
+    Everywhere f (λ v. is_negative (value_at (get_or es 2 zero_plane) v) ≡ true) →
     Everywhere f (λ v. all_negative (edges_of t) v ≡ true)
 behind_edges f t es e a b d =
     record {
@@ -81,8 +78,8 @@ behind_edges f t es e a b d =
           let z = ap (λ (g : Plane). is_negative (value_at g v)) (same_some (here 2 (omega arith))) ∙ d.holds v h in λ i. x i && (y i && (z i && true));
     }
   where
-    here : (i : ℕ) → i < 3 → slice_get (edges_of t) i ≡ Some (get_or es i no_plane)
-    here i l = subst (λ us. slice_get us i ≡ Some (get_or es i no_plane)) e (slice_get-get_or es i no_plane (subst (λ us. i < length us) (sym e) l))
+    here : (i : ℕ) → i < 3 → slice_get (edges_of t) i ≡ Some (get_or es i zero_plane)
+    here i l = subst (λ us. slice_get us i ≡ Some (get_or es i zero_plane)) e (slice_get-get_or es i zero_plane (subst (λ us. i < length us) (sym e) l))
 
 -- a sign that the test takes for Zero
 nil_out : (s : Sign) → is_nil s ≡ true → s ≡ Zero

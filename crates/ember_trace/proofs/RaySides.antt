@@ -23,7 +23,8 @@ use Rattle.ember_trace.specs.Paths.{inside_side}
 use Rattle.ember_trace.specs.Crossings.{signed_crossing, is_pierced, ray_counts, AreRayCounts}
 use Rattle.ember_trace.proofs.VertexSides.{IsClose}
 use Rattle.ember_trace.proofs.Corners.{first_corners}
-use Rattle.ember_trace.proofs.SegmentCrossings.{IsEnd, edges_behind, or_zero}
+use Rattle.ember_trace.proofs.SegmentSigns.{edges_behind}
+use Rattle.ember_trace.proofs.SegmentCrossings.{IsEnd, or_zero}
 use Rattle.ember_trace.proofs.ClearVertices.{generic_clear, end_generic}
 use Rattle.ember_trace.proofs.RegionEnds.{first_corners_found, before_end, after_end}
 use Rattle.ember_trace.proofs.MeshSums.{ray_counts_rays, added_none}

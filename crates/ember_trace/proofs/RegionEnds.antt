@@ -15,13 +15,12 @@ use Rattle.ember_model.specs.declared.point.Axis.{Axis}
 use Rattle.ember_model.specs.declared.point.Axis.TheVariants.{X, Y, Z}
 use Rattle.ember_model.specs.declared.plane.Plane.{Plane}
 use Rattle.ember_model.specs.declared.face.Face.{Face}
-use Rattle.ember_model.specs.Planes.{value_at, along, main_axis}
+use Rattle.ember_model.specs.Planes.{value_at, along, main_axis, HasNoNormal}
 use Rattle.ember_model.specs.Points.{scaled, moved}
 use Rattle.ember_model.specs.Within.{IsSupportWithin, normal_limit}
 use Rattle.ember_model.specs.Faces.{is_inside}
 use Rattle.ember_model.proofs.SignTests.{zero_out}
 use Rattle.ember_model.proofs.Hits.{inside_parts, moved_weight}
-use Rattle.ember_law.proofs.Shifted.{NoNormal}
 use Rattle.ember_width.proofs.Slides.{support_within_planes, slid_within_planes, slid_twice_within_planes}
 use Rattle.ember_ref.specs.References.{or_sign}
 use Rattle.ember_ref.proofs.ReferenceSigns.{both_zero}
@@ -60,7 +59,7 @@ first_corners_found m f a b d first =
     inside : is_inside f q ≡ true
     inside = first.inside (pos n) (omega (arith, ints))
 
-    apart : (h : Plane) → inside_side h a b d ≡ Zero → along h (main_axis f.support) ≡ pos 0 → NoNormal h
+    apart : (h : Plane) → inside_side h a b d ≡ Zero → along h (main_axis f.support) ≡ pos 0 → HasNoNormal h
     apart h z e =
         let u = value_at h a in let v = value_at h b in let w = value_at h d in
         let x = both_zero (sgn u) (or_sign (sgn v) (sgn w)) z in let y = both_zero (sgn v) (sgn w) x.1 in

@@ -7,6 +7,7 @@ use Rattle.std.proofs.lemmas.Nat.{pow_pos}
 use borrow.Author.Differences.{ints}
 use Rattle.ember_algebra.specs.Size.{Small}
 use Rattle.ember_algebra.proofs.Size.{small_neg, small_mul, small_within}
+use Rattle.ember_algebra.proofs.Numbers.{int_lt_out}
 use Rattle.ember_model.specs.declared.point.Axis.{Axis}
 use Rattle.ember_model.specs.Within.{IsTriWithin}
 use Rattle.ember_width.specs.declared.width.Width.{Ghosts}
@@ -36,9 +37,6 @@ data RootCase (h z : ℤ) : Type 0 where
   above : h <ℤ z → moved_within h z ≡ h → RootCase h z
   within : neg_ℤ h ≤ℤ z → z ≤ℤ h → moved_within h z ≡ z → RootCase h z
 
-less : (a b : ℤ) → int_lt a b ≡ true → a <ℤ b
-less a b e = grind (arith, ints)
-
 not_less : (a b : ℤ) → int_lt a b ≡ false → b ≤ℤ a
 not_less a b e = grind (arith, ints)
 
@@ -49,8 +47,8 @@ root_case h z = by (int_lt z (neg_ℤ h)) (int_lt h z) refl refl
     first el = ap (λ b. cond b (neg_ℤ h) (cond (int_lt h z) h z)) el
 
     by : (l g : Bool) → int_lt z (neg_ℤ h) ≡ l → int_lt h z ≡ g → RootCase h z
-    by true g el eg = below (less z (neg_ℤ h) el) (first el)
-    by false true el eg = above (less h z eg) (first el ∙ ap (λ b. cond b h z) eg)
+    by true g el eg = below (int_lt_out z (neg_ℤ h) el) (first el)
+    by false true el eg = above (int_lt_out h z eg) (first el ∙ ap (λ b. cond b h z) eg)
     by false false el eg = within (not_less z (neg_ℤ h) el) (not_less h z eg) (first el ∙ ap (λ b. cond b h z) eg)
 
 -- a number that is moved into the root is as small as the root

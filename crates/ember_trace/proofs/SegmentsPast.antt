@@ -26,13 +26,13 @@ use Rattle.ember_model.specs.Owners.{spot_of_corner}
 use Rattle.ember_model.specs.ClearTest.{all_negative}
 use Rattle.ember_model.proofs.SignTests.{size_positive}
 use Rattle.ember_model.proofs.Legs.{leg_off, leg_on, ends_nonzero, between_inside, value_between}
+use Rattle.ember_model.proofs.Hits.{inside_closed}
 use Rattle.ember_law.proofs.CornerSides.{above_corners}
 use Rattle.ember_law.proofs.FlatTriangles.{flat_case, flat_out, flat_leg}
 use Rattle.ember_box.specs.declared.aabb.Interval.{Interval}
 use Rattle.ember_box.specs.Boxes.{entry_along as along_vector}
 use Rattle.ember_box.specs.Aabbs.{interval_along, interval_over, aabb_of_tri}
 use Rattle.ember_ref.proofs.NearPoints.{coordinate as along_point}
-use Rattle.ember_ref.proofs.FarTriangles.{inside_closed}
 use Rattle.ember_trace.specs.Lines.{contains_above}
 use Rattle.ember_trace.specs.Crossings.{may_contain}
 use Rattle.ember_trace.proofs.PathVertices.{with_along, value_with}

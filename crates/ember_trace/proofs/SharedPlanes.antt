@@ -16,18 +16,18 @@ use Rattle.ember_model.specs.declared.point.Axis.{Axis}
 use Rattle.ember_model.specs.declared.point.Corner.{Corner}
 use Rattle.ember_model.specs.declared.tri.Tri.{Tri}
 use Rattle.ember_model.specs.declared.face.Face.{Face}
-use Rattle.ember_model.specs.Planes.{vector_of, unit, value_at, along, main_axis, times_plane, support_of, edge_through, vector_between}
+use Rattle.ember_model.specs.Planes.{vector_of, unit, value_at, along, main_axis, times_plane, support_of, edge_through, vector_between, HasNoNormal}
 use Rattle.ember_model.specs.Faces.{is_inside, is_in_closed, is_flat, face_of, Everywhere, Cuts}
 use Rattle.ember_model.specs.Owners.{spot_of_corner, lies_in_plane_of, is_coplanar}
 use Rattle.ember_model.specs.ClearTest.{none_positive}
 use Rattle.ember_model.proofs.SignTests.{clash, negative_in, positive_in, not_positive_out, not_true, zero_out}
 use Rattle.ember_model.proofs.PlaneValues.{along_dot}
 use Rattle.ember_model.proofs.Hits.{inside_on, inside_parts, closed_parts}
-use Rattle.ember_law.proofs.Shifted.{NoNormal}
+use Rattle.ember_model.specs.Edges.{normal}
 use Rattle.ember_law.proofs.FlatTriangles.{flat_in}
 use Rattle.ember_law.proofs.CornerSides.{main_entry}
 use Rattle.ember_trace.proofs.Corners.{Parallel, no_entry}
-use Rattle.ember_trace.proofs.SegmentCrossings.{edge_level}
+use Rattle.ember_trace.proofs.SegmentSigns.{edge_level}
 use Rattle.ember_trace.proofs.FilledFaces.{uncut_flat}
 use Rattle.ember_trace.proofs.FlatPlanes.{plane_over_face_is_parallel, shared, corner_a}
 
@@ -58,12 +58,9 @@ on_plane t u e =
           not_true (is_flat u) q.0;
     }
 
-abbrev normal_of : Plane → Vector
-normal_of p = record { x = p.a; y = p.b; z = p.c }
-
 -- along the plane between two of its corners
 along_plane : (n : Plane) (u v : Corner) → value_at n (spot_of_corner u) ≡ pos 0 →
-    value_at n (spot_of_corner v) ≡ pos 0 → dot (normal_of n) (vector_between u v) ≡ pos 0
+    value_at n (spot_of_corner v) ≡ pos 0 → dot (normal n) (vector_between u v) ≡ pos 0
 along_plane n u v e h =
     let i = solve 10 (λ a b c d x y z r s t. a ⊗ (r ⊖ x) ⊕ b ⊗ (s ⊖ y) ⊕ c ⊗ (t ⊖ z) ≈
     (a ⊗ r ⊕ b ⊗ s ⊕ c ⊗ t ⊖ d ⊗ num (pos 1)) ⊖ (a ⊗ x ⊕ b ⊗ y ⊕ c ⊗ z ⊖ d ⊗ num (pos 1))) cancels n.a n.b n.c n.d u.x
@@ -72,7 +69,7 @@ along_plane n u v e h =
 
 parallel_planes : (t u : Tri) → OnPlane t u → Parallel (support_of t) (support_of u)
 parallel_planes t u o =
-    let z = orthogonal_parallel (normal_of (support_of t)) (vector_between u.a u.b) (vector_between u.a u.c)
+    let z = orthogonal_parallel (normal (support_of t)) (vector_between u.a u.b) (vector_between u.a u.c)
     (along_plane (support_of t) u.a u.b o.a o.b) (along_plane (support_of t) u.a u.c o.a o.c) in
     record { x = ap (λ (v : Vector). v.x) z; y = ap (λ (v : Vector). v.y) z; z = ap (λ (v : Vector). v.z) z }
 
@@ -97,27 +94,27 @@ module _ (u : Tri) (k : Axis) (nz : along (support_of u) k ≢ pos 0) where
   sign_some : sign (along (support_of u) k) ≢ pos 0
   sign_some z = nz (zero_from_sign (along (support_of u) k) z)
 
-  without : (g : Plane) → NoNormal (times_plane (sign (along (support_of u) k)) g) → NoNormal g
+  without : (g : Plane) → HasNoNormal (times_plane (sign (along (support_of u) k)) g) → HasNoNormal g
   without g h = (factor g.a h.0, factor g.b h.1, factor g.c h.2)
     where
       factor : (x : ℤ) → sign (along (support_of u) k) *ℤ x ≡ pos 0 → x ≡ pos 0
       factor x e = ⊎_elim (λ z. absurd (sign_some z)) (λ z. z) (zero_product e)
 
-  first_edge : NoNormal (edge_through u.a u.b (unit k)) → ⊥
+  first_edge : HasNoNormal (edge_through u.a u.b (unit k)) → ⊥
   first_edge h =
       nz (along_dot (support_of u) k ∙ identity (vector ∷ vector ∷ vector ∷ vector ∷ [])
       (λ a b c f. dotE (crossE (minusE b a) (minusE c a)) f ≈ neg (dotE (minusE c a) (crossE (minusE b a) f))) cancels
       (vector_of u.a) (vector_of u.b) (vector_of u.c) (unit k)
       ∙ ap neg_ℤ (dot_zero (vector_between u.a u.c) (cross (vector_between u.a u.b) (unit k)) h.0 h.1 h.2))
 
-  second_edge : NoNormal (edge_through u.b u.c (unit k)) → ⊥
+  second_edge : HasNoNormal (edge_through u.b u.c (unit k)) → ⊥
   second_edge h =
       nz (along_dot (support_of u) k ∙ identity (vector ∷ vector ∷ vector ∷ vector ∷ [])
       (λ a b c f. dotE (crossE (minusE b a) (minusE c a)) f ≈ dotE (minusE b a) (crossE (minusE c b) f)) cancels
       (vector_of u.a) (vector_of u.b) (vector_of u.c) (unit k)
       ∙ dot_zero (vector_between u.a u.b) (cross (vector_between u.b u.c) (unit k)) h.0 h.1 h.2)
 
-  third_edge : NoNormal (edge_through u.c u.a (unit k)) → ⊥
+  third_edge : HasNoNormal (edge_through u.c u.a (unit k)) → ⊥
   third_edge h =
       nz (along_dot (support_of u) k ∙ identity (vector ∷ vector ∷ vector ∷ vector ∷ [])
       (λ a b c f. dotE (crossE (minusE b a) (minusE c a)) f ≈ neg (dotE (minusE b a) (crossE (minusE a c) f))) cancels

@@ -19,7 +19,7 @@ use Rattle.ember_model.specs.declared.point.Axis.{Axis}
 use Rattle.ember_model.specs.declared.point.Axis.TheVariants.{X, Y, Z}
 use Rattle.ember_model.specs.declared.face.Face.{Face}
 use Rattle.ember_model.specs.declared.tri.Tri.{Tri}
-use Rattle.ember_model.specs.Planes.{value_at, along, main_axis, support_of}
+use Rattle.ember_model.specs.Planes.{value_at, along, main_axis, support_of, HasNoNormal}
 use Rattle.ember_model.specs.Points.{scaled, moved}
 use Rattle.ember_model.specs.Limits.{narrow_limit}
 use Rattle.ember_model.specs.Within.{IsTriWithin, IsSupportWithin, normal_limit}
@@ -33,13 +33,12 @@ use Rattle.ember_model.proofs.Hits.{inside_on, inside_parts, moved_weight}
 use Rattle.ember_model.proofs.PlaneSizes.{support_within}
 use Rattle.ember_model.proofs.SignTests.{negative_in, negative_out, positive_in, zero_out, zero_scaled}
 use Rattle.ember_law.proofs.FlatTriangles.{flat_crossing}
-use Rattle.ember_law.proofs.Shifted.{NoNormal}
 use Rattle.ember_width.proofs.Slides.{support_within_planes}
 use Rattle.ember_ref.specs.References.{or_sign}
 use Rattle.ember_ref.proofs.ReferenceSigns.{both_zero}
 use Rattle.ember_trace.proofs.PathVertices.{close_to, value_close}
 use Rattle.ember_trace.proofs.VertexSides.{value_bound, close_sign, after_sign, before_sign}
-use Rattle.ember_trace.proofs.SegmentCrossings.{edges_behind}
+use Rattle.ember_trace.proofs.SegmentSigns.{edges_behind}
 use Rattle.ember_trace.proofs.ClearVertices.{generic_clear}
 use Rattle.ember_trace.proofs.RegionEnds.{along_small}
 use Rattle.ember_trace.proofs.MeshSums.{tally_same}
@@ -69,7 +68,7 @@ vector_on_one_side k p r wp wr same ts v =
 -- on no plane of a triangle's size that runs along k, but those without a normal
 record IsLeftAlong (m : ℕ) (k : Axis) (q : Spot) : Type 0 where
   weight : pos 0 <ℤ q.w
-  apart : (h : Plane) → IsSupportWithin m h → value_at h q ≡ pos 0 → along h k ≡ pos 0 → NoNormal h
+  apart : (h : Plane) → IsSupportWithin m h → value_at h q ≡ pos 0 → along h k ≡ pos 0 → HasNoNormal h
 
 module _ (m : ℕ) (ts : List Tri) (valid : All (IsTriWithin m) ts) (k : Axis) (q : Spot) (free : IsLeftAlong m k q) (by : ℕ →
     ℤ) (turn : Sign → Sign) (out : (t : Sign) → turn t ≡ Zero → t ≡ Zero) (side : (h : Plane) → IsSupportWithin m h →
@@ -102,7 +101,7 @@ module _ (m : ℕ) (ts : List Tri) (valid : All (IsTriWithin m) ts) (k : Axis) (
             ∙ sym (side h i enough 1 (le_refl 1) is_enough)) ts valid;
       }
     where
-      generic : (h : Plane) → IsSupportWithin m h → value_at h (beside n s) ≡ pos 0 → NoNormal h
+      generic : (h : Plane) → IsSupportWithin m h → value_at h (beside n s) ≡ pos 0 → HasNoNormal h
       generic h i z =
           let p = both_zero _ _ (sym (side h i n s ls lm) ∙ ap sgn z) in
           free.apart h i (zero_out (value_at h q) (ap is_nil p.0)) (zero_out (along h k) (ap is_nil (out (sgn (along h k)) p.1)))
@@ -144,7 +143,7 @@ no_entry n v x u z nz eu ez e =
 
 -- a plane along k and both directions has no normal
 ways_span : (k : Axis) (n h : Plane) → along n k ≢ pos 0 → along h k ≡ pos 0 → value_at h (first_way k n) ≡ pos 0 →
-    value_at h (second_way k n) ≡ pos 0 → NoNormal h
+    value_at h (second_way k n) ≡ pos 0 → HasNoNormal h
 ways_span X n h nz l e f = (
   l,
   no_entry n.a h.b n.b h.a _ nz l e (solve 6
@@ -228,7 +227,7 @@ module _ (m : ℕ) (k : Axis) (f : Face) (p : Spot) (h : is_inside f p ≡ true)
   left_point =
       record { at = q; inside = inside_on f q (positive_in q_weight) q_level ∙ stay.holds n (omega arith); free = record { weight = q_weight; apart = apart } }
     where
-      apart : (g : Plane) → IsSupportWithin m g → value_at g q ≡ pos 0 → along g k ≡ pos 0 → NoNormal g
+      apart : (g : Plane) → IsSupportWithin m g → value_at g q ≡ pos 0 → along g k ≡ pos 0 → HasNoNormal g
       apart g i z l =
           let a = sgn (value_at g p) in let b = sgn (value_at g u) in let d = sgn (value_at g v) in
           let x = both_zero a (or_sign b d) (sym (close_sign n g p u v (support_within_planes m g i) (omega arith) (omega arith)) ∙ ap sgn z) in

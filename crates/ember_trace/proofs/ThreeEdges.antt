@@ -2,12 +2,12 @@
 use Rattle.std.proofs.Common.{◌≡◌, sym, ap, ◌∙◌, Bool, true, ◌&&◌, Some, slice_get}
 use Rattle.ember_algebra.specs.declared.Sign.{Sign}
 use Rattle.ember_algebra.specs.Sign.{is_neg}
+use Rattle.ember_algebra.proofs.Booleans.{same_some}
 use Rattle.ember_model.specs.declared.plane.Plane.{Plane}
 use Rattle.ember_model.specs.declared.point.Axis.{Axis}
 use Rattle.ember_model.specs.declared.tri.Tri.{Tri}
 use Rattle.ember_model.specs.Planes.{edge_planes}
 use Rattle.ember_model.proofs.SignTests.{and_true}
-use Rattle.ember_model.proofs.Tuples.{same_some}
 use Rattle.ember_trace.specs.Lines.{all_behind}
 
 -- as the code asks: the last two only if the ones before are behind

@@ -1,6 +1,6 @@
 -- On which side of a plane the vertices of a path lie: for points that are close enough to the corner
 -- of the box and to the first corner of the region, as the definitions of paths say.
-use Rattle.std.proofs.Common.{◌≡◌, ◌≢◌, ℕ, ◌+◌, ◌*◌, ◌<◌, ◌≤◌, refl, sym, ap, ◌∙◌, arith, ℤ, pos, ◌+ℤ◌, ◌*ℤ◌, neg_ℤ, ◌<ℤ◌, [], ◌∷◌, unsigned_abs, le_refl}
+use Rattle.std.proofs.Common.{◌≡◌, ◌≢◌, ℕ, ◌+◌, ◌*◌, ◌<◌, ◌≤◌, refl, sym, ap, ◌∙◌, arith, ℤ, pos, ◌+ℤ◌, ◌*ℤ◌, neg_ℤ, ◌<ℤ◌, [], ◌∷◌, unsigned_abs}
 use borrow.Author.Differences.{ints}
 use lib.IntN.{*ℤ_comm}
 use Rattle.ember_algebra.specs.Vector.{Vector}
@@ -20,16 +20,17 @@ use Rattle.ember_model.specs.declared.point.Spot.{Spot}
 use Rattle.ember_model.specs.declared.point.Axis.{Axis}
 use Rattle.ember_model.specs.declared.point.Axis.TheVariants.{X, Y, Z}
 use Rattle.ember_model.specs.declared.plane.Plane.{Plane}
-use Rattle.ember_model.specs.Planes.{value_at, along}
+use Rattle.ember_model.specs.Planes.{value_at, along, HasNoNormal}
 use Rattle.ember_model.specs.Points.{scaled, moved, offset_by}
 use Rattle.ember_model.specs.Within.{IsSupportWithin, IsPlaneWithin, normal_limit}
 use Rattle.ember_model.proofs.SignTests.{sgn_scaled}
 use Rattle.ember_model.proofs.PlaneValues.{value_scaled, value_moved}
-use Rattle.ember_law.proofs.Shifted.{NoNormal, value_shifted}
+use Rattle.ember_model.proofs.PlaneSizes.{own_size}
+use Rattle.ember_law.proofs.Shifted.{value_shifted}
 use Rattle.ember_point.specs.Points.{slid}
 use Rattle.ember_box.specs.Near.{spot_of_vector}
 use Rattle.ember_box.specs.Reference.{reference_beside}
-use Rattle.ember_ref.specs.References.{or_sign}
+use Rattle.ember_ref.specs.References.{or_sign, HasNormalWithin}
 use Rattle.ember_ref.proofs.ReferenceSigns.{sign_near, or_sign_assoc, next_sign}
 use Rattle.ember_trace.specs.Paths.{inside_side, first_of, second_of}
 use Rattle.ember_trace.proofs.PathVertices.{close_to, with_along, pinned, slid_once_to, slid_twice_to, value_close}
@@ -42,12 +43,9 @@ value_bound m v =
     normal_limit m * unsigned_abs v.x + normal_limit m * unsigned_abs v.y + normal_limit m * unsigned_abs v.z +
     (20 * (m * (m * m)) + 8 * (m * m)) * unsigned_abs v.w
 
-own : (z : ℤ) → Small (unsigned_abs z) z
-own z = record { small = le_refl (unsigned_abs z) }
-
 value_small : {m : ℕ} (h : Plane) (v : Spot) → IsPlaneWithin m h → Small (value_bound m v) (value_at h v)
 value_small h v s =
-    small_sub (small_add (small_add (small_mul s.a (own v.x)) (small_mul s.b (own v.y))) (small_mul s.c (own v.z))) (small_mul s.d (own v.w))
+    small_sub (small_add (small_add (small_mul s.a (own_size v.x)) (small_mul s.b (own_size v.y))) (small_mul s.c (own_size v.z))) (small_mul s.d (own_size v.w))
 
 -- the sign of a plane at a point that is close to u, closest to the line from there to v
 pub close_sign : {m : ℕ} (n : ℕ) (h : Plane) (u v w : Spot) → IsPlaneWithin m h → value_bound m v < n → value_bound m w < n →
@@ -68,22 +66,17 @@ follows n g v l a b c nz =
     (λ p. sgn_pos (horner_pos (g.a ∷ g.b ∷ g.c ∷ []) (value_at g v) l s p) ∙ sym (sgn_pos p)) (λ z. absurd (nz z))
     (λ p. sgn_neg (horner_neg (g.a ∷ g.b ∷ g.c ∷ []) (value_at g v) l s p) ∙ sym (sgn_neg p))
 
-record NormalWithin (m : ℕ) (g : Plane) : Type 0 where
-  a : Small m g.a
-  b : Small m g.b
-  c : Small m g.c
-
-pinned_within : {m : ℕ} (h : Plane) (a : Axis) (q : Spot) → NormalWithin m h → NormalWithin (unsigned_abs q.w * m) (pinned h a q)
-pinned_within h X q s = record { a = small_zero _; b = small_mul (own q.w) s.b; c = small_mul (own q.w) s.c }
-pinned_within h Y q s = record { a = small_mul (own q.w) s.a; b = small_zero _; c = small_mul (own q.w) s.c }
-pinned_within h Z q s = record { a = small_mul (own q.w) s.a; b = small_mul (own q.w) s.b; c = small_zero _ }
+pinned_within : {m : ℕ} (h : Plane) (a : Axis) (q : Spot) → HasNormalWithin m h → HasNormalWithin (unsigned_abs q.w * m) (pinned h a q)
+pinned_within h X q s = record { a = small_zero _; b = small_mul (own_size q.w) s.b; c = small_mul (own_size q.w) s.c }
+pinned_within h Y q s = record { a = small_mul (own_size q.w) s.a; b = small_zero _; c = small_mul (own_size q.w) s.c }
+pinned_within h Z q s = record { a = small_mul (own_size q.w) s.a; b = small_mul (own_size q.w) s.b; c = small_zero _ }
 
 -- ---- the vertices
 -- q is a point of the face close enough to the first of its corners a, b, c; k is its main axis
 pub record IsClose (m : ℕ) (k : Axis) (a b c : Spot) (q : Spot) : Type 0 where
   pub weight : pos 0 <ℤ q.w
   pub at_end : (h : Plane) → IsPlaneWithin m h → sgn (value_at h q) ≡ inside_side h a b c
-  pub apart : (h : Plane) → inside_side h a b c ≡ Zero → along h k ≡ pos 0 → NoNormal h
+  pub apart : (h : Plane) → inside_side h a b c ≡ Zero → along h k ≡ pos 0 → HasNoNormal h
 
 -- so is n large enough, of a path from the corner lo of a box in steps, whose reference point is shifted by 1/f
 pub record AreStops (m f : ℕ) (k : Axis) (lo : Vector) (a b c : Spot) (q : Spot) (n : ℕ) : Type 0 where
@@ -111,12 +104,12 @@ slid_last h X at = refl
 slid_last h Y at = refl
 slid_last h Z at = refl
 
-twice_level : (k : Axis) (lo : Vector) (h : Plane) → NoNormal (slid_twice_to k lo h) → along h (first_of k) ≡ pos 0
+twice_level : (k : Axis) (lo : Vector) (h : Plane) → HasNoNormal (slid_twice_to k lo h) → along h (first_of k) ≡ pos 0
 twice_level X lo h e = e.1
 twice_level Y lo h e = e.0
 twice_level Z lo h e = e.0
 
-once_level : (k : Axis) (lo : Vector) (h : Plane) → NoNormal (slid_once_to k lo h) → (along h (first_of k) ≡ pos 0) × (along h (second_of k) ≡ pos 0)
+once_level : (k : Axis) (lo : Vector) (h : Plane) → HasNoNormal (slid_once_to k lo h) → (along h (first_of k) ≡ pos 0) × (along h (second_of k) ≡ pos 0)
 once_level X lo h e = (e.1, e.2)
 once_level Y lo h e = (e.0, e.2)
 once_level Z lo h e = (e.0, e.1)
@@ -143,7 +136,7 @@ either s Pos t f g = f clash
     clash : Pos ≡ Zero → ⊥
     clash e = cc
 
-sized_normal : {m : ℕ} (h : Plane) → IsSupportWithin m h → NormalWithin (normal_limit m) h
+sized_normal : {m : ℕ} (h : Plane) → IsSupportWithin m h → HasNormalWithin (normal_limit m) h
 sized_normal h s = record { a = s.a; b = s.b; c = s.c }
 
 module _ (m f : ℕ) (k : Axis) (lo : Vector) (a b c : Spot) (q : Spot) (n : ℕ) (s : AreStops m f k lo a b c q n) where
@@ -209,7 +202,7 @@ module _ (m f : ℕ) (k : Axis) (lo : Vector) (a b c : Spot) (q : Spot) (n : ℕ
 beside : {b : ℕ} (m s : ℕ) (v n : ℤ) → Small b n → 1 ≤ s → b * s < m → sgn (pos m *ℤ v +ℤ pos s *ℤ n) ≡ or_sign (sgn v) (sgn n)
 beside {b} m s v n i ls l =
     let e = *ℤ_comm (pos m) v in let f : pos m *ℤ v +ℤ pos s *ℤ n ≡ v *ℤ pos m +ℤ pos s *ℤ n = omega (arith, linear, e) in
-    let small : Small (b * s) (pos s *ℤ n) = small_within (omega arith) (small_mul (own (pos s)) i) in
+    let small : Small (b * s) (pos s *ℤ n) = small_within (omega arith) (small_mul (own_size (pos s)) i) in
     ap sgn f ∙ next_sign m v (pos s *ℤ n) small l ∙ ap (λ (t : Sign). or_sign (sgn v) t) (sgn_scaled {c = pos s} n (omega (arith, ints)))
 
 module _ {b : ℕ} (k : Axis) (q : Spot) (h : Plane) (i : Small b (along h k)) where

@@ -18,7 +18,8 @@ LiesIn c f = Everywhere f (λ v. none_positive (map (λ w. w.plane) (walls c)) v
 -- inside of the face lies in the box
 abbrev pub AreSidesWithin : ℕ → ℕ → List Tri → Cell → List ℤ → Face → Sides → Type 0
 AreSidesWithin m f near c counts r s =
-    LiesIn c r → (scene : List Tri) → FitsWithin m f scene near c counts → IsSides scene r s.before.counts s.after.counts
+    LiesIn c r → (scene : List Tri) → FitsWithin m f scene near c counts →
+    IsSides scene r s.before.counts s.after.counts
 
 -- the same on the narrow grid
 abbrev pub AreSides : List Tri → Cell → List ℤ → Face → Sides → Type 0

@@ -150,10 +150,6 @@ pub record AreTracedBesideBy {W M : Type 0} (G : Ghosts W M) (f : ℕ) (near : L
   pub traced : AreTracedBeside f c near_triangles counts r s
 
 -- on the narrow grid
-abbrev pub AreTraced : {W M : Type 0} {G : Ghosts W M} → Cell → List (NearTriangle W M G) → List ℤ → Face → Sides →
-    Type 0
-AreTraced c ns counts r s = AreTracedBeside (2 ^ 27) c ns counts r s
-
 abbrev pub AreTracedBy : {W M : Type 0} → Ghosts W M → List Tri → Cell → List ℤ → Face → Sides → Type 0
 AreTracedBy G near c counts r s = AreTracedBesideBy G (2 ^ 27) near c counts r s
 

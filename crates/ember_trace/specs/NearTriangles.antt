@@ -1,5 +1,5 @@
 -- Triangles near a box, and counts that leave room for crossings with them
-use Rattle.std.specs.Prelude.{◌≡◌, ℕ, ◌+◌, ◌*◌, ◌^◌, ℤ, List, [], ◌∷◌, All, map}
+use Rattle.std.specs.Prelude.{◌≡◌, ℕ, ◌+◌, ◌*◌, ℤ, List, [], ◌∷◌, All, map}
 use Rattle.ember_algebra.specs.Size.{Small}
 use Rattle.ember_algebra.specs.Sign.{sgn}
 use Rattle.ember_model.specs.declared.tri.Tri.{Tri}
@@ -30,13 +30,6 @@ pub record AreNearTrianglesBeside {W M : Type 0} {G : Ghosts W M} (f : ℕ) (ts 
     (ns : List (NearTriangle W M G)) : Type 0 where
   pub tris : map tri_of ns ≡ ts
   pub reference_sides : All (HasReferenceBeside f c) ns
-
--- ---- on the narrow grid
-abbrev pub HasReference : {W M : Type 0} {G : Ghosts W M} → Cell → NearTriangle W M G → Type 0
-HasReference c n = HasReferenceBeside (2 ^ 27) c n
-
-abbrev pub AreNearTriangles : {W M : Type 0} {G : Ghosts W M} → List Tri → Cell → List (NearTriangle W M G) → Type 0
-AreNearTriangles ts c ns = AreNearTrianglesBeside (2 ^ 27) ts c ns
 
 -- ---- counts
 -- counts of a box are at most 36 * 262144 in size: a crossing with each of at most 262144 triangles of a scene for

@@ -1,6 +1,6 @@
 //! The winding numbers on both sides of a region, on each grid. README.md says how.
 //!
-//! `trace_sides` (sides.rt) makes a path to the region (path.rt, vertices.rt) and counts how often
+//! `trace_sides_on` (sides.rt) makes a path to the region (path.rt, vertices.rt) and counts how often
 //! the path crosses each near triangle (segments.rt). Most triangles are excluded by their bounding
 //! boxes (path_limits.rt). edges.rt and edge_lines.rt say behind which edges of a triangle a segment
 //! runs; reference_lines.rt knows it for all first segments, and own_triangle.rt for the region's
@@ -26,10 +26,8 @@ mod vertices;
 mod whole_rays;
 
 pub use law::slid_support_planes_are_valid;
-pub use near::{near_triangles, near_triangles_on};
+pub use near::near_triangles_on;
 pub use near_triangle::NearTriangle;
 pub use region_sides::Sides;
-pub use sides::{
-    sides_beside, sides_beside_on, sides_traced, sides_traced_on, trace_sides, trace_sides_on,
-};
-pub use whole_rays::{sides_by_rays, sides_by_rays_on, sides_whole};
+pub use sides::{sides_traced, trace_sides_on};
+pub use whole_rays::sides_whole;

@@ -2,7 +2,6 @@
 ghost use Rattle.std.specs.Prelude.{◌≡◌, All, IfOk};
 ghost use Rattle.ember_algebra.specs.Size.{Small};
 ghost use Rattle.ember_algebra.specs.Sign.{sgn};
-ghost use Rattle.ember_model.specs.Valid.{IsValidTri};
 ghost use Rattle.ember_model.specs.Within.{IsTriWithin};
 ghost use Rattle.ember_model.specs.Planes.{value_at};
 ghost use Rattle.ember_model.specs.Meshes.{HasMesh};
@@ -10,14 +9,13 @@ ghost use Rattle.ember_box.specs.Boxes.{in_steps};
 ghost use Rattle.ember_box.specs.Aabbs.{most_wall};
 ghost use Rattle.ember_ref.specs.References.{reference_of_list};
 ghost use Rattle.ember_trace.specs.Lines.{first_lines_of};
-ghost use Rattle.ember_trace.specs.NearTriangles.{AreNearTriangles, AreNearTrianglesBeside};
+ghost use Rattle.ember_trace.specs.NearTriangles.{AreNearTrianglesBeside};
 
 use crate::near_triangle::NearTriangle;
 use crate::path_limits::index_of;
 use crate::reference_lines::first_lines;
 use ember_box::{Cell, aabb_of_tri, lo_on};
-use ember_model::{OutOfMemory, Tri, main_axis, support_of};
-use ember_poly::main_edges;
+use ember_model::{OutOfMemory, Tri, main_axis, main_edges, support_of};
 use ember_ref::side_beside;
 use ember_width::{Narrow, Width};
 use std::alloc::Global;
@@ -65,17 +63,4 @@ pub fn near_triangles_on<W: Width>(
         found.push(near_triangle_of::<W>(t, lo))?;
     }
     Ok(found)
-}
-
-/// The same on the narrow grid.
-pub fn near_triangles(
-    alloc: Global,
-    near: &[Tri],
-    c: &Cell,
-) -> Result<Vec<NearTriangle>, OutOfMemory>
-    requires valid { All IsValidTri near.now }
-    requires numbered { All (HasMesh 64) near.now }
-    ensures { IfOk result (λ v. AreNearTriangles near.now c.now v.items) }
-{
-    near_triangles_on::<Narrow>(alloc, near, c)
 }

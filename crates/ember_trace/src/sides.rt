@@ -1,6 +1,6 @@
 // The sides of a region, by the crossings on the path to it.
-ghost use Rattle.std.specs.Prelude.{◌≡◌, ℕ, ◌+◌, ◌*◌, ◌^◌, ◌≤◌, All, IfOk, length, map, neg_ℤ};
-ghost use Rattle.ember_model.specs.Limits.{count_limit, most_triangles, wall_limit};
+ghost use Rattle.std.specs.Prelude.{◌≡◌, ℕ, ◌+◌, ◌*◌, ◌≤◌, All, IfOk, length, map, neg_ℤ};
+ghost use Rattle.ember_model.specs.Limits.{count_limit, most_triangles};
 ghost use Rattle.ember_algebra.specs.Size.{Small};
 ghost use Rattle.ember_model.specs.Within.{IsTriWithin};
 ghost use Rattle.ember_model.specs.Valid.{IsValidTri};
@@ -8,8 +8,8 @@ ghost use Rattle.ember_model.specs.Meshes.{HasMesh};
 ghost use Rattle.ember_law.specs.Counts.{with_more};
 ghost use Rattle.ember_box.specs.Boxes.{in_steps};
 ghost use Rattle.ember_trace.specs.Boxed.{AreSidesWithin, AreRegionSidesWithin, AreOnlySidesWithin, AreSides, AreRegionSides, AreOnlySides};
-ghost use Rattle.ember_trace.specs.NearTriangles.{AreBoxCounts, HasReferenceBeside, HasReference, AreWithinBound, tri_of};
-ghost use Rattle.ember_trace.specs.Crossings.{AreTracedBeside, AreTracedBesideBy, AreTraced, AreTracedBy};
+ghost use Rattle.ember_trace.specs.NearTriangles.{AreBoxCounts, HasReferenceBeside, AreWithinBound, tri_of};
+ghost use Rattle.ember_trace.specs.Crossings.{AreTracedBeside, AreTracedBesideBy, AreTracedBy};
 
 use crate::near::near_triangles_on;
 use crate::near_triangle::NearTriangle;
@@ -62,7 +62,7 @@ fn take_crossings(sides: &mut Sides, mesh: u32, less: &Crossings)
 /// numbers at the box's reference point, which are those at the start p of a path (path.rt). For
 /// its end q, w(p) = w(q) + the signed crossings of the path from p to q. So this subtracts from
 /// those numbers the crossings of two paths: one that ends directly before the region, and one that
-/// ends directly after it. The root of the grid ends one step past the corners.
+/// ends directly after it.
 pub fn trace_sides_on<W: Width>(
     near: &[NearTriangle<W>],
     c: &Cell,
@@ -72,7 +72,6 @@ pub fn trace_sides_on<W: Width>(
 )
     requires few { length near.now ≤ most_triangles }
     requires counts { AreBoxCounts v.now.counts }
-    requires root { 2 ^ W.scale * wall_limit ≤ W.corner + 1 }
     ensures traced { AreTracedBeside W.fine (in_steps W.scale c.now) near.now v.now.counts r.now sides.new }
     ensures sides { All (HasReferenceBeside W.fine (in_steps W.scale c.now)) near.now → AreSidesWithin W.corner W.fine
         (map tri_of near.now) (in_steps W.scale c.now) v.now.counts r.now sides.new }
@@ -89,29 +88,10 @@ pub fn trace_sides_on<W: Width>(
     }
 }
 
-/// The same on the narrow grid.
-pub fn trace_sides(near: &[NearTriangle], c: &Cell, v: &Vector, r: &Ring, sides: &mut Sides)
+// The sides of a region of a box, as `trace_sides_on` puts them.
+fn sides_beside<W: Width>(near: &[NearTriangle<W>], c: &Cell, v: &Vector, r: &Ring<W>) -> Sides
     requires few { length near.now ≤ most_triangles }
     requires counts { AreBoxCounts v.now.counts }
-    ensures traced { AreTraced c.now near.now v.now.counts r.now sides.new }
-    ensures sides { All (HasReference c.now) near.now →
-        AreSides (map tri_of near.now) c.now v.now.counts r.now sides.new }
-    ensures before { AreWithinBound (length near.now) v.now.counts sides.new.before.counts }
-    ensures after { AreWithinBound (length near.now) v.now.counts sides.new.after.counts }
-{
-    trace_sides_on(near, c, v, r, sides);
-}
-
-/// The sides of a region of a box, as `trace_sides_on` puts them. Only tests call this.
-pub fn sides_beside_on<W: Width>(
-    near: &[NearTriangle<W>],
-    c: &Cell,
-    v: &Vector,
-    r: &Ring<W>,
-) -> Sides
-    requires few { length near.now ≤ most_triangles }
-    requires counts { AreBoxCounts v.now.counts }
-    requires root { 2 ^ W.scale * wall_limit ≤ W.corner + 1 }
     ensures traced { AreTracedBeside W.fine (in_steps W.scale c.now) near.now v.now.counts r.now result }
     ensures sides { All (HasReferenceBeside W.fine (in_steps W.scale c.now)) near.now → AreSidesWithin W.corner W.fine
         (map tri_of near.now) (in_steps W.scale c.now) v.now.counts r.now result }
@@ -126,22 +106,8 @@ pub fn sides_beside_on<W: Width>(
     sides
 }
 
-/// The same on the narrow grid, as `trace_sides` puts them. Only tests call this.
-pub fn sides_beside(near: &[NearTriangle], c: &Cell, v: &Vector, r: &Ring) -> Sides
-    requires few { length near.now ≤ most_triangles }
-    requires counts { AreBoxCounts v.now.counts }
-    ensures traced { AreTraced c.now near.now v.now.counts r.now result }
-    ensures sides { All (HasReference c.now) near.now →
-        AreSides (map tri_of near.now) c.now v.now.counts r.now result }
-    ensures before { AreWithinBound (length near.now) v.now.counts result.before.counts }
-    ensures after { AreWithinBound (length near.now) v.now.counts result.after.counts }
-{
-    sides_beside_on(near, c, v, r)
-}
-
-/// The sides of a region of a box, as `sides_beside_on` gives them for the triangles near the box.
-/// Meshes are numbered from 1 to 64. Only tests call this. The only error is out-of-memory.
-pub fn sides_traced_on<W: Width>(
+// The sides of a region of a box, by the triangles near it. Meshes are numbered from 1 to 64.
+fn sides_traced_on<W: Width>(
     alloc: Global,
     near: &[Tri],
     c: &Cell,
@@ -152,7 +118,6 @@ pub fn sides_traced_on<W: Width>(
     requires numbered { All (HasMesh 64) near.now }
     requires few { length near.now ≤ most_triangles }
     requires counts { AreBoxCounts v.now.counts }
-    requires root { 2 ^ W.scale * wall_limit ≤ W.corner + 1 }
     ensures traced { IfOk result (λ s. AreTracedBesideBy W.Width W.fine
         near.now (in_steps W.scale c.now) v.now.counts r.now s) }
     ensures sides { IfOk result (λ s. AreSidesWithin W.corner W.fine
@@ -165,10 +130,11 @@ pub fn sides_traced_on<W: Width>(
     ensures after { IfOk result (λ s. AreWithinBound (length near.now) v.now.counts s.after.counts) }
 {
     let near = near_triangles_on::<W>(alloc, near, c)?;
-    Ok(sides_beside_on(near.as_slice(), c, v, r))
+    Ok(sides_beside(near.as_slice(), c, v, r))
 }
 
-/// The same on the narrow grid. Only tests call this.
+/// The sides of a region of a box, by the triangles near it. Meshes are numbered from 1 to 64. Only
+/// tests call this. The only error is out-of-memory.
 pub fn sides_traced(
     alloc: Global,
     near: &[Tri],

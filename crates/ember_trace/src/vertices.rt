@@ -1,6 +1,5 @@
 // On which sides of a plane the vertices of a path lie.
-ghost use Rattle.std.specs.Prelude.{◌≡◌, ◌≤◌, ◌+◌, ◌*◌, ◌^◌, ◌&&◌, true, length, All};
-ghost use Rattle.ember_model.specs.Limits.{wall_limit};
+ghost use Rattle.std.specs.Prelude.{◌≡◌, ◌*◌, ◌&&◌, true, All};
 ghost use Rattle.ember_algebra.specs.Size.{Small};
 ghost use Rattle.ember_model.specs.Within.{IsSupportWithin};
 ghost use Rattle.ember_point.specs.Points.{slid};
@@ -44,10 +43,8 @@ fn are_short<W: Width>(first: &W::Point, second: &W::Point, third: &W::Point) ->
     W::is_short(first) && (W::is_short(second) && W::is_short(third))
 }
 
-/// The path to the region from beside the least corner of the box. The root of the grid ends one
-/// step past the corners.
+/// The path to the region from beside the least corner of the box.
 pub fn path_to<'a, W: Width>(c: &Cell, r: &'a Ring<W>) -> Path<'a, W>
-    requires { 2 ^ W.scale * wall_limit ≤ W.corner + 1 }
     ensures { IsPathTo W.fine (in_steps W.scale c.now) r.now (path_of result) }
 {
     let main = main_axis(&support(r));

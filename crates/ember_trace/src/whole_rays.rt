@@ -86,10 +86,9 @@ fn ray_after<W: Width>(t: &Tri, k: Axis, at: &Corners<W>) -> i32
     }
 }
 
-/// The sides of a region, from the crossings of whole rays along its main axis with all triangles:
-/// the winding numbers directly before and after it. Meshes are numbered from 1 to 64.
-/// Only tests call this.
-pub fn sides_by_rays_on<W: Width>(tris: &[Tri], r: &Ring<W>) -> Sides
+// The sides of a region, from the crossings of whole rays along its main axis with all triangles:
+// the winding numbers directly before and after it. Meshes are numbered from 1 to 64.
+fn sides_by_rays_on<W: Width>(tris: &[Tri], r: &Ring<W>) -> Sides
     requires within { All (IsTriWithin W.corner) tris.now }
     requires numbered { All (HasMesh 64) tris.now }
     requires few { length tris.now ≤ most_triangles }
@@ -114,8 +113,8 @@ pub fn sides_by_rays_on<W: Width>(tris: &[Tri], r: &Ring<W>) -> Sides
     Sides { before, after }
 }
 
-/// The same on the narrow grid. Only tests call this.
-pub fn sides_by_rays(tris: &[Tri], r: &Ring) -> Sides
+// The same on the narrow grid.
+fn sides_by_rays(tris: &[Tri], r: &Ring) -> Sides
     requires valid { All IsValidTri tris.now }
     requires numbered { All (HasMesh 64) tris.now }
     requires few { length tris.now ≤ most_triangles }
@@ -127,8 +126,8 @@ pub fn sides_by_rays(tris: &[Tri], r: &Ring) -> Sides
     sides_by_rays_on::<Narrow>(tris, r)
 }
 
-/// The sides of a region, as `sides_by_rays` gives them for all triangles of the scene. Only tests
-/// call this. It never fails.
+/// The sides of a region, from the crossings of whole rays along its main axis with all triangles of
+/// the scene: the winding numbers directly before and after it. Only tests call this. It never fails.
 pub fn sides_whole(_alloc: Global, s: &Scene, r: &Ring) -> Result<Sides, OutOfMemory>
     ensures ray_counts { IfOk result (λ x. AreRayCounts s.now.tris r.now x) }
     ensures sides { IfOk result (λ x. IsSides s.now.tris r.now x.before.counts x.after.counts) }

@@ -5,4 +5,4 @@ mod part;
 mod tree;
 
 pub use part::Part;
-pub use tree::{OutOfMemory, merge};
+pub use tree::merge;

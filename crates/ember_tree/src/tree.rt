@@ -5,9 +5,6 @@ ghost use Rattle.ember_tree.specs.Order.{tree_key, IsMerged};
 use crate::Part;
 use std::alloc::{AllocError, Global};
 
-/// The out-of-memory error.
-pub type OutOfMemory = AllocError;
-
 // The sort key of a path: the path shifted left until its highest bit is bit 63.
 fn sort_key(path: u64) -> u64
     ensures { result ≡ tree_key path }
@@ -21,7 +18,7 @@ fn sort_key(path: u64) -> u64
 /// The items in the order of the tree, left half first. If no path, read as binary digits, is the
 /// beginning of another one, the result doesn't depend on the order of the parts. The paths of a
 /// run's leaves are such. The only error is out-of-memory.
-pub fn merge<I: Drop>(alloc: Global, parts: Vec<Part<I>>) -> Result<Vec<I>, OutOfMemory>
+pub fn merge<I: Drop>(alloc: Global, parts: Vec<Part<I>>) -> Result<Vec<I>, AllocError>
     ensures { IfOk result (λ v. IsMerged parts.items v.items) }
 {
     let mut sorted = parts;

@@ -12,7 +12,7 @@ use Rattle.ember_model.specs.Meshes.{vector}
 use Rattle.ember_verdict.specs.declared.status.Status.{Status}
 use Rattle.ember_verdict.specs.declared.status.Status.TheVariants.{Done, Words, ReadFault, WriteFault, NotClear}
 use Rattle.ember_verdict.specs.Outputs.{Counts, counts_text}
-use Rattle.ember_verdict.specs.Devices.{ShelfCall}
+use Rattle.ember_io.specs.Calls.{ShelfCall}
 use Rattle.ember_verdict.specs.Held.{MayHold}
 use Rattle.ember_verdict.specs.NoReplies.{IsAfterFiles, IsNoReply}
 use Rattle.ember_verdict.specs.Statuses.{IsRefusal, IsText, is_refusal}

@@ -16,7 +16,6 @@ pub mod SceneVerdicts
 pub mod SolidVerdicts
 pub mod ReadBack
 pub mod FaceLists
-pub mod OneReading
 pub mod ClosedMeshes
 pub mod SolidFiles
 pub mod SliceFaults

@@ -4,7 +4,7 @@ use Rattle.std.specs.declared.option.Option.{Option}
 use Rattle.ember_balance.specs.Loose.{loose_of}
 use Rattle.ember_balance.specs.declared.loose.Loose.{Loose}
 use Rattle.ember_io.specs.Causes.{HasRisen}
-use Rattle.ember_io.specs.Shelves.{TellsMore}
+use Rattle.ember_io.specs.Shelves.{TellsMore, AreBytes}
 use Rattle.ember_mesh.specs.declared.fault.MeshFault.TheVariants.{Unbalanced}
 use Rattle.ember_model.specs.declared.tri.Tri.{Tri}
 use Rattle.ember_obj.specs.declared.fault.ObjFault.{ObjFault}
@@ -13,8 +13,8 @@ use Rattle.ember_obj.specs.ReadObj.{read_obj_of}
 use Rattle.ember_verdict.specs.declared.status.LimitKind.TheVariants.{Bytes}
 use Rattle.ember_verdict.specs.declared.status.Status.{Status}
 use Rattle.ember_verdict.specs.declared.status.Status.TheVariants.{ReadFault, ObjRefused, MeshRefused, Limit, OutOfMemory}
-use Rattle.ember_verdict.specs.Devices.{ShelfCall, HasShelfFailed}
-use Rattle.ember_verdict.specs.Held.{AreBytes, MayHoldOne}
+use Rattle.ember_io.specs.Calls.{ShelfCall, HasShelfFailed}
+use Rattle.ember_verdict.specs.Held.{MayHoldOne}
 use Rattle.ember_verdict.specs.NoReplies.{IsNoFile}
 use Rattle.ember_verdict.specs.Verdict.{Verdict, Refused, after_balance, after_bytes, after_file, after_mesh, after_triangles}
 use Rattle.ember_verdict.proofs.ErrTexts.{has_risen_later}

@@ -9,7 +9,7 @@ use Rattle.ember_model.specs.declared.tri.Tri.{Tri}
 use Rattle.ember_obj.specs.declared.fault.ObjFault.{ObjFault}
 use Rattle.ember_obj.specs.declared.fault.ObjFault.TheVariants as obj
 use Rattle.ember_verdict.specs.Statuses.{IsRefusal, IsRefusalIfTold, hides_memory, is_before_files, is_refusal, refused_file}
-use Rattle.ember_verdict.specs.Devices.{ShelfCall}
+use Rattle.ember_io.specs.Calls.{ShelfCall}
 use Rattle.ember_verdict.specs.Held.{MayHold}
 use Rattle.ember_verdict.specs.NoReplies.{IsAfterFiles, IsOfExpression, IsNoScene, IsNoReply, IsNoReplyToExpression, with_others}
 use Rattle.ember_verdict.specs.Verdict.{Contents, Verdict, Unknown, Refused, after_scene, first_told}
@@ -216,27 +216,6 @@ expression_is_no_reply after next places m names shelf status count no_reply =
           (sym (expression_refuses after next places m status no_reply r contents (l ∙ count))) refl);
       before_files = λ b. expression_refuses after next places m status no_reply (before_is_refusal status b)
           (first_told 0 contents) (length_told 0 contents ∙ all);
-      in_file = λ i e. absurd (expression_no_file status i kind e);
-      one_of = λ i e. absurd (expression_no_file status i kind e);
-      read_fault = λ i e. absurd (subst (λ (status : Status). IsOfExpression status) e kind);
-      nothing_before = λ i e. absurd (subst (λ (status : Status). IsOfExpression status) e kind);
-      memory = expression_memory status kind;
-      never = (
-        λ e. subst (λ (status : Status). IsOfExpression status) e kind,
-        λ e. subst (λ (status : Status). IsOfExpression status) e kind,
-        λ e. subst (λ (status : Status). IsOfExpression status) e kind,
-      );
-    }
-
--- so is one of a command without files
-pub expression_alone_is_no_reply : (verdict : Verdict) (names : List (List ℕ)) (shelf : ShelfCall) (status : Status) →
-    IsNoReplyToExpression verdict status → IsNoReply (λ contents. verdict) names shelf status
-expression_alone_is_no_reply verdict names shelf status no_reply =
-    let kind = no_reply.of_expression in
-    record {
-      refused = λ r. held_always shelf.told names (λ contents. IsRefusal status verdict)
-          (λ contents l. subst (λ (v : Verdict). IsRefusal status v) (sym (no_reply.refused r)) refl);
-      before_files = λ b. no_reply.refused (before_is_refusal status b);
       in_file = λ i e. absurd (expression_no_file status i kind e);
       one_of = λ i e. absurd (expression_no_file status i kind e);
       read_fault = λ i e. absurd (subst (λ (status : Status). IsOfExpression status) e kind);

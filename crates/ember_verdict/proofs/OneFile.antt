@@ -7,10 +7,11 @@ use Rattle.ember_verdict.specs.declared.status.Status.{Status}
 use Rattle.ember_verdict.specs.declared.status.Status.TheVariants.{Done, Words, ReadFault, WriteFault, ObjRefused}
 use Rattle.ember_verdict.specs.declared.status.Status.TheVariants.{MeshRefused, ExprRefused, Unbounded, Limit, NotClear}
 use Rattle.ember_verdict.specs.declared.status.Status.TheVariants.{FaceRefused, OutOfMemory}
-use Rattle.ember_verdict.specs.Devices.{ShelfCall, HasShelfFailed}
+use Rattle.ember_io.specs.Calls.{ShelfCall, HasShelfFailed}
+use Rattle.ember_io.specs.Shelves.{AreBytes, IsFileIn}
 use Rattle.ember_verdict.specs.FaceTexts.{IsFaceFileOf}
-use Rattle.ember_verdict.specs.Held.{AreBytes, MayHold, MayHoldOne}
-use Rattle.ember_verdict.specs.NoReplies.{IsFileIn, IsNoFile, IsNoReply, with_others}
+use Rattle.ember_verdict.specs.Held.{MayHold, MayHoldOne}
+use Rattle.ember_verdict.specs.NoReplies.{IsNoFile, IsNoReply, with_others}
 use Rattle.ember_verdict.specs.Outputs.{FaceTexts}
 use Rattle.ember_verdict.specs.Slices.{IsSlice, IsSliceRefusal}
 use Rattle.ember_verdict.specs.Statuses.{IsRefusal, IsRefusalIfTold, IsText, hides_memory, is_refusal, refused_file}

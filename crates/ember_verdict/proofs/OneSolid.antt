@@ -18,6 +18,7 @@ use Rattle.ember_model.specs.declared.face.Face.{Face}
 use Rattle.ember_model.specs.declared.point.Axis.TheVariants.{X, Y}
 use Rattle.ember_model.specs.declared.point.Spot.{Spot}
 use Rattle.ember_model.specs.declared.tri.Tri.{Tri}
+use Rattle.ember_reread.proofs.OneReading.{one_reading}
 use Rattle.ember_report.specs.Runs.{run_report}
 use Rattle.ember_ref.proofs.ClearReferences.{clear_references}
 use Rattle.ember_ref.proofs.ReferenceLegs.{weight_at}
@@ -32,7 +33,6 @@ use Rattle.ember_verdict.specs.Outputs.{Counts, IsOutput, count_lines}
 use Rattle.ember_verdict.specs.Slices.{IsSlice}
 use Rattle.ember_verdict.specs.Solids.{IsSolidFile}
 use Rattle.ember_verdict.proofs.ClearFaces.{clear_faces}
-use Rattle.ember_verdict.proofs.OneReading.{one_reading}
 use Rattle.ember_verdict.proofs.OneTexts.{solid_one}
 
 module _ (tris : List Tri) (formula : Formula) (file : List ℕ) (is : IsSolidFile tris formula file) where

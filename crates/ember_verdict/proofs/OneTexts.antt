@@ -16,6 +16,7 @@ use Rattle.ember_report.specs.Runs.{run_report}
 use Rattle.ember_meaning.specs.Regions.Solids.{IsSolidText}
 use Rattle.ember_report.specs.Reports.{report_line_of}
 use Rattle.ember_reread.proofs.OneOutline.{text_one, texts_one}
+use Rattle.ember_reread.proofs.OneReading.{one_reading}
 use Rattle.ember_slice.specs.Segments.{IsSliceText}
 use Rattle.ember_slice.proofs.OneAnswer as slices
 use Rattle.ember_text.specs.Documents.{IsDocumentText, written_face}
@@ -28,7 +29,6 @@ use Rattle.ember_verdict.specs.Outputs.{Output, FaceTexts, Counts, MeetingPairs,
 use Rattle.ember_verdict.specs.PairLists.{IsPairsText}
 use Rattle.ember_verdict.specs.Slices.{IsSlice}
 use Rattle.ember_verdict.specs.Solids.{IsReportText}
-use Rattle.ember_verdict.proofs.OneReading.{one_reading}
 
 -- ---- solids
 document_one : (faces : List Face) (one other : List ℕ) → IsDocumentText faces one → IsDocumentText faces other → one ≡ other

@@ -10,11 +10,11 @@ use Rattle.ember_model.specs.declared.tri.Tri.{Tri}
 use Rattle.ember_model.specs.declared.face.Face.{Face}
 use Rattle.ember_model.specs.Planes.{support_of}
 use Rattle.ember_model.specs.Faces.{is_flat, face_of}
-use Rattle.ember_model.specs.FaceFiles.{WrittenFace, IsWrittenFace}
+use Rattle.ember_model.specs.FaceFiles.{WrittenFace, IsWrittenFace, written_lines}
 use Rattle.ember_poly.proofs.OwnOutline.{outline_is_its_own}
 use Rattle.ember_poly.proofs.TriangleOutline.{triangle_outline}
 use Rattle.ember_text.specs.Texts.{IsTextInRange}
-use Rattle.ember_verdict.specs.FaceTexts.{ReadsBack, written_lines, written_face}
+use Rattle.ember_verdict.specs.FaceTexts.{ReadsBack, written_face}
 
 -- no faces are read back from no text
 pub nothing_back : ReadsBack [] []

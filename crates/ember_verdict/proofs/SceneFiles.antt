@@ -16,10 +16,11 @@ use Rattle.ember_verdict.specs.declared.status.Status.{Status}
 use Rattle.ember_verdict.specs.declared.status.LimitKind.TheVariants.{Triangles}
 use Rattle.ember_verdict.specs.declared.status.Status.TheVariants.{Done, Words, ReadFault, WriteFault, Limit}
 use Rattle.ember_verdict.specs.Statuses.{IsRefusal, IsRefusalIfTold, is_refusal}
-use Rattle.ember_verdict.specs.Devices.{ShelfCall}
+use Rattle.ember_io.specs.Calls.{ShelfCall}
+use Rattle.ember_io.specs.Shelves.{IsFileIn}
 use Rattle.ember_verdict.specs.Held.{AreContentsOf, MayHold, MayHoldOne}
 use Rattle.ember_verdict.specs.Scenes.{HasParts}
-use Rattle.ember_verdict.specs.NoReplies.{IsAfterFiles, IsFileIn, IsNoFile, IsNoScene, with_others}
+use Rattle.ember_verdict.specs.NoReplies.{IsAfterFiles, IsNoFile, IsNoScene, with_others}
 use Rattle.ember_verdict.specs.Verdict.{Contents, Verdict, Unknown, Refused, after_balance, after_file, after_files, after_mesh}
 use Rattle.ember_verdict.specs.Verdict.{after_scene, after_total, first_told}
 use Rattle.ember_verdict.proofs.HeldContents.{contents_count, contents_joined, held_one_then, held_one_told, held_then}
@@ -80,15 +81,6 @@ HaveParts places told names parts = MayHold told names (λ contents. HasParts pl
 
 held_count : (told : List ℕ → Option (List ℕ)) (names contents : List (List ℕ)) → AreContentsOf told names contents → length (map Some contents) ≡ length names
 held_count told names contents are = length-map contents Some ∙ contents_count told names contents are
-
--- no file
-pub no_held_parts : (places : ℕ) (told : List ℕ → Option (List ℕ)) (files : List (List ℕ)) (parts : List Closed) →
-    parts ≡ [] → HaveParts places told (take 0 files) parts
-no_held_parts places told files parts e = subst (λ (parts : List Closed). HaveParts places told (take 0 files) parts) (sym e) (none files)
-  where
-    none : (files : List (List ℕ)) → HaveParts places told (take 0 files) []
-    none [] = ([], tt, record { count = refl; numbered = tt; same = λ more next. refl })
-    none (file ∷ files) = ([], tt, record { count = refl; numbered = tt; same = λ more next. refl })
 
 one_more_held : (places : ℕ) (told : List ℕ → Option (List ℕ)) (names : List (List ℕ)) (name : List ℕ)
     (parts : List Closed) (part : Closed) → HaveParts places told names parts →

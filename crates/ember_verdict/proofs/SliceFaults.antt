@@ -11,6 +11,7 @@ use Rattle.ember_model.specs.declared.face.Face.{Face}
 use Rattle.ember_model.specs.declared.plane.Plane.{Plane}
 use Rattle.ember_model.specs.declared.point.Spot.{Spot}
 use Rattle.ember_model.proofs.SignTests.{clash}
+use Rattle.ember_reread.proofs.OneReading.{one_reading}
 use Rattle.ember_slice.specs.Lines.{IsFlat, is_before, is_on_line}
 use Rattle.ember_slice.specs.Segments.{Directed, GivesSegments, GivesNone, IsUnboundedBack, IsUnboundedAhead, IsEndless}
 use Rattle.ember_slice.specs.Segments.{IsFirstEndless, IsSegment, IsSliceText, is_cut}
@@ -20,7 +21,6 @@ use Rattle.ember_slice.proofs.Orders.{not_both}
 use Rattle.ember_verdict.specs.declared.status.FaceFault.{FaceFault}
 use Rattle.ember_verdict.specs.declared.status.FaceFault.TheVariants.{Form, Endless}
 use Rattle.ember_verdict.specs.Slices.{IsFaceFault, IsSlice, IsSliceable}
-use Rattle.ember_verdict.proofs.OneReading.{one_reading}
 
 -- ---- a face is endless or gives a segment
 point_on : (n : Plane) (at : ℤ) → (IsFlat n → ⊥) → (v : Spot) × (is_on_line n at v ≡ true)

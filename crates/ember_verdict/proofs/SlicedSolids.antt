@@ -2,13 +2,13 @@
 use Rattle.std.proofs.Common.{◌≡◌, ◌⊎◌, inl, inr, ℕ, suc, Bool, true, false, List, [], ◌∷◌, ◌++◌, map, length, ℤ, pos, neg_ℤ}
 use Rattle.std.proofs.Common.{◌+ℤ◌, ◌-ℤ◌, ◌*ℤ◌, ◌<ℤ◌, ◌≤ℤ◌, refl, sym, ap, ◌∙◌, arith}
 use Rattle.std.specs.List.{All, range_with_len}
-use Rattle.std.specs.Prelude.{flat_map, slice_get, Some}
+use Rattle.std.specs.Prelude.{flat_map}
 use Rattle.std.proofs.lemmas.List.Concat.{flat_map-cons}
 use Rattle.std.proofs.lemmas.List.Elements.{All-cons, All-nil}
 use Rattle.ember_algebra.specs.Relations.{Each, none, more, Every}
 use Rattle.ember_algebra.proofs.Laws.{linear}
 use Rattle.ember_algebra.proofs.Order.{by_sign, mul_le, square_nonneg}
-use Rattle.ember_algebra.proofs.Relations.{every_unit}
+use Rattle.ember_algebra.proofs.Relations.{every_unit, every_from}
 use Rattle.ember_algebra.proofs.Ring.{num, neg, ◌⊕◌, ◌⊖◌, ◌⊗◌, ◌≈◌, solve, cancels}
 use Rattle.ember_expr.specs.Formula.{Formula}
 use Rattle.ember_expr.specs.Truth.{truth}
@@ -20,10 +20,9 @@ use Rattle.ember_leaf.specs.KeptRegions.{NarrowKept as Kept}
 use Rattle.ember_leaf.specs.Scenes.{LeafGives, regions, nothing, IsWritten}
 use Rattle.ember_leaf.specs.Written.{IsWrittenOfRegion, unowned, same_value, written, IsWrittenOf, regional, hidden, front}
 use Rattle.ember_leaf.proofs.WallClips.{each_every}
-use Rattle.ember_meaning.proofs.FlippedFaces.{inside-turned}
 use Rattle.ember_meaning.specs.Closed.Chains.{face_from}
 use Rattle.ember_model.specs.Faces.{is_inside}
-use Rattle.ember_model.specs.FaceFiles.{WrittenFace, IsWrittenFace, IsFaceFile, face_lines, header, ending}
+use Rattle.ember_model.specs.FaceFiles.{WrittenFace, IsWrittenFace, IsFaceFile, header, ending, written_lines}
 use Rattle.ember_model.specs.declared.face.Face.{Face}
 use Rattle.ember_model.specs.declared.plane.Plane.{Plane}
 use Rattle.ember_model.specs.declared.point.Spot.{Spot}
@@ -41,6 +40,7 @@ use Rattle.ember_trace.specs.Boxed.{IsRegion}
 use Rattle.ember_trace.proofs.BoxedRegions.{every_at, regions_lie_in}
 use Rattle.ember_trace.proofs.TracedSides.{in_box}
 use Rattle.std.proofs.lemmas.Bool.{and_parts}
+use Rattle.ember_model.proofs.FlippedFaces.{inside-flipped}
 use Rattle.ember_verdict.specs.Slices.{IsSliceable, IsSliceRefusal}
 use Rattle.ember_verdict.specs.Solids.{IsSolidFile}
 use Rattle.ember_verdict.specs.declared.status.Status.{Status}
@@ -63,25 +63,21 @@ of_region scene x c near i face ks r (written {before = a} {after = b} o s n) =
     (record { cell = c; holds = boxed (truth (front face a b) x); filled = filled (truth (front face a b) x) }, tt)
   where
     filled : (flipped : Bool) → HasInside (oriented_face face flipped)
-    filled true = record { at = s.at; inside = inside-turned face s.at ∙ s.inside; holds = tt }
+    filled true = record { at = s.at; inside = inside-flipped face s.at ∙ s.inside; holds = tt }
     filled false = record { at = s.at; inside = s.inside; holds = tt }
 
     here : (v : Spot) → is_inside face v ≡ true → HasPoint c v
     here v h = in_box c face v (regions_lie_in c near r.tri r.index r.regions face r.are_regions r.here) h
 
     boxed : (flipped : Bool) (v : Spot) → is_inside (oriented_face face flipped) v ≡ true → HasPoint c v
-    boxed true v h = here v (sym (inside-turned face v) ∙ h)
+    boxed true v h = here v (sym (inside-flipped face v) ∙ h)
     boxed false v h = here v h
-
-at_each : {X : Type 0} (P : X → Type 0) (xs : List X) → ((j : ℕ) (x : X) → slice_get xs j ≡ Some x → P x) → Every P xs
-at_each P [] h = tt
-at_each P (x ∷ xs) h = (h 0 x refl, at_each P xs (λ j y e. h (suc j) y e))
 
 of_place : (scene : List Tri) (x : Formula) (c : Cell) (near : List Tri) (i : ℕ) (ks : List Kept) →
     IsWrittenOf scene x c near i ks → Every IsBoxed ks
 of_place scene x c near i ks (regional r) =
     each_every (IsRegion near c) IsBoxed (λ f us t w. of_region scene x c near i f us t w) r.are_written
-    (at_each (IsRegion near c) r.faces
+    (every_from (IsRegion near c) r.faces
     (λ j g e. record { tri = i; regions = r.faces; are_regions = r.are_regions; index = j; here = e }))
 of_place scene x c near i ks (hidden h) = tt
 
@@ -100,14 +96,11 @@ record LiesInBox (f : Face) : Type 0 where
   cell : Cell
   holds : (v : Spot) → is_inside f v ≡ true → HasPoint cell v
 
-abbrev lines_of : WrittenFace → List ℕ
-lines_of w = face_lines w.support w.edges
-
 -- the texts are the lines of as many written faces, each of which lies in a box
 record AreInBoxes (count : ℕ) (texts : List ℕ) : Type 0 where
   written : List WrittenFace
   well_formed : All IsWrittenFace written
-  is : texts ≡ flat_map lines_of written
+  is : texts ≡ flat_map written_lines written
   number : count ≡ length written
   boxed : Every LiesInBox (map face_from written)
 
@@ -121,7 +114,7 @@ texts_lie_in_boxes (k ∷ ks) h (more {ys = ys} {zs = zs} t ts) =
     record {
       written = w ∷ s.written;
       well_formed = All-cons IsWrittenFace w s.written t.written s.well_formed;
-      is = (λ i. t.text_is.is i ++ s.is i) ∙ sym (flat_map-cons lines_of w s.written);
+      is = (λ i. t.text_is.is i ++ s.is i) ∙ sym (flat_map-cons written_lines w s.written);
       number = ap (λ n. suc n) s.number;
       boxed = (record { cell = h.0.cell; holds = λ v i. h.0.holds v (same.inside v ∙ i) }, s.boxed);
     }

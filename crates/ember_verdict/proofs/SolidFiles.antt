@@ -14,12 +14,11 @@ use Rattle.ember_model.specs.declared.tri.Tri.{Tri}
 use Rattle.ember_model.specs.FaceFiles.{WrittenFace}
 use Rattle.ember_model.specs.Meshes.{IsScene}
 use Rattle.ember_meaning.specs.Regions.Solids.{IsSolidText}
-use Rattle.ember_reread.proofs.OneReading.{face_file_is_read_once}
+use Rattle.ember_reread.proofs.OneReading.{face_file_is_read_once, one_reading}
 use Rattle.ember_verdict.specs.declared.status.Status.TheVariants.{ExprRefused, Unbounded}
 use Rattle.ember_verdict.specs.Outputs.{SolidFaces}
 use Rattle.ember_verdict.specs.Solids.{IsSolidFile}
 use Rattle.ember_verdict.specs.Verdict.{Verdict, Unknown, Refused, Writes, after_bounded, after_parse, after_bounded_expr}
-use Rattle.ember_verdict.proofs.OneReading.{one_reading}
 use Rattle.ember_verdict.proofs.SceneVerdicts.{ExprRead}
 
 -- ---- an expression that is given is false outside

@@ -7,13 +7,14 @@ use Rattle.std.proofs.lemmas.Bool.Decides.{leb_tells}
 use Rattle.std.specs.declared.option.Option.{Option}
 use Rattle.std.specs.Result.{IsErrAnd}
 use Rattle.ember_model.specs.declared.tri.Tri.{Tri}
+use Rattle.ember_io.specs.Shelves.{AreBytes}
 use Rattle.ember_obj.specs.declared.fault.ObjFault.{ObjFault}
 use Rattle.ember_obj.specs.Table.{FileTriangles}
 use Rattle.ember_obj.specs.ReadObj.{read_obj_of}
 use Rattle.ember_verdict.specs.declared.status.LimitKind.TheVariants.{Bytes}
 use Rattle.ember_verdict.specs.declared.status.Status.{Status}
 use Rattle.ember_verdict.specs.declared.status.Status.TheVariants.{ObjRefused, Limit}
-use Rattle.ember_verdict.specs.Held.{AreBytes, MayHoldOne}
+use Rattle.ember_verdict.specs.Held.{MayHoldOne}
 use Rattle.ember_verdict.specs.Verdict.{Verdict, Unknown, Refused, Writes, Slices, after_bytes, after_file, after_triangles}
 use Rattle.ember_verdict.specs.Statuses.{IsRefusal, IsRefusalIfTold, IsText, IsTextIfTold}
 

@@ -6,8 +6,8 @@ use Rattle.ember_model.specs.declared.face.Face.{Face}
 use Rattle.ember_model.specs.declared.tri.Tri.{Tri}
 use Rattle.ember_model.specs.Edges.{RingEdge}
 use Rattle.ember_model.specs.Meshes.{faces_of}
-use Rattle.ember_model.specs.FaceFiles.{IsFaceText, IsFileText, IsFaceFile, WrittenFace, IsWrittenFace}
-use Rattle.ember_model.specs.FaceFiles.{face_lines, header}
+use Rattle.ember_model.specs.FaceFiles.{IsFaceText, IsFileText, IsFaceFile, WrittenFace, IsWrittenFace, written_lines}
+use Rattle.ember_model.specs.FaceFiles.{header}
 
 -- the bytes are the text of the triangles' faces, and a face file that holds these faces, each with its outline
 pub record IsFaceFileOf (ts : List Tri) (bytes : List ℕ) : Type 0 where
@@ -16,9 +16,6 @@ pub record IsFaceFileOf (ts : List Tri) (bytes : List ℕ) : Type 0 where
   pub outlined : All IsOutlined reads_back.written
 
 -- ---- while it grows
--- the lines of a written face, and the face that it holds
-abbrev pub written_lines : WrittenFace → List ℕ
-written_lines w = face_lines w.support w.edges
 
 -- the face whose lines these are. `face_from` of ember_meaning and `face_in` of ember_reread are the same map from a
 -- written face to a face; `written_face` of ember_text is another one, from a written region

@@ -1,14 +1,9 @@
 -- Contents that files may have, as far as a shelf tells them
-use Rattle.std.specs.Prelude.{ℕ, ◌≤◌, List, length, map, Some}
+use Rattle.std.specs.Prelude.{ℕ, List, map, Some}
 use Rattle.std.specs.declared.option.Option.{Option}
 use Rattle.std.specs.List.{AllZip}
 use Rattle.ember_io.specs.Shelves.{Tells}
 use Rattle.ember_verdict.specs.Verdict.{Contents}
-
--- the bytes that the shelf tells of a name, at most 2^28; any such bytes if it tells none
-pub record AreBytes (told : List ℕ → Option (List ℕ)) (name bytes : List ℕ) : Type 0 where
-  pub tells : Tells (told name) bytes
-  pub small : length bytes ≤ 268435456
 
 -- there are bytes of which P holds, and which a file may have of which the shelf tells this: the told bytes, or any
 -- bytes if none are told

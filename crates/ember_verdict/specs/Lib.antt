@@ -12,7 +12,6 @@ pub mod Held
 pub mod Accepted
 pub mod Statuses
 pub mod Reported
-pub mod Devices
 pub mod NoReplies
 pub mod Scenes
 pub mod OptionalExpr

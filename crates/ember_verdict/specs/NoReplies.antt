@@ -1,10 +1,11 @@
 -- Why a command has no reply
-use Rattle.std.specs.Prelude.{◌≡◌, ◌≢◌, ◌≤◌, ⊤, ℕ, ◌-◌, true, false, List, ◌++◌, length, map, take, drop, None, Some}
+use Rattle.std.specs.Prelude.{◌≡◌, ◌≢◌, ⊤, ℕ, ◌-◌, true, false, List, ◌++◌, length, map, take, drop, None, Some}
 use Rattle.std.specs.declared.option.Option.{Option}
 use Rattle.ember_model.specs.declared.tri.Tri.{Tri}
 use Rattle.ember_verdict.specs.Statuses.{IsRefusal, IsRefusalIfTold, hides_memory, is_before_files, is_refusal}
 use Rattle.ember_verdict.specs.Statuses.{refused_file}
-use Rattle.ember_verdict.specs.Devices.{ShelfCall, HasShelfFailed}
+use Rattle.ember_io.specs.Calls.{ShelfCall, HasShelfFailed}
+use Rattle.ember_io.specs.Shelves.{IsFileIn}
 use Rattle.ember_verdict.specs.Held.{MayHold, MayHoldOne}
 use Rattle.ember_verdict.specs.Verdict.{Contents, Verdict, Unknown, Refused, Refuses, after_scene, first_told}
 use Rattle.ember_verdict.specs.declared.status.Status.{Status}
@@ -26,11 +27,6 @@ pub record IsNoFile {A : Type 0} (step : Option (List ℕ) → (A → Verdict) �
       (number ≡ i) × HasShelfFailed shelf × (shelf.fault_at ≡ number)
   pub memory : hides_memory status ≡ false
   pub never : (status ≢ Done) × (status ≢ Words) × (status ≢ WriteFault)
-
--- file i, from 1, is one of the files with these names
-pub record IsFileIn (names : List (List ℕ)) (i : ℕ) : Type 0 where
-  pub first : 1 ≤ i
-  pub last : i ≤ length names
 
 -- why a command over files with these names has no reply; `verdict` is what it asks for, over any contents of them
 pub record IsNoReply (verdict : Contents → Verdict) (names : List (List ℕ)) (shelf : ShelfCall)

@@ -5,7 +5,7 @@ use Rattle.ember_words.specs.declared.command.Command.{Command}
 use Rattle.ember_words.specs.declared.command.Command.TheVariants as command
 use Rattle.ember_verdict.specs.declared.status.Status.{Status}
 use Rattle.ember_verdict.specs.declared.status.Status.TheVariants.{Done}
-use Rattle.ember_verdict.specs.Devices.{SinkCall}
+use Rattle.ember_io.specs.Calls.{SinkCall}
 use Rattle.ember_verdict.specs.Held.{MayHold}
 use Rattle.ember_verdict.specs.Lines.{line_on_err}
 use Rattle.ember_verdict.specs.Messages.{AppendsUntilFault}

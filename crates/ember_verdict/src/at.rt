@@ -9,7 +9,7 @@ ghost use Rattle.ember_model.specs.Valid.{IsValidSpot, IsValidTri};
 ghost use Rattle.ember_verdict.specs.OptionalExpr.{given_formula};
 ghost use Rattle.ember_verdict.specs.Outputs.{count_line, count_lines, counts_text, value_line, value_lines};
 ghost use Rattle.ember_verdict.specs.Statuses.{IsRefusal, IsText, is_refusal};
-ghost use Rattle.ember_verdict.specs.Devices.{shelf_call};
+ghost use Rattle.ember_io.specs.Calls.{shelf_call};
 ghost use Rattle.ember_verdict.specs.Held.{MayHold};
 ghost use Rattle.ember_verdict.specs.NoReplies.{IsAfterFiles, IsNoReply};
 ghost use Rattle.ember_verdict.specs.Verdict.{at_verdict, counts_verdict};
@@ -167,7 +167,7 @@ pub fn at_output<S: Shelf>(
         (λ contents. IsText (at_verdict point.now expr.now places contents) text.items)) }
     ensures no_reply { IfErr result
         (IsNoReply (at_verdict point.now expr.now places) files.now
-        (shelf_call S.contents S.faults S.fault_at shelf.old shelf.new)) }
+        (shelf_call S.contents S.faults S.fault_at S.fault_kind shelf.old shelf.new)) }
 {
     let files = files.items();
     let expr = match parse_given(alloc, expr, files.len() as u32) {

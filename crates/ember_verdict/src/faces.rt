@@ -4,7 +4,7 @@ ghost use Rattle.ember_model.specs.Limits.{most_triangles};
 ghost use Rattle.ember_model.specs.Valid.{IsValidTri};
 ghost use Rattle.ember_verdict.specs.FaceTexts.{AddsFace, IsFaceFileOf};
 ghost use Rattle.ember_verdict.specs.Statuses.{IsText};
-ghost use Rattle.ember_verdict.specs.Devices.{shelf_call};
+ghost use Rattle.ember_io.specs.Calls.{shelf_call};
 ghost use Rattle.ember_verdict.specs.Held.{MayHold};
 ghost use Rattle.ember_verdict.specs.NoReplies.{IsNoReply};
 ghost use Rattle.ember_verdict.specs.Verdict.{faces_verdict, file_at};
@@ -64,7 +64,7 @@ pub fn faces_output<S: Shelf>(
         (λ contents. IsText (faces_verdict places (file_at contents 1)) text.items)) }
     ensures no_reply { IfErr result
         (IsNoReply (λ contents. faces_verdict places (file_at contents 1)) (file.now ∷ [])
-        (shelf_call S.contents S.faults S.fault_at shelf.old shelf.new)) }
+        (shelf_call S.contents S.faults S.fault_at S.fault_kind shelf.old shelf.new)) }
 {
     let soup = read_file(alloc, shelf, file.as_str(), 1, places)?;
     Ok(faces_text(alloc, soup.tris.items())?)

@@ -1,8 +1,9 @@
 // The bytes and the triangles of a file. `after_x` is a step of the verdict (specs/Verdict.antt).
 ghost use Rattle.std.specs.Prelude.{◌≡◌, ◌≤◌, length, All, IfOk, IfErr};
+ghost use Rattle.ember_io.specs.Shelves.{AreBytes};
 ghost use Rattle.ember_model.specs.Limits.{most_triangles};
-ghost use Rattle.ember_verdict.specs.Devices.{shelf_call};
-ghost use Rattle.ember_verdict.specs.Held.{AreBytes, MayHoldOne};
+ghost use Rattle.ember_io.specs.Calls.{shelf_call};
+ghost use Rattle.ember_verdict.specs.Held.{MayHoldOne};
 ghost use Rattle.ember_verdict.specs.NoReplies.{IsNoFile};
 ghost use Rattle.ember_verdict.specs.Verdict.{PassesOn, after_bytes, after_file};
 
@@ -28,7 +29,7 @@ pub fn read_bytes<S: Shelf>(
     ensures later { S.faults shelf.old ≤ S.faults shelf.new }
     ensures bytes { IfOk result (λ bytes. AreBytes (S.contents shelf.old) name.now bytes.items) }
     ensures no_file { IfErr result (IsNoFile (after_bytes number) number name.now
-        (shelf_call S.contents S.faults S.fault_at shelf.old shelf.new)) }
+        (shelf_call S.contents S.faults S.fault_at S.fault_kind shelf.old shelf.new)) }
 {
     match read_all(alloc, shelf, name, number, MOST_BYTES) {
         Ok(bytes) => Ok(bytes),
@@ -57,7 +58,7 @@ pub fn read_file<S: Shelf>(
     ensures few { IfOk result (λ soup. length soup.tris ≤ most_triangles) }
     ensures mesh { IfOk result (λ soup. All (λ t. t.mesh ≡ number) soup.tris) }
     ensures no_file { IfErr result (IsNoFile (after_file places number) number name.now
-        (shelf_call S.contents S.faults S.fault_at shelf.old shelf.new)) }
+        (shelf_call S.contents S.faults S.fault_at S.fault_kind shelf.old shelf.new)) }
 {
     let bytes = read_bytes(alloc, shelf, name, number)?;
     match read_obj(alloc, &bytes, places, number) {

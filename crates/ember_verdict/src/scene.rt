@@ -5,7 +5,7 @@ ghost use Rattle.ember_mesh.specs.Joined.{AreNumbered, triangles_of};
 ghost use Rattle.ember_verdict.specs.Held.{MayHold, MayHoldOne};
 ghost use Rattle.ember_verdict.specs.Scenes.{HasParts};
 ghost use Rattle.ember_verdict.specs.Statuses.{is_refusal};
-ghost use Rattle.ember_verdict.specs.Devices.{shelf_call};
+ghost use Rattle.ember_io.specs.Calls.{shelf_call};
 ghost use Rattle.ember_verdict.specs.NoReplies.{IsAfterFiles, IsNoFile, IsNoScene};
 ghost use Rattle.ember_verdict.specs.Verdict.{PassesOn, Refuses, after_mesh, after_scene, after_total};
 
@@ -33,7 +33,7 @@ fn read_mesh<S: Shelf>(
         (λ content. PassesOn (after_mesh places number content) mesh.tris)) }
     ensures number { IfOk result (λ mesh. All (λ t. t.mesh ≡ number) mesh.tris) }
     ensures no_file { IfErr result (IsNoFile (after_mesh places number) number name.now
-        (shelf_call S.contents S.faults S.fault_at shelf.old shelf.new)) }
+        (shelf_call S.contents S.faults S.fault_at S.fault_kind shelf.old shelf.new)) }
 {
     let soup = read_file(alloc, shelf, name, number, places)?;
     // `check` tests nothing: `read_file` has counted the triangles. `balanced` is the test.
@@ -60,7 +60,7 @@ fn read_parts<S: Shelf>(
     ensures parts { IfOk result (λ parts. MayHold (S.contents shelf.old) files.now
         (λ contents. HasParts places contents parts.items)) }
     ensures no_reply { IfErr result
-        (IsNoScene places files.now (shelf_call S.contents S.faults S.fault_at shelf.old shelf.new)) }
+        (IsNoScene places files.now (shelf_call S.contents S.faults S.fault_at S.fault_kind shelf.old shelf.new)) }
 {
     let mut parts = Vec::new(alloc);
     let mut number = 1;
@@ -117,7 +117,7 @@ pub fn read_scene<S: Shelf>(
         (λ contents. PassesOn (after_scene places contents) scene.tris)) }
     ensures meshes { IfOk result (λ scene. scene.meshes ≡ length files.now) }
     ensures no_reply { IfErr result
-        (IsNoScene places files.now (shelf_call S.contents S.faults S.fault_at shelf.old shelf.new)) }
+        (IsNoScene places files.now (shelf_call S.contents S.faults S.fault_at S.fault_kind shelf.old shelf.new)) }
 {
     let parts = read_parts(alloc, shelf, files, places)?;
     join_parts(alloc, parts)

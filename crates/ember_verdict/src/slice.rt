@@ -4,7 +4,7 @@ ghost use Rattle.ember_model.specs.Limits.{most_bytes, narrow_limit};
 ghost use Rattle.ember_model.specs.FaceFiles.{IsFaceFile};
 ghost use Rattle.ember_model.specs.Valid.{IsValidFace};
 ghost use Rattle.ember_verdict.specs.Statuses.{IsText, is_refusal};
-ghost use Rattle.ember_verdict.specs.Devices.{shelf_call};
+ghost use Rattle.ember_io.specs.Calls.{shelf_call};
 ghost use Rattle.ember_verdict.specs.Held.{MayHold};
 ghost use Rattle.ember_verdict.specs.NoReplies.{IsNoReply};
 ghost use Rattle.ember_verdict.specs.Slices.{IsSlice, IsSliceRefusal};
@@ -13,7 +13,8 @@ ghost use Rattle.ember_verdict.specs.Verdict.{file_at, slice_verdict};
 use crate::reading::read_bytes;
 use crate::status::{FaceFault, Status};
 use ember_io::Shelf;
-use ember_reread::{FaceList, RereadFault, read_faces};
+use ember_model::FaceList;
+use ember_reread::{RereadFault, read_faces};
 use ember_slice::{SliceFault, slice_text};
 use ember_words::Text;
 use std::alloc::Global;
@@ -88,7 +89,7 @@ pub fn slice_output<S: Shelf>(
         (λ contents. IsText (slice_verdict at (file_at contents 1)) text.items)) }
     ensures no_reply { IfErr result
         (IsNoReply (λ contents. slice_verdict at (file_at contents 1)) (file.now ∷ [])
-        (shelf_call S.contents S.faults S.fault_at shelf.old shelf.new)) }
+        (shelf_call S.contents S.faults S.fault_at S.fault_kind shelf.old shelf.new)) }
 {
     let bytes = match read_bytes(alloc, shelf, file.as_str(), 1) {
         Ok(bytes) => bytes,

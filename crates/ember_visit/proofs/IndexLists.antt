@@ -33,11 +33,6 @@ all_listed P ts is a within = All-map P (λ i. tri_at ts i) is
 pub numbered_less : (n : ℕ) (ts : List Tri) → n ≤ 64 → All (HasMesh n) ts → All (HasMesh 64) ts
 numbered_less n ts le a = All-weaker (HasMesh n) (HasMesh 64) (λ t h. record { first = h.first; last = omega (arith, h.last, le) }) ts a
 
--- a scene may have 64 meshes
-pub of_64 : (ts : List Tri) (n : ℕ) → IsScene ts n → IsScene ts 64
-of_64 ts n s =
-    record { valid = s.valid; few = s.few; few_meshes = omega arith; numbered = numbered_less n ts s.few_meshes s.numbered; balanced = s.balanced }
-
 -- and is one within the narrow limit
 pub scene_within : (ts : List Tri) (n : ℕ) → IsScene ts n → IsSceneWithin narrow_limit ts 64
 scene_within ts n s =

@@ -64,6 +64,3 @@ right_job ts j k = right_job_on 0 (2 ^ 27) ts j k
 
 abbrev pub AreHalfJobs : List Tri → Job → Axis → Job → Job → Type 0
 AreHalfJobs ts j k left right = AreHalfJobsOn 0 (2 ^ 27) ts j k left right
-
-abbrev pub IsHalvedUnlessLeaf : List Tri → Job → Option (Job × Job) → Type 0
-IsHalvedUnlessLeaf ts j halves = IsHalvedUnlessLeafOn 0 (2 ^ 27) ts j halves

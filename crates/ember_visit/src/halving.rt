@@ -7,7 +7,7 @@ ghost use Rattle.ember_model.specs.Within.{IsTriWithin};
 ghost use Rattle.ember_box.specs.Near.{listed};
 ghost use Rattle.ember_law.specs.Counts.{HasRoom};
 ghost use Rattle.ember_box.specs.Halved.{AreNearListsOn};
-ghost use Rattle.ember_visit.specs.Jobs.{AreHalfJobs, AreHalfJobsOn, IsHalvedUnlessLeaf, IsHalvedUnlessLeafOn};
+ghost use Rattle.ember_visit.specs.Jobs.{AreHalfJobs, AreHalfJobsOn, IsHalvedUnlessLeafOn};
 
 use ember_box::{HalvedBox, halve_box_among, halves, near_halves};
 use ember_job::{Job, Numbers};
@@ -101,18 +101,4 @@ pub fn halve_unless_leaf_among<W: Width>(
             Ok(Some(jobs_of::<W>(tris, job, axis, left, right)))
         }
     }
-}
-
-/// The same as `halve_unless_leaf_among`, for the triangles of a scene.
-pub fn halve_unless_leaf(
-    alloc: Global,
-    s: &Scene,
-    job: &Job,
-) -> Result<Option<(Job, Job)>, OutOfMemory>
-    requires places { All (λ i. i < length s.now.tris) job.now.list }
-    requires few { length job.now.list ≤ most_triangles }
-    requires room { HasRoom job.now.at.counts }
-    ensures { IfOk result (λ r. IsHalvedUnlessLeaf s.now.tris job.now r) }
-{
-    halve_unless_leaf_among::<Narrow>(alloc, s.tris.items(), job)
 }

@@ -8,7 +8,7 @@ mod law;
 mod start;
 mod value;
 
-pub use halving::{halve_job, halve_unless_leaf, halve_unless_leaf_among, listed_tris};
+pub use halving::{halve_job, halve_unless_leaf_among, listed_tris};
 pub use law::{halves_of_a_job_are_jobs, known_values_are_true};
 pub use start::{root_job, root_job_among};
 pub use value::{box_value, box_value_among};

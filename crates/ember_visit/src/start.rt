@@ -1,5 +1,5 @@
 // The job at which a run begins.
-ghost use Rattle.std.specs.Prelude.{◌≡◌, ◌≤◌, ◌+◌, ◌*◌, ◌^◌, IfOk};
+ghost use Rattle.std.specs.Prelude.{◌≡◌, IfOk};
 ghost use Rattle.std.specs.List.{range_with_len};
 ghost use Rattle.ember_model.specs.Limits.{most_meshes};
 ghost use Rattle.ember_width.specs.Scenes.{IsSceneWithin};
@@ -24,11 +24,10 @@ fn numbers_below(alloc: Global, count: u32) -> Result<Vec<u32>, OutOfMemory>
 }
 
 /// The job of the root box, for the triangles of a scene on a grid: the triangles near the root, and
-/// all winding numbers 0, since its reference point is outside all meshes. The root of the grid ends
-/// one step past the corners. The only error is out-of-memory.
+/// all winding numbers 0, since its reference point is outside all meshes. The only error is
+/// out-of-memory.
 pub fn root_job_among<W: Width>(alloc: Global, tris: &[Tri]) -> Result<Job, OutOfMemory>
-    requires scene { IsSceneWithin W.corner tris.now most_meshes }
-    requires root { 2 ^ W.scale * 2048 ≤ W.corner + 1 }
+    requires { IsSceneWithin W.corner tris.now most_meshes }
     ensures value { IfOk result (λ job. job ≡ jobs.root_job_on W.scale tris.now) }
     ensures valid { IfOk result (λ job. IsJobOn W.scale W.fine tris.now job) }
 {

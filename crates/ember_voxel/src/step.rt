@@ -11,8 +11,8 @@ ghost use Rattle.ember_voxel.specs.Fills.{IsFill};
 use crate::fill::Fill;
 use ember_box::Cell;
 use ember_expr::{Expr, value};
-use ember_job::{Job, OneItem, OutOfMemory, Outcome, Work};
-use ember_model::{Axis, Scene};
+use ember_job::{Job, OneItem, Outcome, Work};
+use ember_model::{Axis, OutOfMemory, Scene};
 use ember_visit::{box_value, halve_job};
 use std::alloc::Global;
 

@@ -10,6 +10,7 @@ use Rattle.ember_algebra.proofs.Order.{cancel_lt}
 use Rattle.ember_algebra.proofs.Ring.{◌⊕◌, ◌⊗◌, ◌≈◌, num, neg, solve, cancels}
 use Rattle.ember_algebra.specs.declared.Sign.TheVariants.{Neg}
 use Rattle.ember_algebra.specs.Sign.{sgn}
+use Rattle.ember_algebra.proofs.Numbers.{int_lt_in, int_lt_not}
 use Rattle.ember_width.specs.Broad.{IsRemainder, IsPlace, IsInRoot, most_floor}
 use Rattle.ember_width.specs.RootFloors.{moved_within}
 
@@ -54,25 +55,20 @@ kept_place q r w p s =
     floor_is (q *ℤ w +ℤ r) q w p (omega (arith, linear, e, s.at_least)) (omega (arith, linear, e, s.below))
 
 -- ---- numbers moved into the root
-less_is : (a b : ℤ) → a <ℤ b → int_lt a b ≡ true
-less_is a b l = grind (arith, ints)
-
-not_less_is : (a b : ℤ) → b ≤ℤ a → int_lt a b ≡ false
-not_less_is a b l = grind (arith, ints)
 
 -- what lies within stays
 pub moved_inside : (h z : ℤ) → neg_ℤ h ≤ℤ z → z ≤ℤ h → moved_within h z ≡ z
 moved_inside h z a b =
-    (λ i. cond (not_less_is z (neg_ℤ h) a i) (neg_ℤ h) (cond (int_lt h z) h z)) ∙ (λ i. cond (not_less_is h z b i) h z)
+    (λ i. cond (int_lt_not z (neg_ℤ h) a i) (neg_ℤ h) (cond (int_lt h z) h z)) ∙ (λ i. cond (int_lt_not h z b i) h z)
 
 -- what lies below moves to the lower end
 pub moved_up : (h z : ℤ) → z <ℤ neg_ℤ h → moved_within h z ≡ neg_ℤ h
-moved_up h z l = λ i. cond (less_is z (neg_ℤ h) l i) (neg_ℤ h) (cond (int_lt h z) h z)
+moved_up h z l = λ i. cond (int_lt_in z (neg_ℤ h) l i) (neg_ℤ h) (cond (int_lt h z) h z)
 
 -- what lies above moves to the upper end
 pub moved_down : (h z : ℤ) → neg_ℤ h ≤ℤ z → h <ℤ z → moved_within h z ≡ h
 moved_down h z a l =
-    (λ i. cond (not_less_is z (neg_ℤ h) a i) (neg_ℤ h) (cond (int_lt h z) h z)) ∙ (λ i. cond (less_is h z l i) h z)
+    (λ i. cond (int_lt_not z (neg_ℤ h) a i) (neg_ℤ h) (cond (int_lt h z) h z)) ∙ (λ i. cond (int_lt_in h z l i) h z)
 
 -- ---- coordinates outside of the root
 pub not_below_nil : (z : ℤ) → (sgn z ≡ Neg → ⊥) → pos 0 ≤ℤ z

@@ -1,7 +1,8 @@
 -- How large planes with fixed coordinates are.
-use Rattle.std.proofs.Common.{ℕ, zero, suc, ◌+◌, ◌*◌, ◌≤◌, ℤ, pos, arith}
+use Rattle.std.proofs.Common.{ℕ, zero, suc, ◌+◌, ◌*◌, ◌≤◌, ℤ, arith}
 use Rattle.ember_algebra.specs.Size.{Small}
 use Rattle.ember_algebra.proofs.Size.{small_within, small_mul, small_sub}
+use Rattle.ember_algebra.proofs.Exact.{small_zero}
 use Rattle.ember_model.specs.declared.plane.Plane.{Plane}
 use Rattle.ember_model.specs.declared.point.Axis.{Axis}
 use Rattle.ember_model.specs.declared.point.Axis.TheVariants.{X, Y, Z}
@@ -15,14 +16,11 @@ record IsSized (n most : ℕ) (p : Plane) : Type 0 where
   c : Small n p.c
   d : Small most p.d
 
-nil : (n : ℕ) → Small n (pos 0)
-nil n = record { small = omega arith }
-
 -- a slide keeps the normal's sizes, and adds an entry times the place to the constant's
 slid_sized : {n d h : ℕ} {p : Plane} {s : ℤ} (k : Axis) → IsSized n d p → Small h s → IsSized n (d + n * h) (slid p k s)
-slid_sized {n} X q t = record { a = nil n; b = q.b; c = q.c; d = small_sub q.d (small_mul q.a t) }
-slid_sized {n} Y q t = record { a = q.a; b = nil n; c = q.c; d = small_sub q.d (small_mul q.b t) }
-slid_sized {n} Z q t = record { a = q.a; b = q.b; c = nil n; d = small_sub q.d (small_mul q.c t) }
+slid_sized {n} X q t = record { a = small_zero n; b = q.b; c = q.c; d = small_sub q.d (small_mul q.a t) }
+slid_sized {n} Y q t = record { a = q.a; b = small_zero n; c = q.c; d = small_sub q.d (small_mul q.b t) }
+slid_sized {n} Z q t = record { a = q.a; b = q.b; c = small_zero n; d = small_sub q.d (small_mul q.c t) }
 
 support_is_sized : {m : ℕ} {p : Plane} → IsSupportWithin m p → IsSized (normal_limit m) (12 * (m * (m * m))) p
 support_is_sized s = record { a = s.a; b = s.b; c = s.c; d = s.d }

@@ -1,11 +1,11 @@
 -- The laws of both widths.
-use Rattle.std.proofs.Common.{◌≡◌, refl, ◌^◌, ◌<◌, ◌≤◌, pos, ◌*ℤ◌, ◌<ℤ◌, lit<, lit≤, arith}
+use Rattle.std.proofs.Common.{◌≡◌, refl, ◌+◌, ◌*◌, ◌^◌, ◌<◌, ◌≤◌, pos, ◌*ℤ◌, ◌<ℤ◌, lit<, lit≤, arith}
 use borrow.Author.Differences.{ints}
 use Rattle.ember_algebra.proofs.Size.{small_within, small_neg}
 use Rattle.ember_model.specs.declared.plane.Plane.{Plane}
 use Rattle.ember_model.specs.Planes.{opposite}
 use Rattle.ember_model.specs.Valid.{IsValidPlane}
-use Rattle.ember_model.specs.Limits.{narrow_limit, broad_limit}
+use Rattle.ember_model.specs.Limits.{narrow_limit, broad_limit, wall_limit}
 use Rattle.ember_model.specs.Within.{IsPlaneWithin, normal_limit}
 use Rattle.ember_width.specs.Broad.{IsBroadPlane}
 use Rattle.ember_width.specs.BroadPoints.{spot_of}
@@ -94,6 +94,14 @@ narrow_root = omega (arith, ints)
 -- the root holds the broad grid
 pub broad_root : pos broad_limit <ℤ (pos 2048 *ℤ pos 256)
 broad_root = omega (arith, ints)
+
+-- the root ends one step past the narrow grid
+pub narrow_end : 2 ^ 0 * wall_limit ≤ narrow_limit + 1
+narrow_end = lit≤ tt
+
+-- the root ends one step past the broad grid
+pub broad_end : 2 ^ 8 * wall_limit ≤ broad_limit + 1
+broad_end = lit≤ tt
 
 -- ---- points
 -- each point has a positive weight

@@ -5,3 +5,4 @@ pub mod NarrowLevels
 pub mod Laws
 pub mod Scenes
 pub mod RootFloors
+pub mod Heights

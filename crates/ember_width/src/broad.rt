@@ -20,7 +20,7 @@ use ember_model::{Axis, Corner, Plane};
 pub struct Broad;
 
 impl Width for Broad {
-    ghost use Rattle.ember_width.specs.Laws.{broad_planes, broad_opposite, broad_is_broad, broad_limit_is_broad, broad_normals, broad_unit, broad_steps, broad_root, broad_weighs};
+    ghost use Rattle.ember_width.specs.Laws.{broad_planes, broad_opposite, broad_is_broad, broad_limit_is_broad, broad_normals, broad_unit, broad_steps, broad_root, broad_end, broad_weighs};
 
     type Point = BroadPoint;
 
@@ -57,6 +57,8 @@ impl Width for Broad {
     ghost few_steps = { broad_steps };
 
     ghost holds = { broad_root };
+
+    ghost ends = { broad_end };
 
     fn meet(p: &Plane, q: &Plane, r: &Plane) -> Option<BroadPoint> {
         broad_meet(p, q, r)

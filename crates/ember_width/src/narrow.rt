@@ -19,7 +19,7 @@ use ember_point::Meet;
 pub struct Narrow;
 
 impl Width for Narrow {
-    ghost use Rattle.ember_width.specs.Laws.{narrow_planes, narrow_opposite, narrow_is_broad, narrow_limit_is_broad, narrow_normals, narrow_unit, narrow_steps, narrow_root};
+    ghost use Rattle.ember_width.specs.Laws.{narrow_planes, narrow_opposite, narrow_is_broad, narrow_limit_is_broad, narrow_normals, narrow_unit, narrow_steps, narrow_root, narrow_end};
 
     type Point = Meet;
 
@@ -56,6 +56,8 @@ impl Width for Narrow {
     ghost few_steps = { narrow_steps };
 
     ghost holds = { narrow_root };
+
+    ghost ends = { narrow_end };
 
     #[inline]
     fn meet(p: &Plane, q: &Plane, r: &Plane) -> Option<Meet> {

@@ -129,4 +129,7 @@ pub trait Width {
 
     // the root, 2048 units to each side of the origin, holds all corners
     ghost holds: { pos corner <ℤ (pos 2048 *ℤ UNIT) };
+
+    // and ends one step past the farthest ones
+    ghost ends: { 2 ^ scale * wall_limit ≤ corner + 1 };
 }

@@ -1,19 +1,11 @@
 // The limits of the values.
-ghost use Rattle.std.specs.Prelude.{◌≡◌, ◌≤◌, ◌<◌, ◌^◌, ◌∷◌, [], length, option_map, IfSome, MatchOption, Some, None};
+ghost use Rattle.std.specs.Prelude.{◌≡◌, ◌≤◌, ◌<◌, ◌^◌, ◌∷◌, [], option_map, IfSome, MatchOption, Some, None};
 ghost use Rattle.std.specs.Bool.{Decides};
-ghost use Rattle.std.specs.List.{list_all};
 ghost use Rattle.ember_model.specs.Valid.{IsValidSpot};
-ghost use Rattle.std.specs.Char.{is_ascii_digit};
 ghost use Rattle.ember_words.specs.Limits.{decimal_of, number_within, is_minus, without_minus, whole_of, height_of, is_in_range, is_valid_spot, parts_of, four_of, point_of, is_set};
 
+use ember_dec::are_digits;
 use ember_model::Spot;
-
-// Whether all bytes are decimal digits.
-fn are_digits(text: &[u8]) -> bool
-    ensures { result ≡ list_all is_ascii_digit text.now }
-{
-    text.iter().all(|byte| byte.is_ascii_digit())
-}
 
 // `text` as a number, if it has 1 to `most_digits` decimal digits and nothing else.
 #[tactic(auto, using(crate::proofs::Numbers::digits_parse, crate::proofs::Numbers::no_decimal))]

@@ -6,7 +6,6 @@ use Rattle.std.specs.Float.{binary64}
 use Rattle.std.specs.Float.Numeral.{IsWellFormed, Parts, nearest_float, text_of}
 use Rattle.std.specs.Fmt as fmt
 use Rattle.std.specs.Str.Parse.{AllDigits}
-use Rattle.std.proofs.lemmas.Bool.Decides.{nat_tests}
 use Rattle.std.proofs.Math.Nat.{pow-suc, div-lt_iff_lt-mul, mod-lt}
 use Rattle.std.proofs.lemmas.Fmt.{decimal_is_IsNumeral_wide}
 use Rattle.std.proofs.lemmas.Str.{digit_value_digit}
@@ -15,6 +14,7 @@ use Rattle.fast_float.proofs.Writing.{parse_float-text_of}
 use Rattle.mesh_number.specs.Round.Decimals.{decimal_text, fraction_digits, fraction_text, sign_text}
 use Rattle.mesh_number.proofs.DigitNumbers.{pow_ten_pos}
 use Rattle.mesh_number.proofs.Digits.{no_digits}
+use Rattle.mesh_write.proofs.DecimalTexts.{not_none}
 
 -- ---- digits
 fraction_is_digits : (places part : ℕ) → part < 10 ^ places → AllDigits 10 (fraction_digits places part)
@@ -54,9 +54,6 @@ parts_are_formed whole point fraction small digits none = record {
 -- there is a point exactly if a part is left
 abbrev has_point : ℕ → Bool
 has_point part = not (part == 0)
-
-not_none : (n : ℕ) → (suc n == 0) ≡ false
-not_none n = grind (arith, nat_tests)
 
 no_point : (places part : ℕ) → has_point part ≡ false → fraction_digits places part ≡ []
 no_point places zero e = no_digits places

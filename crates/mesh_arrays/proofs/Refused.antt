@@ -1,6 +1,5 @@
 -- The faults of the steps are those of a mesh in arrays
-use Rattle.std.proofs.Common.{◌≡◌, ℕ, List, [], ◌∷◌, All, IsSome, None, Some, length, map, refl, subst, sym, ◌∙◌}
-use Rattle.std.specs.Global.{Vec}
+use Rattle.std.proofs.Common.{◌≡◌, ℕ, All, IsSome, None, Some, length, refl, subst, sym, ◌∙◌}
 use Rattle.std.specs.List.{find}
 use Rattle.std.specs.Option.{option_map}
 use Rattle.std.specs.declared.option.Option.{Option}
@@ -8,15 +7,15 @@ use Rattle.mesh_ply.specs.ReadPly.{of_flaw}
 use Rattle.mesh_ply.specs.declared.fault.PlyFault.{PlyFault}
 use Rattle.mesh_ply.specs.declared.fault.PlyFault.TheVariants as fault
 use Rattle.mesh_read.proofs.FarPoints.{far_by_content}
-use Rattle.mesh_read.specs.Surface.Flaws.{flaw_in, flaw_with}
-use Rattle.mesh_read.specs.Surface.Surfaces.{Content, IsSurface, IsWithin, content_of, first_far, is_facet_too_large, point_of}
+use Rattle.mesh_read.specs.Surface.Flaws.{flaw_in}
+use Rattle.mesh_read.specs.Surface.Surfaces.{Content, content_of, first_far, is_facet_too_large}
 use Rattle.mesh_read.specs.declared.surface.flaw.Flaw.{Flaw}
 use Rattle.mesh_read.specs.declared.surface.flaw.Flaw.TheVariants as flaw
 use Rattle.mesh_read.specs.declared.surface.surface.Facet.{Facet}
 use Rattle.mesh_read.specs.declared.surface.surface.Surface.{Surface}
-use Rattle.mesh_read.specs.declared.surface.surface.Vertex.{Vertex}
-use Rattle.mesh_arrays.specs.Arrays.{ArePointsOf, IsContentOf, IsSurfaceOf, facets_from, point_of_bits}
-use Rattle.mesh_arrays.specs.Faults.{AreWithin, IsMeshFault, IsTriangleFault, IsVertexFault}
+use Rattle.mesh_read.proofs.Flaws.{far_is_flaw}
+use Rattle.mesh_arrays.specs.Arrays.{IsContentOf, point_of_bits}
+use Rattle.mesh_arrays.specs.Faults.{AreWithin, IsMeshFault, IsTriangleFault}
 use Rattle.mesh_arrays.specs.declared.mesh.ArrayMesh.{ArrayMesh}
 
 -- a fault of the triangles, if all vertices are finite
@@ -46,10 +45,6 @@ flaw_is mesh content flaw.NoTriangles is within has = record { content = content
 flaw_is mesh content (flaw.TooLarge place) is within has = record { content = content; is_content = is; within = within; has = has }
 
 -- ---- coordinates
-none_far : (far : Option ℕ) (facets : List Facet) → flaw_with far facets ≡ None → far ≡ None
-none_far None facets e = refl
-none_far (Some place) [] e = absurd (cc)
-none_far (Some place) (facet ∷ facets) e = absurd (cc)
 
 no_place : (found : Option Facet) → option_map (λ (f : Facet). f.place) found ≡ None → found ≡ None
 no_place None e = refl
@@ -60,4 +55,4 @@ pub no_flaw_is_within : (s : Surface) → flaw_in (content_of s) ≡ None →
     find (is_facet_too_large s.vertices.items) s.facets.items ≡ None
 no_flaw_is_within s e =
     no_place (find (is_facet_too_large s.vertices.items) s.facets.items)
-    (sym (far_by_content s) ∙ none_far (first_far (content_of s)) s.facets.items e)
+    (sym (far_by_content s) ∙ far_is_flaw (first_far (content_of s)) s.facets.items e)

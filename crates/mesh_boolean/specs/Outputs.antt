@@ -80,9 +80,9 @@ pub record AreRoundedWith (grid : Grid) (mesh : SolidMesh) (written : List Float
   pub rounded : AreRounded grid mesh written
   pub is_effect : IsFloatEffect grid mesh rounded.points effect
 
--- the bytes are the file of the mesh's rounded triangles, which are also those that are shown, if any are; there are none
--- only if the mesh has none. The numbers are those of the mesh, of what rounding did to it, of its triangles that aren't
--- written, and of the edges of more than two written triangles, if these are closed
+-- the bytes are the file of the mesh's rounded triangles, which are also those that are shown, if any are; there are
+-- none only if the mesh has none. The numbers are those of the mesh, of what rounding did to it, of its triangles
+-- that aren't written, and of the edges of more than two written triangles, if these are closed
 pub record IsOfFloats (format : FloatFormat) (grid : Grid) (mesh : SolidMesh) (file : OutputMesh) : Type 0 where
   pub written : List FloatTriangle
   pub rounded : AreRoundedWith grid mesh written file.effect
@@ -112,9 +112,9 @@ pub record IsTextOver (format : TextFormat) (places : ℕ) (ts : List DecimalTri
   pub manifold : is_manifold ≡ true → IsManifold split.triangles.items
   pub whole : is_manifold ≡ false → cut ≡ ts
 
--- the bytes are the text of the mesh's rounded triangles; the numbers are those of the mesh, of what rounding did to it,
--- of its triangles that aren't written, and, if the others are closed, of their edges of more than two, where each point
--- is one vertex
+-- the bytes are the text of the mesh's rounded triangles; the numbers are those of the mesh, of what rounding did to
+-- it, of its triangles that aren't written, and, if the others are closed, of their edges of more than two, where
+-- each point is one vertex
 pub record IsText (format : TextFormat) (digits : Option ℕ) (grid : Grid) (mesh : SolidMesh) (file : OutputMesh) :
     Type 0 where
   pub bytes : IsTextOver format (written_places digits grid.step) (decimals_of digits grid mesh) file.bytes.items
@@ -157,10 +157,9 @@ pub record AreKept (images : List Tri) (bytes : List ℕ) (kept : KeptDocument) 
   pub scene : kept.scene.tris ≡ images
   pub document : kept.document.items ≡ bytes
 
--- the surfaces of the files are a scene on the wanted grid, with these counts, moves and volumes; there is a mesh of the solid
--- of their triangles, with this report of the run; the file is this mesh in the wanted format, closed;
--- and the triangles
--- that are shown, and the scene and the document of the solid, are there if they are wanted
+-- the surfaces of the files are a scene on the wanted grid, with these counts, moves and volumes; there is a mesh of
+-- the solid of their triangles, with this report of the run; the file is this mesh in the wanted format, closed; and
+-- the triangles that are shown, and the scene and the document of the solid, are there if they are wanted
 pub record IsOutput (files : List InputFile) (formula : Formula) (wanted : WantedFile) (out : SolidFile) : Type 0 where
   pub surfaces : List Surface
   pub are_placed : ArePlaced files wanted.grid surfaces out.grid

@@ -35,7 +35,8 @@ of_glb_fault glb_fault.TooManyTriangles = TooManyTriangles
 of_glb_fault glb_fault.OutOfMemory = OutOfMemory
 
 -- ---- the file
--- the mesh lies where floats are so far apart that each of its triangles vanishes when it is rounded, though it has some
+-- the mesh lies where floats are so far apart that each of its triangles vanishes when it is rounded, though it has
+-- some
 pub record IsRoundedAway (grid : Grid) (mesh : SolidMesh) : Type 0 where
   pub some : 0 < length mesh.triangles.items
   pub none_left : AreRounded grid mesh []

@@ -6,11 +6,11 @@ use mir.Syntax.{Width}
 use Rattle.std.specs.Int.{IsGcd, ◌∣◌}
 use Rattle.std.proofs.lemmas.Int.{ints, unsigned_abs-mul}
 use Rattle.std.proofs.lemmas.Nat.Gcd.{dvd-zero, dvd_antisymm, dvd_trans, le_of_dvd}
-use Rattle.std.proofs.Math.Nat.{mul-dvd-mul_left, dvd_of_mul-dvd-mul_left, dvd-mul_right, mul-div_cancel', eq-zero_of_zero-dvd}
+use Rattle.std.proofs.Math.Nat.{mul-dvd-mul_left, dvd_of_mul-dvd-mul_left, dvd-mul_right, mul-div_cancel', eq-zero_of_zero-dvd, one-dvd}
 use Rattle.ember_algebra.specs.Relations.{Every}
 use Rattle.ember_algebra.specs.Size.{Small}
 use Rattle.ember_algebra.proofs.Relations.{every_append}
-use Rattle.ember_algebra.proofs.Divisors.{gcd_within}
+use Rattle.ember_algebra.proofs.CommonDivisors.{gcd_within}
 use Rattle.mesh_certificate.specs.Key.Divisors.{Divides, IsGreatestDivisor, AreLowest}
 
 -- ---- each two numbers have a greatest common divisor
@@ -110,16 +110,13 @@ quotients_are_lowest g d vs us i e l m =
     record {
       lowest = λ k p. dvd_antisymm (dvd_of_mul-dvd-mul_left {k =
           g} k l (subst (λ (n : ℕ). g * k ∣ n) (omega arith)
-          (i.greatest (g * k) (subst (λ (n : ℕ). Divides (n * k) us) e (divides_up d k vs us m p))))) (one_divides k);
+          (i.greatest (g * k) (subst (λ (n : ℕ). Divides (n * k) us) e (divides_up d k vs us m p))))) (one-dvd k);
     }
-  where
-    one_divides : (k : ℕ) → 1 ∣ k
-    one_divides k = subst (λ n. 1 ∣ n) (omega arith) (dvd-mul_right 1 k)
 
 -- they are if the greatest common divisor is 1
 pub lowest_where_one : (us : List ℤ) (g : ℕ) → IsGreatestDivisor us g → g ≡ 1 → AreLowest us
 lowest_where_one us g i e =
-    record { lowest = λ k p. dvd_antisymm (subst (λ (n : ℕ). k ∣ n) e (i.greatest k p)) (subst (λ n. 1 ∣ n) (omega arith) (dvd-mul_right 1 k)) }
+    record { lowest = λ k p. dvd_antisymm (subst (λ (n : ℕ). k ∣ n) e (i.greatest k p)) (one-dvd k) }
 
 -- ---- a greatest common divisor of 0
 -- an integer that 0 divides is 0

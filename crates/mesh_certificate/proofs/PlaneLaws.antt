@@ -14,14 +14,14 @@ use Rattle.ember_algebra.proofs.Vectors.{tuple, identity, dotE, crossE, square_p
 use Rattle.ember_model.specs.declared.plane.Plane.{Plane}
 use Rattle.ember_model.specs.declared.point.Spot.{Spot}
 use Rattle.ember_model.specs.Edges.{normal}
-use Rattle.ember_model.specs.Planes.{value_at, times_plane}
+use Rattle.ember_model.specs.Planes.{value_at, times_plane, zero_plane}
 use Rattle.ember_model.proofs.Tuples.{plane_tuple, normalE, same_plane}
 use Rattle.ember_model.specs.Valid.{IsValidPlane}
 use Rattle.ember_algebra.specs.Size.{Small}
 use Rattle.ember_model.proofs.SignTests.{positive_nonzero}
 use Rattle.ember_model.proofs.PlaneValues.{value_times}
 use Rattle.mesh_certificate.specs.Key.Divisors.{Divides, IsGreatestDivisor, AreLowest}
-use Rattle.mesh_certificate.specs.Key.PlaneKeys.{coefficients, IsSameOriented, zero_plane, IsPlaneKey, HaveSameSides, HasNormal}
+use Rattle.mesh_certificate.specs.Key.PlaneKeys.{coefficients, IsSameOriented, IsPlaneKey, HaveSameSides, HasNormal}
 use Rattle.mesh_certificate.proofs.Divisors.{factors_have_one_size, quotients_are_lowest, lowest_where_one, all_zero}
 use Rattle.mesh_certificate.proofs.Quotients.{size_positive, quotient_small}
 use Rattle.mesh_certificate.proofs.Vectors.{no_square_no_vector, parallel_multiple}

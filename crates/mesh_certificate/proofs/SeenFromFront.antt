@@ -1,5 +1,5 @@
 -- Triangles that face the front of their plane: along the main axis their corners turn as they do from the front
-use Rattle.std.proofs.Common.{◌≡◌, ◌≢◌, sym, ap, ◌∙◌, arith, ℤ, pos, ◌-ℤ◌, ◌*ℤ◌, ◌<ℤ◌, true, ◌&&◌, [], ◌∷◌}
+use Rattle.std.proofs.Common.{◌≡◌, ◌≢◌, sym, ap, ◌∙◌, arith, ℤ, pos, ◌-ℤ◌, ◌*ℤ◌, ◌<ℤ◌, true, ◌&&◌}
 use Rattle.std.proofs.lemmas.Bool.{and_parts}
 use Rattle.ember_algebra.specs.Vector.{Vector, zero_v, dot, cross}
 use Rattle.ember_algebra.specs.Det.{det3}
@@ -7,7 +7,6 @@ use Rattle.ember_algebra.specs.Sign.{sgn, is_pos, is_zero, is_positive}
 use Rattle.ember_algebra.proofs.Laws.{linear}
 use Rattle.ember_algebra.proofs.Order.{by_sign, pos_mul, square_nonneg, square_pos}
 use Rattle.ember_algebra.proofs.Ring.{◌⊕◌, ◌⊖◌, ◌⊗◌, ◌≈◌, solve, cancels}
-use Rattle.ember_algebra.proofs.Vectors.{tuple, identity, valueE, dotE, TupleE, VectorE}
 use Rattle.ember_algebra.proofs.Identities.{orthogonal_parallel, parallel_products}
 use Rattle.ember_model.specs.declared.plane.Plane.{Plane}
 use Rattle.ember_model.specs.declared.point.Spot.{Spot}
@@ -18,19 +17,9 @@ use Rattle.ember_model.specs.Edges.{normal}
 use Rattle.ember_model.proofs.SeenCrossings.{main_zero}
 use Rattle.ember_model.proofs.SignTests.{sgn_scaled, zero_scaled, zero_times, zero_out, positive_in, positive_out}
 use Rattle.ember_model.proofs.SignTests.{positive_nonzero, negative_nonzero}
-use Rattle.ember_model.proofs.Tuples.{plane_tuple, spot_tuple, normalE}
-use Rattle.mesh_certificate.specs.Certificate.Facing.{displacement, triangle_normal, turn_along, FacesFront}
-
-displacementE : TupleE → TupleE → VectorE
-displacementE u v =
-    record { x = u.w ⊗ v.x ⊖ v.w ⊗ u.x; y = u.w ⊗ v.y ⊖ v.w ⊗ u.y; z = u.w ⊗ v.z ⊖ v.w ⊗ u.z }
-
--- how a plane's value changes over a displacement
-value_changes : (h : Plane) (u v : Spot) → u.w *ℤ value_at h v -ℤ v.w *ℤ value_at h u ≡ dot (normal h) (displacement u v)
-unfolding displacementE
-value_changes h u v =
-    identity (tuple ∷ tuple ∷ tuple ∷ []) (λ h u v. u.w ⊗ valueE h v ⊖ v.w ⊗ valueE h u ≈ dotE (normalE h)
-    (displacementE u v)) cancels (plane_tuple h) (spot_tuple u) (spot_tuple v)
+use Rattle.ember_model.specs.Points.{displacement}
+use Rattle.ember_model.proofs.Displacements.{displacement_value}
+use Rattle.mesh_certificate.specs.Certificate.Facing.{triangle_normal, turn_along, FacesFront}
 
 -- the determinant of three points of a plane, times the first weight, is the product of two displacements
 minor : (ux uy uw vx vy vw wx wy ww : ℤ) → uw *ℤ det3 ux uy uw vx vy vw wx wy ww ≡ (uw *ℤ vx -ℤ vw *ℤ ux) *ℤ
@@ -69,7 +58,7 @@ positive_square p Z h =
 module _ (p : Plane) (u v w : Spot) (positive : pos 0 <ℤ u.w) (zu : value_at p u ≡ pos 0) (zv : value_at p v ≡ pos 0) (zw : value_at p w ≡ pos 0) where
   flat_to : (x : Spot) → value_at p x ≡ pos 0 → dot (normal p) (displacement u x) ≡ pos 0
   flat_to x zx =
-      sym (value_changes p u x) ∙ both_zero (zero_scaled u.w (value_at p x) zx) (zero_scaled x.w (value_at p u) zu)
+      sym (displacement_value p u x) ∙ both_zero (zero_scaled u.w (value_at p x) zx) (zero_scaled x.w (value_at p u) zu)
 
   parallel : cross (normal p) (triangle_normal u v w) ≡ zero_v
   parallel =

@@ -7,7 +7,6 @@ mod lines;
 mod on_line;
 mod planes;
 
-pub use divisor::gcd;
 pub use law::{line_keys_are_lines, plane_keys_are_oriented_planes};
 pub use lines::{LineKey, has_direction, line_key};
 pub use on_line::is_on_line;

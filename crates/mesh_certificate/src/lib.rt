@@ -11,6 +11,6 @@ pub use certificate::{
     segment_key,
 };
 pub use key::{
-    LineKey, gcd, has_direction, is_on_line, line_key, line_keys_are_lines, plane_key,
+    LineKey, has_direction, is_on_line, line_key, line_keys_are_lines, plane_key,
     plane_keys_are_oriented_planes,
 };

@@ -11,6 +11,7 @@ use Rattle.mesh_number.proofs.Distances.{gap}
 use Rattle.mesh_number.proofs.Powers.{next_power, product_positive}
 use Rattle.mesh_number.proofs.Signs.{distance_same, distance_other}
 use Rattle.mesh_number.proofs.Bits.{joined_value, sign_bit}
+use Rattle.mesh_number.proofs.NearestFloats.{number}
 use Rattle.mesh_effect.specs.Rounding.Floats.{is_below_zero, significand_of, last_place}
 use Rattle.mesh_effect.proofs.FloatBits.{IsFloatAt, float_at}
 
@@ -33,9 +34,6 @@ near_zero x b p h = omega (arith, p, h)
 
 one_more : (q m u d : ℕ) → m ≡ q + 1 → m * u * d ≡ q * u * d + u * d
 one_more q m u d e = rw e (omega arith)
-
-abbrev number : Bool → ℕ → Fraction
-number minus n = record { numerator = signed_whole minus n; denominator = 2 ^ 149 }
 
 -- no number reaches the power behind the last place
 last_of_all : (k d m : ℕ) → k < (2 ^ 128 - 2 ^ 103) * d → m + 1 ≡ 16777216 → k * 2 ^ 149 ≤ m * 2 ^ 253 * d + 2 ^ 253 * d

@@ -5,20 +5,18 @@ use Rattle.std.specs.Prelude.{not}
 use borrow.Author.Differences.{ints}
 use Rattle.std.proofs.lemmas.Nat.{pow_pos, pow-add}
 use Rattle.std.proofs.Math.Nat.{le_of_mul-le-mul_right}
-use Rattle.mesh_number.specs.Number.Fractions.{Fraction, signed_whole}
+use Rattle.mesh_number.specs.Number.Fractions.{Fraction}
 use Rattle.mesh_number.specs.Number.Floats.{binary32_value}
 use Rattle.mesh_number.proofs.Rounding.{by_lt}
 use Rattle.mesh_number.specs.Float.Binary32.{distance}
 use Rattle.mesh_number.proofs.Distances.{gap}
 use Rattle.mesh_number.proofs.Signs.{distance_same, distance_other}
+use Rattle.mesh_number.proofs.NearestFloats.{number}
 use Rattle.mesh_effect.specs.Rounding.Floats.{value_or_zero, float_number, is_below_zero, significand_of, last_place}
 use Rattle.mesh_effect.proofs.FloatBits.{IsFloatAt, float_at}
 
 abbrev pub wide : Bool → ℕ → ℤ
 wide t k = if t then neg_ℤ (pos k) else pos k
-
-abbrev number : Bool → ℕ → Fraction
-number minus n = record { numerator = signed_whole minus n; denominator = 2 ^ 149 }
 
 -- ---- gaps
 gap_above : (a e : ℕ) → gap (a + e) a ≡ e

@@ -3,7 +3,6 @@ pub mod Steps
 pub mod Inside
 pub mod Counts
 pub mod Decodings
-pub mod ItemSteps
 pub mod PointSteps
 pub mod CornerSteps
 pub mod NodeSteps

@@ -1,10 +1,8 @@
 -- Lists that are read one element after another
-use Rattle.std.proofs.Common.{◌≡◌, ℕ, List, [], ◌∷◌, ◌++◌, refl, sym, ap, ◌∙◌, append_assoc}
-use Rattle.std.proofs.Common.{Option, None, Some, Result, Ok, Err, map}
-use Rattle.std.proofs.lemmas.List.{map-append, append-nil}
+use Rattle.std.proofs.Common.{◌≡◌, List, [], ◌∷◌, ◌++◌, refl, sym, ap, ◌∙◌, append_assoc}
+use Rattle.std.proofs.Common.{Option, None, Some, Result, Ok, Err}
+use Rattle.std.proofs.lemmas.List.{append-nil}
 use Rattle.mesh_gltf.specs.declared.fault.GltfFault.{GltfFault}
-use Rattle.mesh_gltf.specs.declared.buffers.Buffer.{Buffer}
-use Rattle.mesh_gltf.specs.Buffers.{bytes_seen, before}
 use Rattle.mesh_gltf.specs.Heads.{with_head}
 
 -- what was read, and then what is left to read
@@ -22,30 +20,15 @@ pub nothing_behind : {A : Type 0} (o : Option (List A)) → o ≡ behind [] o
 nothing_behind None = refl
 nothing_behind (Some more) = refl
 
-pub nothing_behind_ok : {A : Type 0} (r : Result (List A) GltfFault) → r ≡ behind_ok [] r
-nothing_behind_ok (Err fault) = refl
-nothing_behind_ok (Ok more) = refl
-
 -- one element more
 pub element_added : {A : Type 0} (items new : List A) (a : A) (more : Option (List A)) → new ≡ items ++ a ∷ [] →
     behind items (with_head (Some a) more) ≡ behind new more
 element_added items new a None is = refl
 element_added items new a (Some more) is = ap (λ xs. Some xs) (sym (append_assoc items (a ∷ []) more) ∙ ap (λ xs. xs ++ more) (sym is))
 
--- one buffer more
-pub buffer_added : (items new : List Buffer) (b : Buffer) (more : Result (List (List ℕ)) GltfFault) → new ≡ items ++ b ∷ [] →
-    behind_ok (map bytes_seen items) (before (Ok (bytes_seen b)) more) ≡ behind_ok (map bytes_seen new) more
-buffer_added items new b (Err fault) is = refl
-buffer_added items new b (Ok more) is =
-    ap (λ xs. Ok xs) (sym (append_assoc (map bytes_seen items) (bytes_seen b ∷ []) more)
-    ∙ ap (λ xs. xs ++ more) (sym (map-append bytes_seen items (b ∷ [])) ∙ ap (map bytes_seen) (sym is)))
-
 -- behind the last element
 pub all_read : {A : Type 0} (o : Option (List A)) (items : List A) → o ≡ behind items (Some []) → o ≡ Some items
 all_read o items so_far = so_far ∙ ap (λ xs. Some xs) (append-nil items)
-
-pub all_read_ok : {A : Type 0} (r : Result (List A) GltfFault) (items : List A) → r ≡ behind_ok items (Ok []) → r ≡ Ok items
-all_read_ok r items so_far = so_far ∙ ap (λ xs. Ok xs) (append-nil items)
 
 -- what was read comes after what was there
 pub read_behind : {A : Type 0} (items new : List A) (o : Option (List A)) → behind items o ≡ Some new →

@@ -1,6 +1,6 @@
 -- The points of an accessor, one after another
 use Rattle.std.proofs.Common.{◌≡◌, ℕ, zero, suc, ◌<◌, ◌≤◌, ◌+◌, ◌-◌, ◌*◌, List, [], ◌∷◌, ◌++◌, length, map, refl, sym, ap, ◌∙◌, arith}
-use Rattle.std.proofs.Common.{Option, None, Some, Ok, Err}
+use Rattle.std.proofs.Common.{Option, None, Some, Ok}
 use Rattle.std.proofs.lemmas.List.{map-append}
 use Rattle.mesh_read.specs.declared.surface.surface.Vertex.{Vertex}
 use Rattle.mesh_read.specs.Surface.Surfaces.{Point, point_of}
@@ -8,7 +8,7 @@ use Rattle.mesh_read.specs.Stl.Binary.{point_at}
 use Rattle.mesh_gltf.specs.declared.fault.GltfFault.TheVariants.{NotFinite}
 use Rattle.mesh_gltf.specs.Heads.{with_head}
 use Rattle.mesh_gltf.specs.Primitives.{or_fault, Elements, points_from, points_in, AreAdded}
-use Rattle.mesh_gltf.proofs.Parts.{behind, element_added, all_read, read_behind, none_behind}
+use Rattle.mesh_gltf.proofs.Parts.{behind, element_added, all_read, read_behind}
 
 -- one point more
 pub points_more : (all : Option (List Point)) (e : Elements) (count element : ℕ) (now new : List Vertex) (v : Vertex) →
@@ -25,22 +25,6 @@ points_more all e count element now new v before few is add =
     (sym is)
     ∙ element_added (map point_of now) (map point_of new) (point_of v)
     (points_from e (element + 1) (count - (element + 1))) added
-
--- a point that isn't finite
-pub points_refused : (e : Elements) (count element index : ℕ) (old now : List Vertex) → e.window.count ≡ count →
-    behind (map point_of old) (points_from e 0 count)
-    ≡ behind (map point_of now) (points_from e element (count - element)) → element < count →
-    None ≡ point_at e.bytes (e.window.start + e.window.stride * element) → points_in index e ≡ Err (NotFinite index)
-unfolding points_in
-points_refused e count element index old now same before few none =
-    let left : count - element ≡ suc (count - (element + 1)) = omega arith in
-    ap (λ (n : ℕ). or_fault (NotFinite index) (points_from e 0 n)) same
-    ∙ ap (λ (o : Option (List Point)). or_fault (NotFinite index) o)
-    (none_behind (map point_of old) (points_from e 0 count)
-    (before
-    ∙ ap (λ (n : ℕ). behind (map point_of now) (points_from e element n)) left
-    ∙ ap (λ (o : Option Point). behind (map point_of now) (with_head o (points_from e (element + 1) (count - (element + 1)))))
-    (sym none)))
 
 -- as many points are read as the window has elements
 counted_more : (left : ℕ) (ps : List Point) (p : Option Point) (more : Option (List Point)) →

@@ -3,10 +3,10 @@ use Rattle.std.proofs.Common.{◌≡◌, ℕ, zero, suc, Bool, true, false, ◌<
 use Rattle.std.proofs.Common.{subst, arith, inl, inr, length-append, Option, None, Some, Result, Ok, Err, All}
 use Rattle.std.specs.Prelude.{if◌then◌else◌, nat_lt, nat_le, option_and_then, IfOk, IfSome}
 use Rattle.std.proofs.lemmas.Bool.{cases_Bool, ltb-true}
-use Rattle.std.proofs.lemmas.List.Elements.{All-nil, All-cons, All-head, All-tail, All-append, All-weaker}
-use Rattle.mesh_read.specs.declared.surface.surface.Facet.{Facet}
-use Rattle.mesh_read.specs.Surface.Surfaces.{Point, Content, IsWithin}
+use Rattle.std.proofs.lemmas.List.Elements.{All-nil, All-cons, All-head, All-tail, All-append}
+use Rattle.mesh_read.specs.Surface.Surfaces.{Point, Content, IsWithin, no_content}
 use Rattle.mesh_read.proofs.Flaws.{IsSound}
+use Rattle.mesh_read.proofs.WavefrontSoundness.{below_more}
 use Rattle.serde_json.specs.Data.{Data, Items, no_items, item}
 use Rattle.serde_json.specs.Find.{get}
 use Rattle.mesh_gltf.specs.declared.corners.IndexSize.{IndexSize}
@@ -26,7 +26,7 @@ use Rattle.mesh_gltf.specs.Primitives.{and_then, or_fault, elements_of, accessor
 use Rattle.mesh_gltf.specs.Primitives.{topology_of, unless_many, with_triangles, with_points, with_positions, with_topology, with_primitive}
 use Rattle.mesh_gltf.specs.Nodes.{is_still, with_primitives, primitives_of, by_mesh, with_node, children_of, with_nodes}
 use Rattle.mesh_gltf.specs.Nodes.{nodes_count, roots_of, scene_content}
-use Rattle.mesh_gltf.specs.ReadGltf.{needs, nothing, document_content, json_value, content_in}
+use Rattle.mesh_gltf.specs.ReadGltf.{needs, document_content, json_value, content_in}
 
 -- what a step keeps if the first part gives what the second needs
 then_holds : {A B : Type 0} (P : A → Type 0) (Q : B → Type 0) (r : Result A GltfFault) (next : A → Result B GltfFault) →
@@ -158,10 +158,6 @@ triangles_within n Fan place (a ∷ b ∷ more) hs =
     (All-tail (λ c. c < n) b more others)
 
 -- ---- what a primitive, a node and a scene add
-more_points : (n m : ℕ) (facets : List Facet) → n ≤ m → All (IsWithin n) facets → All (IsWithin m) facets
-more_points n m facets more h =
-    All-weaker (IsWithin n) (IsWithin m)
-    (λ f hf. All-weaker (λ c. c < n) (λ c. c < m) (λ c hc. omega (arith, hc, more)) f.corners hf) facets h
 
 triangles_sound : (content : Content) (points : List Point) (topology : Topology) (corners : List ℕ) → IsSound content →
     AreBelow (length content.points + length points) corners → IsSound (with_triangles content points topology corners)
@@ -170,7 +166,7 @@ triangles_sound content points topology corners h hs =
     let more : length content.points ≤ length (content.points ++ points) = omega (arith, both) in
     let below : AreBelow (length (content.points ++ points)) corners = subst (λ (n : ℕ). AreBelow n corners) both hs in
     All-append (IsWithin (length (content.points ++ points))) content.facets (triangles_of topology (length content.facets + 1) corners)
-    (more_points (length content.points) (length (content.points ++ points)) content.facets more h)
+    (below_more (length content.points) (length (content.points ++ points)) content.facets more h)
     (triangles_within (length (content.points ++ points)) topology (length content.facets + 1) corners below)
 
 points_sound : (mesh : ℕ) (document : Data) (buffers : List (List ℕ)) (primitive : Data) (topology : Topology)
@@ -265,7 +261,7 @@ document_sound chunk document =
     (required_sound (needs (codes "EXT_meshopt_compression") document) Meshopt _
     (required_sound (needs (codes "EXT_mesh_gpu_instancing") document) Instances _
     (then_always IsSound (buffers_of chunk document) _
-    (λ buffers. scene_sound document buffers nothing (All-nil (IsWithin 0))))))
+    (λ buffers. scene_sound document buffers no_content (All-nil (IsWithin 0))))))
 
 -- each corner of what is read is a point
 pub content_sound : (bytes : List ℕ) → IfOk (content_in bytes) IsSound

@@ -38,7 +38,8 @@ chunks_seen c = record { json = c.json.now; binary = option_map (λ b. b.now) c.
 
 abbrev pub with_binary : List ℕ → ℕ → Option (List ℕ) → Result Chunks GltfFault
 with_binary bytes end None = Err NoJson
-with_binary bytes end (Some json) = Ok (record { json = json; binary = bytes_of_kind 5130562 bytes (chunk_at bytes end) })
+with_binary bytes end (Some json) =
+    Ok (record { json = json; binary = bytes_of_kind 5130562 bytes (chunk_at bytes end) })
 
 -- the first chunk is JSON (of the kind `JSON`), and the second may be binary (`BIN` and a 0)
 abbrev pub with_first : List ℕ → Option Chunk → Result Chunks GltfFault

@@ -1,5 +1,6 @@
 -- What a primitive of a mesh adds: points, and triangles over them
-use Rattle.std.specs.Prelude.{◌≡◌, ℕ, zero, suc, ◌+◌, ◌*◌, ◌^◌, List, [], ◌++◌, length, codes, nat_le, if◌then◌else◌, ◌==◌}
+use Rattle.std.specs.Prelude.{◌≡◌, ℕ, zero, suc, ◌+◌, ◌*◌, ◌^◌, List, [], ◌++◌, length, codes, nat_le}
+use Rattle.std.specs.Prelude.{if◌then◌else◌, ◌==◌}
 use Rattle.std.specs.Prelude.{Option, None, Some, option_and_then, Result, Ok, Err, slice_get}
 use Rattle.mesh_read.specs.Surface.Surfaces.{Point, Content}
 use Rattle.mesh_read.specs.Stl.Binary.{point_at}
@@ -58,7 +59,8 @@ accessor_in index document = or_fault (Accessor index) (item_in (codes "accessor
 -- the elements of three binary32 each
 abbrev pub positions_of : ℕ → Data → List (List ℕ) → Data → Result Elements GltfFault
 positions_of index document buffers accessor =
-    if is_kind (codes "VEC3") 5126 accessor then elements_of 12 index document buffers accessor else Err (Accessor index)
+    if is_kind (codes "VEC3") 5126 accessor then elements_of 12 index document buffers accessor
+    else Err (Accessor index)
 
 unfoldable pub positions_at : ℕ → Data → List (List ℕ) → Result Elements GltfFault
 positions_at index document buffers =
@@ -100,7 +102,8 @@ indexed mesh index base points document buffers =
 abbrev pub corners_by : ℕ → ℕ → ℕ → Data → List (List ℕ) → Option Data → Option ℕ → Result (List ℕ) GltfFault
 corners_by mesh base points document buffers None index = Ok (corners_in_row base points)
 corners_by mesh base points document buffers (Some member) None = Err (Mesh mesh)
-corners_by mesh base points document buffers (Some member) (Some index) = indexed mesh index base points document buffers
+corners_by mesh base points document buffers (Some member) (Some index) =
+    indexed mesh index base points document buffers
 
 -- the corners of a primitive: by its indices or, if it has none, its points in their order
 unfoldable pub corners_of : ℕ → ℕ → ℕ → Data → List (List ℕ) → Data → Result (List ℕ) GltfFault

@@ -1,16 +1,17 @@
 -- What the bytes of a glTF document mean: points and triangles, or the first fault
-use Rattle.std.specs.Prelude.{ℕ, Bool, false, ◌||◌, List, [], codes, if◌then◌else◌}
+use Rattle.std.specs.Prelude.{ℕ, Bool, false, ◌||◌, List, codes, if◌then◌else◌}
 use Rattle.std.specs.Prelude.{Option, None, Some, option_and_then, Result, Err}
 use Rattle.std.specs.Str.{bytes_eq, is_utf8}
 use Rattle.mesh_read.specs.declared.surface.flaw.Flaw.{Flaw}
 use Rattle.mesh_read.specs.declared.surface.flaw.Flaw.TheVariants as flaw
-use Rattle.mesh_read.specs.Surface.Surfaces.{Content}
+use Rattle.mesh_read.specs.Surface.Surfaces.{Content, no_content}
 use Rattle.mesh_read.specs.Surface.Flaws.{as_mesh}
 use Rattle.serde_json.specs.Data.{Data, Items, no_items, item}
 use Rattle.serde_json.specs.Read.{read}
 use Rattle.serde_json.specs.Find.{get, as_array, as_str}
 use Rattle.mesh_gltf.specs.declared.fault.GltfFault.{GltfFault}
-use Rattle.mesh_gltf.specs.declared.fault.GltfFault.TheVariants.{NoJson, Draco, Meshopt, Instances, NoTriangles, TooLarge}
+use Rattle.mesh_gltf.specs.declared.fault.GltfFault.TheVariants.{NoJson, Draco, Meshopt, Instances, NoTriangles}
+use Rattle.mesh_gltf.specs.declared.fault.GltfFault.TheVariants.{TooLarge}
 use Rattle.mesh_gltf.specs.Chunks.{chunks_of}
 use Rattle.mesh_gltf.specs.Buffers.{buffers_of}
 use Rattle.mesh_gltf.specs.Primitives.{and_then, or_fault}
@@ -36,8 +37,6 @@ needs extension document =
     lists extension (option_and_then as_array (get (codes "extensionsRequired") document))
 
 -- ---- the document
-abbrev pub nothing : Content
-nothing = record { points = []; facets = [] }
 
 -- the content of a document with this binary chunk
 unfoldable pub document_content : Option (List ℕ) → Data → Result Content GltfFault
@@ -45,7 +44,7 @@ document_content chunk document =
     if needs (codes "KHR_draco_mesh_compression") document then Err Draco
     else (if needs (codes "EXT_meshopt_compression") document then Err Meshopt
     else (if needs (codes "EXT_mesh_gpu_instancing") document then Err Instances
-    else and_then (buffers_of chunk document) (λ buffers. scene_content document buffers nothing)))
+    else and_then (buffers_of chunk document) (λ buffers. scene_content document buffers no_content)))
 
 -- the value that a JSON text has, if its bytes are UTF-8
 abbrev pub json_value : List ℕ → Option Data

@@ -81,7 +81,8 @@ fn buffer_in<'a>(
     value: &Value,
     chunk: Option<&'a [u8]>,
 ) -> Result<Buffer<'a>, GltfFault>
-    ensures ok { IfOk result (λ b. buffer_in (option_map (λ c. c.now) chunk.entry) index (view value.now) ≡ Ok (bytes_seen b)) }
+    ensures ok { IfOk result (λ b. buffer_in (option_map (λ c. c.now) chunk.entry) index
+        (view value.now) ≡ Ok (bytes_seen b)) }
     ensures fault { IfErr result (λ e. (e ≡ GltfFault.OutOfMemory)
         ⊎ (buffer_in (option_map (λ c. c.now) chunk.entry) index (view value.now) ≡ Err e)) }
 {

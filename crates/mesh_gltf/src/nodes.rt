@@ -258,8 +258,9 @@ fn add_nodes<'a>(
 ) -> Result<(), GltfFault>
     requires points { length surface.old.vertices.items ≤ 2 ^ 24 }
     requires corners { length surface.old.facets.items ≤ 2 ^ 24 }
-    ensures ok { OnOk result (with_nodes (nodes_count (view document.now)) (view document.now) (map bytes_seen buffers.now)
-        waiting.old.items (content_of surface.old) ≡ Ok (content_of surface.new)) }
+    ensures ok { OnOk result (with_nodes (nodes_count (view document.now)) (view document.now)
+        (map bytes_seen buffers.now) waiting.old.items (content_of surface.old)
+        ≡ Ok (content_of surface.new)) }
     ensures fault { IfErr result (λ e. (e ≡ GltfFault.OutOfMemory)
         ⊎ (with_nodes (nodes_count (view document.now)) (view document.now) (map bytes_seen buffers.now)
         waiting.old.items (content_of surface.old) ≡ Err e)) }

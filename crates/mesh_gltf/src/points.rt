@@ -36,8 +36,8 @@ pub(crate) fn elements_of<'b>(
     buffers: &'b [Buffer],
     accessor: &Value,
 ) -> Result<Elements<'b>, GltfFault>
-    ensures ok { IfOk result (λ e. elements_of size index (view document.now) (map bytes_seen buffers.now) (view accessor.now)
-        ≡ Ok (elements_seen e)) }
+    ensures ok { IfOk result (λ e. elements_of size index (view document.now)
+        (map bytes_seen buffers.now) (view accessor.now) ≡ Ok (elements_seen e)) }
     ensures inside { IfOk result (λ e. is_inside size e.window e.bytes.now ≡ true) }
     ensures fault { IfErr result (λ e.
         elements_of size index (view document.now) (map bytes_seen buffers.now) (view accessor.now) ≡ Err e) }

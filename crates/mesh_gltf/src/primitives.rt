@@ -54,8 +54,8 @@ fn read_indexed(
     buffers: &[Buffer],
 ) -> Result<(), GltfFault>
     requires { place.base + place.points < 2 ^ 32 }
-    ensures ok { OnOk result (indexed place.mesh index place.base place.points (view document.now) (map bytes_seen buffers.now)
-        ≡ Ok corners.new.items) }
+    ensures ok { OnOk result (indexed place.mesh index place.base place.points (view document.now)
+        (map bytes_seen buffers.now) ≡ Ok corners.new.items) }
     ensures fault { IfErr result (λ e. (e ≡ GltfFault.OutOfMemory)
         ⊎ (indexed place.mesh index place.base place.points (view document.now) (map bytes_seen buffers.now) ≡ Err e)) }
 {
@@ -84,7 +84,8 @@ fn corners_of(
     primitive: &Value,
 ) -> Result<(), GltfFault>
     requires { place.base + place.points < 2 ^ 32 }
-    ensures ok { OnOk result (corners_of place.mesh place.base place.points (view document.now) (map bytes_seen buffers.now)
+    ensures ok { OnOk result (corners_of place.mesh place.base place.points (view document.now)
+        (map bytes_seen buffers.now)
         (view primitive.now) ≡ Ok corners.new.items) }
     ensures fault { IfErr result (λ e. (e ≡ GltfFault.OutOfMemory)
         ⊎ (corners_of place.mesh place.base place.points (view document.now) (map bytes_seen buffers.now)

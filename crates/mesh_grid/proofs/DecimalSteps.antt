@@ -1,6 +1,6 @@
 -- Steps as decimals: trillionths, and fractions without zeros at their end.
 use Rattle.std.proofs.Common.{◌≡◌, ◌≤◌, ◌<◌, ◌⊎◌, ⊎_elim, inl, inr, ℕ, zero, suc, Bool, true, false, cond, nat_lt}
-use Rattle.std.proofs.Common.{Option, Some, None, ◌+◌, ◌-◌, ◌*◌, ◌/◌, ◌%◌, ◌^◌, refl, subst, ◌∙◌, sym, ap, arith, ℤ}
+use Rattle.std.proofs.Common.{Some, None, ◌-◌, ◌*◌, ◌/◌, ◌%◌, ◌^◌, refl, subst, ◌∙◌, sym, ap, arith, ℤ}
 use Rattle.std.proofs.Common.{pos, negsuc, neg_ℤ, ◌*ℤ◌, ◌<ℤ◌, ◌≤ℤ◌, mul-pos}
 use borrow.Author.Differences.{ints}
 use Rattle.std.specs.Int.{int_div_euclid}
@@ -13,6 +13,7 @@ use Rattle.std.proofs.Math.Nat.{pow-le-pow_right, eq_of_mul-eq-mul_left, eq_of_m
 use Rattle.ember_algebra.proofs.Laws.{linear, *ℤ-neg, neg-*ℤ}
 use lib.IntN.{*ℤ_comm}
 use Rattle.std.proofs.Math.IntN.{neg_ℤ-neg_ℤ}
+use Rattle.ember_algebra.proofs.Booleans.{same_some}
 use Rattle.mesh_number.specs.Number.Fractions.{Fraction, is_below_limit, floor_times, floor_of_multiple}
 use Rattle.mesh_number.proofs.DigitNumbers.{pow_ten_pos}
 use Rattle.mesh_grid.specs.declared.snap.steps.GridStep.{GridStep}
@@ -194,14 +195,10 @@ whole_floors a f d y z t p e g h =
     let second : z ≡ neg_ℤ t = g ∙ floor_of_whole (pos f *ℤ neg_ℤ a) (neg_ℤ t) d p sign in
     first ∙ sym (neg_ℤ-neg_ℤ t) ∙ ap neg_ℤ (sym second)
 
--- the values of two equal options are equal
-pub some_inj : {X : Type 0} {x y : X} → Some x ≡ Some y → x ≡ y
-some_inj {X} {x} {y} e = ap (λ (o : Option X). elim o as (λ _. X) [ None ↦ x | Some z ↦ z ]) e
-
 -- what a floor that is given tells
 pub floor_given : (f : ℕ) (v : Fraction) (z : ℤ) → Some z ≡ floor_times f v → z ≡ floor_of_multiple f v
 floor_given f v z h = by (is_below_limit v) h
   where
     by : (b : Bool) → Some z ≡ cond b (Some (floor_of_multiple f v)) None → z ≡ floor_of_multiple f v
-    by true h = some_inj h
+    by true h = same_some h
     by false h = absurd (cc)

@@ -37,7 +37,7 @@ floor_scaled a k d p q =
     ∙ ap (λ (z : ℤ). int_div_euclid (z +ℤ pos 0) (pos d)) inner ∙ ap (λ (z : ℤ). int_div_euclid z (pos d)) more
 
 -- equal numbers have one cell
-same_cell : (s : GridStep) (v w : Fraction) → 0 < s.numerator → 0 < v.denominator → 0 < w.denominator → is_same_number v w ≡ true → cell_of s v ≡ cell_of s w
+pub same_cell : (s : GridStep) (v w : Fraction) → 0 < s.numerator → 0 < v.denominator → 0 < w.denominator → is_same_number v w ≡ true → cell_of s v ≡ cell_of s w
 same_cell s v w n p q h =
     let zero = zero_out (v.numerator *ℤ pos w.denominator -ℤ w.numerator *ℤ pos v.denominator) h in
     let cross : v.numerator *ℤ pos w.denominator ≡ w.numerator *ℤ pos v.denominator = omega (arith, linear, zero) in
@@ -52,7 +52,8 @@ same_cell s v w n p q h =
     let under : w.denominator * (v.denominator * (2 * s.numerator)) ≡ v.denominator * (w.denominator * (2 * s.numerator)) = omega arith in
     sym left ∙ (λ i. int_div_euclid (up i) (pos (under i))) ∙ right
 
-same_corner_on : (g : Grid) (v w : Vertex) → IsStep g.step → is_same_position v w ≡ true → corner_on g v ≡ corner_on g w
+-- vertices of one position have one corner on a grid
+pub same_corner_on : (g : Grid) (v w : Vertex) → IsStep g.step → is_same_position v w ≡ true → corner_on g v ≡ corner_on g w
 unfolding cell_at
 same_corner_on g v w s h =
     let p = and_parts _ _ h in
@@ -63,11 +64,13 @@ same_corner_on g v w s h =
     λ i. record { x = x i -ℤ g.offset.x; y = y i -ℤ g.offset.y; z = z i -ℤ g.offset.z }
 
 -- ---- the first vertex at a position
-same_number-refl : (v : Fraction) → is_same_number v v ≡ true
+-- a number is the same as itself
+pub same_number-refl : (v : Fraction) → is_same_number v v ≡ true
 same_number-refl v =
     let e : v.numerator *ℤ pos v.denominator -ℤ v.numerator *ℤ pos v.denominator ≡ pos 0 = omega (arith, linear) in ap is_zero e
 
-same_position-refl : (v : Vertex) → is_same_position v v ≡ true
+-- a vertex has the same position as itself
+pub same_position-refl : (v : Vertex) → is_same_position v v ≡ true
 same_position-refl v =
     and_from _ _ (same_number-refl (value_of v.x)) (and_from _ _ (same_number-refl (value_of v.y)) (same_number-refl (value_of v.z)))
 

@@ -3,17 +3,18 @@ use Rattle.std.proofs.Common.{◌≡◌, ◌≤◌, ◌<◌, ℕ, true, Option, 
 use borrow.Author.Differences.{ints}
 use Rattle.std.specs.Prelude.{IfSome, IfNone}
 use Rattle.std.specs.Int.RustNames.{unsigned_abs}
+use Rattle.ember_algebra.proofs.Booleans.{same_some}
 use Rattle.mesh_number.specs.Number.Fractions.{Fraction, is_below_limit}
 use Rattle.mesh_number.specs.Number.Texts.{value_of_text}
 use Rattle.mesh_grid.specs.declared.snap.steps.GridStep.{GridStep}
 use Rattle.mesh_grid.specs.Snap.Decimals.{IsMultiple, IsStepOfTrillionths, IsStepOf, IsLeastStepOf}
-use Rattle.mesh_grid.proofs.DecimalSteps.{some_inj, trillionths_of_step, step_from_trillionths, step_has_trillionths, step_below_limit, step_positive}
+use Rattle.mesh_grid.proofs.DecimalSteps.{trillionths_of_step, step_from_trillionths, step_has_trillionths, step_below_limit, step_positive}
 
 -- a step of the text has the text's value
 same_value : (text : List ℕ) (v : Fraction) (s : GridStep) → value_of_text text ≡ Some v → (o : IsStepOf text s) →
     (v.numerator *ℤ pos s.denominator) ≡ pos (s.numerator * v.denominator)
 same_value text v s e o =
-    subst (λ (w : Fraction). (w.numerator *ℤ pos s.denominator) ≡ pos (s.numerator * w.denominator)) (some_inj (sym o.spells ∙ e)) o.same
+    subst (λ (w : Fraction). (w.numerator *ℤ pos s.denominator) ≡ pos (s.numerator * w.denominator)) (same_some (sym o.spells ∙ e)) o.same
 
 -- and as many trillionths
 in_trillionths : (text : List ℕ) (v : Fraction) (t : ℕ) (s : GridStep) → value_of_text text ≡ Some v → 0 < v.denominator →

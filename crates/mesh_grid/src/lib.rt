@@ -6,11 +6,11 @@ mod moves;
 mod snap;
 
 pub use grid::{
-    Grid, GridFault, SceneExtent, SnapFault, Snapped, Wanted, corner_marks, count_images, grid_of,
+    Grid, GridFault, SceneExtent, SnapFault, Snapped, Wanted, count_images, grid_of,
     maps_keep_meshes_closed, place_of_edge, snap_surface,
 };
-pub use moves::{Length, greatest_move, greatest_moves, moves_are_not_below_the_true_ones};
+pub use moves::{Length, greatest_moves, moves_are_not_below_the_true_ones};
 pub use snap::{
-    Coordinates, GridStep, Offset, are_coordinates, cell, finest_step, grid_number, nice_step,
-    offset_at, remainder, step_of,
+    Coordinates, GridStep, Offset, are_coordinates, cell, finest_step, nice_step, offset_at,
+    step_of,
 };

@@ -8,6 +8,6 @@ mod length;
 mod shown;
 mod squares;
 
-pub use greatest::{greatest_move, greatest_moves};
+pub use greatest::greatest_moves;
 pub use laws::moves_are_not_below_the_true_ones;
 pub use length::Length;

@@ -1,4 +1,3 @@
-pub mod Appended
 pub mod EdgeUses
 pub mod Meshes
 pub mod SaidLines

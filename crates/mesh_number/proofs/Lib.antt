@@ -1,3 +1,4 @@
+pub mod Appended
 pub mod Rounding
 pub mod DigitNumbers
 pub mod Parts

@@ -39,7 +39,8 @@ from_zero : (x d : ℕ) → gap x (0 * d) ≡ x
 unfolding gap
 from_zero x d = omega arith
 
-abbrev number : Bool → ℕ → Fraction
+-- a float as a fraction
+abbrev pub number : Bool → ℕ → Fraction
 number minus n = record { numerator = signed_whole minus n; denominator = 2 ^ 149 }
 
 no_sign : (minus : Bool) → number (not minus) 0 ≡ number minus 0

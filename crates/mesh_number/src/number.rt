@@ -3,14 +3,12 @@
 
 mod binary_sizes;
 mod decimal_sizes;
-mod digits;
 mod floats;
 mod floors;
 mod naturals;
 mod texts;
 mod values;
 
-pub use digits::{append_digits, are_digits};
 pub use floats::{binary32, binary64, integer};
 pub use floors::{floor_times, is_below_limit};
 pub use naturals::{MOST, number_below, number_in};

@@ -1,15 +1,15 @@
 -- Each corner that is read is a vertex
-use Rattle.std.proofs.Common.{◌≡◌, ℕ, zero, suc, Bool, true, false, ◌<◌, ◌+◌, List, [], ◌∷◌, ◌++◌, length, refl, sym}
-use Rattle.std.proofs.Common.{subst, arith, inl, inr, length-append, Option, None, Some, Result, Ok, Err, All}
+use Rattle.std.proofs.Common.{ℕ, zero, suc, Bool, true, false, ◌<◌, ◌+◌, List, [], ◌∷◌, ◌++◌, length}
+use Rattle.std.proofs.Common.{arith, length-append, Option, None, Some, Result, Ok, Err, All}
 use Rattle.std.specs.Prelude.{if◌then◌else◌, nat_lt, IfOk, IfSome}
-use Rattle.std.proofs.lemmas.Bool.{cases_Bool, ltb-true}
 use Rattle.std.proofs.lemmas.List.Elements.{All-nil, All-push, All-append, All-weaker}
 use Rattle.mesh_number.specs.Number.Fractions.{Fraction}
 use Rattle.mesh_number.specs.Number.Naturals.{below}
 use Rattle.mesh_read.specs.declared.surface.surface.Facet.{Facet}
-use Rattle.mesh_read.specs.Surface.Surfaces.{Point, Content, IsWithin, fan}
+use Rattle.mesh_read.specs.Surface.Surfaces.{Point, Content, IsWithin, fan, no_content}
 use Rattle.mesh_read.proofs.Fans.{fan_within}
 use Rattle.mesh_read.proofs.Flaws.{IsSound}
+use Rattle.mesh_read.proofs.Soundness.{limited}
 use Rattle.mesh_ply.specs.declared.declarations.ScalarType.{ScalarType}
 use Rattle.mesh_ply.specs.declared.declarations.Encoding.{Encoding}
 use Rattle.mesh_ply.specs.declared.declarations.Axis.{Axis}
@@ -29,7 +29,7 @@ use Rattle.mesh_ply.specs.Rows.{and_then, Row, empty_row, unless_short, one_scal
 use Rattle.mesh_ply.specs.Rows.{corner_or_fault, corner_of, corners_from, skipped, list_of_size, size_of}
 use Rattle.mesh_ply.specs.Rows.{scalar_property, list_property, begins_property, properties, row_at}
 use Rattle.mesh_ply.specs.ReadPly.{point_of_three, facets_of, with_row, place_of, rows_from, bare_fault, unless_fault}
-use Rattle.mesh_ply.specs.ReadPly.{element_rows, elements_from, no_content, content_in, content_of_file}
+use Rattle.mesh_ply.specs.ReadPly.{element_rows, elements_from, content_in, content_of_file}
 
 -- what a step keeps if the first part gives what the second needs
 then_holds : {A B : Type 0} (P : A → Type 0) (Q : B → Type 0) (r : Result A PlyFault) (next : A → Result B PlyFault) →
@@ -46,14 +46,6 @@ AreBelow v corners = All (λ c. c < v) corners
 
 abbrev HasBelow : ℕ → Row → Type 0
 HasBelow v row = IfSome row.corners (AreBelow v)
-
-limited : (v : ℕ) (n : Option ℕ) → IfSome (below v n) (λ c. c < v)
-limited v None = tt
-limited v (Some n) =
-    elim (cases_Bool (nat_lt n v)) [
-      | inl h ↦ let e : below v (Some n) ≡ Some n = rw h refl in subst (λ (r : Option ℕ). IfSome r (λ c. c < v)) (sym e) (ltb-true n v h)
-      | inr h ↦ let e : below v (Some n) ≡ None = rw h refl in subst (λ (r : Option ℕ). IfSome r (λ c. c < v)) (sym e) tt
-    ]
 
 or_fault_sound : (place : RowPlace) (n : Option ℕ) → IfSome n (λ c. c < place.vertices) → IfOk (corner_or_fault place n) (λ c. c < place.vertices)
 or_fault_sound place None h = tt

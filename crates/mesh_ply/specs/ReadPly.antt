@@ -5,7 +5,7 @@ use Rattle.mesh_number.specs.Number.Fractions.{Fraction}
 use Rattle.mesh_read.specs.declared.surface.surface.Facet.{Facet}
 use Rattle.mesh_read.specs.declared.surface.flaw.Flaw.{Flaw}
 use Rattle.mesh_read.specs.declared.surface.flaw.Flaw.TheVariants as flaw
-use Rattle.mesh_read.specs.Surface.Surfaces.{Point, Content, fan}
+use Rattle.mesh_read.specs.Surface.Surfaces.{Point, Content, fan, no_content}
 use Rattle.mesh_read.specs.Surface.Flaws.{as_mesh}
 use Rattle.mesh_ply.specs.declared.declarations.Encoding.{Encoding}
 use Rattle.mesh_ply.specs.declared.declarations.ElementKind.{ElementKind}
@@ -87,8 +87,6 @@ elements_from (declaration.Scalar axis type ∷ ds) content cursor = elements_fr
 elements_from (declaration.List corners size item ∷ ds) content cursor = elements_from ds content cursor
 
 -- ---- the file
-abbrev pub no_content : Content
-no_content = record { points = []; facets = [] }
 
 -- the content of the rows after a header
 abbrev pub content_in : Option Encoding → List Declaration → List ℕ → Result Content PlyFault

@@ -1,8 +1,8 @@
 // The reading of a file.
 ghost use Rattle.std.specs.Prelude.{◌≡◌, ◌⊎◌, ◌≤◌, length, Ok, Err, IfOk, IfErr};
 ghost use Rattle.ember_model.specs.Limits.{most_bytes};
-ghost use Rattle.mesh_read.specs.Surface.Surfaces.{IsSurface, content_of};
-ghost use Rattle.mesh_ply.specs.ReadPly.{no_content, elements_from, content_of_file, read_ply_of};
+ghost use Rattle.mesh_read.specs.Surface.Surfaces.{IsSurface, content_of, no_content};
+ghost use Rattle.mesh_ply.specs.ReadPly.{elements_from, content_of_file, read_ply_of};
 ghost use Rattle.mesh_ply.specs.Cursors.{begun};
 
 use crate::cursor::first_cursor;

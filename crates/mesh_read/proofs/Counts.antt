@@ -3,7 +3,7 @@ use Rattle.std.proofs.Common.{◌≡◌, ℕ, Bool, true, false, ◌<◌, List, 
 use Rattle.std.specs.Prelude.{◌&&◌, if◌then◌else◌, nat_lt, nat_le}
 use Rattle.std.specs.Option.{option_map}
 use Rattle.std.proofs.lemmas.Bool.{cases_Bool, leb-true, leb-false}
-use Rattle.ember_dec.specs.Decimal.{number_from}
+use Rattle.ember_dec.specs.Digits.{number_from}
 use Rattle.ember_obj.specs.References.{is_number}
 use Rattle.mesh_number.specs.Number.Naturals.{number_of}
 use Rattle.mesh_read.specs.Wavefront.ReadWavefront.{counted}

@@ -4,7 +4,8 @@ use Rattle.std.proofs.Common.{append_assoc, arith, slice_index, inl, inr, drop}
 use Rattle.std.specs.Prelude.{◌==◌, if◌then◌else◌}
 use Rattle.std.proofs.lemmas.Bool.{cases_Bool}
 use Rattle.std.proofs.lemmas.List.{append-nil}
-use Rattle.mesh_read.specs.Scan.Parts.{Piece, before, onward, with_word_ending, words_by, before_lines, lines_from}
+use Rattle.ember_obj.specs.Scan.{before, onward}
+use Rattle.mesh_read.specs.Scan.Parts.{Piece, with_word_ending, words_by, before_lines, lines_from}
 
 abbrev piece : ℕ → List ℕ → Piece
 piece s text = record { start = s; text = text }

@@ -6,7 +6,7 @@ use Rattle.mesh_read.specs.declared.surface.surface.Facet.{Facet}
 use Rattle.mesh_read.specs.declared.surface.surface.Surface.{Surface}
 use Rattle.mesh_read.specs.declared.surface.flaw.Flaw.{Flaw}
 use Rattle.mesh_read.specs.Surface.Surfaces.{Content, point_of, content_of, IsWithin, IsSurface, first_far}
-use Rattle.mesh_read.specs.Surface.Flaws.{flaw_at, flaw_with, flaw_in, unless_flaw, as_mesh}
+use Rattle.mesh_read.specs.Surface.Flaws.{flaw_with, flaw_in, unless_flaw, as_mesh}
 
 -- what is read and has no flaw is a mesh
 pub mesh_found : {F : Type 0} (fault : Flaw → F) (read : Result Content F) (content : Content) →
@@ -41,7 +41,8 @@ reads_surface fault read (Err e) sound h = tt
 reads_surface fault read (Ok s) sound h = surface_of s (subst (λ c. IfOk c IsSound) h (mesh_sound fault read sound))
 
 -- ---- coordinates
-far_is_flaw : (far : Option ℕ) (facets : List Facet) → flaw_with far facets ≡ None → far ≡ None
+-- without a flaw no number is too far
+pub far_is_flaw : (far : Option ℕ) (facets : List Facet) → flaw_with far facets ≡ None → far ≡ None
 far_is_flaw far [] e = cc
 far_is_flaw None (f ∷ fs) e = refl
 far_is_flaw (Some place) (f ∷ fs) e = cc

@@ -4,7 +4,8 @@ use Rattle.std.proofs.Common.{refl, ap, ap₂, arith, Option, None, Some, inl, i
 use Rattle.std.specs.Prelude.{◌==◌, if◌then◌else◌, nat_le}
 use Rattle.std.specs.Option.{option_map}
 use Rattle.std.proofs.lemmas.Bool.{cases_Bool, leb-true, leb-false}
-use Rattle.mesh_read.specs.Scan.Parts.{Piece, is_separator, before_lines, lines_from, with_word_ending, words_from, uncommented, words_of}
+use Rattle.ember_obj.specs.Scan.{is_separator}
+use Rattle.mesh_read.specs.Scan.Parts.{Piece, before_lines, lines_from, with_word_ending, words_from, uncommented, words_of}
 use Rattle.mesh_read.specs.Off.Rows.{Words, with_row, rows_from}
 use Rattle.mesh_read.specs.Off.Limits.{capped}
 use Rattle.mesh_read.specs.Off.ReadOff.{Counts, points_of, facets_of, whole, counted, two_counts}

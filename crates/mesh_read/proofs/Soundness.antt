@@ -19,7 +19,8 @@ use Rattle.mesh_read.specs.Off.ReadOff.{fan_or_fault, facets_in, facets_of, Coun
 use Rattle.mesh_read.specs.Off.Keywords.{is_keyword, is_homogeneous, is_count}
 use Rattle.mesh_read.specs.Off.ReadOff.{behind_keyword, with_first, content_in}
 
-limited : (v : ℕ) (n : Option ℕ) → IfSome (below v n) (λ c. c < v)
+-- a number below a limit
+pub limited : (v : ℕ) (n : Option ℕ) → IfSome (below v n) (λ c. c < v)
 limited v None = tt
 limited v (Some n) =
     elim (cases_Bool (nat_lt n v)) [

@@ -4,9 +4,11 @@ use Rattle.std.proofs.Common.{refl, sym, subst, arith, inl, inr, Option, None, S
 use Rattle.std.specs.Prelude.{if◌then◌else◌, nat_lt, nat_le, IfOk, IfSome}
 use Rattle.std.proofs.lemmas.Bool.{cases_Bool, ltb-true, leb-true}
 use Rattle.std.proofs.lemmas.List.Elements.{All-nil, All-cons, All-append}
-use Rattle.ember_dec.specs.Decimal.{number_from, is_minus}
+use Rattle.ember_dec.specs.Digits.{number_from}
+use Rattle.ember_dec.specs.Decimal.{is_minus}
 use Rattle.ember_obj.specs.References.{is_slash, is_number, size_digits}
-use Rattle.mesh_read.specs.Scan.Parts.{Piece, before}
+use Rattle.ember_obj.specs.Scan.{before}
+use Rattle.mesh_read.specs.Scan.Parts.{Piece}
 use Rattle.mesh_read.specs.declared.surface.surface.Facet.{Facet}
 use Rattle.mesh_read.specs.Surface.Surfaces.{Point, Content, IsWithin, fan}
 use Rattle.mesh_read.proofs.Fans.{fan_within}
@@ -73,7 +75,7 @@ face_below v line (Ok corners) h =
 
 -- ---- rows
 -- more vertices don't harm
-below_more : (v w : ℕ) (facets : List Facet) → v ≤ w → All (IsWithin v) facets → All (IsWithin w) facets
+pub below_more : (v w : ℕ) (facets : List Facet) → v ≤ w → All (IsWithin v) facets → All (IsWithin w) facets
 below_more v w facets more h = λ k d l. λ i e m. omega (arith, h k d l i e m, more)
 
 point_sound : (content : Content) (p : Result Point Fault) → IsSound content → IfOk (with_point content p) IsSound

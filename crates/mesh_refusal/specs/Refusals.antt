@@ -76,7 +76,8 @@ reason_and_remedy (remedy ∷ others) text =
     split_at (before_remedy remedy text) remedy (reason_and_remedy others text)
 
 -- ---- the object
--- of a line with this text: the exit status, the file, the place in the text or the known one, the reason and the remedy
+-- of a line with this text: the exit status, the file, the place in the text or the known one, the reason and the
+-- remedy
 unfoldable pub refusal_object : ℕ → Option (List ℕ) → Option (List ℕ) → List ℕ → List ℕ
 refusal_object number file known why =
     let parts = parts_of file why in

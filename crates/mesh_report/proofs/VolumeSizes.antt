@@ -9,13 +9,6 @@ use Rattle.mesh_written.proofs.Signs.{fits_with_places}
 use Rattle.mesh_report.specs.Volumes.{cube, cubic_text, volume_text}
 
 -- ---- sizes
-pub square_is_small : (n : ℕ) → n < 2 ^ 40 → n * n < 2 ^ 80
-square_is_small n l =
-    let most : n ≤ 1099511627775 = omega (arith, l) in omega (arith, mul-le-mul most most)
-
-pub cube_is_small : (n : ℕ) → n < 2 ^ 40 → cube n < 2 ^ 120
-cube_is_small n l =
-    let most : n ≤ 1099511627775 = omega (arith, l) in omega (arith, mul-le-mul (mul-le-mul most most) most)
 
 cube_is_positive : (n : ℕ) → 0 < n → 0 < cube n
 cube_is_positive n p =

@@ -37,7 +37,8 @@ inside_out_text number name step sixfold_volume = codes "warning: " ++ turned_te
 -- the warning if the volume is below 0
 abbrev pub said_text : ℕ → List ℕ → GridStep → ℤ → List ℕ
 said_text number name step sixfold_volume =
-    if int_lt sixfold_volume (pos 0) then inside_out_text number name step sixfold_volume else plain_text name step sixfold_volume
+    if int_lt sixfold_volume (pos 0) then inside_out_text number name step sixfold_volume
+    else plain_text name step sixfold_volume
 
 -- the line of the file with this number
 abbrev pub volume_line : ℕ → List ℕ → GridStep → ℤ → List ℕ

@@ -6,7 +6,7 @@ use Rattle.std.specs.Io.KnownBytes.{Appends}
 use Rattle.std.specs.Prelude.{OnOk, OnErr}
 use Rattle.ember_io.specs.Causes.{HasCause}
 use Rattle.ember_io.specs.Sinks.{AppendsPrefix}
-use Rattle.mesh_run.specs.Calls.{SinkCall, TakesUntilFault}
+use Rattle.ember_io.specs.Calls.{SinkCall, TakesUntilFault}
 
 -- a text that was taken whole was taken up to its end
 whole_prefix : (old new : Option (List ℕ)) (text : List ℕ) → Appends old new text → AppendsPrefix old new text

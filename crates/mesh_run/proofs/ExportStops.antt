@@ -1,25 +1,21 @@
 -- Why a document isn't exported, step by step
-use Rattle.std.proofs.Common.{◌≡◌, ◌≤◌, ◌-◌, ℕ, List, [], Some, None, false, take, refl, sym, subst, ◌∙◌, arith}
-use Rattle.std.proofs.lemmas.List.Elements.{All-cons, All-nil}
+use Rattle.std.proofs.Common.{◌≡◌, ◌-◌, ℕ, List, Some, false, take, refl, sym, subst, ◌∙◌, arith}
+use Rattle.std.proofs.lemmas.List.Elements.{All-nil}
 use Rattle.std.specs.declared.alloc.Global.{Global}
 use Rattle.std.specs.declared.option.Option.{Option}
-use Rattle.std.specs.Prelude.{MatchOption, String}
+use Rattle.std.specs.Prelude.{String}
 use Rattle.std.specs.List.{All}
 use Rattle.mesh_boolean.specs.declared.document.DocumentFileFault.{DocumentFileFault}
 use Rattle.mesh_boolean.specs.declared.document.DocumentFileFault.TheVariants as file
-use Rattle.mesh_boolean.specs.DocumentFiles.{IsDocumentFileFault}
-use Rattle.mesh_grid.specs.declared.grid.grid.Grid.{Grid}
-use Rattle.ember_io.specs.Shelves.{TellsMore}
+use Rattle.ember_io.specs.Shelves.{TellsMore, AreBytes, IsFileIn}
 use Rattle.mesh_words.specs.declared.command.ExportRequest.{ExportRequest}
 use Rattle.mesh_solid.specs.declared.mesh.fault.DocumentFault.TheVariants as document
 use Rattle.mesh_solid.specs.declared.tables.fault.TableFault.TheVariants as table
 use Rattle.mesh_triangles.specs.declared.fault.TrianglesFault.TheVariants as mesh
-use Rattle.mesh_run.specs.Asked.{format_asked}
-use Rattle.mesh_run.specs.Calls.{ShelfCall}
-use Rattle.mesh_run.specs.Exports.{IsExportStop, IsFileLong, IsFileUnread, IsGridGiven, IsNoGrid, IsScene}
-use Rattle.mesh_run.specs.Exports.{IsSceneFile, IsUnreadFile, document_index, index_behind, status_of_document, unit_grid}
+use Rattle.ember_io.specs.Calls.{ShelfCall}
+use Rattle.mesh_run.specs.Exports.{IsExportStop, IsFileLong, IsFileUnread, IsNoGrid, IsScene}
+use Rattle.mesh_run.specs.Exports.{IsUnreadFile}
 use Rattle.mesh_refusal.specs.ExportLines.{names_read, with_document}
-use Rattle.mesh_run.specs.Files.{AreBytes, IsFileIn}
 use Rattle.mesh_texts.specs.Texts.{name_of}
 use Rattle.mesh_run.specs.Memory.{hides_memory}
 use Rattle.mesh_refusal.specs.declared.status.Status.{Status}
@@ -30,32 +26,6 @@ use Rattle.mesh_refusal.specs.declared.status.Status.TheVariants.{TooManyTriangl
 use Rattle.mesh_refusal.specs.declared.status.Status.TheVariants.{TooFar, DocumentRefused, OutOfMemory, Uncertified}
 
 -- ---- a file that isn't read
--- what is seen of a later part of a call is seen of the whole of it
-pub unread_since : (name : List ℕ) (number : ℕ) (late whole : ShelfCall) (status : Status) → late.told ≡ whole.told →
-    whole.faults ≤ late.faults → late.faults_after ≡ whole.faults_after → late.fault_at ≡ whole.fault_at →
-    late.fault_kind ≡ whole.fault_kind → IsUnreadFile name number late status → IsUnreadFile name number whole status
-unread_since name number late whole Done told before after at kind_is h = absurd h
-unread_since name number late whole (Words refusal) told before after at kind_is h = absurd h
-unread_since name number late whole StepOfNoGrid told before after at kind_is h = absurd h
-unread_since name number late whole (ReadFault i kind) told before after at kind_is h =
-    (h.0, omega (arith, h.1, before, after), sym at ∙ h.2, h.3 ∙ kind_is)
-unread_since name number late whole WriteFault told before after at kind_is h = absurd h
-unread_since name number late whole (NotWritten file) told before after at kind_is h = absurd h
-unread_since name number late whole (FileRefused i reason) told before after at kind_is h = absurd h
-unread_since name number late whole NoTriangles told before after at kind_is h = absurd h
-unread_since name number late whole NotAScene told before after at kind_is h = absurd h
-unread_since name number late whole (NotClosed o format) told before after at kind_is h = absurd h
-unread_since name number late whole (ExprRefused fault) told before after at kind_is h = absurd h
-unread_since name number late whole Unbounded told before after at kind_is h = absurd h
-unread_since name number late whole (LongFile i) told before after at kind_is h =
-    (h.0, subst (λ (told : List ℕ → Option (List ℕ)). TellsMore (told name) 268435456) told h.1)
-unread_since name number late whole (TooManyTriangles count) told before after at kind_is h = absurd h
-unread_since name number late whole TooManyWritten told before after at kind_is h = absurd h
-unread_since name number late whole (StepTooSmall extent) told before after at kind_is h = absurd h
-unread_since name number late whole TooFar told before after at kind_is h = absurd h
-unread_since name number late whole (DocumentRefused fault) told before after at kind_is h = absurd h
-unread_since name number late whole OutOfMemory told before after at kind_is h = tt
-unread_since name number late whole (Uncertified fault) told before after at kind_is h = absurd h
 
 -- file i isn't read, and those before it are scenes
 unread_stop : (request : ExportRequest) (shelf : ShelfCall) (name : List ℕ) (i : ℕ) (status : Status) →
@@ -100,27 +70,6 @@ scene_stop request shelf name status e h =
     let is = scene_is_first request.document name request.scene e in
     unread_stop request shelf name 1 status is.0 is.1 (All-nil (IsScene shelf.told)) h
 
-document_is_last : (document : List ℕ) (scene : Option (List ℕ)) →
-    IsFileIn (with_document scene document) (index_behind scene) ×
-    (name_of (with_document scene document) (index_behind scene) ≡ document)
-document_is_last document None = (record { first = omega arith; last = omega arith }, refl)
-document_is_last document (Some scene) = (record { first = omega arith; last = omega arith }, refl)
-
-scenes_are_before : (told : List ℕ → Option (List ℕ)) (document : List ℕ) (scene : Option (List ℕ)) (grid : Grid) →
-    MatchOption scene (grid ≡ unit_grid) (λ name. IsSceneFile told name grid) →
-    All (IsScene told) (take (index_behind scene - 1) (with_document scene document))
-scenes_are_before told document None grid h = All-nil (IsScene told)
-scenes_are_before told document (Some scene) grid h = All-cons (IsScene told) scene [] (grid, h) (All-nil (IsScene told))
-
--- the document isn't read, but the scene is
-pub document_unread_stop : (request : ExportRequest) (shelf : ShelfCall) (grid : Grid) (status : Status) →
-    IsGridGiven request shelf.told grid → IsUnreadFile request.document (document_index request) shelf status →
-    IsExportStop request shelf status
-document_unread_stop request shelf grid status given h =
-    let is = document_is_last request.document request.scene in
-    unread_stop request shelf request.document (document_index request) status is.0 is.1
-    (scenes_are_before shelf.told request.document request.scene grid given) h
-
 -- ---- a scene without a grid
 pub grid_stop : (request : ExportRequest) (shelf : ShelfCall) (name bytes : List ℕ) (status : Status) →
     request.scene ≡ Some name → AreBytes shelf.told name bytes → IsNoGrid bytes status → IsExportStop request shelf status
@@ -144,16 +93,6 @@ grid_stop request shelf name bytes TooFar e are h = absurd h
 grid_stop request shelf name bytes (DocumentRefused fault) e are h = absurd h
 grid_stop request shelf name bytes OutOfMemory e are h = tt
 grid_stop request shelf name bytes (Uncertified fault) e are h = absurd h
-
--- ---- a document without a file
-pub document_stop : (request : ExportRequest) (shelf : ShelfCall) (grid : Grid) (bytes : List ℕ)
-    (fault : DocumentFileFault) → IsGridGiven request shelf.told grid → AreBytes shelf.told request.document bytes →
-    IsDocumentFileFault bytes grid (format_asked request.format request.digits) fault →
-    IsExportStop request shelf (status_of_document fault)
-document_stop request shelf grid bytes (file.Document fault) given are h = record { grid = grid; grid_is = given; bytes = bytes; are_bytes = are; is_fault = h }
-document_stop request shelf grid bytes file.TooFar given are h = record { grid = grid; grid_is = given; bytes = bytes; are_bytes = are; is_fault = h }
-document_stop request shelf grid bytes file.TooManyTriangles given are h = record { grid = grid; grid_is = given; bytes = bytes; are_bytes = are; is_fault = h }
-document_stop request shelf grid bytes file.OutOfMemory given are h = tt
 
 -- ---- statuses
 -- that a file isn't written is no reason

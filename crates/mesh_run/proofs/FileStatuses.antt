@@ -18,10 +18,10 @@ use Rattle.mesh_scene.specs.declared.scene.fault.SceneFault.TheVariants as scene
 use Rattle.ember_io.specs.declared.shelf.FaultKind.{FaultKind}
 use Rattle.ember_io.specs.declared.shelf.ReadEnd.{ReadEnd}
 use Rattle.ember_io.specs.declared.shelf.ReadEnd.TheVariants as read
-use Rattle.ember_io.specs.Shelves.{TellsMore}
-use Rattle.mesh_run.specs.Calls.{ShelfCall, HasShelfFailed}
+use Rattle.ember_io.specs.Shelves.{TellsMore, IsFileIn}
+use Rattle.ember_io.specs.Calls.{ShelfCall, HasShelfFailed}
 use Rattle.mesh_run.specs.Causes.{end_status, IsEndAt, IsFilesCause, IsPlacingCause, IsReadingCause, IsRefusalCause, IsRefused}
-use Rattle.mesh_run.specs.Files.{AreFiles, AreRead, IsFileIn}
+use Rattle.mesh_run.specs.Files.{AreFiles, AreRead}
 use Rattle.mesh_texts.specs.Texts.{name_of}
 use Rattle.mesh_refusal.specs.Statuses.{HasReason, IsStatusOf, NamesFile}
 use Rattle.mesh_run.proofs.ToldFiles.{file_up_to, files_are_as_many, files_up_to}
@@ -31,11 +31,6 @@ use Rattle.mesh_refusal.specs.declared.status.Status.TheVariants.{NotWritten, Fi
 use Rattle.mesh_refusal.specs.declared.status.Status.TheVariants.{NotClosed, ExprRefused, Unbounded, LongFile}
 use Rattle.mesh_refusal.specs.declared.status.Status.TheVariants.{TooManyTriangles, TooManyWritten, StepTooSmall}
 use Rattle.mesh_refusal.specs.declared.status.Status.TheVariants.{TooFar, DocumentRefused, OutOfMemory, Uncertified}
-
--- the files before one that can't be read are read
-pub read_before : (told : List ℕ → Option (List ℕ)) (names : List (List ℕ)) (n : ℕ) → AreRead told (take n names) → AreRead told (take (n + 1 - 1) names)
-read_before told names n h =
-    let back : n ≡ n + 1 - 1 = omega arith in subst (λ (k : ℕ). AreRead told (take k names)) back h
 
 -- a file that is refused is one that isn't read
 refusal_is_cause : (names : List (List ℕ)) (shelf : ShelfCall) (status : Status) → IsRefusalCause shelf.told names status → IsReadingCause names shelf status

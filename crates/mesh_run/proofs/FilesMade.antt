@@ -29,9 +29,3 @@ pub others_are_appended : (old between new made others : List NamedBytes) → be
     new ≡ between ++ others → new ≡ old ++ (made ++ others)
 others_are_appended old between new made others e f =
     f ∙ ap (λ (files : List NamedBytes). files ++ others) e ∙ append_assoc old made others
-
--- files that are appended, and then one more
-pub one_more_is_appended : (old between new made : List NamedBytes) (file : NamedBytes) → between ≡ old ++ made →
-    new ≡ between ++ file ∷ [] → new ≡ old ++ (made ++ file ∷ [])
-one_more_is_appended old between new made file e f =
-    f ∙ ap (λ (files : List NamedBytes). files ++ file ∷ []) e ∙ append_assoc old made (file ∷ [])

@@ -10,7 +10,7 @@ use Rattle.mesh_file.specs.File.Faults.{Fault}
 use Rattle.mesh_info.specs.Info.Lines.{IsInfoLine}
 use Rattle.mesh_read.specs.declared.surface.surface.Surface.{Surface}
 use Rattle.mesh_read.specs.Surface.Surfaces.{Content}
-use Rattle.mesh_run.specs.Calls.{ShelfCall, SinkCall}
+use Rattle.ember_io.specs.Calls.{ShelfCall, SinkCall}
 use Rattle.mesh_run.specs.Causes.{IsReadingCause, IsRefusalCause}
 use Rattle.mesh_run.specs.Infos.{AreInfoLines, IsFileLine}
 use Rattle.mesh_refusal.specs.Said.{reading_said}

@@ -6,7 +6,8 @@ use Rattle.mesh_words.specs.declared.command.Command.TheVariants.{Boole, Snap, E
 use Rattle.mesh_words.specs.declared.faults.Refusal.{Refusal}
 use Rattle.mesh_words.specs.Arguments.{words_ask_json}
 use Rattle.mesh_words.specs.Commands.{command_of}
-use Rattle.mesh_run.specs.Calls.{ShelfCall, TargetCall, SinkCall, HoldsAll, KeepsContents, TakesUntilFault}
+use Rattle.ember_io.specs.Calls.{ShelfCall, SinkCall, KeepsContents, TakesUntilFault}
+use Rattle.mesh_run.specs.Calls.{TargetCall, HoldsAll}
 use Rattle.mesh_refusal.specs.Said.{memory_said}
 use Rattle.mesh_run.specs.Memory.{hides_memory}
 use Rattle.mesh_run.specs.Serves.{IsOutcome, MeshServes}

@@ -2,7 +2,7 @@
 use Rattle.std.proofs.Common.{◌≡◌, ◌⊎◌, inl, inr, ℕ, Bool, List, refl, sym, subst}
 use Rattle.std.specs.Prelude.{Some, None}
 use Rattle.std.specs.declared.option.Option.{Option}
-use Rattle.mesh_run.specs.Calls.{SinkCall}
+use Rattle.ember_io.specs.Calls.{SinkCall}
 use Rattle.mesh_run.specs.Serves.{IsSent}
 use Rattle.mesh_run.specs.Unmet.{EndsOn}
 use Rattle.mesh_refusal.specs.declared.status.Status.{Status}

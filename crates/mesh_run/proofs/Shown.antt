@@ -14,7 +14,7 @@ use Rattle.mesh_scene.specs.declared.scene.fault.SceneFault.TheVariants as scene
 use Rattle.mesh_scene.specs.declared.scene.scene.PlacedScene.{PlacedScene}
 use Rattle.mesh_grid.specs.declared.snap.steps.GridStep.{GridStep}
 use Rattle.mesh_grid.specs.Snap.Steps.{IsStep, fine_decade}
-use Rattle.mesh_run.specs.Calls.{ShelfCall}
+use Rattle.ember_io.specs.Calls.{ShelfCall}
 use Rattle.mesh_run.specs.Causes.{HaveOpen, HaveSceneFault, IsSnapStop, IsStop}
 use Rattle.mesh_refusal.specs.Lines.{IsShown}
 use Rattle.mesh_run.specs.Outputs.{IsOutputFor, IsPlacedFor}

@@ -5,7 +5,7 @@ use Rattle.std.specs.Prelude.{String}
 use Rattle.mesh_grid.specs.declared.grid.choice.Wanted.{Wanted}
 use Rattle.mesh_words.specs.declared.command.SnapRequest.{SnapRequest}
 use Rattle.mesh_run.specs.Asked.{IsWanted}
-use Rattle.mesh_run.specs.Calls.{ShelfCall}
+use Rattle.ember_io.specs.Calls.{ShelfCall}
 use Rattle.mesh_run.specs.Causes.{IsPlacingCause, IsReadingCause, IsSnapStop}
 use Rattle.mesh_run.specs.Memory.{hides_memory}
 use Rattle.mesh_refusal.specs.declared.status.Status.{Status}

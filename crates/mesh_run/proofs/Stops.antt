@@ -8,7 +8,7 @@ use Rattle.mesh_solid.specs.declared.mesh.fault.SolidFault.TheVariants as solid
 use Rattle.mesh_solid.specs.declared.tables.fault.TableFault.TheVariants as table
 use Rattle.mesh_triangles.specs.declared.fault.TrianglesFault.TheVariants as mesh
 use Rattle.mesh_run.specs.Asked.{Asks, IsWordsCause}
-use Rattle.mesh_run.specs.Calls.{ShelfCall}
+use Rattle.ember_io.specs.Calls.{ShelfCall}
 use Rattle.mesh_run.specs.Causes.{IsAskedCause, IsFilesCause, IsReadingCause, IsStop}
 use Rattle.mesh_run.specs.Memory.{hides_memory}
 use Rattle.mesh_refusal.specs.declared.status.Status.{Status}

@@ -9,9 +9,9 @@ use Rattle.std.specs.Prelude.{Vec}
 use Rattle.std.specs.List.{All, AllZip, slice_get}
 use Rattle.mesh_boolean.specs.declared.files.InputFile.{InputFile}
 use Rattle.mesh_boolean.specs.Files.{IsSmall, AreReadings}
-use Rattle.ember_io.specs.Shelves.{Tells}
+use Rattle.ember_io.specs.Shelves.{Tells, AreBytes}
 use Rattle.mesh_read.specs.declared.surface.surface.Surface.{Surface}
-use Rattle.mesh_run.specs.Files.{AreBytes, AreContents, AreFiles, AreReadAs}
+use Rattle.mesh_run.specs.Files.{AreContents, AreFiles, AreReadAs}
 
 abbrev name_in : InputFile → List ℕ
 name_in file = file.name.now

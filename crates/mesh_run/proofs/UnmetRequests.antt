@@ -4,7 +4,8 @@ use Rattle.std.specs.declared.alloc.Global.{Global}
 use Rattle.std.specs.Prelude.{Result, Ok, Err, IfErr, IfOk, IsErrAnd, OnErr, String, Vec, false, string_bytes}
 use Rattle.mesh_outside.specs.Target.Several.{NamedBytes, PutsBefore}
 use Rattle.mesh_outside.specs.declared.target.target.WriteEnd.{WriteEnd}
-use Rattle.mesh_run.specs.Calls.{SinkCall, TargetCall, HoldsAll, TakesUntilFault}
+use Rattle.ember_io.specs.Calls.{SinkCall, TakesUntilFault}
+use Rattle.mesh_run.specs.Calls.{TargetCall, HoldsAll}
 use Rattle.mesh_refusal.specs.Lines.{IsShown}
 use Rattle.mesh_run.specs.Memory.{hides_memory}
 use Rattle.mesh_run.specs.Unmet.{EndsAs, EndsOn, IsUnmet, IsUnwrittenStatus, IsWriteStop}

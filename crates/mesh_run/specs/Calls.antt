@@ -1,23 +1,7 @@
--- What a call saw of its devices, before and after it
-use Rattle.std.specs.Prelude.{◌≡◌, ℕ, ◌≤◌, List}
+-- What a call saw of its target, before and after it
+use Rattle.std.specs.Prelude.{ℕ, List}
 use Rattle.std.specs.declared.option.Option.{Option}
-use Rattle.std.specs.Io.KnownBytes.{Appends}
-use Rattle.ember_io.specs.Causes.{HasRisen}
-use Rattle.ember_io.specs.Sinks.{AppendsPrefix, IsFlushed}
-use Rattle.ember_io.specs.declared.shelf.FaultKind.{FaultKind}
 use Rattle.mesh_outside.specs.Target.Targets.{Names, HoldsSame}
-
--- what a call saw of a shelf
-pub record ShelfCall : Type 0 where
-  -- the contents of the file with each name, if they are told
-  pub told : List ℕ → Option (List ℕ)
-  pub told_after : List ℕ → Option (List ℕ)
-  -- how often it had failed
-  pub faults : ℕ
-  pub faults_after : ℕ
-  -- the number of the file at which the last fault occurred, and of which kind it was
-  pub fault_at : ℕ
-  pub fault_kind : FaultKind
 
 -- what a call saw of a target
 pub record TargetCall : Type 0 where
@@ -30,30 +14,7 @@ pub record TargetCall : Type 0 where
   pub faults : ℕ
   pub faults_after : ℕ
 
--- what a call saw of a sink
-pub record SinkCall : Type 0 where
-  -- the bytes that it had taken, if they are told
-  pub taken : Option (List ℕ)
-  pub taken_after : Option (List ℕ)
-  -- how many of them are flushed after the call
-  pub flushed : ℕ
-  -- how often it had failed
-  pub faults : ℕ
-  pub faults_after : ℕ
-
--- ---- the calls, by what contracts see of a device
-abbrev pub shelf_call : {S : Type 0} → (S → List ℕ → Option (List ℕ)) → (S → ℕ) → (S → ℕ) →
-    (S → FaultKind) → S → S → ShelfCall
-shelf_call contents faults fault_at fault_kind old new =
-    record {
-      told = contents old;
-      told_after = contents new;
-      faults = faults old;
-      faults_after = faults new;
-      fault_at = fault_at new;
-      fault_kind = fault_kind new;
-    }
-
+-- the call, by what contracts see of a target
 abbrev pub target_call : {T : Type 0} → (T → Option Names) → (T → Option (List ℕ)) → (T → ℕ) → T → T → TargetCall
 target_call held begun faults old new =
     record {
@@ -64,43 +25,6 @@ target_call held begun faults old new =
       faults_after = faults new;
     }
 
-abbrev pub sink_call : {O : Type 0} → (O → Option (List ℕ)) → (O → ℕ) → (O → ℕ) → O → O → SinkCall
-sink_call taken flushed faults old new =
-    record {
-      taken = taken old;
-      taken_after = taken new;
-      flushed = flushed new;
-      faults = faults old;
-      faults_after = faults new;
-    }
-
--- ---- shelves
--- it has what it had, and its count of faults hasn't fallen
-pub record KeepsContents (shelf : ShelfCall) : Type 0 where
-  pub same : shelf.told_after ≡ shelf.told
-  pub later : shelf.faults ≤ shelf.faults_after
-
-abbrev pub HasShelfFailed : ShelfCall → Type 0
-HasShelfFailed shelf = HasRisen shelf.faults shelf.faults_after
-
--- ---- targets
 -- each name holds what it held
 abbrev pub HoldsAll : TargetCall → Type 0
 HoldsAll target = HoldsSame target.held target.held_after
-
--- ---- sinks
--- it took the whole text and flushed it
-pub record TakesAll (sink : SinkCall) (text : List ℕ) : Type 0 where
-  pub taken : Appends sink.taken sink.taken_after text
-  pub flushed : IsFlushed sink.taken_after sink.flushed
-
--- it failed, and took a prefix of the text
-pub record TakesSome (sink : SinkCall) (text : List ℕ) : Type 0 where
-  pub failed : HasRisen sink.faults sink.faults_after
-  pub prefix : AppendsPrefix sink.taken sink.taken_after text
-
--- it took the text up to its first fault
-pub record TakesUntilFault (sink : SinkCall) (text : List ℕ) : Type 0 where
-  pub later : sink.faults ≤ sink.faults_after
-  pub prefix : AppendsPrefix sink.taken sink.taken_after text
-  pub whole : ¬ HasRisen sink.faults sink.faults_after → Appends sink.taken sink.taken_after text

@@ -9,7 +9,7 @@ use Rattle.ember_expr.specs.Formula.{Formula}
 use Rattle.mesh_file.specs.declared.file.fault.FileFault.{FileFault}
 use Rattle.mesh_file.specs.declared.format.format.Format.{Format}
 use Rattle.mesh_grid.specs.declared.grid.choice.Wanted.{Wanted}
-use Rattle.ember_io.specs.Shelves.{TellsMore}
+use Rattle.ember_io.specs.Shelves.{TellsMore, IsFileIn}
 use Rattle.ember_io.specs.declared.shelf.FaultKind.{FaultKind}
 use Rattle.ember_io.specs.declared.shelf.ReadEnd.{ReadEnd}
 use Rattle.ember_io.specs.declared.shelf.ReadEnd.TheVariants as read
@@ -20,8 +20,8 @@ use Rattle.mesh_scene.specs.declared.scene.fault.SceneFault.{SceneFault}
 use Rattle.mesh_scene.specs.declared.scene.fault.SceneFault.TheVariants as scene
 use Rattle.mesh_run.specs.Asked.{Asks, IsStepOfNoGrid, IsWanted, IsWordsCause}
 use Rattle.mesh_refusal.specs.Statuses.{HasFormat, HasReason}
-use Rattle.mesh_run.specs.Calls.{ShelfCall, HasShelfFailed}
-use Rattle.mesh_run.specs.Files.{AreFiles, AreRead, IsFileIn}
+use Rattle.ember_io.specs.Calls.{ShelfCall, HasShelfFailed}
+use Rattle.mesh_run.specs.Files.{AreFiles, AreRead}
 use Rattle.mesh_texts.specs.Texts.{name_of}
 use Rattle.mesh_refusal.specs.declared.status.Status.{Status}
 use Rattle.mesh_refusal.specs.declared.status.Status.TheVariants.{Done, Words, StepOfNoGrid, ReadFault}

@@ -6,13 +6,12 @@ use Rattle.mesh_boolean.specs.declared.document.DocumentFileFault.TheVariants as
 use Rattle.mesh_boolean.specs.declared.writing.OutputMesh.{OutputMesh}
 use Rattle.mesh_boolean.specs.DocumentFiles.{IsDocumentFileFault, IsDocumentOutput}
 use Rattle.mesh_grid.specs.declared.grid.grid.Grid.{Grid}
-use Rattle.ember_io.specs.Shelves.{TellsMore}
+use Rattle.ember_io.specs.Shelves.{TellsMore, AreBytes, IsFileIn}
 use Rattle.ember_io.specs.declared.shelf.FaultKind.{FaultKind}
 use Rattle.mesh_words.specs.declared.command.ExportRequest.{ExportRequest}
 use Rattle.mesh_scene.specs.SceneFile.Scenes.{IsSceneOf}
 use Rattle.mesh_run.specs.Asked.{format_asked}
-use Rattle.mesh_run.specs.Calls.{ShelfCall, HasShelfFailed}
-use Rattle.mesh_run.specs.Files.{AreBytes, IsFileIn}
+use Rattle.ember_io.specs.Calls.{ShelfCall, HasShelfFailed}
 use Rattle.mesh_refusal.specs.ExportLines.{names_read}
 use Rattle.mesh_texts.specs.Texts.{name_of}
 use Rattle.mesh_refusal.specs.declared.status.Status.{Status}

@@ -1,11 +1,11 @@
 -- The files of a request, as far as a shelf tells what they hold
-use Rattle.std.specs.Prelude.{◌≡◌, ℕ, ◌≤◌, List, length, map, All, Vec}
+use Rattle.std.specs.Prelude.{◌≡◌, ℕ, List, map, All, Vec}
 use Rattle.std.specs.declared.alloc.Global.{Global}
 use Rattle.std.specs.declared.option.Option.{Option}
 use Rattle.std.specs.List.{AllZip}
 use Rattle.mesh_boolean.specs.declared.files.InputFile.{InputFile}
 use Rattle.mesh_boolean.specs.Files.{IsSmall, AreReadings}
-use Rattle.ember_io.specs.Shelves.{Tells}
+use Rattle.ember_io.specs.Shelves.{Tells, AreBytes}
 use Rattle.mesh_read.specs.declared.surface.surface.Surface.{Surface}
 
 -- these are the files with these names, in order; each has the bytes that the shelf tells of it, at most 2^28
@@ -24,16 +24,7 @@ pub record AreReadAs (told : List ℕ → Option (List ℕ)) (names : List (List
 abbrev pub AreRead : (List ℕ → Option (List ℕ)) → List (List ℕ) → Type 0
 AreRead told names = (surfaces : List Surface) × AreReadAs told names surfaces
 
--- file i, from 1, has one of these names
-pub record IsFileIn (names : List (List ℕ)) (i : ℕ) : Type 0 where
-  pub first : 1 ≤ i
-  pub last : i ≤ length names
-
 -- ---- bytes without names
--- the bytes that the shelf tells of a name, at most 2^28
-pub record AreBytes (told : List ℕ → Option (List ℕ)) (name bytes : List ℕ) : Type 0 where
-  pub tells : Tells (told name) bytes
-  pub small : length bytes ≤ 268435456
 
 -- those of each name, in order
 abbrev pub AreContents : (List ℕ → Option (List ℕ)) → List (List ℕ) → List (Vec ℕ Global) → Type 0

@@ -28,8 +28,8 @@ pub record IsFilesOutput (told : List ℕ → Option (List ℕ)) (names : List (
 
 -- before the output's triangles are rounded, they wind once where the expression is true of the files' triangles on the
 -- grid, and not at all elsewhere; around each point that is clear of the output's triangles alone, once or not at all.
--- The written triangles do so outside of the reported moves: with the winding numbers of the files, if these are closed,
--- and with those of their triangles on the grid
+-- The written triangles do so outside of the reported moves: with the winding numbers of the files, if these are
+-- closed, and with those of their triangles on the grid
 pub record MeansFormula (files : List InputFile) (formula : Formula) (wanted : WantedFile) (output : SolidFile)
     (is : IsOutput files formula wanted output) : Type 0 where
   pub means : HaveMeaning (images_of output.grid is.surfaces) formula (faces_of_mesh is.mesh)

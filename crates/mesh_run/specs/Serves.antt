@@ -15,8 +15,9 @@ use Rattle.mesh_words.specs.Commands.{command_of}
 use Rattle.mesh_scene.specs.declared.scene.scene.PlacedScene.{PlacedScene}
 use Rattle.mesh_outside.specs.Target.Several.{NamedBytes, PutsEach}
 use Rattle.mesh_outside.specs.Target.Targets.{Puts}
-use Rattle.mesh_run.specs.Calls.{ShelfCall, TargetCall, SinkCall, KeepsContents, HoldsAll}
-use Rattle.mesh_run.specs.Calls.{TakesAll, TakesSome, TakesUntilFault}
+use Rattle.ember_io.specs.Calls.{ShelfCall, SinkCall, KeepsContents}
+use Rattle.mesh_run.specs.Calls.{TargetCall, HoldsAll}
+use Rattle.ember_io.specs.Calls.{TakesAll, TakesSome, TakesUntilFault}
 use Rattle.mesh_run.specs.Causes.{IsReadingCause, IsSnapStop, IsStop}
 use Rattle.mesh_run.specs.Exports.{IsExport, IsExportStop}
 use Rattle.mesh_run.specs.Infos.{AreInfoLines}
@@ -104,7 +105,8 @@ IsSnapUnmet request shelf target status =
 -- or the files aren't all written; err takes what is said of the status
 abbrev pub IsSnapOutcome : Bool → SnapRequest → ShelfCall → TargetCall → Status → List ℕ → Type 0
 IsSnapOutcome json request shelf target status text =
-    EndsAs (WritesScene json request shelf target) (IsSnapUnmet request shelf target) (snap_said json request) status text
+    EndsAs (WritesScene json request shelf target) (IsSnapUnmet request shelf target)
+    (snap_said json request) status text
 
 -- ---- a document
 -- the mesh is that of the document that is named, and its files are put, each in its turn; this goes to out, and this
@@ -120,8 +122,8 @@ pub record PutsExport (json : Bool) (request : ExportRequest) (shelf : ShelfCall
   pub report_is : report ≡ exported_report json request mesh
 
 -- out takes what goes there, and err the report; or out fails
-pub record WritesExport (json : Bool) (request : ExportRequest) (shelf : ShelfCall) (target : TargetCall) (out : SinkCall)
-    (status : Status) (text : List ℕ) : Type 0 where
+pub record WritesExport (json : Bool) (request : ExportRequest) (shelf : ShelfCall) (target : TargetCall)
+    (out : SinkCall) (status : Status) (text : List ℕ) : Type 0 where
   pub sent : Option (List ℕ)
   pub report : List ℕ
   pub puts : PutsExport json request shelf target sent report

@@ -3,7 +3,8 @@ use Rattle.std.specs.Prelude.{◌≡◌, ◌≢◌, ◌⊎◌, ⊤, ℕ, List, f
 use Rattle.mesh_outside.specs.Target.Several.{NamedBytes, PutsBefore}
 use Rattle.mesh_outside.specs.declared.target.target.WriteEnd.{WriteEnd}
 use Rattle.mesh_outside.specs.declared.target.target.WriteEnd.TheVariants as write
-use Rattle.mesh_run.specs.Calls.{TargetCall, SinkCall, HoldsAll}
+use Rattle.ember_io.specs.Calls.{SinkCall}
+use Rattle.mesh_run.specs.Calls.{TargetCall, HoldsAll}
 use Rattle.mesh_run.specs.Memory.{hides_memory}
 use Rattle.mesh_refusal.specs.declared.status.Status.{Status}
 use Rattle.mesh_refusal.specs.declared.status.Status.TheVariants.{Done, WriteFault, NotWritten, OutOfMemory}

@@ -65,8 +65,7 @@ title_at StandardOutput = codes "standard output"
 -- ---- a mesh
 -- the page of this name that shows these triangles under that title; a reader finds them in it again
 pub record IsPageFile (title : List ℕ) (shown : Option (Vec FloatTriangle)) (name : List ℕ)
-    (files : List NamedBytes) :
-    Type 0 where
+    (files : List NamedBytes) : Type 0 where
   pub triangles : Vec FloatTriangle
   pub are_shown : shown ≡ Some triangles
   pub all : files ≡ (name, page_of title triangles.items) ∷ []
@@ -74,16 +73,15 @@ pub record IsPageFile (title : List ℕ) (shown : Option (Vec FloatTriangle)) (n
 
 -- the page that shows a mesh, if a page is asked for, and behind it the mesh, if it goes to a file
 pub record ArePageAndMesh (page : Option (List ℕ)) (output : Destination) (mesh : OutputMesh)
-    (files : List NamedBytes) :
-    Type 0 where
+    (files : List NamedBytes) : Type 0 where
   pub pages : List NamedBytes
   pub are_pages : AreFilesIf page (IsPageFile (title_at output) mesh.shown) pages
   pub all : files ≡ pages ++ mesh_file_at output mesh.bytes.items
 
 -- ---- a Boolean
 -- the files of a scene in a folder, and the document
-pub record AreKeptFiles (names : List (List ℕ)) (placed : PlacedScene) (document folder : List ℕ) (files : List NamedBytes) :
-    Type 0 where
+pub record AreKeptFiles (names : List (List ℕ)) (placed : PlacedScene) (document folder : List ℕ)
+    (files : List NamedBytes) : Type 0 where
   pub scene : List NamedBytes
   pub are_scene : AreSceneFiles folder names placed scene
   pub all : files ≡ scene ++ (document_name folder, document) ∷ []

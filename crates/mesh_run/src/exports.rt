@@ -1,10 +1,11 @@
 // The mesh of a document.
 ghost use Rattle.std.specs.Prelude.{◌≡◌, ◌≤◌, ℕ, List, false, None, IfOk, IfErr, IfSome, option_map};
+ghost use Rattle.ember_io.specs.Shelves.{AreBytes};
 ghost use Rattle.mesh_scene.specs.SceneFile.Scenes.{IsSceneOf};
 ghost use Rattle.mesh_grid.specs.Snap.Steps.{IsStep};
-ghost use Rattle.mesh_run.specs.Calls.{KeepsContents, TakesUntilFault, shelf_call, sink_call, target_call};
+ghost use Rattle.ember_io.specs.Calls.{KeepsContents, TakesUntilFault, shelf_call, sink_call};
+ghost use Rattle.mesh_run.specs.Calls.{target_call};
 ghost use Rattle.mesh_run.specs.Exports.{IsExport, IsExportStop, IsGridGiven, IsNoGrid, IsUnreadFile, document_index, status_of_document, unit_grid};
-ghost use Rattle.mesh_run.specs.Files.{AreBytes};
 ghost use Rattle.mesh_run.specs.Memory.{hides_memory};
 ghost use Rattle.mesh_run.specs.Serves.{IsExportOutcome, IsExportUnmet, PutsExport};
 

@@ -4,7 +4,7 @@ ghost use Rattle.std.specs.declared.option.Option.{Option};
 ghost use Rattle.ember_model.specs.Limits.{most_bytes};
 ghost use Rattle.ember_algebra.specs.Relations.{Each};
 ghost use Rattle.mesh_boolean.specs.Files.{AreReadings};
-ghost use Rattle.mesh_run.specs.Calls.{KeepsContents, TakesUntilFault, shelf_call, sink_call};
+ghost use Rattle.ember_io.specs.Calls.{KeepsContents, TakesUntilFault, shelf_call, sink_call};
 ghost use Rattle.mesh_run.specs.Causes.{IsReadingCause, IsRefusalCause};
 ghost use Rattle.mesh_run.specs.Files.{AreContents};
 ghost use Rattle.mesh_run.specs.Infos.{AreInfoLines, IsFileLine};

@@ -2,7 +2,7 @@
 ghost use Rattle.std.specs.Prelude.{◌≡◌, ◌<◌, ◌≤◌, ◌+◌, ℕ, List, length, map, take, All, IfOk, IfErr};
 ghost use Rattle.std.specs.declared.option.Option.{Option};
 ghost use Rattle.ember_model.specs.Limits.{most_bytes};
-ghost use Rattle.mesh_run.specs.Calls.{shelf_call};
+ghost use Rattle.ember_io.specs.Calls.{shelf_call};
 ghost use Rattle.mesh_run.specs.Causes.{IsEndAt, IsReadingCause, IsRefusalCause};
 ghost use Rattle.mesh_run.specs.Files.{AreContents, AreReadAs};
 

@@ -4,7 +4,8 @@
 ghost use Rattle.std.specs.Prelude.{◌≡◌, ◌≤◌, ℕ, List, false, None, IfOk, map, string_bytes};
 ghost use Rattle.ember_query.specs.Queries.{IsAnswer, IsExecutorOfAny, IsQuery};
 ghost use Rattle.mesh_triangles.specs.PlaneQueries.{IsPlaneAnswer, IsPlaneExecutorOfAny, IsPlaneQuery};
-ghost use Rattle.mesh_run.specs.Calls.{TakesUntilFault, shelf_call, sink_call, target_call};
+ghost use Rattle.ember_io.specs.Calls.{TakesUntilFault, shelf_call, sink_call};
+ghost use Rattle.mesh_run.specs.Calls.{target_call};
 ghost use Rattle.mesh_run.specs.Memory.{hides_memory};
 ghost use Rattle.mesh_run.specs.Serves.{IsWordsOutcome, MeshServes};
 

@@ -3,7 +3,8 @@ ghost use Rattle.std.specs.Prelude.{◌≡◌, ◌++◌, ◌≤◌, ℕ, List, [
 ghost use Rattle.std.specs.declared.option.Option.{Option};
 ghost use Rattle.ember_model.specs.Limits.{most_bytes};
 ghost use Rattle.mesh_info.specs.View.Views.{IsView};
-ghost use Rattle.mesh_run.specs.Calls.{KeepsContents, TakesUntilFault, shelf_call, sink_call, target_call};
+ghost use Rattle.ember_io.specs.Calls.{KeepsContents, TakesUntilFault, shelf_call, sink_call};
+ghost use Rattle.mesh_run.specs.Calls.{target_call};
 ghost use Rattle.mesh_run.specs.Causes.{IsReadingCause, IsRefusalCause};
 ghost use Rattle.mesh_run.specs.Files.{AreContents};
 ghost use Rattle.mesh_run.specs.Memory.{hides_memory};

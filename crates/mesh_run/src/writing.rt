@@ -1,7 +1,8 @@
 // What the target and the two streams get.
 ghost use Rattle.std.specs.Prelude.{◌≡◌, ◌≤◌, ℕ, List, false, None, IfOk, IfErr, OnOk, OnErr, option_map};
 ghost use Rattle.mesh_outside.specs.Target.Several.{PutsEach, names_and_bytes};
-ghost use Rattle.mesh_run.specs.Calls.{HoldsAll, TakesUntilFault, sink_call, target_call};
+ghost use Rattle.ember_io.specs.Calls.{TakesUntilFault, sink_call};
+ghost use Rattle.mesh_run.specs.Calls.{HoldsAll, target_call};
 ghost use Rattle.mesh_refusal.specs.Said.{memory_said};
 ghost use Rattle.mesh_run.specs.Memory.{hides_memory};
 ghost use Rattle.mesh_run.specs.Serves.{IsMessageOutcome, IsSent};

@@ -4,21 +4,13 @@ use Rattle.std.specs.List.{All}
 use Rattle.std.proofs.lemmas.Bool.{or_parts}
 use Rattle.std.proofs.lemmas.List.Elements.{All-head, All-tail}
 use Rattle.ember_model.specs.declared.tri.Tri.{Tri}
-use Rattle.ember_model.specs.Valid.{IsValidTri}
 use Rattle.ember_model.specs.Meshes.{Edge, edges_in, same_edge, edge_count}
 use Rattle.ember_balance.specs.declared.loose.Loose.{Loose}
 use Rattle.ember_balance.specs.Loose.{edge_of, IsLeastLoose}
-use Rattle.ember_balance.specs.Numbers.{IsValidEdge}
-use Rattle.ember_balance.proofs.Edges.{valid_edges, valid_member, member_from_times}
 use Rattle.mesh_grid.specs.Grid.Places.{has_edge}
 
 occurs : (ts : List Tri) (l : Loose) → IsLeastLoose ts l → 0 < edge_count (edge_of l) (edges_in ts)
 occurs ts l h = omega (arith, h.more, h.there)
-
--- its ends are valid
-pub loose_edge_is_valid : (ts : List Tri) (l : Loose) → All IsValidTri ts → IsLeastLoose ts l → IsValidEdge (edge_of l)
-loose_edge_is_valid ts l valid h =
-    valid_member (edge_of l) (edges_in ts) (member_from_times (edge_of l) (edges_in ts) (occurs ts l h)) (valid_edges ts valid)
 
 -- an edge that no triangle has doesn't occur
 absent_edge : (e : Edge) (ts : List Tri) → All (λ t. has_edge e t ≡ false) ts → edge_count e (edges_in ts) ≡ 0

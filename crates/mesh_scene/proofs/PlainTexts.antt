@@ -1,5 +1,5 @@
 -- Texts of digits, points and slashes, which stand in JSON as they are
-use Rattle.std.proofs.Common.{◌≡◌, ℕ, zero, suc, ◌+◌, ◌*◌, ◌/◌, ◌%◌, ◌^◌, ◌<◌, ◌≤◌, Bool, true, false, cond, List, []}
+use Rattle.std.proofs.Common.{◌≡◌, ℕ, zero, suc, ◌+◌, ◌*◌, ◌/◌, ◌%◌, ◌^◌, ◌<◌, Bool, true, false, cond, List, []}
 use Rattle.std.proofs.Common.{◌∷◌, ◌++◌, get_or, IsUtf8, refl, ap₂, arith, decimal}
 use Rattle.std.specs.Prelude.{All, ◌==◌, codes}
 use Rattle.std.proofs.lemmas.Fmt.{decimal_is_IsNumeral_wide}
@@ -11,16 +11,12 @@ use Rattle.json.specs.Print.{escape}
 use Rattle.json.proofs.Printed.Strings.{escape_byte_plain}
 use Rattle.mesh_number.specs.Round.Decimals.{fraction_digits, fraction_text}
 use Rattle.mesh_number.proofs.Digits.{power_of_10_positive}
+use Rattle.mesh_write.proofs.PlainTexts.{IsPlain}
 use Rattle.mesh_grid.specs.declared.moves.length.Length.{Length}
 use Rattle.mesh_grid.specs.declared.snap.steps.GridStep.{GridStep}
 use Rattle.mesh_grid.specs.Snap.Steps.{IsStep}
 use Rattle.mesh_scene.specs.SceneFile.Fractions.{fraction_text as step_text}
 use Rattle.mesh_scene.specs.SceneFile.Texts.{move_text}
-
--- from `-` to `9`
-pub record IsPlain (b : ℕ) : Type 0 where
-  pub low : 45 ≤ b
-  pub high : b ≤ 57
 
 -- ---- plain texts in JSON
 pub plain_escape : (s : List ℕ) → All IsPlain s → escape s ≡ s

@@ -13,11 +13,11 @@ use Rattle.ember_model.specs.Faces.{hit, crossing}
 use Rattle.ember_model.specs.Planes.{value_at, along}
 use Rattle.ember_model.proofs.Hits.{crossing_off, crossing_on}
 use Rattle.ember_model.proofs.SignTests.{zero_out, nonzero_out, zero_scaled}
-use Rattle.ember_meaning.proofs.Starts.{one_if}
 use Rattle.mesh_certificate.specs.declared.certificate.segment.Segment.{Segment}
 use Rattle.mesh_certificate.specs.declared.certificate.space_point.SpacePoint.{SpacePoint}
 use Rattle.mesh_certificate.specs.Certificate.Facing.{spot_of}
 use Rattle.mesh_certificate.specs.declared.key.lines.LineKey.{LineKey}
+use Rattle.ember_meaning.specs.Regions.Meaning.{one_if}
 use Rattle.mesh_solid.proofs.LineForm.{below_on}
 use Rattle.mesh_solid.proofs.SamePlane.{front_sign, level_with, ray_passing}
 

@@ -23,9 +23,11 @@ use Rattle.ember_model.specs.Planes.{value_at}
 use Rattle.ember_model.proofs.Hits.{closed_on}
 use Rattle.ember_model.proofs.Legs.{value_between, size_is_pos, size_is_neg, ends_nonzero}
 use Rattle.ember_model.proofs.SignTests.{clash, and_true, sgn_scaled, negative_not, positive_in, size_positive, zero_scaled}
-use Rattle.ember_meaning.specs.Closed.Chains.{DirectedEdge, displacement, is_zero_vector, reached, coverage}
+use Rattle.ember_model.specs.Points.{displacement}
+use Rattle.ember_model.proofs.Displacements.{displacement_value}
+use Rattle.ember_meaning.specs.Closed.Chains.{DirectedEdge, is_zero_vector, reached, coverage}
 use Rattle.ember_meaning.proofs.RectangleRound.{IsGeneralFace}
-use Rattle.ember_meaning.proofs.Displacements.{Parallel, zeroE, displacement_value, dot_swap, none_parallel}
+use Rattle.ember_meaning.proofs.Displacements.{Parallel, zeroE, dot_swap, none_parallel}
 use Rattle.ember_meaning.proofs.Displacements.{parallel_swap, zero_vector_in, zero_vector_out}
 use Rattle.ember_meaning.proofs.EdgeForm.{start_on, end_on, leads, course_nonzero, line_displacement, flat_displacement, edge_form}
 use Rattle.mesh_solid.proofs.Passings.{passing, below, passing_on_line, opposite_product, pick_is_cond}

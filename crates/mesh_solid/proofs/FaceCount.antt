@@ -23,7 +23,7 @@ use Rattle.ember_poly.proofs.Chains.{each_map}
 use Rattle.ember_meaning.specs.Closed.Chains.{DirectedEdge, edges_to, directed_edges, face_from, IsOutlined}
 use Rattle.ember_meaning.proofs.RectangleRound.{IsGeneral, IsGeneralFace}
 use Rattle.ember_meaning.proofs.EdgeForm.{once_round}
-use Rattle.ember_meaning.proofs.Starts.{one_if}
+use Rattle.ember_meaning.specs.Regions.Meaning.{one_if}
 use Rattle.mesh_solid.proofs.Halves.{AtEnds, none_above, leaving, all_at_first, all_at_last, AreApart, leaving_tells}
 use Rattle.mesh_solid.proofs.Seen.{height, passing_at}
 use Rattle.mesh_solid.proofs.EdgeCount.{far, edge_count}

@@ -16,14 +16,15 @@ use Rattle.ember_model.specs.FaceFiles.{WrittenFace}
 use Rattle.ember_model.specs.Faces.{hit, crossing}
 use Rattle.ember_model.specs.Meshes.{wind}
 use Rattle.ember_model.specs.Planes.{value_at}
+use Rattle.ember_model.specs.Points.{displacement}
 use Rattle.ember_poly.proofs.OutlinePoints.{Ended, edge_has_end}
-use Rattle.ember_meaning.specs.Closed.Chains.{DirectedEdge, displacement, edges_to, directed_edges, face_from, IsOutlined}
+use Rattle.ember_meaning.specs.Closed.Chains.{DirectedEdge, edges_to, directed_edges, face_from, IsOutlined}
 use Rattle.ember_meaning.proofs.EdgeForm.{start_on, end_on, has_normal}
-use Rattle.ember_meaning.proofs.Starts.{one_if}
 use Rattle.mesh_certificate.specs.declared.key.lines.LineKey.{LineKey}
 use Rattle.mesh_certificate.specs.declared.certificate.segment.Segment.{Segment}
 use Rattle.mesh_certificate.specs.declared.certificate.space_point.SpacePoint.{SpacePoint}
 use Rattle.mesh_certificate.specs.Certificate.Facing.{spot_of}
+use Rattle.ember_meaning.specs.Regions.Meaning.{one_if}
 use Rattle.mesh_solid.specs.declared.tables.face_edge.FaceEdge.{FaceEdge}
 use Rattle.mesh_solid.specs.Tables.Edges.{last_or, edges_behind, edges_round, face_edges_of}
 use Rattle.mesh_solid.specs.Tables.Tables.{IsCorner, IsSegmentOf}

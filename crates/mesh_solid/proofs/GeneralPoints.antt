@@ -9,7 +9,7 @@ use Rattle.ember_algebra.proofs.Laws.{linear}
 use Rattle.ember_algebra.proofs.Order.{pos_mul}
 use Rattle.ember_algebra.proofs.Large.{eventually_both, eventually_map}
 use Rattle.ember_algebra.proofs.Ring.{◌⊕◌, ◌⊖◌, ◌⊗◌, ◌≈◌, num, neg, cancels}
-use Rattle.ember_algebra.proofs.Vectors.{scalar, vector, tuple, identity, vector_identity, same_v, dotE, crossE, scaleE, minusE, ◌≈v◌, cancels_v, vector_partE}
+use Rattle.ember_algebra.proofs.Vectors.{scalar, vector, tuple, identity, vector_identity, same_v, dotE, crossE, scaleE, minusE, ◌≈v◌, cancels_v, vector_partE, detE}
 use Rattle.ember_algebra.proofs.Vectors.{square_positive}
 use Rattle.ember_model.specs.declared.plane.Plane.{Plane}
 use Rattle.ember_model.specs.declared.point.Spot.{Spot}
@@ -18,27 +18,28 @@ use Rattle.ember_model.specs.declared.point.Axis.TheVariants.{X, Y}
 use Rattle.ember_model.specs.Edges.{RingEdge, normal}
 use Rattle.ember_model.specs.FaceFiles.{WrittenFace}
 use Rattle.ember_model.specs.Faces.{size, hit}
-use Rattle.ember_model.specs.Planes.{value_at, along, unit}
-use Rattle.ember_model.specs.Points.{scaled, offset_by}
+use Rattle.ember_model.specs.Planes.{value_at, along, unit, HasNoNormal}
+use Rattle.ember_model.specs.Points.{scaled, offset_by, displacement}
 use Rattle.ember_model.proofs.Hits.{moved_weight}
 use Rattle.ember_model.proofs.PlaneValues.{hit_flat}
 use Rattle.ember_model.proofs.SignTests.{positive_nonzero, size_positive, zero_scaled}
 use Rattle.ember_model.proofs.Tuples.{spot_tuple}
-use Rattle.ember_law.proofs.Shifted.{NoNormal, off_shifted, weight_shifted, eventually_true}
+use Rattle.ember_model.proofs.Displacements.{displacementE}
+use Rattle.ember_law.proofs.Shifted.{off_shifted, weight_shifted, eventually_true}
 use Rattle.ember_law.proofs.Generic.{at_hit_of, value_at_hit, cancel_zero}
 use Rattle.ember_poly.proofs.Chains.{each_map}
 use Rattle.ember_poly.proofs.InsideSigns.{eventually_each}
 use Rattle.ember_poly.proofs.OutlinePoints.{Ended, edge_has_end}
-use Rattle.ember_meaning.specs.Closed.Chains.{displacement, face_from, IsOutlined}
+use Rattle.ember_meaning.specs.Closed.Chains.{face_from, IsOutlined}
 use Rattle.ember_meaning.proofs.ClearCorners.{hit_course}
 use Rattle.ember_meaning.proofs.ClearRectangle.{all_of}
-use Rattle.ember_meaning.proofs.Displacements.{Parallel, displacementE, zeroE, orthogonal_to_none}
+use Rattle.ember_meaning.proofs.Displacements.{Parallel, zeroE, orthogonal_to_none}
 use Rattle.ember_meaning.proofs.EdgeForm.{course_nonzero, start_on}
 use Rattle.mesh_certificate.specs.Key.LineKeys.{numerators}
 use Rattle.mesh_certificate.specs.declared.certificate.space_point.SpacePoint.{SpacePoint}
 use Rattle.mesh_certificate.specs.Certificate.Facing.{spot_of}
 use Rattle.mesh_solid.specs.Winding.TriangleFaces.{side_plane}
-use Rattle.mesh_solid.proofs.Seen.{area, areaE, height, turn_at, side_value}
+use Rattle.mesh_solid.proofs.Seen.{area, height, turn_at, side_value}
 use Rattle.mesh_solid.proofs.SamePlane.{level_with}
 use Rattle.mesh_solid.proofs.EdgeCount.{far, value_far, scaled_none}
 use Rattle.mesh_solid.proofs.Skew.{blend, IsSkew}
@@ -46,7 +47,7 @@ use Rattle.mesh_solid.proofs.FaceCount.{planes_of, ArePairsSkew, IsGeneralHit}
 
 -- v isn't on the plane, if this has a normal
 abbrev pub IsOffPlane : Plane → Spot → Type 0
-IsOffPlane h v = value_at h v ≡ pos 0 → NoNormal h
+IsOffPlane h v = value_at h v ≡ pos 0 → HasNoNormal h
 
 -- ---- a direction
 abbrev origin : Spot
@@ -146,7 +147,7 @@ unfolding area
 level_value n e x c =
     identity (vector ∷ vector ∷ tuple ∷ tuple ∷ []) (λ n e x c. let k = crossE n e in
     (c.w ⊗ k.x) ⊗ x.x ⊕ (c.w ⊗ k.y) ⊗ x.y ⊕ (c.w ⊗ k.z) ⊗ x.z ⊖ dotE k (vector_partE c) ⊗ x.w ≈ neg
-    (areaE n e (displacementE x c))) cancels (normal n) e (spot_tuple x) (spot_tuple c)
+    (detE n e (displacementE x c))) cancels (normal n) e (spot_tuple x) (spot_tuple c)
 
 module _ (n : Plane) (a : Axis) (p : Spot) (nz : along n a ≢ pos 0) (some : normal n ≢ zero_v) where
   abbrev x : Spot

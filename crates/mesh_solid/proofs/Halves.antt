@@ -16,7 +16,7 @@ use Rattle.ember_model.specs.Faces.{size}
 use Rattle.ember_model.proofs.SignTests.{clash, sgn_scaled, negative_in, positive_in, not_positive_in, positive_nonzero, size_positive}
 use Rattle.ember_model.proofs.SignTests.{positive_not_negative, size_nonnegative}
 use Rattle.ember_model.proofs.Legs.{size_is_pos, size_is_neg, ends_nonzero}
-use Rattle.ember_meaning.proofs.Starts.{one_if}
+use Rattle.ember_meaning.specs.Regions.Meaning.{one_if}
 
 -- the values of a plane at the two ends of a segment
 pub record AtEnds : Type 0 where

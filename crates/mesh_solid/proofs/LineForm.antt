@@ -5,7 +5,7 @@ use Rattle.ember_algebra.specs.declared.Sign.{Sign}
 use Rattle.ember_algebra.specs.Sign.{sgn, flip, times, is_pos}
 use Rattle.ember_algebra.proofs.Ring.{◌⊖◌, ◌⊗◌, ◌≈◌, cancels}
 use Rattle.ember_algebra.proofs.Signs.{pick, may_sum, both, not_null, sum_may, sgn-mul, sgn-neg}
-use Rattle.ember_algebra.proofs.Vectors.{scalar, vector, tuple, identity, vector_identity, dotE, crossE, scaleE, minusE, ◌≈v◌, cancels_v, vector_partE}
+use Rattle.ember_algebra.proofs.Vectors.{scalar, vector, tuple, identity, vector_identity, dotE, crossE, scaleE, minusE, ◌≈v◌, cancels_v, vector_partE, detE}
 use Rattle.ember_algebra.proofs.Vectors.{square_positive}
 use Rattle.ember_algebra.proofs.Identities.{parallel_products}
 use Rattle.ember_model.specs.declared.plane.Plane.{Plane}
@@ -13,12 +13,13 @@ use Rattle.ember_model.specs.declared.point.Spot.{Spot}
 use Rattle.ember_model.specs.Edges.{normal}
 use Rattle.ember_model.proofs.SignTests.{sgn_scaled}
 use Rattle.ember_model.proofs.Tuples.{spot_tuple}
-use Rattle.ember_meaning.specs.Closed.Chains.{displacement}
-use Rattle.ember_meaning.proofs.Displacements.{Parallel, displacementE, zeroE, parallel_swap}
+use Rattle.ember_model.specs.Points.{displacement}
+use Rattle.ember_model.proofs.Displacements.{displacementE}
+use Rattle.ember_meaning.proofs.Displacements.{Parallel, zeroE, parallel_swap}
 use Rattle.mesh_certificate.specs.declared.key.lines.LineKey.{LineKey}
 use Rattle.mesh_certificate.specs.Key.LineKeys.{direction, moment, numerators, IsOnLine}
 use Rattle.mesh_solid.proofs.Passings.{passing, below, passing_on_line}
-use Rattle.mesh_solid.proofs.Seen.{area, areaE, height, turn_at, passing_at, area_dot, turn_sign, step_sign, may_sums}
+use Rattle.mesh_solid.proofs.Seen.{area, height, turn_at, passing_at, area_dot, turn_sign, step_sign, may_sums}
 
 -- ---- what the ray from x along e has to do with a line
 -- how the line's direction turns as seen from x, times a positive number
@@ -65,7 +66,7 @@ module _ (n : Plane) (e : Vector) (x u v : Spot) (k : LineKey) (wx : pos 0 <ℤ 
   unfolding area
   turn_at_point =
       identity (vector ∷ tuple ∷ tuple ∷ vector ∷ [])
-      (λ n x u d. areaE n (displacementE x u) d ≈ x.w ⊗ dotE n (crossE (vector_partE u) d) ⊖ u.w ⊗ dotE n
+      (λ n x u d. detE n (displacementE x u) d ≈ x.w ⊗ dotE n (crossE (vector_partE u) d) ⊖ u.w ⊗ dotE n
       (crossE (vector_partE x) d)) cancels (normal n) (spot_tuple x) (spot_tuple u) (direction k)
       ∙ (λ i. x.w *ℤ dot (normal n) (on_u i) -ℤ u.w *ℤ dot (normal n) (cross (numerators x) (direction k)))
       ∙ identity (vector ∷ vector ∷ scalar ∷ scalar ∷ scalar ∷ [])

@@ -14,9 +14,9 @@ use Rattle.ember_model.specs.Edges.{normal, SamePoint}
 use Rattle.ember_model.specs.Planes.{value_at}
 use Rattle.ember_model.proofs.SignTests.{sgn_scaled, zero_scaled, positive_nonzero}
 use Rattle.ember_model.proofs.Tuples.{plane_tuple, spot_tuple}
+use Rattle.ember_model.specs.Points.{displacement}
 use Rattle.ember_point.specs.Points.{weight, meet_of}
 use Rattle.ember_point.proofs.Meets.{on_first, on_second, on_third}
-use Rattle.ember_meaning.specs.Closed.Chains.{displacement}
 use Rattle.ember_meaning.proofs.Displacements.{zeroE}
 use Rattle.ember_meaning.proofs.EdgeForm.{flat_displacement}
 use Rattle.mesh_solid.specs.Tables.Tables.{IsCorner}

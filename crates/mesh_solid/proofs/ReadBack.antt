@@ -8,7 +8,7 @@ use Rattle.ember_meaning.specs.Closed.Chains.{face_from}
 use Rattle.ember_expr.specs.Formula.{Formula}
 use Rattle.ember_model.specs.declared.face.Face.{Face}
 use Rattle.ember_model.specs.declared.tri.Tri.{Tri}
-use Rattle.ember_model.specs.FaceFiles.{WrittenFace, IsWrittenFace, IsFaceFile, face_lines, header, ending}
+use Rattle.ember_model.specs.FaceFiles.{WrittenFace, IsWrittenFace, IsFaceFile, header, ending, written_lines}
 use Rattle.ember_meaning.specs.Regions.Solids.{IsSolidText}
 use Rattle.ember_reread.specs.declared.fault.RereadFault.{RereadFault}
 use Rattle.ember_reread.specs.declared.fault.RereadFault.TheVariants.{Form, OutOfMemory}
@@ -16,14 +16,11 @@ use Rattle.ember_text.specs.Documents.{IsDocumentText, written_face}
 use Rattle.ember_text.specs.Texts.{IsTextInRange}
 use Rattle.mesh_solid.specs.Mesh.FaceTables.{HoldsFaces}
 
-abbrev lines_of : WrittenFace → List ℕ
-lines_of w = face_lines w.support w.edges
-
 -- the texts are the lines of so many written faces
 record AreLines (count : ℕ) (texts : List ℕ) : Type 0 where
   written : List WrittenFace
   well_formed : All IsWrittenFace written
-  is : texts ≡ flat_map lines_of written
+  is : texts ≡ flat_map written_lines written
   count_is : count ≡ length written
 
 texts_are_lines : (fs : List Face) {texts : List ℕ} → Each IsTextInRange fs texts → AreLines (length fs) texts
@@ -34,7 +31,7 @@ texts_are_lines (f ∷ fs) (more {ys = ys} {zs = zs} t ts) =
     record {
       written = w ∷ s.written;
       well_formed = All-cons IsWrittenFace w s.written t.written s.well_formed;
-      is = (λ i. t.text_is.is i ++ s.is i) ∙ sym (flat_map-cons lines_of w s.written);
+      is = (λ i. t.text_is.is i ++ s.is i) ∙ sym (flat_map-cons written_lines w s.written);
       count_is = ap (λ n. suc n) s.count_is;
     }
 

@@ -4,7 +4,7 @@ use Rattle.ember_algebra.specs.Vector.{Vector, cross}
 use Rattle.ember_algebra.specs.Sign.{sign, sgn, is_neg, is_negative}
 use Rattle.ember_algebra.proofs.Order.{pos_mul, sign_scaled}
 use Rattle.ember_algebra.proofs.Ring.{Expr, ◌⊕◌, ◌⊗◌, ◌≈◌, neg, solve, cancels}
-use Rattle.ember_algebra.proofs.Vectors.{scalar, vector, tuple, identity, crossE, scaleE, TupleE}
+use Rattle.ember_algebra.proofs.Vectors.{scalar, vector, tuple, identity, crossE, scaleE, TupleE, detE}
 use Rattle.ember_model.specs.declared.plane.Plane.{Plane}
 use Rattle.ember_model.specs.declared.point.Spot.{Spot}
 use Rattle.ember_model.specs.declared.point.Axis.{Axis}
@@ -16,10 +16,10 @@ use Rattle.ember_model.specs.Points.{scaled}
 use Rattle.ember_model.proofs.PlaneValues.{size-is, value_times}
 use Rattle.ember_model.proofs.SignTests.{sgn_scaled}
 use Rattle.ember_model.proofs.Tuples.{spot_tuple, same_spot}
-use Rattle.ember_meaning.proofs.Displacements.{displacementE}
+use Rattle.ember_model.proofs.Displacements.{displacementE}
 use Rattle.mesh_certificate.specs.Key.PlaneKeys.{IsSameOriented}
 use Rattle.mesh_solid.proofs.Passings.{passing}
-use Rattle.mesh_solid.proofs.Seen.{area, areaE, height, turn_at, passing_at}
+use Rattle.mesh_solid.proofs.Seen.{area, height, turn_at, passing_at}
 
 -- ---- what a ray from p along a has to do with the plane
 -- 1 if it comes through the plane from behind, -1 if from the front, 0 if it doesn't meet it
@@ -83,15 +83,15 @@ height_times : (k : ℤ) (n : Plane) (q : Vector) (x u : Spot) →
 unfolding area
 height_times k n q x u =
     identity (scalar ∷ vector ∷ vector ∷ tuple ∷ tuple ∷ [])
-    (λ k n q x u. areaE (scaleE k n) (crossE (scaleE k n) q) (displacementE (scaledE k x) u) ≈ (k ⊗ (k ⊗ k)) ⊗ areaE n
+    (λ k n q x u. detE (scaleE k n) (crossE (scaleE k n) q) (displacementE (scaledE k x) u) ≈ (k ⊗ (k ⊗ k)) ⊗ detE n
     (crossE n q) (displacementE x u)) cancels k (normal n) q (spot_tuple x) (spot_tuple u)
 
 turn_times : (k : ℤ) (n : Plane) (x u v : Spot) → turn_at (times_plane k n) (scaled k x) u v ≡ (k *ℤ (k *ℤ k)) *ℤ turn_at n x u v
 unfolding area
 turn_times k n x u v =
     identity (scalar ∷ vector ∷ tuple ∷ tuple ∷ tuple ∷ [])
-    (λ k n x u v. areaE (scaleE k n) (displacementE (scaledE k x) u) (displacementE (scaledE k x) v) ≈ (k ⊗ (k ⊗ k)) ⊗
-    areaE n (displacementE x u) (displacementE x v)) cancels k (normal n) (spot_tuple x) (spot_tuple u) (spot_tuple v)
+    (λ k n x u v. detE (scaleE k n) (displacementE (scaledE k x) u) (displacementE (scaledE k x) v) ≈ (k ⊗ (k ⊗ k)) ⊗
+    detE n (displacementE x u) (displacementE x v)) cancels k (normal n) (spot_tuple x) (spot_tuple u) (spot_tuple v)
 
 ray_passing_times : (k : ℤ) → pos 0 <ℤ k → (n : Plane) (a : Axis) (p : Spot) (q : Vector) (u v : Spot) →
     ray_passing (times_plane k n) a p q u v ≡ ray_passing n a p q u v

@@ -17,8 +17,8 @@ use Rattle.ember_model.specs.Planes.{value_at}
 use Rattle.ember_model.proofs.Legs.{value_between, size_is_pos, size_is_neg, ends_nonzero}
 use Rattle.ember_model.proofs.SignTests.{clash, negative_not, zero_scaled}
 use Rattle.ember_model.proofs.Tuples.{plane_tuple, spot_tuple}
+use Rattle.ember_model.specs.Points.{displacement}
 use Rattle.ember_poly.proofs.FaceTests.{edge_in, edge_out}
-use Rattle.ember_meaning.specs.Closed.Chains.{displacement}
 use Rattle.ember_meaning.proofs.RectangleRound.{IsGeneral}
 use Rattle.ember_meaning.proofs.Displacements.{Parallel, dot_swap, orthogonal_to_none, parallel_orthogonal, parallel_swap, zero_carried}
 use Rattle.ember_meaning.proofs.EdgeForm.{flat_displacement}

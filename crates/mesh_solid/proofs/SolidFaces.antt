@@ -1,21 +1,16 @@
 -- The faces that the mesh of a solid cuts up are those of its document, which have the meaning and are closed.
-use Rattle.std.proofs.Common.{◌≡◌, ℕ, sym, ap, subst, ◌∙◌, List, map}
-use Rattle.ember_meaning.specs.Closed.Chains.{IsClosedSurface, face_from}
+use Rattle.std.proofs.Common.{ℕ, subst, List}
+use Rattle.ember_meaning.specs.Closed.Chains.{IsClosedSurface}
 use Rattle.ember_expr.specs.Formula.{Formula}
 use Rattle.ember_meaning.specs.Regions.Meaning.{IsFalseOutside, HaveMeaning, ReadsWithMeaning}
 use Rattle.ember_meaning.proofs.ReadFaces.{document_reads}
 use Rattle.ember_model.specs.declared.face.Face.{Face}
 use Rattle.ember_model.specs.declared.tri.Tri.{Tri}
-use Rattle.ember_model.specs.FaceFiles.{WrittenFace, IsFaceFile}
+use Rattle.ember_model.specs.FaceFiles.{WrittenFace}
 use Rattle.ember_model.specs.Meshes.{IsScene}
-use Rattle.ember_reread.proofs.OneReading.{face_file_is_read_once}
+use Rattle.ember_reread.proofs.OneReading.{face_file_is_read_once, one_reading}
 use Rattle.mesh_solid.specs.declared.mesh.mesh.SolidMesh.{SolidMesh}
 use Rattle.mesh_solid.specs.Mesh.Meshes.{IsSolidMesh}
-
--- two lists of faces that the bytes hold are equal
-one_reading : (bytes : List ℕ) (fs gs : List Face) → IsFaceFile bytes fs → IsFaceFile bytes gs → fs ≡ gs
-one_reading bytes fs gs h k =
-    h.faces ∙ ap (λ (ws : List WrittenFace). map face_from ws) (face_file_is_read_once bytes fs gs h k) ∙ sym k.faces
 
 module _ (tris : List Tri) (meshes : ℕ) (formula : Formula) (mesh : SolidMesh) (scene : IsScene tris meshes)
     (outside : IsFalseOutside formula) (is : IsSolidMesh tris formula mesh) where

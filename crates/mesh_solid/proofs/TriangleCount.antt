@@ -11,8 +11,8 @@ use Rattle.ember_model.specs.declared.point.Spot.{Spot}
 use Rattle.ember_model.specs.ClearTest.{all_negative}
 use Rattle.ember_model.specs.Planes.{value_at}
 use Rattle.ember_model.proofs.SignTests.{sgn_scaled}
-use Rattle.ember_meaning.proofs.Starts.{one_if}
 use Rattle.mesh_certificate.specs.Certificate.Facing.{FacesFront}
+use Rattle.ember_meaning.specs.Regions.Meaning.{one_if}
 use Rattle.mesh_solid.specs.Winding.TriangleFaces.{side_plane, face_of_points}
 use Rattle.mesh_solid.proofs.Passings.{may_triangle, passing_triangle, pick_of_three}
 use Rattle.mesh_solid.proofs.Seen.{height, turn_at, passing_at, heights_balance, turns_add, side_value}

@@ -21,17 +21,18 @@ use Rattle.ember_model.specs.Meshes.{wind}
 use Rattle.ember_model.specs.Planes.{value_at, along}
 use Rattle.ember_model.proofs.SignTests.{positive_nonzero}
 use Rattle.ember_model.proofs.Tuples.{spot_tuple}
+use Rattle.ember_model.specs.Points.{displacement}
+use Rattle.ember_model.proofs.Displacements.{displacementE}
 use Rattle.ember_law.proofs.Generic.{at_hit_of, cancel_zero}
 use Rattle.ember_poly.proofs.RingOutline.{each_get}
-use Rattle.ember_meaning.specs.Closed.Chains.{displacement}
-use Rattle.ember_meaning.proofs.Displacements.{displacementE, zeroE}
+use Rattle.ember_meaning.proofs.Displacements.{zeroE}
 use Rattle.ember_meaning.proofs.EdgeForm.{flat_displacement}
-use Rattle.ember_meaning.proofs.Starts.{one_if}
 use Rattle.mesh_certificate.specs.declared.certificate.segment.Segment.{Segment}
 use Rattle.mesh_certificate.specs.declared.certificate.space_point.SpacePoint.{SpacePoint}
 use Rattle.mesh_certificate.specs.declared.certificate.triangle.Triangle.{Triangle}
 use Rattle.mesh_certificate.specs.Certificate.Certificate.{leads_round, is_in_one_plane, IsProper, FacesFrontOf, edges_in}
 use Rattle.mesh_certificate.specs.Certificate.Facing.{spot_of, triangle_normal, FacesFront}
+use Rattle.ember_meaning.specs.Regions.Meaning.{one_if}
 use Rattle.mesh_solid.specs.Winding.TriangleFaces.{side_plane, face_of_points, face_if_found, faces_of_triangle, triangle_faces}
 use Rattle.mesh_solid.proofs.Seen.{height, turn_at}
 use Rattle.mesh_solid.proofs.SamePlane.{front_sign, level_with, ray_passing}

@@ -22,15 +22,6 @@ box_link h k = (span_link h.0 k.0, span_link h.1 k.1, span_link h.2 k.2)
 pub bounds_link : {a b c : Bounds} → AreBoundsWithin a b → AreBoundsWithin b c → AreBoundsWithin a c
 bounds_link h k = record { mark = span_link h.mark k.mark; around = box_link h.around k.around }
 
-span_self : (s : Span) → IsSpanWithin s s
-span_self s = record { low = omega (arith, linear); high = omega (arith, linear) }
-
-pub box_self : (b : SpaceBox) → IsBoxWithin b b
-box_self b = (span_self b.x, span_self b.y, span_self b.z)
-
-pub bounds_self : (b : Bounds) → AreBoundsWithin b b
-bounds_self b = record { mark = span_self b.mark; around = box_self b.around }
-
 -- wider bounds have what the narrower ones have
 pub bounds_widened : {b c : Bounds} {t : Tri} → AreBoundsOf b t → AreBoundsWithin b c → AreBoundsOf c t
 bounds_widened h k =

@@ -6,6 +6,8 @@ use Rattle.std.specs.Option.{option_map}
 use Rattle.std.proofs.lemmas.Bool.Decides.{nat_tests}
 use Rattle.std.proofs.lemmas.Option.{slice_get_within, get_or_from_slice_get, slice_get-map}
 use Rattle.std.proofs.lemmas.List.Elements.{Contains-get_or}
+use Rattle.ember_algebra.proofs.Booleans.{same_some}
+use Rattle.ember_algebra.proofs.Numbers.{nat_lt_out}
 use Rattle.mesh_sources.specs.declared.facet.Facet.{Facet}
 use Rattle.mesh_sources.specs.declared.items.Item.{Item}
 use Rattle.mesh_sources.specs.declared.nodes.Node.{Node}
@@ -13,21 +15,13 @@ use Rattle.mesh_sources.specs.declared.source.Source.{Source}
 use Rattle.mesh_sources.specs.Places.{is_turned, IsPlace}
 use Rattle.mesh_sources.proofs.NodeLists.{before_or_from}
 use Rattle.mesh_sources.specs.Nodes.{items_in, EachPlaceFrom, IsPlaceIn, IsFirstFrom, IsFoundFrom, earlier, first_of}
-
-same_some : {X : Type 0} {x y : X} → Some x ≡ Some y → x ≡ y
-same_some e = cc
+use Rattle.mesh_sources.proofs.Placed.{clash}
 
 pub item_inside : (ns : List Node) (i : ℕ) (n : Node) → slice_get ns i ≡ Some n → Contains (items_in ns) n.item
 item_inside ns i n e =
     let f : slice_get (items_in ns) i ≡ Some n.item = slice_get-map (λ (n : Node). n.item) ns i ∙ ap (option_map (λ (n : Node). n.item)) e in
     subst (Contains (items_in ns)) (get_or_from_slice_get (items_in ns) i n.item n.item f)
     (Contains-get_or (items_in ns) i n.item (slice_get_within (items_in ns) i n.item f))
-
-clash : {P : Type 0} {b : Bool} → b ≡ false → b ≡ true → P
-clash e f = cc
-
-less : (a b : ℕ) → nat_lt a b ≡ true → a < b
-less a b e = grind (arith, nat_tests)
 
 neither : (a b : ℕ) → nat_lt a b ≡ false → nat_lt b a ≡ false → a ≡ b
 neither a b e f = grind (arith, nat_tests)
@@ -122,8 +116,8 @@ module _ (ns : List Node) (i : ℕ) (n : Node) (f : Facet) (here : slice_get ns 
           }
 
       by : (a b : Bool) → nat_lt next.triangle s.triangle ≡ a → nat_lt s.triangle next.triangle ≡ b → IsFirstFrom ns i f (earlier a b s next)
-      by true b p q = before (less next.triangle s.triangle p)
-      by false true p q = after (less s.triangle next.triangle q)
+      by true b p q = before (nat_lt_out next.triangle s.triangle p)
+      by false true p q = after (nat_lt_out s.triangle next.triangle q)
       by false false p q = same (neither next.triangle s.triangle p q)
 
       -- it is one more place

@@ -16,11 +16,11 @@ use Rattle.ember_model.specs.declared.point.Axis.TheVariants.{X, Y, Z}
 use Rattle.ember_model.specs.declared.tri.Tri.{Tri}
 use Rattle.ember_model.specs.Planes.{value_at, along, main_axis}
 use Rattle.ember_model.specs.Edges.{normal}
-use Rattle.ember_model.specs.Points.{scaled, plus_s}
+use Rattle.ember_model.specs.Points.{scaled, plus_s, displacement}
 use Rattle.ember_model.proofs.PlaneValues.{value_scaled, value_plus}
 use Rattle.ember_model.proofs.SignTests.{positive_out, zero_scaled, zero_times}
 use Rattle.ember_model.proofs.Tuples.{spot_tuple, same_spot}
-use Rattle.mesh_certificate.specs.Certificate.Facing.{displacement, triangle_normal, turn_along}
+use Rattle.mesh_certificate.specs.Certificate.Facing.{triangle_normal, turn_along}
 use Rattle.mesh_certificate.proofs.SeenFromFront.{left_from_front}
 use Rattle.mesh_sources.specs.Places.{Spots, EachSpot, IsOutside, HasOuter, coordinate, IsBefore, AreBefore, AreApart}
 use Rattle.mesh_sources.specs.Places.{IsTriangleOn, IsInner, AreOn, IsProper, IsPlace, facing, is_turned}

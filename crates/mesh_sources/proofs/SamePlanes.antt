@@ -1,6 +1,5 @@
 -- Planes with the same points have the same mark
 use Rattle.std.proofs.Common.{◌≡◌, ◌≢◌, sym, ap, ◌∙◌, subst, arith, [], ◌∷◌, ℕ, ℤ, pos, negsuc, ◌*ℤ◌, neg_ℤ, ◌<ℤ◌, unsigned_abs}
-use Rattle.std.proofs.lemmas.Int.{ints}
 use Rattle.std.specs.Int.{◌∣◌}
 use Rattle.ember_algebra.specs.Vector.{Vector, scale_v, dot}
 use Rattle.ember_algebra.proofs.Laws.{linear, neg-*ℤ, *ℤ-neg, from_two}
@@ -8,6 +7,7 @@ use Rattle.ember_algebra.proofs.Order.{by_sign}
 use Rattle.ember_algebra.proofs.Ring.{◌⊕◌, ◌⊖◌, ◌⊗◌, ◌≈◌, num, cancels}
 use Rattle.ember_algebra.proofs.Vectors.{scalar, vector, tuple, identity, dotE, minusE, scaleE, square_positive}
 use Rattle.ember_algebra.proofs.Identities.{orthogonal_parallel}
+use Rattle.ember_algebra.proofs.Numbers.{unsigned_abs-neg}
 use Rattle.ember_model.specs.declared.plane.Plane.{Plane}
 use Rattle.ember_model.specs.declared.point.Corner.{Corner}
 use Rattle.ember_model.specs.declared.tri.Tri.{Tri}
@@ -39,18 +39,12 @@ opposite_same {s} {l} h =
           (entry_turned h.of_p h.of_q s.d l.d (ap (λ (p : Plane). p.d) h.same));
     }
 
-size_turned : (z : ℤ) → unsigned_abs (neg_ℤ z) ≡ unsigned_abs z
-size_turned z = omega (arith, ints)
-
 divides_turned : (k : ℕ) (z : ℤ) → k ∣ unsigned_abs (neg_ℤ z) → k ∣ unsigned_abs z
-divides_turned k z h = subst (λ (n : ℕ). k ∣ n) (size_turned z) h
+divides_turned k z h = subst (λ (n : ℕ). k ∣ n) (unsigned_abs-neg z) h
 
 lowest_turned : (l : Plane) → AreLowest (coefficients l) → AreLowest (coefficients (opposite l))
 lowest_turned l h =
     record { lowest = λ k d. h.lowest k (divides_turned k l.a d.0, (divides_turned k l.b d.1.0, (divides_turned k l.c d.1.1.0, (divides_turned k l.d d.1.1.1.0, tt)))) }
-
-twice_turned : (z : ℤ) → neg_ℤ z ≡ pos 0 → z ≡ pos 0
-twice_turned z e = omega (arith, linear)
 
 opposite_key : {s l : Plane} → IsPlaneKey s l → IsPlaneKey (opposite s) (opposite l)
 opposite_key {s} {l} h =
@@ -145,4 +139,4 @@ module _ (p : Plane) (t : Tri) (on : AreOn p (spots_in_order t)) where
           hp.is
           ∙ ap (λ (k : Plane). pos (unsigned_abs (mixed k)))
           ((plane_keys_decide hp.is_key (opposite_key hs.is_key)).1 (other_front l))
-          ∙ ap pos (ap unsigned_abs (mixed_turned hs.key) ∙ size_turned (mixed hs.key)) ∙ sym hs.is
+          ∙ ap pos (ap unsigned_abs (mixed_turned hs.key) ∙ unsigned_abs-neg (mixed hs.key)) ∙ sym hs.is

@@ -1,7 +1,7 @@
 -- Nodes that a search passes over
-use Rattle.std.proofs.Common.{◌≡◌, ℕ, ◌-◌, ◌<◌, ◌≤◌, subst, arith, List, length, get_or, Some}
+use Rattle.std.proofs.Common.{◌≡◌, ℕ, ◌-◌, ◌<◌, ◌≤◌, arith, List, length, get_or, Some}
 use Rattle.std.specs.List.{slice_get, All}
-use Rattle.std.proofs.lemmas.Option.{slice_get_within, get_or_from_slice_get}
+use Rattle.ember_algebra.proofs.Lists.{all_at}
 use Rattle.ember_model.specs.Valid.{IsValidTri}
 use Rattle.mesh_sources.specs.declared.facet.Facet.{Facet}
 use Rattle.mesh_sources.specs.declared.nodes.Bounds.{Bounds}
@@ -11,9 +11,6 @@ use Rattle.mesh_sources.specs.Nodes.{AreBoundsOver, HaveCommonBounds, AreNodes}
 use Rattle.mesh_sources.proofs.Bounded.{far_away}
 use Rattle.mesh_sources.proofs.NodeLists.{node_here}
 use Rattle.mesh_sources.proofs.Placed.{positive_weights}
-
-all_at : {X : Type 0} (P : X → Type 0) (xs : List X) (j : ℕ) (x : X) → All P xs → slice_get xs j ≡ Some x → P x
-all_at P xs j x h e = subst P (get_or_from_slice_get xs j x x e) (h j x (slice_get_within xs j x e))
 
 -- where the bounds of a node have nothing in common with those of a facet, none of its stretch is a place
 pub none_skipped : (ns : List Node) (end : ℕ) (d : Node) → 0 < end → end ≤ length ns → AreNodes ns → All (λ (n : Node). IsValidTri n.item.tri) ns →

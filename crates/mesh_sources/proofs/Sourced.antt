@@ -7,6 +7,7 @@ use Rattle.ember_model.specs.Valid.{IsValidTri}
 use Rattle.mesh_sources.proofs.Found.{item_inside}
 use Rattle.std.proofs.lemmas.Option.{slice_get_within, slice_get-get_or}
 use Rattle.std.proofs.lemmas.List.Elements.{All-contains}
+use Rattle.ember_algebra.proofs.Booleans.{same_some}
 use Rattle.ember_model.specs.declared.tri.Tri.{Tri}
 use Rattle.mesh_sources.specs.declared.facet.Facet.{Facet}
 use Rattle.mesh_sources.specs.declared.items.Item.{Item}
@@ -16,9 +17,6 @@ use Rattle.mesh_sources.specs.Places.{IsPlace}
 use Rattle.mesh_sources.specs.Sources.{IsAnother, IsSource, IsSourceOf}
 use Rattle.mesh_sources.specs.Nodes.{IsItem, AreItems, items_in, EachPlaceFrom, IsFirstFrom, IsFoundFrom}
 use Rattle.mesh_sources.proofs.NodeLists.{node_of_item}
-
-same_some : {X : Type 0} {x y : X} → Some x ≡ Some y → x ≡ y
-same_some e = cc
 
 -- the triangles of the nodes are valid
 pub nodes_valid : (scene : List Tri) (n : ℕ) (ns : List Node) → AreItems scene n (items_in ns) → All (λ (n : Node). IsValidTri n.item.tri) ns

@@ -1,4 +1,3 @@
 pub mod ShownSteps
-pub mod Appended
 pub mod OneLines
 pub mod Entries

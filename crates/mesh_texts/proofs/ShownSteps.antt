@@ -1,6 +1,5 @@
 -- A step, a length and a move as decimals.
-use Rattle.std.proofs.Common.{◌≡◌, ℕ, ◌+◌, ◌*◌, ◌^◌, ◌<◌, ◌≤◌, ℤ, pos, mul-le-mul, sym, ap, ◌∙◌, arith}
-use Rattle.std.specs.Int.RustNames.{unsigned_abs}
+use Rattle.std.proofs.Common.{◌≡◌, ℕ, ◌+◌, ◌*◌, ◌^◌, ◌<◌, ◌≤◌, ℤ, pos, mul-le-mul, ap, arith}
 use Rattle.std.proofs.Math.Nat.{pow-le-pow_right}
 use Rattle.mesh_number.specs.Number.Fractions.{Fraction}
 use Rattle.mesh_number.specs.Round.Decimals.{decimal_text}
@@ -8,21 +7,13 @@ use Rattle.mesh_number.specs.Round.Nearest.{nearest_whole}
 use Rattle.mesh_number.proofs.Digits.{power_of_10_positive}
 use Rattle.ember_wide.specs.declared.whole.Wide.{Wide}
 use Rattle.ember_wide.specs.Whole.{size_of, value_of}
-use Rattle.ember_wide.proofs.Values.{size_of_value}
-use Rattle.mesh_written.proofs.Signs.{decimal_of_ratio, fits_with_places}
+use Rattle.mesh_written.proofs.Signs.{decimal_of_ratio}
 use Rattle.mesh_grid.specs.declared.snap.steps.GridStep.{GridStep}
 use Rattle.mesh_grid.specs.declared.grid.extent.SceneExtent.{SceneExtent}
 use Rattle.mesh_texts.specs.Texts.{length_text, size_text, step_text}
 
 abbrev over : ℕ → ℤ → Fraction
 over d z = record { numerator = z; denominator = d }
-
--- the numerator over the denominator, with its places, fits into 128 bits
-pub step_fits : (w : Wide) (s : GridStep) → 0 < s.denominator → s.numerator < 2 ^ 64 → value_of w ≡ pos s.numerator →
-    size_of w.size * 10 ^ 12 + s.denominator < 2 ^ 128 * s.denominator
-step_fits w s p small e =
-    let size : size_of w.size ≡ s.numerator = sym (size_of_value w) ∙ ap unsigned_abs e in
-    fits_with_places (size_of w.size) s.denominator 12 p (omega (arith, size, small, p)) (omega arith)
 
 -- and its decimal is that of the step
 pub step_shown : (w : Wide) (s : GridStep) → 0 < s.denominator → s.denominator < 2 ^ 64 → value_of w ≡ pos s.numerator →

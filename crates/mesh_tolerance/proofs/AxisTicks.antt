@@ -5,7 +5,7 @@ use Rattle.ember_algebra.proofs.Laws.{linear}
 use Rattle.ember_algebra.proofs.Order.{mul_le, square_nonneg}
 use Rattle.ember_algebra.proofs.Ring.{◌⊖◌, ◌⊗◌, ◌≈◌, neg, solve, cancels}
 use Rattle.ember_model.specs.declared.point.Spot.{Spot}
-use Rattle.ember_meaning.specs.Closed.Chains.{displacement}
+use Rattle.ember_model.specs.Points.{displacement}
 use Rattle.mesh_number.specs.Float.Binary32.{distance}
 use Rattle.mesh_number.specs.Number.Fractions.{Fraction}
 use Rattle.mesh_tolerance.specs.Distances.{square, IsWithin}

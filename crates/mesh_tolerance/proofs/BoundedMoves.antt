@@ -6,7 +6,7 @@ use Rattle.ember_algebra.proofs.Laws.{linear}
 use Rattle.ember_algebra.proofs.Order.{pos_mul, mul_le, cancel_le, square_nonneg}
 use Rattle.ember_algebra.proofs.Ring.{◌⊕◌, ◌⊗◌, ◌≈◌, solve, cancels}
 use Rattle.ember_model.specs.declared.point.Spot.{Spot}
-use Rattle.ember_meaning.specs.Closed.Chains.{displacement}
+use Rattle.ember_model.specs.Points.{displacement}
 use Rattle.mesh_tolerance.specs.Distances.{square, IsWithin}
 
 -- ---- whole numbers by their sizes

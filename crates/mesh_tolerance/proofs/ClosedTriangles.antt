@@ -1,9 +1,10 @@
 -- Over closed triangles, what changes its sign with the direction of an edge cancels.
-use Rattle.std.proofs.Common.{◌≡◌, refl, sym, ap, ◌∙◌, arith, ℕ, ◌+◌, Bool, true, false, ◌&&◌, eqb, eqb-true, eq-eqb, List, [], ◌∷◌, ℤ, ◌+ℤ◌}
+use Rattle.std.proofs.Common.{◌≡◌, refl, sym, ap, ◌∙◌, arith, ℕ, ◌+◌, Bool, ◌&&◌, eqb, eqb-true, eq-eqb, List, [], ◌∷◌, ℤ, ◌+ℤ◌}
 use Rattle.std.proofs.lemmas.Bool.{and_parts}
 use Rattle.ember_algebra.specs.Sums.{total, occurrences}
 use Rattle.ember_algebra.proofs.Laws.{linear}
 use Rattle.ember_algebra.proofs.Sums.{IsEquality, total_odd}
+use Rattle.ember_algebra.proofs.Booleans.{and_swapped}
 use Rattle.mesh_written.specs.Closed.{Positions, one_if_edge, edges_between, AreTrianglesClosed}
 use Rattle.mesh_tolerance.proofs.MovedTriangles.{around, HaveNoOddSum}
 
@@ -30,12 +31,6 @@ ways_are_equal = record {
   reflexive = λ v. let f = eq-eqb v.from v.from refl in let t = eq-eqb v.to v.to refl in λ i. f i && t i;
 }
 
-swapped : (a b : Bool) → a && b ≡ b && a
-swapped true true = refl
-swapped true false = refl
-swapped false true = refl
-swapped false false = refl
-
 -- as many ways lead from u to v as edges do
 ways_between : (u v : ℕ) (ts : List (Positions ℕ)) →
     occurrences same_way (record { from = u; to = v }) (ways_in ts) ≡ edges_between eqb u v ts
@@ -56,6 +51,6 @@ sum_of_ways f (t ∷ ts) =
 pub closed_have_no_odd_sum : (ts : List (Positions ℕ)) → AreTrianglesClosed eqb ts → HaveNoOddSum ts
 closed_have_no_odd_sum ts closed = record {
   cancels = λ f odd. sym (sum_of_ways f ts) ∙ total_odd same_way ways_are_equal (λ w. f w.from w.to) back
-      (λ w. odd w.from w.to) (λ v w. swapped (eqb v.from w.to) (eqb v.to w.from)) (ways_in ts)
+      (λ w. odd w.from w.to) (λ v w. and_swapped (eqb v.from w.to) (eqb v.to w.from)) (ways_in ts)
       (λ w. ways_between w.from w.to ts ∙ closed.each w.from w.to ∙ sym (ways_between w.to w.from ts));
 }

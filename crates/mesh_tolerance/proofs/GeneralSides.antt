@@ -13,14 +13,13 @@ use Rattle.ember_model.specs.declared.plane.Plane.{Plane}
 use Rattle.ember_model.specs.declared.point.Axis.{Axis}
 use Rattle.ember_model.specs.declared.point.Axis.TheVariants.{X, Y, Z}
 use Rattle.ember_model.specs.declared.point.Spot.{Spot}
-use Rattle.ember_model.specs.Planes.{unit, value_at}
-use Rattle.ember_model.specs.Points.{offset_by}
+use Rattle.ember_model.specs.Planes.{unit, value_at, HasNoNormal}
+use Rattle.ember_model.specs.Points.{offset_by, displacement}
 use Rattle.ember_model.proofs.SignTests.{sgn_scaled, zero_scaled}
 use Rattle.ember_model.proofs.Tuples.{spot_tuple}
+use Rattle.ember_model.proofs.Displacements.{displacementE}
 use Rattle.ember_law.proofs.Generic.{cancel_zero}
-use Rattle.ember_law.proofs.Shifted.{NoNormal, follows_shifted, off_shifted, weight_shifted}
-use Rattle.ember_meaning.specs.Closed.Chains.{displacement}
-use Rattle.ember_meaning.proofs.Displacements.{displacementE}
+use Rattle.ember_law.proofs.Shifted.{follows_shifted, off_shifted, weight_shifted}
 use Rattle.mesh_certificate.specs.Key.LineKeys.{numerators}
 use Rattle.mesh_tolerance.proofs.Sides.{next, upward, height_of, IsGeneralSide}
 use Rattle.mesh_tolerance.proofs.Prisms.{IsGeneralWall}
@@ -52,7 +51,7 @@ height_shifted a u p wu =
     eventually_map (λ k off z. some a (off (value_across (upward a) u (offset_by p (pos k)) ∙ ap neg_ℤ z)))
     (off_shifted p (plane_across (upward a) u))
   where
-    some : (a : Axis) → NoNormal (plane_across (upward a) u) → ⊥
+    some : (a : Axis) → HasNoNormal (plane_across (upward a) u) → ⊥
     some X n = let e = n.1 in omega (arith, linear, wu, e)
     some Y n = let e = n.2 in omega (arith, linear, wu, e)
     some Z n = let e = n.0 in omega (arith, linear, wu, e)
@@ -82,7 +81,7 @@ height_change h u v p =
 
 module _ (a : Axis) (u v : Spot) (wu : pos 0 <ℤ u.w) (wv : pos 0 <ℤ v.w) where
   -- two corners on one line along the axis are on one side
-  along_alike : (p : Spot) → NoNormal (plane_along (unit a) u v) →
+  along_alike : (p : Spot) → HasNoNormal (plane_along (unit a) u v) →
       sgn (height_of a (displacement p u)) ≡ sgn (height_of a (displacement p v))
   along_alike p n =
       sym (sgn_scaled (height_of a (displacement p u)) wv) ∙ ap sgn same ∙ sgn_scaled (height_of a (displacement p v)) wu

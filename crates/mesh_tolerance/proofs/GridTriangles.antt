@@ -17,9 +17,9 @@ use Rattle.ember_model.specs.Planes.{vector_of, unit}
 use Rattle.ember_model.proofs.PlaneValues.{seen, seenE, tuple_of}
 use Rattle.ember_model.proofs.SameEdges.{same_corner_out}
 use Rattle.ember_model.proofs.SeenCrossings as model
+use Rattle.ember_model.specs.Points.{displacement}
+use Rattle.ember_model.proofs.Displacements.{displacementE}
 use Rattle.ember_law.proofs.Axes.{wind_seen}
-use Rattle.ember_meaning.specs.Closed.Chains.{displacement}
-use Rattle.ember_meaning.proofs.Displacements.{displacementE}
 use Rattle.mesh_grid.specs.Grid.Images.{image, vanishes, kept, images}
 use Rattle.mesh_read.specs.declared.surface.surface.Facet.{Facet}
 use Rattle.mesh_written.specs.Closed.{Positions}

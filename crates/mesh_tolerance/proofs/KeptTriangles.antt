@@ -7,7 +7,8 @@ use Rattle.ember_model.specs.declared.face.Face.{Face}
 use Rattle.ember_model.specs.declared.plane.Plane.{Plane}
 use Rattle.ember_model.specs.declared.point.Spot.{Spot}
 use Rattle.ember_model.proofs.Tuples.{spot_tuple}
-use Rattle.ember_meaning.proofs.Displacements.{displacementE, zeroE, zero_vector_in}
+use Rattle.ember_model.proofs.Displacements.{displacementE}
+use Rattle.ember_meaning.proofs.Displacements.{zeroE, zero_vector_in}
 use Rattle.mesh_certificate.specs.declared.certificate.triangle.Triangle.{Triangle}
 use Rattle.mesh_certificate.specs.Certificate.Facing.{triangle_normal}
 use Rattle.mesh_write.specs.declared.stl.triangle.FloatPoint.{FloatPoint}

@@ -7,17 +7,14 @@ use Rattle.ember_algebra.proofs.Laws.{linear}
 use Rattle.ember_algebra.proofs.Order.{nonneg_mul, mul_le, square_nonneg}
 use Rattle.ember_algebra.proofs.Ring.{◌⊕◌, ◌⊖◌, ◌⊗◌, ◌≈◌, solve, cancels}
 use Rattle.ember_algebra.proofs.Vectors.{scalar, vector, tuple, identity, vector_identity, ◌≈v◌, cancels_v, TupleE, dotE, minusE, plusE, scaleE}
+use Rattle.ember_algebra.proofs.Identities.{dot_nonneg}
 use Rattle.ember_model.specs.declared.point.Spot.{Spot}
 use Rattle.ember_model.proofs.Tuples.{spot_tuple}
-use Rattle.ember_meaning.specs.Closed.Chains.{displacement}
-use Rattle.ember_meaning.proofs.Displacements.{displacementE}
+use Rattle.ember_model.specs.Points.{displacement}
+use Rattle.ember_model.proofs.Displacements.{displacementE}
 use Rattle.mesh_written.specs.Closed.{Positions}
 use Rattle.mesh_tolerance.specs.Distances.{square, IsWithin}
 use Rattle.mesh_tolerance.specs.Moves.{CornersMoveWithin, PointsMoveWithin}
-
-dot_nonneg : (d : Vector) → pos 0 ≤ℤ dot d d
-dot_nonneg d =
-    let x = square_nonneg d.x in let y = square_nonneg d.y in let z = square_nonneg d.z in omega (arith, linear, x, y, z)
 
 -- ---- a mean of three vectors
 abbrev mean : ℤ → ℤ → ℤ → Vector → Vector → Vector → Vector

@@ -5,10 +5,11 @@ use Rattle.ember_algebra.proofs.Laws.{linear}
 use Rattle.ember_algebra.proofs.Order.{by_sign, pos_mul, nonneg_mul, mul_lt, mul_le, square_nonneg}
 use Rattle.ember_algebra.proofs.Ring.{◌⊖◌, ◌⊗◌, ◌≈◌, neg, solve, cancels}
 use Rattle.ember_algebra.proofs.Vectors.{vector, tuple, identity, dotE, crossE}
+use Rattle.ember_algebra.proofs.Identities.{dot_nonneg}
 use Rattle.ember_model.specs.declared.point.Spot.{Spot}
 use Rattle.ember_model.proofs.Tuples.{spot_tuple}
-use Rattle.ember_meaning.specs.Closed.Chains.{displacement}
-use Rattle.ember_meaning.proofs.Displacements.{displacementE}
+use Rattle.ember_model.specs.Points.{displacement}
+use Rattle.ember_model.proofs.Displacements.{displacementE}
 use Rattle.mesh_tolerance.specs.Distances.{square, IsWithin, IsBeyond}
 
 -- ---- numbers
@@ -69,10 +70,6 @@ way_on d p u v =
     identity (vector ∷ tuple ∷ tuple ∷ tuple ∷ [])
     (λ d p u v. u.w ⊗ dotE d (displacementE p v) ⊖ v.w ⊗ dotE d (displacementE p u) ≈ p.w ⊗ dotE d (displacementE u v))
     cancels d (spot_tuple p) (spot_tuple u) (spot_tuple v)
-
-dot_nonneg : (d : Vector) → pos 0 ≤ℤ dot d d
-dot_nonneg d =
-    let x = square_nonneg d.x in let y = square_nonneg d.y in let z = square_nonneg d.z in omega (arith, linear, x, y, z)
 
 -- a corner farther than a distance stays ahead if it moves by no more than that
 pub moved_stays_ahead : (size unit : ℕ) (d : Vector) (p u v : Spot) → pos 0 <ℤ u.w → pos 0 <ℤ v.w →

@@ -10,10 +10,9 @@ use Rattle.ember_model.specs.declared.point.Axis.{Axis}
 use Rattle.ember_model.specs.declared.point.Spot.{Spot}
 use Rattle.ember_model.specs.Clear.{AreClear}
 use Rattle.ember_model.specs.Meshes.{wind}
-use Rattle.ember_model.specs.Points.{offset_by}
+use Rattle.ember_model.specs.Points.{offset_by, displacement}
 use Rattle.ember_law.proofs.Generic.{wind_shifted}
 use Rattle.ember_law.proofs.Shifted.{weight_shifted, eventually_true}
-use Rattle.ember_meaning.specs.Closed.Chains.{displacement}
 use Rattle.mesh_written.specs.Closed.{Positions}
 use Rattle.mesh_tolerance.specs.Similar.{HasWeights}
 use Rattle.mesh_tolerance.specs.Triangles.{faces_of_triangles, with_points}

@@ -11,11 +11,10 @@ use Rattle.ember_model.specs.declared.point.Axis.{Axis}
 use Rattle.ember_model.specs.declared.point.Spot.{Spot}
 use Rattle.ember_model.specs.Clear.{AreClear}
 use Rattle.ember_model.specs.Meshes.{wind}
-use Rattle.ember_model.specs.Points.{offset_by}
+use Rattle.ember_model.specs.Points.{offset_by, displacement}
 use Rattle.ember_model.proofs.Tuples.{spot_tuple}
+use Rattle.ember_model.proofs.Displacements.{displacementE}
 use Rattle.ember_law.proofs.Generic.{wind_shifted}
-use Rattle.ember_meaning.specs.Closed.Chains.{displacement}
-use Rattle.ember_meaning.proofs.Displacements.{displacementE}
 use Rattle.mesh_grid.specs.declared.grid.grid.Grid.{Grid}
 use Rattle.mesh_written.specs.Closed.{Positions}
 use Rattle.mesh_tolerance.specs.Files.{in_unit, offset_of, on_grid}

@@ -12,8 +12,9 @@ use Rattle.ember_model.specs.declared.point.Spot.{Spot}
 use Rattle.ember_model.specs.Planes.{unit}
 use Rattle.ember_model.proofs.SignTests.{sgn_scaled}
 use Rattle.ember_model.proofs.Tuples.{spot_tuple}
-use Rattle.ember_meaning.specs.Closed.Chains.{displacement}
-use Rattle.ember_meaning.proofs.Displacements.{displacementE, zeroE}
+use Rattle.ember_model.specs.Points.{displacement}
+use Rattle.ember_model.proofs.Displacements.{displacementE}
+use Rattle.ember_meaning.proofs.Displacements.{zeroE}
 use Rattle.mesh_tolerance.proofs.Rays.{ray_crossing}
 use Rattle.mesh_tolerance.proofs.Sides.{turn_of, seen_crossing}
 

@@ -19,13 +19,13 @@ use Rattle.ember_model.specs.declared.face.Face.{Face}
 use Rattle.ember_model.specs.Edges.{normal}
 use Rattle.ember_model.specs.Faces.{size, hit, crossing}
 use Rattle.ember_model.specs.Planes.{unit, value_at, along}
-use Rattle.ember_model.specs.Points.{scaled, moved}
+use Rattle.ember_model.specs.Points.{scaled, moved, displacement}
 use Rattle.ember_model.proofs.Hits.{crossing_off, crossing_across}
 use Rattle.ember_model.proofs.PlaneValues.{along_dot, hit_flat, sign-number}
 use Rattle.ember_model.proofs.SignTests.{sgn_scaled, same_sgn_out, negative_not, positive_nonzero, size_positive, zero_scaled}
 use Rattle.ember_model.proofs.Tuples.{spot_tuple}
-use Rattle.ember_meaning.specs.Closed.Chains.{displacement}
-use Rattle.ember_meaning.proofs.Displacements.{displacementE, displacement_value, dot_swap, orthogonal_to_none}
+use Rattle.ember_model.proofs.Displacements.{displacementE, displacement_value}
+use Rattle.ember_meaning.proofs.Displacements.{dot_swap, orthogonal_to_none}
 use Rattle.ember_meaning.proofs.EdgeForm.{flat_displacement}
 use Rattle.mesh_certificate.specs.Certificate.Facing.{triangle_normal, FacesFront}
 use Rattle.mesh_solid.specs.Winding.TriangleFaces.{side_plane, face_of_points}

@@ -12,8 +12,10 @@ use Rattle.ember_model.specs.declared.point.Spot.{Spot}
 use Rattle.ember_model.specs.Meshes.{wind}
 use Rattle.ember_model.specs.Planes.{value_at}
 use Rattle.ember_model.proofs.Tuples.{spot_tuple}
-use Rattle.ember_meaning.specs.Closed.Chains.{displacement, is_zero_vector}
-use Rattle.ember_meaning.proofs.Displacements.{displacementE, zero_vector_out, zero_not}
+use Rattle.ember_model.specs.Points.{displacement}
+use Rattle.ember_model.proofs.Displacements.{displacementE}
+use Rattle.ember_meaning.specs.Closed.Chains.{is_zero_vector}
+use Rattle.ember_meaning.proofs.Displacements.{zero_vector_out, zero_not}
 use Rattle.mesh_certificate.specs.Certificate.Facing.{triangle_normal, FacesFront}
 use Rattle.mesh_written.specs.Closed.{Positions}
 use Rattle.mesh_tolerance.specs.Similar.{HasWeights}

@@ -5,13 +5,14 @@ use lib.IntN.{*ℤ-zero}
 use Rattle.ember_algebra.specs.declared.Sign.{Sign}
 use Rattle.ember_algebra.specs.Sign.{sgn, times, is_pos}
 use Rattle.ember_algebra.specs.Vector.{Vector, dot, cross, det}
-use Rattle.ember_algebra.proofs.Ring.{◌⊕◌, ◌⊗◌, ◌≈◌, num, neg, cancels}
+use Rattle.ember_algebra.proofs.Ring.{◌⊕◌, ◌⊗◌, ◌≈◌, num, cancels}
 use Rattle.ember_algebra.proofs.Signs.{both, pick, not_null, sum3, sum3_from, zero_sum_from, sgn-mul, sgn-neg}
 use Rattle.ember_algebra.proofs.Vectors.{vector, identity, dotE, crossE, detE}
 use Rattle.ember_model.specs.declared.point.Axis.{Axis}
 use Rattle.ember_model.specs.declared.point.Axis.TheVariants.{X, Y, Z}
 use Rattle.ember_model.specs.Planes.{unit}
 use Rattle.ember_model.proofs.SignTests.{sgn_scaled}
+use Rattle.ember_law.proofs.Directions.{turned_dot}
 use Rattle.mesh_solid.proofs.Passings.{passing, passing_back}
 use Rattle.mesh_tolerance.proofs.Rays.{ray_crossing, line_crossing, line_passes, level_signs, ray_by_direction}
 
@@ -52,20 +53,18 @@ pub record IsGeneralSide (a : Axis) (u v : Vector) : Type 0 where
   pub alike : turn_of a u v ≡ pos 0 → sgn (height_of a u) ≡ sgn (height_of a v)
 
 -- ---- the way back
-turned : (f u v : Vector) → dot f (cross v u) ≡ neg_ℤ (dot f (cross u v))
-turned = identity (vector ∷ vector ∷ vector ∷ []) (λ f u v. dotE f (crossE v u) ≈ neg (dotE f (crossE u v))) cancels
 
 pub side_passing_back : (a : Axis) (u v : Vector) → side_passing a v u ≡ neg_ℤ (side_passing a u v)
 side_passing_back a u v =
     ap (λ (s : Sign). passing (sgn (height_of a v)) (sgn (height_of a u)) s)
-    (ap sgn (turned (unit a) u v) ∙ sgn-neg (turn_of a u v))
+    (ap sgn (turned_dot (unit a) u v) ∙ sgn-neg (turn_of a u v))
     ∙ passing_back (sgn (height_of a u)) (sgn (height_of a v)) (sgn (turn_of a u v))
 
 pub side_back : (a : Axis) (u v : Vector) → IsGeneralSide a u v → IsGeneralSide a v u
 side_back a u v h = record {
   first = h.second;
   second = h.first;
-  alike = λ z. sym (h.alike (turned (unit a) v u ∙ ap neg_ℤ z));
+  alike = λ z. sym (h.alike (turned_dot (unit a) v u ∙ ap neg_ℤ z));
 }
 
 -- ---- the line by the sides

@@ -12,12 +12,11 @@ use Rattle.ember_model.specs.declared.point.Spot.{Spot}
 use Rattle.ember_model.specs.Clear.{IsClear}
 use Rattle.ember_model.specs.Faces.{is_inside, is_in_closed}
 use Rattle.ember_model.specs.Planes.{unit, value_at}
-use Rattle.ember_model.specs.Points.{scaled, moved}
+use Rattle.ember_model.specs.Points.{scaled, moved, displacement}
 use Rattle.ember_model.proofs.Hits.{closed_scaled, inside_scaled, scaled_point_scales}
 use Rattle.ember_model.proofs.SignTests.{sgn_scaled}
 use Rattle.ember_model.proofs.Tuples.{spot_tuple, same_spot}
-use Rattle.ember_meaning.specs.Closed.Chains.{displacement}
-use Rattle.ember_meaning.proofs.Displacements.{displacementE}
+use Rattle.ember_model.proofs.Displacements.{displacementE}
 use Rattle.mesh_solid.specs.Winding.TriangleFaces.{side_plane}
 use Rattle.mesh_written.specs.Closed.{Positions}
 use Rattle.mesh_tolerance.specs.Similar.{placed_by, triangle_placed_by}

@@ -12,7 +12,8 @@ use Rattle.ember_model.specs.declared.point.Axis.{Axis}
 use Rattle.ember_model.specs.declared.point.Spot.{Spot}
 use Rattle.ember_model.specs.Clear.{AreClear}
 use Rattle.ember_model.proofs.SignTests.{sgn_scaled}
-use Rattle.ember_meaning.specs.Closed.Chains.{displacement, is_zero_vector}
+use Rattle.ember_model.specs.Points.{displacement}
+use Rattle.ember_meaning.specs.Closed.Chains.{is_zero_vector}
 use Rattle.mesh_certificate.specs.Certificate.Facing.{triangle_normal}
 use Rattle.mesh_written.specs.Closed.{Positions}
 use Rattle.mesh_tolerance.specs.Similar.{placed_by, triangle_placed_by, HasWeights, WindAsPlaced, AreClearAsPlaced}

@@ -15,8 +15,8 @@ use Rattle.ember_model.specs.declared.point.Spot.{Spot}
 use Rattle.ember_model.specs.Owners.{spot_of_corner}
 use Rattle.ember_model.proofs.SignTests.{zero_scaled}
 use Rattle.ember_model.proofs.Tuples.{same_spot, spot_tuple}
-use Rattle.ember_meaning.specs.Closed.Chains.{displacement}
-use Rattle.ember_meaning.proofs.Displacements.{displacementE}
+use Rattle.ember_model.specs.Points.{displacement}
+use Rattle.ember_model.proofs.Displacements.{displacementE}
 use Rattle.mesh_grid.specs.declared.grid.grid.Grid.{Grid}
 use Rattle.mesh_grid.specs.Grid.Corners.{corner_on, corner_from, corner_at}
 use Rattle.mesh_grid.specs.Moves.Greatest.{square_of, square_from, square_at, facet_square, greatest_square}

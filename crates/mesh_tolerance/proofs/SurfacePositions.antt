@@ -1,29 +1,24 @@
 -- The corners of a surface by their positions: at one position there is one point, before and after the move to the grid.
-use Rattle.std.proofs.Common.{◌≡◌, ◌⊎◌, inl, inr, ◌<◌, refl, sym, ap, subst, ◌∙◌, arith, ℕ, zero, suc, ◌+◌, ◌*◌, mul-pos, Bool, true, false, cond, eqb}
-use Rattle.std.proofs.Common.{List, [], ◌∷◌, map, Option, Some, None, slice_get, ℤ, pos, negsuc, ◌+ℤ◌, ◌-ℤ◌, ◌*ℤ◌, ◌<ℤ◌, ◌≤ℤ◌}
-use borrow.Author.Differences.{ints}
-use Rattle.std.proofs.lemmas.Bool.{and_parts, and_from, cases_eq}
-use Rattle.ember_algebra.proofs.Laws.{linear}
-use Rattle.ember_algebra.proofs.Order.{pos_mul, mul_le, mul_lt, cancel_le, cancel_lt}
-use Rattle.ember_algebra.proofs.Ring.{◌⊕◌, ◌⊖◌, ◌⊗◌, ◌≈◌, num, solve, cancels}
+use Rattle.std.proofs.Common.{◌≡◌, ◌⊎◌, inl, inr, ◌<◌, refl, sym, ap, subst, ◌∙◌, ℕ, zero, suc, ◌+◌, ◌*◌, Bool, true, false, cond, eqb}
+use Rattle.std.proofs.Common.{List, [], ◌∷◌, map, Option, Some, None, slice_get, ℤ, pos, negsuc, ◌-ℤ◌, ◌*ℤ◌, ◌<ℤ◌}
+use Rattle.std.proofs.lemmas.Bool.{and_parts, cases_eq}
+use Rattle.ember_algebra.proofs.Order.{pos_mul}
+use Rattle.ember_algebra.proofs.Ring.{◌⊖◌, ◌⊗◌, ◌≈◌, num, solve, cancels}
 use Rattle.ember_algebra.proofs.Vectors.{same_v, vector_identity, ◌≈v◌, cancels_v, tuple}
 use Rattle.ember_model.specs.declared.point.Spot.{Spot}
-use Rattle.ember_model.proofs.SignTests.{zero_out, zero_in, zero_scaled, clash}
+use Rattle.ember_model.proofs.SignTests.{zero_out, zero_scaled, clash}
 use Rattle.ember_model.proofs.Tuples.{spot_tuple}
-use Rattle.ember_meaning.proofs.Displacements.{displacementE, zeroE}
+use Rattle.ember_model.proofs.Displacements.{displacementE}
+use Rattle.ember_meaning.proofs.Displacements.{zeroE}
 use Rattle.mesh_grid.specs.declared.grid.grid.Grid.{Grid}
-use Rattle.mesh_grid.specs.declared.snap.steps.GridStep.{GridStep}
-use Rattle.mesh_grid.specs.Grid.Closed.{arc_count, arcs_in, AreClosed, is_same_number, is_same_position, first_at, position_from, position_of}
-use Rattle.mesh_grid.specs.Grid.Corners.{corner_on, corner_from, corner_at}
-use Rattle.mesh_grid.specs.Snap.Cells.{scaled_number, scaled_step, scaled_half, cell_of, cell_at}
+use Rattle.mesh_grid.specs.Grid.Closed.{arc_count, arcs_in, AreClosed, is_same_position, first_at, position_from, position_of}
+use Rattle.mesh_grid.specs.Grid.Corners.{corner_from, corner_at}
 use Rattle.mesh_grid.specs.Snap.Steps.{IsStep}
-use Rattle.mesh_grid.proofs.Floors.{floor_is}
-use Rattle.mesh_grid.proofs.Nearest.{cell_nearest}
-use Rattle.mesh_number.specs.Number.Fractions.{Fraction}
 use Rattle.mesh_number.specs.Number.Values.{value_of}
 use Rattle.mesh_number.proofs.Denominators.{denominator_pos}
 use Rattle.mesh_read.specs.declared.surface.surface.Facet.{Facet}
 use Rattle.mesh_read.specs.declared.surface.surface.Vertex.{Vertex}
+use Rattle.mesh_grid.proofs.Positions.{same_corner_on, same_position-refl}
 use Rattle.mesh_written.specs.Closed.{Positions, one_if_edge, edges_between, AreTrianglesClosed}
 use Rattle.mesh_tolerance.specs.Files.{point_of_vertex, vertex_from, vertex_at, facet_indices}
 use Rattle.mesh_tolerance.proofs.ClosedTriangles.{closed_have_no_odd_sum}
@@ -63,48 +58,7 @@ pub positions_have_no_odd_sum : (position : ℕ → ℕ) (fs : List Facet) → A
 positions_have_no_odd_sum position fs h =
     closed_have_no_odd_sum (map (by_positions position) (map facet_indices fs)) (positions_are_closed position fs h)
 
--- ---- one number
--- a nearest cell of a number is that of an equal one
-same_cell : (s : GridStep) (v w : Fraction) → 0 < s.numerator → 0 < v.denominator → 0 < w.denominator →
-    is_same_number v w ≡ true → cell_of s v ≡ cell_of s w
-same_cell s v w n p q h =
-    let e = zero_out (v.numerator *ℤ pos w.denominator -ℤ w.numerator *ℤ pos v.denominator) h in
-    let same : v.numerator *ℤ pos w.denominator ≡ w.numerator *ℤ pos v.denominator = omega (arith, linear, e) in
-    let c = cell_of s w in let near = cell_nearest s w q n in
-    let wide = positive q in let other = positive p in
-    let least : pos 0 ≤ℤ pos v.denominator = omega (arith, ints) in
-    let low = mul_le least near.above in
-    let high = mul_lt other near.below in
-    let number : pos v.denominator *ℤ scaled_number s w ≡ pos w.denominator *ℤ scaled_number s v =
-    solve 3 (λ d v x. v ⊗ (d ⊗ x) ≈ d ⊗ (x ⊗ v)) cancels (pos (2 * s.denominator)) (pos v.denominator) w.numerator
-    ∙ ap (λ (z : ℤ). pos (2 * s.denominator) *ℤ z) (sym same)
-    ∙ solve 3 (λ d w x. d ⊗ (x ⊗ w) ≈ w ⊗ (d ⊗ x)) cancels (pos (2 * s.denominator)) (pos w.denominator) v.numerator in
-    let step : pos v.denominator *ℤ (scaled_step s w *ℤ c -ℤ scaled_half s w) ≡ pos w.denominator *ℤ
-    (scaled_step s v *ℤ c -ℤ scaled_half s v) =
-    solve 5 (λ v w n c t. v ⊗ ((w ⊗ (t ⊗ n)) ⊗ c ⊖ w ⊗ n) ≈ w ⊗ ((v ⊗ (t ⊗ n)) ⊗ c ⊖ v ⊗ n)) cancels
-    (pos v.denominator) (pos w.denominator) (pos s.numerator) c (pos 2) in
-    let next : pos v.denominator *ℤ (scaled_step s w *ℤ c +ℤ scaled_half s w) ≡ pos w.denominator *ℤ
-    (scaled_step s v *ℤ c +ℤ scaled_half s v) =
-    solve 5 (λ v w n c t. v ⊗ ((w ⊗ (t ⊗ n)) ⊗ c ⊕ w ⊗ n) ≈ w ⊗ ((v ⊗ (t ⊗ n)) ⊗ c ⊕ v ⊗ n)) cancels
-    (pos v.denominator) (pos w.denominator) (pos s.numerator) c (pos 2) in
-    let above : (scaled_step s v *ℤ c -ℤ scaled_half s v) ≤ℤ scaled_number s v =
-    cancel_le wide (omega (arith, linear, low, number, step)) in
-    let below : scaled_number s v <ℤ (scaled_step s v *ℤ c +ℤ scaled_half s v) =
-    cancel_lt wide (omega (arith, linear, high, number, next)) in
-    let halves : scaled_step s v ≡ scaled_half s v +ℤ scaled_half s v =
-    solve 2 (λ v n. v ⊗ (num (pos 2) ⊗ n) ≈ v ⊗ n ⊕ v ⊗ n) cancels (pos v.denominator) (pos s.numerator) in
-    floor_is (scaled_number s v +ℤ scaled_half s v) c (v.denominator * (2 * s.numerator)) (mul-pos p (omega (arith, n)))
-    (omega (arith, linear, above)) (omega (arith, linear, below, halves))
-
 -- ---- one vertex
-same_corner : (g : Grid) (v w : Vertex) → IsStep g.step → is_same_position v w ≡ true → corner_on g v ≡ corner_on g w
-unfolding cell_at
-same_corner g v w step h =
-    let p = and_parts _ _ h in let q = and_parts _ _ p.1 in
-    let x = same_cell g.step (value_of v.x) (value_of w.x) step.numerator_positive (denominator_pos v.x) (denominator_pos w.x) p.0 in
-    let y = same_cell g.step (value_of v.y) (value_of w.y) step.numerator_positive (denominator_pos v.y) (denominator_pos w.y) q.0 in
-    let z = same_cell g.step (value_of v.z) (value_of w.z) step.numerator_positive (denominator_pos v.z) (denominator_pos w.z) q.1 in
-    λ i. record { x = x i -ℤ g.offset.x; y = y i -ℤ g.offset.y; z = z i -ℤ g.offset.z }
 
 pub vertex_weight : (v : Vertex) → pos 0 <ℤ (point_of_vertex v).w
 vertex_weight v =
@@ -138,12 +92,6 @@ same_point v w h =
     }
 
 -- ---- the first vertex at a position
-same_number-refl : (v : Fraction) → is_same_number v v ≡ true
-same_number-refl v = zero_in (omega (arith, linear))
-
-same_position-refl : (v : Vertex) → is_same_position v v ≡ true
-same_position-refl v =
-    and_from _ _ (same_number-refl (value_of v.x)) (and_from _ _ (same_number-refl (value_of v.y)) (same_number-refl (value_of v.z)))
 
 record IsFirst (vs : List Vertex) (i : ℕ) (v : Vertex) : Type 0 where
   vertex : Vertex
@@ -190,4 +138,4 @@ module _ (g : Grid) (step : IsStep g.step) (vs : List Vertex) (i : ℕ) where
       by : (o : Option Vertex) → slice_get vs i ≡ o → corner_at g vs (position_from vs i o) ≡ corner_from g o
       by None e = ap (corner_from g) e
       by (Some v) e =
-          let r = first_is_there v vs i e in ap (corner_from g) r.found ∙ same_corner g r.vertex v step r.same
+          let r = first_is_there v vs i e in ap (corner_from g) r.found ∙ same_corner_on g r.vertex v step r.same

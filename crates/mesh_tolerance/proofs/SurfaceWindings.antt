@@ -11,9 +11,8 @@ use Rattle.ember_model.specs.declared.point.Axis.{Axis}
 use Rattle.ember_model.specs.declared.point.Spot.{Spot}
 use Rattle.ember_model.specs.Meshes.{wind, faces_of}
 use Rattle.ember_model.specs.Owners.{spot_of_corner}
-use Rattle.ember_model.specs.Points.{offset_by}
+use Rattle.ember_model.specs.Points.{offset_by, displacement}
 use Rattle.ember_law.proofs.Shifted.{weight_shifted, eventually_true}
-use Rattle.ember_meaning.specs.Closed.Chains.{displacement}
 use Rattle.mesh_grid.specs.declared.grid.grid.Grid.{Grid}
 use Rattle.mesh_grid.specs.Grid.Closed.{position_of, IsSurfaceClosed}
 use Rattle.mesh_grid.specs.Grid.Corners.{corner_at}

@@ -33,6 +33,7 @@ use Rattle.mesh_number.proofs.DigitNumbers.{pow_ten_pos}
 use Rattle.mesh_write.specs.declared.stl.triangle.FloatPoint.{FloatPoint}
 use Rattle.mesh_write.specs.declared.vertices.point.DecimalPoint.{DecimalPoint}
 use Rattle.mesh_write.specs.Vertices.Vertices as vertices
+use Rattle.mesh_grid.proofs.StepTexts.{size_of_positive}
 use Rattle.mesh_written.specs.Decimals.{decimal_point}
 use Rattle.mesh_written.specs.Places.{place_of}
 use Rattle.mesh_written.specs.Triangles.{point_at}
@@ -44,9 +45,6 @@ use Rattle.mesh_tolerance.proofs.AxisTicks.{point_is_within}
 use Rattle.mesh_tolerance.proofs.Numbers.{positive, none_is_some}
 
 -- ---- numbers
-size_of_positive : (z : ℤ) → pos 0 <ℤ z → pos (unsigned_abs z) ≡ z
-size_of_positive (pos n) p = refl
-size_of_positive (negsuc n) p = absurd (omega (arith, ints, p))
 
 size_is_positive : (z : ℤ) → pos 0 <ℤ z → 0 < unsigned_abs z
 size_is_positive (pos n) p = omega (arith, ints, p)

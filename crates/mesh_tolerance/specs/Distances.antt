@@ -2,7 +2,7 @@
 use Rattle.std.specs.Prelude.{ℕ, ℤ, pos, ◌*ℤ◌, ◌<ℤ◌, ◌≤ℤ◌}
 use Rattle.ember_algebra.specs.Vector.{Vector, dot}
 use Rattle.ember_model.specs.declared.point.Spot.{Spot}
-use Rattle.ember_meaning.specs.Closed.Chains.{displacement}
+use Rattle.ember_model.specs.Points.{displacement}
 use Rattle.mesh_written.specs.Closed.{Positions}
 
 abbrev pub square : ℤ → ℤ

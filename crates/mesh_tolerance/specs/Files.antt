@@ -58,7 +58,8 @@ abbrev pub decimal_of_units : ℕ → ℤ → Fraction
 decimal_of_units places units = record { numerator = units; denominator = 10 ^ places }
 
 abbrev pub point_of_decimals : ℕ → DecimalPoint → Spot
-point_of_decimals places p = point_of (decimal_of_units places p.x) (decimal_of_units places p.y) (decimal_of_units places p.z)
+point_of_decimals places p =
+    point_of (decimal_of_units places p.x) (decimal_of_units places p.y) (decimal_of_units places p.z)
 
 -- ---- on the grid
 -- a point of the grid in the user's unit: its coordinates and the offset, in steps
@@ -105,7 +106,8 @@ pub record IsOutsideMoves (g : Grid) (p : Spot) (s : Surface) : Type 0 where
 
 -- ---- the exact result
 abbrev pub exact_in_unit : Grid → SolidMesh → List (Positions Spot)
-exact_in_unit g mesh = map (with_points (λ n. in_unit g (corner_at mesh.corners.items n))) (map numbers_of mesh.triangles.items)
+exact_in_unit g mesh =
+    map (with_points (λ n. in_unit g (corner_at mesh.corners.items n))) (map numbers_of mesh.triangles.items)
 
 -- the triangles of the surfaces on the grid are a scene, and the mesh is that of the solid of an expression that is
 -- false outside
@@ -142,7 +144,8 @@ decimal_move places g mesh =
 
 -- p is clear of the written triangles, and farther from the exact result than any of its corners was moved when it was
 -- rounded
-pub record IsOutsideRounding (g : Grid) (mesh : SolidMesh) (move : effect.Rounded) (written : List (Positions Spot)) (p : Spot) : Type 0 where
+pub record IsOutsideRounding (g : Grid) (mesh : SolidMesh) (move : effect.Rounded) (written : List (Positions Spot))
+    (p : Spot) : Type 0 where
   pub clear : AreClear (faces_of_triangles written) p
   pub far : AllByRecursion (IsFar move.size (10 ^ move.places) p) (exact_in_unit g mesh)
 
@@ -164,13 +167,17 @@ decimals_at places g mesh n =
 -- ---- the theorem from file to file
 -- the written triangles wind once where the expression is true of the winding numbers of the surfaces, and not at all
 -- elsewhere: at each point that is outside the moves of the surfaces and outside the rounding
-abbrev pub HaveMeaningOutsideMoves : Grid → List Surface → Formula → SolidMesh → effect.Rounded → List (Positions Spot) → Type 0
+abbrev pub HaveMeaningOutsideMoves : Grid → List Surface → Formula → SolidMesh → effect.Rounded →
+    List (Positions Spot) → Type 0
 HaveMeaningOutsideMoves g ss x mesh move written =
     (a b : Axis) (p : Spot) → pos 0 <ℤ p.w → AllByRecursion (IsOutsideMoves g p) ss →
-    IsOutsideRounding g mesh move written p → wind a (faces_of_triangles written) p ≡ one_if (truth (windings b g ss p) x)
+    IsOutsideRounding g mesh move written p →
+    wind a (faces_of_triangles written) p ≡ one_if (truth (windings b g ss p) x)
 
 -- the second half of it, from these triangles on the grid to the written ones
-abbrev pub HaveMeaningOutsideRounding : Grid → List Tri → Formula → SolidMesh → effect.Rounded → List (Positions Spot) → Type 0
+abbrev pub HaveMeaningOutsideRounding : Grid → List Tri → Formula → SolidMesh → effect.Rounded →
+    List (Positions Spot) → Type 0
 HaveMeaningOutsideRounding g tris x mesh move written =
     (a b : Axis) (p : Spot) → pos 0 <ℤ p.w → AreClear (faces_of tris) (on_grid g p) →
-    IsOutsideRounding g mesh move written p → wind a (faces_of_triangles written) p ≡ one_if (truth (vector b tris (on_grid g p)) x)
+    IsOutsideRounding g mesh move written p →
+    wind a (faces_of_triangles written) p ≡ one_if (truth (vector b tris (on_grid g p)) x)

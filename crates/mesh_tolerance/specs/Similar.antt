@@ -31,7 +31,8 @@ pub record HasWeights (t : Positions Spot) : Type 0 where
 abbrev pub WindAsPlaced : ℤ → ℤ → Vector → List (Positions Spot) → Type 0
 WindAsPlaced n m o ts =
     (a : Axis) (p : Spot) → pos 0 <ℤ p.w →
-    wind a (faces_of_triangles (map (triangle_placed_by n m o) ts)) (placed_by n m o p) ≡ wind a (faces_of_triangles ts) p
+    wind a (faces_of_triangles (map (triangle_placed_by n m o) ts)) (placed_by n m o p)
+    ≡ wind a (faces_of_triangles ts) p
 
 -- what is clear of them is clear of them there
 abbrev pub AreClearAsPlaced : ℤ → ℤ → Vector → List (Positions Spot) → Type 0

@@ -177,7 +177,8 @@ impl Walk {
 
     // Adds the edges that stay though they cancel.
     fn push_pairs(&self, segments: &mut Vec<Segment>) -> Result<(), TrianglesFault>
-        ensures { (strands : List Strand) (before : List Segment) → AddsStretch self.now strands before segments.old.items →
+        ensures { (strands : List Strand) (before : List Segment) →
+            AddsStretch self.now strands before segments.old.items →
             OnOk result (AddsStretch self.now strands before segments.new.items) }
     {
         for plane in &self.pairs {

@@ -9,6 +9,7 @@ use Rattle.std.proofs.lemmas.List.Elements.{All-nil, All-cons, All-append, All-p
 use Rattle.mesh_certificate.specs.declared.certificate.segment.Segment.{Segment}
 use Rattle.mesh_certificate.specs.declared.certificate.triangle.Triangle.{Triangle}
 use Rattle.mesh_certificate.specs.Certificate.Certificate.{is_round, edges_in}
+use Rattle.mesh_certificate.proofs.Triangles.{edges_in-append}
 use Rattle.mesh_triangulate.specs.declared.lines.Lines.{Lines}
 use Rattle.mesh_triangulate.specs.Diagonals.{edge_key, pair_key, line_at}
 use Rattle.mesh_triangulate.specs.Lines.{corners_of, HasEndsOf, IsOnBoundary, HasLine, HaveSamePair, HaveOwnLines}
@@ -102,10 +103,6 @@ module _ (p a b c k l m : ℕ) (t : Triangle) (first : RunsOn p k a b t.first) (
       }
 
 -- ---- lists of triangles
-edges_in-append : (ts us : List Triangle) → edges_in (ts ++ us) ≡ edges_in ts ++ edges_in us
-edges_in-append [] us = refl
-edges_in-append (t ∷ ts) us =
-    ap (λ (ss : List Segment). t.first ∷ t.second ∷ t.third ∷ ss) (edges_in-append ts us)
 
 module _ (plane : ℕ) (cs : List (List ℕ)) (a b : Lines) (x : AreExtended a b) (ts : List Triangle) (c : List ℕ) (t : Triangle) where
   -- one more triangle

@@ -9,7 +9,7 @@ use Rattle.std.proofs.lemmas.Bool.Decides.{nat_tests, eqb_tells}
 use Rattle.std.proofs.lemmas.List.Folds.{list_all-append}
 use Rattle.std.proofs.lemmas.Nat.{pow_pos}
 use Rattle.std.proofs.lemmas.Bool.{and_parts}
-use Rattle.ember_dec.specs.Decimal.{number_from}
+use Rattle.ember_dec.specs.Digits.{number_from}
 use Rattle.ember_dec.proofs.Numbers.{number_from-grows}
 use Rattle.mesh_number.specs.declared.number.values.Exponent.{Exponent}
 use Rattle.mesh_number.specs.Number.Fractions.{signed_whole}

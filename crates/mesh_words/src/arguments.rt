@@ -103,8 +103,8 @@ fn said(alloc: Global, waits: Option<Setting>, word: &str) -> Result<WordMeaning
 /// with a hyphen and is no option, by its number from 1, and an option at the end without a value.
 #[tactic(auto, using(crate::proofs::WordArguments::argument_more, crate::proofs::WordArguments::option_more, crate::proofs::WordArguments::unknown_more))]
 pub fn arguments_of(alloc: Global, words: &[String]) -> Result<Vec<Argument>, WordsFault>
-    ensures { Reads (arguments_from 1 None (map string_bytes words.now)) (result_map_both (λ arguments. arguments.items) (λ fault.
-        fault) result) }
+    ensures { Reads (arguments_from 1 None (map string_bytes words.now))
+        (result_map_both (λ arguments. arguments.items) (λ fault. fault) result) }
 {
     let mut arguments = Vec::new(alloc);
     let mut waits = None;

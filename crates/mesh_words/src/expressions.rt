@@ -7,7 +7,8 @@ use std::alloc::{AllocError, Global};
 
 // Appends an operator and a mesh.
 fn put_mesh(text: &mut String, operator: &str, mesh: usize) -> Result<(), AllocError>
-    ensures { OnOk result (string_bytes text.new ≡ string_bytes text.old ++ (operator.now ++ (codes "m" ++ decimal mesh))) }
+    ensures { OnOk result (string_bytes text.new ≡ string_bytes text.old ++
+        (operator.now ++ (codes "m" ++ decimal mesh))) }
 {
     let mut buffer = Buffer::new();
     text.push_str(operator)?;

@@ -179,8 +179,8 @@ pub fn read_words(alloc: Global, words: &[String]) -> Result<Command, WordsFault
     ensures command { Reads (command_of (map string_bytes words.now)) result }
     ensures limits { IfOk result HasLimits }
     ensures spelled { (operation : Operation) (arguments : List Argument) → AreSpelled arguments →
-        map string_bytes words.now ≡ name_of operation ∷ spelling_of arguments → Reads (command_with operation (Ok arguments))
-        result }
+        map string_bytes words.now ≡ name_of operation ∷ spelling_of arguments →
+        Reads (command_with operation (Ok arguments)) result }
     ensures spelled_snap { (arguments : List Argument) → AreSpelled arguments →
         map string_bytes words.now ≡ codes "snap" ∷ spelling_of arguments → Reads (snap_command (Ok arguments)) result }
     ensures spelled_export { (arguments : List Argument) → AreSpelled arguments →

@@ -22,7 +22,8 @@ pub record IsTail (t ds : List ℕ) : Type 0 where
   pub behind : behind_point t ≡ ds
   pub plain : All IsPlain t
 
-not_none : (n : ℕ) → (suc n == 0) ≡ false
+-- a number above 0 is not 0
+pub not_none : (n : ℕ) → (suc n == 0) ≡ false
 not_none n = grind (arith, nat_tests)
 
 some_tail : (none : Bool) (ds : List ℕ) → none ≡ false → list_all is_ascii_digit ds ≡ true → IsTail (if none then [] else 46 ∷ ds) ds

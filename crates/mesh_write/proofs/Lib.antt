@@ -1,6 +1,5 @@
 pub mod VertexLists
 pub mod Meshes
-pub mod Appended
 pub mod Positions
 pub mod ReadBack
 pub mod Extremes

@@ -6,7 +6,8 @@ use Rattle.std.specs.List.{list_all}
 use Rattle.std.proofs.lemmas.Bool.Decides.{nat_tests}
 use Rattle.std.proofs.lemmas.List.Elements.{All-cons, All-head, All-tail, All-nil, All-append, All-weaker}
 use Rattle.std.proofs.lemmas.Bool.{and_parts}
-use Rattle.mesh_read.specs.Scan.Parts.{Piece, before, onward, is_hash, is_separator, lines_from, uncommented, words_from, after_line}
+use Rattle.ember_obj.specs.Scan.{before, onward, is_separator}
+use Rattle.mesh_read.specs.Scan.Parts.{Piece, is_hash, lines_from, uncommented, words_from, after_line}
 use Rattle.mesh_read.proofs.Cuts.{first_cut, word_cut}
 
 -- ---- words and lines

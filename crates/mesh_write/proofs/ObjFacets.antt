@@ -61,7 +61,8 @@ abbrev face_row : ℕ → ℕ → IndexedTriangle → Row
 face_row n s t = row_at n s f_word (references t)
 
 -- ---- all rows
-abbrev with_more : Content → List Facet → Content
+-- facets behind those of a content
+abbrev pub with_more : Content → List Facet → Content
 with_more content facets = record { points = content.points; facets = facets }
 
 first_face : (v n s : ℕ) (t : IndexedTriangle) (rest : List ℕ) → v < 2 ^ 64 → IsWithin v t

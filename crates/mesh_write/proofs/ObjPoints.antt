@@ -74,7 +74,8 @@ pub record AreVertices (places n s : ℕ) (ps : List DecimalPoint) (rest : List 
       ≡ after_rows (Ok (record { points = content.points ++ map (read_point places) ps; facets = content.facets }))
       (rows_from (n + length ps) (lines_from next rest))
 
-abbrev with_points : Content → List Point → Content
+-- points behind those of a content
+abbrev pub with_points : Content → List Point → Content
 with_points content points = record { points = points; facets = content.facets }
 
 first_vertex : (places n s : ℕ) (p : DecimalPoint) (rest : List ℕ) → IsPointBelow places p

@@ -5,9 +5,11 @@ use Rattle.std.specs.List.{list_all}
 use Rattle.std.specs.Char.{is_ascii_digit}
 use Rattle.std.proofs.lemmas.Bool.Decides.{nat_tests}
 use Rattle.std.proofs.lemmas.Bool.{and_parts}
-use Rattle.ember_dec.specs.Decimal.{number_from, is_minus}
+use Rattle.ember_dec.specs.Digits.{number_from}
+use Rattle.ember_dec.specs.Decimal.{is_minus}
 use Rattle.ember_obj.specs.References.{is_slash, is_number, size_digits}
-use Rattle.mesh_read.specs.Scan.Parts.{Piece, before}
+use Rattle.ember_obj.specs.Scan.{before}
+use Rattle.mesh_read.specs.Scan.Parts.{Piece}
 use Rattle.mesh_read.specs.Wavefront.ReadWavefront.{counted, vertex_at, corner_or_fault, corner_in}
 use Rattle.mesh_write.proofs.Digits.{decimal_digits, decimal_number, decimal_some}
 use Rattle.mesh_write.proofs.PlainTexts.{digit_no_minus}

@@ -4,7 +4,7 @@ use Rattle.mesh_number.specs.Number.Fractions.{Fraction}
 use Rattle.mesh_number.specs.Number.Naturals.{number_of, below}
 use Rattle.mesh_number.specs.Number.Texts.{value_of_text}
 use Rattle.mesh_ply.specs.Cursors.{Words}
-use Rattle.mesh_ply.specs.Header.{Header, kind_named}
+use Rattle.mesh_ply.specs.Header.{Header, kind_named, nothing_declared}
 use Rattle.mesh_ply.specs.ReadPly.{place_of}
 use Rattle.mesh_ply.specs.Rows.{properties, empty_row}
 use Rattle.mesh_read.specs.declared.scan.part.Span.{Span}
@@ -13,15 +13,11 @@ use Rattle.mesh_read.specs.Surface.Surfaces.{Content}
 use Rattle.mesh_write.proofs.Lines.{piece}
 use Rattle.mesh_write.proofs.PlyHeaders.{with_element, with_axes, with_corners, behind_element}
 
--- what is declared behind the vertices, and behind the faces
-abbrev nothing_before : Header
-nothing_before = record { encoding = None; kind = None; declarations = [] }
-
 abbrev pub behind_vertices : ℕ → ℕ → Header
-behind_vertices s f = with_corners (with_element (with_axes (behind_element (codes "vertex") nothing_before)) (piece s (codes "face")) f)
+behind_vertices s f = with_corners (with_element (with_axes (behind_element (codes "vertex") nothing_declared)) (piece s (codes "face")) f)
 
 abbrev pub behind_faces : Header
-behind_faces = with_corners (behind_element (codes "face") nothing_before)
+behind_faces = with_corners (behind_element (codes "face") nothing_declared)
 
 pub vertex_properties : (s f : ℕ) (name : Span) (count number : ℕ) (content : Content) (p q r : Piece) (rows : List (List Piece)) (x y z : Fraction)
     → value_of_text p.text ≡ Some x → value_of_text q.text ≡ Some y → value_of_text r.text ≡ Some z

@@ -24,6 +24,8 @@ use Rattle.mesh_write.proofs.Indices.{index_ok}
 use Rattle.mesh_write.proofs.Lines.{IsWord, spaced, joined, texts, joined_words, line_of_words}
 use Rattle.mesh_write.proofs.PlyProperties.{behind_vertices, behind_faces, vertex_properties, face_properties}
 use Rattle.mesh_write.proofs.WordTexts.{coordinate_word, other_coordinates, other_coordinates_words, three_word, index_texts, index_words}
+use Rattle.mesh_write.proofs.ObjFacets.{with_more}
+use Rattle.mesh_write.proofs.ObjPoints.{with_points}
 
 -- ---- lines
 some_words : (words : List Piece) (w : List ℕ) (ws : List (List ℕ)) (rows : List (List Piece)) → texts words ≡ w ∷ ws → row_before words rows ≡ words ∷ rows
@@ -73,9 +75,6 @@ first_vertex : (places s : ℕ) (p : DecimalPoint) (rest : List ℕ) → IsPoint
 unfolding point_line
 first_vertex places s p rest h = row_of_words s (coordinate_text places p.x) (other_coordinates places p) rest
     (coordinate_word places p.x h.x) (other_coordinates_words places p h)
-
-abbrev with_points : Content → List Point → Content
-with_points content points = record { points = points; facets = content.facets }
 
 -- what is read of points, and where what follows them begins
 pub record AreVertices (k f : ℕ) (name : Span) (count number left places s : ℕ) (ps : List DecimalPoint) (rest : List ℕ) (content : Content) : Type 0 where
@@ -145,9 +144,6 @@ first_face : (v s : ℕ) (t : IndexedTriangle) (rest : List ℕ) → v ≤ 2 ^ 6
     ∷ rows_of (lines_from (s + length (joined (51 ∷ []) (index_texts t)) + 1) rest)
 unfolding listed_face indices_line
 first_face v s t rest few h = row_of_words s (51 ∷ []) (index_texts t) rest three_word (index_words v t few h)
-
-abbrev with_more : Content → List Facet → Content
-with_more content facets = record { points = content.points; facets = facets }
 
 pub faces : (name : Span) (count number left s : ℕ) (ts : List IndexedTriangle) (content : Content) → left ≡ length ts →
     length content.points ≤ 2 ^ 64 → All (IsWithin (length content.points)) ts

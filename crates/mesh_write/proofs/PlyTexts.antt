@@ -9,14 +9,14 @@ use Rattle.mesh_number.specs.Number.Naturals.{number_of}
 use Rattle.mesh_ply.specs.declared.fault.PlyFault.{PlyFault}
 use Rattle.mesh_ply.specs.Cursors.{Cursor, Words, rows_of}
 use Rattle.mesh_ply.specs.Header.{Header, counted, entry_behind, entry_of, behind_entry, header_from, with_body, header_of_file}
-use Rattle.mesh_ply.specs.ReadPly.{elements_from, no_content, content_in, content_of_file, of_flaw, read_ply_of}
+use Rattle.mesh_ply.specs.ReadPly.{elements_from, content_in, content_of_file, of_flaw, read_ply_of}
 use Rattle.mesh_ply.specs.Rows.{and_then}
 use Rattle.mesh_read.specs.Scan.Parts.{Piece, span_of, words_from, lines_from, after_lines}
 use Rattle.mesh_read.specs.Surface.Flaws.{as_mesh}
-use Rattle.mesh_read.specs.Surface.Surfaces.{Content}
+use Rattle.mesh_read.specs.Surface.Surfaces.{Content, no_content}
 use Rattle.mesh_write.specs.declared.vertices.point.DecimalPoint.{DecimalPoint}
 use Rattle.mesh_write.specs.declared.vertices.point.IndexedTriangle.{IndexedTriangle}
-use Rattle.mesh_write.specs.Reading.Readings.{IsPointBelow, IsWithin, AreReadable, IsReadAs}
+use Rattle.mesh_write.specs.Reading.Readings.{IsWithin, AreReadable, IsReadAs}
 use Rattle.mesh_write.proofs.Contents.{read_point, content_from, content_is_read, mesh_ok}
 use Rattle.mesh_write.proofs.Digits.{number_of_decimal}
 use Rattle.mesh_write.proofs.Lines.{IsWord, literal_word, two_words, spaced, joined, piece, texts, joined_words, line_of_words, line_passed}

@@ -1,7 +1,7 @@
 -- The size of a decimal that is read
 use Rattle.std.proofs.Common.{◌≡◌, ℕ, ◌+◌, ◌*◌, ◌/◌, ◌%◌, ◌^◌, ◌<◌, ◌≤◌, List, ◌++◌, length, sym, ap, ◌∙◌, arith, decimal, pow-add}
 use Rattle.std.proofs.Math.Nat.{mul-le-mul_left, div-lt_iff_lt-mul}
-use Rattle.ember_dec.specs.Decimal.{number_from}
+use Rattle.ember_dec.specs.Digits.{number_from}
 use Rattle.mesh_number.proofs.DigitNumbers.{number_from-behind, number_from-below, pow_ten_pos}
 use Rattle.mesh_write.proofs.Digits.{decimal_number}
 use Rattle.mesh_write.proofs.FractionDigits.{ArePlaces}

@@ -12,4 +12,4 @@ mod state;
 
 pub use law::{ended_boxes_come_in_pairs, every_list_of_events, journals_are_a_run};
 pub use place::{Event, Place, Placed};
-pub use state::{OutOfMemory, State};
+pub use state::State;

@@ -9,9 +9,6 @@ use crate::{Event, Place, Placed};
 use std::alloc::{AllocError, Global};
 use std::marker::Model;
 
-/// The out-of-memory error.
-pub type OutOfMemory = AllocError;
-
 /// A state of the model: where each box is, the number of workers, and for how many boxes there is
 /// room.
 #[derive(Drop)]
@@ -106,7 +103,7 @@ impl State {
     /// in hands, deques and ended together. There are 1 to 64 `workers`. The only error is
     /// out-of-memory.
     #[tactic(none)]
-    pub fn new(alloc: Global, workers: u32, boxes: u32) -> Result<State, OutOfMemory>
+    pub fn new(alloc: Global, workers: u32, boxes: u32) -> Result<State, AllocError>
         requires { (1 ≤ workers) × (workers ≤ 64) × (1 ≤ boxes) }
         ensures { IfOk result (λ s. s ≡ begin workers boxes) }
     {

@@ -1,7 +1,8 @@
 // Jobs on the heap.
 ghost use Rattle.std.specs.Prelude.{◌≡◌, IfOk};
 
-use ember_job::{Job, OutOfMemory};
+use ember_job::Job;
+use ember_model::OutOfMemory;
 use std::alloc::Global;
 use std::marker::Model;
 

@@ -10,7 +10,7 @@ use crate::heap_jobs::HeapJob;
 use crate::names::VisitedJobs;
 use crate::protocol::{ForStealer, HandleView, JobStealer, Owner};
 use crossbeam_deque::Pass;
-use ember_job::OutOfMemory;
+use ember_model::OutOfMemory;
 use std::alloc::Global;
 
 // Makes a pass on a deque.

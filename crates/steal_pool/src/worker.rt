@@ -15,7 +15,8 @@ use crate::progress::Progress;
 use crate::protocol::{HandleView, JobStealer, Owner, Pushed, Taken};
 use crate::state::WorkerState;
 use crossbeam_deque::{Pass, Steal};
-use ember_job::{Job, OutOfMemory, Outcome};
+use ember_job::{Job, Outcome};
+use ember_model::OutOfMemory;
 use std::alloc::{AllocError, Global};
 use std::sync::Wait;
 

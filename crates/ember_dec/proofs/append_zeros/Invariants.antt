@@ -1,5 +1,5 @@
 use Rattle.std.proofs.Common.{◌≡◌, ◌≤◌, ◌-◌, min, replicate}
-use Rattle.ember_dec.specs.Decimal.{number_from}
+use Rattle.ember_dec.specs.Digits.{number_from}
 use Rattle.ember_dec.proofs.append_zeros.Given as goal
 
 abbrev pub invariant-loop-turn : goal.invariant-loop-turn

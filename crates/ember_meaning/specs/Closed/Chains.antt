@@ -1,5 +1,5 @@
 -- Directed edges, and closed lists of them
-use Rattle.std.specs.Prelude.{◌≡◌, ℕ, ℤ, pos, ◌-ℤ◌, ◌*ℤ◌, ◌<ℤ◌, Bool, false, not, ◌&&◌, cond}
+use Rattle.std.specs.Prelude.{◌≡◌, ℕ, ℤ, pos, ◌-ℤ◌, ◌<ℤ◌, Bool, false, not, ◌&&◌, cond}
 use Rattle.std.specs.Prelude.{if◌then◌else◌, List, [], ◌∷◌}
 use Rattle.std.specs.List.{AllByRecursion, count_by, flat_map}
 use Rattle.ember_algebra.specs.Vector.{Vector, dot, cross}
@@ -13,6 +13,7 @@ use Rattle.ember_model.specs.Clear.{AreClear}
 use Rattle.ember_model.specs.Meshes.{wind, faces_of}
 use Rattle.ember_model.specs.Edges.{RingEdge, IsOutline}
 use Rattle.ember_model.specs.FaceFiles.{WrittenFace}
+use Rattle.ember_model.specs.Points.{displacement}
 use Rattle.ember_poly.specs.Outlines.{face_of_edges}
 
 -- an edge with a direction, from one corner to another
@@ -21,10 +22,6 @@ pub record DirectedEdge : Type 0 where
   pub to : Spot
 
 -- ---- places and lines
--- the vector from u to v, times both weights
-abbrev pub displacement : Spot → Spot → Vector
-displacement u v =
-    record { x = u.w *ℤ v.x -ℤ v.w *ℤ u.x; y = u.w *ℤ v.y -ℤ v.w *ℤ u.y; z = u.w *ℤ v.z -ℤ v.w *ℤ u.z }
 
 abbrev pub is_zero_vector : Vector → Bool
 is_zero_vector v = is_zero v.x && (is_zero v.y && is_zero v.z)

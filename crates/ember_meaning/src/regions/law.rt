@@ -23,7 +23,8 @@ use ember_width::Width;
 /// of a scene and of its written regions. The written regions wind around it once if the expression
 /// is true there, and otherwise not at all, whichever axes both are counted along.
 pub fn written_regions_have_their_meaning()
-    ensures { (scene : List Tri) (f : Formula) (ks : List Kept) → IsScene scene 64 → IsWritten scene f ks → IsFalseOutside f → HaveMeaning scene f (map written_face ks) }
+    ensures { (scene : List Tri) (f : Formula) (ks : List Kept) → IsScene scene 64 →
+        IsWritten scene f ks → IsFalseOutside f → HaveMeaning scene f (map written_face ks) }
 {}
 
 /// The document of the written regions is a face file. The faces that are read back from it have
@@ -31,13 +32,18 @@ pub fn written_regions_have_their_meaning()
 /// those outlines, and they are a closed surface. Take any line and any point on it: of the written
 /// edges that lie on this line, as many start at the point as end there.
 pub fn documents_read_with_their_meaning()
-    ensures { (scene : List Tri) (f : Formula) (ks : List Kept) (bytes : List ℕ) → IsScene scene 64 → IsWritten scene f ks → IsFalseOutside f → IsDocumentText (map written_face ks) bytes → ReadsWithMeaning scene f bytes }
+    ensures { (scene : List Tri) (f : Formula) (ks : List Kept) (bytes : List ℕ) →
+        IsScene scene 64 → IsWritten scene f ks → IsFalseOutside f →
+        IsDocumentText (map written_face ks) bytes → ReadsWithMeaning scene f bytes }
 {}
 
 /// On each grid, the faces of the outlines of the written regions have this meaning. The edges of
 /// the outlines are their written edges, and they are a closed surface.
 pub fn written_regions_outlined_are_a_surface<W: Width>()
-    ensures { (scene : List Tri) (f : Formula) (ks : List (KeptOn W W.Point)) (faces : List Face) → IsSceneWithin W.corner scene most_meshes → IsWrittenOn W.scale scene f ks → IsFalseOutside f → AreOutlineFaces W.Width (map written_face ks) faces → AreSurfaceWithMeaning scene f faces }
+    ensures { (scene : List Tri) (f : Formula) (ks : List (KeptOn W W.Point)) (faces : List Face) →
+        IsSceneWithin W.corner scene most_meshes → IsWrittenOn W.scale scene f ks →
+        IsFalseOutside f → AreOutlineFaces W.Width (map written_face ks) faces →
+        AreSurfaceWithMeaning scene f faces }
 {}
 
 /// Let the written edges of each face be its outline, and let the faces have the meaning of an
@@ -47,16 +53,27 @@ pub fn written_regions_outlined_are_a_surface<W: Width>()
 /// clear of these faces alone, they wind around it once or not at all, the same along all axes: the
 /// value of the expression at the shifted point.
 pub fn outlined_faces_have_their_meaning_nearby()
-    ensures nearby { (scene : List Tri) (f : Formula) (ws : List WrittenFace) → AllByRecursion IsOutlined ws → HaveMeaning scene f (map face_from ws) → HaveMeaningNearby scene f (map face_from ws) }
-    ensures scene { (scene : List Tri) (f : Formula) (ws : List WrittenFace) → AllByRecursion IsOutlined ws → HaveMeaning scene f (map face_from ws) → WindNearbyAsHere scene f (map face_from ws) }
-    ensures alone { (scene : List Tri) (f : Formula) (ws : List WrittenFace) → AllByRecursion IsOutlined ws → HaveMeaning scene f (map face_from ws) → WindHereAsNearby scene f (map face_from ws) }
-    ensures once { (scene : List Tri) (f : Formula) (ws : List WrittenFace) → AllByRecursion IsOutlined ws → HaveMeaning scene f (map face_from ws) → WindOnceAtMost (map face_from ws) }
+    ensures nearby { (scene : List Tri) (f : Formula) (ws : List WrittenFace) →
+        AllByRecursion IsOutlined ws → HaveMeaning scene f (map face_from ws) →
+        HaveMeaningNearby scene f (map face_from ws) }
+    ensures scene { (scene : List Tri) (f : Formula) (ws : List WrittenFace) →
+        AllByRecursion IsOutlined ws → HaveMeaning scene f (map face_from ws) →
+        WindNearbyAsHere scene f (map face_from ws) }
+    ensures alone { (scene : List Tri) (f : Formula) (ws : List WrittenFace) →
+        AllByRecursion IsOutlined ws → HaveMeaning scene f (map face_from ws) →
+        WindHereAsNearby scene f (map face_from ws) }
+    ensures once { (scene : List Tri) (f : Formula) (ws : List WrittenFace) →
+        AllByRecursion IsOutlined ws → HaveMeaning scene f (map face_from ws) →
+        WindOnceAtMost (map face_from ws) }
 {}
 
 /// Expressions that agree at the winding numbers of all clear points of a scene have the same
 /// written regions. No other expressions share a solid: if the same outlined faces have the meaning
 /// of two expressions, these agree there.
 pub fn solids_are_one_where_expressions_agree()
-    ensures regions { (scene : List Tri) (f g : Formula) (ks : List Kept) → AgreeOver scene f g → IsWritten scene f ks → IsWritten scene g ks }
-    ensures faces { (scene : List Tri) (f g : Formula) (ws : List WrittenFace) → AllByRecursion IsOutlined ws → HaveMeaning scene f (map face_from ws) → HaveMeaning scene g (map face_from ws) → AgreeOver scene f g }
+    ensures regions { (scene : List Tri) (f g : Formula) (ks : List Kept) → AgreeOver scene f g →
+        IsWritten scene f ks → IsWritten scene g ks }
+    ensures faces { (scene : List Tri) (f g : Formula) (ws : List WrittenFace) →
+        AllByRecursion IsOutlined ws → HaveMeaning scene f (map face_from ws) →
+        HaveMeaning scene g (map face_from ws) → AgreeOver scene f g }
 {}

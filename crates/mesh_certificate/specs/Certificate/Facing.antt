@@ -1,5 +1,5 @@
 -- Triangles that face the front of a plane
-use Rattle.std.specs.Prelude.{◌≡◌, Bool, ◌&&◌, ℤ, pos, ◌-ℤ◌, ◌*ℤ◌, ◌<ℤ◌}
+use Rattle.std.specs.Prelude.{◌≡◌, Bool, ◌&&◌, ℤ, pos, ◌<ℤ◌}
 use Rattle.ember_algebra.specs.Vector.{Vector}
 use Rattle.ember_algebra.specs.Vector.{dot, cross}
 use Rattle.ember_algebra.specs.Sign.{is_zero}
@@ -10,15 +10,11 @@ use Rattle.ember_model.specs.declared.point.Axis.{Axis}
 use Rattle.ember_model.specs.declared.point.Axis.TheVariants.{X, Y, Z}
 use Rattle.ember_model.specs.Planes.{value_at}
 use Rattle.ember_model.specs.Edges.{normal}
+use Rattle.ember_model.specs.Points.{displacement}
 use Rattle.mesh_certificate.specs.declared.certificate.space_point.SpacePoint.{SpacePoint}
 
 abbrev pub spot_of : SpacePoint → Spot
 spot_of p = record { x = p.x; y = p.y; z = p.z; w = p.w }
-
--- the vector from u to v, times both weights
-abbrev pub displacement : Spot → Spot → Vector
-displacement u v =
-    record { x = u.w *ℤ v.x -ℤ v.w *ℤ u.x; y = u.w *ℤ v.y -ℤ v.w *ℤ u.y; z = u.w *ℤ v.z -ℤ v.w *ℤ u.z }
 
 -- the normal of the triangle u, v, w, times a positive number: from its side they go round it counter-clockwise
 abbrev pub triangle_normal : Spot → Spot → Spot → Vector

@@ -5,7 +5,7 @@ use Rattle.ember_algebra.specs.Vector.{zero_v}
 use Rattle.ember_model.specs.declared.plane.Plane.{Plane}
 use Rattle.ember_model.specs.declared.point.Spot.{Spot}
 use Rattle.ember_model.specs.Edges.{normal}
-use Rattle.ember_model.specs.Planes.{value_at, times_plane}
+use Rattle.ember_model.specs.Planes.{value_at, times_plane, zero_plane}
 use Rattle.mesh_certificate.specs.Key.Divisors.{AreLowest}
 
 abbrev pub coefficients : Plane → List ℤ
@@ -18,9 +18,6 @@ pub record IsSameOriented (p q : Plane) : Type 0 where
   pub positive_p : pos 0 <ℤ of_p
   pub positive_q : pos 0 <ℤ of_q
   pub same : times_plane of_p p ≡ times_plane of_q q
-
-abbrev pub zero_plane : Plane
-zero_plane = record { a = pos 0; b = pos 0; c = pos 0; d = pos 0 }
 
 -- k is the same oriented plane as p, in lowest terms
 pub record IsPlaneKey (p k : Plane) : Type 0 where

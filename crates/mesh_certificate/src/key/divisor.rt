@@ -1,24 +1,9 @@
 // Greatest common divisors.
-ghost use Rattle.std.specs.Prelude.{◌≡◌, ◌≢◌, [], ◌∷◌, unsigned_abs};
+ghost use Rattle.std.specs.Prelude.{◌≢◌, [], ◌∷◌, unsigned_abs};
 ghost use Rattle.std.specs.Int.{IsGcd};
 ghost use Rattle.mesh_certificate.specs.Key.Divisors.{IsGreatestDivisor};
 
-/// The greatest common divisor of two numbers; of 0 and 0 it is 0.
-pub fn gcd(a: u64, b: u64) -> u64
-    ensures { IsGcd a b result }
-{
-    if a == 1 {
-        return 1;
-    }
-    let mut x = a;
-    let mut y = b;
-    while y != 0 {
-        let rest = x % y;
-        x = y;
-        y = rest;
-    }
-    x
-}
+use ember_algebra::gcd;
 
 /// The greatest common divisor of three numbers; 0 if all three are 0.
 pub fn divisor_of_three(a: i64, b: i64, c: i64) -> u64

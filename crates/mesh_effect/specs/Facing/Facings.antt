@@ -1,9 +1,10 @@
 -- How many triangles have no area, and how many are turned over
 use Rattle.std.specs.Prelude.{◌≡◌, ℕ, suc, Bool, false, List, [], ◌∷◌, map, count_by, Option, Some, None}
-use Rattle.std.specs.Prelude.{pos, slice_get, slice_index_or, if◌then◌else◌}
+use Rattle.std.specs.Prelude.{slice_get, slice_index_or, if◌then◌else◌}
 use Rattle.ember_algebra.specs.declared.Sign.{Sign}
 use Rattle.ember_algebra.specs.Sign.{sgn, is_nil, is_neg}
 use Rattle.ember_model.specs.declared.plane.Plane.{Plane}
+use Rattle.ember_model.specs.Planes.{zero_plane}
 use Rattle.mesh_write.specs.declared.stl.triangle.FloatPoint.{FloatPoint}
 use Rattle.mesh_certificate.specs.declared.certificate.triangle.Triangle.{Triangle}
 use Rattle.mesh_write.specs.declared.vertices.point.DecimalPoint.{DecimalPoint}
@@ -33,15 +34,13 @@ pub record AreFacings (signs : List (Option Sign)) (f : Facings) : Type 0 where
   pub turned_over : f.turned_over ≡ count_by is_turned_over signs
 
 -- ---- planes
-abbrev pub no_plane : Plane
-no_plane = record { a = pos 0; b = pos 0; c = pos 0; d = pos 0 }
 
 -- the plane with this number; what is no plane has the normal 0
 abbrev pub plane_at : List Plane → ℕ → Plane
-plane_at planes number = slice_index_or planes number no_plane
+plane_at planes number = slice_index_or planes number zero_plane
 
 abbrev pub plane_from : List Plane → Option ℕ → Plane
-plane_from planes None = no_plane
+plane_from planes None = zero_plane
 plane_from planes (Some number) = plane_at planes number
 
 -- the plane whose number has this index among the numbers

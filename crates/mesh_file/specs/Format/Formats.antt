@@ -8,7 +8,8 @@ use Rattle.mesh_read.specs.Stl.ReadStl.{is_binary, is_ascii}
 use Rattle.mesh_read.specs.Off.Signs.{is_off, begins_with_count}
 use Rattle.mesh_gltf.specs.Chunks.{is_glb}
 use Rattle.mesh_file.specs.declared.format.format.Format.{Format}
-use Rattle.mesh_file.specs.declared.format.format.Format.TheVariants.{Ply, BinaryStl, AsciiStl, Off, Gltf, CutOffStl, Obj}
+use Rattle.mesh_file.specs.declared.format.format.Format.TheVariants.{Ply, BinaryStl, AsciiStl, Off, Gltf}
+use Rattle.mesh_file.specs.declared.format.format.Format.TheVariants.{CutOffStl, Obj}
 
 -- a line ends where these bytes begin
 abbrev pub ends_line : List ℕ → Bool

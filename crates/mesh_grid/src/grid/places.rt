@@ -1,18 +1,12 @@
 // The places of edges.
 ghost use Rattle.std.specs.Prelude.{◌≡◌, length, All, false, MatchOption};
-ghost use Rattle.ember_model.specs.Valid.{IsValidCorner, IsValidTri};
 ghost use Rattle.ember_model.specs.Meshes.{same_edge};
 ghost use Rattle.mesh_grid.specs.Grid.Places.{has_edge, IsPlaceOf};
 
-use crate::grid::corners::is_same_corner;
-use ember_model::{Corner, Tri};
+use ember_model::{Corner, Tri, is_same_corner};
 
 // Whether the edge from `start` to `end` is the one from `from` to `to`.
 fn is_edge(start: &Corner, end: &Corner, from: &Corner, to: &Corner) -> bool
-    requires start { IsValidCorner start.now }
-    requires end { IsValidCorner end.now }
-    requires from { IsValidCorner from.now }
-    requires to { IsValidCorner to.now }
     ensures { result ≡ same_edge
         (record { from = from.now; to = to.now })
         (record { from = start.now; to = end.now }) }
@@ -22,9 +16,6 @@ fn is_edge(start: &Corner, end: &Corner, from: &Corner, to: &Corner) -> bool
 
 // Whether the triangle has this directed edge.
 fn has_edge(tri: &Tri, from: &Corner, to: &Corner) -> bool
-    requires tri { IsValidTri tri.now }
-    requires from { IsValidCorner from.now }
-    requires to { IsValidCorner to.now }
     ensures { result ≡ has_edge (record { from = from.now; to = to.now }) tri.now }
 {
     is_edge(&tri.a, &tri.b, from, to)
@@ -34,10 +25,7 @@ fn has_edge(tri: &Tri, from: &Corner, to: &Corner) -> bool
 /// The place of the first triangle with this directed edge, if there is one. `places` has the place
 /// of each triangle.
 pub fn place_of_edge(tris: &[Tri], places: &[u32], from: &Corner, to: &Corner) -> Option<u32>
-    requires paired { length tris.now ≡ length places.now }
-    requires valid { All IsValidTri tris.now }
-    requires from { IsValidCorner from.now }
-    requires to { IsValidCorner to.now }
+    requires { length tris.now ≡ length places.now }
     ensures { MatchOption result
         (All (λ t. has_edge (record { from = from.now; to = to.now }) t ≡ false) tris.now)
         (IsPlaceOf (record { from = from.now; to = to.now }) tris.now places.now) }

@@ -11,26 +11,13 @@ use crate::grid::{Grid, corner_marks};
 use crate::moves::fineness::fineness_of;
 use crate::moves::length::Length;
 use crate::moves::shown::length_of;
-use crate::moves::squares::{facet_square, with_vertex};
+use crate::moves::squares::with_vertex;
 use mesh_read::Surface;
 use std::alloc::{AllocError, Global};
 
 // The square of the greatest move of a corner of the surface's triangles to the grid, where each
-// axis is rounded up to whole ticks.
-fn greatest_square(surface: &Surface, grid: &Grid, fineness: u64) -> u128
-    requires step { IsStep grid.now.step }
-    requires lands { Lands grid.now surface.now }
-    requires fineness { IsFineness grid.now.step fineness }
-    ensures { result ≡ greatest_square grid.now.step fineness surface.now.vertices.items surface.now.facets.items }
-{
-    let mut greatest = 0u128;
-    for facet in &surface.facets {
-        greatest = greatest.max(facet_square(&surface.vertices, facet, grid, fineness));
-    }
-    greatest
-}
-
-// The same by marks that tell which vertices are corners, so that each vertex is looked at once.
+// axis is rounded up to whole ticks. The marks tell which vertices are corners, so that each vertex is
+// looked at once.
 fn greatest_of_marked(surface: &Surface, marks: &[bool], grid: &Grid, fineness: u64) -> u128
     requires step { IsStep grid.now.step }
     requires lands { Lands grid.now surface.now }
@@ -47,23 +34,10 @@ fn greatest_of_marked(surface: &Surface, marks: &[bool], grid: &Grid, fineness: 
     greatest
 }
 
-/// How far a corner of the surface's triangles moves to the grid at most: a length that isn't below
-/// the true one, with nine digits and at most 12 places. It is 0 if no corner moves.
-///
-/// All corners of triangles are on the grid, as [`grid_of`](crate::grid::grid_of) gives it. This needs
-/// no memory, and looks at a vertex once for each triangle that has it.
-pub fn greatest_move(surface: &Surface, grid: &Grid) -> Length
-    requires step { IsStep grid.now.step }
-    requires lands { Lands grid.now surface.now }
-    ensures { rounded_of result ≡ greatest_move grid.now surface.now }
-{
-    let fineness = fineness_of(&grid.step);
-    let square = greatest_square(surface, grid, fineness);
-    length_of(square, &grid.step, fineness)
-}
-
-// The same, with memory for the marks of vertices.
-fn greatest_move_of(alloc: Global, surface: &Surface, grid: &Grid) -> Result<Length, AllocError>
+// How far a corner of the surface's triangles moves to the grid at most: a length that isn't below
+// the true one, with nine digits and at most 12 places. It is 0 if no corner moves. All corners of
+// triangles are on the grid, as `grid_of` gives it.
+fn greatest_move(alloc: Global, surface: &Surface, grid: &Grid) -> Result<Length, AllocError>
     requires step { IsStep grid.now.step }
     requires lands { Lands grid.now surface.now }
     ensures { IfOk result (λ length. rounded_of length ≡ greatest_move grid.now surface.now) }
@@ -74,7 +48,9 @@ fn greatest_move_of(alloc: Global, surface: &Surface, grid: &Grid) -> Result<Len
     Ok(length_of(square, &grid.step, fineness))
 }
 
-/// The greatest move of each surface, in order. It looks at each vertex once.
+/// How far a corner of each surface moves to the grid at most, in order: a length that isn't below the
+/// true one, with nine digits and at most 12 places. It is 0 if no corner moves. It looks at each
+/// vertex once.
 pub fn greatest_moves(
     alloc: Global,
     surfaces: &[Surface],
@@ -86,7 +62,7 @@ pub fn greatest_moves(
 {
     let mut moves = Vec::with_capacity(alloc, surfaces.len())?;
     for surface in surfaces {
-        moves.push(greatest_move_of(alloc, surface, grid)?)?;
+        moves.push(greatest_move(alloc, surface, grid)?)?;
     }
     Ok(moves)
 }

@@ -1,13 +1,13 @@
 // How far corners move, squared.
 ghost use Rattle.std.specs.Prelude.{◌≡◌, ◌≤◌, ◌^◌, max, true, if◌then◌else◌};
 ghost use Rattle.mesh_grid.specs.Snap.Steps.{IsStep};
-ghost use Rattle.mesh_grid.specs.Grid.Corners.{IsOnGrid, LandsAt, FacetLands};
+ghost use Rattle.mesh_grid.specs.Grid.Corners.{IsOnGrid};
 ghost use Rattle.mesh_grid.specs.Moves.Moves.{IsFineness};
-ghost use Rattle.mesh_grid.specs.Moves.Greatest.{square, square_of, square_at, facet_square};
+ghost use Rattle.mesh_grid.specs.Moves.Greatest.{square, square_of};
 
 use crate::grid::Grid;
 use crate::moves::axis::ticks_of;
-use mesh_read::{Facet, Vertex};
+use mesh_read::Vertex;
 
 fn square(n: u128) -> u128
     requires { n ≤ 2 ^ 61 }
@@ -49,31 +49,4 @@ pub(crate) fn with_vertex(
     } else {
         greatest
     }
-}
-
-// The same as `square_of` for the vertex with this index.
-fn square_at(vertices: &[Vertex], index: u32, grid: &Grid, fineness: u64) -> u128
-    requires step { IsStep grid.now.step }
-    requires lands { LandsAt grid.now vertices.now index }
-    requires fineness { IsFineness grid.now.step fineness }
-    ensures { result ≡ square_at grid.now.step fineness vertices.now index }
-{
-    match vertices.get(index as usize) {
-        Some(vertex) => square_of(vertex, grid, fineness),
-        None => 0,
-    }
-}
-
-// The greatest for the corners of the triangle.
-pub(crate) fn facet_square(vertices: &[Vertex], facet: &Facet, grid: &Grid, fineness: u64) -> u128
-    requires step { IsStep grid.now.step }
-    requires lands { FacetLands grid.now vertices.now facet.now }
-    requires fineness { IsFineness grid.now.step fineness }
-    ensures { result ≡ facet_square grid.now.step fineness vertices.now facet.now }
-{
-    let [a, b, c] = facet.corners;
-    let at_a = square_at(vertices, a, grid, fineness);
-    let at_b = square_at(vertices, b, grid, fineness);
-    let at_c = square_at(vertices, c, grid, fineness);
-    at_a.max(at_b).max(at_c)
 }

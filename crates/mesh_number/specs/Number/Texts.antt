@@ -5,7 +5,8 @@ use Rattle.std.specs.Prelude.{None, if◌then◌else◌, nat_lt}
 use Rattle.std.specs.List.{list_all}
 use Rattle.std.specs.Option.{option_map}
 use Rattle.std.specs.Char.{is_ascii_digit}
-use Rattle.ember_dec.specs.Decimal.{number_from, is_minus, unsigned, before_point, behind_point, is_decimal}
+use Rattle.ember_dec.specs.Digits.{number_from}
+use Rattle.ember_dec.specs.Decimal.{is_minus, unsigned, before_point, behind_point, is_decimal}
 use Rattle.mesh_number.specs.declared.number.values.Exponent.{Exponent}
 use Rattle.mesh_number.specs.Number.Fractions.{Fraction}
 use Rattle.mesh_number.specs.Number.Values.{decimal_value}

@@ -1,6 +1,6 @@
 -- The exact value of a number
 use Rattle.std.specs.Prelude.{ℕ, ◌+◌, ◌*◌, ◌^◌, Bool, List, ◌++◌, length, if◌then◌else◌}
-use Rattle.ember_dec.specs.Decimal.{number_from}
+use Rattle.ember_dec.specs.Digits.{number_from}
 use Rattle.mesh_number.specs.declared.number.values.Exponent.{Exponent}
 use Rattle.mesh_number.specs.declared.number.values.Decimal.{Decimal}
 use Rattle.mesh_number.specs.declared.number.values.Number.{Number}

@@ -1,9 +1,9 @@
 // Natural numbers as texts.
-ghost use Rattle.std.specs.Prelude.{◌≡◌, ◌≤◌, min};
+ghost use Rattle.std.specs.Prelude.{◌≡◌, min};
 ghost use Rattle.std.specs.Option.{option_map};
 ghost use Rattle.mesh_number.specs.Number.Naturals.{number_of, below};
 
-use crate::number::digits::{append_digits, are_digits};
+use ember_dec::{append_digits, are_digits};
 
 /// More lines, words, vertices or corners than a file has.
 pub const MOST: u64 = 1_000_000_000_000_000;

@@ -5,8 +5,8 @@ ghost use Rattle.ember_dec.specs.Decimal.{is_minus, unsigned, before_point, behi
 ghost use Rattle.mesh_number.specs.Number.Values.{value_of};
 ghost use Rattle.mesh_number.specs.Number.Texts.{mantissa, exponent_of_digits, exponent_of, value_of_parts, value_of_text};
 
-use crate::number::digits::{append_digits, are_digits};
 use crate::number::values::{Decimal, Exponent, Number};
+use ember_dec::{append_digits, are_digits};
 
 // The least size of an exponent that isn't read.
 const EXPONENT_LIMIT: u64 = 10_000;

@@ -1,5 +1,6 @@
 -- What the names of a target hold, and what calls leave of it.
-use Rattle.std.specs.Prelude.{◌≡◌, ℕ, ◌+◌, ◌-◌, ◌^◌, ◌<◌, ◌≤◌, min, List, ◌++◌, ⊤, None, Some, IsSome, ◌⊎◌, ◌==◌, not, length, take}
+use Rattle.std.specs.Prelude.{◌≡◌, ℕ, ◌+◌, ◌-◌, ◌^◌, ◌<◌, ◌≤◌, min, List, ◌++◌, ⊤, None, Some, IsSome, ◌⊎◌, ◌==◌}
+use Rattle.std.specs.Prelude.{not, length, take}
 use Rattle.std.specs.Prelude.{codes, decimal}
 use Rattle.std.specs.List.{suffix_len}
 use Rattle.std.specs.declared.option.Option.{Option}
@@ -52,8 +53,8 @@ length_in_folder path = suffix_len (λ byte. not (byte == 47)) path
 abbrev pub IsShorter : List ℕ → List ℕ → Type 0
 IsShorter name front = (n : ℕ) × (n + 8 ≤ length name) × (front ≡ take n name)
 
--- what the names of new files beside this name begin with: this name, or a front of it if its file's name has more than 248
--- bytes, since such a name has at most 255
+-- what the names of new files beside this name begin with: this name, or a front of it if its file's name has more
+-- than 248 bytes, since such a name has at most 255
 abbrev pub IsFront : List ℕ → List ℕ → Type 0
 IsFront name front =
     (length_in_folder name ≤ 248 → front ≡ name) × (248 < length_in_folder name → IsShorter name front)

@@ -4,8 +4,8 @@ ghost use Rattle.std.specs.Io.KnownBytes.{append_known};
 ghost use Rattle.mesh_outside.specs.Target.Memory.{held_by};
 ghost use Rattle.mesh_outside.specs.Target.Targets.{value_at, HoldsSame, Puts};
 
-use ember_io::{Failed, OutOfMemory};
-use std::alloc::Global;
+use ember_io::Failed;
+use std::alloc::{AllocError, Global};
 use std::collections::BTreeMap;
 
 /// The bytes of the file of this name, or None if there is no such file.
@@ -26,7 +26,7 @@ pub fn put_file(
     files: &mut BTreeMap<String, Vec<u8>>,
     name: &str,
     bytes: &[u8],
-) -> Result<(), OutOfMemory>
+) -> Result<(), AllocError>
     ensures put { OnOk result (Puts (held_by files.old) (held_by files.new) name.now (Some bytes.now)) }
     ensures held { OnErr result (HoldsSame (held_by files.old) (held_by files.new)) }
 {

@@ -8,8 +8,8 @@ ghost use Rattle.mesh_outside.specs.Target.Targets.{IsTaken, HoldsSame, Puts, Gr
 
 use crate::target::map_files::{extend_file, file_bytes, put_file, remove_file};
 use crate::target::target::{BeginEnd, Target};
-use ember_io::{Calls, Failed, OutOfMemory};
-use std::alloc::Global;
+use ember_io::{Calls, Failed};
+use std::alloc::{AllocError, Global};
 use std::collections::BTreeMap;
 use std::marker::Model;
 
@@ -72,7 +72,7 @@ impl MemoryTarget {
     }
 
     /// Puts a file there. This is no call.
-    pub fn put(&mut self, name: &str, bytes: &[u8]) -> Result<(), OutOfMemory>
+    pub fn put(&mut self, name: &str, bytes: &[u8]) -> Result<(), AllocError>
         ensures put { OnOk result (Puts (shown self.old) (shown self.new) name.now (Some bytes.now)) }
         ensures held { OnErr result (HoldsSame (shown self.old) (shown self.new)) }
         ensures rest { self.new ≡ record self.old { files = self.new.files } }

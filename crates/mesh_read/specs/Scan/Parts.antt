@@ -2,6 +2,7 @@
 use Rattle.std.specs.Prelude.{ℕ, ◌+◌, ◌-◌, Bool, ◌||◌, ◌&&◌, List, [], ◌∷◌, ◌++◌, if◌then◌else◌, ◌==◌, nat_eq, nat_le}
 use Rattle.std.specs.Prelude.{length, drop, zero, suc, Option, None, Some}
 use Rattle.std.specs.List.{starts_with}
+use Rattle.ember_obj.specs.Scan.{before, onward, is_separator}
 use Rattle.mesh_read.specs.declared.scan.blanks.Blanks.{Blanks}
 use Rattle.mesh_read.specs.declared.scan.blanks.Blanks.TheVariants.{InLine, Any}
 use Rattle.mesh_read.specs.declared.scan.part.Part.{Part}
@@ -19,16 +20,6 @@ piece_of p = record { start = p.start; text = p.bytes.now }
 -- the range of a piece
 abbrev pub span_of : Piece → Span
 span_of p = record { start = p.start; end = p.start + length p.text }
-
--- the bytes before the first byte of a kind
-abbrev pub before : (ℕ → Bool) → List ℕ → List ℕ
-before stops [] = []
-before stops (b ∷ bs) = if stops b then [] else b ∷ before stops bs
-
--- the text from that byte on
-abbrev pub onward : (ℕ → Bool) → List ℕ → List ℕ
-onward stops [] = []
-onward stops (b ∷ bs) = if stops b then b ∷ bs else onward stops bs
 
 -- ---- lines
 -- a byte in front of the first of the lines
@@ -70,9 +61,6 @@ abbrev pub uncommented : Piece → Piece
 uncommented line = record line { text = before is_hash line.text }
 
 -- ---- words
--- a space, a tab or a carriage return
-abbrev pub is_separator : ℕ → Bool
-is_separator b = b == 32 || b == 9 || b == 13
 
 -- a space, or one of tab, line feed, vertical tab, form feed and carriage return
 abbrev pub is_space : ℕ → Bool

@@ -6,7 +6,7 @@ use Rattle.std.specs.Str.{str_eq_ignore_ascii_case}
 use Rattle.mesh_number.specs.Number.Fractions.{Fraction}
 use Rattle.mesh_number.specs.Number.Texts.{value_of_text}
 use Rattle.mesh_read.specs.Scan.Parts.{Piece, span_of, lines_from, is_space, words_by, first_three}
-use Rattle.mesh_read.specs.Surface.Surfaces.{Point, Content, point_of, content_of, point_of_three}
+use Rattle.mesh_read.specs.Surface.Surfaces.{Point, Content, point_of, content_of, point_of_three, no_content}
 use Rattle.mesh_read.specs.declared.stl.fault.StlFault.{StlFault}
 use Rattle.mesh_read.specs.declared.stl.fault.StlFault.TheVariants.{VertexOutside, NotThreeVertices}
 use Rattle.mesh_read.specs.declared.stl.fault.StlFault.TheVariants.{EndsInFacet, UnknownWord, NotANumber}
@@ -14,7 +14,7 @@ use Rattle.mesh_read.specs.declared.stl.fault.StlFault.TheVariants.{FewCoordinat
 use Rattle.mesh_read.specs.declared.stl.keyword.Keyword.{Keyword}
 use Rattle.mesh_read.specs.declared.stl.keyword.Keyword.TheVariants as keyword
 use Rattle.mesh_read.specs.declared.stl.ascii.Reader.{Reader}
-use Rattle.mesh_read.specs.Stl.Facets.{nothing, with_triangle}
+use Rattle.mesh_read.specs.Stl.Facets.{with_triangle}
 
 -- ---- words
 -- words that are passed over with all after them in their line
@@ -147,4 +147,4 @@ ended (Ok state) = state_ended state
 
 -- the triangles of an ASCII STL, or its first fault
 abbrev pub ascii_of : List ℕ → Result Content StlFault
-ascii_of bytes = ended (after_lines (Ok (record { content = nothing; opened = None })) (lines_of bytes))
+ascii_of bytes = ended (after_lines (Ok (record { content = no_content; opened = None })) (lines_of bytes))

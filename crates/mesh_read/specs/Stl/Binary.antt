@@ -2,10 +2,10 @@
 use Rattle.std.specs.Prelude.{ℕ, zero, suc, ◌+◌, ◌*◌, List, Option, None, Some, Result, Ok, Err, slice_index}
 use Rattle.mesh_number.specs.Number.Fractions.{Fraction}
 use Rattle.mesh_number.specs.Number.Floats.{binary32_value}
-use Rattle.mesh_read.specs.Surface.Surfaces.{Point, Content}
+use Rattle.mesh_read.specs.Surface.Surfaces.{Point, Content, no_content}
 use Rattle.mesh_read.specs.declared.stl.fault.StlFault.{StlFault}
 use Rattle.mesh_read.specs.declared.stl.fault.StlFault.TheVariants.{NotFinite}
-use Rattle.mesh_read.specs.Stl.Facets.{nothing, with_triangle}
+use Rattle.mesh_read.specs.Stl.Facets.{with_triangle}
 
 -- the number of four bytes from this index on, the lowest byte first
 abbrev pub number_at : List ℕ → ℕ → ℕ
@@ -45,7 +45,7 @@ with_facet_at bytes k (Ok content) =
 
 -- the first n facets, or the first fault in them
 abbrev pub first_facets : List ℕ → ℕ → Result Content StlFault
-first_facets bytes zero = Ok nothing
+first_facets bytes zero = Ok no_content
 first_facets bytes (suc k) = with_facet_at bytes k (first_facets bytes k)
 
 -- the triangles of a binary STL, or its first fault

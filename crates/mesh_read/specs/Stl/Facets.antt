@@ -1,5 +1,5 @@
 -- The triangles of a file: each has three points of its own, in order.
-use Rattle.std.specs.Prelude.{ℕ, ◌+◌, List, [], ◌∷◌, ◌++◌, length, Result, Err, ◌≡◌, ◌⊎◌}
+use Rattle.std.specs.Prelude.{ℕ, ◌+◌, [], ◌∷◌, ◌++◌, length, Result, Err, ◌≡◌, ◌⊎◌}
 use Rattle.mesh_read.specs.Surface.Surfaces.{Point, Content}
 use Rattle.mesh_read.specs.declared.stl.fault.StlFault.{StlFault}
 use Rattle.mesh_read.specs.declared.stl.fault.StlFault.TheVariants.{OutOfMemory}
@@ -7,10 +7,6 @@ use Rattle.mesh_read.specs.declared.stl.fault.StlFault.TheVariants.{OutOfMemory}
 -- an error that a reading which ends so may give: its fault, or out-of-memory
 abbrev pub IsErrorOf : {X : Type 0} → Result X StlFault → StlFault → Type 0
 IsErrorOf reading e = (e ≡ OutOfMemory) ⊎ (reading ≡ Err e)
-
--- no points and no triangles
-abbrev pub nothing : Content
-nothing = record { points = []; facets = [] }
 
 -- with the triangle of this place and these corners
 abbrev pub with_triangle : ℕ → Point → Point → Point → Content → Content

@@ -88,3 +88,7 @@ is_far points f = list_any (λ corner. is_far_point (slice_get points corner)) f
 -- the place of the first triangle with such a corner
 abbrev pub first_far : Content → Option ℕ
 first_far content = option_map (λ f. f.place) (find (is_far content.points) content.facets)
+
+-- nothing read yet
+abbrev pub no_content : Content
+no_content = record { points = []; facets = [] }

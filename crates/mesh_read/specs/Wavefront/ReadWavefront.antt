@@ -1,11 +1,13 @@
 -- What the bytes of an OBJ file mean: points and triangles, or the first fault
 use Rattle.std.specs.Prelude.{ℕ, ◌-◌, Bool, ◌&&◌, List, [], ◌∷◌, ◌++◌, if◌then◌else◌, ◌==◌, nat_lt}
 use Rattle.std.specs.Prelude.{nat_le, length, Option, None, Some, Result, Ok, Err}
-use Rattle.ember_dec.specs.Decimal.{number_from, is_minus}
+use Rattle.ember_dec.specs.Digits.{number_from}
+use Rattle.ember_dec.specs.Decimal.{is_minus}
 use Rattle.mesh_number.specs.Number.Fractions.{Fraction}
 use Rattle.mesh_number.specs.Number.Texts.{value_of_text}
 use Rattle.ember_obj.specs.References.{is_slash, is_number, size_digits}
-use Rattle.mesh_read.specs.Scan.Parts.{Piece, before, first_three}
+use Rattle.ember_obj.specs.Scan.{before}
+use Rattle.mesh_read.specs.Scan.Parts.{Piece, first_three}
 use Rattle.mesh_read.specs.declared.surface.surface.Facet.{Facet}
 use Rattle.mesh_read.specs.Surface.Surfaces.{Point, Content, point_of_three, fan}
 use Rattle.mesh_read.specs.Surface.Flaws.{as_mesh}

@@ -1,6 +1,6 @@
 // Bytes that are cut at a stop.
 ghost use Rattle.std.specs.Prelude.{◌≡◌, ◌+◌, ◌==◌, length};
-ghost use Rattle.mesh_read.specs.Scan.Parts.{before, onward};
+ghost use Rattle.ember_obj.specs.Scan.{before, onward};
 
 use crate::scan::part::Part;
 

@@ -1,6 +1,7 @@
 // The words of a text.
 ghost use Rattle.std.specs.Prelude.{◌≡◌, ◌+◌, ◌<◌, ◌≤◌, slice_index, false, [], ◌∷◌, length, MatchOption, IfSome, Some, None};
-ghost use Rattle.mesh_read.specs.Scan.Parts.{before, onward, is_blank, piece_of, words_in, words_between, first_three};
+ghost use Rattle.ember_obj.specs.Scan.{before, onward};
+ghost use Rattle.mesh_read.specs.Scan.Parts.{is_blank, piece_of, words_in, words_between, first_three};
 
 use crate::scan::blanks::{Blanks, is_blank};
 use crate::scan::part::Part;

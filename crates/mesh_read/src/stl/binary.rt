@@ -2,9 +2,9 @@
 ghost use Rattle.std.specs.Prelude.{◌≡◌, ◌+◌, ◌*◌, ◌^◌, ◌<◌, ◌≤◌, length, Ok, Err, OnOk, IfOk, IfErr};
 ghost use Rattle.std.specs.Option.{option_map};
 ghost use Rattle.ember_model.specs.Limits.{most_bytes};
-ghost use Rattle.mesh_read.specs.Surface.Surfaces.{point_of, content_of, IsSurface};
+ghost use Rattle.mesh_read.specs.Surface.Surfaces.{point_of, content_of, IsSurface, no_content};
 ghost use Rattle.mesh_read.specs.Stl.Binary.{number_at, point_at, with_facet_at, binary_of};
-ghost use Rattle.mesh_read.specs.Stl.Facets.{IsErrorOf, nothing};
+ghost use Rattle.mesh_read.specs.Stl.Facets.{IsErrorOf};
 
 use crate::stl::facets::push_triangle;
 use crate::stl::fault::StlFault;
@@ -57,7 +57,7 @@ fn add_facet(surface: &mut Surface, bytes: &[u8], facet: u32) -> Result<(), StlF
 // An empty surface with room for this many triangles.
 fn with_room<'a>(alloc: Global, facets: usize) -> Result<Surface<'a>, AllocError>
     requires { facets < 2 ^ 32 }
-    ensures content { IfOk result (λ s. content_of s ≡ nothing) }
+    ensures content { IfOk result (λ s. content_of s ≡ no_content) }
     ensures surface { IfOk result (λ s. IsSurface s) }
     ensures count { IfOk result (λ s. length s.vertices.items ≡ 0) }
 {

@@ -4,9 +4,9 @@ ghost use Rattle.mesh_grid.specs.declared.snap.steps.GridStep.{GridStep};
 ghost use Rattle.mesh_grid.specs.Snap.Steps.{IsStep};
 ghost use Rattle.mesh_scene.specs.SceneFile.Fractions.{fraction_text, IsPart, IsStepText, IsInLowestTerms};
 
+use ember_algebra::gcd;
 use ember_model::OutOfMemory;
 use itoa::Buffer;
-use mesh_certificate::gcd;
 use mesh_grid::GridStep;
 
 // The least number that is too large for a part of a step.

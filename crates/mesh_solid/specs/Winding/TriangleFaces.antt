@@ -10,8 +10,7 @@ use Rattle.ember_model.specs.declared.face.Face.{Face}
 use Rattle.ember_model.specs.Clear.{AreClear}
 use Rattle.ember_model.specs.Edges.{normal}
 use Rattle.ember_model.specs.Meshes.{wind}
-use Rattle.ember_model.specs.Points.{offset_by}
-use Rattle.ember_meaning.specs.Closed.Chains.{displacement}
+use Rattle.ember_model.specs.Points.{offset_by, displacement}
 use Rattle.mesh_certificate.specs.Key.LineKeys.{numerators}
 use Rattle.mesh_certificate.specs.declared.certificate.space_point.SpacePoint.{SpacePoint}
 use Rattle.mesh_certificate.specs.declared.certificate.triangle.Triangle.{Triangle}

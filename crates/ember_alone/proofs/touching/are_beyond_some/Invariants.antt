@@ -5,4 +5,4 @@ use Rattle.ember_alone.proofs.touching.are_beyond_some.Given as goal
 
 -- none so far is a first plane
 abbrev pub invariant-loop-first : goal.invariant-loop-first
-invariant-loop-first l = list_any (λ v. list_any (λ w. are_beyond v w l.common) l.values) (take l.first-index l.values) ≡ false
+invariant-loop-first l = list_any (λ v. list_any (λ w. are_beyond v w l.common) l.heights) (take l.first-index l.heights) ≡ false

@@ -5,4 +5,4 @@ use Rattle.ember_alone.proofs.touching.are_beyond_with_some.Given as goal
 
 -- none so far is a second plane
 abbrev pub invariant-loop-second : goal.invariant-loop-second
-invariant-loop-second l = list_any (λ w. are_beyond l.first w l.common) (take l.second-index l.values) ≡ false
+invariant-loop-second l = list_any (λ w. are_beyond l.first w l.common) (take l.second-index l.heights) ≡ false

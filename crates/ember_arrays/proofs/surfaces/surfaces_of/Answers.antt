@@ -1,6 +1,7 @@
 use Rattle.std.proofs.Common.{subst, sym}
+use Rattle.mesh_boolean.proofs.Readings.{within_more}
 use Rattle.ember_arrays.specs.Faults.{IsSurfacesFault}
-use Rattle.ember_arrays.proofs.InOrder.{surfaces_more, within_more}
+use Rattle.ember_arrays.proofs.InOrder.{surfaces_more}
 use Rattle.ember_arrays.proofs.Refusals.{refused_mesh_is_first}
 use Rattle.ember_arrays.proofs.surfaces.surfaces_of.Goals as goal
 

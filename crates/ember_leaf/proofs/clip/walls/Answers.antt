@@ -9,9 +9,9 @@ pub returns-clause-planes : goal.returns-clause-planes
 returns-clause-planes g c =
     let w = g.met.W.Width in let IsPlane = g.W.Width.IsPlane in let n = g.W.Width.scale in let s = c.aabb_on-aabb.ensures.within in
     all_six (λ v. IsPlane (wall_of v).plane)
-    (subst (λ (v : Wall). IsPlane v.plane) (sym c.low_wall.ensures) (low_taken n w.takes w.turns_round c.requires X _ s.x.low))
-    (subst (λ (v : Wall). IsPlane v.plane) (sym c.high_wall.ensures) (high_taken n w.takes w.turns_round c.requires X _ s.x.high))
-    (subst (λ (v : Wall). IsPlane v.plane) (sym c.low_wall-2.ensures) (low_taken n w.takes w.turns_round c.requires Y _ s.y.low))
-    (subst (λ (v : Wall). IsPlane v.plane) (sym c.high_wall-2.ensures) (high_taken n w.takes w.turns_round c.requires Y _ s.y.high))
-    (subst (λ (v : Wall). IsPlane v.plane) (sym c.low_wall-3.ensures) (low_taken n w.takes w.turns_round c.requires Z _ s.z.low))
-    (subst (λ (v : Wall). IsPlane v.plane) (sym c.high_wall-3.ensures) (high_taken n w.takes w.turns_round c.requires Z _ s.z.high))
+    (subst (λ (v : Wall). IsPlane v.plane) (sym c.low_wall.ensures) (low_taken n w.takes w.turns_round w.ends X _ s.x.low))
+    (subst (λ (v : Wall). IsPlane v.plane) (sym c.high_wall.ensures) (high_taken n w.takes w.turns_round w.ends X _ s.x.high))
+    (subst (λ (v : Wall). IsPlane v.plane) (sym c.low_wall-2.ensures) (low_taken n w.takes w.turns_round w.ends Y _ s.y.low))
+    (subst (λ (v : Wall). IsPlane v.plane) (sym c.high_wall-2.ensures) (high_taken n w.takes w.turns_round w.ends Y _ s.y.high))
+    (subst (λ (v : Wall). IsPlane v.plane) (sym c.low_wall-3.ensures) (low_taken n w.takes w.turns_round w.ends Z _ s.z.low))
+    (subst (λ (v : Wall). IsPlane v.plane) (sym c.high_wall-3.ensures) (high_taken n w.takes w.turns_round w.ends Z _ s.z.high))

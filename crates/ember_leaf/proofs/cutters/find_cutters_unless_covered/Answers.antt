@@ -1,6 +1,7 @@
 use Rattle.std.proofs.Common.{◌≡◌, ◌+◌, List, ℕ, ap, sym, subst, [], All, flat_map}
 use Rattle.std.specs.List.{range_with_len}
 use Rattle.std.proofs.lemmas.List.Elements.{All-nil}
+use Rattle.ember_algebra.proofs.Numbers.{nat_lt_out, nat_lt_in}
 use Rattle.ember_model.specs.declared.tri.Tri.{Tri}
 use Rattle.ember_box.specs.declared.aabb.Aabb.{Aabb}
 use Rattle.ember_box.specs.Near.{tri_at}
@@ -11,7 +12,7 @@ use Rattle.ember_leaf.specs.KeptRegions.{tris_of}
 use Rattle.ember_leaf.specs.Cutters.{cutting_planes_in, owners_in, IsCutterOf, IsBounded, OmitsUnmet, all_seen}
 use Rattle.ember_leaf.specs.EarlierTriangles.{AreEarlier}
 use Rattle.ember_leaf.proofs.RegionOrder.{own_is, listed_too, all_listed}
-use Rattle.ember_leaf.proofs.EarlierTriangles.{lt_out, lt_in, none_listed, own_listed, other_listed, cover_found}
+use Rattle.ember_leaf.proofs.EarlierTriangles.{none_listed, own_listed, other_listed, cover_found}
 use Rattle.ember_leaf.proofs.UnmetPlanes.{own_next, other_next}
 use Rattle.ember_leaf.proofs.cutters.find_cutters_unless_covered.Goals.{else-j-i-via-then-j-i+in_ok-add_near_unless_covering+else-branch, else-j-i-via-else-j-i}
 use Rattle.ember_leaf.proofs.cutters.find_cutters_unless_covered.Goals as goal
@@ -42,7 +43,7 @@ loop-j-preserved g c =
             other_next ts i j at c.loop-j.invariant.1 w.add_near_unless_covering.new.list.items t g.tri w.if-j-i.true
                 c.requires.target e (w.in_ok-add_near_unless_covering.ensures.cutting_planes w.if-branch.false),
             other_listed ts i t b j g.tri _ (owners_in at) (owners_in w.add_near_unless_covering.new.list.items)
-                c.loop-j.invariant.2 (lt_out j i) (lt_in j i) (listed_too near j c.loop-j-test.true) e w.if-branch.false
+                c.loop-j.invariant.2 (nat_lt_out j i) (nat_lt_in j i) (listed_too near j c.loop-j-test.true) e w.if-branch.false
                 w.in_ok-add_near_unless_covering.ensures.owners,
           )
       | else-j-i-via-else-j-i w ↦ subst (λ v. IsNext t b ts i (j + 1) v)
@@ -57,7 +58,7 @@ pub returns-then-branch-clause-owners : goal.returns-then-branch-clause-owners
 returns-then-branch-clause-owners g c =
     let near = c.args.near.now in let ts = tris_of near in let i = c.args.i in let j = c.loop-j.j in let g = c.index-near-j.result in
     cover_found ts i c.args.target.now.tri c.args.bounds.now j g.tri _ (owners_in c.loop-j.list.items)
-    (owners_in c.add_near_unless_covering.new.list.items) (lt_out j i) (listed_too near j c.loop-j-test.true)
+    (owners_in c.add_near_unless_covering.new.list.items) (nat_lt_out j i) (listed_too near j c.loop-j-test.true)
     (subst (λ f. f.tri ≡ tri_at ts j) (sym c.index-near-j.is) (own_is near j g c.loop-j-test.true))
     c.if-branch.true c.in_ok-add_near_unless_covering.ensures.owners
 

@@ -1,5 +1,5 @@
 use Rattle.std.proofs.Common.{◌≡◌, drop}
-use Rattle.ember_dec.specs.Decimal.{number_from}
+use Rattle.ember_dec.specs.Digits.{number_from}
 use Rattle.ember_obj.proofs.references.number_in.Given as goal
 
 abbrev pub invariant-loop-digit : goal.invariant-loop-digit

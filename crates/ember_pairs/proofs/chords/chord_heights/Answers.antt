@@ -2,7 +2,7 @@ use Rattle.std.proofs.Common.{◌≡◌, ◌∙◌, ap, ℤ, ◌+ℤ◌, ◌^◌
 use mir.Syntax.{w64, w128}
 use Rattle.ember_algebra.specs.Size.{Small}
 use Rattle.ember_algebra.proofs.Exact.{stored, narrow, kept, ◌⊞◌, ◌&◌, done, exact}
-use Rattle.ember_pairs.specs.declared.heights.Heights.{Heights}
+use Rattle.ember_width.specs.declared.heights.Heights.{Heights}
 use Rattle.ember_pairs.specs.declared.chords.ChordHeights.{ChordHeights}
 use Rattle.ember_pairs.specs.Chords.{end_height}
 use Rattle.ember_pairs.proofs.chords.chord_heights.Goals as goal

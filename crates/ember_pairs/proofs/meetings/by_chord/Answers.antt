@@ -4,8 +4,9 @@ use Rattle.ember_model.specs.Planes.{support_of}
 use Rattle.ember_model.specs.Faces.{is_flat, edges_of}
 use Rattle.ember_pairs.specs.declared.by_edges.ByEdges.{ByEdges}
 use Rattle.ember_pairs.specs.declared.by_edges.ByEdges.TheVariants as by_edges
-use Rattle.ember_pairs.specs.declared.heights.Heights.{Heights}
-use Rattle.ember_pairs.specs.Heights.{heights_of, heights_over}
+use Rattle.ember_width.specs.declared.heights.Heights.{Heights}
+use Rattle.ember_width.specs.Heights.{heights_of}
+use Rattle.ember_pairs.specs.Heights.{heights_over}
 use Rattle.ember_pairs.specs.Chords.{IsByChord}
 use Rattle.ember_pairs.specs.ByEdges.{IsByEdges}
 use Rattle.ember_pairs.proofs.BeyondEdges.{parted_if_none, given_heights}

@@ -2,8 +2,8 @@ use Rattle.std.proofs.Common.{◌≡◌, ◌∙◌, ap, sym, Bool, false}
 use Rattle.ember_model.specs.declared.tri.Tri.{Tri}
 use Rattle.ember_model.specs.Planes.{support_of}
 use Rattle.ember_model.specs.Faces.{is_flat}
-use Rattle.ember_pairs.specs.declared.heights.Heights.{Heights}
-use Rattle.ember_pairs.specs.Heights.{heights_of, all_on}
+use Rattle.ember_width.specs.declared.heights.Heights.{Heights}
+use Rattle.ember_width.specs.Heights.{heights_of, all_on}
 use Rattle.ember_pairs.proofs.FlatTriangles.{full_if_off}
 use Rattle.ember_pairs.proofs.meetings.by_edges.Goals as goal
 

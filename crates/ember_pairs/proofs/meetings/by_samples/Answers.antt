@@ -3,7 +3,7 @@ use Rattle.ember_algebra.specs.Sign.{is_zero}
 use Rattle.ember_model.specs.declared.tri.Tri.{Tri}
 use Rattle.ember_model.specs.Faces.{is_flat, edges_of}
 use Rattle.ember_poly.proofs.TriangleRing.{flat_is}
-use Rattle.ember_pairs.specs.declared.heights.Heights.{Heights}
+use Rattle.ember_width.specs.declared.heights.Heights.{Heights}
 use Rattle.ember_pairs.specs.declared.meetings.Candidate.{Candidate}
 use Rattle.ember_pairs.specs.Heights.{heights_over}
 use Rattle.ember_pairs.specs.Candidates.{candidate_of}

@@ -13,8 +13,8 @@ overflow_cast-result c =
     (c.unsigned_abs.ensures.value ∙ ap unsigned_abs (exact (v.w & done) (kept 0) tt))
     (c.unsigned_abs-2.ensures.value ∙ ap unsigned_abs (exact (v.x & done) (kept 0) tt))
     (c.unsigned_abs-3.ensures.value ∙ ap unsigned_abs (exact (v.y & done) (kept 0) tt))
-    (c.unsigned_abs-4.ensures.value ∙ ap unsigned_abs (exact (v.z & done) (kept 0) tt)) c.gcd-first.ensures
-    c.gcd-second.ensures c.gcd-third.ensures) tt
+    (c.unsigned_abs-4.ensures.value ∙ ap unsigned_abs (exact (v.z & done) (kept 0) tt)) c.long_gcd-first.ensures
+    c.long_gcd-second.ensures c.long_gcd-third.ensures) tt
 
 pub returns : goal.returns
 returns c =
@@ -23,6 +23,6 @@ returns c =
     ∙ ap unsigned_abs (exact (v.w & done) (kept 0) tt))
     (c.unsigned_abs-2.ensures.value ∙ ap unsigned_abs (exact (v.x & done) (kept 0) tt))
     (c.unsigned_abs-3.ensures.value ∙ ap unsigned_abs (exact (v.y & done) (kept 0) tt))
-    (c.unsigned_abs-4.ensures.value ∙ ap unsigned_abs (exact (v.z & done) (kept 0) tt)) c.gcd-first.ensures
-    c.gcd-second.ensures c.gcd-third.ensures in
+    (c.unsigned_abs-4.ensures.value ∙ ap unsigned_abs (exact (v.z & done) (kept 0) tt)) c.long_gcd-first.ensures
+    c.long_gcd-second.ensures c.long_gcd-third.ensures in
     subst (λ d. IsGreatestDivisor u d) (sym (to_z-of_z (fits_small w128 g.small tt))) g

@@ -4,12 +4,12 @@ use Rattle.ember_model.specs.Limits.{broad_limit}
 use Rattle.ember_model.specs.Planes.{value_at}
 use Rattle.ember_model.specs.Within.{normal_limit, IsEdgeWithin}
 use Rattle.ember_algebra.specs.Sign.{is_negative}
+use Rattle.ember_algebra.proofs.Booleans.{same_some}
 use Rattle.ember_model.proofs.SignTests.{and_true}
 use Rattle.ember_width.specs.Laws.{broad_planes}
 use Rattle.ember_width.proofs.TakenPlanes.{edge_taken}
 use Rattle.ember_width.proofs.Slides.{edge_within_planes}
 use Rattle.ember_ref.specs.References.{reference_of_list, HasNormalWithin}
-use Rattle.ember_ref.proofs.ReferenceSigns.{some_is}
 use Rattle.ember_ref.proofs.signs.projects_inside.Goals as goal
 
 -- the entries of an edge plane
@@ -42,25 +42,25 @@ returns-then-is_below-2 c = λ m f within tells.
     let at = reference_of_list f c.args.at in
     let p = c.edge_plane in let q = c.edge_plane-then-is_below in let r = c.edge_plane-then-is_below-2 in
     let x = c.is_below.ensures (normal_limit m) f (normal_of m p.result (p.ensures.within m within)) tells
-    ∙ ap (λ (h : Plane). is_negative (value_at h at)) (sym (some_is p.ensures.value)) in
+    ∙ ap (λ (h : Plane). is_negative (value_at h at)) (sym (same_some p.ensures.value)) in
     let y = c.is_below-then-is_below.ensures (normal_limit m) f (normal_of m q.result (q.ensures.within m within)) tells
-    ∙ ap (λ (h : Plane). is_negative (value_at h at)) (sym (some_is q.ensures.value)) in
+    ∙ ap (λ (h : Plane). is_negative (value_at h at)) (sym (same_some q.ensures.value)) in
     let z = c.is_below-then-is_below-2.ensures (normal_limit m) f (normal_of m r.result (r.ensures.within m within)) tells
-    ∙ ap (λ (h : Plane). is_negative (value_at h at)) (sym (some_is r.ensures.value)) in
+    ∙ ap (λ (h : Plane). is_negative (value_at h at)) (sym (same_some r.ensures.value)) in
     all_of (sym c.if-is_below.true ∙ x) (sym c.if-is_below-2.true ∙ y) z
 
 pub returns-else-is_below-2 : goal.returns-else-is_below-2
 returns-else-is_below-2 c = λ m f within tells.
     let at = reference_of_list f c.args.at in let p = c.edge_plane in let q = c.edge_plane-then-is_below in
     let x = c.is_below.ensures (normal_limit m) f (normal_of m p.result (p.ensures.within m within)) tells
-    ∙ ap (λ (h : Plane). is_negative (value_at h at)) (sym (some_is p.ensures.value)) in
+    ∙ ap (λ (h : Plane). is_negative (value_at h at)) (sym (same_some p.ensures.value)) in
     let y = c.is_below-then-is_below.ensures (normal_limit m) f (normal_of m q.result (q.ensures.within m within)) tells
-    ∙ ap (λ (h : Plane). is_negative (value_at h at)) (sym (some_is q.ensures.value)) in
+    ∙ ap (λ (h : Plane). is_negative (value_at h at)) (sym (same_some q.ensures.value)) in
     second_fails _ (sym c.if-is_below.true ∙ x) y c.if-is_below-2.false
 
 pub returns-else-is_below : goal.returns-else-is_below
 returns-else-is_below c = λ m f within tells.
     let at = reference_of_list f c.args.at in let p = c.edge_plane in
     let x = c.is_below.ensures (normal_limit m) f (normal_of m p.result (p.ensures.within m within)) tells
-    ∙ ap (λ (h : Plane). is_negative (value_at h at)) (sym (some_is p.ensures.value)) in
+    ∙ ap (λ (h : Plane). is_negative (value_at h at)) (sym (same_some p.ensures.value)) in
     first_fails _ x c.if-is_below.false

@@ -1,7 +1,9 @@
 use Rattle.std.proofs.Common.{◌∙◌, sym, subst, arith}
-use Rattle.ember_reread.specs.Numbers.{digits_of, IsEnd, IsSize, IsSizeAt}
+use Rattle.ember_dec.specs.Digits.{digits_of}
+use Rattle.ember_reread.specs.Numbers.{IsEnd, IsSize, IsSizeAt}
 use Rattle.ember_reread.proofs.Digits.{size_unpadded, size_value, value_size}
-use Rattle.ember_reread.proofs.NumberTexts.{digits_are, size_front, size_there}
+use Rattle.ember_dec.proofs.Fronts.{digits_are}
+use Rattle.ember_reread.proofs.NumberTexts.{size_front, size_there}
 use Rattle.ember_reread.proofs.number.size_at.Goals as goal
 
 pub returns-then-has_padding : goal.returns-then-has_padding

@@ -1,6 +1,6 @@
 use Rattle.std.proofs.Common.{drop, arith}
-use Rattle.ember_reread.specs.Numbers.{digits_of}
-use Rattle.ember_reread.proofs.Digits.{number_from-grows}
+use Rattle.ember_dec.specs.Digits.{digits_of}
+use Rattle.ember_dec.proofs.Numbers.{number_from-grows}
 use Rattle.ember_reread.proofs.number.value_at.Goals as goal
 
 pub returns-then-value-most : goal.returns-then-value-most

@@ -1,5 +1,5 @@
 use Rattle.std.proofs.Common.{◌≡◌, ◌≤◌, ◌<◌, ◌^◌, ◌-◌, drop, length}
-use Rattle.ember_reread.specs.Numbers.{digits_of, behind_digits, number_from}
+use Rattle.ember_dec.specs.Digits.{digits_of, behind_digits, number_from}
 use Rattle.ember_reread.proofs.number.value_at.Given as goal
 
 abbrev pub invariant-loop-end : goal.invariant-loop-end

@@ -1,6 +1,6 @@
 use Rattle.std.proofs.Common.{ℕ, List, refl, subst}
 use Rattle.ember_verdict.specs.Outputs.{SolidFaces}
-use Rattle.ember_verdict.specs.Devices.{shelf_call}
+use Rattle.ember_io.specs.Calls.{shelf_call}
 use Rattle.ember_verdict.specs.Held.{MayHold}
 use Rattle.ember_verdict.specs.NoReplies.{IsNoReply}
 use Rattle.ember_verdict.specs.Verdict.{Writes, after_bounded_expr, bool_verdict}
@@ -15,7 +15,7 @@ use Rattle.ember_run.proofs.bool_command.bool_output.Goals as goal
 pub returns-in-Err-clause-no_reply : goal.returns-in-Err-clause-no_reply
 returns-in-Err-clause-no_reply g c =
     let a = c.args in
-    let shelf = shelf_call g.S.Shelf.contents g.S.Shelf.faults g.S.Shelf.fault_at a.shelf.now a.shelf.now in
+    let shelf = shelf_call g.S.Shelf.contents g.S.Shelf.faults g.S.Shelf.fault_at g.S.Shelf.fault_kind a.shelf.now a.shelf.now in
     subst (λ (names : List (List ℕ)). IsNoReply (bool_verdict a.expr.now a.places) names shelf c.in-Err.status) c.items-files.ensures
     (expression_is_no_reply (after_bounded_expr a.expr.now) (λ m formula tris. Writes (SolidFaces tris formula))
     a.places _ c.items-files.result.now shelf c.in-Err.status refl c.in-Err.ensures.no_reply)
@@ -23,7 +23,7 @@ returns-in-Err-clause-no_reply g c =
 pub returns-in-Err-read_scene-clause-no_reply : goal.returns-in-Err-read_scene-clause-no_reply
 returns-in-Err-read_scene-clause-no_reply g c =
     let a = c.args in
-    let shelf = shelf_call g.S.Shelf.contents g.S.Shelf.faults g.S.Shelf.fault_at a.shelf.now c.read_scene.new.shelf in
+    let shelf = shelf_call g.S.Shelf.contents g.S.Shelf.faults g.S.Shelf.fault_at g.S.Shelf.fault_kind a.shelf.now c.read_scene.new.shelf in
     subst (λ (names : List (List ℕ)). IsNoReply (bool_verdict a.expr.now a.places) names shelf c.in-Err-read_scene.status) c.items-files.ensures
     (scene_is_no_reply (after_bounded_expr a.expr.now) (λ m formula tris. Writes (SolidFaces tris formula)) a.places _
     c.items-files.result.now shelf c.in-Err-read_scene.status _ refl c.in-Ok.ensures.expr

@@ -1,5 +1,5 @@
 use Rattle.std.proofs.Common.{ℕ, List, subst}
-use Rattle.ember_verdict.specs.Devices.{shelf_call}
+use Rattle.ember_io.specs.Calls.{shelf_call}
 use Rattle.ember_verdict.specs.Held.{MayHold}
 use Rattle.ember_verdict.specs.Outputs.{MeetingPairs}
 use Rattle.ember_verdict.specs.NoReplies.{IsNoReply}
@@ -12,7 +12,7 @@ use Rattle.ember_run.proofs.pairs.pairs_output.Goals as goal
 pub returns-in-Err-clause-no_reply : goal.returns-in-Err-clause-no_reply
 returns-in-Err-clause-no_reply g c =
     let a = c.args in
-    let shelf = shelf_call g.S.Shelf.contents g.S.Shelf.faults g.S.Shelf.fault_at a.shelf.now c.read_scene.new.shelf in
+    let shelf = shelf_call g.S.Shelf.contents g.S.Shelf.faults g.S.Shelf.fault_at g.S.Shelf.fault_kind a.shelf.now c.read_scene.new.shelf in
     subst (λ (names : List (List ℕ)). IsNoReply (pairs_verdict a.places) names shelf c.in-Err.status) c.items.ensures
     (c.in-Err.ensures.no_reply (λ tris. Writes (MeetingPairs tris)))
 

@@ -1,7 +1,7 @@
 use Rattle.std.proofs.Common.{ℕ, List, refl, subst}
 use Rattle.ember_verdict.specs.Outputs.{Lattice}
 use Rattle.ember_verdict.specs.Statuses.{IsText}
-use Rattle.ember_verdict.specs.Devices.{shelf_call}
+use Rattle.ember_io.specs.Calls.{shelf_call}
 use Rattle.ember_verdict.specs.Held.{MayHold}
 use Rattle.ember_verdict.specs.NoReplies.{IsNoReply}
 use Rattle.ember_verdict.specs.Verdict.{Writes, after_expr, voxels_verdict}
@@ -13,7 +13,7 @@ use Rattle.ember_run.proofs.voxels.voxels_output.Goals as goal
 pub returns-in-Err-clause-no_reply : goal.returns-in-Err-clause-no_reply
 returns-in-Err-clause-no_reply g c =
     let a = c.args in
-    let shelf = shelf_call g.S.Shelf.contents g.S.Shelf.faults g.S.Shelf.fault_at a.shelf.now a.shelf.now in
+    let shelf = shelf_call g.S.Shelf.contents g.S.Shelf.faults g.S.Shelf.fault_at g.S.Shelf.fault_kind a.shelf.now a.shelf.now in
     subst (λ (names : List (List ℕ)). IsNoReply (voxels_verdict a.expr.now a.size a.places) names shelf c.in-Err.status) c.items-files.ensures
     (expression_is_no_reply (after_expr a.expr.now) (λ m formula tris. Writes (Lattice tris formula a.size)) a.places _
     c.items-files.result.now shelf c.in-Err.status refl c.in-Err.ensures.no_reply)
@@ -21,7 +21,7 @@ returns-in-Err-clause-no_reply g c =
 pub returns-in-Err-read_scene-clause-no_reply : goal.returns-in-Err-read_scene-clause-no_reply
 returns-in-Err-read_scene-clause-no_reply g c =
     let a = c.args in
-    let shelf = shelf_call g.S.Shelf.contents g.S.Shelf.faults g.S.Shelf.fault_at a.shelf.now c.read_scene.new.shelf in
+    let shelf = shelf_call g.S.Shelf.contents g.S.Shelf.faults g.S.Shelf.fault_at g.S.Shelf.fault_kind a.shelf.now c.read_scene.new.shelf in
     subst (λ (names : List (List ℕ)). IsNoReply (voxels_verdict a.expr.now a.size a.places) names shelf c.in-Err-read_scene.status) c.items-files.ensures
     (scene_is_no_reply (after_expr a.expr.now) (λ m formula tris. Writes (Lattice tris formula a.size)) a.places _
     c.items-files.result.now shelf c.in-Err-read_scene.status _ refl c.in-Ok.ensures.expr

@@ -43,9 +43,6 @@ leaf_faces_on-requires-clause-few g c =
 pub leaf_faces_on-requires-clause-counts : goal.leaf_faces_on-requires-clause-counts
 leaf_faces_on-requires-clause-counts g c = counts_within c.args.tris.now c.args.job.now c.requires.job 9437184 (omega arith) c.requires.scene.few
 
-pub leaf_faces_on-requires-clause-root : goal.leaf_faces_on-requires-clause-root
-leaf_faces_on-requires-clause-root g c = c.requires.root
-
 pub returns : goal.returns
 returns g c =
     let ts = c.args.tris.now in let j = c.args.job.now in let f = formula_of c.args.e.now in

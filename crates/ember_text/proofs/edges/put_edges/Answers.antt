@@ -3,11 +3,12 @@ use Rattle.std.proofs.lemmas.List.{take_all}
 use Rattle.ember_algebra.specs.Relations.{Each}
 use Rattle.ember_leaf.specs.Written.{HasGrown}
 use Rattle.ember_model.specs.Edges.{RingEdge}
+use Rattle.ember_model.specs.Planes.{zero_plane}
 use Rattle.ember_point.specs.Points.{spot_of}
 use Rattle.ember_poly.specs.Sides.{ring_edges}
 use Rattle.ember_text.specs.Texts.{IsEdgeText}
 use Rattle.ember_text.proofs.GrownBytes.{on_err, extends_by, grown_none, grown_take}
-use Rattle.ember_text.proofs.Pairs.{length-ring_edges, ring_at, zero_plane}
+use Rattle.ember_text.proofs.Pairs.{length-ring_edges, ring_at}
 use Rattle.ember_text.proofs.edges.put_edges.Goals as goal
 
 pub loop-i-init : goal.loop-i-init

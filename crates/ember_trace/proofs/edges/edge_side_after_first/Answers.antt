@@ -5,7 +5,7 @@ use Rattle.ember_model.specs.Planes.{times_plane, edge_through, unit}
 use Rattle.ember_model.proofs.PlaneSizes.{corner_within}
 use Rattle.ember_ref.specs.References.{or_sign}
 use Rattle.ember_trace.specs.Paths.{path_of, side_at_start, side_at_end, slid_to_lo}
-use Rattle.ember_trace.proofs.SegmentCrossings.{edge_support}
+use Rattle.ember_trace.proofs.SegmentSigns.{edge_support}
 use Rattle.ember_trace.proofs.VertexSides.{or_first}
 use Rattle.ember_trace.proofs.edges.edge_side_after_first.Goals as goal
 

@@ -1,11 +1,11 @@
 use Rattle.std.proofs.Common.{◌∙◌, ap, sym}
 use Rattle.ember_algebra.specs.Sign.{sgn, is_neg}
+use Rattle.ember_algebra.proofs.Booleans.{same_some}
 use Rattle.ember_model.specs.declared.plane.Plane.{Plane}
 use Rattle.ember_model.specs.Limits.{broad_limit}
 use Rattle.ember_model.specs.Planes.{value_at}
 use Rattle.ember_model.specs.Within.{normal_limit}
 use Rattle.ember_model.proofs.PlaneSizes.{tri_within}
-use Rattle.ember_model.proofs.Tuples.{same_some}
 use Rattle.ember_width.specs.Laws.{broad_planes}
 use Rattle.ember_width.proofs.Slides.{edge_within_planes}
 use Rattle.ember_width.proofs.TakenPlanes.{edge_taken}

@@ -1,6 +1,6 @@
 use Rattle.std.proofs.Common.{sym, ◌∙◌}
 use Rattle.ember_model.proofs.PlaneSizes.{tri_within}
-use Rattle.ember_trace.proofs.SegmentCrossings.{edge_support}
+use Rattle.ember_trace.proofs.SegmentSigns.{edge_support}
 use Rattle.ember_trace.proofs.ParallelTriangles.{parallel_second}
 use Rattle.ember_trace.specs.Paths.{path_of, side_after_first}
 use Rattle.ember_trace.proofs.ThreeEdges.{all_three, last_of_three}

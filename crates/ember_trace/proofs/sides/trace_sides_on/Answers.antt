@@ -68,6 +68,6 @@ pub returns-clause-sides : goal.returns-clause-sides
 unfolding returns-clause-traced
 returns-clause-sides g c = λ reference_sides.
     let near = c.args.near.now in let w = c.path_to-way.result in
-    are_sides g.W.Width.corner g.W.Width.fine (corner_above g.W.Width.scale c.requires.root) g.met.W.Width.tells_apart (map tri_of near)
+    are_sides g.W.Width.corner g.W.Width.fine (corner_above g.W.Width.scale g.met.W.Width.ends) g.met.W.Width.tells_apart (map tri_of near)
     (in_steps g.W.Width.scale c.args.c.now) c.args.v.now.counts c.args.r.now _ near (λ i d l. (get_or near i d).valid)
     (record { tris = refl; reference_sides = reference_sides }) (returns-clause-traced g c) w.within

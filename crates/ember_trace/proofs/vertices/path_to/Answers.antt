@@ -12,7 +12,7 @@ invariant_of-result g c =
     let three : 3 ≤ length ms = c.corners-ring_corners.ensures.three in
     record {
       small = c.lo_on.ensures.small;
-      within = λ i d l. small_within c.requires (c.lo_on.ensures.within i d l);
+      within = λ i d l. small_within g.met.W.Width.ends (c.lo_on.ensures.within i d l);
       corners = c.are_short.ensures;
       region_corners = ∣ record {
         corners = map spot ms;

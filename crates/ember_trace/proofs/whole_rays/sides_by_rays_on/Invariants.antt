@@ -8,6 +8,12 @@ invariant-loop-t g l =
     record {
       before : All (Small l.t-index) l.before.counts;
       after : All (Small l.t-index) l.after.counts;
-      counted_before : l.before.counts ≡ ray_counts (λ t. ray_before t l.k (g.W.Width.spot l.at.first) (g.W.Width.spot l.at.second) (g.W.Width.spot l.at.third)) (take l.t-index l.tris) (replicate 64 (pos 0));
-      counted_after : l.after.counts ≡ ray_counts (λ t. ray_after t l.k (g.W.Width.spot l.at.first) (g.W.Width.spot l.at.second) (g.W.Width.spot l.at.third)) (take l.t-index l.tris) (replicate 64 (pos 0));
+      counted_before : l.before.counts
+          ≡ ray_counts
+          (λ t. ray_before t l.k (g.W.Width.spot l.at.first) (g.W.Width.spot l.at.second) (g.W.Width.spot l.at.third))
+          (take l.t-index l.tris) (replicate 64 (pos 0));
+      counted_after : l.after.counts
+          ≡ ray_counts
+          (λ t. ray_after t l.k (g.W.Width.spot l.at.first) (g.W.Width.spot l.at.second) (g.W.Width.spot l.at.third))
+          (take l.t-index l.tris) (replicate 64 (pos 0));
     }

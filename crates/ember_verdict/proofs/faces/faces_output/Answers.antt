@@ -1,5 +1,5 @@
 use Rattle.std.proofs.Common.{ℕ, List, [], ◌∷◌, subst}
-use Rattle.ember_verdict.specs.Devices.{shelf_call}
+use Rattle.ember_io.specs.Calls.{shelf_call}
 use Rattle.ember_model.specs.declared.tri.Tri.{Tri}
 use Rattle.ember_verdict.specs.FaceTexts.{IsFaceFileOf}
 use Rattle.ember_verdict.specs.Held.{MayHold}
@@ -13,7 +13,7 @@ use Rattle.ember_verdict.proofs.faces.faces_output.Goals as goal
 pub returns-in_err-soup-clause-no_reply : goal.returns-in_err-soup-clause-no_reply
 returns-in_err-soup-clause-no_reply g c =
     let a = c.args in
-    let shelf = shelf_call g.S.Shelf.contents g.S.Shelf.faults g.S.Shelf.fault_at a.shelf.now c.read_file.new.shelf in
+    let shelf = shelf_call g.S.Shelf.contents g.S.Shelf.faults g.S.Shelf.fault_at g.S.Shelf.fault_kind a.shelf.now c.read_file.new.shelf in
     passed_on (IsNoReply (λ contents. faces_verdict a.places (file_at contents 1)) (a.file.now ∷ []) shelf) _ _ c.from_residual.ensures.1
     (subst (λ (name : List ℕ). IsNoReply (λ contents. faces_verdict a.places (file_at contents 1)) (name ∷ []) shelf c.in_err-soup.field-0.0) c.as_str.ensures
     (face_file_is_no_reply a.places _ shelf c.in_err-soup.field-0.0 c.in_err-soup.ensures.no_file))

@@ -1,7 +1,7 @@
 use Rattle.std.proofs.Common.{List, ap}
 use Rattle.ember_model.specs.declared.face.Face.{Face}
 use Rattle.ember_model.specs.Meshes.{faces_of, wind}
-use Rattle.ember_verdict.proofs.OneReading.{one_reading}
+use Rattle.ember_reread.proofs.OneReading.{one_reading}
 use Rattle.ember_verdict.proofs.law.faces_wind_as_read.Goals as goal
 
 pub returns-clause-only : goal.returns-clause-only

@@ -12,7 +12,7 @@ use Rattle.ember_visit.proofs.start.root_job_among.Goals as goal
 
 pub near_list_among-requires-clause-within : goal.near_list_among-requires-clause-within
 near_list_among-requires-clause-within g c =
-    All-weaker (IsTriWithin g.W.Width.corner) (IsTriWithin broad_limit) (λ t. tri_within g.met.W.Width.at_most_broad) c.args.tris.now c.requires.scene.within
+    All-weaker (IsTriWithin g.W.Width.corner) (IsTriWithin broad_limit) (λ t. tri_within g.met.W.Width.at_most_broad) c.args.tris.now c.requires.within
 
 pub near_list_among-requires-clause-places : goal.near_list_among-requires-clause-places
 near_list_among-requires-clause-places g c =
@@ -30,4 +30,4 @@ unfolding returns-clause-value
 returns-clause-valid g c =
     let w = g.met.W.Width in
     subst (IsJobOn g.W.Width.scale g.W.Width.fine c.args.tris.now) (sym (returns-clause-value g c))
-    (root_is_job_on g.W.Width.scale g.W.Width.corner g.W.Width.fine g.W.Width.UNIT c.args.tris.now c.requires.root w.tells_apart w.unit_is w.holds c.requires.scene)
+    (root_is_job_on g.W.Width.scale g.W.Width.corner g.W.Width.fine g.W.Width.UNIT c.args.tris.now w.ends w.tells_apart w.unit_is w.holds c.requires)

@@ -1,5 +1,5 @@
 use Rattle.std.proofs.Common.{codes, decimal, ℕ, ◌++◌, ap, ◌∙◌, refl}
-use Rattle.mesh_texts.proofs.Appended.{after2, on_ok_if, on_ok_same}
+use Rattle.mesh_number.proofs.Appended.{after2, on_ok_if, on_ok_same}
 use Rattle.mesh_refusal.proofs.lines.put_expr_fault.Goals as goal
 
 pub returns-in_ok-extend_from_slice-in-NoMesh : goal.returns-in_ok-extend_from_slice-in-NoMesh

@@ -1,6 +1,6 @@
 use Rattle.std.proofs.Common.{codes, List, ℕ, ◌++◌, append_assoc, ap, ◌∙◌}
 use Rattle.mesh_texts.specs.Texts.{length_text, step_text}
-use Rattle.mesh_texts.proofs.Appended.{after4, on_ok_same}
+use Rattle.mesh_number.proofs.Appended.{after4, on_ok_same}
 use Rattle.mesh_refusal.proofs.lines.put_extent.Goals as goal
 
 pub returns : goal.returns

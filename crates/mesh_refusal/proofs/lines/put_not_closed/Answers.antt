@@ -1,7 +1,7 @@
 use Rattle.std.proofs.Common.{codes, List, ℕ, ◌+◌, ◌++◌, append_assoc, ap, ◌∙◌}
 use Rattle.mesh_texts.specs.Texts.{name_of}
 use Rattle.mesh_refusal.specs.Lines.{open_text}
-use Rattle.mesh_texts.proofs.Appended.{after2, on_ok_same}
+use Rattle.mesh_number.proofs.Appended.{after2, on_ok_same}
 use Rattle.mesh_refusal.proofs.lines.put_not_closed.Goals as goal
 
 pub returns : goal.returns

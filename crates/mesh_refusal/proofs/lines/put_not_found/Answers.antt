@@ -1,5 +1,5 @@
 use Rattle.std.proofs.Common.{codes, decimal, ℕ, ◌++◌, ap, ◌∙◌, refl}
-use Rattle.mesh_texts.proofs.Appended.{after3, on_ok_if}
+use Rattle.mesh_number.proofs.Appended.{after3, on_ok_if}
 use Rattle.mesh_refusal.proofs.lines.put_not_found.Goals as goal
 
 pub returns-in_ok-put_count-in-Some : goal.returns-in_ok-put_count-in-Some

@@ -1,7 +1,7 @@
 use Rattle.std.proofs.Common.{codes, decimal, List, ℕ, ◌++◌, ap, ◌∙◌}
 use Rattle.mesh_texts.specs.Texts.{corner_text}
 use Rattle.mesh_refusal.specs.Lines.{noun_of}
-use Rattle.mesh_texts.proofs.Appended.{after11, on_ok_if}
+use Rattle.mesh_number.proofs.Appended.{after11, on_ok_if}
 use Rattle.mesh_refusal.proofs.lines.put_open.Goals as goal
 
 pub returns : goal.returns

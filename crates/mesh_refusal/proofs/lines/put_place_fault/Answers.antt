@@ -1,5 +1,5 @@
 use Rattle.std.proofs.Common.{codes, decimal, ℕ, ◌++◌, ap, ◌∙◌}
-use Rattle.mesh_texts.proofs.Appended.{after4, on_ok_same}
+use Rattle.mesh_number.proofs.Appended.{after4, on_ok_same}
 use Rattle.mesh_refusal.proofs.lines.put_place_fault.Goals as goal
 
 pub returns : goal.returns

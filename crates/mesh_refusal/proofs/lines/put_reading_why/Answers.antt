@@ -1,6 +1,6 @@
 use Rattle.std.proofs.Common.{List, ℕ, ◌++◌, ap, refl}
 use Rattle.mesh_refusal.specs.Lines.{file_text}
-use Rattle.mesh_texts.proofs.Appended.{on_ok_same}
+use Rattle.mesh_number.proofs.Appended.{on_ok_same}
 use Rattle.mesh_refusal.proofs.lines.put_reading_why.Goals as goal
 
 pub returns-in-ReadFault : goal.returns-in-ReadFault

@@ -1,5 +1,5 @@
 use Rattle.std.proofs.Common.{codes, List, ℕ, ◌++◌, ap, refl}
-use Rattle.mesh_texts.proofs.Appended.{on_ok_if, on_ok_same}
+use Rattle.mesh_number.proofs.Appended.{on_ok_if, on_ok_same}
 use Rattle.mesh_refusal.proofs.lines.put_scene_why.Goals as goal
 
 pub returns-in-StepOfNoGrid : goal.returns-in-StepOfNoGrid

@@ -1,5 +1,5 @@
 use Rattle.std.proofs.Common.{List, ℕ, ◌++◌, ap, refl}
-use Rattle.mesh_texts.proofs.Appended.{on_ok_if}
+use Rattle.mesh_number.proofs.Appended.{on_ok_if}
 use Rattle.mesh_refusal.proofs.lines.put_why.Goals as goal
 
 pub returns-in-Unbounded : goal.returns-in-Unbounded

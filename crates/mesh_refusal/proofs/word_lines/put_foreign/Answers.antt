@@ -1,6 +1,6 @@
 use Rattle.std.proofs.Common.{codes, List, ℕ, ◌++◌, ap, ◌∙◌}
 use Rattle.mesh_words.specs.Spelling.{option_of}
-use Rattle.mesh_texts.proofs.Appended.{after4, on_ok_if}
+use Rattle.mesh_number.proofs.Appended.{after4, on_ok_if}
 use Rattle.mesh_refusal.proofs.word_lines.put_foreign.Goals as goal
 
 pub returns : goal.returns

@@ -1,7 +1,7 @@
 use Rattle.std.proofs.Common.{codes, List, ℕ, ◌++◌, ap, ◌∙◌, map, string_bytes}
 use Rattle.mesh_words.specs.Given.{value_given}
 use Rattle.mesh_words.specs.Spelling.{option_of}
-use Rattle.mesh_texts.proofs.Appended.{after3, on_ok_if}
+use Rattle.mesh_number.proofs.Appended.{after3, on_ok_if}
 use Rattle.mesh_refusal.proofs.word_lines.put_given.Goals as goal
 
 pub returns : goal.returns

@@ -1,5 +1,5 @@
 use Rattle.std.proofs.Common.{codes, List, ℕ, ◌++◌, ap, ◌∙◌}
-use Rattle.mesh_texts.proofs.Appended.{on_ok_same}
+use Rattle.mesh_number.proofs.Appended.{on_ok_same}
 use Rattle.mesh_refusal.proofs.word_lines.put_output_ending.Goals as goal
 
 pub returns : goal.returns

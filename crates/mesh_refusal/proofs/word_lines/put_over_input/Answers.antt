@@ -1,6 +1,6 @@
 use Rattle.std.proofs.Common.{codes, List, ℕ, ◌++◌, ap, ◌∙◌, map, string_bytes}
 use Rattle.mesh_refusal.specs.WordLines.{value_text}
-use Rattle.mesh_texts.proofs.Appended.{after2, on_ok_same}
+use Rattle.mesh_number.proofs.Appended.{after2, on_ok_same}
 use Rattle.mesh_refusal.proofs.word_lines.put_over_input.Goals as goal
 
 pub returns : goal.returns

@@ -1,5 +1,5 @@
 use Rattle.std.proofs.Common.{codes}
-use Rattle.mesh_texts.proofs.Appended.{after4, on_ok_if}
+use Rattle.mesh_number.proofs.Appended.{after4, on_ok_if}
 use Rattle.mesh_refusal.proofs.word_lines.put_word.Goals as goal
 
 pub returns : goal.returns

@@ -1,7 +1,7 @@
 use Rattle.std.proofs.Common.{codes, List, ℕ, [], ◌++◌, ap, sym, ◌∙◌, Bool, if◌then◌else◌}
 use Rattle.mesh_texts.specs.Texts.{line}
 use Rattle.mesh_report.specs.Reports.{coarse_text}
-use Rattle.mesh_texts.proofs.Appended.{on_ok_same}
+use Rattle.mesh_number.proofs.Appended.{on_ok_same}
 use Rattle.mesh_report.proofs.report.put_coarse.Goals as goal
 
 pub returns : goal.returns

@@ -1,6 +1,6 @@
 use Rattle.std.proofs.Common.{codes, List, ℕ, ◌++◌, ap, ◌∙◌}
 use Rattle.mesh_report.specs.Reports.{name_of_format, remedy, rounding_text}
-use Rattle.mesh_texts.proofs.Appended.{after6, on_ok_if}
+use Rattle.mesh_number.proofs.Appended.{after6, on_ok_if}
 use Rattle.mesh_report.proofs.report.put_coarse_text.Goals as goal
 
 pub returns : goal.returns

@@ -1,7 +1,7 @@
 use Rattle.std.proofs.Common.{codes, decimal, List, ℕ, ◌++◌, ap, ◌∙◌}
 use Rattle.mesh_grid.specs.Moves.Shown.{rounded_of}
 use Rattle.mesh_texts.specs.Texts.{line, move_text}
-use Rattle.mesh_texts.proofs.Appended.{after9, on_ok_same}
+use Rattle.mesh_number.proofs.Appended.{after9, on_ok_same}
 use Rattle.mesh_report.proofs.report.put_counts.Goals as goal
 
 pub returns : goal.returns

@@ -3,7 +3,7 @@ use mir.Syntax.{w128}
 use mir.Val.{to_z, of_z}
 use Rattle.std.specs.Fmt.{signed_decimal}
 use Rattle.mesh_texts.specs.Texts.{line, step_text}
-use Rattle.mesh_texts.proofs.Appended.{after7, on_ok_same}
+use Rattle.mesh_number.proofs.Appended.{after7, on_ok_same}
 use Rattle.mesh_report.proofs.report.put_grid.Goals as goal
 
 pub returns : goal.returns

@@ -1,5 +1,5 @@
 use Rattle.std.proofs.Common.{codes, decimal}
-use Rattle.mesh_texts.proofs.Appended.{after8, on_ok_if}
+use Rattle.mesh_number.proofs.Appended.{after8, on_ok_if}
 use Rattle.mesh_report.proofs.report.put_losses.Goals as goal
 
 pub returns : goal.returns

@@ -1,7 +1,7 @@
 use Rattle.std.proofs.Common.{codes, List, ℕ, ◌++◌, ap, ◌∙◌}
 use Rattle.mesh_texts.specs.Texts.{line}
 use Rattle.mesh_report.specs.Reports.{losses_text, mesh_text}
-use Rattle.mesh_texts.proofs.Appended.{after3, on_ok_same}
+use Rattle.mesh_number.proofs.Appended.{after3, on_ok_same}
 use Rattle.mesh_report.proofs.report.put_mesh.Goals as goal
 
 pub returns : goal.returns

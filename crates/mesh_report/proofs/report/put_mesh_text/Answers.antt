@@ -1,6 +1,6 @@
 use Rattle.std.proofs.Common.{codes, decimal}
 use Rattle.mesh_report.specs.Reports.{rounding_text}
-use Rattle.mesh_texts.proofs.Appended.{after7, on_ok_same}
+use Rattle.mesh_number.proofs.Appended.{after7, on_ok_same}
 use Rattle.mesh_report.proofs.report.put_mesh_text.Goals as goal
 
 pub returns : goal.returns

@@ -1,7 +1,7 @@
 use Rattle.std.proofs.Common.{◌≡◌, codes, List, ℕ, [], ◌++◌, ap, sym, ◌∙◌, Bool, true, if◌then◌else◌}
 use Rattle.mesh_texts.specs.Texts.{line}
 use Rattle.mesh_report.specs.Reports.{is_unpaired, unpaired_text}
-use Rattle.mesh_texts.proofs.Appended.{on_ok_same}
+use Rattle.mesh_number.proofs.Appended.{on_ok_same}
 use Rattle.mesh_report.proofs.report.put_unpaired.Goals as goal
 
 pub returns : goal.returns

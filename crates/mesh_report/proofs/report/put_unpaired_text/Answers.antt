@@ -1,6 +1,6 @@
 use Rattle.std.proofs.Common.{codes, List, ℕ, ◌++◌, ap, ◌∙◌}
 use Rattle.mesh_report.specs.Reports.{name_of_format}
-use Rattle.mesh_texts.proofs.Appended.{after3, on_ok_if}
+use Rattle.mesh_number.proofs.Appended.{after3, on_ok_if}
 use Rattle.mesh_report.proofs.report.put_unpaired_text.Goals as goal
 
 pub returns : goal.returns

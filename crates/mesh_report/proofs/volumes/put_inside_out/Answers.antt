@@ -1,6 +1,6 @@
 use Rattle.std.proofs.Common.{ℤ, ◌++◌, codes, ap, ◌∙◌, to_z-of_z}
 use Rattle.mesh_report.specs.Volumes.{turned_text}
-use Rattle.mesh_texts.proofs.Appended.{after2, on_ok_same}
+use Rattle.mesh_number.proofs.Appended.{after2, on_ok_same}
 use Rattle.mesh_report.proofs.volumes.put_inside_out.Goals as goal
 
 pub returns : goal.returns

@@ -1,7 +1,7 @@
 use Rattle.std.proofs.Common.{◌≡◌, ℤ, pos, ◌++◌, Bool, true, if◌then◌else◌, ap, sym, ◌∙◌, to_z-of_z, rules}
 use Rattle.std.specs.Prelude.{int_lt}
 use Rattle.mesh_report.specs.Volumes.{inside_out_text, plain_text}
-use Rattle.mesh_texts.proofs.Appended.{on_ok_same}
+use Rattle.mesh_number.proofs.Appended.{on_ok_same}
 use Rattle.mesh_report.proofs.volumes.put_said.Goals as goal
 
 pub returns-then-sixfold_volume-lt0 : goal.returns-then-sixfold_volume-lt0

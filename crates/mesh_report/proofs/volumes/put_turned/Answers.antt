@@ -1,6 +1,6 @@
 use Rattle.std.proofs.Common.{ℤ, ◌++◌, codes, decimal, ap, ◌∙◌, to_z-of_z}
 use Rattle.mesh_report.specs.Volumes.{volume_text}
-use Rattle.mesh_texts.proofs.Appended.{after6, on_ok_if}
+use Rattle.mesh_number.proofs.Appended.{after6, on_ok_if}
 use Rattle.mesh_report.proofs.volumes.put_turned.Goals as goal
 
 pub returns : goal.returns

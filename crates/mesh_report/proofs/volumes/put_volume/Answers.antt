@@ -4,7 +4,7 @@ use Rattle.mesh_number.specs.Round.Decimals.{decimal_text}
 use Rattle.mesh_number.specs.Round.Nearest.{nearest_whole}
 use Rattle.ember_wide.specs.Whole.{size_of}
 use Rattle.mesh_report.specs.Volumes.{cube}
-use Rattle.mesh_texts.proofs.Appended.{on_ok_same}
+use Rattle.mesh_number.proofs.Appended.{on_ok_same}
 use Rattle.mesh_report.proofs.VolumeSizes.{unit_is_positive, volume_fits, volume_shown}
 use Rattle.mesh_report.proofs.volumes.put_volume.Goals as goal
 

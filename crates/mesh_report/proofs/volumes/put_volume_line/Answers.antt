@@ -1,7 +1,7 @@
 use Rattle.std.proofs.Common.{List, ℕ, ℤ, ◌++◌, ap, ◌∙◌, to_z-of_z}
 use Rattle.mesh_texts.specs.Texts.{line}
 use Rattle.mesh_report.specs.Volumes.{said_text}
-use Rattle.mesh_texts.proofs.Appended.{on_ok_same}
+use Rattle.mesh_number.proofs.Appended.{on_ok_same}
 use Rattle.mesh_report.proofs.volumes.put_volume_line.Goals as goal
 
 pub returns : goal.returns

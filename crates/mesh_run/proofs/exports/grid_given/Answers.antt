@@ -4,7 +4,7 @@ use Rattle.std.specs.declared.option.Option.{Option}
 use Rattle.std.specs.Prelude.{MatchOption}
 use Rattle.mesh_scene.specs.SceneFile.Scenes.{IsSceneOf}
 use Rattle.mesh_grid.specs.Snap.Steps.{IsStep}
-use Rattle.mesh_run.specs.Calls.{shelf_call}
+use Rattle.ember_io.specs.Calls.{shelf_call}
 use Rattle.mesh_run.specs.Exports.{IsExportStop, IsGridGiven, IsNoGrid, IsSceneFile, unit_grid}
 use Rattle.mesh_run.proofs.ExportStops.{grid_stop, scene_stop}
 use Rattle.mesh_run.proofs.exports.grid_given.Goals as goal

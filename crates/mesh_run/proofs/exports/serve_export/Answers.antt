@@ -1,6 +1,7 @@
 use Rattle.std.proofs.Common.{List, ℕ, Global, option_map, refl, subst}
 use Rattle.std.specs.Prelude.{Vec}
-use Rattle.mesh_run.specs.Calls.{shelf_call, sink_call, target_call}
+use Rattle.ember_io.specs.Calls.{shelf_call, sink_call}
+use Rattle.mesh_run.specs.Calls.{target_call}
 use Rattle.mesh_run.specs.Exports.{IsExportStop}
 use Rattle.mesh_refusal.specs.Said.{export_said, memory_said}
 use Rattle.mesh_run.specs.Serves.{AreExportFilesFor, IsSent, IsExportUnmet, WritesExport}

@@ -1,6 +1,6 @@
 use Rattle.std.proofs.Common.{ℕ, List, subst}
 use Rattle.mesh_write.specs.Page.ReadBack.{IsReadBack}
-use Rattle.mesh_texts.proofs.Appended.{on_ok_anyway}
+use Rattle.mesh_number.proofs.Appended.{on_ok_anyway}
 use Rattle.mesh_run.proofs.files.put_page.Goals as goal
 
 pub returns-clause-read_back : goal.returns-clause-read_back

@@ -1,6 +1,6 @@
 use Rattle.std.proofs.Common.{ℕ, List, ◌++◌, refl, subst}
 use Rattle.mesh_outside.specs.Target.Several.{names_and_bytes}
-use Rattle.mesh_texts.proofs.Appended.{on_ok_both}
+use Rattle.mesh_number.proofs.Appended.{on_ok_both}
 use Rattle.mesh_run.specs.Writes.{AreFilesIf, IsPageFile, mesh_file_at}
 use Rattle.mesh_run.proofs.FilesMade.{others_are_appended}
 use Rattle.mesh_run.proofs.files.put_page_and_mesh.Goals as goal

@@ -5,7 +5,7 @@ use Rattle.mesh_write.specs.Page.ReadBack.{IsReadBack}
 use Rattle.mesh_write.specs.declared.stl.triangle.FloatTriangle.{FloatTriangle}
 use Rattle.mesh_outside.specs.Target.Several.{NamedBytes, names_and_bytes}
 use Rattle.mesh_run.specs.Writes.{AreFilesIf, IsPageFile}
-use Rattle.mesh_texts.proofs.Appended.{on_ok_both}
+use Rattle.mesh_number.proofs.Appended.{on_ok_both}
 use Rattle.mesh_run.proofs.files.put_pages.Goals as goal
 
 pub returns : goal.returns

@@ -6,7 +6,7 @@ use Rattle.mesh_scene.specs.SceneFile.Texts.{IsSceneText}
 use Rattle.mesh_outside.specs.Target.Several.{NamedBytes, names_and_bytes}
 use Rattle.mesh_words.specs.Folders.{scene_name}
 use Rattle.mesh_run.specs.Writes.{mesh_files}
-use Rattle.mesh_texts.proofs.Appended.{on_ok_both}
+use Rattle.mesh_number.proofs.Appended.{on_ok_both}
 use Rattle.mesh_run.proofs.files.put_scene.Goals as goal
 
 pub returns : goal.returns

@@ -1,5 +1,5 @@
 use Rattle.std.proofs.Common.{ℕ, List, refl, subst}
-use Rattle.mesh_run.specs.Calls.{TakesUntilFault, shelf_call, sink_call}
+use Rattle.ember_io.specs.Calls.{TakesUntilFault, shelf_call, sink_call}
 use Rattle.mesh_run.specs.Causes.{IsReadingCause}
 use Rattle.mesh_run.specs.Infos.{AreInfoLines}
 use Rattle.mesh_refusal.specs.Said.{memory_said}

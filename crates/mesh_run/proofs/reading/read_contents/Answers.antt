@@ -6,7 +6,7 @@ use Rattle.std.specs.List.{All}
 use Rattle.std.specs.Prelude.{Vec}
 use Rattle.ember_io.specs.Causes.{HasRisen}
 use Rattle.ember_io.specs.Shelves.{Tells, TellsMore}
-use Rattle.mesh_run.specs.Calls.{shelf_call}
+use Rattle.ember_io.specs.Calls.{shelf_call}
 use Rattle.mesh_run.specs.Files.{AreContents}
 use Rattle.mesh_run.proofs.FileStatuses.{end_is_cause}
 use Rattle.mesh_run.proofs.ToldFiles.{contents_are_small, contents_more}

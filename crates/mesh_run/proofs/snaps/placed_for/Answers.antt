@@ -3,7 +3,7 @@ use Rattle.std.proofs.lemmas.Result.{IfErr-weaker, IfOk-weaker}
 use Rattle.std.specs.declared.alloc.Global.{Global}
 use Rattle.std.specs.List.{All}
 use Rattle.std.specs.Prelude.{Vec}
-use Rattle.mesh_run.specs.Calls.{shelf_call}
+use Rattle.ember_io.specs.Calls.{shelf_call}
 use Rattle.mesh_run.specs.Causes.{IsPlacingCause, IsReadingCause, IsSnapStop}
 use Rattle.mesh_run.specs.Files.{AreContents}
 use Rattle.mesh_run.specs.Outputs.{AreFilesPlaced, IsPlacedFor}

@@ -1,5 +1,6 @@
 use Rattle.std.proofs.Common.{List, ℕ, refl, subst, arith}
-use Rattle.mesh_run.specs.Calls.{TakesUntilFault, shelf_call, sink_call, target_call}
+use Rattle.ember_io.specs.Calls.{TakesUntilFault, shelf_call, sink_call}
+use Rattle.mesh_run.specs.Calls.{target_call}
 use Rattle.mesh_run.specs.Causes.{IsSnapStop}
 use Rattle.mesh_refusal.specs.Said.{memory_said, snap_said}
 use Rattle.mesh_run.specs.Serves.{AreSnapFilesFor, WritesScene}

@@ -1,6 +1,7 @@
 use Rattle.std.proofs.Common.{List, ℕ, Global, option_map, refl, subst, arith}
 use Rattle.std.specs.Prelude.{Vec}
-use Rattle.mesh_run.specs.Calls.{shelf_call, sink_call, target_call}
+use Rattle.ember_io.specs.Calls.{shelf_call, sink_call}
+use Rattle.mesh_run.specs.Calls.{target_call}
 use Rattle.mesh_run.specs.Causes.{IsStop}
 use Rattle.mesh_refusal.specs.Said.{memory_said, solid_said}
 use Rattle.mesh_run.specs.Serves.{AreFilesFor, IsSent, IsSolidUnmet, WritesSolid}

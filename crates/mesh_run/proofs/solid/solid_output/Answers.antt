@@ -4,7 +4,7 @@ use Rattle.std.specs.declared.alloc.Global.{Global}
 use Rattle.std.specs.List.{All}
 use Rattle.std.specs.Prelude.{Vec}
 use Rattle.ember_expr.specs.Formula.{formula_of}
-use Rattle.mesh_run.specs.Calls.{shelf_call}
+use Rattle.ember_io.specs.Calls.{shelf_call}
 use Rattle.mesh_run.specs.Causes.{IsFilesCause, IsReadingCause, IsStop}
 use Rattle.mesh_run.specs.Files.{AreContents}
 use Rattle.mesh_run.specs.Outputs.{IsFilesOutput, IsOutputFor}

@@ -1,7 +1,8 @@
 use Rattle.std.proofs.Common.{inl, List, subst}
 use Rattle.mesh_outside.specs.Target.Several.{PutsEach, names_and_bytes}
 use Rattle.mesh_outside.specs.declared.target.several.NamedFile.{NamedFile}
-use Rattle.mesh_run.specs.Calls.{shelf_call, target_call}
+use Rattle.ember_io.specs.Calls.{shelf_call}
+use Rattle.mesh_run.specs.Calls.{target_call}
 use Rattle.mesh_run.specs.Causes.{IsStop}
 use Rattle.mesh_run.specs.Serves.{AreFilesFor, IsSolidUnmet}
 use Rattle.mesh_run.specs.Unmet.{IsWriteStop}

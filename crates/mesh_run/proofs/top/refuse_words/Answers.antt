@@ -1,5 +1,5 @@
 use Rattle.std.proofs.Common.{List, ℕ, refl, subst}
-use Rattle.mesh_run.specs.Calls.{TakesUntilFault, sink_call}
+use Rattle.ember_io.specs.Calls.{TakesUntilFault, sink_call}
 use Rattle.mesh_run.proofs.top.refuse_words.Goals as goal
 
 pub returns-in-Ok-clause-outcome : goal.returns-in-Ok-clause-outcome

@@ -4,7 +4,7 @@ use Rattle.mesh_words.specs.Commands.{Reads, command_of}
 use Rattle.mesh_words.specs.declared.command.Command.{Command}
 use Rattle.mesh_words.specs.declared.command.Command.TheVariants.{Boole, Snap, Export, Info, View, Help, Version}
 use Rattle.mesh_words.specs.declared.faults.WordsFault.{WordsFault}
-use Rattle.mesh_run.specs.Calls.{sink_call}
+use Rattle.ember_io.specs.Calls.{sink_call}
 use Rattle.mesh_run.specs.Serves.{IsMessageOutcome}
 use Rattle.mesh_run.proofs.KeptNames.{names_hold_the_same}
 use Rattle.mesh_run.proofs.Outcomes.{call_serves, words_without_memory}

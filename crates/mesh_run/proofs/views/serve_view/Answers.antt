@@ -1,5 +1,6 @@
 use Rattle.std.proofs.Common.{[], refl}
-use Rattle.mesh_run.specs.Calls.{shelf_call, sink_call, target_call}
+use Rattle.ember_io.specs.Calls.{shelf_call, sink_call}
+use Rattle.mesh_run.specs.Calls.{target_call}
 use Rattle.mesh_run.specs.Causes.{IsReadingCause}
 use Rattle.mesh_refusal.specs.Said.{memory_said, reading_said}
 use Rattle.mesh_run.specs.Serves.{IsPageFor, WritesPage}

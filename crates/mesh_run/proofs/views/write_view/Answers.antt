@@ -1,5 +1,6 @@
 use Rattle.std.proofs.Common.{ℕ, List, subst}
-use Rattle.mesh_run.specs.Calls.{shelf_call, target_call}
+use Rattle.ember_io.specs.Calls.{shelf_call}
+use Rattle.mesh_run.specs.Calls.{target_call}
 use Rattle.mesh_run.specs.Causes.{IsReadingCause}
 use Rattle.mesh_run.specs.Serves.{IsPageFor}
 use Rattle.mesh_run.proofs.InfoOutcomes.{reading_tells_memory}

@@ -1,4 +1,4 @@
-use Rattle.mesh_run.specs.Calls.{sink_call}
+use Rattle.ember_io.specs.Calls.{sink_call}
 use Rattle.mesh_run.proofs.ErrTexts.{text_is_taken}
 use Rattle.mesh_run.proofs.writing.say.Goals as goal
 

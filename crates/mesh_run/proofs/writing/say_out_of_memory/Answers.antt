@@ -1,5 +1,5 @@
 use Rattle.std.proofs.Common.{ℕ, List, subst}
-use Rattle.mesh_run.specs.Calls.{TakesUntilFault, sink_call}
+use Rattle.ember_io.specs.Calls.{TakesUntilFault, sink_call}
 use Rattle.mesh_run.proofs.writing.say_out_of_memory.Goals as goal
 
 pub returns : goal.returns

@@ -1,5 +1,5 @@
 use Rattle.std.proofs.Common.{List, ℕ, refl, subst}
-use Rattle.mesh_run.specs.Calls.{TakesUntilFault, sink_call}
+use Rattle.ember_io.specs.Calls.{TakesUntilFault, sink_call}
 use Rattle.mesh_run.proofs.writing.say_why.Goals as goal
 
 pub returns-in-Ok-clause-said : goal.returns-in-Ok-clause-said

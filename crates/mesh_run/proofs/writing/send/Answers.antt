@@ -2,7 +2,7 @@ use Rattle.std.proofs.Common.{ℕ, List, refl, subst}
 use Rattle.std.specs.Io.KnownBytes.{Appends}
 use Rattle.ember_io.specs.Sinks.{AppendsPrefix}
 use Rattle.mesh_refusal.specs.Said.{output_said}
-use Rattle.mesh_run.specs.Calls.{TakesUntilFault, sink_call}
+use Rattle.ember_io.specs.Calls.{TakesUntilFault, sink_call}
 use Rattle.mesh_run.proofs.writing.send.Goals as goal
 
 pub returns-in-None-clause-outcome : goal.returns-in-None-clause-outcome

@@ -1,6 +1,6 @@
 use Rattle.std.proofs.Common.{ℕ, List, [], refl, subst}
 use Rattle.mesh_refusal.specs.Said.{output_said}
-use Rattle.mesh_run.specs.Calls.{TakesUntilFault, sink_call}
+use Rattle.ember_io.specs.Calls.{TakesUntilFault, sink_call}
 use Rattle.mesh_run.proofs.writing.write_bytes.Goals as goal
 
 pub returns-in-Ok-clause-outcome : goal.returns-in-Ok-clause-outcome

@@ -2,7 +2,7 @@ use Rattle.std.proofs.Common.{◌≡◌, codes, ℤ, ◌++◌, ap, ◌∙◌, to
 use mir.Syntax.{w32, w128}
 use mir.Val.{to_z, of_z}
 use Rattle.mesh_texts.specs.Texts.{shown, grid_place}
-use Rattle.mesh_texts.proofs.Appended.{after7, on_ok_if}
+use Rattle.mesh_number.proofs.Appended.{after7, on_ok_if}
 use Rattle.mesh_texts.proofs.texts.put_corner.Goals as goal
 
 pub returns : goal.returns

@@ -1,6 +1,6 @@
 use Rattle.std.proofs.Common.{◌≡◌, false, List, ℕ, pos, ◌++◌, ap, arith}
 use Rattle.ember_wide.specs.Whole.{size_of}
-use Rattle.mesh_texts.proofs.Appended.{on_ok_same}
+use Rattle.mesh_number.proofs.Appended.{on_ok_same}
 use Rattle.mesh_texts.proofs.ShownSteps.{length_fits, length_shown}
 use Rattle.mesh_texts.proofs.texts.put_length.Goals as goal
 

@@ -1,7 +1,7 @@
 use Rattle.std.proofs.Common.{◌≡◌, ◌^◌, ◌∙◌, false, List, ℕ, pos, ◌++◌, ap, arith}
 use Rattle.ember_wide.specs.Whole.{size_of}
 use Rattle.mesh_number.proofs.Digits.{power_of_10_positive}
-use Rattle.mesh_texts.proofs.Appended.{on_ok_same}
+use Rattle.mesh_number.proofs.Appended.{on_ok_same}
 use Rattle.mesh_texts.proofs.ShownSteps.{size_fits, power_is_small, size_shown}
 use Rattle.mesh_texts.proofs.texts.put_size.Goals as goal
 

@@ -1,7 +1,7 @@
 use Rattle.std.proofs.Common.{◌≡◌, List, ℕ, pos, ◌++◌, ap, arith}
 use borrow.Author.Differences.{ints}
 use Rattle.ember_wide.specs.Whole.{value_of}
-use Rattle.mesh_texts.proofs.Appended.{on_ok_same}
+use Rattle.mesh_number.proofs.Appended.{on_ok_same}
 use Rattle.mesh_texts.proofs.ShownSteps.{step_shown}
 use Rattle.mesh_texts.proofs.texts.put_step.Goals as goal
 

@@ -30,7 +30,8 @@ returns-in-Instances c =
 
 pub returns-in-NoBuffer : goal.returns-in-NoBuffer
 returns-in-NoBuffer c =
-    reason_known c.put_between-in-NoBuffer.result (string_bytes c.args.text.now) (string_bytes c.put_between-in-NoBuffer.new.text) c.args.fault.now (gltf.NoBuffer c.in-NoBuffer.buffer) c.in-NoBuffer.is
+    reason_known c.put_between-in-NoBuffer.result (string_bytes c.args.text.now) (string_bytes c.put_between-in-NoBuffer.new.text)
+    c.args.fault.now (gltf.NoBuffer c.in-NoBuffer.buffer) c.in-NoBuffer.is
     c.put_between-in-NoBuffer.ensures
 
 pub returns-in-NoScene : goal.returns-in-NoScene
@@ -45,7 +46,8 @@ returns-in-Node c =
 
 pub returns-in-TwiceInScene : goal.returns-in-TwiceInScene
 returns-in-TwiceInScene c =
-    reason_known c.put_at-in-TwiceInScene.result (string_bytes c.args.text.now) (string_bytes c.put_at-in-TwiceInScene.new.text) c.args.fault.now (gltf.TwiceInScene c.in-TwiceInScene.node) c.in-TwiceInScene.is
+    reason_known c.put_at-in-TwiceInScene.result (string_bytes c.args.text.now) (string_bytes c.put_at-in-TwiceInScene.new.text)
+    c.args.fault.now (gltf.TwiceInScene c.in-TwiceInScene.node) c.in-TwiceInScene.is
     c.put_at-in-TwiceInScene.ensures
 
 pub returns-in-Transform : goal.returns-in-Transform
@@ -75,7 +77,8 @@ returns-in-NotFinite c =
 
 pub returns-in-NoSuchVertex : goal.returns-in-NoSuchVertex
 returns-in-NoSuchVertex c =
-    reason_known c.put_at-in-NoSuchVertex.result (string_bytes c.args.text.now) (string_bytes c.put_at-in-NoSuchVertex.new.text) c.args.fault.now (gltf.NoSuchVertex c.in-NoSuchVertex.mesh) c.in-NoSuchVertex.is
+    reason_known c.put_at-in-NoSuchVertex.result (string_bytes c.args.text.now) (string_bytes c.put_at-in-NoSuchVertex.new.text)
+    c.args.fault.now (gltf.NoSuchVertex c.in-NoSuchVertex.mesh) c.in-NoSuchVertex.is
     c.put_at-in-NoSuchVertex.ensures
 
 pub returns-in-TooMany : goal.returns-in-TooMany

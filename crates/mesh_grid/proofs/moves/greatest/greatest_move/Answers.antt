@@ -4,4 +4,4 @@ use Rattle.mesh_grid.proofs.moves.greatest.greatest_move.Goals as goal
 
 pub returns : goal.returns
 unfolding greatest_move
-returns c = c.length_of.ensures ∙ rw (c.greatest_square-square.ensures, c.fineness_of-fineness.ensures.value) refl
+returns c = c.length_of.ensures ∙ rw (c.greatest_of_marked-square.ensures, c.fineness_of-fineness.ensures.value) refl

@@ -1,7 +1,6 @@
 use Rattle.std.specs.Prelude.{codes}
-use Rattle.mesh_write.proofs.Appended.{after4}
+use Rattle.mesh_number.proofs.Appended.{after4, on_ok_same}
 use Rattle.mesh_info.specs.Info.Lines.{key_text, point_text}
-use Rattle.mesh_info.proofs.Appended.{on_ok_same}
 use Rattle.mesh_info.proofs.info.line.put_box.Goals as goal
 
 pub returns : goal.returns

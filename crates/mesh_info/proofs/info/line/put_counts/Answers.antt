@@ -1,7 +1,7 @@
 use Rattle.std.proofs.Common.{ℕ, ◌++◌, ap, ◌∙◌, decimal}
 use Rattle.std.specs.Prelude.{codes}
 use Rattle.mesh_info.specs.Info.Lines.{key_text}
-use Rattle.mesh_info.proofs.Appended.{after8, on_ok_same}
+use Rattle.mesh_number.proofs.Appended.{after8, on_ok_same}
 use Rattle.mesh_info.proofs.info.line.put_counts.Goals as goal
 
 pub returns : goal.returns

@@ -1,8 +1,7 @@
 use Rattle.std.proofs.Common.{ℕ, List, ◌++◌, ap, ◌∙◌}
 use Rattle.std.specs.Prelude.{codes}
-use Rattle.mesh_write.proofs.Appended.{on_ok_if}
+use Rattle.mesh_number.proofs.Appended.{on_ok_if, after6}
 use Rattle.mesh_info.specs.Info.Lines.{head_text, counts_text, key_text, box_text}
-use Rattle.mesh_info.proofs.Appended.{after6}
 use Rattle.mesh_info.proofs.info.line.put_line_with.Goals as goal
 
 pub returns : goal.returns

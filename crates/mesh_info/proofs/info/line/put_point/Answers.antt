@@ -3,7 +3,7 @@ use Rattle.std.specs.Prelude.{codes}
 use mir.Syntax.{w128}
 use mir.Val.{to_z, of_z}
 use Rattle.mesh_info.specs.Info.Lines.{trillionths_text}
-use Rattle.mesh_info.proofs.Appended.{after7}
+use Rattle.mesh_number.proofs.Appended.{after7}
 use Rattle.mesh_info.proofs.info.line.put_point.Goals as goal
 
 pub returns : goal.returns

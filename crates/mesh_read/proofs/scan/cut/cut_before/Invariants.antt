@@ -1,6 +1,6 @@
 use Rattle.std.proofs.Common.{◌≡◌, ◌≤◌, ◌++◌, ◌-◌, length, take, drop}
 use Rattle.std.specs.Prelude.{◌==◌}
-use Rattle.mesh_read.specs.Scan.Parts.{before, onward}
+use Rattle.ember_obj.specs.Scan.{before, onward}
 use Rattle.mesh_read.proofs.scan.cut.cut_before.Given as goal
 
 abbrev pub invariant-loop-end : goal.invariant-loop-end

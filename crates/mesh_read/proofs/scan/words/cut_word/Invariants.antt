@@ -1,5 +1,6 @@
 use Rattle.std.proofs.Common.{◌≡◌, ◌≤◌, ◌++◌, ◌-◌, length, take, drop}
-use Rattle.mesh_read.specs.Scan.Parts.{before, onward, is_blank}
+use Rattle.ember_obj.specs.Scan.{before, onward}
+use Rattle.mesh_read.specs.Scan.Parts.{is_blank}
 use Rattle.mesh_read.proofs.scan.words.cut_word.Given as goal
 
 abbrev pub invariant-loop-end : goal.invariant-loop-end

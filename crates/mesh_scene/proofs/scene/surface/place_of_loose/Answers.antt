@@ -2,16 +2,8 @@ use Rattle.std.proofs.Common.{◌≡◌, false, subst}
 use Rattle.std.specs.List.{All}
 use Rattle.ember_balance.specs.Loose.{edge_of}
 use Rattle.mesh_grid.specs.Grid.Places.{has_edge}
-use Rattle.mesh_scene.proofs.LooseEdges.{loose_edge_is_valid, loose_edge_is_there}
+use Rattle.mesh_scene.proofs.LooseEdges.{loose_edge_is_there}
 use Rattle.mesh_scene.proofs.scene.surface.place_of_loose.Goals as goal
-
-pub place_of_edge-requires-clause-from : goal.place_of_edge-requires-clause-from
-place_of_edge-requires-clause-from c =
-    (loose_edge_is_valid c.args.soup.now.tris c.args.loose.now c.args.soup.now.valid c.requires).from
-
-pub place_of_edge-requires-clause-to : goal.place_of_edge-requires-clause-to
-place_of_edge-requires-clause-to c =
-    (loose_edge_is_valid c.args.soup.now.tris c.args.loose.now c.args.soup.now.valid c.requires).to
 
 pub unreachable-requires : goal.unreachable-requires
 unreachable-requires c =

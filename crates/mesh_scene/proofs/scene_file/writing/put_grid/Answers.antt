@@ -1,5 +1,5 @@
 use Rattle.mesh_scene.specs.SceneFile.Texts.{grid_text}
-use Rattle.mesh_write.proofs.Appended.{after5, on_ok_if}
+use Rattle.mesh_number.proofs.Appended.{after5, on_ok_if}
 use Rattle.mesh_scene.proofs.scene_file.writing.put_grid.Goals as goal
 
 pub returns : goal.returns

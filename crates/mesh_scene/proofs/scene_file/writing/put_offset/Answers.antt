@@ -3,7 +3,7 @@ use Rattle.std.specs.Fmt.{signed_decimal}
 use mir.Syntax.{w128}
 use mir.Val.{to_z, of_z}
 use Rattle.mesh_scene.specs.SceneFile.Texts.{offset_text, next_text}
-use Rattle.mesh_write.proofs.Appended.{after5, on_ok_if}
+use Rattle.mesh_number.proofs.Appended.{after5, on_ok_if}
 use Rattle.mesh_scene.proofs.scene_file.writing.put_offset.Goals as goal
 
 pub returns : goal.returns

@@ -1,5 +1,5 @@
 use Rattle.mesh_write.specs.Glb.Json.{views_text}
-use Rattle.mesh_write.proofs.Appended.{after5, on_ok_if}
+use Rattle.mesh_number.proofs.Appended.{after5, on_ok_if}
 use Rattle.mesh_write.proofs.glb.json.put_views.Goals as goal
 
 pub returns : goal.returns

@@ -4,7 +4,7 @@ use Rattle.mesh_write.specs.declared.page.counts.TheConstants.{COUNTS}
 use Rattle.mesh_write.specs.declared.page.drawing.TheConstants.{DRAWING}
 use Rattle.mesh_write.specs.Page.Pages.{escaped}
 use Rattle.mesh_write.proofs.PageReadBack.{read_back}
-use Rattle.mesh_write.proofs.Appended.{after5}
+use Rattle.mesh_number.proofs.Appended.{after5}
 use Rattle.mesh_write.proofs.page.writing.page_bytes.Goals as goal
 
 -- the pieces one after another, where the text of numbers was put in under another name

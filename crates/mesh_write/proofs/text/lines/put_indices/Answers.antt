@@ -1,5 +1,5 @@
 use Rattle.mesh_write.specs.Text.Lines.{indices_line}
-use Rattle.mesh_write.proofs.Appended.{after4, on_ok_if}
+use Rattle.mesh_number.proofs.Appended.{after4, on_ok_if}
 use Rattle.mesh_write.proofs.text.lines.put_indices.Goals as goal
 
 pub returns : goal.returns

@@ -2,7 +2,7 @@ use Rattle.std.proofs.Common.{◌≡◌, ℤ, ◌++◌, codes, ap, ◌∙◌, ru
 use mir.Syntax.{w128}
 use mir.Val.{to_z, of_z}
 use Rattle.mesh_write.specs.Text.Lines.{coordinate_text, spaced, point_line}
-use Rattle.mesh_write.proofs.Appended.{after4, on_ok_if}
+use Rattle.mesh_number.proofs.Appended.{after4, on_ok_if}
 use Rattle.mesh_write.proofs.text.lines.put_point.Goals as goal
 
 pub returns : goal.returns

@@ -1,5 +1,5 @@
 use Rattle.mesh_write.specs.Text.Texts.{ply_header}
-use Rattle.mesh_write.proofs.Appended.{after5, on_ok_if}
+use Rattle.mesh_number.proofs.Appended.{after5, on_ok_if}
 use Rattle.mesh_write.proofs.text.ply.put_header.Goals as goal
 
 pub returns : goal.returns

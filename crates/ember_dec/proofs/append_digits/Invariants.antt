@@ -1,9 +1,0 @@
-use Rattle.std.proofs.Common.{◌≡◌, ◌≤◌, min, drop}
-use Rattle.ember_dec.specs.Decimal.{number_from}
-use Rattle.ember_dec.proofs.append_digits.Given as goal
-
-abbrev pub invariant-loop-digit : goal.invariant-loop-digit
-invariant-loop-digit l = record {
-  same : min 2048 (number_from l.start l.digits) ≡ min 2048 (number_from l.value (drop l.digit-index l.digits));
-  small : l.value ≤ 2048;
-}

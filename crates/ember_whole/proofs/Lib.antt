@@ -1,3 +1,0 @@
-pub mod MissedNearby
-pub mod Fragments
-pub mod WholeFaces
