@@ -8,8 +8,8 @@ _ember_mesh() {
         return
     fi
     case ${COMP_WORDS[1]} in
-        bool) options=' --expr -o --format --step --workers --digits --view --keep --json --quiet --help -h ' ;;
-        union | difference | intersection) options=' -o --format --step --workers --digits --view --keep --json --quiet --help -h ' ;;
+        bool) options=' --expr -o --format --step --workers --digits --view --keep --place --turn --json --quiet --help -h ' ;;
+        union | difference | intersection) options=' -o --format --step --workers --digits --view --keep --place --turn --json --quiet --help -h ' ;;
         snap) options=' -d --step --json --quiet --help -h ' ;;
         export) options=' --scene -o --format --digits --view --json --quiet --help -h ' ;;
         view) options=' -o --json --quiet --help -h ' ;;
@@ -24,7 +24,7 @@ _ember_mesh() {
         elif [[ -n $option ]]; then
             option=''
         elif [[ $each == -?* ]]; then
-            options=${options/" ${each%%=*} "/ }
+            [[ $each == --place* || $each == --turn* ]] || options=${options/" ${each%%=*} "/ }
             [[ $each == --quiet || $each == --json || $each == --help || $each == -h || $each == *=* ]] || option=$each
         fi
     done

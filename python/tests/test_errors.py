@@ -117,10 +117,14 @@ def test_coordinates_that_are_too_large(engine):
 
 
 def test_meshes_without_triangles(engine):
-    for mesh in ((A[0], np.zeros((0, 3), int)), (np.zeros((0, 3)), np.zeros((0, 3), int)), b"", b"no mesh"):
+    for mesh in (b"", b"no mesh"):
         error = caught(ember.InputError, [A, mesh], engine=engine)
         assert (error.status, error.mesh) == (5, 1)
         assert str(error) == "mesh 2: no triangles in it; is it a mesh?"
+    for mesh in ((A[0], np.zeros((0, 3), int)), (np.zeros((0, 3)), np.zeros((0, 3), int))):
+        assert len(ember.union(A, mesh, engine=engine).faces) == 12
+        error = caught(ember.InputError, [mesh], engine=engine)
+        assert (error.status, str(error)) == (5, "no triangles in the files; are they meshes?")
 
 
 def test_a_mesh_that_is_open(engine):

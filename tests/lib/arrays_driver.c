@@ -283,8 +283,10 @@ static int try_cases(void) {
   far_corner[11][0] = 8;
   meshes[0].triangles = &far_corner[0][0];
   expect("no vertex", 5, 1, 11, 2, "m1", "nice", 3, "ember-mesh: mesh 1: face 12: ");
+  meshes[0].n_triangles = meshes[1].n_triangles = 0;
+  expect("no triangles", 5, 0, none, 2, "m1", "nice", 3, "ember-mesh: no triangles in the files; are they meshes?");
   meshes[1].n_triangles = 0;
-  expect("no triangles", 5, 2, none, 2, "m1", "nice", 3, "ember-mesh: mesh 2: no triangles");
+  expect("a mesh without triangles", 0, 0, none, 2, "m1&!m2", "nice", 3, "ember-mesh: step ");
   meshes[1].n_triangles = 11;
   expect("a hole", 6, 2, 10, 2, "m1", "nice", 3, "ember-mesh: mesh 2: not closed: 3 loose edges, the first from (1 1 3) to (1 3 1), in face 11");
   printf("%d wrong\n", wrong);

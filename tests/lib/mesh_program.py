@@ -6,6 +6,7 @@ _MOVE = rf"(?:0 \(nothing moved\)|{_NUMBER})"
 _PLACE = rf"\({_NUMBER} {_NUMBER} {_NUMBER}\)"
 _VOLUME = rf"(?:{_NUMBER}|\?)"
 _NAME = r"[^\n]+?"
+_MISSED = rf"warning: {_NAME}: 0 of [1-9]\d* triangles of the result lie on it; see where it lies with ember-mesh view"
 
 # Why a file is refused, behind its name; W stands for a word of the file.
 REASONS = r"""
@@ -58,7 +59,7 @@ LINES = {
     2: r"[^\n]+",
     3: rf"{_NAME}: cannot be read(?: \((?:No such file or directory|Permission denied|Is a directory)\))?",
     4: rf"cannot write (?:{_NAME}|to standard output)",
-    5: rf"{_NAME}: (?:{'|'.join(REASONS)})",
+    5: rf"{_NAME}: (?:{'|'.join(REASONS)})|no triangles in the files; are they meshes\?",
     6: rf"{_NAME}: not closed: \d+ loose edges, the first from {_PLACE} to {_PLACE}, in (?:line|facet|face|triangle) \d+; close the hole in the modeller",
     7: r"expression: (?:(?:syntax|deep|number) at \d+|no mesh \d+|long)",
     8: "expression holds outside all meshes",
@@ -72,6 +73,7 @@ FORMS[0] = re.compile(
         rf"ember-mesh: step {_NUMBER}, grid offset -?\d+ -?\d+ -?\d+\n"
         rf"(?:ember-mesh: {_NAME}: \d+ triangles, \d+ vanished, \d+ without area; greatest move {_MOVE}; closed\n)+"
         rf"(?:ember-mesh: (?:{_NAME}: volume {_VOLUME}|warning: {_NAME}: its volume is {_VOLUME}, so it may be inside out; use w\d+=-1)\n)+"
+        rf"(?:ember-mesh: (?:{_NAME}: [1-9]\d* of \d+ triangles of the result lie on it|{_MISSED})\n)*"
         r"(?:ember-mesh: the result is empty\n)?"
         r"(?:ember-mesh: warning: rounding for (?:STL|OBJ|PLY|OFF|GLB) moves corners by up to \d[\d.e-]*, more than a hundredth of the step; "
         r"(?:write OBJ, PLY or OFF, or move the parts to the origin|raise --digits, or leave it out)\n)?"

@@ -1,4 +1,4 @@
-"""The report of ember-mesh but for the volumes of files: a line for the grid, one for each file, and one for the result, each without the
+"""The report of ember-mesh but for the volumes of files and the triangles on them: a line for the grid, one for each file, and one for the result, each without the
 name of the program."""
 from itertools import zip_longest
 

@@ -93,12 +93,13 @@ def fault_of_shared(err, counts):
 
 
 def without_volumes(err):
-    """The lines of a report but those with the volume of a file."""
-    return re.sub(r"(?m)^ember-mesh: (?:warning: .+: its volume is .+|.+: volume [0-9.?]+)\n", "", err.decode())
+    """The lines of a report but those with the volume of a file, or with how many triangles lie on it."""
+    said = r"warning: .+: its volume is .+|.+: volume [0-9.?]+|(?:warning: )?.+: \d+ of \d+ triangles of the result lie on it.*"
+    return re.sub(rf"(?m)^ember-mesh: (?:{said})\n", "", err.decode())
 
 
 def fault_of_report(err, report):
-    """But for the volumes of files, the report has these lines; an N stands for any number, and an X for any move."""
+    """But for the volumes of files and the triangles on them, the report has these lines; an N stands for any number, and an X for any move."""
     if report is None:
         return None
     form = "".join(f"ember-mesh: {re.escape(line)}\n" for line in report).replace("N\\ ", r"\d+\ ").replace("move\\ X;", r"move\ \d[\d.e-]*;")

@@ -102,6 +102,30 @@ def joined(meshes):
     return corners, faces
 
 
+def _cross(u, v):
+    return u[1] * v[2] - u[2] * v[1], u[2] * v[0] - u[0] * v[2], u[0] * v[1] - u[1] * v[0]
+
+
+def _plane(normal, point):
+    """The plane through a point, by its normal and a constant in lowest terms."""
+    numbers = (*normal, sum(n * x for n, x in zip(normal, point)))
+    divisor = math.gcd(*numbers)
+    return " ".join(str(n // divisor) for n in numbers)
+
+
+def face_file(mesh):
+    """The faces of the mesh, which are convex polygons, as a face file."""
+    corners, faces = mesh
+    lines = ["ember 1"]
+    for face in faces:
+        ring = [corners[n] for n in face]
+        sides = [tuple(y - x for x, y in zip(ring[i], ring[(i + 1) % len(ring)])) for i in range(len(ring))]
+        normal = _cross(sides[0], sides[1])
+        lines.append(f"f {_plane(normal, ring[0])} {len(ring)}")
+        lines += [f"e {_plane(_cross(side, normal), start)} {' '.join(map(str, start))} 1" for side, start in zip(sides, ring)]
+    return "\n".join([*lines, f"end {len(faces)}", ""]).encode()
+
+
 def obj(mesh):
     """The mesh as OBJ text."""
     lines = ["v %d %d %d\n" % corner for corner in mesh[0]]

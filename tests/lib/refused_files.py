@@ -19,7 +19,6 @@ _STL = (
     (b"solid\nfacet\nouter loop\nan_endless_word_of_a_file\n", "line 4: word 'an_endless_word_of_a' is none of STL; export anew"),
     (b"solid\nfacet\nvertex 0 1.2.3 0\n", "line 3: coordinate '1.2.3' is not a number; export anew"),
     (b"solid\nfacet\nvertex 0 0\n", "line 3: fewer than three coordinates; export anew"),
-    (b"solid\nendsolid\n", "no triangles in it; is it a mesh?"),
     (b"solid\nfacet\nvertex 0 0 -1e15\nvertex 0 0 0\nvertex 1 0 0\nendfacet", f"line 2: {_FAR}"),
     (b"", _CUT_OFF.format(0, 0, 84)),
 )
@@ -34,7 +33,6 @@ _PLY = (
     (_ASCII + _FACE.replace(b"vertex_index", b"strip") + b"0\n", "PLY faces have no vertex_indices (strips aren't read); export as triangles"),
     (_ASCII + _FACE + b"3 0 1 2\n", "face 1: names a vertex that isn't there; export anew"),
     (_ASCII + _FACE + b"0\n", "face 1: fewer than three corners; remove it"),
-    (_ASCII + b"end_header\n", "no triangles in it; is it a mesh?"),
     (_ASCII + _VERTEX % 1 + _FACE + b"0 0 1e15\n3 0 0 0\n", f"face 1: {_FAR}"),
 )
 
@@ -50,7 +48,6 @@ _OFF = (
     (b"OFF 1 0\n1 2\n", "line 2: fewer than three coordinates; export anew"),
     (b"OFF 1 0\n0 0x1 0\n", "line 2: coordinate '0x1' is not a number; export anew"),
     (b"OFF 1 1\n0 0 0\n2 0 0\n", "line 3: face not understood; export anew"),
-    (b"OFF 0 0\n", "no triangles in it; is it a mesh?"),
     (b"OFF 1 1\n0 0 1e15\n3 0 0 0\n", f"line 3: {_FAR}"),
 )
 
@@ -94,7 +91,6 @@ _REQUIRED = ',"extensionsRequired":["%s"]'
 _GLTF = (
     (b'{"asset":', "glTF isn't JSON; export anew"),
     (b"{}", "glTF has no scene; export anew"),
-    (_scene("{}"), "no triangles in it; is it a mesh?"),
     (_scene(""), "node 0: not understood; export anew"),
     (_scene('{"children":[0]}'), "node 0: the scene has a node twice; export anew"),
     (_scene('{"scale":[1,1,2]}'), "node 0: is moved, turned or scaled; apply the transforms and export anew"),
@@ -113,6 +109,17 @@ _GLTF = (
 _GLB = (
     (b"glTF\x02\0\0\0", "GLB is cut off; export anew"),
     (b"glTF\x01\0\0\0\x0c\0\0\0", "GLB of version 1, and not 2; export anew"),
+)
+
+# Files whose only fault is that they have no triangles: they are empty meshes, and refused if there is no other mesh.
+EMPTY = (
+    ("a.stl", bytes(84)),
+    ("b.stl", b"solid\nendsolid\n"),
+    ("a.ply", _ASCII + b"end_header\n"),
+    ("b.ply", _ASCII + _VERTEX % 1 + b"end_header\n0 0 0\n"),
+    ("a.off", b"OFF 0 0\n"),
+    ("b.off", b"OFF 1 0\n1 2 3\n"),
+    ("a.gltf", _scene("{}")),
 )
 
 REFUSED = (

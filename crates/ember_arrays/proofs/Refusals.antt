@@ -13,7 +13,7 @@ use Rattle.mesh_boolean.specs.Effects.{decimals_of}
 use Rattle.mesh_boolean.specs.Splits.{AreDecimalsOver}
 use Rattle.mesh_boolean.specs.WritingFaults.{of_place_fault}
 use Rattle.mesh_boolean.specs.declared.fault.BooleanFault.{BooleanFault}
-use Rattle.mesh_boolean.specs.declared.fault.BooleanFault.TheVariants.{File, Scene, Solid, TooFar, TooManyTriangles, OutOfMemory}
+use Rattle.mesh_boolean.specs.declared.fault.BooleanFault.TheVariants.{File, Image, Scene, Solid, TooFar, TooManyTriangles, OutOfMemory}
 use Rattle.mesh_boolean.specs.declared.split.SplitDecimals.{SplitDecimals}
 use Rattle.mesh_boolean.specs.declared.writing_fault.WritingFault.{WritingFault}
 use Rattle.mesh_boolean.specs.declared.writing_fault.WritingFault.TheVariants as writing_fault
@@ -89,6 +89,7 @@ refused_mesh_is_first meshes i d surfaces ply_fault.OutOfMemory l before has = t
 pub surfaces_fault_is : (meshes : List ArrayMesh) (wanted : Wanted) (fault : BooleanFault) → IsSurfacesFault meshes fault →
     IsPlacingFault meshes wanted fault
 surfaces_fault_is meshes wanted (File index fault) h = h
+surfaces_fault_is meshes wanted (Image index fault) h = absurd h
 surfaces_fault_is meshes wanted (Scene fault) h = absurd h
 surfaces_fault_is meshes wanted (Solid fault) h = absurd h
 surfaces_fault_is meshes wanted TooFar h = absurd h
@@ -139,6 +140,7 @@ index_fault_is digits grid mesh over index_fault.OutOfMemory are h = tt
 pub placing_fault_is : (meshes : List ArrayMesh) (formula : Formula) (wanted : Wanted) (digits : Option ℕ) (fault : BooleanFault) →
     IsPlacingFault meshes wanted fault → IsArrayFault meshes formula wanted digits fault
 placing_fault_is meshes formula wanted digits (File index fault) h = h
+placing_fault_is meshes formula wanted digits (Image index fault) h = absurd h
 placing_fault_is meshes formula wanted digits (Scene fault) h = h
 placing_fault_is meshes formula wanted digits (Solid fault) h = absurd h
 placing_fault_is meshes formula wanted digits TooFar h = absurd h

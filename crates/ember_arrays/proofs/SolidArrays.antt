@@ -1,5 +1,5 @@
 -- The arrays of the mesh of a scene are a solid, and mean its expression
-use Rattle.std.proofs.Common.{◌≡◌, ℕ, ℤ, Bool, List, None, Some, false, length, refl, sym, subst, ◌∙◌}
+use Rattle.std.proofs.Common.{◌≡◌, ℕ, ℤ, Bool, true, List, None, Some, false, length, refl, sym, subst, ◌∙◌}
 use Rattle.std.specs.Global.{Vec}
 use Rattle.std.specs.declared.option.Option.{Option}
 use Rattle.ember_expr.specs.Formula.{Formula}
@@ -7,7 +7,9 @@ use Rattle.ember_meaning.specs.Regions.Meaning.{IsFalseOutside}
 use Rattle.ember_model.specs.declared.tri.Tri.{Tri}
 use Rattle.mesh_arrays.specs.declared.mesh.ArrayMesh.{ArrayMesh}
 use Rattle.mesh_boolean.specs.Effects.{decimals_of}
+use Rattle.mesh_boolean.specs.Lying.{AreLyingCounts}
 use Rattle.mesh_boolean.specs.Volumes.{sixfold_volumes_of_meshes}
+use Rattle.mesh_boolean.proofs.Outputs.{counted_on_files}
 use Rattle.mesh_grid.specs.declared.grid.choice.Wanted.{Wanted}
 use Rattle.mesh_grid.specs.declared.grid.grid.Grid.{Grid}
 use Rattle.mesh_scene.specs.Scene.Images.{images_of}
@@ -53,6 +55,8 @@ module _ (meshes : List ArrayMesh) (formula : Formula) (wanted : Wanted) (digits
   pub arrays_are_solid : (meshed : SolidRun) → IsSolidRun placed.scene.tris formula false meshed → (arrays : Arrays) →
       AreArrays digits placed.grid meshed.mesh arrays → (volumes : Vec ℤ) →
       volumes.items ≡ sixfold_volumes_of_meshes placed.scene.tris placed.scene.meshes →
+      (lying : Option (Vec ℕ)) → IsThereIf true
+      (λ (counts : Vec ℕ). AreLyingCounts placed.scene.tris placed.scene.meshes meshed.mesh counts.items) lying →
       (wants : Bool) (inputs : Option (Vec InputTriangle)) →
       IsThereIf wants (λ inputs. inputs.items ≡ inputs_from placed.grid 1 is.surfaces) inputs →
       (sources : Option (Vec ArraySource)) →
@@ -67,11 +71,13 @@ module _ (meshes : List ArrayMesh) (formula : Formula) (wanted : Wanted) (digits
           counts = placed.counts;
           moves = placed.moves;
           sixfold_volumes = volumes;
+          lying = lying;
           report = meshed.report;
+          shown_files = None;
           kept = None;
         };
       })
-  arrays_are_solid meshed solid arrays are volumes f wants inputs there sources of_inputs =
+  arrays_are_solid meshed solid arrays are volumes f lying l wants inputs there sources of_inputs =
       let of_images = subst (λ (tris : List Tri). IsSolidRun tris formula false meshed) is.tris solid in
       record {
         surfaces = is.surfaces;
@@ -88,6 +94,7 @@ module _ (meshes : List ArrayMesh) (formula : Formula) (wanted : Wanted) (digits
         triangles = refl;
         numbers = refl;
         closed = decimals_of_mesh_are_closed of_images.mesh.bytes digits placed.grid meshed.mesh of_images.mesh.of_document;
+        lying = counted_on_files true meshed.mesh lying is.tris is.count l;
         sources = sources_are_there wants (inputs_from placed.grid 1 is.surfaces) inputs (images_of placed.grid is.surfaces)
             meshed.mesh arrays.origins.items sources there
             (subst (λ (tris : List Tri). AreSourcesIf inputs tris meshed.mesh arrays.origins.items sources) is.tris of_inputs);

@@ -55,6 +55,7 @@ open_mesh_is_there meshes wanted o few h =
 pub named_mesh_is_there : (meshes : List ArrayMesh) (formula : Formula) (wanted : Wanted) (digits : Option ℕ) (fault : BooleanFault) →
     length meshes ≤ 64 → IsArrayFault meshes formula wanted digits fault → NamesMesh 64 fault
 named_mesh_is_there meshes formula wanted digits (boolean.File index fault) few h = refused_mesh_is_there meshes index fault few h
+named_mesh_is_there meshes formula wanted digits (boolean.Image index fault) few h = absurd h
 named_mesh_is_there meshes formula wanted digits (boolean.Scene scene.NoTriangles) few h = tt
 named_mesh_is_there meshes formula wanted digits (boolean.Scene (scene.StepTooSmall extent)) few h = tt
 named_mesh_is_there meshes formula wanted digits (boolean.Scene (scene.Open o)) few h = open_mesh_is_there meshes wanted o few h
@@ -106,6 +107,7 @@ pub fault_status_is_shown : (meshes : List ArrayMesh) (formula : Formula) (wante
 fault_status_is_shown meshes formula wanted digits (boolean.File index fault) status few h (inl (reason, e, why)) =
     shown_along status (FileRefused (index + 1) reason) e tt
 fault_status_is_shown meshes formula wanted digits (boolean.File index fault) status few h (inr e) = shown_along status OutOfMemory e tt
+fault_status_is_shown meshes formula wanted digits (boolean.Image index fault) status few h e = absurd h
 fault_status_is_shown meshes formula wanted digits (boolean.Scene scene.NoTriangles) status few h e = shown_along status NoTriangles e tt
 fault_status_is_shown meshes formula wanted digits (boolean.Scene (scene.StepTooSmall extent)) status few h e =
     shown_along status (StepTooSmall extent) e (least_step_is_shown meshes wanted extent h)
@@ -150,6 +152,7 @@ fault_status_has_number : (fault : BooleanFault) (status : Status) → IsStatusO
 fault_status_has_number (boolean.File index fault) status (inl (reason, e, why)) is_zero =
     let n = number_along status (FileRefused (index + 1) reason) e is_zero in cc
 fault_status_has_number (boolean.File index fault) status (inr e) is_zero = let n = number_along status OutOfMemory e is_zero in cc
+fault_status_has_number (boolean.Image index fault) status e is_zero = absurd e
 fault_status_has_number (boolean.Scene scene.NoTriangles) status e is_zero = let n = number_along status NoTriangles e is_zero in cc
 fault_status_has_number (boolean.Scene (scene.StepTooSmall extent)) status e is_zero =
     let n = number_along status (StepTooSmall extent) e is_zero in cc

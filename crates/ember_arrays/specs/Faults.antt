@@ -10,7 +10,7 @@ use Rattle.mesh_arrays.specs.declared.mesh.ArrayMesh.{ArrayMesh}
 use Rattle.mesh_boolean.specs.Effects.{decimals_of}
 use Rattle.mesh_boolean.specs.Splits.{AreDecimalsOver}
 use Rattle.mesh_boolean.specs.declared.fault.BooleanFault.{BooleanFault}
-use Rattle.mesh_boolean.specs.declared.fault.BooleanFault.TheVariants.{File, Scene, Solid, TooFar}
+use Rattle.mesh_boolean.specs.declared.fault.BooleanFault.TheVariants.{File, Image, Scene, Solid, TooFar}
 use Rattle.mesh_boolean.specs.declared.fault.BooleanFault.TheVariants.{TooManyTriangles, OutOfMemory}
 use Rattle.mesh_boolean.specs.declared.split.SplitDecimals.{SplitDecimals}
 use Rattle.mesh_boolean.specs.declared.writing_fault.WritingFault.{WritingFault}
@@ -120,6 +120,7 @@ pub record HasNoArrays (meshes : List ArrayMesh) (formula : Formula) (wanted : W
 -- is said
 abbrev pub IsArrayFault : List ArrayMesh → Formula → Wanted → Option ℕ → BooleanFault → Type 0
 IsArrayFault meshes formula wanted digits (File index fault) = IsRefused meshes index fault
+IsArrayFault meshes formula wanted digits (Image index fault) = ⊥
 IsArrayFault meshes formula wanted digits (Scene fault) = AreNoScene meshes wanted fault
 IsArrayFault meshes formula wanted digits (Solid fault) = HasNoMesh meshes formula wanted fault
 IsArrayFault meshes formula wanted digits TooFar = HasNoArrays meshes formula wanted HasFarCorner

@@ -22,9 +22,10 @@ use Rattle.mesh_words.specs.declared.command.Request.{Request}
 use Rattle.mesh_words.specs.declared.command.WantedStep.{WantedStep}
 
 -- ---- faults
--- the mesh that a fault names is one of so many
+-- the mesh that a fault names is one of so many; none is placed
 abbrev pub NamesMesh : ℕ → BooleanFault → Type 0
 NamesMesh count (boolean.File index fault) = index < count
+NamesMesh count (boolean.Image index fault) = ⊥
 NamesMesh count (boolean.Scene (scene.Open o)) = o.file < count
 NamesMesh count fault = ⊤
 
@@ -38,6 +39,7 @@ IsRefusalStatus index fault status =
 -- the status of meshes with this fault: that of PLY files
 abbrev pub IsStatusOf : BooleanFault → Status → Type 0
 IsStatusOf (boolean.File index fault) status = IsRefusalStatus index fault status
+IsStatusOf (boolean.Image index fault) status = ⊥
 IsStatusOf (boolean.Scene scene.NoTriangles) status = status ≡ NoTriangles
 IsStatusOf (boolean.Scene (scene.StepTooSmall extent)) status = status ≡ StepTooSmall extent
 IsStatusOf (boolean.Scene (scene.Open o)) status = status ≡ NotClosed o Ply
@@ -71,6 +73,8 @@ request_with count step digits = record {
   files = names_to count;
   view = None;
   keep = None;
+  places = [];
+  turns = [];
 }
 
 -- the line of a status

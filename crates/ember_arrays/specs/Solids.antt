@@ -1,5 +1,5 @@
 -- A solid in arrays
-use Rattle.std.specs.Prelude.{◌≡◌, ℕ, ◌+◌, Bool, List, [], None, Some, Option, length, map}
+use Rattle.std.specs.Prelude.{◌≡◌, ℕ, ◌+◌, Bool, true, List, [], None, Some, Option, length, map}
 use Rattle.ember_expr.specs.Formula.{Formula}
 use Rattle.ember_meaning.specs.Regions.Meaning.{HaveMeaning}
 use Rattle.ember_meaning.specs.Regions.Nearby.{WindOnceAtMost}
@@ -8,6 +8,7 @@ use Rattle.mesh_arrays.specs.Doubles.{doubles_of}
 use Rattle.mesh_arrays.specs.Indices.{corners_of}
 use Rattle.mesh_arrays.specs.declared.mesh.ArrayMesh.{ArrayMesh}
 use Rattle.mesh_boolean.specs.Effects.{IsDecimalEffect, decimals_of, origins_of_decimals, over_vertices}
+use Rattle.mesh_boolean.specs.Lying.{AreLyingCounts}
 use Rattle.mesh_boolean.specs.Splits.{AreDecimalsOver}
 use Rattle.mesh_boolean.specs.Volumes.{sixfold_volumes_of_meshes}
 use Rattle.mesh_boolean.specs.declared.split.SplitDecimals.{SplitDecimals}
@@ -53,8 +54,8 @@ pub record AreArrays (digits : Option ℕ) (grid : Grid) (mesh : SolidMesh) (arr
 
 -- ---- solids
 -- the surfaces of the meshes are a scene on the wanted grid, with these counts, moves and volumes; there is a mesh of
--- the solid of their triangles, with this report of the run; its rounded triangles are closed, and these are their
--- arrays. If it is wanted, the source of each of them is there: that of the exact triangle that it was made from
+-- the solid of their triangles, with this report of the run, and so many of its triangles lie on each of the meshes; its
+-- rounded triangles are closed, and these are their arrays. If it is wanted, the source of each of them is there: that of the exact triangle that it was made from
 pub record IsArraySolid (meshes : List ArrayMesh) (formula : Formula) (wanted : Wanted) (digits : Option ℕ)
     (wants_sources : Bool) (solid : ArraySolid) : Type 0 where
   pub surfaces : List Surface
@@ -72,6 +73,9 @@ pub record IsArraySolid (meshes : List ArrayMesh) (formula : Formula) (wanted : 
   pub triangles : solid.triangles ≡ arrays.triangles
   pub numbers : solid.file.written ≡ arrays.numbers
   pub closed : AreDecimalsClosed (decimals_of digits solid.file.grid mesh)
+  pub lying : IsThereIf true
+      (λ counts. AreLyingCounts (images_of solid.file.grid surfaces) (length surfaces) mesh counts.items)
+      solid.file.lying
   pub sources : IsThereIf wants_sources (AreSources (inputs_from solid.file.grid 1 surfaces)
       (images_of solid.file.grid surfaces) mesh arrays.origins.items) solid.sources
 

@@ -41,6 +41,7 @@ pub(crate) fn status_of(alloc: Global, fault: BooleanFault) -> Status
 {
     match fault {
         BooleanFault::File(index, fault) => refused(alloc, index, &fault),
+        BooleanFault::Image(_, _) => unreachable!(),
         BooleanFault::Scene(SceneFault::NoTriangles) => Status::NoTriangles,
         BooleanFault::Scene(SceneFault::StepTooSmall(extent)) => Status::StepTooSmall(extent),
         BooleanFault::Scene(SceneFault::Open(fault)) => Status::NotClosed(fault, Format::Ply),
@@ -95,6 +96,8 @@ pub(crate) fn request_of(
         files: names_of(alloc, count)?,
         view: None,
         keep: None,
+        places: Texts::of(Vec::new(alloc)),
+        turns: Texts::of(Vec::new(alloc)),
     })
 }
 

@@ -15,7 +15,7 @@ use ember_expr::Expr;
 use ember_model::OutOfMemory;
 use ember_query::{Answer, Query, answer_alone};
 use mesh_arrays::ArrayMesh;
-use mesh_boolean::{BooleanFault, SolidFile, sixfold_volumes_of_meshes};
+use mesh_boolean::{BooleanFault, SolidFile, lying_if, sixfold_volumes_of_meshes};
 use mesh_grid::Wanted;
 use mesh_solid::{SolidRun, solid_mesh};
 use mesh_triangles::{PlaneAnswer, PlaneQuery, TrianglesFault, answer_planes_alone};
@@ -82,6 +82,7 @@ pub fn array_solid(
             ensures { IfOk result (IsPlaneAnswer query.entry.now) }
         { answer_planes_alone(alloc, query) },
     )?;
+    let lying = lying_if(alloc, true, &placed.scene, &mesh)?;
     let arrays = arrays_of(alloc, &mesh, &placed.grid, digits)?;
     let tris = placed.scene.tris.items();
     let sources = sources_if(alloc, &inputs, tris, &mesh, &arrays.origins)?;
@@ -95,7 +96,9 @@ pub fn array_solid(
             counts: placed.counts,
             moves: placed.moves,
             sixfold_volumes,
+            lying,
             report,
+            shown_files: None,
             kept: None,
         },
     })

@@ -6,7 +6,7 @@ use Rattle.std.specs.declared.option.Option.{Option}
 use Rattle.ember_io.specs.declared.shelf.FaultKind.TheVariants.{NotFound}
 use Rattle.mesh_outside.specs.declared.target.several.NamedFile.{NamedFile}
 use Rattle.mesh_outside.specs.Target.Several.{NamedBytes, names_and_bytes}
-use Rattle.mesh_refusal.specs.Numbers.{document_number, number_of, uncut_number}
+use Rattle.mesh_refusal.specs.Numbers.{document_number, number_of}
 use Rattle.mesh_refusal.specs.declared.status.Status.{Status}
 use Rattle.mesh_refusal.specs.declared.status.Status.TheVariants as status
 use Rattle.ember_io.specs.Calls.{TakesUntilFault}
@@ -14,8 +14,6 @@ use Rattle.mesh_run.specs.Calls.{TargetCall, target_call}
 use Rattle.mesh_run.specs.Serves.{IsOutcome, IsSent, MeshServes}
 use Rattle.mesh_solid.specs.declared.mesh.fault.DocumentFault.{DocumentFault}
 use Rattle.mesh_solid.specs.declared.mesh.fault.DocumentFault.TheVariants as document
-use Rattle.mesh_triangles.specs.declared.fault.TrianglesFault.{TrianglesFault}
-use Rattle.mesh_triangles.specs.declared.fault.TrianglesFault.TheVariants as triangles
 use Rattle.mesh_words.specs.Arguments.{words_ask_json}
 use Rattle.mesh_words.specs.Commands.{command_of}
 use Rattle.mesh_words.specs.declared.command.Command.TheVariants.{Boole}
@@ -147,25 +145,15 @@ call_has_outcome words files outcome s shelf after target target_after out out_a
     inr (inr (inl lacks))
 
 -- ---- the status with the number 0
-uncut_is_something : (fault : TrianglesFault) → uncut_number fault ≡ 0 → ⊥
-uncut_is_something (triangles.UnknownPlane plane) e = cc
-uncut_is_something (triangles.UnknownLine line) e = cc
-uncut_is_something (triangles.UnknownCorner corner) e = cc
-uncut_is_something (triangles.Overlap plane line) e = cc
-uncut_is_something (triangles.NotClosed line) e = cc
-uncut_is_something (triangles.NoTriangles plane) e = cc
-uncut_is_something triangles.NoEnd e = cc
-uncut_is_something triangles.NoLineLeft e = cc
-uncut_is_something triangles.NotCertified e = cc
-uncut_is_something triangles.OutOfMemory e = cc
-
 document_is_something : (fault : DocumentFault) → document_number fault ≡ 0 → ⊥
 document_is_something document.NotADocument e = cc
 document_is_something (document.OffPlane a) e = cc
 document_is_something (document.OffEdge a) e = cc
 document_is_something (document.NotRound a) e = cc
 document_is_something (document.NoTables a) e = cc
-document_is_something (document.NotCut fault) e = uncut_is_something fault e
+document_is_something document.NotClosed e = cc
+document_is_something document.Overlap e = cc
+document_is_something (document.NotCut a) e = cc
 document_is_something document.OutOfMemory e = cc
 
 is_done : (s : Status) → number_of s ≡ 0 → s ≡ status.Done

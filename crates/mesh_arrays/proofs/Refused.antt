@@ -1,5 +1,7 @@
 -- The faults of the steps are those of a mesh in arrays
-use Rattle.std.proofs.Common.{◌≡◌, ℕ, All, IsSome, None, Some, length, refl, subst, sym, ◌∙◌}
+use Rattle.std.proofs.Common.{◌≡◌, ◌<◌, ℕ, zero, suc, nat_eq, false, arith, List, [], ◌∷◌, All, IsSome, None, Some}
+use Rattle.std.proofs.Common.{length, map, refl, subst, sym, ◌∙◌}
+use Rattle.std.specs.Global.{Vec}
 use Rattle.std.specs.List.{find}
 use Rattle.std.specs.Option.{option_map}
 use Rattle.std.specs.declared.option.Option.{Option}
@@ -38,11 +40,22 @@ triangle_fault_is mesh count fault.NoTriangles e finite h = absurd h
 triangle_fault_is mesh count (fault.TooLarge number) e finite h = absurd h
 triangle_fault_is mesh count fault.OutOfMemory e finite h = tt
 
--- a flaw of what the mesh says
-pub flaw_is : (mesh : ArrayMesh) (content : Content) (why : Flaw) → IsContentOf mesh content →
+-- a number that isn't 0
+pub has_some : (n : ℕ) → nat_eq n 0 ≡ false → 0 < n
+has_some zero e = absurd (cc)
+has_some (suc n) e = omega arith
+
+-- where there are triangles, they are no flaw
+not_empty : (far : Option ℕ) (facets : List Facet) → 0 < length facets → flaw_with far facets ≡ Some flaw.NoTriangles → ⊥
+not_empty far [] some e = absurd (omega (arith, some))
+not_empty None (facet ∷ facets) some e = cc
+not_empty (Some place) (facet ∷ facets) some e = cc
+
+-- a flaw of what a mesh with triangles says
+pub flaw_is : (mesh : ArrayMesh) (content : Content) (why : Flaw) → IsContentOf mesh content → 0 < length content.facets →
     All (AreWithin (length mesh.vertices.now)) mesh.triangles.now → flaw_in content ≡ Some why → IsMeshFault mesh (of_flaw why)
-flaw_is mesh content flaw.NoTriangles is within has = record { content = content; is_content = is; within = within; has = has }
-flaw_is mesh content (flaw.TooLarge place) is within has = record { content = content; is_content = is; within = within; has = has }
+flaw_is mesh content flaw.NoTriangles is some within has = absurd (not_empty (first_far content) content.facets some has)
+flaw_is mesh content (flaw.TooLarge place) is some within has = record { content = content; is_content = is; within = within; has = has }
 
 -- ---- coordinates
 

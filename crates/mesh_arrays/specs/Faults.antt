@@ -1,7 +1,7 @@
 -- Why a mesh in arrays has no surface
 use Rattle.std.specs.Prelude.{◌≡◌, ⊤, ℕ, ◌+◌, ◌<◌, List, All, IsSome, None, Some, length, slice_get, take}
 use Rattle.mesh_ply.specs.declared.fault.PlyFault.{PlyFault}
-use Rattle.mesh_ply.specs.declared.fault.PlyFault.TheVariants.{NoSuchVertex, NoTriangles, NotFinite}
+use Rattle.mesh_ply.specs.declared.fault.PlyFault.TheVariants.{NoSuchVertex, NotFinite}
 use Rattle.mesh_ply.specs.declared.fault.PlyFault.TheVariants.{OutOfMemory, TooLarge}
 use Rattle.mesh_read.specs.Surface.Flaws.{flaw_in}
 use Rattle.mesh_read.specs.Surface.Surfaces.{Content}
@@ -63,7 +63,6 @@ pub record HasFlaw (mesh : ArrayMesh) (flaw : Flaw) : Type 0 where
 abbrev pub IsMeshFault : ArrayMesh → PlyFault → Type 0
 IsMeshFault mesh (NotFinite number) = IsFirstNotFinite mesh.vertices.now number
 IsMeshFault mesh (NoSuchVertex number) = IsFirstLost mesh number
-IsMeshFault mesh NoTriangles = HasFlaw mesh flaw.NoTriangles
 IsMeshFault mesh (TooLarge number) = HasFlaw mesh (flaw.TooLarge number)
 IsMeshFault mesh OutOfMemory = ⊤
 IsMeshFault mesh fault = ⊥

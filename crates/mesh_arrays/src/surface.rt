@@ -77,13 +77,12 @@ fn facets_of(alloc: Global, triangles: &[[u32; 3]], count: usize) -> Result<Vec<
 }
 
 /// The surface of a mesh in arrays of at most 2^28 bytes. Each coordinate is taken exactly. The place of a
-/// triangle is its number, from 1. A mesh in arrays has the faults of a PLY that holds it; of several the
-/// first of these is reported:
+/// triangle is its number, from 1. There may be none. A mesh in arrays has the faults of a PLY that holds
+/// it; of several the first of these is reported:
 ///
 /// 1. The first vertex with a coordinate that is infinite or NaN.
 /// 2. The first triangle with a corner that is no vertex.
-/// 3. There are no triangles.
-/// 4. The first triangle with a coordinate of 10^15 or more in size.
+/// 3. The first triangle with a coordinate of 10^15 or more in size.
 pub fn surface_of(alloc: Global, mesh: &ArrayMesh) -> Result<Surface<'static>, PlyFault>
     requires { IsShort mesh.now }
     ensures surface { IfOk result (IsSurfaceOf mesh.now) }
@@ -98,7 +97,11 @@ pub fn surface_of(alloc: Global, mesh: &ArrayMesh) -> Result<Surface<'static>, P
         Ok(facets) => facets,
         Err(fault) => return Err(fault),
     };
-    match as_mesh(Surface { vertices, facets }) {
+    let surface = Surface { vertices, facets };
+    if surface.facets.is_empty() {
+        return Ok(surface);
+    }
+    match as_mesh(surface) {
         Ok(surface) => Ok(surface),
         Err(flaw) => Err(PlyFault::from(flaw)),
     }

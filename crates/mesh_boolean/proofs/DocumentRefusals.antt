@@ -20,6 +20,8 @@ document_fault_is bytes grid format (document_fault.OffPlane face) h = record { 
 document_fault_is bytes grid format (document_fault.OffEdge face) h = record { is_fault = h; of_document = λ e. cc }
 document_fault_is bytes grid format (document_fault.NotRound face) h = record { is_fault = h; of_document = λ e. cc }
 document_fault_is bytes grid format (document_fault.NoTables fault) h = record { is_fault = h; of_document = λ e. cc }
+document_fault_is bytes grid format document_fault.NotClosed h = record { is_fault = h; of_document = λ e. cc }
+document_fault_is bytes grid format document_fault.Overlap h = record { is_fault = h; of_document = λ e. cc }
 document_fault_is bytes grid format (document_fault.NotCut fault) h = record { is_fault = h; of_document = λ e. cc }
 document_fault_is bytes grid format document_fault.OutOfMemory h = tt
 

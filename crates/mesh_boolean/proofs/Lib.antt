@@ -1,8 +1,11 @@
+pub mod Images
 pub mod Readings
 pub mod Refusals
 pub mod WritingRefusals
 pub mod DocumentRefusals
+pub mod CutClosed
 pub mod Outputs
 pub mod OutputMeaning
 pub mod OutputTolerance
 pub mod VolumeSums
+pub mod ShownFiles

@@ -6,7 +6,7 @@ use Rattle.std.specs.List.{All, list_all}
 use Rattle.std.specs.Option.{option_map}
 use Rattle.std.proofs.lemmas.List.{length-map}
 use Rattle.std.proofs.lemmas.List.Filters.{length-filter_both}
-use Rattle.mesh_certificate.specs.declared.certificate.space_point.SpacePoint.{SpacePoint}
+use Rattle.mesh_point.specs.declared.space_point.SpacePoint.{SpacePoint}
 use Rattle.mesh_certificate.specs.declared.certificate.triangle.Triangle.{Triangle}
 use Rattle.mesh_certificate.specs.Certificate.Certificate.{IsProper}
 use Rattle.ember_expr.specs.Formula.{Formula}
@@ -33,7 +33,7 @@ use Rattle.mesh_write.specs.Vertices.Vertices.{vertices_of, indexed}
 use Rattle.mesh_written.specs.Decimals.{decimal_point}
 use Rattle.mesh_written.specs.DecimalTriangles as decimal
 use Rattle.mesh_written.specs.Triangles.{has_corners, vanishes, kept, triangle_at, AreWritten}
-use Rattle.mesh_written.specs.Closed.{AreRoundAndClosed}
+use Rattle.mesh_written.specs.Closed.{AreDecimalsClosed, AreRoundAndClosed}
 use Rattle.mesh_written.specs.Digits.{written_places}
 use Rattle.mesh_written.proofs.Proper.{proper_corners}
 use Rattle.mesh_written.proofs.WrittenClosed.{certified_are_closed, written_are_closed}
@@ -47,11 +47,14 @@ use Rattle.mesh_boolean.specs.declared.wanted.WantedFile.{WantedFile}
 use Rattle.mesh_boolean.specs.declared.split.SplitDecimals.{SplitDecimals}
 use Rattle.mesh_boolean.specs.declared.writing.OutputMesh.{OutputMesh}
 use Rattle.mesh_boolean.specs.Files.{IsPlaced}
+use Rattle.mesh_boolean.specs.Lying.{AreLyingCounts}
+use Rattle.mesh_boolean.specs.ShownFiles.{AreShownFiles}
 use Rattle.mesh_boolean.specs.Volumes.{sixfold_volumes_of_meshes}
 use Rattle.mesh_boolean.specs.Effects.{decimals_of}
 use Rattle.mesh_boolean.specs.Splits.{AreDecimalsOver}
 use Rattle.mesh_boolean.specs.Outputs.{AreKept, AreRounded, AreShownIf, IsTextOver, IsOfFloats, IsText, IsWritten}
 use Rattle.mesh_boolean.specs.Outputs.{IsClosedOfFloats, IsClosedText, IsClosedAs, IsOutput}
+use Rattle.mesh_boolean.proofs.CutClosed.{split_is_closed}
 
 twice : (b : Bool) → b ≡ not (not b)
 twice true = refl
@@ -147,6 +150,14 @@ floats_are_closed format grid mesh file round floats =
     floats.written floats.rounded.rounded round in
     record { floats = floats; closed = closed; shared = floats.shared closed }
 
+-- the triangles of a text are closed as they are written, if they are before some are cut
+written_text_is_closed : (format : TextFormat) (places : ℕ) (ts : List DecimalTriangle) (bytes : List ℕ) (count : ℕ) (is_manifold : Bool)
+    (text : IsTextOver format places ts bytes count is_manifold) → AreDecimalsClosed ts → AreDecimalsClosed text.cut
+written_text_is_closed format places ts bytes count true text closed =
+    split_is_closed text.split text.cut text.are_split (text.manifold refl)
+written_text_is_closed format places ts bytes count false text closed =
+    subst AreDecimalsClosed (sym (text.whole refl)) closed
+
 -- and of its text
 text_is_closed : (format : TextFormat) (digits : Option ℕ) (grid : Grid) (mesh : SolidMesh) (file : OutputMesh) →
     AreRoundAndClosed mesh.triangles.items → IsText format digits grid mesh file →
@@ -154,6 +165,8 @@ text_is_closed : (format : TextFormat) (digits : Option ℕ) (grid : Grid) (mesh
 text_is_closed format digits grid mesh file round text = record {
   text = text;
   closed = decimals_are_closed (written_places digits grid.step) grid.step grid.offset mesh.corners.items mesh.triangles.items round;
+  written = written_text_is_closed format (written_places digits grid.step) (decimals_of digits grid mesh) file.bytes.items file.written file.is_manifold text.bytes
+      (decimals_are_closed (written_places digits grid.step) grid.step grid.offset mesh.corners.items mesh.triangles.items round);
   shared = text.shared (indices_are_closed (written_places digits grid.step) grid.step grid.offset mesh.corners.items mesh.triangles.items round);
 }
 
@@ -185,13 +198,25 @@ both_are_kept : (keeps : Bool) (tris : List Tri) (bytes : List ℕ) (scene : Sce
 both_are_kept keeps tris bytes scene (Some document) e h = (h.0, record { scene = e; document = h.1 })
 both_are_kept keeps tris bytes scene None e h = h
 
+-- the triangles on the meshes of a scene are those on the meshes of an equal one
+pub counted_on_files : (counts : Bool) (solid : SolidMesh) (lying : Option (Vec ℕ)) {ts us : List Tri} {m n : ℕ} → ts ≡ us →
+    m ≡ n → IsThereIf counts (λ (l : Vec ℕ). AreLyingCounts ts m solid l.items) lying →
+    IsThereIf counts (λ (l : Vec ℕ). AreLyingCounts us n solid l.items) lying
+counted_on_files counts solid lying {ts} {us} {m} {n} e f h =
+    subst (λ (k : ℕ). IsThereIf counts (λ (l : Vec ℕ). AreLyingCounts us k solid l.items) lying) f
+    (subst (λ (vs : List Tri). IsThereIf counts (λ (l : Vec ℕ). AreLyingCounts vs m solid l.items) lying) e h)
+
 -- the file of the mesh of the files' scene is an output for them
-module _ (files : List InputFile) (formula : Formula) (wanted : WantedFile) (placed : PlacedScene) (is : IsPlaced files wanted.grid placed) where
+module _ (files : List InputFile) (formula : Formula) (wanted : WantedFile) (placed : PlacedScene) (is : IsPlaced files wanted.placings.now wanted.grid placed) where
   pub output_is : (meshed : SolidRun) → IsSolidRun placed.scene.tris formula wanted.keeps meshed →
       (file : OutputMesh) → IsWritten wanted.format placed.grid meshed.mesh file →
-      AreShownIf wanted.shows placed.grid meshed.mesh file.shown → (kept : Option KeptDocument) →
+      AreShownIf wanted.shows placed.grid meshed.mesh file.shown → (shown_files : Option (Vec ℕ)) →
+      IsThereIf wanted.shows (AreShownFiles placed.scene.tris placed.grid meshed.mesh) shown_files →
+      (kept : Option KeptDocument) →
       kept ≡ kept_with placed.scene meshed.document →
       (volumes : Vec ℤ) → volumes.items ≡ sixfold_volumes_of_meshes placed.scene.tris placed.scene.meshes →
+      (lying : Option (Vec ℕ)) → IsThereIf wanted.counts
+      (λ (counts : Vec ℕ). AreLyingCounts placed.scene.tris placed.scene.meshes meshed.mesh counts.items) lying →
       IsOutput files formula wanted (record {
         written = file;
         grid = placed.grid;
@@ -199,10 +224,12 @@ module _ (files : List InputFile) (formula : Formula) (wanted : WantedFile) (pla
         moves =
             placed.moves;
         sixfold_volumes = volumes;
+        lying = lying;
         report = meshed.report;
+        shown_files = shown_files;
         kept = kept;
       })
-  output_is meshed solid file written shown kept e volumes f =
+  output_is meshed solid file written shown shown_files of_files kept e volumes f lying l =
       let of_images = subst (λ (tris : List Tri). IsSolidRun tris formula wanted.keeps meshed) is.tris solid in
       record {
         surfaces = is.surfaces;
@@ -215,6 +242,8 @@ module _ (files : List InputFile) (formula : Formula) (wanted : WantedFile) (pla
         report = of_images.report;
         written = written_is_closed of_images.mesh.bytes wanted.format placed.grid meshed.mesh file of_images.mesh.of_document written;
         shown = shown;
+        lying = counted_on_files wanted.counts meshed.mesh lying is.tris is.meshes l;
+        shown_files = subst (λ (tris : List Tri). IsThereIf wanted.shows (AreShownFiles tris placed.grid meshed.mesh) shown_files) is.tris of_files;
         kept = subst (IsThereIf wanted.keeps (AreKept (images_of placed.grid is.surfaces) of_images.mesh.bytes)) (sym e)
             (both_are_kept wanted.keeps (images_of placed.grid is.surfaces) of_images.mesh.bytes placed.scene
             meshed.document is.tris of_images.document);

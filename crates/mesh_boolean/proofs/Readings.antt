@@ -1,5 +1,5 @@
 -- The surfaces that the readings of files give, one file after the other, and the scene of them
-use Rattle.std.proofs.Common.{◌≡◌, ℕ, ◌+◌, ◌<◌, List, [], ◌∷◌, ◌++◌, map, length, take, get_or, sym, ap, subst, ◌∙◌}
+use Rattle.std.proofs.Common.{◌≡◌, ℕ, ◌+◌, ◌<◌, List, [], ◌∷◌, ◌++◌, map, length, take, get_or, Option, sym, ap, subst, ◌∙◌}
 use Rattle.std.specs.List.{All}
 use Rattle.std.proofs.lemmas.List.{take_more, map-append, length-map}
 use Rattle.std.proofs.lemmas.List.Elements.{All-push}
@@ -12,7 +12,9 @@ use Rattle.mesh_scene.specs.declared.scene.scene.PlacedScene.{PlacedScene}
 use Rattle.mesh_scene.specs.Scene.Images.{images_of, counts_on}
 use Rattle.mesh_grid.specs.Snap.Steps.{IsStep}
 use Rattle.mesh_read.specs.declared.surface.surface.Surface.{Surface}
+use Rattle.mesh_placing.specs.declared.files.Placing.{Placing}
 use Rattle.mesh_boolean.specs.declared.files.InputFile.{InputFile}
+use Rattle.mesh_boolean.specs.Images.{AreGiven}
 use Rattle.mesh_boolean.specs.Files.{reading, held, AreReadings, IsPlaced}
 
 -- the readings of one file more
@@ -34,15 +36,17 @@ readings_are_as_many files surfaces h =
     sym (length-map surfaces held) ∙ sym (ap length h) ∙ length-map files reading
 
 -- the scene of surfaces is that of the files whose readings give them
-pub files_are_placed : (files : List InputFile) (wanted : Wanted) (surfaces : List Surface) (placed : PlacedScene) →
-    AreReadings files surfaces → IsStep placed.grid.step → IsGrid surfaces wanted placed.grid →
+pub files_are_placed : (files : List InputFile) (placings : List (Option Placing)) (wanted : Wanted) (as_read surfaces : List Surface)
+    (placed : PlacedScene) → AreReadings files as_read → AreGiven placings as_read surfaces → IsStep placed.grid.step → IsGrid surfaces wanted placed.grid →
     placed.scene.tris ≡ images_of placed.grid surfaces → placed.scene.meshes ≡ length surfaces →
     placed.counts.items ≡ map (counts_on placed.grid) surfaces → AreMoves placed.grid surfaces placed.moves.items →
-    IsPlaced files wanted placed
-files_are_placed files wanted surfaces placed read step grid tris meshes counts moves = record {
+    IsPlaced files placings wanted placed
+files_are_placed files placings wanted as_read surfaces placed read given step grid tris meshes counts moves = record {
   surfaces = surfaces;
   are_placed = record {
+    as_read = as_read;
     read = read;
+    given = given;
     on_grid = record { step = step; grid = grid };
     scene = subst (λ (ts : List Tri). IsScene ts (length surfaces)) tris (subst (IsScene placed.scene.tris) meshes placed.scene.kept);
   };

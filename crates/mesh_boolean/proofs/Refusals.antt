@@ -1,5 +1,5 @@
 -- The faults of the steps are those of files
-use Rattle.std.proofs.Common.{◌≡◌, ◌⊎◌, inl, inr, ℕ, ◌<◌, true, List, length, take, get_or, Err, refl, sym, ap, subst, ◌∙◌}
+use Rattle.std.proofs.Common.{◌≡◌, ◌⊎◌, inl, inr, ℕ, ◌<◌, true, List, length, take, get_or, Err, Option, refl, sym, ap, subst, ◌∙◌}
 use Rattle.std.specs.List.{slice_get}
 use Rattle.std.proofs.lemmas.Option.{slice_get-get_or}
 use Rattle.ember_expr.specs.Formula.{Formula}
@@ -19,11 +19,13 @@ use Rattle.mesh_solid.specs.Mesh.Faults.{IsSolidFault}
 use Rattle.mesh_solid.specs.Mesh.Meshes.{IsSolidMesh}
 use Rattle.mesh_read.specs.declared.surface.surface.Surface.{Surface}
 use Rattle.mesh_boolean.specs.declared.fault.BooleanFault.{BooleanFault}
-use Rattle.mesh_boolean.specs.declared.fault.BooleanFault.TheVariants.{File, Scene, Solid, TooFar, TooManyTriangles, OutOfMemory}
+use Rattle.mesh_boolean.specs.declared.fault.BooleanFault.TheVariants.{File, Image, Scene, Solid, TooFar, TooManyTriangles, OutOfMemory}
 use Rattle.mesh_boolean.specs.declared.files.InputFile.{InputFile}
 use Rattle.mesh_boolean.specs.declared.wanted.WantedFile.{WantedFile}
 use Rattle.mesh_boolean.specs.declared.writing_fault.WritingFault.{WritingFault}
 use Rattle.mesh_boolean.specs.declared.writing_fault.WritingFault.TheVariants as writing_fault
+use Rattle.mesh_placing.specs.declared.files.Placing.{Placing}
+use Rattle.mesh_boolean.specs.Images.{AreGiven, HaveImageFault}
 use Rattle.mesh_boolean.specs.Files.{reading, AreReadings, ArePlaced}
 use Rattle.mesh_boolean.specs.WritingFaults.{IsWritingFault}
 use Rattle.mesh_boolean.specs.Faults.{HasFault, IsRefusal, IsReadFault, IsPlacingFault, IsBooleanFault, of_file_fault}
@@ -87,6 +89,7 @@ refused_file_is_first files i d surfaces (File index fault) l h r = record {
   surfaces = surfaces;
   before = subst (λ (k : ℕ). AreReadings (take k files) surfaces) (sym r.0) h;
 }
+refused_file_is_first files i d surfaces (Image index fault) l h r = absurd r
 refused_file_is_first files i d surfaces (Scene fault) l h r = absurd r
 refused_file_is_first files i d surfaces (Solid fault) l h r = absurd r
 refused_file_is_first files i d surfaces TooFar l h r = absurd r
@@ -94,44 +97,60 @@ refused_file_is_first files i d surfaces TooManyTriangles l h r = absurd r
 refused_file_is_first files i d surfaces OutOfMemory l h r = tt
 
 -- files that aren't read are no scene
-pub read_fault_is : (files : List InputFile) (wanted : Wanted) (fault : BooleanFault) → IsReadFault files fault → IsPlacingFault files wanted fault
-read_fault_is files wanted (File index fault) h = h
-read_fault_is files wanted (Scene fault) h = absurd h
-read_fault_is files wanted (Solid fault) h = absurd h
-read_fault_is files wanted TooFar h = absurd h
-read_fault_is files wanted TooManyTriangles h = absurd h
-read_fault_is files wanted OutOfMemory h = tt
+pub read_fault_is : (files : List InputFile) (placings : List (Option Placing)) (wanted : Wanted) (fault : BooleanFault) →
+    IsReadFault files fault → IsPlacingFault files placings wanted fault
+read_fault_is files placings wanted (File index fault) h = h
+read_fault_is files placings wanted (Image index fault) h = absurd h
+read_fault_is files placings wanted (Scene fault) h = absurd h
+read_fault_is files placings wanted (Solid fault) h = absurd h
+read_fault_is files placings wanted TooFar h = absurd h
+read_fault_is files placings wanted TooManyTriangles h = absurd h
+read_fault_is files placings wanted OutOfMemory h = tt
+
+-- ---- placings
+-- a file that has no mesh where it is placed
+pub image_fault_is : (files : List InputFile) (placings : List (Option Placing)) (wanted : Wanted) (as_read : List Surface)
+    (fault : BooleanFault) → AreReadings files as_read → HaveImageFault placings as_read fault → IsPlacingFault files placings wanted fault
+image_fault_is files placings wanted as_read (File index fault) read h = absurd h
+image_fault_is files placings wanted as_read (Image index fault) read h = record { as_read = as_read; read = read; has = h }
+image_fault_is files placings wanted as_read (Scene fault) read h = absurd h
+image_fault_is files placings wanted as_read (Solid fault) read h = absurd h
+image_fault_is files placings wanted as_read TooFar read h = absurd h
+image_fault_is files placings wanted as_read TooManyTriangles read h = absurd h
+image_fault_is files placings wanted as_read OutOfMemory read h = tt
 
 -- ---- the scene
 -- a fault of the scene of the files' surfaces
-pub scene_fault_is : (files : List InputFile) (wanted : Wanted) (surfaces : List Surface) (cause : SceneFault) →
-    AreReadings files surfaces → IsSceneFault surfaces wanted cause → IsPlacingFault files wanted (of_scene_fault cause)
-scene_fault_is files wanted surfaces scene_fault.NoTriangles read h =
-    record { surfaces = surfaces; read = read; is_fault = h; of_scene = other }
+pub scene_fault_is : (files : List InputFile) (placings : List (Option Placing)) (wanted : Wanted) (as_read surfaces : List Surface)
+    (cause : SceneFault) → AreReadings files as_read → AreGiven placings as_read surfaces → IsSceneFault surfaces wanted cause →
+    IsPlacingFault files placings wanted (of_scene_fault cause)
+scene_fault_is files placings wanted as_read surfaces scene_fault.NoTriangles read given h =
+    record { as_read = as_read; read = read; surfaces = surfaces; given = given; is_fault = h; of_scene = other }
   where
     other : scene_fault.NoTriangles ≡ scene_fault.OutOfMemory → ⊥
     other e = cc
-scene_fault_is files wanted surfaces (scene_fault.StepTooSmall extent) read h =
-    record { surfaces = surfaces; read = read; is_fault = h; of_scene = other }
+scene_fault_is files placings wanted as_read surfaces (scene_fault.StepTooSmall extent) read given h =
+    record { as_read = as_read; read = read; surfaces = surfaces; given = given; is_fault = h; of_scene = other }
   where
     other : scene_fault.StepTooSmall extent ≡ scene_fault.OutOfMemory → ⊥
     other e = cc
-scene_fault_is files wanted surfaces (scene_fault.Open o) read h =
-    record { surfaces = surfaces; read = read; is_fault = h; of_scene = other }
+scene_fault_is files placings wanted as_read surfaces (scene_fault.Open o) read given h =
+    record { as_read = as_read; read = read; surfaces = surfaces; given = given; is_fault = h; of_scene = other }
   where
     other : scene_fault.Open o ≡ scene_fault.OutOfMemory → ⊥
     other e = cc
-scene_fault_is files wanted surfaces (scene_fault.TooManyTriangles n) read h =
-    record { surfaces = surfaces; read = read; is_fault = h; of_scene = other }
+scene_fault_is files placings wanted as_read surfaces (scene_fault.TooManyTriangles n) read given h =
+    record { as_read = as_read; read = read; surfaces = surfaces; given = given; is_fault = h; of_scene = other }
   where
     other : scene_fault.TooManyTriangles n ≡ scene_fault.OutOfMemory → ⊥
     other e = cc
-scene_fault_is files wanted surfaces scene_fault.OutOfMemory read h = tt
+scene_fault_is files placings wanted as_read surfaces scene_fault.OutOfMemory read given h = tt
 
 -- files that are no scene have no solid
 pub placing_fault_is : (files : List InputFile) (formula : Formula) (wanted : WantedFile) (fault : BooleanFault) →
-    IsPlacingFault files wanted.grid fault → IsBooleanFault files formula wanted fault
+    IsPlacingFault files wanted.placings.now wanted.grid fault → IsBooleanFault files formula wanted fault
 placing_fault_is files formula wanted (File index fault) h = h
+placing_fault_is files formula wanted (Image index fault) h = h
 placing_fault_is files formula wanted (Scene fault) h = h
 placing_fault_is files formula wanted (Solid fault) h = absurd h
 placing_fault_is files formula wanted TooFar h = absurd h
@@ -140,7 +159,7 @@ placing_fault_is files formula wanted OutOfMemory h = tt
 
 -- ---- the solid and its file
 module _ (files : List InputFile) (formula : Formula) (wanted : WantedFile) (surfaces : List Surface) (grid : Grid)
-    (are : ArePlaced files wanted.grid surfaces grid) where
+    (are : ArePlaced files wanted.placings.now wanted.grid surfaces grid) where
   -- a fault of the solid of the files' scene
   pub solid_fault_is : (cause : SolidFault) → IsSolidFault (images_of grid surfaces) formula cause → IsBooleanFault files formula wanted (of_solid_fault cause)
   solid_fault_is (solid_fault.NoTables fault) h =

@@ -1,6 +1,6 @@
 -- The faults of the steps from a mesh to its file are those of the file
 use Rattle.std.proofs.Common.{◌≡◌, ℕ, List, Option, Result, Err, inl, arith}
-use Rattle.mesh_certificate.specs.declared.certificate.space_point.SpacePoint.{SpacePoint}
+use Rattle.mesh_point.specs.declared.space_point.SpacePoint.{SpacePoint}
 use Rattle.mesh_write.specs.declared.glb.fault.GlbWriteFault.{GlbWriteFault}
 use Rattle.mesh_write.specs.declared.glb.fault.GlbWriteFault.TheVariants as glb_fault
 use Rattle.mesh_write.specs.Glb.Written.{IsTooLong}
@@ -16,6 +16,7 @@ use Rattle.mesh_written.specs.Decimals.{IsFarPoint, IsDecimalFault}
 use Rattle.mesh_written.specs.Floats.{IsTooFar, IsFloatFault}
 use Rattle.mesh_boolean.specs.declared.wanted.FloatFormat.{FloatFormat}
 use Rattle.mesh_boolean.specs.declared.wanted.FloatFormat.TheVariants.{Glb}
+use Rattle.mesh_boolean.specs.declared.wanted.MeshFormat.{MeshFormat}
 use Rattle.mesh_boolean.specs.declared.wanted.MeshFormat.TheVariants.{Floats, Text}
 use Rattle.mesh_boolean.specs.declared.writing_fault.WritingFault.{WritingFault}
 use Rattle.mesh_boolean.specs.declared.writing_fault.WritingFault.TheVariants.{TooFar, TooManyTriangles, OutOfMemory}
@@ -65,3 +66,9 @@ pub shown_fault_is : (format : TextFormat) (digits : Option ℕ) (grid : Grid) (
 shown_fault_is format digits grid mesh place_fault.TooFar h =
     (h.0, h.1, h.2, h.3, far_for_decimals grid.step grid.offset h.1 h.4)
 shown_fault_is format digits grid mesh place_fault.OutOfMemory h = tt
+
+-- in any format
+pub place_fault_is : (format : MeshFormat) (grid : Grid) (mesh : SolidMesh) (cause : PlaceFault) →
+    IsFloatFault grid.step grid.offset mesh.corners.items cause → IsWritingFault format grid mesh (of_place_fault cause)
+place_fault_is (Floats floats) grid mesh cause h = float_fault_is floats grid mesh cause h
+place_fault_is (Text text digits) grid mesh cause h = shown_fault_is text digits grid mesh cause h

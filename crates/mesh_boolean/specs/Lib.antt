@@ -1,7 +1,10 @@
+pub mod Images
 pub mod Files
 pub mod Volumes
+pub mod Lying
 pub mod Effects
 pub mod Splits
+pub mod ShownFiles
 pub mod Outputs
 pub mod WritingFaults
 pub mod Faults

@@ -42,6 +42,8 @@ use Rattle.mesh_boolean.specs.declared.output.SolidFile.{SolidFile}
 use Rattle.mesh_boolean.specs.declared.writing.OutputMesh.{OutputMesh}
 use Rattle.mesh_boolean.specs.Effects.{IsDecimalEffect, IsFloatEffect, decimals_of, over_vertices}
 use Rattle.mesh_boolean.specs.Files.{ArePlaced}
+use Rattle.mesh_boolean.specs.Lying.{AreLyingCounts}
+use Rattle.mesh_boolean.specs.ShownFiles.{AreShownFiles}
 use Rattle.mesh_boolean.specs.Volumes.{sixfold_volumes_of_meshes}
 
 -- ---- formats
@@ -139,11 +141,12 @@ pub record IsClosedOfFloats (format : FloatFormat) (grid : Grid) (mesh : SolidMe
   pub closed : AreWrittenClosed floats.written
   pub shared : IsSharedCount floats.written file.shared
 
--- the same of a text before any of its triangles are cut; if some are, each of its edges has two (`IsTextOver`)
+-- the same of a text, before any of its triangles are cut and as they are written
 pub record IsClosedText (format : TextFormat) (digits : Option ℕ) (grid : Grid) (mesh : SolidMesh) (file : OutputMesh) :
     Type 0 where
   pub text : IsText format digits grid mesh file
   pub closed : AreDecimalsClosed (decimals_of digits grid mesh)
+  pub written : AreDecimalsClosed text.bytes.cut
   pub shared : IsSharedIndexCount (over_vertices (decimals_of digits grid mesh)) file.shared
 
 -- the file has this format, and its triangles are closed
@@ -157,12 +160,13 @@ pub record AreKept (images : List Tri) (bytes : List ℕ) (kept : KeptDocument) 
   pub scene : kept.scene.tris ≡ images
   pub document : kept.document.items ≡ bytes
 
--- the surfaces of the files are a scene on the wanted grid, with these counts, moves and volumes; there is a mesh of
--- the solid of their triangles, with this report of the run; the file is this mesh in the wanted format, closed; and
--- the triangles that are shown, and the scene and the document of the solid, are there if they are wanted
+-- the surfaces of the files, where they are placed, are a scene on the wanted grid, with these counts, moves and volumes;
+-- there is a mesh of the solid of their triangles, with this report of the run; the file is this mesh in the wanted
+-- format, closed; and the triangles that are shown, with their files, the numbers of those that lie on each file, and
+-- the scene and the document of the solid, are there if they are wanted
 pub record IsOutput (files : List InputFile) (formula : Formula) (wanted : WantedFile) (out : SolidFile) : Type 0 where
   pub surfaces : List Surface
-  pub are_placed : ArePlaced files wanted.grid surfaces out.grid
+  pub are_placed : ArePlaced files wanted.placings.now wanted.grid surfaces out.grid
   pub counts : out.counts.items ≡ map (counts_on out.grid) surfaces
   pub moves : AreMoves out.grid surfaces out.moves.items
   pub sixfold_volumes : out.sixfold_volumes.items
@@ -172,4 +176,7 @@ pub record IsOutput (files : List InputFile) (formula : Formula) (wanted : Wante
   pub report : IsSolidReport (images_of out.grid surfaces) formula out.report
   pub written : IsClosedAs wanted.format out.grid mesh out.written
   pub shown : AreShownIf wanted.shows out.grid mesh out.written.shown
+  pub lying : IsThereIf wanted.counts
+      (λ counts. AreLyingCounts (images_of out.grid surfaces) (length surfaces) mesh counts.items) out.lying
+  pub shown_files : IsThereIf wanted.shows (AreShownFiles (images_of out.grid surfaces) out.grid mesh) out.shown_files
   pub kept : IsThereIf wanted.keeps (AreKept (images_of out.grid surfaces) solid.bytes) out.kept

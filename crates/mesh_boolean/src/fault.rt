@@ -5,6 +5,7 @@ ghost use Rattle.mesh_boolean.specs.Faults.{of_scene_fault, of_solid_fault, of_w
 
 use crate::writing_fault::WritingFault;
 use mesh_file::FileFault;
+use mesh_placing::ImageFault;
 use mesh_scene::SceneFault;
 use mesh_solid::SolidFault;
 use std::alloc::{AllocError, AllocFailed};
@@ -16,6 +17,10 @@ pub enum BooleanFault<'a> {
     /// The file with this index, from 0, is the first that isn't read, and why.
     #[error("file {0}: {1}")]
     File(u32, FileFault<'a>),
+    /// The surface of the file with this index, from 0, is the first that has no image by its placing,
+    /// or, if all have one, the first whose image is no mesh.
+    #[error("file {0}: no mesh where it is placed")]
+    Image(u32, ImageFault),
     /// The surfaces of the files are no scene. Its fault has the index of the file.
     #[error(transparent)]
     Scene(SceneFault),

@@ -7,10 +7,13 @@ mod effect;
 mod fault;
 mod files;
 mod floats;
+mod images;
 mod laws;
+mod lying;
 mod output;
 mod placing;
 mod rounding;
+mod shown_files;
 mod solid;
 mod split;
 mod text;
@@ -27,6 +30,7 @@ pub use laws::{
     closed_files_are_never_open, faces_of_outputs_have_the_meaning,
     triangles_of_outputs_have_the_meaning, written_files_have_the_meaning,
 };
+pub use lying::lying_if;
 pub use output::{KeptDocument, SolidFile};
 pub use placing::placed_files;
 pub use rounding::decimals;

@@ -17,7 +17,14 @@ pub struct SolidFile {
     pub moves: Vec<Length>,
     /// Six times the signed volume of each file's mesh on the grid, in cubes of the step, in order.
     pub sixfold_volumes: Vec<i64>,
+    /// How many triangles of the solid, before they are rounded, lie on each file's mesh on the grid,
+    /// in order, if they were to be counted.
+    pub lying: Option<Vec<u64>>,
     pub report: Report,
+    /// For each triangle that is shown, the number of the file, from 1, on whose triangle it lies: see
+    /// [`sources_of`](mesh_sources::sources_of). 0 if there is none. They are there if a page was asked
+    /// for.
+    pub shown_files: Option<Vec<usize>>,
     /// What was computed from, and the exact result, if they were to be kept.
     pub kept: Option<KeptDocument>,
 }

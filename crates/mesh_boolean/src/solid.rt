@@ -5,14 +5,17 @@ ghost use Rattle.ember_expr.specs.Formula.{formula_of};
 ghost use Rattle.mesh_grid.specs.Grid.Grids.{IsChoice};
 ghost use Rattle.ember_query.specs.Queries.{IsExecutor};
 ghost use Rattle.mesh_boolean.specs.Files.{IsSmall};
+ghost use Rattle.mesh_boolean.specs.Images.{AreForEach};
 ghost use Rattle.mesh_boolean.specs.Outputs.{HasFewDigits, IsOutput};
 ghost use Rattle.mesh_boolean.specs.Faults.{IsBooleanFault};
 ghost use Rattle.mesh_triangles.specs.PlaneQueries.{IsPlaneExecutor};
 
 use crate::fault::BooleanFault;
 use crate::files::InputFile;
+use crate::lying::lying_if;
 use crate::output::{KeptDocument, SolidFile};
 use crate::placing::placed_files;
+use crate::shown_files::shown_files_if;
 use crate::volumes::sixfold_volumes_of_meshes;
 use crate::wanted::WantedFile;
 use crate::writing::written_of;
@@ -37,7 +40,8 @@ fn kept_with(scene: Scene, document: Option<Vec<u8>>) -> Option<KeptDocument>
 /// The solid of an expression over mesh files, as the file that is wanted. The file with the index
 /// `i` is the mesh `i + 1` of the expression.
 ///
-/// The surfaces of the files are put on the grid that is wanted, the triangles of the solid are
+/// The surfaces of the files, or their images where a file is placed, are put on the grid that is
+/// wanted, the triangles of the solid are
 /// exact there, and each coordinate of their corners is rounded once. What is wanted beside the file
 /// is there, and else it is dropped as soon as it isn't needed. `stages` is told of the stages but
 /// those of the executors. There are at most 64 files, of at
@@ -45,10 +49,11 @@ fn kept_with(scene: Scene, document: Option<Vec<u8>>) -> Option<KeptDocument>
 /// several faults the first of these is reported:
 ///
 /// 1. The first file that isn't read.
-/// 2. The surfaces are no scene: see [`scene_of`](mesh_scene::scene_of).
-/// 3. The solid has no mesh: see [`solid_mesh`](mesh_solid::solid_mesh).
-/// 4. A corner of the mesh that is too far out for a float, or for a decimal.
-/// 5. After rounding, too many triangles: 2^32 or more for an STL, 2^32 bytes or more of a GLB.
+/// 2. The first file that has no image by its placing, and then the first whose image is no mesh.
+/// 3. The surfaces are no scene: see [`scene_of`](mesh_scene::scene_of).
+/// 4. The solid has no mesh: see [`solid_mesh`](mesh_solid::solid_mesh).
+/// 5. A corner of the mesh that is too far out for a float, or for a decimal.
+/// 6. After rounding, too many triangles: 2^32 or more for an STL, 2^32 bytes or more of a GLB.
 pub fn solid_file<
     'a,
     P: Stages,
@@ -65,6 +70,7 @@ pub fn solid_file<
 ) -> Result<SolidFile, BooleanFault<'a>>
     requires few { length files.now ≤ 64 }
     requires sizes { All IsSmall files.now }
+    requires placings { AreForEach wanted.placings.now files.now }
     requires choice { IsChoice wanted.grid }
     requires digits { HasFewDigits wanted.format }
     requires executor { IsExecutor C.pre C.post executor.now }
@@ -72,7 +78,7 @@ pub fn solid_file<
     ensures output { IfOk result (IsOutput files.now (formula_of expr.now) wanted) }
     ensures fault { IfErr result (IsBooleanFault files.now (formula_of expr.now) wanted) }
 {
-    let placed = placed_files(alloc, files, wanted.grid, stages)?;
+    let placed = placed_files(alloc, files, wanted.placings, wanted.grid, stages)?;
     let sixfold_volumes = sixfold_volumes_of_meshes(alloc, &placed.scene)?;
     let SolidRun {
         mesh,
@@ -86,8 +92,11 @@ pub fn solid_file<
         executor,
         plane_executor,
     )?;
-    let kept = kept_with(placed.scene, document);
+    let lying = lying_if(alloc, wanted.counts, &placed.scene, &mesh)?;
     stages.begin(Stage::Writing);
+    let tris = placed.scene.tris.items();
+    let shown_files = shown_files_if(alloc, wanted.shows, tris, &mesh, &placed.grid)?;
+    let kept = kept_with(placed.scene, document);
     let written = written_of(alloc, mesh, &placed.grid, wanted.format, wanted.shows)?;
     Ok(SolidFile {
         written,
@@ -95,7 +104,9 @@ pub fn solid_file<
         counts: placed.counts,
         moves: placed.moves,
         sixfold_volumes,
+        lying,
         report,
+        shown_files,
         kept,
     })
 }

@@ -1,5 +1,6 @@
 // Which file is wanted.
 use mesh_grid::Wanted;
+use mesh_placing::Placing;
 use mesh_write::TextFormat;
 
 /// A format with floats of 32 bits.
@@ -21,14 +22,18 @@ pub enum MeshFormat {
     Text(TextFormat, Option<u32>),
 }
 
-/// A wanted file: the grid on which the solid is exact, the format in which it is written, and what
-/// is wanted beside it.
-#[derive(Clone, Copy, Debug, PartialEq, Eq)]
-pub struct WantedFile {
+/// A wanted file: how the files are placed, the grid on which the solid is exact, the format in which
+/// it is written, and what is wanted beside it.
+#[derive(Clone, Copy)]
+pub struct WantedFile<'a> {
+    /// None at all, or an entry for each file.
+    pub placings: &'a [Option<Placing<'a>>],
     pub grid: Wanted,
     pub format: MeshFormat,
     /// Whether the triangles are wanted as a page shows them.
     pub shows: bool,
     /// Whether the scene of the files and the document of the solid are to be kept.
     pub keeps: bool,
+    /// Whether it is counted how many triangles lie on each file.
+    pub counts: bool,
 }

@@ -9,7 +9,7 @@ use Rattle.ember_algebra.proofs.Sums.{total-append}
 use Rattle.ember_model.specs.declared.plane.Plane.{Plane}
 use Rattle.mesh_certificate.specs.declared.key.lines.LineKey.{LineKey}
 use Rattle.mesh_certificate.specs.declared.certificate.segment.Segment.{Segment}
-use Rattle.mesh_certificate.specs.declared.certificate.space_point.SpacePoint.{SpacePoint}
+use Rattle.mesh_point.specs.declared.space_point.SpacePoint.{SpacePoint}
 use Rattle.mesh_certificate.specs.declared.certificate.triangle.Triangle.{Triangle}
 use Rattle.mesh_certificate.specs.Certificate.Certificate.{edges_in, IsProper, ArePartsCertified}
 use Rattle.mesh_certificate.specs.Certificate.Chains.{is_on, coverage, chain, HaveSameChains}

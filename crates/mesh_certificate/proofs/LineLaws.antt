@@ -19,6 +19,7 @@ use Rattle.ember_model.specs.Edges.{normal}
 use Rattle.ember_model.specs.Planes.{value_at}
 use Rattle.ember_model.proofs.Tuples.{plane_tuple, spot_tuple, normalE}
 use Rattle.ember_model.proofs.SignTests.{positive_nonzero, negative_nonzero}
+use Rattle.ember_width.specs.Broad.{most_cross}
 use Rattle.mesh_certificate.specs.declared.key.lines.LineKey.{LineKey}
 use Rattle.mesh_certificate.specs.Key.Divisors.{Divides, IsGreatestDivisor}
 use Rattle.mesh_certificate.specs.Key.LineKeys.{direction, moment, coordinates, numerators, IsOnLine, IsOnBoth, direction_of}
@@ -315,7 +316,7 @@ module _ (l : LineKey) (some : direction l ≢ zero_v) where
   below_entry z n h s = omega (arith, le_of_dvd (size_positive z n) h, s.small)
 
   -- and what does is no larger than the direction's entries
-  pub divisor_small : (d : ℕ) → IsLineSized l → Divides d (coordinates l) → Small 2251799679467522 (pos d)
+  pub divisor_small : (d : ℕ) → IsLineSized l → Divides d (coordinates l) → Small most_cross (pos d)
   divisor_small d s h =
       record {
         small = by_sign l.dx (λ p. below_entry l.dx (positive_nonzero p) h.0 s.dx)

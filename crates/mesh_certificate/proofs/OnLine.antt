@@ -4,16 +4,18 @@ use Rattle.std.proofs.Common.{unsigned_abs, SFits, to_z, of_z, to_z-of_z, sym, a
 use Rattle.std.proofs.lemmas.Bool.{eqb-true, eq-eqb, false≢true}
 use Rattle.std.proofs.lemmas.Bool.Decides.{not_from_Decides}
 use Rattle.std.proofs.lemmas.Cmp.{int_ranked}
+use Rattle.std.specs.Prelude.{◌↔◌}
 use Rattle.std.specs.Bool.{Decides}
 use Rattle.std.specs.Ordering.{int_cmp}
 use Rattle.std.specs.declared.cmp.Ordering.TheVariants.{Less, Equal, Greater}
 use borrow.Author.Differences.{ints}
 use mir.Syntax.{Width}
 use Rattle.ember_algebra.specs.Size.{Small}
+use Rattle.ember_algebra.proofs.Laws.{linear}
+use Rattle.ember_algebra.proofs.Size.{small_mul}
 use Rattle.ember_algebra.proofs.Ring.{◌⊕◌, ◌⊖◌, ◌⊗◌, num, ◌≈◌, solve, cancels}
 use Rattle.ember_wide.specs.declared.whole.Wide.{Wide}
 use Rattle.ember_wide.specs.Whole.{size_of, value_of}
-use Rattle.mesh_number.proofs.Sizes.{product_size}
 use Rattle.ember_wide.proofs.Values.{size_of_value}
 
 -- a test that fails refuses what asks for more
@@ -36,17 +38,17 @@ equal_values w fx fy e f =
 -- a product of small numbers
 pub product_within : (n : Wide) (x y : ℤ) (j k : ℕ) → value_of n ≡ x *ℤ y → Small j x → Small k y → j * k < 2 ^ 255 → size_of n.size < 2 ^ 255
 product_within n x y j k e sx sy l =
-    let s : unsigned_abs (value_of n) ≤ j * k = rw e (product_size x y j k sx.small sy.small) in
+    let s : unsigned_abs (value_of n) ≤ j * k = rw e (small_mul sx sy).small in
     omega (arith, size_of_value n, s, l)
 
 pub negative_small : {k : ℕ} {y : ℤ} → Small k y → Small k (pos 0 -ℤ y)
 negative_small s = record { small = omega (arith, ints, s.small) }
 
 -- a difference of products as a sum
-pub difference_of : (n m s : Wide) (a b c d : ℤ) → value_of n ≡ a *ℤ b → value_of m ≡ c *ℤ (pos 0 -ℤ d) →
+pub difference_of : (n m s : Wide) (a b c d : ℤ) → value_of n ≡ a *ℤ b → value_of m ≡ (pos 0 -ℤ c) *ℤ d →
     value_of s ≡ value_of n +ℤ value_of m → value_of s ≡ a *ℤ b -ℤ c *ℤ d
 difference_of n m s a b c d e f g =
-    g ∙ rw (e, f) (solve 4 (λ a b c d. a ⊗ b ⊕ c ⊗ (num (pos 0) ⊖ d) ≈ a ⊗ b ⊖ c ⊗ d) cancels a b c d)
+    g ∙ rw (e, f) (solve 4 (λ a b c d. a ⊗ b ⊕ (num (pos 0) ⊖ c) ⊗ d ≈ a ⊗ b ⊖ c ⊗ d) cancels a b c d)
 
 -- what an order says of equality
 pub equal_order : {x y u v : ℤ} → Equal ≡ int_cmp x y → x ≡ u → y ≡ v → u ≡ v
@@ -59,3 +61,23 @@ less_order {x} {y} h e f q =
 pub greater_order : {x y u v : ℤ} → Greater ≡ int_cmp x y → x ≡ u → y ≡ v → u ≡ v → ⊥
 greater_order {x} {y} h e f q =
     let l : y <ℤ x = int_ranked x y Greater h in let p = e ∙ q ∙ sym f in omega (arith, ints, l, p)
+
+-- ---- moments by floors and remainders
+pub small_one : Small 1 (pos 1)
+small_one = record { small = omega arith }
+
+-- what the floors i and j leave of the moment m, as code adds it up
+pub lack_added_up : (i b j d m : ℤ) → m *ℤ pos 1 +ℤ (pos 0 -ℤ i) *ℤ b +ℤ j *ℤ d ≡ m -ℤ (i *ℤ b -ℤ j *ℤ d)
+lack_added_up i b j d m =
+    solve 5 (λ i b j d m. m ⊗ num (pos 1) ⊕ (num (pos 0) ⊖ i) ⊗ b ⊕ j ⊗ d ≈ m ⊖ (i ⊗ b ⊖ j ⊗ d)) cancels i b j d m
+
+-- the remainders r and s make up for what the floors leave exactly if the moment of the coordinates is m
+pub moment_by_rests : (i r j s v w b d m n : ℤ) → v ≡ w → n ≡ m -ℤ (i *ℤ b -ℤ j *ℤ d) →
+    (r *ℤ b -ℤ s *ℤ d ≡ n *ℤ w) ↔ ((i *ℤ w +ℤ r) *ℤ b -ℤ (j *ℤ v +ℤ s) *ℤ d ≡ w *ℤ m)
+moment_by_rests i r j s v w b d m n e f =
+    rw (e, f) (λ h. omega (arith, linear, all, h), λ h. omega (arith, linear, all, h))
+  where
+    all : (i *ℤ w +ℤ r) *ℤ b -ℤ (j *ℤ w +ℤ s) *ℤ d -ℤ w *ℤ m ≡ r *ℤ b -ℤ s *ℤ d -ℤ (m -ℤ (i *ℤ b -ℤ j *ℤ d)) *ℤ w
+    all =
+        solve 8 (λ i r j s w b d m. (i ⊗ w ⊕ r) ⊗ b ⊖ (j ⊗ w ⊕ s) ⊗ d ⊖ w ⊗ m ≈ r ⊗ b ⊖ s ⊗ d ⊖ (m ⊖ (i ⊗ b ⊖ j ⊗ d)) ⊗ w)
+        cancels i r j s w b d m

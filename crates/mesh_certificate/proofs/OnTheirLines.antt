@@ -3,7 +3,7 @@ use Rattle.std.proofs.Common.{◌≡◌, Option, Some, None, List, slice_get, re
 use Rattle.std.specs.Option.{IfSome}
 use Rattle.mesh_certificate.specs.declared.key.lines.LineKey.{LineKey}
 use Rattle.mesh_certificate.specs.declared.certificate.segment.Segment.{Segment}
-use Rattle.mesh_certificate.specs.declared.certificate.space_point.SpacePoint.{SpacePoint}
+use Rattle.mesh_point.specs.declared.space_point.SpacePoint.{SpacePoint}
 use Rattle.mesh_certificate.specs.Certificate.OnLines.{IsCornerOnLine, IsOnItsLine}
 
 -- what holds of the value, if there is one

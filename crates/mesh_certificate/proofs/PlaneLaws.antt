@@ -17,6 +17,7 @@ use Rattle.ember_model.specs.Edges.{normal}
 use Rattle.ember_model.specs.Planes.{value_at, times_plane, zero_plane}
 use Rattle.ember_model.proofs.Tuples.{plane_tuple, normalE, same_plane}
 use Rattle.ember_model.specs.Valid.{IsValidPlane}
+use Rattle.ember_width.specs.Broad.{IsBroadPlane}
 use Rattle.ember_algebra.specs.Size.{Small}
 use Rattle.ember_model.proofs.SignTests.{positive_nonzero}
 use Rattle.ember_model.proofs.PlaneValues.{value_times}
@@ -254,6 +255,10 @@ module _ (p k : Plane) (d : ℤ) (l : pos 0 <ℤ d) (e : times_plane d k ≡ p) 
 
   entry_small : {m : ℕ} (x y : ℤ) → d *ℤ x ≡ y → Small m y → Small m x
   entry_small x y e s = quotient_small x d y (positive_nonzero l) (*ℤ_comm x d ∙ e) s
+
+  pub divided_broad : IsBroadPlane p → IsBroadPlane k
+  divided_broad v =
+      record { a = entry_small k.a p.a a v.a; b = entry_small k.b p.b b v.b; c = entry_small k.c p.c c v.c; d = entry_small k.d p.d constant v.d }
 
   pub divided_valid : IsValidPlane p → IsValidPlane k
   divided_valid v =

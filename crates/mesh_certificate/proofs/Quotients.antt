@@ -44,24 +44,25 @@ stored_quotient w {m} n d fn fd p h s t =
     let i = quot_is w n d fn fd (fits_small w (quotient_small (int_div n d) d n p e s) t) in
     ap (λ (q : ℤ). q *ℤ d) i ∙ e
 
--- of a number of 128 bits that fits into 64
-pub narrow_quotient : (n d : ℤ) → SFits w64 d → d ≢ pos 0 → unsigned_abs d ∣ unsigned_abs n →
-    Small 4611686018427387903 n → to_z w128 (of_z w128
-    (to_z w64 (of_z w64 (int_div (to_z w64 (of_z w64 (to_z w128 (of_z w128 n)))) (to_z w64 (of_z w64 d)))))) *ℤ d ≡ n
-narrow_quotient n d fd p h s =
+-- of numbers of 128 bits that fit into 64
+pub narrow_quotient : (n d : ℤ) → d ≢ pos 0 → unsigned_abs d ∣ unsigned_abs n → Small 4611686018427387903 n →
+    Small 4611686018427387903 d → to_z w128 (of_z w128 (to_z w64 (of_z w64
+    (int_div (to_z w64 (of_z w64 (to_z w128 (of_z w128 n)))) (to_z w64 (of_z w64 (to_z w128 (of_z w128 d)))))))) *ℤ d ≡ n
+narrow_quotient n d p h s t =
     let k : to_z w128 (of_z w128 n) ≡ n = exact (s & done) (kept 0) tt in
-    let e = stored_quotient w64 n d (fits_small w64 s tt) fd p h s tt in
-    rw k (ap (λ (q : ℤ). q *ℤ d) (exact (quotient_small _ d n p e s & done) (kept 0) tt) ∙ e)
+    let l : to_z w128 (of_z w128 d) ≡ d = exact (t & done) (kept 0) tt in
+    let e = stored_quotient w64 n d (fits_small w64 s tt) (fits_small w64 t tt) p h s tt in
+    rw (k, l) (ap (λ (q : ℤ). q *ℤ d) (exact (quotient_small _ d n p e s & done) (kept 0) tt) ∙ e)
 
 -- ---- what the code reads and keeps
 -- a divisor still divides once both numbers are stored and read
-pub divides_read : (w : Width) {d n : ℤ} → SFits w64 d → to_z w (of_z w n) ≡ n → unsigned_abs d ∣ unsigned_abs n →
-    unsigned_abs (to_z w64 (of_z w64 d)) ∣ unsigned_abs (to_z w (of_z w n))
+pub divides_read : (w : Width) {d n : ℤ} → SFits w d → to_z w (of_z w n) ≡ n → unsigned_abs d ∣ unsigned_abs n →
+    unsigned_abs (to_z w (of_z w d)) ∣ unsigned_abs (to_z w (of_z w n))
 divides_read w f e h = rw (to_z-of_z f, e) h
 
 -- a quotient that fits is kept as the code stores it
-pub quotient_kept : (w : Width) (d q n : ℤ) → SFits w64 d → SFits w q → to_z w (of_z w n) ≡ n →
-    q *ℤ to_z w64 (of_z w64 d) ≡ to_z w (of_z w n) → d *ℤ to_z w (of_z w q) ≡ n
+pub quotient_kept : (w : Width) (d q n : ℤ) → SFits w d → SFits w q → to_z w (of_z w n) ≡ n →
+    q *ℤ to_z w (of_z w d) ≡ to_z w (of_z w n) → d *ℤ to_z w (of_z w q) ≡ n
 quotient_kept w d q n fd fq en e =
     ap (λ (x : ℤ). d *ℤ x) (to_z-of_z fq) ∙ *ℤ_comm d q ∙ ap (λ (x : ℤ). q *ℤ x) (sym (to_z-of_z fd)) ∙ e ∙ en
 

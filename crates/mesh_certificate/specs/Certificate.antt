@@ -2,7 +2,6 @@ pub mod Segments
 pub mod Chains
 pub mod Closed
 pub mod Keys
-pub mod SpacePoints
 pub mod Facing
 pub mod OnLines
 pub mod Certificate

@@ -1,3 +1,4 @@
 pub mod Divisors
 pub mod PlaneKeys
 pub mod LineKeys
+pub mod Lacks

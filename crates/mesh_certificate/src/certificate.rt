@@ -4,6 +4,7 @@
 mod certificate;
 mod chains;
 mod closed;
+mod corners;
 mod facing;
 mod free_pairs;
 mod keys;
@@ -11,7 +12,6 @@ mod law;
 mod on_lines;
 mod order;
 mod segment;
-mod space_point;
 mod triangle;
 mod unmatched;
 
@@ -27,5 +27,4 @@ pub use law::{
 };
 pub use on_lines::are_on_lines;
 pub use segment::Segment;
-pub use space_point::SpacePoint;
 pub use triangle::Triangle;

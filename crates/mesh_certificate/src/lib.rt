@@ -5,7 +5,7 @@ mod certificate;
 mod key;
 
 pub use certificate::{
-    Segment, SpacePoint, Triangle, are_closed, are_free_paired, are_on_lines, are_parts_certified,
+    Segment, Triangle, are_closed, are_free_paired, are_on_lines, are_parts_certified,
     are_triangles_closed, closed_segments_cancel, faces_front, is_certified,
     one_boundary_has_one_chain, one_boundary_has_one_sum, one_chain_has_one_boundary, same_chains,
     segment_key,

@@ -2,3 +2,5 @@ pub mod EdgeUses
 pub mod Meshes
 pub mod SaidLines
 pub mod Rounded
+pub mod PageReadBack
+pub mod FileNumbers

@@ -2,7 +2,9 @@
 #![tactic(auto)]
 
 mod info;
+mod page;
 mod view;
 
 pub use info::{BoundingBox, Info, info_of, put_info, put_quoted, triangles_of};
+pub use page::page_bytes;
 pub use view::view_of;

@@ -1,5 +1,6 @@
 // The page that shows surfaces.
 
+mod files;
 mod floats;
 mod views;
 

@@ -6,7 +6,6 @@ pub mod SignedFloors
 pub mod Doublings
 pub mod Denominators
 pub mod Sizes
-pub mod Determinants
 pub mod Halving
 pub mod Digits
 pub mod Distances

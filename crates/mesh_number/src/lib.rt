@@ -5,12 +5,11 @@
 mod float;
 mod number;
 mod round;
-mod wide;
 
+pub use ember_wide::{Magnitude, Wide};
 pub use float::nearest_binary32;
 pub use number::{
     Binary, Decimal, Exponent, MOST, Number, binary32, binary64, floor_times, integer,
     is_below_limit, number_below, number_in, read_decimal,
 };
 pub use round::{divide, nearest, put_decimal, put_shifted};
-pub use wide::{Magnitude, PlanePoint, Wide, compare_fractions, turn};

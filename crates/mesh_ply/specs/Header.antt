@@ -152,6 +152,11 @@ abbrev pub is_passed : List ℕ → Bool
 is_passed keyword =
     bytes_eq keyword (codes "ply") || bytes_eq keyword (codes "comment") || bytes_eq keyword (codes "obj_info")
 
+-- a line that isn't understood: before the first element no rows hang on it, and it is passed over
+abbrev pub stray_entry : Option ElementKind → Option Entry
+stray_entry None = Some entry.Passed
+stray_entry (Some kind) = None
+
 abbrev pub entry_behind : Option ElementKind → List ℕ → List Piece → Option Entry
 entry_behind kind keyword words =
     if bytes_eq keyword (codes "property") then property_entry kind words
@@ -159,7 +164,7 @@ entry_behind kind keyword words =
     else (if bytes_eq keyword (codes "format") then format_entry words
     else (if is_passed keyword then Some entry.Passed
     else (if bytes_eq keyword (codes "end_header") then Some entry.End
-    else None))))
+    else stray_entry kind))))
 
 -- what a line says, after an element of this kind, or before the first element
 abbrev pub entry_of : Option ElementKind → List Piece → Option Entry

@@ -1,7 +1,7 @@
 // What a line of the header says.
 ghost use Rattle.std.specs.Prelude.{◌≡◌};
 ghost use Rattle.mesh_read.specs.Scan.Parts.{words_in};
-ghost use Rattle.mesh_ply.specs.Header.{two_of, four_of, format_entry, element_entry, scalar_entry, list_entry, property_entry, entry_behind, entry_of};
+ghost use Rattle.mesh_ply.specs.Header.{two_of, four_of, format_entry, element_entry, scalar_entry, list_entry, property_entry, stray_entry, entry_behind, entry_of};
 
 use crate::declarations::{Declaration, Element, ElementKind, Entry};
 use crate::names::{
@@ -60,6 +60,16 @@ fn read_property<'a>(kind: Option<ElementKind>, words: Part<'a>) -> Option<Entry
     }
 }
 
+// What a line says that isn't understood: before the first element it is passed over.
+fn stray_entry(kind: Option<ElementKind>) -> Option<Entry>
+    ensures { result ≡ stray_entry kind }
+{
+    match kind {
+        Some(_) => None,
+        None => Some(Entry::Passed),
+    }
+}
+
 fn read_behind<'a>(kind: Option<ElementKind>, keyword: &[u8], words: Part<'a>) -> Option<Entry>
     ensures { result ≡ entry_behind kind keyword.now (words_in words.entry) }
 {
@@ -78,7 +88,7 @@ fn read_behind<'a>(kind: Option<ElementKind>, keyword: &[u8], words: Part<'a>) -
     if is_name(keyword, b"end_header") {
         return Some(Entry::End);
     }
-    None
+    stray_entry(kind)
 }
 
 // What a line says after an element of this kind, or before the first element.

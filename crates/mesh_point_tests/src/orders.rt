@@ -40,6 +40,47 @@ const BELOW_ZERO: Coordinate = Coordinate {
     weight: 3,
 };
 
+const MINUS_HALF: Coordinate = Coordinate {
+    floor: -1,
+    rest: 1,
+    weight: 2,
+};
+
+// 2^85 / 2^74
+const LONG: Coordinate = Coordinate {
+    floor: 2048,
+    rest: 0,
+    weight: 18889465931478580854784,
+};
+
+// (2^85 + 1) / 2^74
+const LONGER: Coordinate = Coordinate {
+    floor: 2048,
+    rest: 1,
+    weight: 18889465931478580854784,
+};
+
+// 2^85 / (2^74 + 1)
+const SHORTER: Coordinate = Coordinate {
+    floor: 2047,
+    rest: 18889465931478580852737,
+    weight: 18889465931478580854785,
+};
+
+// -2^85 / 2^74
+const MINUS_LONG: Coordinate = Coordinate {
+    floor: -2048,
+    rest: 0,
+    weight: 18889465931478580854784,
+};
+
+// -2^85 / (2^74 + 1)
+const MINUS_SHORTER: Coordinate = Coordinate {
+    floor: -2048,
+    rest: 2048,
+    weight: 18889465931478580854785,
+};
+
 const HEAVY: Coordinate = Coordinate {
     floor: 5,
     rest: 7975367974687734572669798827746656249,
@@ -66,7 +107,7 @@ const GREATEST: Coordinate = Coordinate {
 
 #[test]
 fn orders(rt: HostRuntime) {
-    let rows: [(Coordinate, Coordinate, Ordering); 9] = [
+    let rows: [(Coordinate, Coordinate, Ordering); 15] = [
         (ZERO, ZERO_AGAIN, Ordering::Equal),
         (THIRD, TWO_SIXTHS, Ordering::Equal),
         (THIRD, HALF, Ordering::Less),
@@ -76,6 +117,12 @@ fn orders(rt: HostRuntime) {
         (HEAVY, LESS_HEAVY, Ordering::Greater),
         (HEAVY, HEAVY, Ordering::Equal),
         (LEAST, GREATEST, Ordering::Less),
+        (MINUS_HALF, BELOW_ZERO, Ordering::Less),
+        (LONG, LONG, Ordering::Equal),
+        (LONGER, LONG, Ordering::Greater),
+        (SHORTER, LONG, Ordering::Less),
+        (MINUS_SHORTER, MINUS_LONG, Ordering::Greater),
+        (MINUS_LONG, LONG, Ordering::Less),
     ];
     for (first, second, want) in rows {
         assert!(rt; first.compare(&second) == want);

@@ -2,8 +2,6 @@
 #![tactic(auto)]
 
 #[cfg(test)]
-mod comparisons;
-#[cfg(test)]
 mod fans;
 #[cfg(test)]
 mod files;

@@ -21,7 +21,7 @@ fn count(alloc: Global, bytes: &[u8]) -> Result<(usize, usize), PlyFault> {
     }
 }
 
-static PLY_FILES_THAT_ARE_READ: [(&[u8], (usize, usize)); 5] = [
+static PLY_FILES_THAT_ARE_READ: [(&[u8], (usize, usize)); 6] = [
     (
         b"ply\nformat ascii 1.0\nelement vertex 3\nproperty float x\nproperty float y\nproperty float z\n\
         element face 1\nproperty list uchar int vertex_indices\nend_header\n0 0 0\n1 0 0\n0 1 0\n3 0 1 2\n",
@@ -56,6 +56,12 @@ static PLY_FILES_THAT_ARE_READ: [(&[u8], (usize, usize)); 5] = [
         element face 1\nproperty list uchar int vertex_indices\nend_header\n0 0 0\n1 0 0\n0 1 0\n3 2 2 2",
         (3, 1),
     ),
+    (
+        b"ply\ncomment of two lines,\nwith one word\nformat ascii 1.0\nformat_of nothing\nelement vertex 3\n\
+        property float x\nproperty float y\nproperty float z\nelement face 1\n\
+        property list uchar int vertex_indices\nend_header\n0 0 0\n1 0 0\n0 1 0\n3 0 1 2\n",
+        (3, 1),
+    ),
 ];
 
 #[test]
@@ -65,10 +71,18 @@ fn ply_files_that_are_read(rt: HostRuntime) {
     }
 }
 
-static PLY_HEADERS_THAT_ARE_REFUSED: [(&[u8], PlyFault); 11] = [
+static PLY_HEADERS_THAT_ARE_REFUSED: [(&[u8], PlyFault); 13] = [
     (b"", PlyFault::NoEnd),
     (b"ply\nformat ascii 1.0\n", PlyFault::NoEnd),
-    (b"ply\nend\n", PlyFault::NotUnderstood(2)),
+    (b"ply\nend\n", PlyFault::NoEnd),
+    (
+        b"ply\nelement vertex 1\nend\n",
+        PlyFault::NotUnderstood(3),
+    ),
+    (
+        b"ply\nelemnt vertex 1\nproperty float x\n",
+        PlyFault::NotUnderstood(3),
+    ),
     (b"ply\nproperty float x\n", PlyFault::NotUnderstood(2)),
     (b"ply\nelement vertex -1\n", PlyFault::NotUnderstood(2)),
     (

@@ -6,8 +6,6 @@ use Rattle.mesh_solid.specs.declared.mesh.fault.DocumentFault.{DocumentFault}
 use Rattle.mesh_solid.specs.declared.mesh.fault.DocumentFault.TheVariants as document
 use Rattle.mesh_solid.specs.declared.tables.fault.TableFault.{TableFault}
 use Rattle.mesh_solid.specs.declared.tables.fault.TableFault.TheVariants as table
-use Rattle.mesh_triangles.specs.declared.fault.TrianglesFault.{TrianglesFault}
-use Rattle.mesh_triangles.specs.declared.fault.TrianglesFault.TheVariants as triangles
 use Rattle.mesh_refusal.specs.Lines.{file_text, reading_why, too_far_text, too_many_text, uncut_text}
 use Rattle.mesh_refusal.specs.declared.status.Status.{Status}
 use Rattle.mesh_refusal.specs.declared.status.Status.TheVariants.{NotAScene, TooManyWritten, TooFar, DocumentRefused}
@@ -40,22 +38,17 @@ table_text name (table.NoCorner face) =
 table_text name table.TooMany = named_text name (codes "more than 2147483647 edges")
 table_text name table.OutOfMemory = codes "out of memory"
 
--- its faces have no triangles; where that isn't known to be its own fault, it isn't named
-abbrev pub uncut_document_text : List ℕ → TrianglesFault → List ℕ
-uncut_document_text name (triangles.Overlap plane line) =
-    named_text name (codes "faces of one plane overlap; not a document of bool")
-uncut_document_text name (triangles.NotClosed line) =
-    named_text name (codes "the document isn't closed along a line; not a document of bool")
-uncut_document_text name fault = uncut_text fault
-
--- why a document of this name has no mesh
+-- why a document of this name has no mesh. Where that isn't its own fault, it isn't named
 abbrev pub document_text : List ℕ → DocumentFault → List ℕ
 document_text name document.NotADocument = named_text name (codes "not a face file")
 document_text name (document.OffPlane face) = face_text name face (codes "a corner off its plane")
 document_text name (document.OffEdge face) = face_text name face (codes "a corner off its edge")
 document_text name (document.NotRound face) = face_text name face (codes "its edges don't lead around it")
 document_text name (document.NoTables fault) = table_text name fault
-document_text name (document.NotCut fault) = uncut_document_text name fault
+document_text name document.NotClosed =
+    named_text name (codes "the document isn't closed along a line; not a document of bool")
+document_text name document.Overlap = named_text name (codes "faces of one plane overlap; not a document of bool")
+document_text name (document.NotCut fault) = uncut_text fault
 document_text name document.OutOfMemory = codes "out of memory"
 
 -- ---- all of them

@@ -1,5 +1,6 @@
 pub mod Numbers
 pub mod Lines
+pub mod Placings
 pub mod WordLines
 pub mod ExportLines
 pub mod Statuses

@@ -2,8 +2,6 @@
 use Rattle.std.specs.Prelude.{ℕ}
 use Rattle.mesh_solid.specs.declared.mesh.fault.DocumentFault.{DocumentFault}
 use Rattle.mesh_solid.specs.declared.mesh.fault.DocumentFault.TheVariants as document
-use Rattle.mesh_triangles.specs.declared.fault.TrianglesFault.{TrianglesFault}
-use Rattle.mesh_triangles.specs.declared.fault.TrianglesFault.TheVariants as triangles
 use Rattle.mesh_refusal.specs.declared.status.Status.{Status}
 use Rattle.mesh_refusal.specs.declared.status.Status.TheVariants.{Done, Words, StepOfNoGrid, ReadFault}
 use Rattle.mesh_refusal.specs.declared.status.Status.TheVariants.{WriteFault, NotWritten, NotAScene}
@@ -14,15 +12,9 @@ use Rattle.mesh_refusal.specs.declared.status.Status.TheVariants.{TooManyTriangl
 use Rattle.mesh_refusal.specs.declared.status.Status.TheVariants.{StepTooSmall, TooFar, OutOfMemory}
 use Rattle.mesh_refusal.specs.declared.status.Status.TheVariants.{Uncertified}
 
--- of faces without triangles: they are to blame, or it isn't known why
-abbrev pub uncut_number : TrianglesFault → ℕ
-uncut_number (triangles.Overlap plane line) = 11
-uncut_number (triangles.NotClosed line) = 11
-uncut_number fault = 14
-
--- of a document without a mesh
+-- of a document without a mesh: it is to blame, or it isn't known why
 abbrev pub document_number : DocumentFault → ℕ
-document_number (document.NotCut fault) = uncut_number fault
+document_number (document.NotCut fault) = 14
 document_number fault = 11
 
 -- the exit status

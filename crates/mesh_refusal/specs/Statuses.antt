@@ -10,6 +10,8 @@ use Rattle.mesh_file.specs.File.Reasons.{reason_of}
 use Rattle.mesh_file.specs.declared.format.format.Format.{Format}
 use Rattle.mesh_file.specs.Format.Formats.{format_said}
 use Rattle.mesh_scene.specs.declared.scene.fault.SceneFault.TheVariants as scene
+use Rattle.mesh_placing.specs.declared.image.ImageFault.{ImageFault}
+use Rattle.mesh_refusal.specs.Placings.{image_reason}
 use Rattle.mesh_refusal.specs.declared.status.Status.{Status}
 use Rattle.mesh_refusal.specs.declared.status.Status.TheVariants.{FileRefused}
 use Rattle.mesh_refusal.specs.declared.status.Status.TheVariants.{NoTriangles, NotClosed}
@@ -33,6 +35,7 @@ pub record HasFormat (files : List InputFile) (index : ℕ) (format : Format) : 
 -- the file that the fault names by its index, if it names one, is there
 abbrev pub NamesFile : List InputFile → BooleanFault → Type 0
 NamesFile files (boolean.File index fault) = index < length files
+NamesFile files (boolean.Image index fault) = index < length files
 NamesFile files (boolean.Scene (scene.Open o)) = o.file < length files
 NamesFile files fault = ⊤
 
@@ -43,9 +46,16 @@ IsRefusalStatus files index fault status =
     ((reason : String Global) × (status ≡ FileRefused (index + 1) reason) ×
     HasReason files index fault (string_bytes reason)) ⊎ (status ≡ OutOfMemory)
 
+-- the reason of the file that is no mesh where it is placed is made, or there is no memory for it
+abbrev pub IsUnplaceableStatus : ℕ → ImageFault → Status → Type 0
+IsUnplaceableStatus index fault status =
+    ((reason : String Global) × (status ≡ FileRefused (index + 1) reason) ×
+    (string_bytes reason ≡ image_reason fault)) ⊎ (status ≡ OutOfMemory)
+
 -- the status of files with this fault
 abbrev pub IsStatusOf : List InputFile → BooleanFault → Status → Type 0
 IsStatusOf files (boolean.File index fault) status = IsRefusalStatus files index fault status
+IsStatusOf files (boolean.Image index fault) status = IsUnplaceableStatus index fault status
 IsStatusOf files (boolean.Scene scene.NoTriangles) status = status ≡ NoTriangles
 IsStatusOf files (boolean.Scene (scene.StepTooSmall extent)) status = status ≡ StepTooSmall extent
 IsStatusOf files (boolean.Scene (scene.Open o)) status =

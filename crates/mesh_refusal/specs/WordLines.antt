@@ -3,6 +3,7 @@ use Rattle.std.specs.Prelude.{ℕ, ◌-◌, List, [], ◌++◌, length, codes, g
 use Rattle.mesh_words.specs.declared.faults.Refusal.{Refusal}
 use Rattle.mesh_words.specs.declared.faults.Refusal.TheVariants as refusal
 use Rattle.mesh_words.specs.declared.names.Setting.{Setting}
+use Rattle.mesh_refusal.specs.Placings.{place_text}
 use Rattle.mesh_words.specs.Given.{input_given, output_given, step_given, value_given}
 use Rattle.mesh_words.specs.Spelling.{option_of}
 
@@ -55,3 +56,5 @@ refusal_text words refusal.OutputEnding =
 refusal_text words refusal.NotAStep = codes "--step " ++ (step_given words ++ codes ": not a number above 0")
 refusal_text words refusal.Workers = word_text (codes "--workers") (codes "not a number from 1 to 64")
 refusal_text words refusal.Digits = word_text (codes "--digits") (codes "not a number from 0 to 17")
+refusal_text words (refusal.Place fault) = codes "--place: " ++ (place_text fault ++ codes "; see ember-mesh help")
+refusal_text words refusal.Turn = word_text (codes "--turn") (codes "not the number of a file")

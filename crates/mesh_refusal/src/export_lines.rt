@@ -1,6 +1,6 @@
 // Why a document isn't exported.
 ghost use Rattle.std.specs.Prelude.{◌≡◌, ◌++◌, ◌+◌, IfOk, OnOk, decimal};
-ghost use Rattle.mesh_refusal.specs.ExportLines.{document_text, export_why, face_text, named_text, names_read, table_text, uncut_document_text};
+ghost use Rattle.mesh_refusal.specs.ExportLines.{document_text, export_why, face_text, named_text, names_read, table_text};
 
 use crate::lines::{put_file, put_reading_why, put_uncut, too_far_text, too_many_text};
 use crate::status::Status;
@@ -9,7 +9,6 @@ use ember_words::{Text, Texts};
 use itoa::Buffer;
 use mesh_solid::{DocumentFault, TableFault};
 use mesh_texts::put_value;
-use mesh_triangles::TrianglesFault;
 use mesh_words::ExportRequest;
 use std::alloc::Global;
 
@@ -54,21 +53,6 @@ fn put_table_why(name: &[u8], fault: &TableFault, text: &mut Vec<u8>) -> Result<
     }
 }
 
-// Appends why the faces of a document have no triangles.
-fn put_uncut_document(
-    name: &[u8],
-    fault: &TrianglesFault,
-    text: &mut Vec<u8>,
-) -> Result<(), OutOfMemory>
-    ensures { OnOk result (text.new.items ≡ text.old.items ++ uncut_document_text name.now fault.now) }
-{
-    match fault {
-        TrianglesFault::Overlap { .. } => put_value(name, b": ", OVERLAP, text),
-        TrianglesFault::NotClosed(_) => put_value(name, b": ", NOT_CLOSED, text),
-        _ => put_uncut(fault, text),
-    }
-}
-
 // Appends why a document has no mesh.
 fn put_document_why(
     name: &[u8],
@@ -85,7 +69,9 @@ fn put_document_why(
             put_face(name, *face, b"its edges don't lead around it", text)
         }
         DocumentFault::NoTables(fault) => put_table_why(name, fault, text),
-        DocumentFault::NotCut(fault) => put_uncut_document(name, fault, text),
+        DocumentFault::NotClosed => put_value(name, b": ", NOT_CLOSED, text),
+        DocumentFault::Overlap => put_value(name, b": ", OVERLAP, text),
+        DocumentFault::NotCut(fault) => put_uncut(fault, text),
         DocumentFault::OutOfMemory => text.extend_from_slice(b"out of memory"),
     }
 }

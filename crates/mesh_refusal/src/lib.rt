@@ -4,6 +4,7 @@
 
 mod export_lines;
 mod lines;
+mod placings;
 mod refusal_objects;
 mod refusals;
 mod said;

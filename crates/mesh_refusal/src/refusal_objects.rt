@@ -9,7 +9,7 @@ use mesh_texts::{keyed, number, object_line, optional, string};
 use std::alloc::Global;
 
 // What helps, as lines end.
-const REMEDIES: [&[u8]; 23] = [
+const REMEDIES: [&[u8]; 26] = [
     b"export anew",
     b"it is cut off, export anew",
     b"remove the facet or export anew",
@@ -30,6 +30,9 @@ const REMEDIES: [&[u8]; 23] = [
     b"simplify the meshes",
     b"move the meshes to the origin",
     b"give another name",
+    b"give fewer digits",
+    b"give another factor",
+    b"move it less far",
     b"give at most 12 digits and 12 decimal places",
     b"take the scene.json that snap or --keep wrote",
     b"see ember-mesh help",

@@ -3,11 +3,13 @@ ghost use Rattle.std.specs.Prelude.{◌≡◌, ◌<◌, ◌≤◌, length, slice
 ghost use Rattle.mesh_boolean.specs.Files.{IsSmall};
 ghost use Rattle.mesh_file.specs.File.Faults.{fault_of};
 ghost use Rattle.mesh_file.specs.File.Reasons.{reason_of};
-ghost use Rattle.mesh_refusal.specs.Statuses.{IsRefusalStatus, IsStatusOf, NamesFile};
+ghost use Rattle.mesh_refusal.specs.Statuses.{IsRefusalStatus, IsUnplaceableStatus, IsStatusOf, NamesFile};
 
+use crate::placings::image_reason;
 use crate::status::Status;
 use mesh_boolean::{BooleanFault, InputFile};
 use mesh_file::{FileFault, format_of, put_reason};
+use mesh_placing::ImageFault;
 use mesh_scene::{Open, SceneFault};
 use std::alloc::{AllocError, Global};
 
@@ -42,6 +44,17 @@ fn refused(alloc: Global, files: &[InputFile], index: u32, fault: &FileFault) ->
     }
 }
 
+// The file with this index is refused since it is no mesh where it is placed.
+fn unplaceable(alloc: Global, index: u32, fault: &ImageFault) -> Status
+    requires { index < 64 }
+    ensures { IsUnplaceableStatus index fault.now result }
+{
+    match image_reason(alloc, fault) {
+        Ok(why) => Status::FileRefused(index + 1, why),
+        Err(_) => Status::OutOfMemory,
+    }
+}
+
 // A file isn't closed.
 fn not_closed(files: &[InputFile], fault: Open) -> Status
     requires small { All IsSmall files.now }
@@ -62,6 +75,7 @@ pub fn status_of<'a>(alloc: Global, files: &[InputFile<'a>], fault: BooleanFault
 {
     match fault {
         BooleanFault::File(index, fault) => refused(alloc, files, index, &fault),
+        BooleanFault::Image(index, fault) => unplaceable(alloc, index, &fault),
         BooleanFault::Scene(SceneFault::NoTriangles) => Status::NoTriangles,
         BooleanFault::Scene(SceneFault::StepTooSmall(extent)) => Status::StepTooSmall(extent),
         BooleanFault::Scene(SceneFault::Open(fault)) => not_closed(files, fault),

@@ -9,7 +9,6 @@ use mesh_file::Format;
 use mesh_grid::SceneExtent;
 use mesh_scene::Open;
 use mesh_solid::{DocumentFault, SolidFault};
-use mesh_triangles::TrianglesFault;
 use mesh_words::Refusal;
 use std::alloc::{AllocError, AllocFailed};
 
@@ -66,10 +65,7 @@ fn document_number(fault: &DocumentFault) -> u8
     ensures { result ≡ document_number fault.now }
 {
     match fault {
-        DocumentFault::NotCut(fault) => match fault {
-            TrianglesFault::Overlap { .. } | TrianglesFault::NotClosed(_) => 11,
-            _ => 14,
-        },
+        DocumentFault::NotCut(_) => 14,
         _ => 11,
     }
 }

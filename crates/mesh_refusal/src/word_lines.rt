@@ -1,9 +1,12 @@
 // Why words are refused.
 ghost use Rattle.std.specs.Prelude.{◌≡◌, ◌++◌, codes, map, OnOk, string_bytes};
 ghost use Rattle.mesh_words.specs.Given.{input_given, output_given, step_given};
+ghost use Rattle.mesh_refusal.specs.Placings.{place_text};
 ghost use Rattle.mesh_refusal.specs.WordLines.{foreign_text, refusal_text, value_text, word_text, word_at};
 
+use crate::placings::put_place;
 use ember_model::OutOfMemory;
+use mesh_placing::PlaceFault;
 use mesh_texts::put_value;
 use mesh_words::{Refusal, Setting, input_given, output_given, step_given, value_given};
 use std::alloc::Global;
@@ -138,6 +141,16 @@ fn put_over_output(
     )
 }
 
+// Appends that a value of `--place` says no placing.
+fn put_no_place(fault: &PlaceFault, text: &mut Vec<u8>) -> Result<(), OutOfMemory>
+    ensures { OnOk result (text.new.items ≡
+        text.old.items ++ (codes "--place: " ++ (place_text fault.now ++ codes "; see ember-mesh help"))) }
+{
+    text.extend_from_slice(b"--place: ")?;
+    put_place(fault, text)?;
+    text.extend_from_slice(b"; see ember-mesh help")
+}
+
 /// Appends why the words are refused.
 pub fn put_refusal(
     alloc: Global,
@@ -178,5 +191,7 @@ pub fn put_refusal(
         Refusal::NotAStep => put_no_step(alloc, words, text),
         Refusal::Workers => put_word(b"--workers", b"not a number from 1 to 64", text),
         Refusal::Digits => put_word(b"--digits", b"not a number from 0 to 17", text),
+        Refusal::Place(fault) => put_no_place(&fault, text),
+        Refusal::Turn => put_word(b"--turn", b"not the number of a file", text),
     }
 }

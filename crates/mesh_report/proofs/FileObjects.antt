@@ -7,7 +7,7 @@ use Rattle.mesh_report.specs.ReportObjects.{file_object, file_objects, first_vol
 use Rattle.mesh_report.specs.Reports.{first_move}
 
 -- an element comes before those after it
-first_element : {A : Type 0} (xs : List A) (i : ℕ) (x : A) → i < length xs → x ≡ get_or xs i x → drop i xs ≡ x ∷ drop (i + 1) xs
+pub first_element : {A : Type 0} (xs : List A) (i : ℕ) (x : A) → i < length xs → x ≡ get_or xs i x → drop i xs ≡ x ∷ drop (i + 1) xs
 first_element {A = A} xs i x inside is =
     let next : suc i ≡ i + 1 = omega arith in
     drop-cons xs i x inside ∙ ap (λ (y : A). y ∷ drop (suc i) xs) (sym is) ∙ ap (λ (k : ℕ). x ∷ drop k xs) next

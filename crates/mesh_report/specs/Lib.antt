@@ -1,4 +1,5 @@
 pub mod Volumes
+pub mod Lying
 pub mod Reports
 pub mod Messages
 pub mod ReportObjects

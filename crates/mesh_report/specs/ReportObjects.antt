@@ -1,5 +1,5 @@
 -- The report as an object of JSON: the numbers of the lines, under keys
-use Rattle.std.specs.Prelude.{ℕ, ◌+◌, ℤ, pos, int_lt, ◌==◌, List, [], ◌∷◌, ◌++◌, codes, decimal, drop}
+use Rattle.std.specs.Prelude.{ℕ, ◌+◌, ℤ, pos, int_lt, ◌==◌, List, [], ◌∷◌, ◌++◌, codes, decimal, drop, map}
 use Rattle.std.specs.Prelude.{if◌then◌else◌}
 use Rattle.std.specs.Fmt.{signed_decimal}
 use Rattle.std.specs.Str.{bytes_eq}
@@ -16,6 +16,7 @@ use Rattle.mesh_scene.specs.declared.scene.scene.PlacedScene.{PlacedScene}
 use Rattle.mesh_words.specs.declared.command.OutputFormat.{OutputFormat}
 use Rattle.mesh_texts.specs.Texts.{size_text, step_text}
 use Rattle.mesh_texts.specs.Objects.{array, object, object_line, truth_value}
+use Rattle.mesh_report.specs.Lying.{missed_warnings, told}
 use Rattle.mesh_report.specs.Reports.{coarse_text, first_move, is_text, is_unpaired, rounding_text, unpaired_text}
 use Rattle.mesh_report.specs.Volumes.{turned_text, volume_text}
 
@@ -93,15 +94,23 @@ unpaired_warning format mesh = if is_unpaired format mesh then quoted (unpaired_
 abbrev pub mesh_warnings : OutputFormat → OutputMesh → List (List ℕ)
 mesh_warnings format mesh = coarse_warning format mesh ++ unpaired_warning format mesh
 
+-- of a Boolean: of the volumes of files, of the triangles on them, and of the mesh
+abbrev pub solid_warnings : List (List ℕ) → OutputFormat → SolidFile → List (List ℕ)
+solid_warnings names format out =
+    let all = out.written.triangles in
+    turned_warnings 1 names out.grid.step out.sixfold_volumes.items ++
+    (missed_warnings names (told all out.lying) all ++ mesh_warnings format out.written)
+
 -- ---- reports
 abbrev pub solid_object : List (List ℕ) → OutputFormat → SolidFile → List ℕ
 solid_object names format out =
     let step = out.grid.step in
     let files = file_objects names step out.counts.items out.moves.items out.sixfold_volumes.items in
-    let warnings = turned_warnings 1 names step out.sixfold_volumes.items ++ mesh_warnings format out.written in
     object_line (
     (codes "step", step_text step) ∷ (codes "offset", offset_value out.grid) ∷ (codes "files", array files) ∷
-    (codes "result", result_object format out.report.faces out.written) ∷ (codes "warnings", array warnings) ∷ [])
+    (codes "result", result_object format out.report.faces out.written) ∷
+    (codes "triangles on files", array (map decimal (told out.written.triangles out.lying))) ∷
+    (codes "warnings", array (solid_warnings names format out)) ∷ [])
 
 abbrev pub scene_object : List (List ℕ) → PlacedScene → List ℕ
 scene_object names placed =

@@ -19,6 +19,7 @@ use Rattle.mesh_scene.specs.declared.scene.counts.Counts.{Counts}
 use Rattle.mesh_scene.specs.declared.scene.scene.PlacedScene.{PlacedScene}
 use Rattle.mesh_texts.specs.Texts.{line, step_text}
 use Rattle.mesh_texts.specs.Texts as texts
+use Rattle.mesh_report.specs.Lying.{on_file_lines, told}
 use Rattle.mesh_report.specs.Volumes.{volume_lines}
 
 -- the grid
@@ -132,11 +133,17 @@ abbrev pub mesh_lines : OutputFormat → ℕ → OutputMesh → List ℕ
 mesh_lines format faces mesh =
     empty_line mesh ++ (coarse_line format mesh ++ (unpaired_line format mesh ++ mesh_line faces mesh))
 
+-- the lines of the triangles on each file, and those of the mesh
+abbrev pub result_lines : List (List ℕ) → OutputFormat → SolidFile → List ℕ
+result_lines names format out =
+    on_file_lines names (told out.written.triangles out.lying) out.written.triangles
+    ++ mesh_lines format out.report.faces out.written
+
 -- all lines of a Boolean
 abbrev pub report_lines : List (List ℕ) → OutputFormat → SolidFile → List ℕ
 report_lines names format out =
     scene_lines names out.grid out.counts.items out.moves.items out.sixfold_volumes.items
-    ++ mesh_lines format out.report.faces out.written
+    ++ result_lines names format out
 
 -- ---- reports, unless they are to be quiet
 abbrev pub report_of : Request → SolidFile → List ℕ

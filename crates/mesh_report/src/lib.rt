@@ -2,6 +2,7 @@
 //! and `--version`. It makes texts, and reads and writes nothing.
 #![tactic(auto)]
 
+mod lying;
 mod messages;
 mod report;
 mod report_objects;

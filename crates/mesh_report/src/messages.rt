@@ -34,6 +34,10 @@ options
                      six more than the step has
   --view PAGE        also write a page for a browser that shows the result
   --keep DIR         also write what snap writes, and the document, doc.txt
+  --place N:STEPS    place file N by steps with semicolons between them:
+                     move=X,Y,Z, scale=S, scale=X,Y,Z, turn=AXIS,DEGREES and
+                     mirror=AXIS; once for each file
+  --turn N           turn file N inside out
   --scene SCENE      the scene.json of a document; without it the step is 1
                      and nothing is moved
   --json             the report, or why nothing is written, as one JSON object

@@ -3,8 +3,9 @@ ghost use Rattle.std.specs.Prelude.{◌≡◌, ◌++◌, ◌<◌, drop, IfOk, On
 ghost use Rattle.mesh_texts.specs.Texts.{line};
 ghost use Rattle.mesh_grid.specs.Moves.Shown.{rounded_of};
 ghost use Rattle.mesh_grid.specs.Snap.Steps.{IsStep};
-ghost use Rattle.mesh_report.specs.Reports.{coarse_line, coarse_text, counts_line, counts_lines, empty_line, export_report, first_move, grid_line, is_text, is_unpaired, losses_text, mesh_line, mesh_lines, mesh_text, name_of_format, remedy, report_of, scene_lines, snap_report, unpaired_line, unpaired_text};
+ghost use Rattle.mesh_report.specs.Reports.{coarse_line, coarse_text, counts_line, counts_lines, empty_line, export_report, first_move, grid_line, is_text, is_unpaired, losses_text, mesh_line, mesh_lines, mesh_text, name_of_format, remedy, report_of, result_lines, scene_lines, snap_report, unpaired_line, unpaired_text};
 
+use crate::lying::{put_on_files, told};
 use crate::volumes::put_volumes;
 use ember_model::OutOfMemory;
 use ember_words::Text;
@@ -288,10 +289,27 @@ fn put_scene(
     put_volumes(alloc, names, &grid.step, sixfold_volumes, text)
 }
 
+// Appends the lines of the triangles on each file, and those of the mesh.
+fn put_result(
+    alloc: Global,
+    request: &Request,
+    output: &SolidFile,
+    text: &mut Vec<u8>,
+) -> Result<(), OutOfMemory>
+    ensures { OnOk result (text.new.items ≡
+        text.old.items ++ result_lines request.now.files request.now.format output.now) }
+{
+    let mesh = &output.written;
+    let counts = told(mesh.triangles, &output.lying);
+    put_on_files(alloc, request.files.items(), counts, mesh.triangles, text)?;
+    put_mesh_lines(alloc, request.format, output.report.faces, mesh, text)
+}
+
 /// The report of an output; empty if the request wants none. It has a line for the grid, a line for
-/// each file, one for the volume of each, which is a warning if the volume is below 0, one that the
-/// result is empty, if it is, warnings of a coarse rounding and of a text that isn't a 2-manifold, and
-/// one with the numbers of the result.
+/// each file, one for the volume of each, which is a warning if the volume is below 0, one for the
+/// triangles that lie on each, which is a warning if there are none, one that the result is empty, if
+/// it is, warnings of a coarse rounding and of a text that isn't a 2-manifold, and one with the
+/// numbers of the result.
 pub fn report_of(
     alloc: Global,
     request: &Request,
@@ -314,13 +332,7 @@ pub fn report_of(
         &output.sixfold_volumes,
         &mut text,
     )?;
-    put_mesh_lines(
-        alloc,
-        request.format,
-        output.report.faces,
-        &output.written,
-        &mut text,
-    )?;
+    put_result(alloc, request, output, &mut text)?;
     Ok(text)
 }
 

@@ -1,13 +1,15 @@
 // The report as an object of JSON.
-ghost use Rattle.std.specs.Prelude.{◌≡◌, ◌++◌, ◌<◌, drop, decimal, IfOk, OnOk};
+ghost use Rattle.std.specs.Prelude.{◌≡◌, ◌++◌, ◌<◌, drop, decimal, map, IfOk, OnOk};
 ghost use Rattle.std.specs.Fmt.{signed_decimal};
 ghost use Rattle.mesh_grid.specs.Moves.Shown.{rounded_of};
 ghost use Rattle.mesh_grid.specs.Snap.Steps.{IsStep};
 ghost use Rattle.mesh_texts.specs.Texts.{size_text, step_text};
 ghost use Rattle.mesh_texts.specs.Objects.{array, texts_of};
-ghost use Rattle.mesh_report.specs.ReportObjects.{coarse_warning, file_object, file_objects, first_volume, manifold_value, mesh_object, mesh_warnings, offset_value, result_object, scene_object, solid_object, turned_warning, turned_warnings, unpaired_warning, volume_value};
+ghost use Rattle.mesh_report.specs.ReportObjects.{coarse_warning, file_object, file_objects, first_volume, manifold_value, mesh_object, mesh_warnings, offset_value, result_object, scene_object, solid_object, solid_warnings, turned_warning, turned_warnings, unpaired_warning, volume_value};
+ghost use Rattle.mesh_report.specs.Lying.{told};
 ghost use Rattle.mesh_report.specs.Reports.{rounding_text};
 
+use crate::lying::{numbers, put_missed_warnings, told};
 use crate::report::{is_text, is_unpaired, move_at, put_coarse_text, put_unpaired_text};
 use crate::volumes::{put_turned, put_volume, volume_at};
 use ember_model::OutOfMemory;
@@ -317,9 +319,38 @@ fn put_mesh_warnings(
     put_unpaired_warning(alloc, format, mesh, texts)
 }
 
+// All warnings of a Boolean.
+fn solid_warnings(
+    alloc: Global,
+    names: &[Text],
+    format: OutputFormat,
+    output: &SolidFile,
+) -> Result<Vec<Vec<u8>>, OutOfMemory>
+    requires { IsStep output.now.grid.step }
+    ensures { IfOk result (λ texts. texts_of texts.items ≡ solid_warnings names.now format output.now) }
+{
+    let mesh = &output.written;
+    let counts = told(mesh.triangles, &output.lying);
+    let step = &output.grid.step;
+    let mut texts = turned_warnings(alloc, names, step, &output.sixfold_volumes)?;
+    put_missed_warnings(alloc, names, counts, mesh.triangles, &mut texts)?;
+    put_mesh_warnings(alloc, format, mesh, &mut texts)?;
+    Ok(texts)
+}
+
+// The array of how many triangles lie on each file.
+fn on_files_value(alloc: Global, output: &SolidFile) -> Result<Vec<u8>, OutOfMemory>
+    ensures { IfOk result (λ text. text.items ≡
+        array (map decimal (told output.now.written.triangles output.now.lying))) }
+{
+    let counts = told(output.written.triangles, &output.lying);
+    let texts = numbers(alloc, counts)?;
+    array(alloc, &texts)
+}
+
 // ---- reports
-/// The report of a Boolean as an object: the grid, the files, the result and the warnings. It ends in a
-/// line feed.
+/// The report of a Boolean as an object: the grid, the files, the result, how much of it lies on each
+/// file, and the warnings. It ends in a line feed.
 pub fn solid_object(
     alloc: Global,
     names: &[Text],
@@ -342,14 +373,15 @@ pub fn solid_object(
         volumes,
     )?;
     let result = result_object(alloc, format, output.report.faces, &output.written)?;
-    let mut texts = turned_warnings(alloc, names, &grid.step, volumes)?;
-    put_mesh_warnings(alloc, format, &output.written, &mut texts)?;
+    let on_files = on_files_value(alloc, output)?;
+    let texts = solid_warnings(alloc, names, format, output)?;
     let warnings = array(alloc, &texts)?;
     let members = [
         keyed(b"step", step),
         keyed(b"offset", offset),
         keyed(b"files", files),
         keyed(b"result", result),
+        keyed(b"triangles on files", on_files),
         keyed(b"warnings", warnings),
     ];
     object_line(alloc, &members)

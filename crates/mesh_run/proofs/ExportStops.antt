@@ -127,6 +127,8 @@ stop_tells_memory request shelf (DocumentRefused (document.NoTables (table.NoLin
 stop_tells_memory request shelf (DocumentRefused (document.NoTables (table.NoCorner face))) h = refl
 stop_tells_memory request shelf (DocumentRefused (document.NoTables table.TooMany)) h = refl
 stop_tells_memory request shelf (DocumentRefused (document.NoTables table.OutOfMemory)) h = absurd (h.is_fault.is_fault.of_faces refl)
+stop_tells_memory request shelf (DocumentRefused document.NotClosed) h = refl
+stop_tells_memory request shelf (DocumentRefused document.Overlap) h = refl
 stop_tells_memory request shelf (DocumentRefused (document.NotCut (mesh.UnknownPlane n))) h = refl
 stop_tells_memory request shelf (DocumentRefused (document.NotCut (mesh.UnknownLine n))) h = refl
 stop_tells_memory request shelf (DocumentRefused (document.NotCut (mesh.UnknownCorner n))) h = refl

@@ -7,9 +7,12 @@ use Rattle.std.specs.Prelude.{string_bytes}
 use Rattle.mesh_boolean.specs.declared.fault.BooleanFault.{BooleanFault}
 use Rattle.mesh_boolean.specs.declared.fault.BooleanFault.TheVariants as boolean
 use Rattle.mesh_boolean.specs.declared.files.InputFile.{InputFile}
-use Rattle.mesh_boolean.specs.Faults.{IsBooleanFault, IsFirstUnread, IsPlacingFault, IsReadFault}
+use Rattle.mesh_boolean.specs.Faults.{IsBooleanFault, IsFirstUnread, IsPlacingFault, IsReadFault, IsUnplaceable}
 use Rattle.mesh_boolean.specs.Files.{AreReadings}
+use Rattle.mesh_boolean.proofs.Images.{given_are_as_many}
 use Rattle.mesh_boolean.proofs.Readings.{readings_are_as_many}
+use Rattle.mesh_placing.specs.declared.files.Placing.{Placing}
+use Rattle.mesh_placing.specs.declared.image.ImageFault.{ImageFault}
 use Rattle.ember_expr.specs.Formula.{Formula}
 use Rattle.mesh_file.specs.declared.file.fault.FileFault.{FileFault}
 use Rattle.mesh_boolean.specs.declared.wanted.WantedFile.{WantedFile}
@@ -20,9 +23,11 @@ use Rattle.ember_io.specs.declared.shelf.ReadEnd.{ReadEnd}
 use Rattle.ember_io.specs.declared.shelf.ReadEnd.TheVariants as read
 use Rattle.ember_io.specs.Shelves.{TellsMore, IsFileIn}
 use Rattle.ember_io.specs.Calls.{ShelfCall, HasShelfFailed}
-use Rattle.mesh_run.specs.Causes.{end_status, IsEndAt, IsFilesCause, IsPlacingCause, IsReadingCause, IsRefusalCause, IsRefused}
+use Rattle.mesh_run.specs.Causes.{end_status, IsEndAt, IsFilesCause, IsPlacingCause, IsReadingCause, IsRefusalCause}
+use Rattle.mesh_run.specs.Causes.{IsRefused, IsUnplaced}
 use Rattle.mesh_run.specs.Files.{AreFiles, AreRead}
 use Rattle.mesh_texts.specs.Texts.{name_of}
+use Rattle.mesh_refusal.specs.Placings.{image_reason}
 use Rattle.mesh_refusal.specs.Statuses.{HasReason, IsStatusOf, NamesFile}
 use Rattle.mesh_run.proofs.ToldFiles.{file_up_to, files_are_as_many, files_up_to}
 use Rattle.mesh_refusal.specs.declared.status.Status.{Status}
@@ -80,6 +85,7 @@ end_is_cause names shelf i end kind status one is (inr h) failed long =
 -- a file that isn't read is one of the files
 pub unread_file_is_there : (files : List InputFile) (fault : BooleanFault) → IsReadFault files fault → NamesFile files fault
 unread_file_is_there files (boolean.File index fault) h = slice_get_within files index h.file h.found
+unread_file_is_there files (boolean.Image index fault) h = absurd h
 unread_file_is_there files (boolean.Scene fault) h = absurd h
 unread_file_is_there files (boolean.Solid fault) h = absurd h
 unread_file_is_there files boolean.TooFar h = absurd h
@@ -87,27 +93,37 @@ unread_file_is_there files boolean.TooManyTriangles h = absurd h
 unread_file_is_there files boolean.OutOfMemory h = tt
 
 -- a file that keeps files from their grid is one of them
-pub unplaced_file_is_there : (files : List InputFile) (wanted : Wanted) (fault : BooleanFault) → IsPlacingFault files wanted fault → NamesFile files fault
-unplaced_file_is_there files wanted (boolean.File index fault) h = slice_get_within files index h.file h.found
-unplaced_file_is_there files wanted (boolean.Scene scene.NoTriangles) h = tt
-unplaced_file_is_there files wanted (boolean.Scene (scene.StepTooSmall extent)) h = tt
-unplaced_file_is_there files wanted (boolean.Scene (scene.Open o)) h =
+pub unplaced_file_is_there : (files : List InputFile) (placings : List (Option Placing)) (wanted : Wanted) (fault : BooleanFault) →
+    IsPlacingFault files placings wanted fault → NamesFile files fault
+unplaced_file_is_there files placings wanted (boolean.File index fault) h = slice_get_within files index h.file h.found
+unplaced_file_is_there files placings wanted (boolean.Image index fault) h =
+    let inside = slice_get_within h.as_read index h.has.surface h.has.found in
+    let as_many = readings_are_as_many files h.as_read h.read in
+    omega (arith, inside, as_many)
+unplaced_file_is_there files placings wanted (boolean.Scene scene.NoTriangles) h = tt
+unplaced_file_is_there files placings wanted (boolean.Scene (scene.StepTooSmall extent)) h = tt
+unplaced_file_is_there files placings wanted (boolean.Scene (scene.Open o)) h =
     let first = h.is_fault.1 in
     let inside = slice_get_within h.surfaces o.file first.surface first.found in
-    let as_many = readings_are_as_many files h.surfaces h.read in
-    omega (arith, inside, as_many)
-unplaced_file_is_there files wanted (boolean.Scene (scene.TooManyTriangles count)) h = tt
-unplaced_file_is_there files wanted (boolean.Scene scene.OutOfMemory) h = tt
-unplaced_file_is_there files wanted (boolean.Solid fault) h = absurd h
-unplaced_file_is_there files wanted boolean.TooFar h = absurd h
-unplaced_file_is_there files wanted boolean.TooManyTriangles h = absurd h
-unplaced_file_is_there files wanted boolean.OutOfMemory h = tt
+    let as_many = given_are_as_many placings h.as_read h.surfaces h.given in
+    let as_read = readings_are_as_many files h.as_read h.read in
+    omega (arith, inside, as_many, as_read)
+unplaced_file_is_there files placings wanted (boolean.Scene (scene.TooManyTriangles count)) h = tt
+unplaced_file_is_there files placings wanted (boolean.Scene scene.OutOfMemory) h = tt
+unplaced_file_is_there files placings wanted (boolean.Solid fault) h = absurd h
+unplaced_file_is_there files placings wanted boolean.TooFar h = absurd h
+unplaced_file_is_there files placings wanted boolean.TooManyTriangles h = absurd h
+unplaced_file_is_there files placings wanted boolean.OutOfMemory h = tt
 
 -- a file that has a fault is one of the files
 pub faulty_file_is_there : (files : List InputFile) (formula : Formula) (wanted : WantedFile) (fault : BooleanFault) →
     IsBooleanFault files formula wanted fault → NamesFile files fault
-faulty_file_is_there files formula wanted (boolean.File index fault) h = unplaced_file_is_there files wanted.grid (boolean.File index fault) h
-faulty_file_is_there files formula wanted (boolean.Scene fault) h = unplaced_file_is_there files wanted.grid (boolean.Scene fault) h
+faulty_file_is_there files formula wanted (boolean.File index fault) h =
+    unplaced_file_is_there files wanted.placings.now wanted.grid (boolean.File index fault) h
+faulty_file_is_there files formula wanted (boolean.Image index fault) h =
+    unplaced_file_is_there files wanted.placings.now wanted.grid (boolean.Image index fault) h
+faulty_file_is_there files formula wanted (boolean.Scene fault) h =
+    unplaced_file_is_there files wanted.placings.now wanted.grid (boolean.Scene fault) h
 faulty_file_is_there files formula wanted (boolean.Solid fault) h = tt
 faulty_file_is_there files formula wanted boolean.TooFar h = tt
 faulty_file_is_there files formula wanted boolean.TooManyTriangles h = tt
@@ -150,38 +166,59 @@ module _ (told : List ℕ → Option (List ℕ)) (names : List (List ℕ)) (file
   refusal_caused (boolean.File index fault) status h (inl r) =
       subst (λ (s : Status). IsRefusalCause told names s) (sym r.1) (refused_first index fault (string_bytes r.0) h r.2)
   refusal_caused (boolean.File index fault) status h (inr e) = subst (λ (s : Status). IsRefusalCause told names s) (sym e) tt
+  refusal_caused (boolean.Image index fault) status h s = absurd h
   refusal_caused (boolean.Scene fault) status h s = absurd h
   refusal_caused (boolean.Solid fault) status h s = absurd h
   refusal_caused boolean.TooFar status h s = absurd h
   refusal_caused boolean.TooManyTriangles status h s = absurd h
   refusal_caused boolean.OutOfMemory status h e = subst (λ (s : Status). IsRefusalCause told names s) (sym e) tt
 
+  -- a file that is no mesh where it is placed
+  unplaced : (placings : List (Option Placing)) (index : ℕ) (fault : ImageFault) (reason : List ℕ) →
+      IsUnplaceable files placings index fault → reason ≡ image_reason fault → IsUnplaced told names placings (index + 1) reason
+  unplaced placings index fault reason h says =
+      let inside = slice_get_within h.as_read index h.has.surface h.has.found in
+      let as_read = readings_are_as_many files h.as_read h.read in
+      let as_many = files_are_as_many told names files are in
+      let back : index ≡ index + 1 - 1 = omega arith in
+      record {
+        one_of = record { first = omega arith; last = omega (arith, inside, as_read, as_many) };
+        files = files;
+        are_files = are;
+        fault = fault;
+        is_fault = subst (λ (k : ℕ). IsUnplaceable files placings k fault) back h;
+        reason_is = says;
+      }
+
   -- the status of files that aren't put on the grid
-  pub placing_caused : (wanted : Wanted) (fault : BooleanFault) (status : Status) → IsPlacingFault files wanted fault →
-      IsStatusOf files fault status → IsPlacingCause told names wanted status
-  placing_caused wanted (boolean.File index fault) status h (inl r) =
-      subst (λ (s : Status). IsPlacingCause told names wanted s) (sym r.1) (refused_first index fault (string_bytes r.0) h r.2)
-  placing_caused wanted (boolean.File index fault) status h (inr e) = subst (λ (s : Status). IsPlacingCause told names wanted s) (sym e) tt
-  placing_caused wanted (boolean.Scene scene.NoTriangles) status h e =
-      subst (λ (s : Status). IsPlacingCause told names wanted s) (sym e)
+  pub placing_caused : (placings : List (Option Placing)) (wanted : Wanted) (fault : BooleanFault) (status : Status) →
+      IsPlacingFault files placings wanted fault → IsStatusOf files fault status → IsPlacingCause told names placings wanted status
+  placing_caused placings wanted (boolean.File index fault) status h (inl r) =
+      subst (λ (s : Status). IsPlacingCause told names placings wanted s) (sym r.1) (inl (refused_first index fault (string_bytes r.0) h r.2))
+  placing_caused placings wanted (boolean.File index fault) status h (inr e) = subst (λ (s : Status). IsPlacingCause told names placings wanted s) (sym e) tt
+  placing_caused placings wanted (boolean.Image index fault) status h (inl r) =
+      subst (λ (s : Status). IsPlacingCause told names placings wanted s) (sym r.1) (inr (unplaced placings index fault (string_bytes r.0) h r.2))
+  placing_caused placings wanted (boolean.Image index fault) status h (inr e) = subst (λ (s : Status). IsPlacingCause told names placings wanted s) (sym e) tt
+  placing_caused placings wanted (boolean.Scene scene.NoTriangles) status h e =
+      subst (λ (s : Status). IsPlacingCause told names placings wanted s) (sym e)
       (record { files = files; are_files = are; is_fault = h })
-  placing_caused wanted (boolean.Scene (scene.StepTooSmall extent)) status h e =
-      subst (λ (s : Status). IsPlacingCause told names wanted s) (sym e)
+  placing_caused placings wanted (boolean.Scene (scene.StepTooSmall extent)) status h e =
+      subst (λ (s : Status). IsPlacingCause told names placings wanted s) (sym e)
       (record { files = files; are_files = are; is_fault = h })
-  placing_caused wanted (boolean.Scene (scene.Open o)) status h s =
-      subst (λ (s : Status). IsPlacingCause told names wanted s) (sym s.1) (record { files = files; are_files = are; is_fault = h; format_is = s.2 })
-  placing_caused wanted (boolean.Scene (scene.TooManyTriangles count)) status h e =
-      subst (λ (s : Status). IsPlacingCause told names wanted s) (sym e)
+  placing_caused placings wanted (boolean.Scene (scene.Open o)) status h s =
+      subst (λ (s : Status). IsPlacingCause told names placings wanted s) (sym s.1) (record { files = files; are_files = are; is_fault = h; format_is = s.2 })
+  placing_caused placings wanted (boolean.Scene (scene.TooManyTriangles count)) status h e =
+      subst (λ (s : Status). IsPlacingCause told names placings wanted s) (sym e)
       (record { files = files; are_files = are; is_fault = h })
-  placing_caused wanted (boolean.Scene scene.OutOfMemory) status h e = subst (λ (s : Status). IsPlacingCause told names wanted s) (sym e) tt
-  placing_caused wanted (boolean.Solid fault) status h e = absurd h
-  placing_caused wanted boolean.TooFar status h e = absurd h
-  placing_caused wanted boolean.TooManyTriangles status h e = absurd h
-  placing_caused wanted boolean.OutOfMemory status h e = subst (λ (s : Status). IsPlacingCause told names wanted s) (sym e) tt
+  placing_caused placings wanted (boolean.Scene scene.OutOfMemory) status h e = subst (λ (s : Status). IsPlacingCause told names placings wanted s) (sym e) tt
+  placing_caused placings wanted (boolean.Solid fault) status h e = absurd h
+  placing_caused placings wanted boolean.TooFar status h e = absurd h
+  placing_caused placings wanted boolean.TooManyTriangles status h e = absurd h
+  placing_caused placings wanted boolean.OutOfMemory status h e = subst (λ (s : Status). IsPlacingCause told names placings wanted s) (sym e) tt
 
   -- the status of files that have no output
   placing_is_cause : (formula : Formula) (wanted : WantedFile) (status : Status) →
-      IsPlacingCause told names wanted.grid status → IsFilesCause told names formula wanted status
+      IsPlacingCause told names wanted.placings.now wanted.grid status → IsFilesCause told names formula wanted status
   placing_is_cause formula wanted Done h = h
   placing_is_cause formula wanted (Words refusal) h = h
   placing_is_cause formula wanted StepOfNoGrid h = h
@@ -207,9 +244,11 @@ module _ (told : List ℕ → Option (List ℕ)) (names : List (List ℕ)) (file
       IsBooleanFault files formula wanted fault → IsStatusOf files fault status →
       IsFilesCause told names formula wanted status
   status_caused formula wanted (boolean.File index fault) status h s =
-      placing_is_cause formula wanted status (placing_caused wanted.grid (boolean.File index fault) status h s)
+      placing_is_cause formula wanted status (placing_caused wanted.placings.now wanted.grid (boolean.File index fault) status h s)
+  status_caused formula wanted (boolean.Image index fault) status h s =
+      placing_is_cause formula wanted status (placing_caused wanted.placings.now wanted.grid (boolean.Image index fault) status h s)
   status_caused formula wanted (boolean.Scene fault) status h s =
-      placing_is_cause formula wanted status (placing_caused wanted.grid (boolean.Scene fault) status h s)
+      placing_is_cause formula wanted status (placing_caused wanted.placings.now wanted.grid (boolean.Scene fault) status h s)
   status_caused formula wanted (boolean.Solid fault) status h e =
       subst (λ (s : Status). IsFilesCause told names formula wanted s) (sym e) (record { files = files; are_files = are; is_fault = h })
   status_caused formula wanted boolean.TooFar status h e =

@@ -1,5 +1,5 @@
 -- What is there beside an output's mesh
-use Rattle.std.proofs.Common.{◌≡◌, ℕ, Bool, List, Some, None, length, map, refl, sym, ap, ◌∙◌}
+use Rattle.std.proofs.Common.{◌≡◌, inl, inr, ℕ, Bool, List, [], Some, None, length, map, refl, sym, ap, ◌∙◌}
 use Rattle.std.proofs.lemmas.Bool.{false≢true}
 use Rattle.std.proofs.lemmas.List.{length-map}
 use Rattle.std.specs.declared.option.Option.{Option}
@@ -7,7 +7,12 @@ use Rattle.std.specs.Prelude.{IsSome, is_some}
 use Rattle.mesh_boolean.specs.declared.files.InputFile.{InputFile}
 use Rattle.mesh_boolean.specs.declared.output.SolidFile.{SolidFile}
 use Rattle.mesh_boolean.specs.declared.writing.OutputMesh.{OutputMesh}
-use Rattle.mesh_boolean.specs.Files.{AreReadings}
+use Rattle.mesh_boolean.specs.Files.{ArePlaced}
+use Rattle.mesh_boolean.specs.Images.{AreForEach}
+use Rattle.mesh_boolean.proofs.Images.{given_are_as_many}
+use Rattle.mesh_placing.specs.Files.{ArePlacingsOf}
+use Rattle.mesh_placing.specs.declared.files.Placing.{Placing}
+use Rattle.mesh_grid.specs.declared.grid.choice.Wanted.{Wanted}
 use Rattle.mesh_grid.specs.declared.grid.grid.Grid.{Grid}
 use Rattle.mesh_words.specs.declared.command.ExportRequest.{ExportRequest}
 use Rattle.mesh_words.specs.declared.command.Request.{Request}
@@ -27,49 +32,60 @@ use Rattle.mesh_run.proofs.ToldFiles.{files_are_as_many}
 
 -- ---- counts and moves
 -- there are as many surfaces as names
-named_surfaces : (told : List ℕ → Option (List ℕ)) (names : List (List ℕ)) (files : List InputFile)
-    (surfaces : List Surface) → AreFiles told names files → AreReadings files surfaces → length surfaces ≡ length names
-named_surfaces told names files surfaces are read = sym (surfaces_are_as_many files surfaces read) ∙ files_are_as_many told names files are
+named_surfaces : (told : List ℕ → Option (List ℕ)) (names : List (List ℕ)) (files : List InputFile) (placings : List (Option Placing))
+    (wanted : Wanted) (surfaces : List Surface) (grid : Grid) → AreFiles told names files →
+    ArePlaced files placings wanted surfaces grid → length surfaces ≡ length names
+named_surfaces told names files placings wanted surfaces grid are placed =
+    given_are_as_many placings placed.as_read surfaces placed.given
+    ∙ sym (surfaces_are_as_many files placed.as_read placed.read) ∙ files_are_as_many told names files are
 
 -- as many counts
-named_counts : (told : List ℕ → Option (List ℕ)) (names : List (List ℕ)) (files : List InputFile)
-    (surfaces : List Surface) (grid : Grid) (counts : List Counts) → AreFiles told names files →
-    AreReadings files surfaces → counts ≡ map (counts_on grid) surfaces → length counts ≡ length names
-named_counts told names files surfaces grid counts are read e =
-    ap length e ∙ length-map surfaces (counts_on grid) ∙ named_surfaces told names files surfaces are read
+named_counts : (told : List ℕ → Option (List ℕ)) (names : List (List ℕ)) (files : List InputFile) (placings : List (Option Placing))
+    (wanted : Wanted) (surfaces : List Surface) (grid : Grid) (counts : List Counts) → AreFiles told names files →
+    ArePlaced files placings wanted surfaces grid → counts ≡ map (counts_on grid) surfaces → length counts ≡ length names
+named_counts told names files placings wanted surfaces grid counts are placed e =
+    ap length e ∙ length-map surfaces (counts_on grid) ∙ named_surfaces told names files placings wanted surfaces grid are placed
 
 -- and as many moves
-named_moves : (told : List ℕ → Option (List ℕ)) (names : List (List ℕ)) (files : List InputFile)
-    (surfaces : List Surface) (grid : Grid) (moves : List Length) → AreFiles told names files →
-    AreReadings files surfaces → AreMoves grid surfaces moves → length moves ≡ length names
-named_moves told names files surfaces grid moves are read e =
-    sym (length-map moves rounded_of) ∙ ap length e ∙ length-map surfaces (greatest_move grid) ∙ named_surfaces told names files surfaces are read
+named_moves : (told : List ℕ → Option (List ℕ)) (names : List (List ℕ)) (files : List InputFile) (placings : List (Option Placing))
+    (wanted : Wanted) (surfaces : List Surface) (grid : Grid) (moves : List Length) → AreFiles told names files →
+    ArePlaced files placings wanted surfaces grid → AreMoves grid surfaces moves → length moves ≡ length names
+named_moves told names files placings wanted surfaces grid moves are placed e =
+    sym (length-map moves rounded_of) ∙ ap length e ∙ length-map surfaces (greatest_move grid)
+    ∙ named_surfaces told names files placings wanted surfaces grid are placed
 
 -- of an output
 pub output_counts_are_named : (request : Request) (told : List ℕ → Option (List ℕ)) (out : SolidFile) →
     IsOutputFor request told out → length out.counts.items ≡ length request.files
 output_counts_are_named request told out h =
     let of = h.of_files in
-    named_counts told request.files of.files of.is_output.surfaces out.grid out.counts.items of.are_files of.is_output.are_placed.read of.is_output.counts
+    named_counts told request.files of.files h.wanted.placings.now h.wanted.grid of.is_output.surfaces out.grid out.counts.items of.are_files of.is_output.are_placed of.is_output.counts
 
 pub output_moves_are_named : (request : Request) (told : List ℕ → Option (List ℕ)) (out : SolidFile) →
     IsOutputFor request told out → length out.moves.items ≡ length request.files
 output_moves_are_named request told out h =
     let of = h.of_files in
-    named_moves told request.files of.files of.is_output.surfaces out.grid out.moves.items of.are_files of.is_output.are_placed.read of.is_output.moves
+    named_moves told request.files of.files h.wanted.placings.now h.wanted.grid of.is_output.surfaces out.grid out.moves.items of.are_files of.is_output.are_placed of.is_output.moves
 
 -- of meshes on their grid
 pub placed_counts_are_named : (request : SnapRequest) (told : List ℕ → Option (List ℕ)) (placed : PlacedScene) →
     IsPlacedFor request told placed → length placed.counts.items ≡ length request.files
 placed_counts_are_named request told placed h =
     let of = h.of_files in
-    named_counts told request.files of.files of.is_placed.surfaces placed.grid placed.counts.items of.are_files of.is_placed.are_placed.read of.is_placed.counts
+    named_counts told request.files of.files [] h.wanted of.is_placed.surfaces placed.grid placed.counts.items of.are_files of.is_placed.are_placed of.is_placed.counts
 
 pub placed_moves_are_named : (request : SnapRequest) (told : List ℕ → Option (List ℕ)) (placed : PlacedScene) →
     IsPlacedFor request told placed → length placed.moves.items ≡ length request.files
 placed_moves_are_named request told placed h =
     let of = h.of_files in
-    named_moves told request.files of.files of.is_placed.surfaces placed.grid placed.moves.items of.are_files of.is_placed.are_placed.read of.is_placed.moves
+    named_moves told request.files of.files [] h.wanted of.is_placed.surfaces placed.grid placed.moves.items of.are_files of.is_placed.are_placed of.is_placed.moves
+
+-- ---- placings
+-- no placing at all, or one for each file
+pub placings_are_for_each : (names places turns : List (List ℕ)) (placings : List (Option Placing)) →
+    ArePlacingsOf (length names) places turns placings → AreForEach placings names
+placings_are_for_each names places turns placings (inl none) = inl none.none
+placings_are_for_each names places turns placings (inr each) = inr each.all
 
 -- ---- what is asked for
 -- what is asked for if a name is given is there if one is

@@ -1,11 +1,12 @@
 -- The numbers in a status can be shown
-use Rattle.std.proofs.Common.{◌<◌, ◌≤◌, ◌-◌, ℕ, List, length, sym, subst, arith}
+use Rattle.std.proofs.Common.{◌<◌, ◌≤◌, ◌-◌, ℕ, List, [], length, sym, subst, arith}
 use Rattle.std.proofs.lemmas.Option.{slice_get_within}
 use Rattle.std.specs.declared.option.Option.{Option}
 use Rattle.mesh_boolean.specs.declared.output.SolidFile.{SolidFile}
 use Rattle.mesh_file.specs.declared.format.format.Format.{Format}
 use Rattle.mesh_grid.specs.declared.grid.choice.Wanted.{Wanted}
 use Rattle.mesh_grid.specs.declared.grid.extent.SceneExtent.{SceneExtent}
+use Rattle.mesh_placing.specs.declared.files.Placing.{Placing}
 use Rattle.mesh_words.specs.declared.command.Request.{Request}
 use Rattle.mesh_words.specs.declared.command.SnapRequest.{SnapRequest}
 use Rattle.mesh_number.proofs.DigitNumbers.{pow_ten_pos}
@@ -27,17 +28,18 @@ use Rattle.mesh_refusal.specs.declared.status.Status.TheVariants.{TooManyTriangl
 use Rattle.mesh_refusal.specs.declared.status.Status.TheVariants.{TooFar, DocumentRefused, OutOfMemory, Uncertified}
 
 -- the file that isn't closed is one of them
-open_is_few : (told : List ℕ → Option (List ℕ)) (names : List (List ℕ)) (wanted : Wanted) (o : Open) (format : Format) →
-    length names ≤ 64 → HaveOpen told names wanted o format → o.file < 64
-open_is_few told names wanted o format few h =
+open_is_few : (told : List ℕ → Option (List ℕ)) (names : List (List ℕ)) (placings : List (Option Placing)) (wanted : Wanted)
+    (o : Open) (format : Format) → length names ≤ 64 → HaveOpen told names placings wanted o format → o.file < 64
+open_is_few told names placings wanted o format few h =
     let inside = slice_get_within h.files o.file h.format_is.file h.format_is.found in
     let as_many = files_are_as_many told names h.files h.are_files in
     omega (arith, few, inside, as_many)
 
 -- the step that would do is above 0
-least_is_shown : (told : List ℕ → Option (List ℕ)) (names : List (List ℕ)) (wanted : Wanted) (extent : SceneExtent) →
-    HaveSceneFault told names wanted (scene.StepTooSmall extent) → 0 < extent.finest.denominator
-least_is_shown told names wanted extent h =
+least_is_shown : (told : List ℕ → Option (List ℕ)) (names : List (List ℕ)) (placings : List (Option Placing)) (wanted : Wanted)
+    (extent : SceneExtent) → HaveSceneFault told names placings wanted (scene.StepTooSmall extent) →
+    0 < extent.finest.denominator
+least_is_shown told names placings wanted extent h =
     let least = h.is_fault.is_fault.2.is_extent.least in
     subst (λ (s : GridStep). 0 < s.denominator) (sym least.step) (pow_ten_pos (12 - fine_decade least.rank))
 
@@ -53,13 +55,13 @@ stop_is_shown request shelf few (FileRefused i reason) h = tt
 stop_is_shown request shelf few NoTriangles h = tt
 stop_is_shown request shelf few NotAScene h = tt
 stop_is_shown request shelf few (NotClosed o format) h =
-    (open_is_few shelf.told request.files h.wanted.grid o format few h.cause, h.cause.is_fault.is_fault.0.step)
+    (open_is_few shelf.told request.files h.wanted.placings.now h.wanted.grid o format few h.cause, h.cause.is_fault.is_fault.0.step)
 stop_is_shown request shelf few (ExprRefused fault) h = tt
 stop_is_shown request shelf few Unbounded h = tt
 stop_is_shown request shelf few (LongFile i) h = tt
 stop_is_shown request shelf few (TooManyTriangles count) h = tt
 stop_is_shown request shelf few TooManyWritten h = tt
-stop_is_shown request shelf few (StepTooSmall extent) h = least_is_shown shelf.told request.files h.wanted.grid extent h.cause
+stop_is_shown request shelf few (StepTooSmall extent) h = least_is_shown shelf.told request.files h.wanted.placings.now h.wanted.grid extent h.cause
 stop_is_shown request shelf few TooFar h = tt
 stop_is_shown request shelf few (DocumentRefused fault) h = tt
 stop_is_shown request shelf few OutOfMemory h = tt
@@ -78,13 +80,13 @@ snap_stop_is_shown request shelf few (FileRefused i reason) h = tt
 snap_stop_is_shown request shelf few NoTriangles h = tt
 snap_stop_is_shown request shelf few NotAScene h = tt
 snap_stop_is_shown request shelf few (NotClosed o format) h =
-    (open_is_few shelf.told request.files h.wanted o format few h.cause, h.cause.is_fault.is_fault.0.step)
+    (open_is_few shelf.told request.files [] h.wanted o format few h.cause, h.cause.is_fault.is_fault.0.step)
 snap_stop_is_shown request shelf few (ExprRefused fault) h = tt
 snap_stop_is_shown request shelf few Unbounded h = tt
 snap_stop_is_shown request shelf few (LongFile i) h = tt
 snap_stop_is_shown request shelf few (TooManyTriangles count) h = tt
 snap_stop_is_shown request shelf few TooManyWritten h = tt
-snap_stop_is_shown request shelf few (StepTooSmall extent) h = least_is_shown shelf.told request.files h.wanted extent h.cause
+snap_stop_is_shown request shelf few (StepTooSmall extent) h = least_is_shown shelf.told request.files [] h.wanted extent h.cause
 snap_stop_is_shown request shelf few TooFar h = tt
 snap_stop_is_shown request shelf few (DocumentRefused fault) h = tt
 snap_stop_is_shown request shelf few OutOfMemory h = tt

@@ -1,5 +1,5 @@
 -- Why meshes aren't put on their grid, step by step
-use Rattle.std.proofs.Common.{◌≡◌, false, refl}
+use Rattle.std.proofs.Common.{◌≡◌, [], false, inl, refl}
 use Rattle.std.specs.declared.alloc.Global.{Global}
 use Rattle.std.specs.Prelude.{String}
 use Rattle.mesh_grid.specs.declared.grid.choice.Wanted.{Wanted}
@@ -24,7 +24,7 @@ module _ (request : SnapRequest) (shelf : ShelfCall) (wanted : Wanted) (asks : I
   reading_stop (ReadFault i kind) h = record { wanted = wanted; asks = asks; cause = h }
   reading_stop WriteFault h = absurd h
   reading_stop (NotWritten file) h = absurd h
-  reading_stop (FileRefused i reason) h = record { wanted = wanted; asks = asks; cause = h }
+  reading_stop (FileRefused i reason) h = record { wanted = wanted; asks = asks; cause = inl h }
   reading_stop NoTriangles h = absurd h
   reading_stop NotAScene h = absurd h
   reading_stop (NotClosed o format) h = absurd h
@@ -40,7 +40,7 @@ module _ (request : SnapRequest) (shelf : ShelfCall) (wanted : Wanted) (asks : I
   reading_stop (Uncertified fault) h = absurd h
 
   -- all its files are read, but aren't put on the grid
-  pub placing_stop : (status : Status) → IsPlacingCause shelf.told request.files wanted status → IsSnapStop request shelf status
+  pub placing_stop : (status : Status) → IsPlacingCause shelf.told request.files [] wanted status → IsSnapStop request shelf status
   placing_stop Done h = absurd h
   placing_stop (Words refusal) h = absurd h
   placing_stop StepOfNoGrid h = absurd h

@@ -1,5 +1,5 @@
 -- Why a request gets no output, step by step
-use Rattle.std.proofs.Common.{◌≡◌, false, refl}
+use Rattle.std.proofs.Common.{◌≡◌, false, inl, refl}
 use Rattle.ember_expr.specs.declared.fault.ExprFault.TheVariants as expr
 use Rattle.ember_expr.specs.Formula.{Formula}
 use Rattle.mesh_boolean.specs.declared.wanted.WantedFile.{WantedFile}
@@ -73,7 +73,7 @@ module _ (request : Request) (shelf : ShelfCall) (formula : Formula) (wanted : W
   reading_stop (ReadFault i kind) h = asked_stop (ReadFault i kind) h
   reading_stop WriteFault h = absurd h
   reading_stop (NotWritten file) h = absurd h
-  reading_stop (FileRefused i reason) h = asked_stop (FileRefused i reason) h
+  reading_stop (FileRefused i reason) h = asked_stop (FileRefused i reason) (inl h)
   reading_stop NoTriangles h = absurd h
   reading_stop NotAScene h = absurd h
   reading_stop (NotClosed o format) h = absurd h

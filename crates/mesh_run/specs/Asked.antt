@@ -1,5 +1,5 @@
 -- What the words of a Boolean ask for, before any file is read
-use Rattle.std.specs.Prelude.{◌≡◌, ◌≢◌, ⊤, ℕ, List, length, true, Ok, Err, is_some, replicate, pos}
+use Rattle.std.specs.Prelude.{◌≡◌, ◌≢◌, ⊤, ℕ, List, length, true, not, Ok, Err, is_some, replicate, pos}
 use Rattle.std.specs.declared.option.Option.{Option}
 use Rattle.mesh_boolean.specs.declared.wanted.FloatFormat.TheVariants as floats
 use Rattle.mesh_boolean.specs.declared.wanted.MeshFormat.{MeshFormat}
@@ -13,6 +13,8 @@ use Rattle.mesh_grid.specs.declared.grid.choice.Wanted.{Wanted}
 use Rattle.mesh_grid.specs.declared.grid.choice.Wanted.TheVariants.{Nice, Finest, Given}
 use Rattle.ember_meaning.specs.Regions.Meaning.{IsFalseOutside}
 use Rattle.mesh_write.specs.declared.text.format.TextFormat.TheVariants as texts
+use Rattle.mesh_placing.specs.declared.files.Placing.{Placing}
+use Rattle.mesh_placing.specs.Files.{ArePlacingsOf}
 use Rattle.mesh_words.specs.declared.command.OutputFormat.{OutputFormat}
 use Rattle.mesh_words.specs.declared.command.OutputFormat.TheVariants as output
 use Rattle.mesh_words.specs.declared.command.Request.{Request}
@@ -64,14 +66,21 @@ IsExpressionCause text meshes Unbounded = IsUnbounded text meshes
 IsExpressionCause text meshes OutOfMemory = ⊤
 IsExpressionCause text meshes status = ⊥
 
+-- ---- placings
+-- the files are placed as the words say
+abbrev pub AreAsked : Request → List (Option Placing) → Type 0
+AreAsked request placings = ArePlacingsOf (length request.files) request.places request.turns placings
+
 -- ---- requests
--- the file has the format that is asked for, on a grid as it is asked for; and what a page or a folder takes is wanted
--- beside it if one is named
+-- the files are placed as it is asked for, the file has the format that is asked for, on a grid as it is asked for; what
+-- a page or a folder takes is wanted beside it if one is named, and what a report counts if there is one
 pub record AsksFile (request : Request) (wanted : WantedFile) : Type 0 where
+  pub placings : AreAsked request wanted.placings.now
   pub format : wanted.format ≡ format_asked request.format request.digits
   pub step : IsWanted request.step wanted.grid
   pub shows : wanted.shows ≡ is_some request.view
   pub keeps : wanted.keeps ≡ is_some request.keep
+  pub counts : wanted.counts ≡ not request.quiet
 
 -- and the expression of its files has this tree
 pub record Asks (request : Request) (wanted : WantedFile) (formula : Formula) : Type 0 where

@@ -1,10 +1,10 @@
 -- Why meshes get no output: a cause of each status
-use Rattle.std.specs.Prelude.{◌≡◌, ◌⊎◌, ⊤, ℕ, ◌-◌, List, take, string_bytes}
+use Rattle.std.specs.Prelude.{◌≡◌, ◌⊎◌, ⊤, ℕ, ◌-◌, List, [], take, string_bytes}
 use Rattle.std.specs.declared.option.Option.{Option}
 use Rattle.mesh_boolean.specs.declared.fault.BooleanFault.TheVariants as boolean
 use Rattle.mesh_boolean.specs.declared.files.InputFile.{InputFile}
 use Rattle.mesh_boolean.specs.declared.wanted.WantedFile.{WantedFile}
-use Rattle.mesh_boolean.specs.Faults.{IsBooleanFault, IsFirstUnread, IsPlacingFault}
+use Rattle.mesh_boolean.specs.Faults.{IsBooleanFault, IsFirstUnread, IsPlacingFault, IsUnplaceable}
 use Rattle.ember_expr.specs.Formula.{Formula}
 use Rattle.mesh_file.specs.declared.file.fault.FileFault.{FileFault}
 use Rattle.mesh_file.specs.declared.format.format.Format.{Format}
@@ -13,12 +13,15 @@ use Rattle.ember_io.specs.Shelves.{TellsMore, IsFileIn}
 use Rattle.ember_io.specs.declared.shelf.FaultKind.{FaultKind}
 use Rattle.ember_io.specs.declared.shelf.ReadEnd.{ReadEnd}
 use Rattle.ember_io.specs.declared.shelf.ReadEnd.TheVariants as read
+use Rattle.mesh_placing.specs.declared.files.Placing.{Placing}
+use Rattle.mesh_placing.specs.declared.image.ImageFault.{ImageFault}
 use Rattle.mesh_words.specs.declared.command.Request.{Request}
 use Rattle.mesh_words.specs.declared.command.SnapRequest.{SnapRequest}
 use Rattle.mesh_scene.specs.declared.scene.fault.Open.{Open}
 use Rattle.mesh_scene.specs.declared.scene.fault.SceneFault.{SceneFault}
 use Rattle.mesh_scene.specs.declared.scene.fault.SceneFault.TheVariants as scene
 use Rattle.mesh_run.specs.Asked.{Asks, IsStepOfNoGrid, IsWanted, IsWordsCause}
+use Rattle.mesh_refusal.specs.Placings.{image_reason}
 use Rattle.mesh_refusal.specs.Statuses.{HasFormat, HasReason}
 use Rattle.ember_io.specs.Calls.{ShelfCall, HasShelfFailed}
 use Rattle.mesh_run.specs.Files.{AreFiles, AreRead}
@@ -89,26 +92,41 @@ pub record HaveFault (told : List ℕ → Option (List ℕ)) (names : List (List
   pub is_fault : IsFault files
 
 -- that they are no scene
-abbrev pub HaveSceneFault : (List ℕ → Option (List ℕ)) → List (List ℕ) → Wanted → SceneFault → Type 0
-HaveSceneFault told names wanted fault = HaveFault told names
-    (λ files. IsPlacingFault files wanted (boolean.Scene fault))
+abbrev pub HaveSceneFault : (List ℕ → Option (List ℕ)) → List (List ℕ) → List (Option Placing) → Wanted → SceneFault →
+    Type 0
+HaveSceneFault told names placings wanted fault = HaveFault told names
+    (λ files. IsPlacingFault files placings wanted (boolean.Scene fault))
 
 -- one of them isn't closed on the grid, and has this format
-pub record HaveOpen (told : List ℕ → Option (List ℕ)) (names : List (List ℕ)) (wanted : Wanted) (o : Open)
-    (format : Format) : Type 0 where
+pub record HaveOpen (told : List ℕ → Option (List ℕ)) (names : List (List ℕ)) (placings : List (Option Placing))
+    (wanted : Wanted) (o : Open) (format : Format) : Type 0 where
   pub files : List InputFile
   pub are_files : AreFiles told names files
-  pub is_fault : IsPlacingFault files wanted (boolean.Scene (scene.Open o))
+  pub is_fault : IsPlacingFault files placings wanted (boolean.Scene (scene.Open o))
   pub format_is : HasFormat files o.file format
 
+-- file i is no mesh where it is placed, for this reason
+pub record IsUnplaced (told : List ℕ → Option (List ℕ)) (names : List (List ℕ)) (placings : List (Option Placing)) (i : ℕ)
+    (reason : List ℕ) : Type 0 where
+  pub one_of : IsFileIn names i
+  pub files : List InputFile
+  pub are_files : AreFiles told names files
+  pub fault : ImageFault
+  pub is_fault : IsUnplaceable files placings (i - 1) fault
+  pub reason_is : reason ≡ image_reason fault
+
 -- why files that were read aren't put on the grid
-abbrev pub IsPlacingCause : (List ℕ → Option (List ℕ)) → List (List ℕ) → Wanted → Status → Type 0
-IsPlacingCause told names wanted NoTriangles = HaveSceneFault told names wanted scene.NoTriangles
-IsPlacingCause told names wanted (NotClosed o format) = HaveOpen told names wanted o format
-IsPlacingCause told names wanted (TooManyTriangles count) =
-    HaveSceneFault told names wanted (scene.TooManyTriangles count)
-IsPlacingCause told names wanted (StepTooSmall extent) = HaveSceneFault told names wanted (scene.StepTooSmall extent)
-IsPlacingCause told names wanted status = IsRefusalCause told names status
+abbrev pub IsPlacingCause : (List ℕ → Option (List ℕ)) → List (List ℕ) → List (Option Placing) → Wanted → Status → Type 0
+IsPlacingCause told names placings wanted (FileRefused i reason) =
+    IsRefused told names i (string_bytes reason) ⊎ IsUnplaced told names placings i (string_bytes reason)
+IsPlacingCause told names placings wanted NoTriangles = HaveSceneFault told names placings wanted scene.NoTriangles
+IsPlacingCause told names placings wanted (NotClosed o format) = HaveOpen told names placings wanted o format
+IsPlacingCause told names placings wanted (TooManyTriangles count) =
+    HaveSceneFault told names placings wanted (scene.TooManyTriangles count)
+IsPlacingCause told names placings wanted (StepTooSmall extent) =
+    HaveSceneFault told names placings wanted (scene.StepTooSmall extent)
+IsPlacingCause told names placings wanted OutOfMemory = ⊤
+IsPlacingCause told names placings wanted status = ⊥
 
 -- why files that were read have no output
 abbrev pub IsFilesCause : (List ℕ → Option (List ℕ)) → List (List ℕ) → Formula → WantedFile → Status → Type 0
@@ -118,7 +136,7 @@ IsFilesCause told names formula wanted TooFar =
     HaveFault told names (λ files. IsBooleanFault files formula wanted boolean.TooFar)
 IsFilesCause told names formula wanted TooManyWritten =
     HaveFault told names (λ files. IsBooleanFault files formula wanted boolean.TooManyTriangles)
-IsFilesCause told names formula wanted status = IsPlacingCause told names wanted.grid status
+IsFilesCause told names formula wanted status = IsPlacingCause told names wanted.placings.now wanted.grid status
 
 -- ---- a Boolean
 -- why a request that asks for something gets no output
@@ -152,7 +170,7 @@ IsStop request shelf status = IsLateCause request shelf status
 abbrev pub IsSceneCause : List (List ℕ) → Wanted → ShelfCall → Status → Type 0
 IsSceneCause names wanted shelf (ReadFault i kind) = IsReadingCause names shelf (ReadFault i kind)
 IsSceneCause names wanted shelf (LongFile i) = IsReadingCause names shelf (LongFile i)
-IsSceneCause names wanted shelf status = IsPlacingCause shelf.told names wanted status
+IsSceneCause names wanted shelf status = IsPlacingCause shelf.told names [] wanted status
 
 -- a grid is asked for, but the files aren't put on it
 pub record IsLateSnapCause (request : SnapRequest) (shelf : ShelfCall) (status : Status) : Type 0 where

@@ -1,5 +1,5 @@
 -- The output of a request, and what it means
-use Rattle.std.specs.Prelude.{ℕ, List}
+use Rattle.std.specs.Prelude.{ℕ, List, []}
 use Rattle.std.specs.declared.option.Option.{Option}
 use Rattle.mesh_boolean.specs.declared.files.InputFile.{InputFile}
 use Rattle.mesh_boolean.specs.declared.wanted.WantedFile.{WantedFile}
@@ -52,7 +52,7 @@ pub record AreFilesPlaced (told : List ℕ →
     Type 0 where
   pub files : List InputFile
   pub are_files : AreFiles told names files
-  pub is_placed : IsPlaced files wanted placed
+  pub is_placed : IsPlaced files [] wanted placed
 
 -- they are on the grid that the request asks for
 pub record IsPlacedFor (request : SnapRequest) (told : List ℕ → Option (List ℕ)) (placed : PlacedScene) : Type 0 where

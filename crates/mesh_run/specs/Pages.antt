@@ -19,4 +19,4 @@ title_of (name ∷ names) = name ++ names_behind names
 pub record IsPageOf (told : List ℕ → Option (List ℕ)) (names : List (List ℕ)) (page : List ℕ) : Type 0 where
   pub surfaces : List Surface
   pub read : AreReadAs told names surfaces
-  pub shows : IsView (title_of names) surfaces page
+  pub shows : IsView (title_of names) names surfaces page

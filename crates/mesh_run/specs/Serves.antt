@@ -116,7 +116,7 @@ pub record PutsExport (json : Bool) (request : ExportRequest) (shelf : ShelfCall
   pub mesh : OutputMesh
   pub is_export : IsExport request shelf.told mesh
   pub files : List NamedBytes
-  pub are_files : ArePageAndMesh request.view request.output mesh files
+  pub are_files : ArePageAndMesh request.view [] [] request.output mesh files
   pub written : PutsEach files target.held target.held_after
   pub sent_is : sent ≡ sent_to request.output mesh.bytes.items
   pub report_is : report ≡ exported_report json request mesh
@@ -134,7 +134,7 @@ pub record AreExportFilesFor (request : ExportRequest) (told : List ℕ → Opti
     Type 0 where
   pub mesh : OutputMesh
   pub is_export : IsExport request told mesh
-  pub are_files : ArePageAndMesh request.view request.output mesh files
+  pub are_files : ArePageAndMesh request.view [] [] request.output mesh files
 
 abbrev pub IsExportUnmet : ExportRequest → ShelfCall → TargetCall → Status → Type 0
 IsExportUnmet request shelf target status =

@@ -10,8 +10,8 @@ use Rattle.mesh_words.specs.declared.command.Destination.TheVariants.{File, Stan
 use Rattle.mesh_words.specs.declared.command.Request.{Request}
 use Rattle.mesh_words.specs.Folders.{document_name, mesh_name, scene_name}
 use Rattle.ember_model.specs.declared.tri.Tri.{Tri}
-use Rattle.mesh_write.specs.Page.Pages.{page_of}
-use Rattle.mesh_write.specs.Page.ReadBack.{IsReadBack}
+use Rattle.mesh_info.specs.Page.Pages.{page_of}
+use Rattle.mesh_info.specs.Page.ReadBack.{IsReadBack}
 use Rattle.mesh_scene.specs.declared.scene.scene.PlacedScene.{PlacedScene}
 use Rattle.mesh_scene.specs.SceneFile.Meshes.{mesh_text, triangles_of}
 use Rattle.mesh_scene.specs.SceneFile.Texts.{IsSceneText}
@@ -63,19 +63,23 @@ title_at (File name) = name
 title_at StandardOutput = codes "standard output"
 
 -- ---- a mesh
--- the page of this name that shows these triangles under that title; a reader finds them in it again
-pub record IsPageFile (title : List ℕ) (shown : Option (Vec FloatTriangle)) (name : List ℕ)
-    (files : List NamedBytes) : Type 0 where
+-- the page of this name that shows these triangles under that title, and of which of the named files they are; a
+-- reader finds the triangles and the numbers of their files in it again
+pub record IsPageFile (title : List ℕ) (names : List (List ℕ)) (numbers : List ℕ) (shown : Option (Vec FloatTriangle))
+    (name : List ℕ) (files : List NamedBytes) :
+    Type 0 where
   pub triangles : Vec FloatTriangle
   pub are_shown : shown ≡ Some triangles
-  pub all : files ≡ (name, page_of title triangles.items) ∷ []
-  pub read_back : IsReadBack triangles.items (page_of title triangles.items)
+  pub all : files ≡ (name, page_of title names triangles.items numbers) ∷ []
+  pub read_back : IsReadBack triangles.items numbers (page_of title names triangles.items numbers)
 
--- the page that shows a mesh, if a page is asked for, and behind it the mesh, if it goes to a file
-pub record ArePageAndMesh (page : Option (List ℕ)) (output : Destination) (mesh : OutputMesh)
-    (files : List NamedBytes) : Type 0 where
+-- the page that shows a mesh and of which of the named files its triangles are, if a page is asked for, and behind it
+-- the mesh, if it goes to a file
+pub record ArePageAndMesh (page : Option (List ℕ)) (names : List (List ℕ)) (numbers : List ℕ) (output : Destination)
+    (mesh : OutputMesh) (files : List NamedBytes) :
+    Type 0 where
   pub pages : List NamedBytes
-  pub are_pages : AreFilesIf page (IsPageFile (title_at output) mesh.shown) pages
+  pub are_pages : AreFilesIf page (IsPageFile (title_at output) names numbers mesh.shown) pages
   pub all : files ≡ pages ++ mesh_file_at output mesh.bytes.items
 
 -- ---- a Boolean
@@ -97,10 +101,15 @@ pub record AreOutputsKept (names : List (List ℕ)) (out : SolidFile) (folder : 
   pub is_kept : out.kept ≡ Some kept
   pub are_files : AreKeptFiles names (placed_of out kept) kept.document.items folder files
 
+-- the numbers of files, if they are there
+abbrev pub numbers_in : Option (Vec ℕ) → List ℕ
+numbers_in None = []
+numbers_in (Some numbers) = numbers.items
+
 -- what is to be kept, the page, and the mesh; without the two options, the mesh alone
 pub record AreSolidFiles (request : Request) (out : SolidFile) (files : List NamedBytes) : Type 0 where
   pub kept : List NamedBytes
   pub are_kept : AreFilesIf request.keep (AreOutputsKept request.files out) kept
   pub mesh : List NamedBytes
-  pub are_mesh : ArePageAndMesh request.view request.output out.written mesh
+  pub are_mesh : ArePageAndMesh request.view request.files (numbers_in out.shown_files) request.output out.written mesh
   pub all : files ≡ kept ++ mesh

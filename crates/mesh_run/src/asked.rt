@@ -4,21 +4,22 @@ ghost use Rattle.mesh_boolean.specs.Outputs.{HasFewDigits};
 ghost use Rattle.ember_expr.specs.Formula.{formula_of};
 ghost use Rattle.mesh_grid.specs.Grid.Grids.{IsChoice};
 ghost use Rattle.mesh_words.specs.Commands.{IsWithinLimits};
-ghost use Rattle.mesh_run.specs.Asked.{Asks, AsksFile, IsExpression, IsExpressionCause, IsStepOfNoGrid, IsWanted, IsWordsCause, format_asked};
+ghost use Rattle.mesh_run.specs.Asked.{AreAsked, Asks, AsksFile, IsExpression, IsExpressionCause, IsStepOfNoGrid, IsWanted, IsWordsCause, format_asked};
 
 use ember_expr::{Expr, ExprFault, bounded, parse};
 use ember_words::Text;
 use mesh_boolean::{FloatFormat, MeshFormat, WantedFile};
 use mesh_grid::{Wanted, step_of};
+use mesh_placing::{Placing, placings_of};
 use mesh_refusal::Status;
 use mesh_words::{OutputFormat, Request, WantedStep};
 use mesh_write::TextFormat;
-use std::alloc::Global;
+use std::alloc::{AllocError, Global};
 
 // The file and the expression that a request asks for.
 #[derive(Drop)]
-pub(crate) struct Asked {
-    pub wanted: WantedFile,
+pub(crate) struct Asked<'a> {
+    pub wanted: WantedFile<'a>,
     pub expr: Expr,
 }
 
@@ -53,9 +54,30 @@ pub(crate) fn format_asked(format: OutputFormat, digits: Option<u32>) -> MeshFor
     }
 }
 
-// The file that a request asks for, unless no grid has the step.
-fn file_asked(request: &Request) -> Result<WantedFile, Status>
+/// How a request places its files.
+pub(crate) fn placings_asked(
+    alloc: Global,
+    request: &Request,
+) -> Result<Vec<Option<Placing<'_>>>, AllocError>
     requires { IsWithinLimits request.now }
+    ensures { IfOk result (λ placings. AreAsked request.now placings.items) }
+{
+    let files = request.files.items().len() as u32;
+    placings_of(
+        alloc,
+        files,
+        request.places.items(),
+        request.turns.items(),
+    )
+}
+
+// The file that a request asks for, with its placings, unless no grid has the step.
+fn file_asked<'a>(
+    request: &Request,
+    placings: &'a [Option<Placing<'a>>],
+) -> Result<WantedFile<'a>, Status>
+    requires limits { IsWithinLimits request.now }
+    requires placings { AreAsked request.now placings.now }
     ensures wanted { IfOk result (AsksFile request.now) }
     ensures choice { IfOk result (λ wanted. IsChoice wanted.grid) }
     ensures digits { IfOk result (λ wanted. HasFewDigits wanted.format) }
@@ -64,10 +86,12 @@ fn file_asked(request: &Request) -> Result<WantedFile, Status>
     let format = format_asked(request.format, request.digits);
     match wanted_of(&request.step) {
         Some(grid) => Ok(WantedFile {
+            placings,
             grid,
             format,
             shows: request.view.is_some(),
             keeps: request.keep.is_some(),
+            counts: !request.quiet,
         }),
         None => Err(Status::StepOfNoGrid),
     }
@@ -92,16 +116,21 @@ fn bounded_expression(alloc: Global, text: &Text, meshes: u32) -> Result<Expr, S
     }
 }
 
-// The file and the expression that a request asks for, or why it asks for nothing that can be
-// computed.
-pub(crate) fn asked_by(alloc: Global, request: &Request) -> Result<Asked, Status>
-    requires { IsWithinLimits request.now }
+// The file and the expression that a request asks for, with its placings, or why it asks for nothing
+// that can be computed.
+pub(crate) fn asked_by<'a>(
+    alloc: Global,
+    request: &Request,
+    placings: &'a [Option<Placing<'a>>],
+) -> Result<Asked<'a>, Status>
+    requires limits { IsWithinLimits request.now }
+    requires placings { AreAsked request.now placings.now }
     ensures asks { IfOk result (λ asked. Asks request.now asked.wanted (formula_of asked.expr)) }
     ensures choice { IfOk result (λ asked. IsChoice asked.wanted.grid) }
     ensures digits { IfOk result (λ asked. HasFewDigits asked.wanted.format) }
     ensures cause { IfErr result (IsWordsCause request.now) }
 {
-    let wanted = match file_asked(request) {
+    let wanted = match file_asked(request, placings) {
         Ok(wanted) => wanted,
         Err(status) => return Err(status),
     };

@@ -1,19 +1,20 @@
 // The files that a request gets.
 ghost use Rattle.std.specs.Prelude.{◌≡◌, ◌≤◌, ◌++◌, ◌∷◌, [], length, IfOk, IsSome, OnOk, option_map};
-ghost use Rattle.mesh_write.specs.Page.Pages.{page_of};
-ghost use Rattle.mesh_write.specs.Page.ReadBack.{IsReadBack};
+ghost use Rattle.mesh_info.specs.Page.Pages.{page_of};
+ghost use Rattle.mesh_info.specs.Page.ReadBack.{IsReadBack};
 ghost use Rattle.mesh_grid.specs.Snap.Steps.{IsStep};
 ghost use Rattle.mesh_outside.specs.Target.Several.{names_and_bytes};
 ghost use Rattle.mesh_words.specs.Folders.{document_name, scene_name};
-ghost use Rattle.mesh_run.specs.Writes.{AreAppended, AreFilesIf, AreKeptFiles, ArePageAndMesh, AreOutputsKept, AreSceneFiles, AreSolidFiles, IsPageFile, mesh_file, mesh_file_at, mesh_files, sent_to, title_at};
+ghost use Rattle.mesh_run.specs.Writes.{AreAppended, AreFilesIf, AreKeptFiles, ArePageAndMesh, AreOutputsKept, AreSceneFiles, AreSolidFiles, IsPageFile, mesh_file, mesh_file_at, mesh_files, numbers_in, sent_to, title_at};
 
 use ember_model::{OutOfMemory, Tri};
 use ember_words::Text;
 use mesh_boolean::{KeptDocument, OutputMesh, SolidFile};
+use mesh_info::page_bytes;
 use mesh_outside::NamedFile;
 use mesh_scene::{PlacedScene, grid_mesh, scene_text};
 use mesh_words::{Destination, Request, document_name, mesh_name, scene_name};
-use mesh_write::{FloatTriangle, page_bytes};
+use mesh_write::FloatTriangle;
 use std::alloc::Global;
 
 /// The files of a mesh, and what of it goes to standard output.
@@ -149,19 +150,22 @@ pub fn scene_files(
     Ok(files)
 }
 
-// Appends the page that shows triangles under this title.
+// Appends the page that shows triangles under this title, and of which of the named files they are.
 fn put_page(
     alloc: Global,
     page: &Text,
     title: &[u8],
+    names: &[Text],
     shown: &[FloatTriangle],
+    numbers: &[usize],
     files: &mut Vec<NamedFile>,
 ) -> Result<(), OutOfMemory>
-    ensures is_page { OnOk result (names_and_bytes files.new.items ≡
-        names_and_bytes files.old.items ++ (page.now, page_of title.now shown.now) ∷ []) }
-    ensures read_back { OnOk result (IsReadBack shown.now (page_of title.now shown.now)) }
+    ensures is_page { OnOk result (names_and_bytes files.new.items ≡ names_and_bytes files.old.items ++
+        (page.now, page_of title.now names.now shown.now numbers.now) ∷ []) }
+    ensures read_back { OnOk result (IsReadBack shown.now numbers.now
+        (page_of title.now names.now shown.now numbers.now)) }
 {
-    let bytes = page_bytes(alloc, title, shown)?;
+    let bytes = page_bytes(alloc, title, names, shown, numbers)?;
     put_named(alloc, page, bytes, files)
 }
 
@@ -170,18 +174,20 @@ fn put_pages(
     alloc: Global,
     page: &Option<Text>,
     title: &[u8],
+    names: &[Text],
     shown: Option<Vec<FloatTriangle>>,
+    numbers: &[usize],
     files: &mut Vec<NamedFile>,
 ) -> Result<(), OutOfMemory>
     requires { IsSome page.now → IsSome shown }
-    ensures { OnOk result (AreAppended (AreFilesIf page.now (IsPageFile title.now shown))
+    ensures { OnOk result (AreAppended (AreFilesIf page.now (IsPageFile title.now names.now numbers.now shown))
         (names_and_bytes files.old.items) (names_and_bytes files.new.items)) }
 {
     let Some(page) = page else {
         return Ok(());
     };
     let shown = shown.unwrap();
-    put_page(alloc, page, title, &shown, files)
+    put_page(alloc, page, title, names, &shown, numbers, files)
 }
 
 // What a page calls a mesh that goes there.
@@ -219,17 +225,19 @@ fn put_mesh_at(
 fn put_page_and_mesh(
     alloc: Global,
     page: &Option<Text>,
+    names: &[Text],
+    numbers: &[usize],
     output: &Destination,
     mesh: OutputMesh,
     files: &mut Vec<NamedFile>,
 ) -> Result<Option<Vec<u8>>, OutOfMemory>
     requires { IsSome page.now → IsSome mesh.shown }
-    ensures put { OnOk result (AreAppended (ArePageAndMesh page.now output.now mesh)
+    ensures put { OnOk result (AreAppended (ArePageAndMesh page.now names.now numbers.now output.now mesh)
         (names_and_bytes files.old.items) (names_and_bytes files.new.items)) }
     ensures sent { IfOk result (λ sent. option_map (λ b. b.items) sent ≡ sent_to output.now mesh.bytes.items) }
 {
     let OutputMesh { bytes, shown, .. } = mesh;
-    put_pages(alloc, page, title_at(output), shown, files)?;
+    put_pages(alloc, page, title_at(output), names, shown, numbers, files)?;
     put_mesh_at(alloc, output, bytes, files)
 }
 
@@ -242,13 +250,24 @@ pub fn written_files(
     mesh: OutputMesh,
 ) -> Result<OutputFiles, OutOfMemory>
     requires { IsSome page.now → IsSome mesh.shown }
-    ensures files { IfOk result (λ made. ArePageAndMesh page.now output.now mesh (names_and_bytes made.files.items)) }
+    ensures files { IfOk result (λ made.
+        ArePageAndMesh page.now [] [] output.now mesh (names_and_bytes made.files.items)) }
     ensures sent { IfOk result (λ made.
         option_map (λ b. b.items) made.sent ≡ sent_to output.now mesh.bytes.items) }
 {
     let mut files = Vec::new(alloc);
-    let sent = put_page_and_mesh(alloc, page, output, mesh, &mut files)?;
+    let sent = put_page_and_mesh(alloc, page, &[], &[], output, mesh, &mut files)?;
     Ok(OutputFiles { files, sent })
+}
+
+// The numbers of files, if they are there.
+fn numbers_in(shown_files: &Option<Vec<usize>>) -> &[usize]
+    ensures { result.now ≡ numbers_in shown_files.now }
+{
+    match shown_files {
+        Some(numbers) => numbers,
+        None => &[],
+    }
 }
 
 // Appends the files of a scene in a folder, and the document.
@@ -271,12 +290,13 @@ fn put_kept(
     put_document(alloc, folder, document, files)
 }
 
-// The files of what is to be kept of an output, and its mesh.
+// The files of what is to be kept of an output, its mesh, and the files of the triangles that are
+// shown.
 fn kept_files(
     alloc: Global,
     request: &Request,
     output: SolidFile,
-) -> Result<(Vec<NamedFile>, OutputMesh), OutOfMemory>
+) -> Result<(Vec<NamedFile>, OutputMesh, Option<Vec<usize>>), OutOfMemory>
     requires few { length request.now.files ≤ 64 }
     requires step { IsStep output.grid.step }
     requires counts { length output.counts.items ≡ length request.now.files }
@@ -285,18 +305,20 @@ fn kept_files(
     ensures files { IfOk result (λ made.
         AreFilesIf request.now.keep (AreOutputsKept request.now.files output) (names_and_bytes made.0.items)) }
     ensures mesh { IfOk result (λ made. made.1 ≡ output.written) }
+    ensures shown { IfOk result (λ made. made.2 ≡ output.shown_files) }
 {
     let SolidFile {
         written,
         grid,
         counts,
         moves,
+        shown_files,
         kept,
         ..
     } = output;
     let mut files = Vec::new(alloc);
     let Some(folder) = &request.keep else {
-        return Ok((files, written));
+        return Ok((files, written, shown_files));
     };
     let KeptDocument { scene, document } = kept.unwrap();
     let placed = PlacedScene {
@@ -313,7 +335,7 @@ fn kept_files(
         document,
         &mut files,
     )?;
-    Ok((files, written))
+    Ok((files, written, shown_files))
 }
 
 /// The files of a Boolean: what is to be kept, the page that shows the solid, and the solid itself,
@@ -333,7 +355,15 @@ pub fn solid_files(
     ensures sent { IfOk result (λ made.
         option_map (λ b. b.items) made.sent ≡ sent_to request.now.output output.written.bytes.items) }
 {
-    let (mut files, mesh) = kept_files(alloc, request, output)?;
-    let sent = put_page_and_mesh(alloc, &request.view, &request.output, mesh, &mut files)?;
+    let (mut files, mesh, shown_files) = kept_files(alloc, request, output)?;
+    let sent = put_page_and_mesh(
+        alloc,
+        &request.view,
+        request.files.items(),
+        numbers_in(&shown_files),
+        &request.output,
+        mesh,
+        &mut files,
+    )?;
     Ok(OutputFiles { files, sent })
 }

@@ -1,5 +1,5 @@
 // Meshes on their grid.
-ghost use Rattle.std.specs.Prelude.{◌≡◌, ◌≤◌, ℕ, List, length, All, false, None, IfOk, IfErr};
+ghost use Rattle.std.specs.Prelude.{◌≡◌, ◌≤◌, ℕ, List, [], length, All, false, None, IfOk, IfErr};
 ghost use Rattle.std.specs.declared.option.Option.{Option};
 ghost use Rattle.ember_model.specs.Limits.{most_bytes};
 ghost use Rattle.mesh_grid.specs.Grid.Grids.{IsChoice};
@@ -42,10 +42,10 @@ fn placed_of_contents<P: Stages>(
     ensures placed { IfOk result (λ placed. (told : List ℕ → Option (List ℕ)) →
         AreContents told names.now contents.now → AreFilesPlaced told names.now wanted placed) }
     ensures cause { IfErr result (λ status. (told : List ℕ → Option (List ℕ)) →
-        AreContents told names.now contents.now → IsPlacingCause told names.now wanted status) }
+        AreContents told names.now contents.now → IsPlacingCause told names.now [] wanted status) }
 {
     let files = input_files(alloc, names, contents)?;
-    match placed_files(alloc, &files, wanted, stages) {
+    match placed_files(alloc, &files, &[], wanted, stages) {
         Ok(placed) => Ok(placed),
         Err(fault) => Err(status_of(alloc, &files, fault)),
     }

@@ -2,6 +2,7 @@
 ghost use Rattle.std.specs.Prelude.{◌≡◌, ◌≤◌, ℕ, List, length, All, false, None, IfOk, IfErr, option_map};
 ghost use Rattle.std.specs.declared.option.Option.{Option};
 ghost use Rattle.ember_model.specs.Limits.{most_bytes};
+ghost use Rattle.mesh_boolean.specs.Images.{AreForEach};
 ghost use Rattle.mesh_boolean.specs.Outputs.{HasFewDigits};
 ghost use Rattle.ember_expr.specs.Formula.{formula_of};
 ghost use Rattle.mesh_grid.specs.Grid.Grids.{IsChoice};
@@ -16,7 +17,7 @@ ghost use Rattle.mesh_run.specs.Memory.{hides_memory};
 ghost use Rattle.mesh_run.specs.Outputs.{IsFilesOutput, IsOutputFor};
 ghost use Rattle.mesh_run.specs.Serves.{IsSolidOutcome, IsSolidUnmet, PutsSolid};
 
-use crate::asked::{Asked, asked_by};
+use crate::asked::{Asked, asked_by, placings_asked};
 use crate::files::solid_files;
 use crate::reading::{input_files, read_contents};
 use crate::writing::{Sending, say_why, send, write_files};
@@ -49,6 +50,7 @@ fn output_of_contents<
     requires few { length names.now ≤ 64 }
     requires one_each { length contents.now ≡ length names.now }
     requires small { All (λ bytes. length bytes.items ≤ most_bytes) contents.now }
+    requires placings { AreForEach asked.now.wanted.placings.now names.now }
     requires choice { IsChoice asked.now.wanted.grid }
     requires digits { HasFewDigits asked.now.wanted.format }
     requires executor { IsExecutor C.pre C.post executor.now }
@@ -99,7 +101,8 @@ fn solid_output<
     ensures stop { IfErr result
         (IsStop request.now (shelf_call S.contents S.faults S.fault_at S.fault_kind shelf.old shelf.new)) }
 {
-    let asked = match asked_by(alloc, request) {
+    let placings = placings_asked(alloc, request)?;
+    let asked = match asked_by(alloc, request, placings.as_slice()) {
         Ok(asked) => asked,
         Err(status) => return Err(status),
     };

@@ -47,10 +47,10 @@ fn title_of(alloc: Global, names: &[Text]) -> Result<Vec<u8>, OutOfMemory>
 
 // The page of surfaces under these names.
 fn page_of(alloc: Global, names: &[Text], surfaces: &[Surface]) -> Result<Vec<u8>, OutOfMemory>
-    ensures { IfOk result (λ page. IsView (title_of names.now) surfaces.now page.items) }
+    ensures { IfOk result (λ page. IsView (title_of names.now) names.now surfaces.now page.items) }
 {
     let title = title_of(alloc, names)?;
-    view_of(alloc, &title, surfaces)
+    view_of(alloc, &title, names, surfaces)
 }
 
 // The page of files with these names and bytes.

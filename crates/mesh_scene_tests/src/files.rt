@@ -143,10 +143,12 @@ fn fault_of<'a>(
     }
     let expr = expression(alloc, b"m1|m2")?;
     let wanted = WantedFile {
+        placings: &[],
         grid: Wanted::Nice,
         format: MeshFormat::Floats(FloatFormat::Stl),
         shows: false,
         keeps: false,
+        counts: false,
     };
     let outcome = solid_file(
         alloc,

@@ -28,7 +28,7 @@ use Rattle.mesh_certificate.specs.declared.key.lines.LineKey.{LineKey}
 use Rattle.mesh_certificate.specs.Key.LineKeys.{direction, IsLineKey}
 use Rattle.mesh_certificate.proofs.LineLaws.{points_of_key}
 use Rattle.mesh_certificate.specs.declared.certificate.segment.Segment.{Segment}
-use Rattle.mesh_certificate.specs.declared.certificate.space_point.SpacePoint.{SpacePoint}
+use Rattle.mesh_point.specs.declared.space_point.SpacePoint.{SpacePoint}
 use Rattle.mesh_certificate.specs.declared.certificate.triangle.Triangle.{Triangle}
 use Rattle.mesh_certificate.specs.Certificate.Certificate.{leads_round, is_in_one_plane, IsProper, FacesFrontOf, edges_in}
 use Rattle.mesh_certificate.specs.Certificate.Chains.{HaveSameChains}

@@ -14,7 +14,7 @@ use Rattle.ember_model.specs.Planes.{value_at, along}
 use Rattle.ember_model.proofs.Hits.{crossing_off, crossing_on}
 use Rattle.ember_model.proofs.SignTests.{zero_out, nonzero_out, zero_scaled}
 use Rattle.mesh_certificate.specs.declared.certificate.segment.Segment.{Segment}
-use Rattle.mesh_certificate.specs.declared.certificate.space_point.SpacePoint.{SpacePoint}
+use Rattle.mesh_point.specs.declared.space_point.SpacePoint.{SpacePoint}
 use Rattle.mesh_certificate.specs.Certificate.Facing.{spot_of}
 use Rattle.mesh_certificate.specs.declared.key.lines.LineKey.{LineKey}
 use Rattle.ember_meaning.specs.Regions.Meaning.{one_if}

@@ -5,7 +5,7 @@ use Rattle.ember_model.specs.declared.face.Face.{Face}
 use Rattle.ember_model.specs.declared.plane.Plane.{Plane}
 use Rattle.ember_model.specs.FaceFiles.{WrittenFace}
 use Rattle.ember_meaning.specs.Closed.Chains.{face_from, IsOutlined}
-use Rattle.mesh_certificate.specs.declared.certificate.space_point.SpacePoint.{SpacePoint}
+use Rattle.mesh_point.specs.declared.space_point.SpacePoint.{SpacePoint}
 use Rattle.mesh_certificate.specs.Certificate.Certificate.{IsCertified, edges_in}
 use Rattle.mesh_certificate.specs.Certificate.Closed.{AreSegmentsClosed}
 use Rattle.mesh_solid.specs.declared.tables.tables.Tables.{Tables}

@@ -22,7 +22,7 @@ use Rattle.ember_meaning.specs.Closed.Chains.{DirectedEdge, edges_to, directed_e
 use Rattle.ember_meaning.proofs.EdgeForm.{start_on, end_on, has_normal}
 use Rattle.mesh_certificate.specs.declared.key.lines.LineKey.{LineKey}
 use Rattle.mesh_certificate.specs.declared.certificate.segment.Segment.{Segment}
-use Rattle.mesh_certificate.specs.declared.certificate.space_point.SpacePoint.{SpacePoint}
+use Rattle.mesh_point.specs.declared.space_point.SpacePoint.{SpacePoint}
 use Rattle.mesh_certificate.specs.Certificate.Facing.{spot_of}
 use Rattle.ember_meaning.specs.Regions.Meaning.{one_if}
 use Rattle.mesh_solid.specs.declared.tables.face_edge.FaceEdge.{FaceEdge}

@@ -36,7 +36,7 @@ use Rattle.ember_meaning.proofs.ClearRectangle.{all_of}
 use Rattle.ember_meaning.proofs.Displacements.{Parallel, zeroE, orthogonal_to_none}
 use Rattle.ember_meaning.proofs.EdgeForm.{course_nonzero, start_on}
 use Rattle.mesh_certificate.specs.Key.LineKeys.{numerators}
-use Rattle.mesh_certificate.specs.declared.certificate.space_point.SpacePoint.{SpacePoint}
+use Rattle.mesh_point.specs.declared.space_point.SpacePoint.{SpacePoint}
 use Rattle.mesh_certificate.specs.Certificate.Facing.{spot_of}
 use Rattle.mesh_solid.specs.Winding.TriangleFaces.{side_plane}
 use Rattle.mesh_solid.proofs.Seen.{area, height, turn_at, side_value}

@@ -25,6 +25,11 @@ pub mod WindingLaw
 pub mod ReadBack
 pub mod Passing
 pub mod SolidSteps
+pub mod ClosedLines
+pub mod Apart
+pub mod Searches
+pub mod NumberedFaces
+pub mod UncutDocuments
 pub mod SolidFaces
 pub mod Outlined
 pub mod DocumentWinding

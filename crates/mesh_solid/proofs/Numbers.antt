@@ -1,6 +1,6 @@
 -- Entries without equals
 use Rattle.std.proofs.Common.{◌≡◌, ◌⊎◌, inl, inr, ℕ, ◌<◌, ◌≤◌, Bool, true, false, true≢false, if◌then◌else◌, List, []}
-use Rattle.std.proofs.Common.{◌∷◌, ◌++◌, map, Some, slice_get, sym, ap, ◌∙◌, arith}
+use Rattle.std.proofs.Common.{◌∷◌, ◌++◌, ◌+ℤ◌, ◌*ℤ◌, map, Some, slice_get, sym, ap, ◌∙◌, arith}
 use Rattle.std.specs.Bool.{Decides}
 use Rattle.std.specs.List.{IsDistinct}
 use Rattle.std.proofs.lemmas.Bool.{cases_lt}
@@ -11,10 +11,11 @@ use Rattle.ember_model.specs.declared.point.Spot.{Spot}
 use Rattle.ember_model.specs.declared.plane.Plane.{Plane}
 use Rattle.ember_model.proofs.Tuples.{same_spot}
 use Rattle.mesh_certificate.specs.declared.key.lines.LineKey.{LineKey}
-use Rattle.mesh_certificate.specs.declared.certificate.space_point.SpacePoint.{SpacePoint}
+use Rattle.mesh_point.specs.declared.space_point.SpacePoint.{SpacePoint}
 use Rattle.mesh_certificate.specs.Certificate.Facing.{spot_of}
 use Rattle.mesh_solid.specs.declared.tables.plane_entry.PlaneEntry.{PlaneEntry}
 use Rattle.mesh_solid.specs.Tables.Numberings.{AreDistinct, IsKeptOrPut, plane_of, same_entry, same_line, same_corner}
+use Rattle.mesh_point.proofs.Forms.{points_have_one_form}
 use Rattle.mesh_solid.proofs.Lists.{entry_of_map}
 
 -- ---- what the tests decide
@@ -57,9 +58,16 @@ same_line_decides k l =
 pub same_corner_decides : (p q : SpacePoint) → Decides (same_corner p q) (spot_of p ≡ spot_of q)
 same_corner_decides p q =
     Decides-like _
-    (λ t. same_spot {u = spot_of p} {v = spot_of q} t.0 t.1.0 t.1.1.0 t.1.1.1)
-    (λ s. (ap (λ (v : Spot). v.x) s, (ap (λ (v : Spot). v.y) s, (ap (λ (v : Spot). v.z) s, ap (λ (v : Spot). v.w) s))))
-    (Decides-and _ _ (Decides-int_eq p.x q.x) (Decides-and _ _ (Decides-int_eq p.y q.y) (Decides-and _ _ (Decides-int_eq p.z q.z) (Decides-int_eq p.w q.w))))
+    (λ t. let w = t.1.1.1.1.1.1 in same_spot {u = spot_of p} {v = spot_of q}
+    (λ n. t.0 n *ℤ w n +ℤ t.1.1.1.0 n)
+    (λ n. t.1.0 n *ℤ w n +ℤ t.1.1.1.1.0 n)
+    (λ n. t.1.1.0 n *ℤ w n +ℤ t.1.1.1.1.1.0 n)
+    w)
+    (λ s. let h = points_have_one_form p q s in
+    (h.floor_x, (h.floor_y, (h.floor_z, (h.x, (h.y, (h.z, h.w)))))))
+    (Decides-and _ _ (Decides-int_eq p.floor_x q.floor_x) (Decides-and _ _ (Decides-int_eq p.floor_y q.floor_y)
+    (Decides-and _ _ (Decides-int_eq p.floor_z q.floor_z) (Decides-and _ _ (Decides-int_eq p.x q.x)
+    (Decides-and _ _ (Decides-int_eq p.y q.y) (Decides-and _ _ (Decides-int_eq p.z q.z) (Decides-int_eq p.w q.w)))))))
 
 -- ---- one more entry
 pub kept_or_put : {X : Type 0} (b : Bool) (x : X) (xs ys : List X) → ys ≡ (if b then xs else xs ++ x ∷ []) → IsKeptOrPut x xs ys

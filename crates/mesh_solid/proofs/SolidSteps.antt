@@ -1,7 +1,7 @@
 -- The steps from a face file to tables, to triangles, and to the mesh of the document or a fault of it.
 use Rattle.std.proofs.Common.{◌≡◌, ◌⊎◌, inl, inr, ℕ, subst, ◌∙◌, List, length, Result, Ok, Err, IfOk}
 use Rattle.mesh_certificate.specs.declared.certificate.segment.Segment.{Segment}
-use Rattle.mesh_certificate.specs.declared.certificate.space_point.SpacePoint.{SpacePoint}
+use Rattle.mesh_point.specs.declared.space_point.SpacePoint.{SpacePoint}
 use Rattle.mesh_certificate.specs.declared.certificate.triangle.Triangle.{Triangle}
 use Rattle.mesh_certificate.specs.Certificate.Certificate.{IsCertified}
 use Rattle.ember_expr.specs.Formula.{Formula}
@@ -22,7 +22,7 @@ use Rattle.mesh_solid.specs.declared.mesh.fault.SolidFault.{SolidFault}
 use Rattle.mesh_solid.specs.declared.mesh.fault.SolidFault.TheVariants.{NoTables, NotCut, OutOfMemory}
 use Rattle.mesh_solid.specs.declared.mesh.mesh.SolidMesh.{SolidMesh}
 use Rattle.mesh_solid.specs.Mesh.FaceTables.{AreTablesIn}
-use Rattle.mesh_solid.specs.Mesh.Faults.{IsCutFault, IsDocumentFault, IsFileFault, IsSolidFault, of_mesh_fault, of_reading_fault, of_table_fault}
+use Rattle.mesh_solid.specs.Mesh.Faults.{IsCutFault, IsDocumentFault, IsFileFault, IsSolidFault, of_reading_fault, of_table_fault}
 use Rattle.mesh_solid.specs.Mesh.Meshes.{IsMeshOf, IsDocumentMesh}
 
 -- triangles are certified of equal lists
@@ -74,12 +74,6 @@ reading_fault_is bytes reread.Form (inl memory) = absurd (clash memory)
     clash e = cc
 reading_fault_is bytes reread.Form (inr none) = λ held. none held.0 held.1
 reading_fault_is bytes reread.OutOfMemory h = tt
-
--- the fault of a document's mesh
-pub mesh_fault_is : (bytes : List ℕ) (fault : SolidFault) → IsFileFault bytes fault → IsDocumentFault bytes (of_mesh_fault fault)
-mesh_fault_is bytes (NoTables fault) is = is
-mesh_fault_is bytes (NotCut fault) is = is
-mesh_fault_is bytes OutOfMemory is = tt
 
 -- the fault of a solid's mesh is that of its document
 pub solid_fault_is : (tris : List Tri) (formula : Formula) (bytes : List ℕ) → IsSolidText tris formula bytes →

@@ -28,7 +28,7 @@ use Rattle.ember_poly.proofs.RingOutline.{each_get}
 use Rattle.ember_meaning.proofs.Displacements.{zeroE}
 use Rattle.ember_meaning.proofs.EdgeForm.{flat_displacement}
 use Rattle.mesh_certificate.specs.declared.certificate.segment.Segment.{Segment}
-use Rattle.mesh_certificate.specs.declared.certificate.space_point.SpacePoint.{SpacePoint}
+use Rattle.mesh_point.specs.declared.space_point.SpacePoint.{SpacePoint}
 use Rattle.mesh_certificate.specs.declared.certificate.triangle.Triangle.{Triangle}
 use Rattle.mesh_certificate.specs.Certificate.Certificate.{leads_round, is_in_one_plane, IsProper, FacesFrontOf, edges_in}
 use Rattle.mesh_certificate.specs.Certificate.Facing.{spot_of, triangle_normal, FacesFront}

@@ -1,4 +1,5 @@
 pub mod Outline
 pub mod Tables
 pub mod Winding
+pub mod Refusal
 pub mod Mesh

@@ -10,4 +10,6 @@ mod plane_entry;
 mod tables;
 
 pub use fault::TableFault;
+pub(crate) use numbering::number_of;
+pub(crate) use plane_entry::{PlaneEntry, entry_of};
 pub use tables::{Tables, tables_of};

@@ -120,10 +120,10 @@ beyond : {a b c : ℤ} → a ≤ℤ b → b ≤ℤ c → a ≤ℤ c
 beyond h k = omega (arith, linear, h, k)
 
 abbrev pub IsFloorOf : Axis → Spot → ℤ → Type 0
-IsFloorOf k v f = (z : ℤ) → Small 2047 z → (z ≤ℤ f) ↔ ((v.w *ℤ z) ≤ℤ coordinate k v)
+IsFloorOf k v f = (z : ℤ) → (z ≤ℤ f) ↔ ((v.w *ℤ z) ≤ℤ coordinate k v)
 
 abbrev pub IsCeilOf : Axis → Spot → ℤ → Type 0
-IsCeilOf k v f = (z : ℤ) → Small 2047 z → (f ≤ℤ z) ↔ (coordinate k v ≤ℤ (v.w *ℤ z))
+IsCeilOf k v f = (z : ℤ) → (f ≤ℤ z) ↔ (coordinate k v ≤ℤ (v.w *ℤ z))
 
 module _ (k : Axis) (s : Spots) (low high cu cv cw fu fv fw : ℤ) where
   pub span_is_over : IsCeilOf k s.u cu → IsCeilOf k s.v cv → IsCeilOf k s.w cw →
@@ -134,12 +134,12 @@ module _ (k : Axis) (s : Spots) (low high cu cv cw fu fv fw : ℤ) where
   span_is_over u v w a b c lu lv lw lr hu hv hw hr =
       record {
         to = λ z q. (
-          λ h. three (λ e. (a z q).0 (up_to z high fu h e)) (λ e. (b z q).0 (up_to z high fv h e)) (λ e. (c z q).0 (up_to z high fw h e)) hr,
-          one_of (λ e. beyond ((a z q).1 e) hu) (λ e. beyond ((b z q).1 e) hv) (λ e. beyond ((c z q).1 e) hw),
+          λ h. three (λ e. (a z).0 (up_to z high fu h e)) (λ e. (b z).0 (up_to z high fv h e)) (λ e. (c z).0 (up_to z high fw h e)) hr,
+          one_of (λ e. beyond ((a z).1 e) hu) (λ e. beyond ((b z).1 e) hv) (λ e. beyond ((c z).1 e) hw),
         );
         from = λ z q. (
-          λ h. three (λ e. (u z q).0 (down_to z low cu h e)) (λ e. (v z q).0 (down_to z low cv h e)) (λ e. (w z q).0 (down_to z low cw h e)) lr,
-          one_of (λ e. beyond lu ((u z q).1 e)) (λ e. beyond lv ((v z q).1 e)) (λ e. beyond lw ((w z q).1 e)),
+          λ h. three (λ e. (u z).0 (down_to z low cu h e)) (λ e. (v z).0 (down_to z low cv h e)) (λ e. (w z).0 (down_to z low cw h e)) lr,
+          one_of (λ e. beyond lu ((u z).1 e)) (λ e. beyond lv ((v z).1 e)) (λ e. beyond lw ((w z).1 e)),
         );
       }
 

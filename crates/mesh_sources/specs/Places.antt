@@ -4,12 +4,12 @@ use Rattle.ember_algebra.specs.Vector.{dot}
 use Rattle.ember_algebra.specs.Sign.{is_negative}
 use Rattle.ember_model.specs.declared.plane.Plane.{Plane}
 use Rattle.ember_model.specs.declared.point.Axis.{Axis}
-use Rattle.ember_model.specs.declared.point.Axis.TheVariants.{X, Y, Z}
 use Rattle.ember_model.specs.declared.point.Corner.{Corner}
 use Rattle.ember_model.specs.declared.point.Spot.{Spot}
 use Rattle.ember_model.specs.declared.tri.Tri.{Tri}
 use Rattle.ember_model.specs.Planes.{value_at, support_of}
 use Rattle.ember_model.specs.Edges.{normal}
+pub use Rattle.mesh_point.specs.SpacePoints.{coordinate}
 use Rattle.mesh_certificate.specs.Certificate.Facing.{spot_of, triangle_normal, FacesFront}
 use Rattle.mesh_sources.specs.declared.corners.Corners.{Corners}
 use Rattle.mesh_sources.specs.declared.facet.Facet.{Facet}
@@ -74,11 +74,6 @@ IsOutside p a b x = dot (normal p) (triangle_normal a b x) ≤ℤ pos 0
 -- the line of some edge of r has all of s on its outer side or on it
 abbrev pub HasOuter : Plane → Spots → Spots → Type 0
 HasOuter p r s = SomeEdge (λ a b. EachSpot (λ x. IsOutside p a b x) s) r
-
-abbrev pub coordinate : Axis → Spot → ℤ
-coordinate X s = s.x
-coordinate Y s = s.y
-coordinate Z s = s.z
 
 -- along the axis a has a lower coordinate than b, as rational points
 abbrev pub IsBefore : Axis → Spot → Spot → Type 0

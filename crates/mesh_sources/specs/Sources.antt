@@ -1,9 +1,10 @@
 -- From which triangle of a scene each triangle of a mesh comes
-use Rattle.std.specs.Prelude.{◌≡◌, ◌≢◌, ◌↔◌, ◌<◌, ℕ, IsTrue, List, Option, None, Some, All, MatchOption, slice_get}
+use Rattle.std.specs.Prelude.{◌≡◌, ◌≢◌, ◌↔◌, ◌<◌, ℕ, IsTrue, List, count_by, All, slice_get}
+use Rattle.std.specs.Prelude.{Option, None, Some, is_some, MatchOption}
 use Rattle.std.specs.List.{AllZip}
 use Rattle.ember_model.specs.declared.plane.Plane.{Plane}
 use Rattle.ember_model.specs.declared.tri.Tri.{Tri}
-use Rattle.mesh_certificate.specs.declared.certificate.space_point.SpacePoint.{SpacePoint}
+use Rattle.mesh_point.specs.declared.space_point.SpacePoint.{SpacePoint}
 use Rattle.mesh_certificate.specs.declared.certificate.triangle.Triangle.{Triangle}
 use Rattle.mesh_sources.specs.declared.facet.Facet.{Facet}
 use Rattle.mesh_sources.specs.declared.source.Source.{Source}
@@ -63,3 +64,10 @@ IsTriangleSource scene points planes t source =
 -- the sources of the triangles, in their order
 abbrev pub EachSource : List Tri → List SpacePoint → List Plane → List Triangle → List (Option Source) → Type 0
 EachSource scene points planes triangles sources = AllZip (IsTriangleSource scene points planes) triangles sources
+
+-- so many of the triangles have a source
+pub record IsSourceCount (scene : List Tri) (points : List SpacePoint) (planes : List Plane) (triangles : List Triangle)
+    (count : ℕ) : Type 0 where
+  pub sources : List (Option Source)
+  pub each : EachSource scene points planes triangles sources
+  pub count_is : count ≡ count_by is_some sources

@@ -2,27 +2,13 @@
 ghost use Rattle.std.specs.Prelude.{◌≡◌, ◌↔◌, ◌*ℤ◌, pos, IsTrue};
 ghost use Rattle.ember_algebra.specs.Sign.{sgn, is_positive};
 ghost use Rattle.ember_model.specs.Planes.{along, main_axis, value_at};
-ghost use Rattle.mesh_certificate.specs.Certificate.Facing.{spot_of, seen_along, turn_along};
+ghost use Rattle.mesh_certificate.specs.Certificate.Facing.{spot_of, turn_along};
 ghost use Rattle.mesh_sources.specs.Places.{spots_of, EachSpot, AreOn, IsOutside, HasOuter};
 
 use crate::corners::Corners;
 use ember_algebra::{Sign, product_sign, sign_of};
 use ember_model::{Axis, Plane, main_axis};
-use mesh_certificate::SpacePoint;
-use mesh_number::{PlanePoint, turn};
-
-fn seen_along(p: &SpacePoint, k: Axis) -> PlanePoint
-    ensures x { result.x ≡ (seen_along k (spot_of p.now)).x }
-    ensures y { result.y ≡ (seen_along k (spot_of p.now)).y }
-    ensures w { result.w ≡ (seen_along k (spot_of p.now)).z }
-{
-    let (x, y) = match k {
-        Axis::X => (p.y, p.z),
-        Axis::Y => (p.z, p.x),
-        Axis::Z => (p.x, p.y),
-    };
-    PlanePoint { x, y, w: p.w }
-}
+use mesh_point::{SpacePoint, turn_along};
 
 fn sign_along(plane: &Plane, k: Axis) -> Sign
     ensures { result ≡ sgn (along plane.now k) }
@@ -32,12 +18,6 @@ fn sign_along(plane: &Plane, k: Axis) -> Sign
         Axis::Y => sign_of(plane.b as i128),
         Axis::Z => sign_of(plane.c as i128),
     }
-}
-
-fn turn_along(k: Axis, u: &SpacePoint, v: &SpacePoint, w: &SpacePoint) -> Sign
-    ensures { result ≡ sgn (turn_along k (spot_of u.now) (spot_of v.now) (spot_of w.now)) }
-{
-    turn(&seen_along(u, k), &seen_along(v, k), &seen_along(w, k))
 }
 
 fn turns_left(plane: &Plane, k: Axis, u: &SpacePoint, v: &SpacePoint, w: &SpacePoint) -> bool

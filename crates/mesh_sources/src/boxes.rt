@@ -1,7 +1,5 @@
 // The boxes around triangles.
 ghost use Rattle.std.specs.Prelude.{◌≡◌, ◌⊎◌, ◌↔◌, ℤ, ◌*ℤ◌, ◌≤ℤ◌, IsTrue};
-ghost use Rattle.ember_model.specs.Limits.{narrow_limit};
-ghost use Rattle.ember_algebra.specs.Size.{Small};
 ghost use Rattle.mesh_sources.specs.Places.{coordinate, spot_at, spots_of};
 ghost use Rattle.mesh_sources.specs.Spans.{IsSpanAround, IsSpanOver, IsBoxAround, IsBoxOver};
 ghost use Rattle.mesh_sources.specs.Spans.{IsBoxWithin, HaveCommonBox};
@@ -9,10 +7,9 @@ ghost use Rattle.mesh_sources.specs.Places.{spots_in_order};
 ghost use Rattle.mesh_certificate.specs.Certificate.Facing.{spot_of};
 
 use crate::corners::Corners;
-use crate::fractions::{ceil_of, floor_of};
 use crate::spans::{SpaceBox, Span};
 use ember_model::{Axis, Corner, Tri};
-use mesh_certificate::SpacePoint;
+use mesh_point::SpacePoint;
 
 impl SpaceBox {
     /// Whether the boxes have a point in common.
@@ -88,26 +85,20 @@ pub fn box_around(t: &Tri) -> SpaceBox
     }
 }
 
-fn numerator(p: &SpacePoint, k: Axis) -> i128
-    ensures { result ≡ coordinate k (spot_of p.now) }
-{
-    match k {
-        Axis::X => p.x,
-        Axis::Y => p.y,
-        Axis::Z => p.z,
-    }
-}
-
+// The greatest whole number that isn't above the coordinate.
 fn floor_along(p: &SpacePoint, k: Axis) -> i64
-    ensures { (z : ℤ) → Small narrow_limit z → (z ≤ℤ result) ↔ ((p.now.w *ℤ z) ≤ℤ coordinate k (spot_of p.now)) }
+    ensures { (z : ℤ) → (z ≤ℤ result) ↔ ((p.now.w *ℤ z) ≤ℤ coordinate k (spot_of p.now)) }
 {
-    floor_of(numerator(p, k), p.w)
+    p.along(k).floor as i64
 }
 
+// The least whole number that isn't below the coordinate.
 fn ceil_along(p: &SpacePoint, k: Axis) -> i64
-    ensures { (z : ℤ) → Small narrow_limit z → (result ≤ℤ z) ↔ (coordinate k (spot_of p.now) ≤ℤ (p.now.w *ℤ z)) }
+    ensures { (z : ℤ) → (result ≤ℤ z) ↔ (coordinate k (spot_of p.now) ≤ℤ (p.now.w *ℤ z)) }
 {
-    ceil_of(numerator(p, k), p.w)
+    let at = p.along(k);
+    let floor = at.floor as i64;
+    if at.rest == 0 { floor } else { floor + 1 }
 }
 
 fn span_over(corners: &Corners, k: Axis) -> Span

@@ -1,11 +1,11 @@
 // Three points of space.
 ghost use Rattle.std.specs.Prelude.{◌≡◌};
-ghost use Rattle.ember_model.specs.Valid.{IsValidCorner, IsValidTri};
+ghost use Rattle.ember_model.specs.Valid.{IsValidTri};
 ghost use Rattle.mesh_certificate.specs.Certificate.Facing.{spot_of};
-ghost use Rattle.mesh_sources.specs.Places.{spot_at, spots_of, spots_turned};
+ghost use Rattle.mesh_sources.specs.Places.{spots_of, spots_turned};
 
-use ember_model::{Corner, Tri};
-use mesh_certificate::SpacePoint;
+use ember_model::Tri;
+use mesh_point::{SpacePoint, whole_point};
 
 /// Three points, the corners of a triangle.
 #[derive(Clone, Copy)]
@@ -13,18 +13,6 @@ pub struct Corners {
     pub u: SpacePoint,
     pub v: SpacePoint,
     pub w: SpacePoint,
-}
-
-fn point_at(c: &Corner) -> SpacePoint
-    requires { IsValidCorner c.now }
-    ensures { spot_of result ≡ spot_at c.now }
-{
-    SpacePoint {
-        x: c.x as i128,
-        y: c.y as i128,
-        z: c.z as i128,
-        w: 1,
-    }
 }
 
 /// The corners of a triangle of the scene, in the opposite order if it is turned.
@@ -38,8 +26,8 @@ pub fn corners_of(t: &Tri, is_turned: bool) -> Corners
         (&t.b, &t.c)
     };
     Corners {
-        u: point_at(&t.a),
-        v: point_at(second),
-        w: point_at(third),
+        u: whole_point(&t.a),
+        v: whole_point(second),
+        w: whole_point(third),
     }
 }

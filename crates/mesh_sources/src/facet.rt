@@ -6,7 +6,8 @@ ghost use Rattle.mesh_sources.specs.Sources.{facet_of};
 
 use crate::corners::Corners;
 use ember_model::Plane;
-use mesh_certificate::{SpacePoint, Triangle, faces_front};
+use mesh_certificate::{Triangle, faces_front};
+use mesh_point::SpacePoint;
 
 /// A triangle of a mesh: its plane and its corners.
 #[derive(Clone, Copy)]

@@ -6,7 +6,6 @@ mod apart;
 mod boxes;
 mod corners;
 mod facet;
-mod fractions;
 mod items;
 mod law;
 mod mark;
@@ -18,4 +17,4 @@ mod sources;
 mod spans;
 
 pub use source::Source;
-pub use sources::sources_of;
+pub use sources::{source_count, sources_of};

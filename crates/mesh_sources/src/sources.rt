@@ -1,8 +1,8 @@
 // The sources of the triangles of a mesh.
-ghost use Rattle.std.specs.Prelude.{◌≡◌, ◌≤◌, length, All, IfOk, MatchOption, None};
+ghost use Rattle.std.specs.Prelude.{◌≡◌, ◌≤◌, length, count_by, is_some, All, IfOk, MatchOption, None};
 ghost use Rattle.ember_model.specs.Limits.{most_triangles};
 ghost use Rattle.ember_model.specs.Valid.{IsValidPlane, IsValidTri};
-ghost use Rattle.mesh_sources.specs.Sources.{facet_of, EachSource};
+ghost use Rattle.mesh_sources.specs.Sources.{facet_of, EachSource, IsSourceCount};
 ghost use Rattle.mesh_sources.specs.Nodes.{AreNodes, IsFoundFrom};
 
 use crate::facet::{facet_of, is_proper};
@@ -11,7 +11,8 @@ use crate::nodes::{Node, bounds_over, nodes_of};
 use crate::search::first_place;
 use crate::source::Source;
 use ember_model::{OutOfMemory, Plane, Tri};
-use mesh_certificate::{SpacePoint, Triangle};
+use mesh_certificate::Triangle;
+use mesh_point::SpacePoint;
 use std::alloc::Global;
 
 fn source_of(
@@ -55,4 +56,29 @@ pub fn sources_of(
         sources.push(source_of(&nodes, points, planes, t))?;
     }
     Ok(sources)
+}
+
+// How many of the sources are there.
+fn count_of(sources: &[Option<Source>]) -> u64
+    ensures { result ≡ count_by is_some sources.now }
+{
+    sources.iter().filter(|source| source.is_some()).count() as u64
+}
+
+/// How many triangles of a mesh have a source among the triangles of the scene, as
+/// [`sources_of`] finds it. The only error is out-of-memory.
+pub fn source_count(
+    alloc: Global,
+    scene: &[Tri],
+    points: &[SpacePoint],
+    planes: &[Plane],
+    triangles: &[Triangle],
+) -> Result<u64, OutOfMemory>
+    requires few { length scene.now ≤ most_triangles }
+    requires scene { All IsValidTri scene.now }
+    requires planes { All IsValidPlane planes.now }
+    ensures { IfOk result (IsSourceCount scene.now points.now planes.now triangles.now) }
+{
+    let sources = sources_of(alloc, scene, points, planes, triangles)?;
+    Ok(count_of(&sources))
 }

@@ -9,9 +9,9 @@ ghost use Rattle.mesh_texts.specs.Texts.{IsOneLine, corner_text, length_text, li
 use ember_model::{Axis, Corner, OutOfMemory};
 use ember_words::Texts;
 use itoa::Buffer;
-use mesh_certificate::SpacePoint;
 use mesh_grid::{Grid, GridStep, Length, SceneExtent};
 use mesh_number::{Magnitude, Wide, put_decimal};
+use mesh_point::{SpacePoint, whole_point};
 use mesh_words::WantedStep;
 use mesh_written::{PlaceFault, put_place};
 use std::alloc::{AllocError, Global};
@@ -167,12 +167,7 @@ pub fn put_corner(corner: &Corner, grid: &Grid, text: &mut Vec<u8>) -> Result<()
     requires { IsStep grid.now.step }
     ensures { OnOk result (text.new.items ≡ text.old.items ++ corner_text grid.now corner.now) }
 {
-    let point = SpacePoint {
-        x: i128::from(corner.x),
-        y: i128::from(corner.y),
-        z: i128::from(corner.z),
-        w: 1,
-    };
+    let point = whole_point(corner);
     text.extend_from_slice(b"(")?;
     put_shown(&point, Axis::X, grid, text)?;
     text.extend_from_slice(b" ")?;

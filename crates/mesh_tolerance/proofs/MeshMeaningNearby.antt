@@ -20,7 +20,7 @@ use Rattle.ember_meaning.specs.Regions.Meaning.{one_if, IsFalseOutside, HaveMean
 use Rattle.ember_meaning.proofs.Nearby.{meaning_nearby}
 use Rattle.ember_meaning.proofs.ReadFaces.{document_reads}
 use Rattle.ember_reread.proofs.OneReading.{face_file_is_read_once}
-use Rattle.mesh_certificate.specs.declared.certificate.space_point.SpacePoint.{SpacePoint}
+use Rattle.mesh_point.specs.declared.space_point.SpacePoint.{SpacePoint}
 use Rattle.mesh_grid.specs.declared.grid.grid.Grid.{Grid}
 use Rattle.mesh_grid.specs.Snap.Steps.{IsStep}
 use Rattle.mesh_solid.specs.declared.mesh.mesh.SolidMesh.{SolidMesh}

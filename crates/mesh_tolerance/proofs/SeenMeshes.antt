@@ -12,7 +12,7 @@ use Rattle.ember_model.specs.declared.point.Axis.{Axis}
 use Rattle.ember_model.specs.declared.point.Spot.{Spot}
 use Rattle.ember_model.specs.Faces.{crossing}
 use Rattle.ember_model.specs.Meshes.{wind}
-use Rattle.mesh_certificate.specs.declared.certificate.space_point.SpacePoint.{SpacePoint}
+use Rattle.mesh_point.specs.declared.space_point.SpacePoint.{SpacePoint}
 use Rattle.mesh_certificate.specs.declared.certificate.triangle.Triangle.{Triangle}
 use Rattle.mesh_certificate.specs.Certificate.Certificate.{leads_round, is_in_one_plane, FacesFrontOf, IsProper, edges_in}
 use Rattle.mesh_certificate.specs.Certificate.Closed.{AreSegmentsClosed}

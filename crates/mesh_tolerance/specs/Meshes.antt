@@ -7,7 +7,7 @@ use Rattle.ember_model.specs.declared.point.Spot.{Spot}
 use Rattle.ember_model.specs.Clear.{AreClear}
 use Rattle.ember_model.specs.Meshes.{wind}
 use Rattle.mesh_certificate.specs.Certificate.Facing.{spot_of}
-use Rattle.mesh_certificate.specs.declared.certificate.space_point.SpacePoint.{SpacePoint}
+use Rattle.mesh_point.specs.declared.space_point.SpacePoint.{SpacePoint}
 use Rattle.mesh_certificate.specs.declared.certificate.triangle.Triangle.{Triangle}
 use Rattle.mesh_solid.specs.Winding.TriangleFaces.{triangle_faces}
 use Rattle.mesh_tolerance.specs.Distances.{IsFar}

@@ -6,7 +6,7 @@ ghost use Rattle.ember_expr.specs.Formula.{Formula};
 ghost use Rattle.ember_model.specs.declared.plane.Plane.{Plane};
 ghost use Rattle.ember_model.specs.declared.point.Spot.{Spot};
 ghost use Rattle.mesh_certificate.specs.declared.certificate.segment.Segment.{Segment};
-ghost use Rattle.mesh_certificate.specs.declared.certificate.space_point.SpacePoint.{SpacePoint};
+ghost use Rattle.mesh_point.specs.declared.space_point.SpacePoint.{SpacePoint};
 ghost use Rattle.mesh_certificate.specs.declared.certificate.triangle.Triangle.{Triangle};
 ghost use Rattle.mesh_certificate.specs.declared.key.lines.LineKey.{LineKey};
 ghost use Rattle.mesh_certificate.specs.Certificate.Certificate.{IsCertified};

@@ -1,7 +1,7 @@
 -- Queries about lines and planes, their answers, and who answers
 use Rattle.std.specs.Prelude.{◌≤◌, ⊤, ℕ, All, Result, IfOk, IsTrue}
 use Rattle.std.specs.Borrow.{Bor}
-use Rattle.ember_model.specs.Valid.{IsValidPlane}
+use Rattle.ember_width.specs.Broad.{IsBroadPlane}
 use Rattle.mesh_certificate.specs.Certificate.Certificate.{ArePartsCertified}
 use Rattle.mesh_certificate.specs.Certificate.Chains.{HaveSameChains}
 use Rattle.mesh_triangles.specs.declared.fault.TrianglesFault.{TrianglesFault}
@@ -14,7 +14,7 @@ use Rattle.mesh_triangles.specs.declared.query.PlaneQuery.TheVariants as query
 abbrev pub IsPlaneQuery : PlaneQuery → Type 0
 IsPlaneQuery (query.Boundaries tables by_line) = ⊤
 IsPlaneQuery (query.Cuts tables parts first_free_line) = ⊤
-IsPlaneQuery (query.Certificate tables boundary triangles) = All IsValidPlane tables.planes.now
+IsPlaneQuery (query.Certificate tables boundary triangles) = All IsBroadPlane tables.planes.now
 
 -- this is the answer to the query, of the same kind. Boundaries have the chains of the segments, and triangles
 -- that are certified cut up the faces. Of cuts nothing is said: their triangles are certified later.

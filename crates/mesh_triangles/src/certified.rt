@@ -1,6 +1,6 @@
 // Faces as certified triangles.
 ghost use Rattle.std.specs.Prelude.{All, IfOk};
-ghost use Rattle.ember_model.specs.Valid.{IsValidPlane};
+ghost use Rattle.ember_width.specs.Broad.{IsBroadPlane};
 ghost use Rattle.mesh_certificate.specs.Certificate.Certificate.{IsCertified};
 ghost use Rattle.mesh_triangles.specs.PlaneQueries.{IsPlaneExecutor};
 
@@ -11,7 +11,8 @@ use crate::rounds::{found_triangles, in_order_of_lines};
 use crate::tables::TablesView;
 use crate::walk::Boundaries;
 use ember_model::Plane;
-use mesh_certificate::{LineKey, Segment, SpacePoint, Triangle, are_triangles_closed};
+use mesh_certificate::{LineKey, Segment, Triangle, are_triangles_closed};
+use mesh_point::SpacePoint;
 use std::alloc::Global;
 
 /// Triangles that cut up the faces whose edges are the segments. `planes`, `lines` and `corners`
@@ -26,7 +27,7 @@ pub fn certified_triangles<C: Fn(&PlaneQuery) -> Result<PlaneAnswer, TrianglesFa
     segments: &[Segment],
     executor: &C,
 ) -> Result<Vec<Triangle>, TrianglesFault>
-    requires valid { All IsValidPlane planes.now }
+    requires valid { All IsBroadPlane planes.now }
     requires executor { IsPlaneExecutor C.pre C.post executor.now }
     ensures { IfOk result (λ ts. IsCertified planes.now lines.now corners.now segments.now ts.items) }
 {

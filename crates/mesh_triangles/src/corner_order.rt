@@ -1,20 +1,16 @@
 // The order of corners along a line.
-ghost use Rattle.std.specs.Prelude.{pos, ◌<ℤ◌};
-
 use crate::fault::TrianglesFault;
 use crate::split::Split;
 use ember_model::Axis;
-use mesh_certificate::{LineKey, Segment, SpacePoint};
-use mesh_number::compare_fractions;
+use mesh_certificate::{LineKey, Segment};
+use mesh_point::{Coordinate, SpacePoint};
 use std::alloc::Global;
 
-// Where a corner is along an axis, at `x / w`, and its index among the corners.
+// Where a corner is along an axis, and its index among the corners.
 #[derive(Clone, Copy)]
 struct Along {
-    x: i128,
-    w: i128,
+    at: Coordinate,
     index: usize,
-    ghost positive: { pos 0 <ℤ w },
 }
 
 /// The corners of a line, in order of their numbers, each with its place along the line.
@@ -34,15 +30,6 @@ fn axis_of(line: &LineKey) -> Axis {
     } else {
         Axis::Z
     }
-}
-
-fn point_along(axis: Axis, p: &SpacePoint, index: usize) -> Along {
-    let x = match axis {
-        Axis::X => p.x,
-        Axis::Y => p.y,
-        Axis::Z => p.z,
-    };
-    Along { x, w: p.w, index }
 }
 
 impl CornerOrder {
@@ -92,10 +79,10 @@ impl CornerOrder {
             let Some(point) = table.get(*corner as usize) else {
                 return Err(TrianglesFault::UnknownCorner(*corner));
             };
-            self.points.push(point_along(axis, point, index))?;
+            let at = point.along(axis);
+            self.points.push(Along { at, index })?;
         }
-        self.points
-            .sort_unstable_by(|p, q| compare_fractions(p.x, p.w, q.x, q.w));
+        self.points.sort_unstable_by(|p, q| p.at.compare(&q.at));
         Ok(())
     }
 

@@ -6,7 +6,7 @@
 // (executor.rt). The functions here ask it and unpack the answer; by `IsPlaneExecutor` the answer is
 // of the query's kind, so `unreachable!` is proved never to run.
 ghost use Rattle.std.specs.Prelude.{◌≡◌, All, IfOk, IsTrue};
-ghost use Rattle.ember_model.specs.Valid.{IsValidPlane};
+ghost use Rattle.ember_width.specs.Broad.{IsBroadPlane};
 ghost use Rattle.mesh_certificate.specs.Certificate.Certificate.{ArePartsCertified};
 ghost use Rattle.mesh_certificate.specs.Certificate.Chains.{HaveSameChains};
 ghost use Rattle.mesh_triangles.specs.PlaneQueries.{IsPlaneExecutor};
@@ -75,7 +75,7 @@ pub fn query_certificate<C: Fn(&PlaneQuery) -> Result<PlaneAnswer, TrianglesFaul
     triangles: &[Triangle],
     executor: &C,
 ) -> Result<bool, TrianglesFault>
-    requires valid { All IsValidPlane tables.now.planes.now }
+    requires valid { All IsBroadPlane tables.now.planes.now }
     requires executor { IsPlaneExecutor C.pre C.post executor.now }
     ensures { IfOk result (λ certified. IsTrue certified → ArePartsCertified tables.now.planes.now
         tables.now.lines.now tables.now.corners.now boundary.now triangles.now) }

@@ -3,7 +3,7 @@
 // thread can be made.
 ghost use Rattle.std.specs.Prelude.{◌≡◌, ◌≤◌, ◌<◌, ◌++◌, length, All, IfOk, IsTrue};
 ghost use Rattle.std.specs.Thread.{IsSync};
-ghost use Rattle.ember_model.specs.Valid.{IsValidPlane};
+ghost use Rattle.ember_width.specs.Broad.{IsBroadPlane};
 ghost use Rattle.mesh_certificate.specs.Certificate.Certificate.{ArePartsCertified};
 ghost use Rattle.mesh_certificate.specs.Certificate.Chains.{HaveSameChains};
 
@@ -119,7 +119,7 @@ pub fn certified_by<R: Threads + Sync>(
     boundary: &[Segment],
     triangles: &[Triangle],
 ) -> Result<bool, OutOfMemory>
-    requires { All IsValidPlane tables.now.planes.now }
+    requires { All IsBroadPlane tables.now.planes.now }
     ensures { IfOk result (λ certified. IsTrue certified →
         ArePartsCertified tables.now.planes.now tables.now.lines.now tables.now.corners.now boundary.now
         triangles.now) }
@@ -138,12 +138,12 @@ pub fn certified_by<R: Threads + Sync>(
     let (faces, other_faces) = boundary.split_at(boundary.partition_point(|s| s.plane < plane));
     let (own, others) = triangles.split_at(triangles.partition_point(|t| t.first.plane < plane));
     let front = move || -> Result<bool, OutOfMemory>
-        requires { IsSync R.row × (2 ≤ workers) × All IsValidPlane tables.now.planes.now }
+        requires { IsSync R.row × (2 ≤ workers) × All IsBroadPlane tables.now.planes.now }
         ensures { IfOk result (λ certified. IsTrue certified → ArePartsCertified tables.entry.now.planes.now
             tables.entry.now.lines.now tables.entry.now.corners.now faces.entry.now own.entry.now) }
     { certified_by(rt, alloc, workers / 2, tables, faces, own) };
     let back = move || -> Result<bool, OutOfMemory>
-        requires { IsSync R.row × (2 ≤ workers) × All IsValidPlane tables.now.planes.now }
+        requires { IsSync R.row × (2 ≤ workers) × All IsBroadPlane tables.now.planes.now }
         ensures { IfOk result (λ certified. IsTrue certified → ArePartsCertified tables.entry.now.planes.now
             tables.entry.now.lines.now tables.entry.now.corners.now other_faces.entry.now others.entry.now) }
     {

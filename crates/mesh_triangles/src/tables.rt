@@ -1,6 +1,7 @@
 // The tables of planes, lines and corners.
 use ember_model::Plane;
-use mesh_certificate::{LineKey, SpacePoint};
+use mesh_certificate::LineKey;
+use mesh_point::SpacePoint;
 
 /// What the numbers of planes, lines and corners denote.
 #[derive(Clone, Copy)]

@@ -9,7 +9,8 @@ use crate::stop::Stop;
 use crate::sweep::swept;
 use crate::touches::{Inside, corners_inside};
 use ember_model::{OutOfMemory, Plane};
-use mesh_certificate::{Segment, SpacePoint};
+use mesh_certificate::Segment;
+use mesh_point::SpacePoint;
 use std::alloc::{AllocError, Global};
 
 /// A corner of a boundary inside a segment of it on the line: split the line there first.

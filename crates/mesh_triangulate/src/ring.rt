@@ -5,8 +5,8 @@ ghost use Rattle.mesh_triangulate.specs.Corners.{IsCornerOf, AreCornersOf, HasCo
 
 use crate::view::{View, is_left_turn};
 use ember_model::{OutOfMemory, Plane};
-use mesh_certificate::{Segment, SpacePoint};
-use mesh_number::PlanePoint;
+use mesh_certificate::Segment;
+use mesh_point::{Coordinate, PlanePoint, SpacePoint};
 use std::alloc::Global;
 
 // Where a segment that starts at the corner ends.
@@ -67,15 +67,23 @@ fn seen_points(view: &View, corners: &[SpacePoint], q: &Quadrangle) -> Option<[P
     ])
 }
 
-// A coordinate in 65536ths.
-fn coordinate(x: i128, w: i128) -> i128 {
-    x.saturating_mul(65536).checked_div(w).unwrap_or(0)
+// A coordinate in 65536ths, rounded towards 0.
+fn in_parts(c: &Coordinate) -> i128 {
+    let rest = c.rest.saturating_mul(65536);
+    let part = rest.checked_div(c.weight).unwrap_or(0);
+    let is_whole = part.saturating_mul(c.weight) == rest;
+    let below = (c.floor as i128 * 65536).saturating_add(part);
+    if c.floor < 0 && !is_whole {
+        below.saturating_add(1)
+    } else {
+        below
+    }
 }
 
 // How far two points are from each other along both axes together, in 65536ths.
 fn distance(p: &PlanePoint, q: &PlanePoint) -> u128 {
-    let along_x = coordinate(p.x, p.w).abs_diff(coordinate(q.x, q.w));
-    let along_y = coordinate(p.y, p.w).abs_diff(coordinate(q.y, q.w));
+    let along_x = in_parts(&p.right()).abs_diff(in_parts(&q.right()));
+    let along_y = in_parts(&p.up()).abs_diff(in_parts(&q.up()));
     along_x.saturating_add(along_y)
 }
 

@@ -1,8 +1,7 @@
 // A plane's points as seen from its front.
 use ember_algebra::Sign;
 use ember_model::{Axis, Plane, main_axis};
-use mesh_certificate::SpacePoint;
-use mesh_number::{PlanePoint, compare_fractions, turn};
+use mesh_point::{PlanePoint, SpacePoint, seen_along, turn};
 use std::cmp::Ordering;
 
 /// The view along the main axis of a plane, from its front.
@@ -29,23 +28,19 @@ impl View {
 
     /// The point as seen from the front: without its coordinate along the axis.
     pub fn seen(&self, p: &SpacePoint) -> PlanePoint {
-        let (x, y) = match self.axis {
-            Axis::X => (p.y, p.z),
-            Axis::Y => (p.z, p.x),
-            Axis::Z => (p.x, p.y),
-        };
+        let seen = seen_along(p, self.axis);
         if self.is_mirrored {
-            PlanePoint { x: y, y: x, w: p.w }
+            seen.mirrored()
         } else {
-            PlanePoint { x, y, w: p.w }
+            seen
         }
     }
 }
 
 /// The order of points from left to right, and from below for points above each other.
 pub fn sweep_order(p: &PlanePoint, q: &PlanePoint) -> Ordering {
-    match compare_fractions(p.x, p.w, q.x, q.w) {
-        Ordering::Equal => compare_fractions(p.y, p.w, q.y, q.w),
+    match p.right().compare(&q.right()) {
+        Ordering::Equal => p.up().compare(&q.up()),
         order => order,
     }
 }

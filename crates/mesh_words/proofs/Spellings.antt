@@ -35,6 +35,8 @@ option_waits setting.Folder = refl
 option_waits setting.Scene = refl
 option_waits setting.Page = refl
 option_waits setting.Keep = refl
+option_waits setting.Place = refl
+option_waits setting.Turn = refl
 
 -- a word that doesn't begin with a hyphen has no option before an equals sign
 not_attached : (b : ℕ) (bs : List ℕ) → (b == 45) ≡ false → attached_in (b ∷ bs) ≡ None

@@ -12,7 +12,7 @@ use Rattle.mesh_words.specs.Names.{rank}
 abbrev pub boolean_settings : List Setting
 boolean_settings =
     setting.Expression ∷ setting.Output ∷ setting.Format ∷ setting.Step ∷ setting.Workers ∷ setting.Digits ∷
-    setting.Page ∷ setting.Keep ∷ []
+    setting.Page ∷ setting.Keep ∷ setting.Place ∷ setting.Turn ∷ []
 
 abbrev pub snap_settings : List Setting
 snap_settings = setting.Folder ∷ setting.Step ∷ []

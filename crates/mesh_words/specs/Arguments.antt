@@ -102,6 +102,16 @@ abbrev pub value_in : Setting → List Argument → Option Text
 value_in s [] = None
 value_in s (i ∷ more) = option_or (value_in s more) (value_for s i)
 
+-- a list of the text, if there is one
+abbrev pub in_list : Option Text → List Text
+in_list None = []
+in_list (Some text) = text ∷ []
+
+-- all values of an option, in order
+abbrev pub values_in : Setting → List Argument → List Text
+values_in s [] = []
+values_in s (i ∷ more) = in_list (value_for s i) ++ values_in s more
+
 abbrev pub name_in : Argument → List Text
 name_in (File name) = name ∷ []
 name_in (Value s text) = []
@@ -113,11 +123,6 @@ name_in Help = []
 abbrev pub names_in : List Argument → List Text
 names_in [] = []
 names_in (i ∷ more) = name_in i ++ names_in more
-
--- a list of the text, if there is one
-abbrev pub in_list : Option Text → List Text
-in_list None = []
-in_list (Some text) = text ∷ []
 
 -- the names of what the command reads: the files, and the grid of a document
 abbrev pub inputs_in : List Argument → List Text

@@ -24,8 +24,10 @@ use Rattle.mesh_words.specs.declared.names.Setting.TheVariants as setting
 use Rattle.mesh_words.specs.declared.names.Verb.{Verb}
 use Rattle.mesh_words.specs.declared.names.Verb.TheVariants as verb
 use Rattle.mesh_words.specs.Names.{Text, operator_of, verb_of}
-use Rattle.mesh_words.specs.Arguments.{asks_help, is_help, is_quiet, arguments_from, names_in, value_in}
+use Rattle.mesh_words.specs.Arguments.{asks_help, is_help, is_quiet, arguments_from, names_in, value_in, values_in}
 use Rattle.mesh_words.specs.Targets.{boolean_fault}
+use Rattle.mesh_placing.specs.Files.{first_place_fault}
+use Rattle.mesh_words.specs.Placings.{places_of, turns_of}
 use Rattle.mesh_words.specs.Plain.{first_option, plain_names}
 use Rattle.mesh_words.specs.Values.{digits_of, expression_of, files_of, format_from, is_above_zero}
 use Rattle.mesh_words.specs.Values.{output_of, step_of, workers_of}
@@ -43,14 +45,16 @@ Reads value (Err OutOfMemory) = ⊤
 -- the request of these values, or the first refusal among them
 abbrev pub request_of_values : List Text → Bool → Option Text → Option Text → Result Text Refusal →
     Result Destination Refusal → Result OutputFormat Refusal → Result WantedStep Refusal → Result ℕ Refusal →
-    Result (Option ℕ) Refusal → Result Request Refusal
-request_of_values files quiet view keep (Err why) o m s w d = Err why
-request_of_values files quiet view keep (Ok e) (Err why) m s w d = Err why
-request_of_values files quiet view keep (Ok e) (Ok o) (Err why) s w d = Err why
-request_of_values files quiet view keep (Ok e) (Ok o) (Ok m) (Err why) w d = Err why
-request_of_values files quiet view keep (Ok e) (Ok o) (Ok m) (Ok s) (Err why) d = Err why
-request_of_values files quiet view keep (Ok e) (Ok o) (Ok m) (Ok s) (Ok w) (Err why) = Err why
-request_of_values files quiet view keep (Ok e) (Ok o) (Ok m) (Ok s) (Ok w) (Ok d) =
+    Result (Option ℕ) Refusal → Result (List Text) Refusal → Result (List Text) Refusal → Result Request Refusal
+request_of_values files quiet view keep (Err why) o m s w d p t = Err why
+request_of_values files quiet view keep (Ok e) (Err why) m s w d p t = Err why
+request_of_values files quiet view keep (Ok e) (Ok o) (Err why) s w d p t = Err why
+request_of_values files quiet view keep (Ok e) (Ok o) (Ok m) (Err why) w d p t = Err why
+request_of_values files quiet view keep (Ok e) (Ok o) (Ok m) (Ok s) (Err why) d p t = Err why
+request_of_values files quiet view keep (Ok e) (Ok o) (Ok m) (Ok s) (Ok w) (Err why) p t = Err why
+request_of_values files quiet view keep (Ok e) (Ok o) (Ok m) (Ok s) (Ok w) (Ok d) (Err why) t = Err why
+request_of_values files quiet view keep (Ok e) (Ok o) (Ok m) (Ok s) (Ok w) (Ok d) (Ok p) (Err why) = Err why
+request_of_values files quiet view keep (Ok e) (Ok o) (Ok m) (Ok s) (Ok w) (Ok d) (Ok p) (Ok t) =
     Ok
     (record {
       expression = e;
@@ -63,6 +67,8 @@ request_of_values files quiet view keep (Ok e) (Ok o) (Ok m) (Ok s) (Ok w) (Ok d
       files = files;
       view = view;
       keep = keep;
+      places = p;
+      turns = t;
     })
 
 -- options and targets are refused before the other values are read
@@ -78,6 +84,8 @@ request_with operation arguments (Ok files) None =
     (format_from (output_of (value_in setting.Output arguments)) (value_in setting.Format arguments))
     (step_of (value_in setting.Step arguments)) (workers_of (value_in setting.Workers arguments))
     (digits_of (value_in setting.Digits arguments))
+    (places_of (length files) (values_in setting.Place arguments))
+    (turns_of (length files) (values_in setting.Turn arguments))
 
 -- the Boolean that the arguments ask for, or the first refusal
 abbrev pub request_of : Operation → List Argument → Result Request Refusal
@@ -156,12 +164,13 @@ IsValidStep step.Nice = ⊤
 IsValidStep step.Finest = ⊤
 IsValidStep (step.Decimal text) = is_above_zero (value_of_text text) ≡ true
 
--- the numbers are within their limits, and there are 1 to 64 files
+-- the numbers are within their limits, there are 1 to 64 files, and each value of `--place` places one of them
 pub record IsWithinLimits (request : Request) : Type 0 where
   pub step : IsValidStep request.step
   pub workers : IsInRange 1 64 request.workers
   pub digits : IfSome request.digits (λ n. n ≤ 17)
   pub files : IsInRange 1 64 (length request.files)
+  pub places : first_place_fault (length request.files) request.places ≡ None
 
 -- the step is above 0 if it is a number, and there are 1 to 64 files
 pub record IsWithinSnapLimits (request : SnapRequest) : Type 0 where

@@ -6,6 +6,7 @@ pub mod Values
 pub mod Paths
 pub mod Folders
 pub mod Targets
+pub mod Placings
 pub mod Plain
 pub mod Views
 pub mod Snaps

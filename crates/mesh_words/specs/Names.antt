@@ -49,7 +49,9 @@ setting_of name =
     else (if bytes_eq name (codes "--scene") then Some setting.Scene
     else (if bytes_eq name (codes "--view") then Some setting.Page
     else (if bytes_eq name (codes "--keep") then Some setting.Keep
-    else None)))))))))
+    else (if bytes_eq name (codes "--place") then Some setting.Place
+    else (if bytes_eq name (codes "--turn") then Some setting.Turn
+    else None)))))))))))
 
 -- a number of its own for each option
 abbrev pub rank : Setting → ℕ
@@ -63,3 +65,5 @@ rank setting.Scene = 6
 rank setting.Page = 7
 rank setting.Keep = 8
 rank setting.Format = 9
+rank setting.Place = 10
+rank setting.Turn = 11

@@ -28,6 +28,8 @@ option_of setting.Folder = codes "-d"
 option_of setting.Scene = codes "--scene"
 option_of setting.Page = codes "--view"
 option_of setting.Keep = codes "--keep"
+option_of setting.Place = codes "--place"
+option_of setting.Turn = codes "--turn"
 
 -- the words of an argument
 abbrev pub words_of : Argument → List Text

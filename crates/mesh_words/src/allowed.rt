@@ -6,7 +6,7 @@ use crate::arguments::Argument;
 use crate::names::Setting;
 
 // The options with values that a Boolean takes.
-pub const BOOLEAN_SETTINGS: [Setting; 8] = [
+pub const BOOLEAN_SETTINGS: [Setting; 10] = [
     Setting::Expression,
     Setting::Output,
     Setting::Format,
@@ -15,6 +15,8 @@ pub const BOOLEAN_SETTINGS: [Setting; 8] = [
     Setting::Digits,
     Setting::Page,
     Setting::Keep,
+    Setting::Place,
+    Setting::Turn,
 ];
 
 // Those of `snap`.

@@ -3,7 +3,7 @@ ghost use Rattle.std.specs.Prelude.{◌≡◌, IfOk, None, map, option_map, stri
 ghost use Rattle.std.specs.Result.{result_map_both};
 ghost use Rattle.std.specs.List.{list_any};
 ghost use Rattle.mesh_words.specs.Names.{setting_of};
-ghost use Rattle.mesh_words.specs.Arguments.{attached_in, said_by, said_alone, said, is_help, is_json, words_ask_json, arguments_from, value_for, value_in, names_in, inputs_in, is_quiet, asks_help};
+ghost use Rattle.mesh_words.specs.Arguments.{attached_in, said_by, said_alone, said, is_help, is_json, words_ask_json, arguments_from, value_for, value_in, values_in, names_in, inputs_in, is_quiet, asks_help};
 ghost use Rattle.mesh_words.specs.Commands.{Reads};
 
 use crate::faults::{Refusal, WordsFault};
@@ -176,6 +176,23 @@ pub fn value_in(arguments: &[Argument], setting: Setting) -> Option<&Text>
         }
     }
     value
+}
+
+/// Copies of all values of the option, in their order.
+pub fn values_in(
+    alloc: Global,
+    arguments: &[Argument],
+    setting: Setting,
+) -> Result<Texts, AllocError>
+    ensures { IfOk result (λ values. values ≡ values_in setting arguments.now) }
+{
+    let mut values = Vec::new(alloc);
+    for argument in arguments {
+        if let Some(text) = argument.value_for(setting) {
+            values.push(copied(alloc, text.as_str())?)?;
+        }
+    }
+    Ok(Texts::of(values))
 }
 
 /// Copies of the file names among the arguments, in their order.

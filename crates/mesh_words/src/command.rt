@@ -41,6 +41,11 @@ pub struct Request {
     pub view: Option<Text>,
     /// The folder that keeps the meshes on their grid, the grid, and the document.
     pub keep: Option<Text>,
+    /// The values of `--place`, in order: `FILE:STEPS`, by which `placings_of` of mesh_placing places
+    /// the files.
+    pub places: Texts,
+    /// The values of `--turn`: the numbers of the files that are turned inside out.
+    pub turns: Texts,
 }
 
 /// Meshes to be put on their grid. There are 1 to 64 files.

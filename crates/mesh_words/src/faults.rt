@@ -3,6 +3,7 @@ ghost use Rattle.std.specs.Prelude.{◌≡◌};
 ghost use Rattle.mesh_words.specs.declared.faults.WordsFault.TheVariants.{Refused, OutOfMemory};
 
 use crate::names::Setting;
+use mesh_placing::PlaceFault;
 use std::alloc::{AllocError, AllocFailed};
 use thiserror::Error;
 
@@ -83,6 +84,12 @@ pub enum Refusal {
     /// The value of `--digits` isn't a number from 0 to 17.
     #[error("--digits: not a number from 0 to 17; see ember-mesh help")]
     Digits,
+    /// A value of `--place` says no placing of a file.
+    #[error("--place: {0}; see ember-mesh help")]
+    Place(PlaceFault),
+    /// A value of `--turn` isn't the number of a file.
+    #[error("--turn: not the number of a file; see ember-mesh help")]
+    Turn,
 }
 
 /// Why words give no command.

@@ -12,6 +12,7 @@ mod given;
 mod names;
 mod numbers;
 mod paths;
+mod placings;
 mod plain;
 mod reading;
 mod snaps;

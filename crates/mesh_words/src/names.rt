@@ -43,6 +43,10 @@ pub enum Setting {
     Page,
     /// The folder that keeps what a Boolean makes on the way.
     Keep,
+    /// The number of a file, and the steps by which it is placed.
+    Place,
+    /// The number of a file that is turned inside out.
+    Turn,
 }
 
 impl Verb {
@@ -98,6 +102,8 @@ impl Setting {
             "--scene" => Some(Setting::Scene),
             "--view" => Some(Setting::Page),
             "--keep" => Some(Setting::Keep),
+            "--place" => Some(Setting::Place),
+            "--turn" => Some(Setting::Turn),
             _ => None,
         }
     }
@@ -117,6 +123,8 @@ impl Setting {
             Setting::Scene => "--scene",
             Setting::Page => "--view",
             Setting::Keep => "--keep",
+            Setting::Place => "--place",
+            Setting::Turn => "--turn",
         }
     }
 
@@ -135,6 +143,8 @@ impl Setting {
             Setting::Page => 7,
             Setting::Keep => 8,
             Setting::Format => 9,
+            Setting::Place => 10,
+            Setting::Turn => 11,
         }
     }
 }

@@ -9,6 +9,7 @@ use crate::command::{Command, Request};
 use crate::exports::export_of;
 use crate::faults::{Refusal, WordsFault};
 use crate::names::{Operation, Setting, Verb};
+use crate::placings::{places, turns};
 use crate::plain::{are_for_help, first_option, plain_names};
 use crate::snaps::snap_of;
 use crate::targets::boolean_fault;
@@ -36,6 +37,8 @@ fn request_of(
     let step = step(alloc, value_in(arguments, Setting::Step))?;
     let workers = workers(value_in(arguments, Setting::Workers))?;
     let digits = digits(value_in(arguments, Setting::Digits))?;
+    let places = places(alloc, files.items().len(), arguments)?;
+    let turns = turns(alloc, files.items().len(), arguments)?;
     Ok(Request {
         expression,
         output,
@@ -47,6 +50,8 @@ fn request_of(
         files,
         view: optional(alloc, value_in(arguments, Setting::Page))?,
         keep: optional(alloc, value_in(arguments, Setting::Keep))?,
+        places,
+        turns,
     })
 }
 
@@ -149,7 +154,7 @@ fn read(alloc: Global, words: &[String]) -> Result<Command, WordsFault>
 /// The first word names the command. Options and file names follow it in any order. An option's
 /// value is the next word, whatever this is, or follows an equals sign, as in `--step=0.02`. A second
 /// value of an option that names what is written (`-o`, `-d`, `--view`, `--keep`) is refused; of
-/// several values of another option the last one counts. Any other word that begins with a hyphen,
+/// several values of another option the last one counts, but for `--place` and `--turn`. Any other word that begins with a hyphen,
 /// but for `-` itself, is refused.
 ///
 /// A page has a name that ends in `.html` or `.htm`. No page, and no file that `snap` and `--keep`
@@ -159,8 +164,8 @@ fn read(alloc: Global, words: &[String]) -> Result<Command, WordsFault>
 /// `-` is a file name, of standard input, which can be read once; and `-o -` is standard output, for
 /// which `--format` names the format. Of a file the ending of its name shows it.
 ///
-/// A Boolean takes `--expr`, `-o`, `--format`, `--step`, `--workers`, `--digits`, `--view` and
-/// `--keep`; `snap` takes `-d` and `--step`; `export` takes `--scene`, `-o`, `--format`, `--digits`
+/// A Boolean takes `--expr`, `-o`, `--format`, `--step`, `--workers`, `--digits`, `--view`,
+/// `--keep`, `--place` and `--turn`; `snap` takes `-d` and `--step`; `export` takes `--scene`, `-o`, `--format`, `--digits`
 /// and `--view`; `view` takes `-o`. These take `--quiet` too, which means nothing for `view`. Every
 /// command takes `--json`, which `words_ask_json` finds wherever it stands. `info` has no other
 /// option: its words are file names.
@@ -171,7 +176,7 @@ fn read(alloc: Global, words: &[String]) -> Result<Command, WordsFault>
 /// The first refusal counts: of the first word; of the words in their order; and then of the files,
 /// of the first option that the command doesn't take, of a second name of what is written, of the
 /// page, of inputs in the folder, of the expression, the missing or wrong output or missing folder,
-/// the format, the step, the workers and the digits.
+/// the format, the step, the workers, the digits, the placings and the files turned inside out.
 ///
 /// Arguments that are spelled as words, with each value in a word of its own and no hyphen at the
 /// beginning of a file name but `-`, are read as these arguments.

@@ -7,7 +7,6 @@ pub mod BoundsOf
 pub mod Jsons
 pub mod Points
 pub mod GlbReadBack
-pub mod PageReadBack
 pub mod Digits
 pub mod FractionDigits
 pub mod PlainTexts

@@ -8,7 +8,7 @@ use Rattle.mesh_write.specs.declared.vertices.point.DecimalPoint.{DecimalPoint}
 use Rattle.mesh_write.specs.declared.vertices.point.DecimalTriangle.{DecimalTriangle}
 use Rattle.mesh_write.specs.Vertices.Vertices.{same_point, vertices_of, index_of, indexed, point_at}
 use Rattle.mesh_write.proofs.VertexLists.{same_point_decides}
-use Rattle.mesh_certificate.specs.declared.certificate.space_point.SpacePoint.{SpacePoint}
+use Rattle.mesh_point.specs.declared.space_point.SpacePoint.{SpacePoint}
 use Rattle.mesh_certificate.specs.declared.certificate.triangle.Triangle.{Triangle}
 use Rattle.mesh_written.specs.Decimals.{decimal_point}
 use Rattle.mesh_written.specs.DecimalTriangles.{triangle_at, vanishes, kept, decimal_triangles}

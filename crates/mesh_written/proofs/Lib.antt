@@ -11,3 +11,4 @@ pub mod WrittenClosed
 pub mod DecimalsClosed
 pub mod Noted
 pub mod SharedCounts
+pub mod KeptNumbers

@@ -7,7 +7,7 @@ use Rattle.ember_wide.specs.declared.whole.Wide.{Wide}
 use Rattle.ember_wide.specs.Whole.{size_of, value_of}
 use Rattle.mesh_number.proofs.Sizes.{product_size, fits_126}
 use Rattle.ember_wide.proofs.Values.{size_of_value}
-use Rattle.mesh_certificate.specs.declared.certificate.space_point.SpacePoint.{SpacePoint}
+use Rattle.mesh_point.specs.declared.space_point.SpacePoint.{SpacePoint}
 
 -- the size of a product of two numbers with these bounds
 pub size_of_product : (n : Wide) (x y : ℤ) (a b : ℕ) → value_of n ≡ x *ℤ y → unsigned_abs x ≤ a → unsigned_abs y ≤ b → size_of n.size ≤ a * b

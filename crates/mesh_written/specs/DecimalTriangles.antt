@@ -5,7 +5,7 @@ use Rattle.mesh_grid.specs.declared.snap.offsets.Offset.{Offset}
 use Rattle.mesh_write.specs.declared.vertices.point.DecimalPoint.{DecimalPoint}
 use Rattle.mesh_write.specs.declared.vertices.point.DecimalTriangle.{DecimalTriangle}
 use Rattle.mesh_write.specs.Vertices.Vertices.{same_point, point_at, IsMeshOf}
-use Rattle.mesh_certificate.specs.declared.certificate.space_point.SpacePoint.{SpacePoint}
+use Rattle.mesh_point.specs.declared.space_point.SpacePoint.{SpacePoint}
 use Rattle.mesh_certificate.specs.declared.certificate.triangle.Triangle.{Triangle}
 use Rattle.mesh_written.specs.declared.decimal_triangles.DecimalMesh.{DecimalMesh}
 use Rattle.mesh_written.specs.Decimals.{decimal_point}

@@ -8,7 +8,7 @@ use Rattle.mesh_number.specs.Float.Binary32.{IsNearestBinary32}
 use Rattle.mesh_grid.specs.declared.snap.steps.GridStep.{GridStep}
 use Rattle.mesh_grid.specs.declared.snap.offsets.Offset.{Offset}
 use Rattle.mesh_write.specs.declared.stl.triangle.FloatPoint.{FloatPoint}
-use Rattle.mesh_certificate.specs.declared.certificate.space_point.SpacePoint.{SpacePoint}
+use Rattle.mesh_point.specs.declared.space_point.SpacePoint.{SpacePoint}
 use Rattle.mesh_written.specs.declared.fault.PlaceFault.{PlaceFault}
 use Rattle.mesh_written.specs.declared.fault.PlaceFault.TheVariants.{TooFar, OutOfMemory}
 use Rattle.mesh_written.specs.Places.{place_of}

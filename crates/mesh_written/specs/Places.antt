@@ -1,19 +1,22 @@
 -- Where corners lie in the user's unit
-use Rattle.std.specs.Prelude.{◌*◌, ℤ, pos, ◌+ℤ◌, ◌*ℤ◌, unsigned_abs}
+use Rattle.std.specs.Prelude.{ℕ, ◌*◌, ℤ, pos, ◌+ℤ◌, ◌*ℤ◌, unsigned_abs}
 use Rattle.ember_model.specs.declared.point.Axis.{Axis}
 use Rattle.ember_model.specs.declared.point.Axis.TheVariants.{X, Y, Z}
 use Rattle.mesh_number.specs.Number.Fractions.{Fraction}
 use Rattle.ember_wide.specs.Whole.{value_of}
 use Rattle.mesh_grid.specs.declared.snap.steps.GridStep.{GridStep}
 use Rattle.mesh_grid.specs.declared.snap.offsets.Offset.{Offset}
-use Rattle.mesh_certificate.specs.declared.certificate.space_point.SpacePoint.{SpacePoint}
+use Rattle.mesh_point.specs.declared.space_point.SpacePoint.{SpacePoint}
+use Rattle.mesh_point.specs.SpacePoints.{spot_of, coordinate}
 use Rattle.mesh_written.specs.declared.ratio.Ratio.{Ratio}
 
 -- a corner's coordinate times its weight, and an offset
 abbrev pub coordinate_along : Axis → SpacePoint → ℤ
-coordinate_along X c = c.x
-coordinate_along Y c = c.y
-coordinate_along Z c = c.z
+coordinate_along k c = coordinate k (spot_of c)
+
+-- the greatest size of the first: 2^107
+abbrev pub most_coordinate : ℕ
+most_coordinate = 162259276829213363391578010288128
 
 abbrev pub offset_along : Axis → Offset → ℤ
 offset_along X o = o.x

@@ -1,11 +1,12 @@
 -- Triangles of floats
-use Rattle.std.specs.Prelude.{◌≡◌, ℕ, nat_eq, nat_lt, Bool, not, ◌&&◌, ◌||◌, List, map, filter, slice_index_or}
+use Rattle.std.specs.Prelude.{◌≡◌, ℕ, nat_eq, nat_lt, Bool, not, ◌&&◌, ◌||◌, List, [], ◌∷◌, map, filter, slice_index_or}
+use Rattle.std.specs.Prelude.{if◌then◌else◌}
 use Rattle.ember_model.specs.declared.plane.Plane.{Plane}
 use Rattle.mesh_grid.specs.declared.snap.steps.GridStep.{GridStep}
 use Rattle.mesh_grid.specs.declared.snap.offsets.Offset.{Offset}
 use Rattle.mesh_write.specs.declared.stl.triangle.FloatPoint.{FloatPoint}
 use Rattle.mesh_write.specs.declared.stl.triangle.FloatTriangle.{FloatTriangle}
-use Rattle.mesh_certificate.specs.declared.certificate.space_point.SpacePoint.{SpacePoint}
+use Rattle.mesh_point.specs.declared.space_point.SpacePoint.{SpacePoint}
 use Rattle.mesh_certificate.specs.declared.certificate.triangle.Triangle.{Triangle}
 use Rattle.mesh_written.specs.Floats.{AreFloatPoints}
 use Rattle.mesh_written.specs.Normals.{normal_at}
@@ -37,6 +38,12 @@ vanishes t = same_point t.a t.b || (same_point t.b t.c || same_point t.c t.a)
 
 abbrev pub kept : List FloatTriangle → List FloatTriangle
 kept ts = filter (λ t. not (vanishes t)) ts
+
+-- of these numbers, one for each triangle, those of the triangles that are kept
+abbrev pub kept_numbers : List FloatTriangle → List ℕ → List ℕ
+kept_numbers [] numbers = []
+kept_numbers (t ∷ ts) [] = []
+kept_numbers (t ∷ ts) (n ∷ ns) = if vanishes t then kept_numbers ts ns else n ∷ kept_numbers ts ns
 
 -- the triangles with their corners rounded, in order, without those with two corners that became equal
 pub record AreWritten (s : GridStep) (o : Offset) (planes : List Plane) (cs : List SpacePoint) (ts : List Triangle)

@@ -10,8 +10,9 @@ ghost use Rattle.mesh_written.specs.Triangles.{has_corners};
 
 use crate::decimal_points::decimal_points;
 use crate::fault::PlaceFault;
-use mesh_certificate::{SpacePoint, Triangle};
+use mesh_certificate::Triangle;
 use mesh_grid::{GridStep, Offset};
+use mesh_point::SpacePoint;
 use mesh_write::{DecimalPoint, DecimalTriangle, IndexedMesh};
 use std::alloc::{AllocError, Global};
 

@@ -8,9 +8,9 @@ ghost use Rattle.mesh_written.specs.Decimals.{decimal_of, IsTooLong};
 use crate::fault::PlaceFault;
 use crate::places::exact_place;
 use ember_model::Axis;
-use mesh_certificate::SpacePoint;
 use mesh_grid::{GridStep, Offset};
 use mesh_number::{Magnitude, put_decimal};
+use mesh_point::SpacePoint;
 use std::cmp::Ordering;
 
 // 10^21: a longer decimal isn't written. With 17 places it has fewer than 128 bits.

@@ -7,9 +7,9 @@ ghost use Rattle.mesh_written.specs.Floats.{IsFloatOf, IsInfinite, IsFloatPoint,
 use crate::fault::PlaceFault;
 use crate::places::exact_place;
 use ember_model::Axis;
-use mesh_certificate::SpacePoint;
 use mesh_grid::{GridStep, Offset};
 use mesh_number::nearest_binary32;
+use mesh_point::SpacePoint;
 use mesh_write::FloatPoint;
 use std::alloc::Global;
 

@@ -4,7 +4,7 @@ ghost use Rattle.std.specs.List.{list_all};
 ghost use Rattle.ember_model.specs.declared.plane.Plane.{Plane};
 ghost use Rattle.mesh_certificate.specs.declared.key.lines.LineKey.{LineKey};
 ghost use Rattle.mesh_certificate.specs.declared.certificate.segment.Segment.{Segment};
-ghost use Rattle.mesh_certificate.specs.declared.certificate.space_point.SpacePoint.{SpacePoint};
+ghost use Rattle.mesh_point.specs.declared.space_point.SpacePoint.{SpacePoint};
 ghost use Rattle.mesh_certificate.specs.declared.certificate.triangle.Triangle.{Triangle};
 ghost use Rattle.mesh_certificate.specs.Certificate.Certificate.{IsProper, IsCertified};
 ghost use Rattle.mesh_number.specs.Number.Fractions.{Fraction, signed_whole};

@@ -29,4 +29,4 @@ pub use places::exact_place;
 pub use ratio::Ratio;
 pub use shared::shared_edges;
 pub use shared_by_index::shared_edges_by_index;
-pub use triangles::{float_triangles, have_corners, triangles_over};
+pub use triangles::{float_triangles, have_corners, numbers_over, triangles_over};

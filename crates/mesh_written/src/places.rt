@@ -1,27 +1,24 @@
 // Where corners lie in the user's unit.
 ghost use Rattle.std.specs.Prelude.{◌≡◌, ◌^◌, ◌<◌, pos, ◌+ℤ◌, ◌*ℤ◌};
-ghost use Rattle.mesh_number.specs.Limits.{coordinate_limit, weight_limit};
 ghost use Rattle.ember_algebra.specs.Size.{Small};
 ghost use Rattle.ember_wide.specs.Whole.{value_of};
 ghost use Rattle.mesh_grid.specs.Snap.Steps.{IsStep};
-ghost use Rattle.mesh_written.specs.Places.{coordinate_along, offset_along, fraction_of, place_of};
+ghost use Rattle.mesh_point.specs.Rests.{most_corner_weight};
+ghost use Rattle.mesh_written.specs.Places.{coordinate_along, offset_along, fraction_of, place_of, most_coordinate};
 
 use crate::ratio::Ratio;
 use ember_model::Axis;
-use mesh_certificate::SpacePoint;
 use mesh_grid::{GridStep, Offset};
 use mesh_number::Wide;
+use mesh_point::SpacePoint;
 
-// The coordinate of the corner along the axis, times its weight.
+// The coordinate of the corner along the axis, times its weight: below 2^107 in size.
 fn coordinate_along(axis: Axis, corner: &SpacePoint) -> i128
     ensures value { result ≡ coordinate_along axis corner.now }
-    ensures small { Small coordinate_limit result }
+    ensures small { Small most_coordinate result }
 {
-    match axis {
-        Axis::X => corner.x,
-        Axis::Y => corner.y,
-        Axis::Z => corner.z,
-    }
+    let at = corner.along(axis);
+    at.floor as i128 * at.weight + at.rest
 }
 
 fn offset_along(axis: Axis, offset: &Offset) -> i128
@@ -37,8 +34,8 @@ fn offset_along(axis: Axis, offset: &Offset) -> i128
 // The coordinate and the offset times the weight, together, times the numerator of a step: below
 // 2^243 in size.
 fn numerator_of(coordinate: i128, weight: i128, offset: i128, step: u64) -> Wide
-    requires coordinate { Small coordinate_limit coordinate }
-    requires weight { Small weight_limit weight }
+    requires coordinate { Small most_coordinate coordinate }
+    requires weight { Small most_corner_weight weight }
     requires step { step < 2 ^ 40 }
     ensures { value_of result ≡ (coordinate +ℤ offset *ℤ weight) *ℤ pos step }
 {

@@ -1,17 +1,18 @@
 // Triangles of floats.
-ghost use Rattle.std.specs.Prelude.{◌≡◌, ◌<◌, ◌∷◌, [], ◌++◌, true, map, length, IfOk, IfErr, OnOk};
+ghost use Rattle.std.specs.Prelude.{◌≡◌, ◌<◌, ◌∷◌, [], ◌++◌, true, if◌then◌else◌, map, length, IfOk, IfErr, OnOk};
 ghost use Rattle.std.specs.List.{list_all};
 ghost use Rattle.mesh_grid.specs.Snap.Steps.{IsStep};
 ghost use Rattle.mesh_written.specs.Floats.{IsFloatFault};
-ghost use Rattle.mesh_written.specs.Triangles.{point_at, has_corners, triangle_at, same_point, vanishes, kept, AreWritten};
+ghost use Rattle.mesh_written.specs.Triangles.{point_at, has_corners, triangle_at, same_point, vanishes, kept, kept_numbers, AreWritten};
 ghost use Rattle.mesh_written.specs.Closed.{AreRoundAndClosed, AreWrittenClosed};
 
 use crate::fault::PlaceFault;
 use crate::floats::float_points;
 use crate::normals::normal_at;
 use ember_model::Plane;
-use mesh_certificate::{SpacePoint, Triangle};
+use mesh_certificate::Triangle;
 use mesh_grid::{GridStep, Offset};
+use mesh_point::SpacePoint;
 use mesh_write::{FloatPoint, FloatTriangle};
 use std::alloc::{AllocError, Global};
 
@@ -89,6 +90,37 @@ pub fn triangles_over(
         push_kept(&mut written, triangle_at(planes, points, t))?;
     }
     Ok(written)
+}
+
+// Appends the number of a triangle, unless it vanishes.
+fn push_number(is_gone: bool, number: usize, kept: &mut Vec<usize>) -> Result<(), AllocError>
+    ensures { OnOk result (kept.new.items ≡ kept.old.items ++ (if is_gone then [] else number ∷ [])) }
+{
+    if is_gone {
+        return Ok(());
+    }
+    kept.push(number)?;
+    Ok(())
+}
+
+/// Of these numbers, one for each triangle, those of the triangles that [`triangles_over`] keeps, in
+/// order.
+pub fn numbers_over(
+    alloc: Global,
+    points: &[FloatPoint],
+    triangles: &[Triangle],
+    numbers: &[usize],
+) -> Result<Vec<usize>, AllocError>
+    requires corners { list_all (has_corners (length points.now)) triangles.now ≡ true }
+    requires one_each { length numbers.now ≡ length triangles.now }
+    ensures { IfOk result (λ ns. ns.items ≡ kept_numbers (map (triangle_at [] points.now) triangles.now) numbers.now) }
+{
+    let mut kept = Vec::with_capacity(alloc, triangles.len())?;
+    for (index, t) in triangles.iter().enumerate() {
+        let is_gone = vanishes(&triangle_at(&[], points, t));
+        push_number(is_gone, numbers[index], &mut kept)?;
+    }
+    Ok(kept)
 }
 
 /// The triangles as a binary STL has them: each coordinate of a corner is the binary32 nearest to

@@ -3,18 +3,14 @@ use Rattle.std.specs.Prelude.{◌≡◌, Bool, ◌&&◌, ℤ, pos, ◌<ℤ◌}
 use Rattle.ember_algebra.specs.Vector.{Vector}
 use Rattle.ember_algebra.specs.Vector.{dot, cross}
 use Rattle.ember_algebra.specs.Sign.{is_zero}
-use Rattle.ember_algebra.specs.Det.{det3}
 use Rattle.ember_model.specs.declared.plane.Plane.{Plane}
 use Rattle.ember_model.specs.declared.point.Spot.{Spot}
 use Rattle.ember_model.specs.declared.point.Axis.{Axis}
-use Rattle.ember_model.specs.declared.point.Axis.TheVariants.{X, Y, Z}
 use Rattle.ember_model.specs.Planes.{value_at}
 use Rattle.ember_model.specs.Edges.{normal}
 use Rattle.ember_model.specs.Points.{displacement}
-use Rattle.mesh_certificate.specs.declared.certificate.space_point.SpacePoint.{SpacePoint}
-
-abbrev pub spot_of : SpacePoint → Spot
-spot_of p = record { x = p.x; y = p.y; z = p.z; w = p.w }
+pub use Rattle.mesh_point.specs.SpacePoints.{spot_of, seen_along}
+use Rattle.mesh_point.specs.Turns.{rows}
 
 -- the normal of the triangle u, v, w, times a positive number: from its side they go round it counter-clockwise
 abbrev pub triangle_normal : Spot → Spot → Spot → Vector
@@ -28,15 +24,6 @@ pub record FacesFront (p : Plane) (u v w : Spot) : Type 0 where
   pub front : pos 0 <ℤ dot (normal p) (triangle_normal u v w)
 
 -- ---- the same, seen along an axis
--- the other two coordinates, in turn, and the weight
-abbrev pub seen_along : Axis → Spot → Vector
-seen_along X s = record { x = s.y; y = s.z; z = s.w }
-seen_along Y s = record { x = s.z; y = s.x; z = s.w }
-seen_along Z s = record { x = s.x; y = s.y; z = s.w }
-
-abbrev pub rows : Vector → Vector → Vector → ℤ
-rows a b c = det3 a.x a.y a.z b.x b.y b.z c.x c.y c.z
-
 -- positive if the three points turn to the left
 abbrev pub turn_along : Axis → Spot → Spot → Spot → ℤ
 turn_along k u v w = rows (seen_along k u) (seen_along k v) (seen_along k w)

@@ -5,7 +5,7 @@ use Rattle.ember_algebra.specs.Vector.{zero_v}
 use Rattle.mesh_certificate.specs.declared.key.lines.LineKey.{LineKey}
 use Rattle.mesh_certificate.specs.Key.LineKeys.{direction, IsOnLine}
 use Rattle.mesh_certificate.specs.declared.certificate.segment.Segment.{Segment}
-use Rattle.mesh_certificate.specs.declared.certificate.space_point.SpacePoint.{SpacePoint}
+use Rattle.mesh_point.specs.declared.space_point.SpacePoint.{SpacePoint}
 use Rattle.mesh_certificate.specs.Certificate.Facing.{spot_of}
 use Rattle.mesh_certificate.specs.Certificate.Keys.{key}
 

@@ -1,5 +1,5 @@
 -- Keys of lines: Pluecker coordinates in lowest terms
-use Rattle.std.specs.Prelude.{◌≡◌, ◌≢◌, ◌↔◌, ℤ, pos, ◌<ℤ◌, List, [], ◌∷◌}
+use Rattle.std.specs.Prelude.{◌≡◌, ◌≢◌, ◌↔◌, ℕ, ◌*◌, ℤ, pos, ◌<ℤ◌, List, [], ◌∷◌}
 use Rattle.ember_algebra.specs.Large.{first_sign}
 use Rattle.ember_algebra.specs.Size.{Small}
 use Rattle.ember_algebra.specs.Vector.{Vector, minus_v, scale_v, cross}
@@ -7,6 +7,7 @@ use Rattle.ember_model.specs.declared.plane.Plane.{Plane}
 use Rattle.ember_model.specs.declared.point.Spot.{Spot}
 use Rattle.ember_model.specs.Edges.{normal}
 use Rattle.ember_model.specs.Planes.{value_at}
+use Rattle.ember_width.specs.Broad.{most_normal, most_constant, most_cross}
 use Rattle.mesh_certificate.specs.declared.key.lines.LineKey.{LineKey}
 use Rattle.mesh_certificate.specs.Key.Divisors.{AreLowest}
 
@@ -60,11 +61,15 @@ pub record IsMultiple (factor : ℤ) (k l : LineKey) : Type 0 where
   pub directions : scale_v factor (direction k) ≡ direction l
   pub moments : scale_v factor (moment k) ≡ moment l
 
--- the direction is below 2^51 in size, the moment below 2^65
+-- the greatest size of an entry of a moment: two products of a constant and an entry of a normal
+abbrev pub most_moment : ℕ
+most_moment = 2 * (most_constant * most_normal)
+
+-- the direction is that of two planes of the broad grid in size, below 2^81, and the moment below 2^103
 pub record IsLineSized (k : LineKey) : Type 0 where
-  pub dx : Small 2251799679467522 k.dx
-  pub dy : Small 2251799679467522 k.dy
-  pub dz : Small 2251799679467522 k.dz
-  pub mx : Small 36893487047840366594 k.mx
-  pub my : Small 36893487047840366594 k.my
-  pub mz : Small 36893487047840366594 k.mz
+  pub dx : Small most_cross k.dx
+  pub dy : Small most_cross k.dy
+  pub dz : Small most_cross k.dz
+  pub mx : Small most_moment k.mx
+  pub my : Small most_moment k.my
+  pub mz : Small most_moment k.mz

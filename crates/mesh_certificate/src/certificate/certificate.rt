@@ -1,20 +1,21 @@
 // Whether triangles cut up faces.
 ghost use Rattle.std.specs.Prelude.{◌≡◌, ◌↔◌, [], ◌∷◌, ◌++◌, All, slice_get, IfOk, OnOk, IfSome, IsTrue};
-ghost use Rattle.ember_model.specs.Valid.{IsValidPlane};
+ghost use Rattle.ember_width.specs.Broad.{IsBroadPlane};
 ghost use Rattle.mesh_certificate.specs.Certificate.Certificate.{leads_round, is_in_one_plane, is_round, FacesFrontOf};
 ghost use Rattle.mesh_certificate.specs.Certificate.Certificate.{IsProper, edges_in, ArePartsCertified, IsCertified};
 ghost use Rattle.mesh_certificate.specs.Certificate.Closed.{AreSegmentsClosed};
 
 use crate::certificate::chains::same_chains;
 use crate::certificate::closed::are_closed;
+use crate::certificate::corners::corner_at;
 use crate::certificate::facing::faces_front;
 use crate::certificate::free_pairs::are_free_paired;
 use crate::certificate::on_lines::are_on_lines;
 use crate::certificate::segment::Segment;
-use crate::certificate::space_point::{SpacePoint, corner_at};
 use crate::certificate::triangle::Triangle;
 use crate::key::LineKey;
 use ember_model::{OutOfMemory, Plane};
+use mesh_point::SpacePoint;
 use std::alloc::Global;
 
 // Whether each edge of the triangle ends at the corner at which the next one starts.
@@ -46,7 +47,7 @@ fn found_faces_front(
     v: Option<SpacePoint>,
     w: Option<SpacePoint>,
 ) -> bool
-    requires { IfSome plane (λ p. IsValidPlane p) }
+    requires { IfSome plane (λ p. IsBroadPlane p) }
     ensures { IsTrue result ↔ FacesFrontOf plane u v w }
 {
     let Some(plane) = plane else {
@@ -65,9 +66,9 @@ fn found_faces_front(
 }
 
 fn plane_at(planes: &[Plane], number: u32) -> Option<Plane>
-    requires { All IsValidPlane planes.now }
+    requires { All IsBroadPlane planes.now }
     ensures value { result ≡ slice_get planes.now number }
-    ensures valid { IfSome result (λ p. IsValidPlane p) }
+    ensures valid { IfSome result (λ p. IsBroadPlane p) }
 {
     planes.get(number as usize).copied()
 }
@@ -75,7 +76,7 @@ fn plane_at(planes: &[Plane], number: u32) -> Option<Plane>
 // Whether the triangle is proper: its edges lead around three corners of its plane, and it faces
 // the front.
 fn is_proper(planes: &[Plane], corners: &[SpacePoint], t: &Triangle) -> bool
-    requires { All IsValidPlane planes.now }
+    requires { All IsBroadPlane planes.now }
     ensures { IsTrue result ↔ IsProper planes.now corners.now t.now }
 {
     if !is_round(t) {
@@ -90,7 +91,7 @@ fn is_proper(planes: &[Plane], corners: &[SpacePoint], t: &Triangle) -> bool
 
 // Whether all triangles are proper.
 fn are_proper(planes: &[Plane], corners: &[SpacePoint], triangles: &[Triangle]) -> bool
-    requires { All IsValidPlane planes.now }
+    requires { All IsBroadPlane planes.now }
     ensures { IsTrue result ↔ All (IsProper planes.now corners.now) triangles.now }
 {
     for t in triangles {
@@ -133,7 +134,7 @@ pub fn are_parts_certified(
     faces: &[Segment],
     triangles: &[Triangle],
 ) -> Result<bool, OutOfMemory>
-    requires { All IsValidPlane planes.now }
+    requires { All IsBroadPlane planes.now }
     ensures { IfOk result (λ certified. IsTrue certified ↔ ArePartsCertified planes.now lines.now corners.now
         faces.now triangles.now) }
 {
@@ -168,7 +169,7 @@ pub fn is_certified(
     faces: &[Segment],
     triangles: &[Triangle],
 ) -> Result<bool, OutOfMemory>
-    requires { All IsValidPlane planes.now }
+    requires { All IsBroadPlane planes.now }
     ensures { IfOk result (λ certified. IsTrue certified ↔ IsCertified planes.now lines.now corners.now
         faces.now triangles.now) }
 {

@@ -1,51 +1,23 @@
 // Whether triangles lie on a plane and face its front.
 ghost use Rattle.std.specs.Prelude.{◌≡◌, ◌↔◌, ◌*ℤ◌, IsTrue};
 ghost use Rattle.ember_algebra.specs.Sign.{sgn, is_zero, is_positive};
-ghost use Rattle.ember_model.specs.Valid.{IsValidPlane};
 ghost use Rattle.ember_model.specs.Planes.{value_at, along, main_axis};
-ghost use Rattle.ember_point.specs.Points as meets;
-ghost use Rattle.mesh_certificate.specs.Certificate.Facing.{spot_of, seen_along, turn_along, are_on, FacesFront};
+ghost use Rattle.ember_width.specs.Broad.{IsBroadPlane};
+ghost use Rattle.mesh_certificate.specs.Certificate.Facing.{spot_of, turn_along, are_on, FacesFront};
 
-use crate::certificate::space_point::SpacePoint;
 use ember_algebra::{Sign, product_sign, sign_of};
 use ember_model::{Axis, Plane, main_axis};
-use ember_point::{Meet, side};
-use mesh_number::{PlanePoint, turn};
-
-/// The same point as a `Meet`, whose limits are wider.
-pub fn meet_of(p: &SpacePoint) -> Meet
-    ensures { meets.spot_of result ≡ spot_of p.now }
-{
-    Meet {
-        x: p.x,
-        y: p.y,
-        z: p.z,
-        w: p.w,
-    }
-}
+use mesh_point::{SpacePoint, side, turn_along};
 
 // Whether the point lies on the plane.
 fn is_on(plane: &Plane, p: &SpacePoint) -> bool
-    requires { IsValidPlane plane.now }
+    requires { IsBroadPlane plane.now }
     ensures { result ≡ is_zero (value_at plane.now (spot_of p.now)) }
 {
-    match side(plane, &meet_of(p)) {
+    match side(plane, p) {
         Sign::Zero => true,
         Sign::Neg | Sign::Pos => false,
     }
-}
-
-fn seen_along(p: &SpacePoint, k: Axis) -> PlanePoint
-    ensures x { result.x ≡ (seen_along k (spot_of p.now)).x }
-    ensures y { result.y ≡ (seen_along k (spot_of p.now)).y }
-    ensures w { result.w ≡ (seen_along k (spot_of p.now)).z }
-{
-    let (x, y) = match k {
-        Axis::X => (p.y, p.z),
-        Axis::Y => (p.z, p.x),
-        Axis::Z => (p.x, p.y),
-    };
-    PlanePoint { x, y, w: p.w }
 }
 
 fn sign_along(plane: &Plane, k: Axis) -> Sign
@@ -56,12 +28,6 @@ fn sign_along(plane: &Plane, k: Axis) -> Sign
         Axis::Y => sign_of(plane.b as i128),
         Axis::Z => sign_of(plane.c as i128),
     }
-}
-
-fn turn_along(k: Axis, u: &SpacePoint, v: &SpacePoint, w: &SpacePoint) -> Sign
-    ensures { result ≡ sgn (turn_along k (spot_of u.now) (spot_of v.now) (spot_of w.now)) }
-{
-    turn(&seen_along(u, k), &seen_along(v, k), &seen_along(w, k))
 }
 
 // Whether the three points go round counter-clockwise, seen from the plane's front, by their
@@ -77,7 +43,7 @@ fn turns_left(plane: &Plane, k: Axis, u: &SpacePoint, v: &SpacePoint, w: &SpaceP
 
 // Whether all three points lie on the plane.
 fn are_on(plane: &Plane, u: &SpacePoint, v: &SpacePoint, w: &SpacePoint) -> bool
-    requires { IsValidPlane plane.now }
+    requires { IsBroadPlane plane.now }
     ensures { result ≡ are_on plane.now (spot_of u.now) (spot_of v.now) (spot_of w.now) }
 {
     is_on(plane, u) && is_on(plane, v) && is_on(plane, w)
@@ -86,7 +52,7 @@ fn are_on(plane: &Plane, u: &SpacePoint, v: &SpacePoint, w: &SpacePoint) -> bool
 /// Whether the three points lie on the plane and, seen from its front, go round their triangle
 /// counter-clockwise. No points on one line do.
 pub fn faces_front(plane: &Plane, u: &SpacePoint, v: &SpacePoint, w: &SpacePoint) -> bool
-    requires { IsValidPlane plane.now }
+    requires { IsBroadPlane plane.now }
     ensures { IsTrue result ↔ FacesFront plane.now (spot_of u.now) (spot_of v.now) (spot_of w.now) }
 {
     are_on(plane, u, v, w) && turns_left(plane, main_axis(plane), u, v, w)

@@ -2,10 +2,10 @@
 ghost use Rattle.std.specs.Prelude.{◌≡◌, ◌↔◌, All, IfSome, IsTrue, slice_get};
 ghost use Rattle.mesh_certificate.specs.Certificate.OnLines.{IsCornerOnLine, IsOnItsLine};
 
-use crate::certificate::facing::meet_of;
+use crate::certificate::corners::corner_at;
 use crate::certificate::segment::Segment;
-use crate::certificate::space_point::{SpacePoint, corner_at};
 use crate::key::{LineKey, has_direction, is_on_line};
+use mesh_point::SpacePoint;
 
 // Whether the line has a direction and the corner lies on it.
 fn is_corner_on_line(line: &LineKey, c: &SpacePoint) -> bool
@@ -14,7 +14,7 @@ fn is_corner_on_line(line: &LineKey, c: &SpacePoint) -> bool
     if !has_direction(line) {
         return false;
     }
-    is_on_line(line, &meet_of(c))
+    is_on_line(line, c)
 }
 
 // Whether the corner lies on the line, if both were found.

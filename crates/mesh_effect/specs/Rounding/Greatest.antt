@@ -3,7 +3,7 @@ use Rattle.std.specs.Prelude.{ℕ, List, map}
 use Rattle.mesh_grid.specs.declared.snap.steps.GridStep.{GridStep}
 use Rattle.mesh_grid.specs.declared.snap.offsets.Offset.{Offset}
 use Rattle.mesh_write.specs.declared.stl.triangle.FloatPoint.{FloatPoint}
-use Rattle.mesh_certificate.specs.declared.certificate.space_point.SpacePoint.{SpacePoint}
+use Rattle.mesh_point.specs.declared.space_point.SpacePoint.{SpacePoint}
 use Rattle.mesh_certificate.specs.declared.certificate.triangle.Triangle.{Triangle}
 use Rattle.mesh_effect.specs.Rounding.Ticks.{power_tick, decimal_tick}
 use Rattle.mesh_effect.specs.Rounding.Maximum.{greatest_of}

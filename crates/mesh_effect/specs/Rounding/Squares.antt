@@ -5,7 +5,7 @@ use Rattle.mesh_number.specs.Number.Fractions.{Fraction}
 use Rattle.mesh_grid.specs.declared.snap.steps.GridStep.{GridStep}
 use Rattle.mesh_grid.specs.declared.snap.offsets.Offset.{Offset}
 use Rattle.mesh_write.specs.declared.stl.triangle.FloatPoint.{FloatPoint}
-use Rattle.mesh_certificate.specs.declared.certificate.space_point.SpacePoint.{SpacePoint}
+use Rattle.mesh_point.specs.declared.space_point.SpacePoint.{SpacePoint}
 use Rattle.mesh_certificate.specs.declared.certificate.triangle.Triangle.{Triangle}
 use Rattle.mesh_written.specs.Places.{place_of}
 use Rattle.mesh_written.specs.Decimals.{units_of}

@@ -11,9 +11,9 @@ ghost use Rattle.mesh_effect.specs.Rounding.Squares.{decimal_number, decimal_squ
 use crate::rounding::squares::sum_of_squares;
 use crate::rounding::ticks::ticks;
 use ember_model::Axis;
-use mesh_certificate::SpacePoint;
 use mesh_grid::{GridStep, Offset};
 use mesh_number::{Magnitude, divide};
+use mesh_point::SpacePoint;
 use mesh_written::{PlaceFault, Ratio, exact_place};
 use std::alloc::Global;
 use std::cmp::Ordering;

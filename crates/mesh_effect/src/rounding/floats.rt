@@ -14,9 +14,9 @@ ghost use Rattle.mesh_effect.specs.Rounding.Squares.{float_square, float_squares
 use crate::rounding::squares::sum_of_squares;
 use crate::rounding::ticks::moved_ticks;
 use ember_model::Axis;
-use mesh_certificate::SpacePoint;
 use mesh_grid::{GridStep, Offset};
 use mesh_number::{Magnitude, Wide};
+use mesh_point::SpacePoint;
 use mesh_write::FloatPoint;
 use mesh_written::{PlaceFault, Ratio, exact_place};
 use std::alloc::Global;

@@ -62,6 +62,24 @@ abbrev pub of_wavefront : wavefront.Fault → Fault
 of_wavefront wavefront.OutOfMemory = OutOfMemory
 of_wavefront fault = Wavefront fault
 
+-- ---- files without triangles
+-- the only fault that a reader finds
+abbrev pub is_empty_stl : StlFault → Bool
+is_empty_stl stl.NoTriangles = true
+is_empty_stl fault = false
+
+abbrev pub is_empty_ply : PlyFault → Bool
+is_empty_ply ply.NoTriangles = true
+is_empty_ply fault = false
+
+abbrev pub is_empty_off : OffFault → Bool
+is_empty_off off.NoTriangles = true
+is_empty_off fault = false
+
+abbrev pub is_empty_gltf : GltfFault → Bool
+is_empty_gltf gltf.NoTriangles = true
+is_empty_gltf fault = false
+
 -- ---- files of formats that aren't read
 -- a file of this format has this fault, and any other the one that its reader found
 abbrev pub unread_or : Option UnreadFormat → Fault → Fault

@@ -9,8 +9,8 @@ ghost use Rattle.mesh_read.specs.Off.ReadOff.{read_off_of};
 ghost use Rattle.mesh_gltf.specs.ReadGltf.{read_gltf_of};
 ghost use Rattle.mesh_read.specs.Wavefront.ReadWavefront.{read_wavefront_of};
 ghost use Rattle.mesh_read.specs.Wavefront.Faults as wavefront;
-ghost use Rattle.mesh_file.specs.File.Faults.{fault_of, is_plain, of_stl, of_ply, of_off, of_gltf, of_wavefront, with_unread};
-ghost use Rattle.mesh_file.specs.File.ReadFile.{with_faults, or_unread, reading_of};
+ghost use Rattle.mesh_file.specs.File.Faults.{fault_of, is_plain, of_stl, of_ply, of_off, of_gltf, of_wavefront, with_unread, is_empty_stl, is_empty_ply, is_empty_off, is_empty_gltf};
+ghost use Rattle.mesh_file.specs.File.ReadFile.{nothing, or_nothing, with_faults, or_unread, reading_of};
 
 use crate::file::fault::FileFault;
 use crate::file::unread::unread_format;
@@ -77,6 +77,55 @@ fn wavefront_fault<'a>(fault: WavefrontFault<'a>) -> FileFault<'a>
     }
 }
 
+// Whether it is the only fault of a file that it has no triangles.
+fn is_empty_stl(fault: &StlFault) -> bool
+    ensures { result ≡ is_empty_stl fault.now }
+{
+    match fault {
+        StlFault::NoTriangles => true,
+        _ => false,
+    }
+}
+
+fn is_empty_ply(fault: &PlyFault) -> bool
+    ensures { result ≡ is_empty_ply fault.now }
+{
+    match fault {
+        PlyFault::NoTriangles => true,
+        _ => false,
+    }
+}
+
+fn is_empty_off(fault: &OffFault) -> bool
+    ensures { result ≡ is_empty_off fault.now }
+{
+    match fault {
+        OffFault::NoTriangles => true,
+        _ => false,
+    }
+}
+
+fn is_empty_gltf(fault: &GltfFault) -> bool
+    ensures { result ≡ is_empty_gltf fault.now }
+{
+    match fault {
+        GltfFault::NoTriangles => true,
+        _ => false,
+    }
+}
+
+// The surface of a file without triangles.
+fn nothing<'a>(alloc: Global) -> Surface<'a>
+    ensures content { content_of result ≡ nothing }
+    ensures surface { IsSurface result }
+    ensures within { find (is_facet_too_large result.vertices.items) result.facets.items ≡ None }
+{
+    Surface {
+        vertices: Vec::new(alloc),
+        facets: Vec::new(alloc),
+    }
+}
+
 // The fault of a file of no format that is read, which may be of one that isn't.
 fn or_unread<'a>(bytes: &[u8], fault: FileFault<'a>) -> FileFault<'a>
     requires length { length bytes.now ≤ most_bytes }
@@ -97,61 +146,81 @@ fn or_unread<'a>(bytes: &[u8], fault: FileFault<'a>) -> FileFault<'a>
 // The surface of an STL file, binary or ASCII, or the fault of one that is cut off.
 fn read_stl_file<'a>(alloc: Global, bytes: &'a [u8]) -> Result<Surface<'a>, FileFault<'a>>
     requires { length bytes.now ≤ most_bytes }
-    ensures ok { IfOk result (λ s. with_faults of_stl (read_stl_of bytes.now) ≡ Ok (content_of s)) }
+    ensures ok { IfOk result (λ s. with_faults of_stl (or_nothing is_empty_stl (read_stl_of bytes.now)) ≡ Ok (content_of s)) }
     ensures surface { IfOk result IsSurface }
     ensures within { IfOk result (λ s. find (is_facet_too_large s.vertices.items) s.facets.items ≡ None) }
     ensures fault { IfErr result (λ e. (e ≡ FileFault.OutOfMemory)
-        ⊎ (with_faults of_stl (read_stl_of bytes.now) ≡ Err (fault_of e))) }
+        ⊎ (with_faults of_stl (or_nothing is_empty_stl (read_stl_of bytes.now)) ≡ Err (fault_of e))) }
     ensures plain { IfErr result (λ e. is_plain e ≡ true) }
 {
     match read_stl(alloc, bytes) {
         Ok(surface) => Ok(surface),
-        Err(fault) => Err(stl_fault(fault)),
+        Err(fault) => {
+            if is_empty_stl(&fault) {
+                return Ok(nothing(alloc));
+            }
+            Err(stl_fault(fault))
+        }
     }
 }
 
 fn read_ply_file<'a>(alloc: Global, bytes: &'a [u8]) -> Result<Surface<'a>, FileFault<'a>>
     requires { length bytes.now ≤ most_bytes }
-    ensures ok { IfOk result (λ s. with_faults of_ply (read_ply_of bytes.now) ≡ Ok (content_of s)) }
+    ensures ok { IfOk result (λ s. with_faults of_ply (or_nothing is_empty_ply (read_ply_of bytes.now)) ≡ Ok (content_of s)) }
     ensures surface { IfOk result IsSurface }
     ensures within { IfOk result (λ s. find (is_facet_too_large s.vertices.items) s.facets.items ≡ None) }
     ensures fault { IfErr result (λ e. (e ≡ FileFault.OutOfMemory)
-        ⊎ (with_faults of_ply (read_ply_of bytes.now) ≡ Err (fault_of e))) }
+        ⊎ (with_faults of_ply (or_nothing is_empty_ply (read_ply_of bytes.now)) ≡ Err (fault_of e))) }
     ensures plain { IfErr result (λ e. is_plain e ≡ true) }
 {
     match read_ply(alloc, bytes) {
         Ok(surface) => Ok(surface),
-        Err(fault) => Err(ply_fault(fault)),
+        Err(fault) => {
+            if is_empty_ply(&fault) {
+                return Ok(nothing(alloc));
+            }
+            Err(ply_fault(fault))
+        }
     }
 }
 
 fn read_off_file<'a>(alloc: Global, bytes: &'a [u8]) -> Result<Surface<'a>, FileFault<'a>>
     requires { length bytes.now ≤ most_bytes }
-    ensures ok { IfOk result (λ s. with_faults of_off (read_off_of bytes.now) ≡ Ok (content_of s)) }
+    ensures ok { IfOk result (λ s. with_faults of_off (or_nothing is_empty_off (read_off_of bytes.now)) ≡ Ok (content_of s)) }
     ensures surface { IfOk result IsSurface }
     ensures within { IfOk result (λ s. find (is_facet_too_large s.vertices.items) s.facets.items ≡ None) }
     ensures fault { IfErr result (λ e. (e ≡ FileFault.OutOfMemory)
-        ⊎ (with_faults of_off (read_off_of bytes.now) ≡ Err (fault_of e))) }
+        ⊎ (with_faults of_off (or_nothing is_empty_off (read_off_of bytes.now)) ≡ Err (fault_of e))) }
     ensures plain { IfErr result (λ e. is_plain e ≡ true) }
 {
     match read_off(alloc, bytes) {
         Ok(surface) => Ok(surface),
-        Err(fault) => Err(off_fault(fault)),
+        Err(fault) => {
+            if is_empty_off(&fault) {
+                return Ok(nothing(alloc));
+            }
+            Err(off_fault(fault))
+        }
     }
 }
 
 fn read_gltf_file<'a>(alloc: Global, bytes: &'a [u8]) -> Result<Surface<'a>, FileFault<'a>>
     requires { length bytes.now ≤ most_bytes }
-    ensures ok { IfOk result (λ s. with_faults of_gltf (read_gltf_of bytes.now) ≡ Ok (content_of s)) }
+    ensures ok { IfOk result (λ s. with_faults of_gltf (or_nothing is_empty_gltf (read_gltf_of bytes.now)) ≡ Ok (content_of s)) }
     ensures surface { IfOk result IsSurface }
     ensures within { IfOk result (λ s. find (is_facet_too_large s.vertices.items) s.facets.items ≡ None) }
     ensures fault { IfErr result (λ e. (e ≡ FileFault.OutOfMemory)
-        ⊎ (with_faults of_gltf (read_gltf_of bytes.now) ≡ Err (fault_of e))) }
+        ⊎ (with_faults of_gltf (or_nothing is_empty_gltf (read_gltf_of bytes.now)) ≡ Err (fault_of e))) }
     ensures plain { IfErr result (λ e. is_plain e ≡ true) }
 {
     match read_gltf(alloc, bytes) {
         Ok(surface) => Ok(surface),
-        Err(fault) => Err(gltf_fault(fault)),
+        Err(fault) => {
+            if is_empty_gltf(&fault) {
+                return Ok(nothing(alloc));
+            }
+            Err(gltf_fault(fault))
+        }
     }
 }
 
@@ -173,12 +242,12 @@ fn read_wavefront_file<'a>(alloc: Global, bytes: &'a [u8]) -> Result<Surface<'a>
 // The surface of a file that is STL by its name alone, or rather its fault.
 fn read_cut_off_file<'a>(alloc: Global, bytes: &'a [u8]) -> Result<Surface<'a>, FileFault<'a>>
     requires { length bytes.now ≤ most_bytes }
-    ensures ok { IfOk result (λ s. or_unread bytes.now (with_faults of_stl (read_stl_of bytes.now))
+    ensures ok { IfOk result (λ s. or_unread bytes.now (with_faults of_stl (or_nothing is_empty_stl (read_stl_of bytes.now)))
         ≡ Ok (content_of s)) }
     ensures surface { IfOk result IsSurface }
     ensures within { IfOk result (λ s. find (is_facet_too_large s.vertices.items) s.facets.items ≡ None) }
     ensures fault { IfErr result (λ e. (e ≡ FileFault.OutOfMemory)
-        ⊎ (or_unread bytes.now (with_faults of_stl (read_stl_of bytes.now)) ≡ Err (fault_of e))) }
+        ⊎ (or_unread bytes.now (with_faults of_stl (or_nothing is_empty_stl (read_stl_of bytes.now))) ≡ Err (fault_of e))) }
     ensures plain { IfErr result (λ e. is_plain e ≡ true) }
 {
     match read_stl_file(alloc, bytes) {
@@ -212,7 +281,8 @@ fn read_other_file<'a>(alloc: Global, bytes: &'a [u8]) -> Result<Surface<'a>, Fi
 /// [`read_gltf`](mesh_gltf::read_gltf) and [`read_wavefront`](mesh_read::read_wavefront). A file that
 /// is STL by its name alone is [`CutOff`](FileFault::CutOff). A file that is refused as STL by its
 /// name alone or as OBJ, and begins as a file of another format does, is
-/// [`Unread`](FileFault::Unread).
+/// [`Unread`](FileFault::Unread). A PLY, an STL, an OFF or a glTF whose only fault is that it has no
+/// triangles is the empty surface; an OBJ without triangles is refused.
 ///
 /// All coordinates of triangles are below 10^15 in size. They may borrow their digits from `bytes`,
 /// and a fault its bad word. There are at most 2^28 bytes.

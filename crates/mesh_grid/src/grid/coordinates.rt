@@ -67,6 +67,16 @@ fn push_surface<'a>(
     push_marked(lists, &surface.vertices, &marks)
 }
 
+// How many vertices the surfaces have. The lists get this much room at once: a list that grows takes
+// up to three times what it holds.
+fn vertex_count(surfaces: &[Surface]) -> usize {
+    let mut count: usize = 0;
+    for surface in surfaces {
+        count = count.saturating_add(surface.vertices.len());
+    }
+    count
+}
+
 // The coordinates of all corners of triangles, those of each vertex once.
 pub(crate) fn corner_lists<'a>(
     alloc: Global,
@@ -74,10 +84,11 @@ pub(crate) fn corner_lists<'a>(
 ) -> Result<CornerLists<'a>, OutOfMemory>
     ensures { IfOk result (λ lists. HasEntries lists (corners_in surfaces.now)) }
 {
+    let room = vertex_count(surfaces);
     let mut lists = CornerLists {
-        x: Vec::new(alloc),
-        y: Vec::new(alloc),
-        z: Vec::new(alloc),
+        x: Vec::with_capacity(alloc, room)?,
+        y: Vec::with_capacity(alloc, room)?,
+        z: Vec::with_capacity(alloc, room)?,
     };
     for surface in surfaces {
         push_surface(alloc, &mut lists, surface)?;

@@ -5,7 +5,7 @@ ghost use Rattle.mesh_number.specs.Float.Scaling.{IsScaled};
 ghost use Rattle.mesh_number.specs.Float.Binary32.{IsNearestBinary32};
 
 use crate::float::scaling::scaled;
-use crate::wide::{Magnitude, Wide};
+use ember_wide::{Magnitude, Wide};
 use std::cmp::Ordering;
 
 // From here on a size is rounded to infinity: 2^128 less half of the last place of the greatest

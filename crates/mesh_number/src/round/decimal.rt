@@ -5,7 +5,7 @@ ghost use Rattle.mesh_number.specs.Round.Nearest.{nearest_whole};
 ghost use Rattle.mesh_number.specs.Round.Decimals.{sign_text, fraction_digits, fraction_text, decimal_text};
 
 use crate::round::rounding::nearest;
-use crate::wide::Wide;
+use ember_wide::Wide;
 use itoa::Buffer;
 use std::alloc::AllocError;
 

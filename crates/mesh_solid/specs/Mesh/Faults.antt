@@ -17,6 +17,8 @@ use Rattle.mesh_solid.specs.declared.mesh.fault.DocumentFault.{DocumentFault}
 use Rattle.mesh_solid.specs.declared.mesh.fault.DocumentFault.TheVariants as document
 use Rattle.mesh_solid.specs.declared.mesh.fault.SolidFault.{SolidFault}
 use Rattle.mesh_solid.specs.declared.mesh.fault.SolidFault.TheVariants.{NoTables, NotCut, OutOfMemory}
+use Rattle.mesh_solid.specs.Refusal.ClosedLines.{AreLinesClosed}
+use Rattle.mesh_solid.specs.Refusal.Overlaps.{HaveOverlap}
 use Rattle.mesh_solid.specs.Mesh.FaceTables.{AreTablesIn, HasFirstFace, HaveTableFault, HoldsFaces}
 
 -- ---- the faults of the steps, where want of memory is one
@@ -38,10 +40,9 @@ of_outline_fault face outline.OffEdge = document.OffEdge face
 of_outline_fault face outline.NotRound = document.NotRound face
 of_outline_fault face outline.OutOfMemory = document.OutOfMemory
 
-abbrev pub of_mesh_fault : SolidFault → DocumentFault
-of_mesh_fault (NoTables fault) = document.NoTables fault
-of_mesh_fault (NotCut fault) = document.NotCut fault
-of_mesh_fault OutOfMemory = document.OutOfMemory
+abbrev pub of_tables_fault : TableFault → DocumentFault
+of_tables_fault table.OutOfMemory = document.OutOfMemory
+of_tables_fault fault = document.NoTables fault
 
 -- why tables give no triangles
 abbrev pub IsCutFault : SolidFault → Type 0
@@ -49,8 +50,8 @@ IsCutFault (NoTables fault) = ⊥
 IsCutFault (NotCut fault) = fault ≢ triangles.OutOfMemory
 IsCutFault OutOfMemory = ⊤
 
--- ---- the faults of a document
--- its faces have tables but no triangles were found, and not for want of memory
+-- ---- the faults of faces
+-- they have tables but no triangles were found, and not for want of memory
 pub record HasNoTriangles (bytes : List ℕ) (fault : TrianglesFault) : Type 0 where
   pub tables : Tables
   pub are_tables : AreTablesIn bytes tables
@@ -62,6 +63,27 @@ IsFileFault bytes (NoTables fault) = HaveTableFault bytes fault
 IsFileFault bytes (NotCut fault) = HasNoTriangles bytes fault
 IsFileFault bytes OutOfMemory = ⊤
 
+-- ---- the faults of a document
+-- its faces have tables, and aren't closed along some line
+pub record IsNotClosed (bytes : List ℕ) : Type 0 where
+  pub tables : Tables
+  pub are_tables : AreTablesIn bytes tables
+  pub is_open : AreLinesClosed tables.segments.items → ⊥
+
+-- its faces have tables, and two of them overlap
+pub record HasOverlap (bytes : List ℕ) : Type 0 where
+  pub tables : Tables
+  pub are_tables : AreTablesIn bytes tables
+  pub overlap : HaveOverlap are_tables.read.written
+
+-- its faces are closed along lines and don't overlap, but no triangles were found, and not for want of memory
+pub record IsNotCut (bytes : List ℕ) (fault : TrianglesFault) : Type 0 where
+  pub tables : Tables
+  pub are_tables : AreTablesIn bytes tables
+  pub closed : AreLinesClosed tables.segments.items
+  pub apart : HaveOverlap are_tables.read.written → ⊥
+  pub of_triangles : fault ≢ triangles.OutOfMemory
+
 -- why bytes from anywhere give no mesh: they are no face file, a face isn't as it has to be, or the faces give none
 abbrev pub IsDocumentFault : List ℕ → DocumentFault → Type 0
 IsDocumentFault bytes document.NotADocument = HoldsFaces bytes → ⊥
@@ -69,7 +91,9 @@ IsDocumentFault bytes (document.OffPlane face) = HasFirstFace bytes face IsOffPl
 IsDocumentFault bytes (document.OffEdge face) = HasFirstFace bytes face IsOffEdge
 IsDocumentFault bytes (document.NotRound face) = HasFirstFace bytes face IsNotRound
 IsDocumentFault bytes (document.NoTables fault) = HaveTableFault bytes fault
-IsDocumentFault bytes (document.NotCut fault) = HasNoTriangles bytes fault
+IsDocumentFault bytes document.NotClosed = IsNotClosed bytes
+IsDocumentFault bytes document.Overlap = HasOverlap bytes
+IsDocumentFault bytes (document.NotCut fault) = IsNotCut bytes fault
 IsDocumentFault bytes document.OutOfMemory = ⊤
 
 -- ---- the faults of a solid

@@ -3,7 +3,7 @@ use Rattle.std.specs.Prelude.{◌≡◌, ◌⊎◌, ℕ, Bool, ◌&&◌, List, [
 use Rattle.std.specs.Ordering.{int_eq}
 use Rattle.ember_model.specs.declared.plane.Plane.{Plane}
 use Rattle.mesh_certificate.specs.declared.key.lines.LineKey.{LineKey}
-use Rattle.mesh_certificate.specs.declared.certificate.space_point.SpacePoint.{SpacePoint}
+use Rattle.mesh_point.specs.declared.space_point.SpacePoint.{SpacePoint}
 use Rattle.mesh_solid.specs.declared.tables.plane_entry.PlaneEntry.{PlaneEntry}
 
 -- ---- entries by numbers
@@ -38,4 +38,8 @@ same_line k l =
     (int_eq k.dy l.dy && (int_eq k.dz l.dz && (int_eq k.mx l.mx && (int_eq k.my l.my && int_eq k.mz l.mz))))
 
 abbrev pub same_corner : SpacePoint → SpacePoint → Bool
-same_corner p q = int_eq p.x q.x && (int_eq p.y q.y && (int_eq p.z q.z && int_eq p.w q.w))
+same_corner p q =
+    int_eq p.floor_x q.floor_x &&
+    (int_eq p.floor_y q.floor_y &&
+    (int_eq p.floor_z q.floor_z &&
+    (int_eq p.x q.x && (int_eq p.y q.y && (int_eq p.z q.z && int_eq p.w q.w)))))

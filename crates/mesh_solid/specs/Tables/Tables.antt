@@ -12,8 +12,8 @@ use Rattle.mesh_certificate.specs.declared.key.lines.LineKey.{LineKey}
 use Rattle.mesh_certificate.specs.Key.PlaneKeys.{IsPlaneKey}
 use Rattle.mesh_certificate.specs.Key.LineKeys.{IsLineKey, direction_of}
 use Rattle.mesh_certificate.specs.declared.certificate.segment.Segment.{Segment}
-use Rattle.mesh_certificate.specs.declared.certificate.space_point.SpacePoint.{SpacePoint}
-use Rattle.mesh_certificate.specs.Certificate.SpacePoints.{IsSpacePoint}
+use Rattle.mesh_point.specs.declared.space_point.SpacePoint.{SpacePoint}
+use Rattle.mesh_point.specs.SpacePoints.{IsInReach}
 use Rattle.mesh_certificate.specs.Certificate.Facing.{spot_of}
 use Rattle.mesh_solid.specs.declared.tables.face_edge.FaceEdge.{FaceEdge}
 use Rattle.mesh_solid.specs.declared.tables.keyed.Keyed.{Keyed}
@@ -29,9 +29,9 @@ pub record IsCorner (p q r : Plane) (v : Spot) : Type 0 where
   pub same : SamePoint (meet_of p q r) v
   pub lowest : IsLowest v
 
--- they don't, or the numbers of this point are too large for a corner
+-- they don't, or this point is out of the reach of corners
 abbrev pub HasNoCorner : Plane → Plane → Plane → Type 0
-HasNoCorner p q r = (weight p q r ≡ pos 0) ⊎ ((v : Spot) × IsCorner p q r v × (IsSpacePoint v.x v.y v.z v.w → ⊥))
+HasNoCorner p q r = (weight p q r ≡ pos 0) ⊎ ((v : Spot) × IsCorner p q r v × (IsInReach v → ⊥))
 
 -- ---- edges and segments
 -- the numbers of the segment lead to the plane and the line of the edge, and to its two corners

@@ -12,7 +12,7 @@ use Rattle.ember_model.specs.Edges.{normal}
 use Rattle.ember_model.specs.Meshes.{wind}
 use Rattle.ember_model.specs.Points.{offset_by, displacement}
 use Rattle.mesh_certificate.specs.Key.LineKeys.{numerators}
-use Rattle.mesh_certificate.specs.declared.certificate.space_point.SpacePoint.{SpacePoint}
+use Rattle.mesh_point.specs.declared.space_point.SpacePoint.{SpacePoint}
 use Rattle.mesh_certificate.specs.declared.certificate.triangle.Triangle.{Triangle}
 use Rattle.mesh_certificate.specs.Certificate.Facing.{spot_of}
 

@@ -2,7 +2,7 @@
 ghost use Rattle.std.specs.Prelude.{◌≡◌};
 ghost use Rattle.mesh_solid.specs.declared.mesh.fault.DocumentFault.TheVariants as document;
 ghost use Rattle.mesh_solid.specs.declared.mesh.fault.SolidFault.TheVariants as solid;
-ghost use Rattle.mesh_solid.specs.Mesh.Faults.{of_mesh_fault, of_reading_fault, of_table_fault, of_triangles_fault};
+ghost use Rattle.mesh_solid.specs.Mesh.Faults.{of_reading_fault, of_table_fault, of_tables_fault, of_triangles_fault};
 
 use crate::tables::TableFault;
 use ember_reread::RereadFault;
@@ -72,7 +72,14 @@ pub enum DocumentFault {
     /// The faces have no tables of planes, lines and corners. Never `TableFault::OutOfMemory`.
     #[error(transparent)]
     NoTables(TableFault),
-    /// No certified triangles were found for the faces. Never `TrianglesFault::OutOfMemory`.
+    /// Somewhere on a line more edges run one way than the other.
+    #[error("the document isn't closed along a line")]
+    NotClosed,
+    /// Two faces of one plane aren't apart.
+    #[error("faces of one plane overlap")]
+    Overlap,
+    /// No certified triangles were found for the faces, which are closed along lines and don't
+    /// overlap. Never `TrianglesFault::OutOfMemory`.
     #[error(transparent)]
     NotCut(TrianglesFault),
     #[error("out of memory")]
@@ -106,14 +113,13 @@ impl From<RereadFault> for DocumentFault {
     }
 }
 
-impl From<SolidFault> for DocumentFault {
-    ghost from_gives = { λ fault e. e ≡ of_mesh_fault fault };
+impl From<TableFault> for DocumentFault {
+    ghost from_gives = { λ fault e. e ≡ of_tables_fault fault };
 
-    fn from(fault: SolidFault) -> DocumentFault {
+    fn from(fault: TableFault) -> DocumentFault {
         match fault {
-            SolidFault::NoTables(fault) => DocumentFault::NoTables(fault),
-            SolidFault::NotCut(fault) => DocumentFault::NotCut(fault),
-            SolidFault::OutOfMemory => DocumentFault::OutOfMemory,
+            TableFault::OutOfMemory => DocumentFault::OutOfMemory,
+            fault => DocumentFault::NoTables(fault),
         }
     }
 }

@@ -9,7 +9,8 @@ ghost use Rattle.mesh_triangles.specs.PlaneQueries.{IsPlaneExecutor};
 use crate::mesh::fault::SolidFault;
 use crate::tables::{Tables, tables_of};
 use ember_model::{Face, Plane};
-use mesh_certificate::{SpacePoint, Triangle};
+use mesh_certificate::Triangle;
+use mesh_point::SpacePoint;
 use mesh_triangles::{PlaneAnswer, PlaneQuery, TrianglesFault, certified_triangles};
 use std::alloc::Global;
 

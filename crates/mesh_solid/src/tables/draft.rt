@@ -16,7 +16,8 @@ use crate::tables::numbering::number_of;
 use crate::tables::plane_entry::{PlaneEntry, entry_of};
 use ember_model::Plane;
 use indexmap::IndexSet;
-use mesh_certificate::{LineKey, Segment, SpacePoint, plane_key};
+use mesh_certificate::{LineKey, Segment, plane_key};
+use mesh_point::SpacePoint;
 use std::alloc::Global;
 
 const MOST_EDGES: usize = 2_147_483_647;

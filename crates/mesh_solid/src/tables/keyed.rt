@@ -10,7 +10,8 @@ use crate::tables::corner::corner_of;
 use crate::tables::face_edge::FaceEdge;
 use crate::tables::fault::TableFault;
 use ember_model::Plane;
-use mesh_certificate::{LineKey, SpacePoint, line_key};
+use mesh_certificate::{LineKey, line_key};
+use mesh_point::SpacePoint;
 
 /// The key of an edge's line, and the corner in which the edge ends.
 #[derive(Clone, Copy)]

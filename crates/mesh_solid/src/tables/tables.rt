@@ -9,7 +9,8 @@ use crate::tables::draft::TableBuilder;
 use crate::tables::fault::TableFault;
 use crate::tables::plane_entry::planes_of;
 use ember_model::{Face, Plane};
-use mesh_certificate::{LineKey, Segment, SpacePoint};
+use mesh_certificate::{LineKey, Segment};
+use mesh_point::SpacePoint;
 use std::alloc::Global;
 
 /// The planes, lines and corners of faces, each once, and the edges of the faces as segments

@@ -1,47 +1,62 @@
 // Whether triangles cut up a square with two sides.
 use crate::triangles::cuts::plane;
 use mesh_certificate::{
-    LineKey, Segment, SpacePoint, Triangle, are_closed, are_free_paired, faces_front, is_certified,
-    same_chains,
+    LineKey, Segment, Triangle, are_closed, are_free_paired, faces_front, is_certified, same_chains,
 };
+use mesh_point::SpacePoint;
 use std::alloc::Global;
 use std::test::Fail;
 
 // The corners of the square, and the middle of its first side.
 const CORNERS: [SpacePoint; 5] = [
     SpacePoint {
+        floor_x: 0,
+        floor_y: 0,
+        floor_z: 0,
         x: 0,
         y: 0,
         z: 0,
         w: 1,
     },
     SpacePoint {
-        x: 2,
+        floor_x: 2,
+        floor_y: 0,
+        floor_z: 0,
+        x: 0,
         y: 0,
         z: 0,
         w: 1,
     },
     SpacePoint {
-        x: 6,
-        y: 6,
+        floor_x: 2,
+        floor_y: 2,
+        floor_z: 0,
+        x: 0,
+        y: 0,
         z: 0,
         w: 3,
     },
     SpacePoint {
+        floor_x: 0,
+        floor_y: 2,
+        floor_z: 0,
         x: 0,
-        y: 2,
+        y: 0,
         z: 0,
         w: 1,
     },
     SpacePoint {
-        x: 1,
+        floor_x: 1,
+        floor_y: 0,
+        floor_z: 0,
+        x: 0,
         y: 0,
         z: 0,
         w: 1,
     },
 ];
 
-fn line(direction: [i64; 3], moment: [i128; 3]) -> LineKey {
+fn line(direction: [i128; 3], moment: [i128; 3]) -> LineKey {
     LineKey {
         dx: direction[0],
         dy: direction[1],
@@ -330,21 +345,30 @@ fn a_side_in_two_pieces_has_the_same_chain(rt: HostRuntime) -> Result<(), Fail> 
 #[test]
 fn fronts_of_slanted_planes(rt: HostRuntime) {
     let p = SpacePoint {
-        x: 6,
+        floor_x: 6,
+        floor_y: 0,
+        floor_z: 0,
+        x: 0,
         y: 0,
         z: 0,
         w: 1,
     };
     let q = SpacePoint {
+        floor_x: 0,
+        floor_y: 3,
+        floor_z: 0,
         x: 0,
-        y: 6,
+        y: 0,
         z: 0,
         w: 2,
     };
     let r = SpacePoint {
+        floor_x: 0,
+        floor_y: 0,
+        floor_z: 2,
         x: 0,
         y: 0,
-        z: 6,
+        z: 0,
         w: 3,
     };
     let slanted = [1, 2, 3, 6];

@@ -1,15 +1,18 @@
 // Parts of planes are cut into triangles, which the checker certifies.
 ghost use Rattle.ember_model.specs.Valid.{IsValidPlane};
+ghost use Rattle.ember_width.specs.Broad.{IsBroadPlane};
 
 use ember_model::Plane;
-use mesh_certificate::{LineKey, Segment, SpacePoint, Triangle, is_certified};
+use mesh_certificate::{LineKey, Segment, Triangle, is_certified};
+use mesh_point::SpacePoint;
 use mesh_triangulate::{Touch, Triangulation, triangles_of, with_lines};
 use std::alloc::Global;
 use std::test::Fail;
 
 // The plane with this normal and constant.
 pub(crate) fn plane(numbers: [i16; 4]) -> Plane
-    ensures { IsValidPlane result }
+    ensures valid { IsValidPlane result }
+    ensures broad { IsBroadPlane result }
 {
     Plane {
         a: i64::from(numbers[0]),
@@ -39,9 +42,12 @@ static SHEETS: [[[i16; 4]; 2]; 3] = [
 // The point with these coordinates, in thirds.
 pub(crate) fn thirds(x: i32, y: i32, z: i32) -> SpacePoint {
     SpacePoint {
-        x: i128::from(x),
-        y: i128::from(y),
-        z: i128::from(z),
+        floor_x: x.div_euclid(3),
+        floor_y: y.div_euclid(3),
+        floor_z: z.div_euclid(3),
+        x: i128::from(x.rem_euclid(3)),
+        y: i128::from(y.rem_euclid(3)),
+        z: i128::from(z.rem_euclid(3)),
         w: 3,
     }
 }
@@ -67,9 +73,9 @@ fn line_through(u: [i32; 3], v: [i32; 3]) -> LineKey {
     let dy = i64::from(v[1]).wrapping_sub(y);
     let dz = i64::from(v[2]).wrapping_sub(z);
     LineKey {
-        dx: dx.wrapping_mul(3),
-        dy: dy.wrapping_mul(3),
-        dz: dz.wrapping_mul(3),
+        dx: i128::from(dx.wrapping_mul(3)),
+        dy: i128::from(dy.wrapping_mul(3)),
+        dz: i128::from(dz.wrapping_mul(3)),
         mx: moment(y, dz, z, dy),
         my: moment(z, dx, x, dz),
         mz: moment(x, dy, y, dx),

@@ -66,17 +66,22 @@ fn what_is_no_document_is_refused(rt: HostRuntime) {
     }
 }
 
-fn is_open(alloc: Global, bytes: &[u8]) -> bool {
-    match mesh_of(alloc, bytes) {
-        Ok(_mesh) => false,
-        Err(fault) => matches!(&fault, DocumentFault::NotCut(TrianglesFault::NotClosed(_))),
-    }
-}
-
 #[test]
 fn one_face_is_not_closed(rt: HostRuntime) -> Result<(), Fail> {
     let document = with_bottom(rt.alloc(), b"end 1\n")?;
-    assert!(rt; is_open(rt.alloc(), &document));
+    assert!(rt; is_refused(rt.alloc(), &document, DocumentFault::NotClosed));
+    Ok(())
+}
+
+// The bottom again, and the same triangle with the opposite front twice.
+const SHEETS: &[u8] = b"f 0 0 -1 0 3\ne -1 0 0 0 0 0 0 1\ne 1 1 0 1 0 1 0 1\ne 0 -1 0 0 1 0 0 1\n\
+    f 0 0 1 0 3\ne 0 -1 0 0 0 0 0 1\ne 1 1 0 1 1 0 0 1\ne -1 0 0 0 0 1 0 1\n\
+    f 0 0 1 0 3\ne 0 -1 0 0 0 0 0 1\ne 1 1 0 1 1 0 0 1\ne -1 0 0 0 0 1 0 1\nend 4\n";
+
+#[test]
+fn faces_that_are_there_twice_overlap(rt: HostRuntime) -> Result<(), Fail> {
+    let document = with_bottom(rt.alloc(), SHEETS)?;
+    assert!(rt; is_refused(rt.alloc(), &document, DocumentFault::Overlap));
     Ok(())
 }
 

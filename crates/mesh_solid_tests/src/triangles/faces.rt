@@ -1,11 +1,12 @@
 // Faces become certified triangles.
 ghost use Rattle.std.specs.Prelude.{All, IfOk};
-ghost use Rattle.ember_model.specs.Valid.{IsValidPlane};
+ghost use Rattle.ember_width.specs.Broad.{IsBroadPlane};
 ghost use Rattle.mesh_triangles.specs.PlaneQueries.{IsPlaneAnswer, IsPlaneQuery};
 
 use crate::triangles::cuts::{plane, thirds};
 use ember_model::Plane;
-use mesh_certificate::{LineKey, Segment, SpacePoint, line_key};
+use mesh_certificate::{LineKey, Segment, line_key};
+use mesh_point::SpacePoint;
 use mesh_triangles::{
     PlaneAnswer, PlaneQuery, TrianglesFault, answer_planes_alone, certified_triangles,
 };
@@ -32,7 +33,7 @@ fn count_of(
     corners: &[SpacePoint],
     segments: &[Segment],
 ) -> Result<usize, TrianglesFault>
-    requires { All IsValidPlane planes.now }
+    requires { All IsBroadPlane planes.now }
 {
     let triangles = certified_triangles(
         alloc,

@@ -1,7 +1,6 @@
 // Keys of planes and of lines; the expected ones are from a program in another language.
-ghost use Rattle.ember_model.specs.Limits.{valid_constant_limit, valid_normal_limit};
 ghost use Rattle.ember_algebra.specs.Size.{Small};
-ghost use Rattle.ember_model.specs.Valid.{IsValidPlane};
+ghost use Rattle.ember_width.specs.Broad.{IsBroadPlane, most_constant, most_normal};
 
 use ember_model::Plane;
 use mesh_certificate::{LineKey, line_key, plane_key};
@@ -9,16 +8,20 @@ use std::test::Fail;
 
 // The number, or 0 in place of one that no normal has.
 fn entry(x: i64) -> i64
-    ensures { Small valid_normal_limit result }
+    ensures { Small most_normal result }
 {
-    if x > 33554431 || x < -33554431 { 0 } else { x }
+    if x > 1099511627775 || x < -1099511627775 {
+        0
+    } else {
+        x
+    }
 }
 
 // The number, or 0 in place of one that no constant is.
 fn constant(x: i64) -> i64
-    ensures { Small valid_constant_limit result }
+    ensures { Small most_constant result }
 {
-    if x > 549755813887 || x < -549755813887 {
+    if x > 4611686018427387903 || x < -4611686018427387903 {
         0
     } else {
         x
@@ -26,7 +29,7 @@ fn constant(x: i64) -> i64
 }
 
 fn plane(numbers: [i64; 4]) -> Plane
-    ensures { IsValidPlane result }
+    ensures { IsBroadPlane result }
 {
     Plane {
         a: entry(numbers[0]),
@@ -36,7 +39,7 @@ fn plane(numbers: [i64; 4]) -> Plane
     }
 }
 
-static KEYS_OF_PLANES: [([i64; 4], [i64; 4]); 7] = [
+static KEYS_OF_PLANES: [([i64; 4], [i64; 4]); 8] = [
     ([2, 4, 6, 8], [1, 2, 3, 4]),
     ([-2, -4, -6, -8], [-1, -2, -3, -4]),
     ([6, 0, 0, 9], [2, 0, 0, 3]),
@@ -47,6 +50,10 @@ static KEYS_OF_PLANES: [([i64; 4], [i64; 4]); 7] = [
         [33554431, 0, 0, 549755813887],
     ),
     ([0, 0, 0, 0], [0, 0, 0, 0]),
+    (
+        [1099511627774, 0, 0, 4611686018427387902],
+        [549755813887, 0, 0, 2305843009213693951],
+    ),
 ];
 
 #[test]
@@ -56,7 +63,7 @@ fn keys_of_planes(rt: HostRuntime) {
     }
 }
 
-static KEYS_OF_LINES: [([i64; 4], [i64; 4], [i64; 3], [i128; 3]); 7] = [
+static KEYS_OF_LINES: [([i64; 4], [i64; 4], [i128; 3], [i128; 3]); 9] = [
     ([1, 0, 0, 0], [0, 1, 0, 0], [0, 0, 1], [0, 0, 0]),
     ([0, 1, 0, 0], [1, 0, 0, 0], [0, 0, 1], [0, 0, 0]),
     ([2, 0, 0, 4], [0, 3, 0, 9], [0, 0, 1], [3, -2, 0]),
@@ -68,6 +75,39 @@ static KEYS_OF_LINES: [([i64; 4], [i64; 4], [i64; 3], [i128; 3]); 7] = [
         [-33554431, 33554431, 33554431, -549755813887],
         [1125899806179330, -1125899839733761, 2251799645913091],
         [0, -36893486498084552707, -18446743523920183297],
+    ),
+    (
+        [1099511627775, 1099511627774, 0, 4611686018427387902],
+        [
+            -1099511627775,
+            1099511627775,
+            1099511627773,
+            -4611686018427387901,
+        ],
+        [
+            1208925819609131616567302,
+            -1208925819610231128195075,
+            2417851639223760791273475,
+        ],
+        [
+            1099511627775,
+            -10141204801812000148420785340424,
+            -5070602400899082545732507402246,
+        ],
+    ),
+    (
+        [1099511627774, 0, 1099511627772, 0],
+        [0, 1099511627766, 1099511627774, 4611686018427387900],
+        [
+            302231454899809002979338,
+            302231454902557782048769,
+            -302231454900358758793221,
+        ],
+        [
+            -1267650600225923557387977883650,
+            0,
+            -1267650600223617714378764189700,
+        ],
     ),
 ];
 

@@ -1,6 +1,7 @@
 // The tables of small face files.
 use ember_reread::read_faces;
-use mesh_certificate::{LineKey, Segment, SpacePoint};
+use mesh_certificate::{LineKey, Segment};
+use mesh_point::SpacePoint;
 use mesh_solid::{TableFault, Tables, tables_of};
 use std::alloc::Global;
 use std::test::Fail;
@@ -61,7 +62,8 @@ fn are_edges(segments: &[Segment]) -> bool {
 fn are_fourth(line: &LineKey, corner: &SpacePoint) -> bool {
     (line.dx, line.dy, line.dz) == (1, 0, -1)
         && (line.mx, line.my, line.mz) == (0, 1, 0)
-        && (corner.x, corner.y, corner.z, corner.w) == (0, 0, 1, 1)
+        && (corner.floor_x, corner.floor_y, corner.floor_z) == (0, 0, 1)
+        && (corner.x, corner.y, corner.z, corner.w) == (0, 0, 0, 1)
 }
 
 fn is_tetrahedron(tables: &Tables) -> bool {

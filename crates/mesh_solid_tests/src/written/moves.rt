@@ -1,13 +1,17 @@
 // How far corners move when they are written.
 use crate::written::written::{AT_ZERO, TENTH, THIRDS, UNIT, triangle};
-use mesh_certificate::{SpacePoint, Triangle};
+use mesh_certificate::Triangle;
 use mesh_effect::{Move, greatest_decimal_move, greatest_float_move, is_above_hundredth, put_move};
 use mesh_grid::GridStep;
+use mesh_point::SpacePoint;
 use mesh_written::float_points;
 use std::alloc::Global;
 use std::test::Fail;
 
 const THIRD: SpacePoint = SpacePoint {
+    floor_x: 0,
+    floor_y: 0,
+    floor_z: 0,
     x: 1,
     y: 0,
     z: 0,
@@ -15,9 +19,12 @@ const THIRD: SpacePoint = SpacePoint {
 };
 
 const WHOLE: SpacePoint = SpacePoint {
-    x: 7,
-    y: -2,
-    z: 1,
+    floor_x: 7,
+    floor_y: -2,
+    floor_z: 1,
+    x: 0,
+    y: 0,
+    z: 0,
     w: 1,
 };
 
@@ -62,7 +69,10 @@ fn moves_to_decimals(rt: HostRuntime) -> Result<(), Fail> {
 }
 
 const ONE: SpacePoint = SpacePoint {
-    x: 1,
+    floor_x: 1,
+    floor_y: 0,
+    floor_z: 0,
+    x: 0,
     y: 0,
     z: 0,
     w: 1,

@@ -1,8 +1,9 @@
 // Corners in the user's unit, as floats and as decimals.
 use crate::written::texts::point;
-use ember_model::{Axis, Plane};
-use mesh_certificate::{Segment, SpacePoint, Triangle};
+use ember_model::{Axis, Corner, Plane};
+use mesh_certificate::{Segment, Triangle};
 use mesh_grid::{GridStep, Offset};
+use mesh_point::{SpacePoint, whole_point};
 use mesh_write::{FloatPoint, FloatTriangle, IndexedTriangle};
 use mesh_written::{
     DecimalMesh, PlaceFault, decimal_mesh, decimal_place, float_place, float_triangles,
@@ -33,17 +34,23 @@ const UP: Offset = Offset {
 };
 
 const TENTHS: SpacePoint = SpacePoint {
-    x: 5,
-    y: -3,
+    floor_x: 5,
+    floor_y: -3,
+    floor_z: 0,
+    x: 0,
+    y: 0,
     z: 0,
     w: 1,
 };
 
 /// A corner at 1/3, -2/3 and 1.
 pub const THIRDS: SpacePoint = SpacePoint {
+    floor_x: 0,
+    floor_y: -1,
+    floor_z: 1,
     x: 1,
-    y: -2,
-    z: 3,
+    y: 1,
+    z: 0,
     w: 3,
 };
 
@@ -110,12 +117,11 @@ pub fn triangle(plane: u32, a: u32, b: u32, c: u32) -> Triangle {
 }
 
 fn corner(x: i16, y: i16, z: i16) -> SpacePoint {
-    SpacePoint {
-        x: i128::from(x),
-        y: i128::from(y),
-        z: i128::from(z),
-        w: 1,
-    }
+    whole_point(&Corner {
+        x: i32::from(x),
+        y: i32::from(y),
+        z: i32::from(z),
+    })
 }
 
 fn plane(a: i64, b: i64, c: i64, d: i64) -> Plane {

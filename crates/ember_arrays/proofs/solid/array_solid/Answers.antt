@@ -34,6 +34,10 @@ returns-in_err-mesh-clause-fault c =
     (solid_fault_is c.args.meshes.now formula c.args.wanted c.args.digits is.surfaces c.in_ok-placed.field-0.placed.grid
     is.are_placed cause of_images)
 
+pub lying_if-requires : goal.lying_if-requires
+lying_if-requires c =
+    let is = c.in_ok-mesh.ensures.solid.mesh in planes_are_valid is.bytes c.in_ok-mesh.field-0.mesh is.of_document
+
 pub arrays_of-requires-clause-step : goal.arrays_of-requires-clause-step
 arrays_of-requires-clause-step c = c.in_ok-placed.ensures.placed.is.are_placed.on_grid.step
 
@@ -76,5 +80,6 @@ returns-clause-solid c =
     (subst (λ (origins : List ℕ). AreSourcesIf inputs c.items-tris.result.now mesh origins sources) c.deref.ensures.value c.in_ok-sources.ensures) in
     arrays_are_solid c.args.meshes.now (formula_of c.args.expr.now) c.args.wanted c.args.digits c.in_ok-placed.field-0.placed
     c.in_ok-placed.ensures.placed.is c.in_ok-mesh.field-0 c.in_ok-mesh.ensures.solid c.in_ok-arrays.arrays
-    c.in_ok-arrays.ensures.arrays c.in_ok-sixfold_volumes.sixfold_volumes c.in_ok-sixfold_volumes.ensures c.args.wants_sources inputs
+    c.in_ok-arrays.ensures.arrays c.in_ok-sixfold_volumes.sixfold_volumes c.in_ok-sixfold_volumes.ensures c.in_ok-lying.lying c.in_ok-lying.ensures
+    c.args.wants_sources inputs
     c.in_ok-placed.ensures.placed.inputs sources of_inputs

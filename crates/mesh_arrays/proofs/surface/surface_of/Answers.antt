@@ -1,8 +1,8 @@
-use Rattle.std.proofs.Common.{length, map, sym, subst, arith}
+use Rattle.std.proofs.Common.{length, map, sym, subst, ◌∙◌, arith}
 use Rattle.mesh_read.specs.Surface.Surfaces.{point_of}
 use Rattle.mesh_arrays.specs.Faults.{IsMeshFault}
 use Rattle.mesh_arrays.proofs.InOrder.{all_corners_within, found_are_as_many, points_are_finite}
-use Rattle.mesh_arrays.proofs.Refused.{flaw_is, no_flaw_is_within, triangle_fault_is}
+use Rattle.mesh_arrays.proofs.Refused.{flaw_is, has_some, no_flaw_is_within, triangle_fault_is}
 use Rattle.mesh_arrays.proofs.surface.surface_of.Goals as goal
 
 pub returns-in-Err-facets_of-clause-fault : goal.returns-in-Err-facets_of-clause-fault
@@ -24,5 +24,6 @@ returns-in-Err-as_mesh-clause-fault c =
     subst (IsMeshFault mesh) (sym c.from.ensures)
     (flaw_is mesh (record { points = map point_of found; facets = c.in-Ok-facets_of.facets.items }) c.in-Err-as_mesh.flaw
     (record { points = c.in-Ok.ensures.points; facets = c.in-Ok-facets_of.ensures.facets })
+    (has_some (length c.in-Ok-facets_of.facets.items) (sym c.is_empty.ensures ∙ c.if-is_empty.false))
     (all_corners_within mesh.triangles.now c.len.result (length mesh.vertices.now) 1 c.in-Ok-facets_of.facets.items
     (omega (arith, as_many)) c.in-Ok-facets_of.ensures.facets c.in-Ok-facets_of.ensures.within) c.in-Err-as_mesh.ensures.flaw)

@@ -1,6 +1,6 @@
 use Rattle.std.proofs.Common.{List, subst}
 use Rattle.std.proofs.lemmas.Result.{IfOk-weaker, IfErr-weaker}
-use Rattle.mesh_certificate.specs.declared.certificate.space_point.SpacePoint.{SpacePoint}
+use Rattle.mesh_point.specs.declared.space_point.SpacePoint.{SpacePoint}
 use Rattle.mesh_written.specs.Floats.{IsFloatFault}
 use Rattle.mesh_boolean.proofs.Outputs.{corners_are_there, mesh_is_rounded}
 use Rattle.mesh_boolean.proofs.rounding.rounded.Goals as goal

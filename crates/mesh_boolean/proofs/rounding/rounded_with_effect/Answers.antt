@@ -1,6 +1,6 @@
 use Rattle.std.proofs.Common.{◌≡◌, ◌∙◌, ℕ, List, length, map, true, ap, refl, subst, sym}
 use Rattle.std.specs.List.{list_all}
-use Rattle.mesh_certificate.specs.declared.certificate.space_point.SpacePoint.{SpacePoint}
+use Rattle.mesh_point.specs.declared.space_point.SpacePoint.{SpacePoint}
 use Rattle.mesh_write.specs.declared.stl.triangle.FloatPoint.{FloatPoint}
 use Rattle.mesh_written.specs.Floats.{AreFloatPoints}
 use Rattle.mesh_written.specs.Triangles.{has_corners, kept, triangle_at}

@@ -15,7 +15,7 @@ returns-clause-put c =
       made = pages.made ++ file;
       are = record {
         pages = pages.made;
-        are_pages = subst (λ (title : List ℕ). AreFilesIf c.args.page.now (IsPageFile title mesh.shown) pages.made)
+        are_pages = subst (λ (title : List ℕ). AreFilesIf c.args.page.now (IsPageFile title c.args.names.now c.args.numbers.now mesh.shown) pages.made)
             c.title_at.ensures pages.are;
         all = refl;
       };

@@ -1,4 +1,4 @@
-use Rattle.std.proofs.Common.{◌≤◌, List, ℕ, length, sym, ap, subst, ◌∙◌}
+use Rattle.std.proofs.Common.{◌≤◌, List, [], ℕ, length, sym, ap, subst, ◌∙◌}
 use Rattle.std.proofs.lemmas.Result.{IfErr-weaker, IfOk-weaker}
 use Rattle.std.specs.declared.alloc.Global.{Global}
 use Rattle.std.specs.List.{All}
@@ -44,7 +44,7 @@ returns-in-Ok-clause-stop g c =
     let contents = subst (λ (contents : List (Vec ℕ Global)). AreContents told names contents) (sym c.deref.ensures.value) c.in-Ok.ensures.contents in
     IfErr-weaker c.placed_of_contents.result _ (IsSnapStop c.args.request.now shelf)
     (λ status h. placing_stop c.args.request.now shelf wanted c.in-Some.ensures.wanted status
-    (subst (λ (names : List (List ℕ)). IsPlacingCause told names wanted status) c.items-names.ensures
+    (subst (λ (names : List (List ℕ)). IsPlacingCause told names [] wanted status) c.items-names.ensures
     (h told contents)))
     c.placed_of_contents.ensures.cause
 

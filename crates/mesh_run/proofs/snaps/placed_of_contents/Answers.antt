@@ -1,4 +1,4 @@
-use Rattle.std.proofs.Common.{List, length, sym, ap, subst, ◌∙◌, arith}
+use Rattle.std.proofs.Common.{List, [], length, sym, ap, subst, ◌∙◌, arith}
 use Rattle.std.specs.List.{All}
 use Rattle.mesh_boolean.specs.declared.files.InputFile.{InputFile}
 use Rattle.mesh_boolean.specs.Faults.{IsPlacingFault}
@@ -32,9 +32,9 @@ status_of-requires-clause-small g c =
 pub status_of-requires-clause-there : goal.status_of-requires-clause-there
 status_of-requires-clause-there g c =
     let wanted = c.args.wanted in
-    let fault = subst (λ (files : List InputFile). IsPlacingFault files wanted c.in-Err.fault) c.deref.ensures.value c.in-Err.ensures.fault in
+    let fault = subst (λ (files : List InputFile). IsPlacingFault files [] wanted c.in-Err.fault) c.deref.ensures.value c.in-Err.ensures.fault in
     subst (λ (files : List InputFile). NamesFile files c.in-Err.fault) (sym c.deref-in-Err.ensures.value)
-    (unplaced_file_is_there c.in_ok-files.files.items wanted c.in-Err.fault fault)
+    (unplaced_file_is_there c.in_ok-files.files.items [] wanted c.in-Err.fault fault)
 
 pub returns-in-Ok-clause-placed : goal.returns-in-Ok-clause-placed
 returns-in-Ok-clause-placed g c = λ told h.
@@ -43,7 +43,7 @@ returns-in-Ok-clause-placed g c = λ told h.
     record {
       files = files;
       are_files = files_are_told told _ _ files (made.names ∙ all_names _ c.args.contents.now c.requires.one_each) made.bytes h;
-      is_placed = subst (λ (files : List InputFile). IsPlaced files c.args.wanted c.in-Ok.placed) c.deref.ensures.value c.in-Ok.ensures.placed;
+      is_placed = subst (λ (files : List InputFile). IsPlaced files [] c.args.wanted c.in-Ok.placed) c.deref.ensures.value c.in-Ok.ensures.placed;
     }
 
 pub returns-clause-cause : goal.returns-clause-cause
@@ -51,8 +51,8 @@ returns-clause-cause g c = λ told h.
     let made = c.in_ok-files.ensures in
     let files = c.in_ok-files.files.items in
     let wanted = c.args.wanted in
-    let fault = subst (λ (files : List InputFile). IsPlacingFault files wanted c.in-Err.fault) c.deref.ensures.value c.in-Err.ensures.fault in
+    let fault = subst (λ (files : List InputFile). IsPlacingFault files [] wanted c.in-Err.fault) c.deref.ensures.value c.in-Err.ensures.fault in
     let status = subst (λ (files : List InputFile). IsStatusOf files c.in-Err.fault c.status_of.result) c.deref-in-Err.ensures.value c.status_of.ensures in
     placing_caused told c.args.names.now files (files_are_told told _ _ files
-    (made.names ∙ all_names _ c.args.contents.now c.requires.one_each) made.bytes h) wanted c.in-Err.fault
+    (made.names ∙ all_names _ c.args.contents.now c.requires.one_each) made.bytes h) [] wanted c.in-Err.fault
     c.status_of.result fault status

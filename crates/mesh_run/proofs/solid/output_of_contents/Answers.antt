@@ -5,6 +5,7 @@ use Rattle.mesh_boolean.specs.Faults.{IsBooleanFault}
 use Rattle.mesh_boolean.specs.Files.{IsSmall}
 use Rattle.mesh_boolean.specs.Outputs.{IsOutput}
 use Rattle.ember_expr.specs.Formula.{formula_of}
+use Rattle.mesh_boolean.proofs.Images.{for_each_of}
 use Rattle.mesh_refusal.specs.Statuses.{IsStatusOf, NamesFile}
 use Rattle.mesh_run.proofs.FileStatuses.{faulty_file_is_there, status_caused}
 use Rattle.mesh_run.proofs.ToldFiles.{all_names, files_are_of_contents, files_are_small, files_are_told}
@@ -19,6 +20,12 @@ solid_file-requires-clause-few g c =
 pub solid_file-requires-clause-sizes : goal.solid_file-requires-clause-sizes
 solid_file-requires-clause-sizes g c =
     subst (All IsSmall) (sym c.deref.ensures.value) (files_are_small c.in_ok-files.files.items c.args.contents.now c.in_ok-files.ensures.bytes c.requires.small)
+
+pub solid_file-requires-clause-placings : goal.solid_file-requires-clause-placings
+solid_file-requires-clause-placings g c =
+    let many = files_are_of_contents c.in_ok-files.files.items c.args.contents.now c.in_ok-files.ensures.bytes in
+    let same = ap length c.deref.ensures.value in
+    for_each_of c.args.asked.now.wanted.placings.now c.args.names.now _ c.requires.placings (omega (arith, many, same, c.requires.one_each))
 
 pub status_of-requires-clause-few : goal.status_of-requires-clause-few
 status_of-requires-clause-few g c =

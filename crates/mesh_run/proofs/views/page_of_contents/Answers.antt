@@ -14,7 +14,7 @@ returns-in_ok-page-in-Ok-clause-page c = λ told h.
     record {
       surfaces = c.in-Ok.surfaces.items;
       read = subst (λ (ns : List (List ℕ)). AreReadAs told ns c.in-Ok.surfaces.items) all (c.in-Ok.ensures.read told given);
-      shows = subst (λ (surfaces : List Surface). IsView (title_of names) surfaces c.in_ok-page-in-Ok.page.items)
+      shows = subst (λ (surfaces : List Surface). IsView (title_of names) names surfaces c.in_ok-page-in-Ok.page.items)
           c.deref.ensures.value c.in_ok-page-in-Ok.ensures;
     }
 

@@ -11,7 +11,7 @@ plus-from_zero-requires c =
     let e : value_of c.product.result ≡ c.args.coordinate *ℤ pos 1 = c.product.ensures ∙ rw (to_z-of_z c.ranges.coordinate) refl in
     let f : value_of c.product-2.result ≡ c.args.offset *ℤ c.args.weight =
     c.product-2.ensures ∙ rw (to_z-of_z c.ranges.offset, to_z-of_z c.ranges.weight) refl in
-    let a = size_of_product c.product.result c.args.coordinate (pos 1) 77371252455336267181195263 1 e c.requires.coordinate.small (omega arith) in
+    let a = size_of_product c.product.result c.args.coordinate (pos 1) 162259276829213363391578010288128 1 e c.requires.coordinate.small (omega arith) in
     let b = size_of_product c.product-2.result c.args.offset c.args.weight 170141183460469231731687303715884105728
     37778931862957161709567 f (omega (arith, ints, c.ranges.offset)) c.requires.weight.small in
     omega (arith, a, b)
@@ -21,10 +21,10 @@ times-requires c =
     let e : value_of c.product.result ≡ c.args.coordinate *ℤ pos 1 = c.product.ensures ∙ rw (to_z-of_z c.ranges.coordinate) refl in
     let f : value_of c.product-2.result ≡ c.args.offset *ℤ c.args.weight =
     c.product-2.ensures ∙ rw (to_z-of_z c.ranges.offset, to_z-of_z c.ranges.weight) refl in
-    let a = size_of_product c.product.result c.args.coordinate (pos 1) 77371252455336267181195263 1 e c.requires.coordinate.small (omega arith) in
+    let a = size_of_product c.product.result c.args.coordinate (pos 1) 162259276829213363391578010288128 1 e c.requires.coordinate.small (omega arith) in
     let b = size_of_product c.product-2.result c.args.offset c.args.weight 170141183460469231731687303715884105728
     37778931862957161709567 f (omega (arith, ints, c.ranges.offset)) c.requires.weight.small in
-    let s : size_of c.plus-from_zero.result.size ≤ 77371252455336267181195263
+    let s : size_of c.plus-from_zero.result.size ≤ 162259276829213363391578010288128
     + 170141183460469231731687303715884105728 * 37778931862957161709567 =
     omega (
       arith,

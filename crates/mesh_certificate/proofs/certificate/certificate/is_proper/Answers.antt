@@ -1,6 +1,6 @@
 use Rattle.std.proofs.Common.{◌≡◌, Option, sym, subst, ◌∙◌}
 use Rattle.ember_model.specs.declared.plane.Plane.{Plane}
-use Rattle.mesh_certificate.specs.declared.certificate.space_point.SpacePoint.{SpacePoint}
+use Rattle.mesh_point.specs.declared.space_point.SpacePoint.{SpacePoint}
 use Rattle.mesh_certificate.specs.Certificate.Certificate.{FacesFrontOf}
 use Rattle.mesh_certificate.proofs.certificate.certificate.is_proper.Goals as goal
 

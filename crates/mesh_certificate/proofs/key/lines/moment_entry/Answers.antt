@@ -1,5 +1,6 @@
 use mir.Syntax.{w128}
 use Rattle.ember_algebra.proofs.Exact.{Code, stored, wide, ◌⊠◌, ◌⊟◌, ◌&◌, done, exact, bounded, no_overflow}
+use Rattle.mesh_certificate.specs.Key.LineKeys.{most_moment}
 use Rattle.mesh_certificate.proofs.key.lines.moment_entry.Goals as goal
 
 -- e * n - d * m
@@ -12,4 +13,4 @@ overflow_sub-result c = no_overflow (c.requires.n & c.requires.d & c.requires.m 
 pub returns : goal.returns
 returns c =
     let i = c.requires.n & c.requires.d & c.requires.m & c.requires.e & done in
-    record { value = exact i (stored w128 code) tt; small = bounded i 36893487047840366594 (stored w128 code) tt }
+    record { value = exact i (stored w128 code) tt; small = bounded i most_moment (stored w128 code) tt }

@@ -5,7 +5,7 @@ use Rattle.ember_algebra.proofs.Size.{small_of_fits}
 use Rattle.mesh_certificate.proofs.OnLine.{equal_values}
 use Rattle.mesh_certificate.proofs.key.on_line.is_short_moment.Goals as goal
 
--- a * b - c * d, and w * m
+-- a * b - c * d, and lack * w
 abbrev left : Code
 left = stored w128 (kept 0 ⊠ kept 1) ⊟ stored w128 (kept 2 ⊠ kept 3)
 
@@ -20,13 +20,13 @@ overflow_sub-result c =
 pub returns : goal.returns
 returns c =
     let i = c.requires.a & small_of_fits w64 c.ranges.b & c.requires.c & small_of_fits w64 c.ranges.d & small_of_fits
-    w64 c.ranges.w & small_of_fits w64 c.ranges.m & done in
+    w64 c.ranges.lack & small_of_fits w64 c.ranges.w & done in
     rw (
       to_z-of_z c.ranges.a,
       to_z-of_z c.ranges.b,
       to_z-of_z c.ranges.c,
       to_z-of_z c.ranges.d,
+      to_z-of_z c.ranges.lack,
       to_z-of_z c.ranges.w,
-      to_z-of_z c.ranges.m,
     ) (equal_values w128 (no_overflow i w128 left tt) (no_overflow i w128 right tt)
     (exact i left tt) (exact i right tt))

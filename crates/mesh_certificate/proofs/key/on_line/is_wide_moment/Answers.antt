@@ -1,47 +1,45 @@
-use Rattle.std.proofs.Common.{pos, ◌-ℤ◌, ◌∙◌, arith, refl, to_z-of_z}
+use Rattle.std.proofs.Common.{pos, ◌-ℤ◌, ◌∙◌, arith, refl, to_z-of_z, lit<}
 use Rattle.std.proofs.lemmas.Bool.{false≢true}
-use mir.Syntax.{w64, w128}
-use Rattle.ember_algebra.proofs.Exact.{stored, kept, number, ◌⊠◌, ◌⊟◌, ◌&◌, done, exact}
+use mir.Syntax.{w128}
+use Rattle.ember_algebra.proofs.Exact.{stored, kept, number, ◌⊟◌, ◌&◌, done, exact}
 use Rattle.ember_algebra.proofs.Size.{small_of_fits}
+use Rattle.ember_width.proofs.Sums.{product_fits}
 use Rattle.mesh_certificate.proofs.OnLine.{product_within, negative_small, difference_of, equal_order, less_order, greater_order}
 use Rattle.mesh_certificate.proofs.key.on_line.is_wide_moment.Goals as goal
 
 pub plus-difference-requires : goal.plus-difference-requires
 plus-difference-requires c =
-    let sb = small_of_fits w64 c.ranges.b in let sd = small_of_fits w64 c.ranges.d in
-    let p = rw (to_z-of_z c.ranges.b) at c.product.ensures in let q = rw (to_z-of_z c.ranges.d) at c.product-2.ensures in
-    let e = p ∙ exact (c.requires.a & sb & done) (kept 0 ⊠ kept 1) tt in
-    let f = q ∙ exact (c.requires.c & sd & done) (kept 0 ⊠ stored w128 (number (pos 0) ⊟ kept 1)) tt in
+    let sb = small_of_fits w128 c.ranges.b in let sd = small_of_fits w128 c.ranges.d in
+    let e = c.product.ensures ∙ rw (to_z-of_z c.ranges.a, to_z-of_z c.ranges.b) refl in
+    let f = c.product-2.ensures ∙ rw (exact (c.requires.c & done) (stored w128 (number (pos 0) ⊟ kept 0)) tt, to_z-of_z c.ranges.d) refl in
     let s = product_within c.product.result c.args.a c.args.b _ _ e c.requires.a sb (omega arith) in
-    let t = product_within c.product-2.result c.args.c (pos 0 -ℤ c.args.d) _ _ f c.requires.c (negative_small sd) (omega arith) in
+    let t = product_within c.product-2.result (pos 0 -ℤ c.args.c) c.args.d _ _ f (negative_small c.requires.c) sd (omega arith) in
     omega (arith, s, t)
+
+pub times-requires : goal.times-requires
+times-requires c =
+    rw (to_z-of_z c.ranges.w) (product_fits c.args.lack.now c.requires.lack c.requires.w (lit< tt))
 
 pub returns-in-Less : goal.returns-in-Less
 returns-in-Less c =
-    let sb = small_of_fits w64 c.ranges.b in let sd = small_of_fits w64 c.ranges.d in
-    let p = rw (to_z-of_z c.ranges.b) at c.product.ensures in let q = rw (to_z-of_z c.ranges.d) at c.product-2.ensures in
-    let e = p ∙ exact (c.requires.a & sb & done) (kept 0 ⊠ kept 1) tt in
-    let f = q ∙ exact (c.requires.c & sd & done) (kept 0 ⊠ stored w128 (number (pos 0) ⊟ kept 1)) tt in
+    let e = c.product.ensures ∙ rw (to_z-of_z c.ranges.a, to_z-of_z c.ranges.b) refl in
+    let f = c.product-2.ensures ∙ rw (exact (c.requires.c & done) (stored w128 (number (pos 0) ⊟ kept 0)) tt, to_z-of_z c.ranges.d) refl in
     let v = difference_of c.product.result c.product-2.result c.plus-difference.result c.args.a c.args.b c.args.c c.args.d e f c.plus-difference.ensures in
-    let g = rw (to_z-of_z c.ranges.w, to_z-of_z c.ranges.m) at c.product-3.ensures in
+    let g = rw (to_z-of_z c.ranges.w) at c.times.ensures in
     (λ t. absurd (false≢true t), λ h. absurd (less_order c.in-Less.ensures v g h))
 
 pub returns-in-Equal : goal.returns-in-Equal
 returns-in-Equal c =
-    let sb = small_of_fits w64 c.ranges.b in let sd = small_of_fits w64 c.ranges.d in
-    let p = rw (to_z-of_z c.ranges.b) at c.product.ensures in let q = rw (to_z-of_z c.ranges.d) at c.product-2.ensures in
-    let e = p ∙ exact (c.requires.a & sb & done) (kept 0 ⊠ kept 1) tt in
-    let f = q ∙ exact (c.requires.c & sd & done) (kept 0 ⊠ stored w128 (number (pos 0) ⊟ kept 1)) tt in
+    let e = c.product.ensures ∙ rw (to_z-of_z c.ranges.a, to_z-of_z c.ranges.b) refl in
+    let f = c.product-2.ensures ∙ rw (exact (c.requires.c & done) (stored w128 (number (pos 0) ⊟ kept 0)) tt, to_z-of_z c.ranges.d) refl in
     let v = difference_of c.product.result c.product-2.result c.plus-difference.result c.args.a c.args.b c.args.c c.args.d e f c.plus-difference.ensures in
-    let g = rw (to_z-of_z c.ranges.w, to_z-of_z c.ranges.m) at c.product-3.ensures in
+    let g = rw (to_z-of_z c.ranges.w) at c.times.ensures in
     (λ t. equal_order c.in-Equal.ensures v g, λ h. refl)
 
 pub returns-in-Greater : goal.returns-in-Greater
 returns-in-Greater c =
-    let sb = small_of_fits w64 c.ranges.b in let sd = small_of_fits w64 c.ranges.d in
-    let p = rw (to_z-of_z c.ranges.b) at c.product.ensures in let q = rw (to_z-of_z c.ranges.d) at c.product-2.ensures in
-    let e = p ∙ exact (c.requires.a & sb & done) (kept 0 ⊠ kept 1) tt in
-    let f = q ∙ exact (c.requires.c & sd & done) (kept 0 ⊠ stored w128 (number (pos 0) ⊟ kept 1)) tt in
+    let e = c.product.ensures ∙ rw (to_z-of_z c.ranges.a, to_z-of_z c.ranges.b) refl in
+    let f = c.product-2.ensures ∙ rw (exact (c.requires.c & done) (stored w128 (number (pos 0) ⊟ kept 0)) tt, to_z-of_z c.ranges.d) refl in
     let v = difference_of c.product.result c.product-2.result c.plus-difference.result c.args.a c.args.b c.args.c c.args.d e f c.plus-difference.ensures in
-    let g = rw (to_z-of_z c.ranges.w, to_z-of_z c.ranges.m) at c.product-3.ensures in
+    let g = rw (to_z-of_z c.ranges.w) at c.times.ensures in
     (λ t. absurd (false≢true t), λ h. absurd (greater_order c.in-Greater.ensures v g h))

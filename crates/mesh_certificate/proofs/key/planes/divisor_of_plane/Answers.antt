@@ -1,21 +1,21 @@
-use Rattle.std.proofs.Common.{arith, ap, sym, subst, ℕ, pos, unsigned_abs}
+use Rattle.std.proofs.Common.{arith, lit≤, ap, sym, subst, ℕ, pos, unsigned_abs}
 use Rattle.std.proofs.lemmas.Int.{ints}
 use mir.Syntax.{w64}
 use Rattle.ember_algebra.specs.Size.{Small}
 use Rattle.ember_algebra.proofs.Exact.{narrow, ◌&◌, done, exact}
 use Rattle.ember_algebra.proofs.Size.{fits_small, small_within}
 use Rattle.ember_model.specs.declared.plane.Plane.{Plane}
-use Rattle.ember_model.specs.Valid.{IsValidPlane}
+use Rattle.ember_width.specs.Broad.{IsBroadPlane, most_constant}
 use Rattle.mesh_certificate.specs.Key.Divisors.{IsGreatestDivisor}
 use Rattle.mesh_certificate.specs.Key.PlaneKeys.{coefficients}
 use Rattle.mesh_certificate.proofs.Divisors.{greatest_divisor_small}
 use Rattle.mesh_certificate.proofs.key.planes.divisor_of_plane.Goals as goal
 
-small : (p : Plane) (g : ℕ) → IsValidPlane p → IsGreatestDivisor (coefficients p) g → Small 549755813887 (pos g)
+small : (p : Plane) (g : ℕ) → IsBroadPlane p → IsGreatestDivisor (coefficients p) g → Small most_constant (pos g)
 small p g v i =
-    greatest_divisor_small 549755813887 g (coefficients p) i (
-      small_within (omega arith) v.a,
-      (small_within (omega arith) v.b, (small_within (omega arith) v.c, (v.d, tt))),
+    greatest_divisor_small most_constant g (coefficients p) i (
+      small_within (lit≤ tt) v.a,
+      (small_within (lit≤ tt) v.b, (small_within (lit≤ tt) v.c, (v.d, tt))),
     )
 
 pub overflow_cast-result : goal.overflow_cast-result

@@ -4,7 +4,7 @@ use mir.Syntax.{w64}
 use Rattle.mesh_certificate.specs.Key.Divisors.{Divides}
 use Rattle.mesh_certificate.specs.Key.PlaneKeys.{coefficients}
 use Rattle.ember_model.specs.Planes.{times_plane}
-use Rattle.mesh_certificate.proofs.PlaneLaws.{own_key, divided_key, divided_valid, same_oriented_sides}
+use Rattle.mesh_certificate.proofs.PlaneLaws.{own_key, divided_key, divided_broad, divided_valid, same_oriented_sides}
 use Rattle.mesh_certificate.proofs.key.planes.plane_key.Goals as goal
 
 pub returns-then-divisor-le1-clause-key : goal.returns-then-divisor-le1-clause-key
@@ -19,7 +19,7 @@ divided-requires c =
     let k : to_z w64 (of_z w64 d.result) ≡ d.result = to_z-of_z {w = w64} (record { sfits = d.type_inv }) in
     let l : pos 0 <ℤ d.result = omega (arith, ints, k, c.if-divisor-le1.false) in
     record {
-      valid = c.requires;
+      plane = c.requires;
       nonzero = λ z. omega (arith, ints, k, l, z);
       divides =
           subst (λ (d : ℤ). Divides (unsigned_abs d) (coefficients c.args.plane.now)) (sym k) d.ensures.divisor.divides;
@@ -32,4 +32,4 @@ returns c =
     let l : pos 0 <ℤ d.result = omega (arith, ints, k, c.if-divisor-le1.false) in
     let e = subst (λ (d : ℤ). times_plane d c.divided.result ≡ p) k c.divided.ensures in
     let key = divided_key p c.divided.result d.result l e d.ensures.divisor in
-    record { key = key; valid = divided_valid p c.divided.result d.result l e c.requires; sides = λ v. sym (same_oriented_sides key.same v) }
+    record { key = key; broad = divided_broad p c.divided.result d.result l e c.requires; valid = divided_valid p c.divided.result d.result l e; sides = λ v. sym (same_oriented_sides key.same v) }

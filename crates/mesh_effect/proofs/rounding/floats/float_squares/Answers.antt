@@ -1,6 +1,6 @@
 use Rattle.std.proofs.Common.{◌≤◌, ◌<◌, length, get_or, refl, sym, subst, arith}
 use Rattle.mesh_write.specs.declared.stl.triangle.FloatPoint.{FloatPoint}
-use Rattle.mesh_certificate.specs.declared.certificate.space_point.SpacePoint.{SpacePoint}
+use Rattle.mesh_point.specs.declared.space_point.SpacePoint.{SpacePoint}
 use Rattle.mesh_written.specs.Floats.{IsFloatPoint}
 use Rattle.mesh_effect.specs.Rounding.Ticks.{power_tick}
 use Rattle.mesh_effect.specs.Rounding.Floats.{point_place, top_place}

@@ -3,7 +3,7 @@ use Rattle.std.specs.List.{All, AllZip}
 use Rattle.ember_model.specs.declared.plane.Plane.{Plane}
 use Rattle.ember_model.specs.Valid.{IsValidPlane}
 use Rattle.mesh_certificate.specs.declared.key.lines.LineKey.{LineKey}
-use Rattle.mesh_certificate.specs.declared.certificate.space_point.SpacePoint.{SpacePoint}
+use Rattle.mesh_point.specs.declared.space_point.SpacePoint.{SpacePoint}
 use Rattle.mesh_certificate.specs.Certificate.Facing.{spot_of}
 use Rattle.mesh_solid.specs.Tables.Edges.{face_edges_of}
 use Rattle.mesh_solid.specs.Tables.Numberings.{AreDistinct, plane_of, same_entry, same_line, same_corner}

@@ -11,4 +11,4 @@ sources_of-requires-clause-scene c =
 pub sources_of-requires-clause-planes : goal.sources_of-requires-clause-planes
 sources_of-requires-clause-planes c =
     All-from_recursion IsValidPlane (c.plane.result ∷ c.plane-2.result ∷ c.plane-3.result ∷ c.plane-4.result ∷ [])
-    (c.plane.ensures, (c.plane-2.ensures, (c.plane-3.ensures, (c.plane-4.ensures, tt))))
+    (c.plane.ensures.valid, (c.plane-2.ensures.valid, (c.plane-3.ensures.valid, (c.plane-4.ensures.valid, tt))))

@@ -5,6 +5,7 @@ use Rattle.ember_model.specs.declared.plane.Plane.{Plane}
 use Rattle.ember_model.specs.Valid.{IsValidPlane}
 use Rattle.mesh_certificate.specs.Key.PlaneKeys.{IsPlaneKey}
 use Rattle.mesh_certificate.specs.Certificate.Facing.{spot_of}
+use Rattle.ember_width.specs.Laws.{narrow_is_broad}
 use Rattle.mesh_solid.specs.declared.tables.face_edge.FaceEdge.{FaceEdge}
 use Rattle.mesh_solid.specs.declared.tables.draft.TableBuilder.{TableBuilder}
 use Rattle.mesh_solid.specs.Tables.Edges.{first_or, edges_behind}
@@ -32,6 +33,9 @@ returns-in_err-point-clause-fault c =
     (first_fault all more c.args.face c.args.support.now c.args.self.now c.args.edges.now e es c.last_or-before.result
     _ c.in-Some.ensures.cases.0 c.last_or-before.ensures (c.in_err-point.ensures.fault (first_or e es)) h)
 
+pub plane_key-requires : goal.plane_key-requires
+plane_key-requires c = narrow_is_broad _ c.requires.support
+
 pub loop-plane-init : goal.loop-plane-init
 loop-plane-init c =
     let e = c.in-Some.first.now in let es = c.in-Some.others.now in let n = c.args.support.now in
@@ -42,7 +46,7 @@ loop-plane-init c =
     let entry = c.entry_of.result in let point = c.in_ok-point.point in
     let same : plane_of entry ≡ c.plane_key.result = ap plane_of c.entry_of.ensures in
     let put = mapped_put plane_of entry old.planes.keys begun.planes.keys p.entries in
-    let key = subst IsValidPlane (sym same) c.plane_key.ensures.valid in
+    let key = subst IsValidPlane (sym same) (c.plane_key.ensures.valid c.requires.support) in
     let own = subst (IsPlaneKey n) (sym same) c.plane_key.ensures.key in
     let here = subst (λ (ys : List Plane). IsCorner n before (first_or e ys) (spot_of point)) (sym is) c.in_ok-point.ensures.ok in
     record {

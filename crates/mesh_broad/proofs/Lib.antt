@@ -1,0 +1,3 @@
+pub mod LongDivision
+pub mod LowestRemainders
+pub mod Signed

@@ -1,0 +1,3 @@
+pub mod Ranges
+pub mod Remainders
+pub mod Numerators

@@ -1,0 +1,12 @@
+pub mod Naturals
+pub mod Orders
+pub mod Sums
+pub mod Readings
+pub mod AffineLaws
+pub mod Images
+pub mod Series
+pub mod ClosedShapes
+pub mod Stepwise
+pub mod Quotients
+pub mod Boxes
+pub mod Cylinders

@@ -1,0 +1,10 @@
+pub mod Naturals
+pub mod Integers
+pub mod Decimals
+pub mod Points
+pub mod AffineMaps
+pub mod Ratios
+pub mod Directions
+pub mod Steps
+pub mod Images
+pub mod Shapes

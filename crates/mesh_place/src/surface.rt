@@ -1,0 +1,4 @@
+// Surfaces under affine maps.
+
+pub(crate) mod image;
+pub(crate) mod transformed;

@@ -1,0 +1,71 @@
+// Boxes and cylinders: their corners, and which way their triangles turn.
+use mesh_number::{integer, read_decimal};
+use mesh_place::{TransformedSurface, ShapeFault, StepsFault, box_between, cylinder};
+use mesh_read::Vertex;
+use std::test::Fail;
+
+fn vertex_of(texts: [&[u8]; 3]) -> Vertex<'_> {
+    let zero = integer(0);
+    let [x, y, z] = texts;
+    Vertex {
+        x: read_decimal(x).unwrap_or(zero),
+        y: read_decimal(y).unwrap_or(zero),
+        z: read_decimal(z).unwrap_or(zero),
+    }
+}
+
+fn digits_of_last(surface: &TransformedSurface) -> Option<[&[u8]; 3]> {
+    let point = surface.points.last()?;
+    Some([
+        point.x.digits.as_slice(),
+        point.y.digits.as_slice(),
+        point.z.digits.as_slice(),
+    ])
+}
+
+#[test]
+fn boxes_have_their_corners(rt: HostRuntime) -> Result<(), Fail> {
+    let low = vertex_of([b"0", b"0", b"0"]);
+    let high = vertex_of([b"1", b"2.5", b"-3"]);
+    let first = box_between(rt.alloc(), &low, &high)?;
+    assert!(rt; first.points.len() == 8);
+    assert!(rt; first.facets.len() == 12);
+    assert!(rt;
+        digits_of_last(&first) == Some([b"10".as_slice(), b"25".as_slice(), b"30".as_slice()])
+    );
+    assert!(rt; first.facets.first().map(|f| f.corners) == Some([0, 3, 2]));
+    let upright = box_between(rt.alloc(), &low, &vertex_of([b"1", b"1", b"1"]))?;
+    assert!(rt; upright.facets.first().map(|f| f.corners) == Some([0, 2, 3]));
+    let flat = vertex_of([b"1", b"0e5", b"1"]);
+    match box_between(rt.alloc(), &low, &flat) {
+        Ok(_) => assert!(rt; false),
+        Err(fault) => assert!(rt; fault == ShapeFault::Flat),
+    }
+    Ok(())
+}
+
+#[test]
+fn cylinders_have_their_corners(rt: HostRuntime) -> Result<(), Fail> {
+    let centre = vertex_of([b"0", b"0", b"1"]);
+    let (radius, height) = (integer(2), integer(3));
+    let square = cylinder(rt.alloc(), &centre, &radius, &height, 4)?;
+    assert!(rt; square.points.len() == 8);
+    assert!(rt; square.facets.len() == 12);
+    let want = [
+        b"".as_slice(),
+        b"200000000000000000000".as_slice(),
+        b"400000000000000000000".as_slice(),
+    ];
+    assert!(rt; digits_of_last(&square) == Some(want));
+    for sides in [0, 2, 4097] {
+        match cylinder(rt.alloc(), &centre, &radius, &height, sides) {
+            Ok(_) => assert!(rt; false),
+            Err(fault) => assert!(rt; fault == ShapeFault::Sides),
+        }
+    }
+    match cylinder(rt.alloc(), &centre, &integer(0), &height, 4) {
+        Ok(_) => assert!(rt; false),
+        Err(fault) => assert!(rt; fault == ShapeFault::NoMap(StepsFault::Flat(0))),
+    }
+    Ok(())
+}

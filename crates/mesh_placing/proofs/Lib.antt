@@ -1,0 +1,4 @@
+pub mod CoarsePowers
+pub mod TextParts
+pub mod LastPlaces
+pub mod FilePlacings

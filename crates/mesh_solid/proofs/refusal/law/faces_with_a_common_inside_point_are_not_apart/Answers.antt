@@ -1,0 +1,5 @@
+use Rattle.mesh_solid.proofs.Apart.{common_inside_is_not_apart}
+use Rattle.mesh_solid.proofs.refusal.law.faces_with_a_common_inside_point_are_not_apart.Goals as goal
+
+pub returns : goal.returns
+returns c = common_inside_is_not_apart

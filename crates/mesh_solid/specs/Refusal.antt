@@ -1,0 +1,3 @@
+pub mod ClosedLines
+pub mod Overlaps
+pub mod Searches

@@ -1,8 +1,0 @@
-// Writes triangles as a page of HTML that shows them.
-
-mod counts;
-mod drawing;
-mod head;
-mod writing;
-
-pub use writing::page_bytes;
