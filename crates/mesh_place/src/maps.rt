@@ -6,7 +6,7 @@ pub(crate) mod directions;
 pub(crate) mod laws;
 pub(crate) mod matrices;
 pub(crate) mod orientation;
-pub(crate) mod stepwise;
 pub(crate) mod series;
 pub(crate) mod step_maps;
 pub(crate) mod steps;
+pub(crate) mod stepwise;

@@ -1,5 +1,5 @@
 -- The placings of files, one after another
-use Rattle.std.proofs.Common.{◌≡◌, ◌==◌, Bool, true, false, cond, ℕ, zero, suc, ◌+◌, List, [], ◌∷◌, ◌++◌, Option, Some, None, Err, refl, sym, ap, ◌∙◌, arith, add-one}
+use Rattle.std.proofs.Common.{◌≡◌, ◌==◌, ◌⊎◌, inl, inr, Bool, true, false, cond, ℕ, zero, suc, ◌+◌, List, [], ◌∷◌, ◌++◌, Option, Some, None, Err, refl, sym, ap, ◌∙◌, arith, add-one}
 use Rattle.std.specs.List.{AllZip, range_with_len}
 use Rattle.std.specs.Option.{option_or}
 use Rattle.std.proofs.lemmas.Option.{none-some, same_Some}
@@ -7,6 +7,7 @@ use Rattle.ember_algebra.proofs.Lists.{AllZip-push}
 use Rattle.mesh_placing.specs.declared.files.PlaceFault.TheVariants.{Steps}
 use Rattle.mesh_placing.specs.declared.files.Placing.{Placing}
 use Rattle.mesh_placing.specs.declared.words.TextFault.{TextFault}
+use Rattle.mesh_placing.specs.declared.words.TextFault.TheVariants.{OutOfMemory}
 use Rattle.mesh_placing.specs.Words.{steps_said}
 use Rattle.mesh_placing.specs.Files.{IsPlacingOf, place_said, place_fault, fault_in, steps_fault, first_place_fault, place_of, steps_if}
 
@@ -49,12 +50,18 @@ pub steps_have_no_fault : (files number : ℕ) (places : List (List ℕ)) (text 
     first_place_fault files places ≡ None → place_of files number places ≡ Some text → steps_said text ≡ Err fault → ⊥
 steps_have_no_fault files number [] text fault none e f = none-some text e
 steps_have_no_fault files number (place ∷ places) text fault none e f =
-    by (place_of files number places) refl e
+    let parts = both_none (place_fault files place) (first_place_fault files places) none in
+    by (place_of files number places) (steps_are_said number (place_said files place) text fault parts.0)
+    (λ h. steps_have_no_fault files number places text fault parts.1 h f) e
   where
-    by : (later : Option (List ℕ)) → place_of files number places ≡ later →
-        option_or later (steps_if number (place_said files place)) ≡ Some text → ⊥
-    by None is e = steps_are_said number (place_said files place) text fault
-        (both_none (place_fault files place) (first_place_fault files places) none).0 e f
-    by (Some t) is e =
-        steps_have_no_fault files number places text fault
-        (both_none (place_fault files place) (first_place_fault files places) none).1 (is ∙ e) f
+    by : (later : Option (List ℕ)) → (steps_if number (place_said files place) ≡ Some text → steps_said text ≡ Err fault → ⊥) →
+        (later ≡ Some text → ⊥) → option_or later (steps_if number (place_said files place)) ≡ Some text → ⊥
+    by None here there e = here e f
+    by (Some t) here there e = there e
+
+-- the only fault that is left is want of memory
+pub memory_is_left : (files number : ℕ) (places : List (List ℕ)) (text : List ℕ) (fault : TextFault) →
+    first_place_fault files places ≡ None → place_of files number places ≡ Some text →
+    (fault ≡ OutOfMemory) ⊎ (steps_said text ≡ Err fault) → fault ≡ OutOfMemory
+memory_is_left files number places text fault none e (inl h) = h
+memory_is_left files number places text fault none e (inr h) = absurd (steps_have_no_fault files number places text fault none e h)

@@ -72,7 +72,7 @@ steps_wanted (Some text) = steps_said text
 pub record IsPlacing (text : Option (List ℕ)) (turned : Bool) (p : Placing) : Type 0 where
   pub asked : (is_some text || turned) ≡ true
   pub steps : steps_wanted text ≡ Ok (map said_by p.steps.items)
-  pub turned : p.is_turned ≡ turned
+  pub as_asked : p.is_turned ≡ turned
 
 -- neither steps nor a turn inside out are asked for
 pub record IsUnplaced (text : Option (List ℕ)) (turned : Bool) : Type 0 where
@@ -89,8 +89,8 @@ IsPlacingOf files places turns number placing =
 
 -- nothing is said of any file
 pub record AreUnplaced (places turns : List (List ℕ)) (placings : List (Option Placing)) : Type 0 where
-  pub places : places ≡ []
-  pub turns : turns ≡ []
+  pub no_places : places ≡ []
+  pub no_turns : turns ≡ []
   pub none : placings ≡ []
 
 -- a placing for each file, from the first to the last

@@ -1,5 +1,5 @@
 // The files that words place.
-ghost use Rattle.std.specs.Prelude.{◌≡◌, ◌≤◌, is_some, IfOk, None, option_map};
+ghost use Rattle.std.specs.Prelude.{◌≡◌, ◌≤◌, is_some, IfOk, IfErr, None, option_map};
 ghost use Rattle.std.specs.List.{list_all};
 ghost use Rattle.mesh_placing.specs.Files.{file_said, place_said, place_fault, first_place_fault, steps_if, place_of, is_turned};
 ghost use Rattle.mesh_placing.specs.Files.{IsPlacingOf, ArePlacingsOf};
@@ -144,17 +144,17 @@ fn placing_of<'a>(
     number: u32,
     places: &'a [Text],
     turns: &[Text],
-) -> Result<Option<Placing<'a>>, AllocError>
+) -> Result<Option<Placing<'a>>, TextFault>
     requires few { files ≤ 64 }
     requires said { first_place_fault files places.now ≡ None }
-    ensures { IfOk result (IsPlacingOf files places.now turns.now number) }
+    ensures placing { IfOk result (IsPlacingOf files places.now turns.now number) }
+    ensures memory { IfErr result (λ e. e ≡ TextFault.OutOfMemory) }
 {
     let is_turned = is_turned(files, number, turns);
     match place_of(files, number, places) {
         Some(text) => match read_steps(alloc, text) {
             Ok(steps) => Ok(Some(Placing { steps, is_turned })),
-            Err(TextFault::OutOfMemory) => Err(AllocError),
-            Err(_) => unreachable!(),
+            Err(fault) => Err(fault),
         },
         None => {
             if !is_turned {
@@ -170,16 +170,17 @@ fn placing_of<'a>(
 
 /// The placing of each of so many files, in order; none at all if there are no texts. A file has the
 /// steps of the last of `places` that begins with its number, and is turned inside out if one of
-/// `turns` is its number.
+/// `turns` is its number. The only error is out-of-memory.
 pub fn placings_of<'a>(
     alloc: Global,
     files: u32,
     places: &'a [Text],
     turns: &[Text],
-) -> Result<Vec<Option<Placing<'a>>>, AllocError>
+) -> Result<Vec<Option<Placing<'a>>>, TextFault>
     requires few { files ≤ 64 }
     requires said { first_place_fault files places.now ≡ None }
-    ensures { IfOk result (λ placings. ArePlacingsOf files places.now turns.now placings.items) }
+    ensures placings { IfOk result (λ placings. ArePlacingsOf files places.now turns.now placings.items) }
+    ensures memory { IfErr result (λ e. e ≡ TextFault.OutOfMemory) }
 {
     let mut placings = Vec::new(alloc);
     if places.is_empty() && turns.is_empty() {

@@ -168,7 +168,11 @@ fn box_map(alloc: Global, from: &Vertex, to: &Vertex) -> Result<AffineMap, Alloc
 
 /// The box between two opposite corners, with 8 vertices and 12 triangles, which are numbered from 1.
 /// Outside is outside, whichever corners these are.
-pub fn box_between(alloc: Global, from: &Vertex, to: &Vertex) -> Result<TransformedSurface, ShapeFault>
+pub fn box_between(
+    alloc: Global,
+    from: &Vertex,
+    to: &Vertex,
+) -> Result<TransformedSurface, ShapeFault>
     ensures ok { IfOk result (λ s. IsBox (point_of from.now) (point_of to.now) (transformed_content s)) }
     ensures fault { IfErr result (λ e. IsBoxFault from.now to.now e) }
 {

@@ -66,7 +66,10 @@ impl TransformedPoint {
 }
 
 // The vertices, which borrow the digits.
-fn vertices_of<'a>(alloc: Global, points: &'a [TransformedPoint]) -> Result<Vec<Vertex<'a>>, AllocError>
+fn vertices_of<'a>(
+    alloc: Global,
+    points: &'a [TransformedPoint],
+) -> Result<Vec<Vertex<'a>>, AllocError>
     ensures { IfOk result (λ vertices. map point_of vertices.items ≡ transformed_points points.now) }
 {
     let mut vertices = Vec::new(alloc);
