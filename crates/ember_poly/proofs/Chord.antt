@@ -12,7 +12,7 @@ use Rattle.ember_poly.proofs.RingBelow.{Outcome}
 use Rattle.ember_poly.specs.Chords.{combination}
 use Rattle.ember_poly.proofs.InsidePoints.{scaled_under, scaled_first}
 use Rattle.ember_poly.proofs.InsideBelow.{ring-closed}
-use Rattle.ember_poly.proofs.RingOutline.{head_or}
+use Rattle.ember_poly.proofs.RingBelow.{head_or}
 
 -- the kept sides' planes: f at y, the others at z
 pub front_y : (n : Plane) (f l p : Side) (ks : List Side) → IsConvexRing n (f ∷ (ks ++ l ∷ []) ++ p ∷ []) → IsBelow f.plane p.corner

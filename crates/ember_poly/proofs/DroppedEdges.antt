@@ -11,7 +11,7 @@ use Rattle.ember_poly.proofs.Planar.{Crossing, under_past, under_first}
 use Rattle.ember_poly.proofs.Chains.{each_map, each_both, each-back, each-push, chain_ends}
 use Rattle.ember_poly.proofs.InsideBelow.{ring-closed}
 use Rattle.ember_poly.proofs.OnePoint.{lone-join}
-use Rattle.ember_poly.proofs.RingOutline.{head_or}
+use Rattle.ember_poly.proofs.RingBelow.{head_or}
 
 -- each later plane at each earlier corner
 chain_across : (n g : Plane) (xs ys : List Side) → IsSideChain n g (xs ++ ys) → AllByRecursion (λ t. AllByRecursion (λ s. IsBelow t.plane s.corner) xs) ys

@@ -8,11 +8,10 @@ use Rattle.ember_poly.specs.Rings.{with_start, closing_side, Side, IsBelow, IsNo
 use Rattle.ember_poly.proofs.Planar.{most_at}
 use Rattle.ember_poly.proofs.Chains.{each_map, each_both, each-back, each-front}
 use Rattle.ember_poly.proofs.Rotations.{each-join}
-use Rattle.ember_poly.proofs.RingBelow.{Rooted, Outcome}
+use Rattle.ember_poly.proofs.RingBelow.{Rooted, Outcome, head_or}
 use Rattle.ember_poly.proofs.Hull.{ring-rooted, corners_at_most}
 use Rattle.ember_poly.proofs.InsideSigns.{corners_under}
 use Rattle.ember_poly.proofs.InsidePoints.{corner_closed}
-use Rattle.ember_poly.proofs.RingOutline.{head_or}
 
 -- a relation of all members of two lists holds in either order
 pub each_swap : {X Y : Type 0} (R : X → Y → Type 0) (xs : List X) (ys : List Y) →

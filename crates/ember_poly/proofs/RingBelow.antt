@@ -11,7 +11,6 @@ use Rattle.ember_poly.specs.Rings.{IsMeet, with_start, closing_side, Side, IsBel
 use Rattle.ember_poly.proofs.Planar.{Crossing, crossing_is_meet, under_past, under_first}
 use Rattle.ember_poly.proofs.Chains.{each_both, each-push, each-front, each-back, chain_ends, chain-front, ends_under, chain_is_closed}
 use Rattle.ember_poly.proofs.CutOrientation.{swap_last, turn_exit, turn_entry}
-use Rattle.ember_poly.proofs.RingOutline.{head_or}
 
 -- a corner of the ring
 pub record Rooted (n : Plane) (s : Side) : Type 0 where
@@ -84,6 +83,11 @@ pub record Outcome (n p : Plane) (new : List Side) (l b y k f z : Spot) : Type 0
   pub sound : IsConvexRing n new
   pub exit : Crossing p l b y
   pub entry : Crossing p k f z
+
+-- the first side of a list, or the one that is given
+abbrev pub head_or : Side → List Side → Side
+head_or c [] = c
+head_or c (s ∷ xs) = s
 
 -- ---- some sides are dropped: d is the first of them
 module _ (n p : Plane) (f l d : Side) (ds : List Side) (y z : Spot) (b : ℕ) (pf : pos 0 ≤ℤ value_at p f.corner)

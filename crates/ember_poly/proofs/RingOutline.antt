@@ -17,6 +17,7 @@ use Rattle.ember_poly.specs.Rings.{Side, IsBelow, IsNotAbove, IsConvexRing, IsIn
 use Rattle.ember_poly.specs.Sides.{OldestFirst, HasPlaneIndex, IsZeroAtOnePoint, EachHasSideOrNoEdge}
 use Rattle.ember_poly.proofs.Chains.{each-front, each-back, each_map}
 use Rattle.ember_poly.proofs.Rotations.{turned_by, each-turned}
+use Rattle.ember_poly.proofs.RingBelow.{head_or}
 use Rattle.ember_poly.proofs.Hull.{last_of}
 use Rattle.ember_poly.proofs.InsidePoints.{corner_closed}
 use Rattle.ember_poly.proofs.Face.{closed_from_face, face_from_closed}
@@ -50,11 +51,6 @@ member_is_here_or_else P (y ∷ us) c ws zero x h k e = inl (subst P (by e) h.0)
     by e = cc
 member_is_here_or_else P (y ∷ us) c ws (suc i) x h k e =
     ⊎_elim (λ p. inl p) (λ q. inr (q.0, ap (λ n. suc n) q.1)) (member_is_here_or_else P us c ws i x h.1 k e)
-
--- the first side of a list
-abbrev pub head_or : Side → List Side → Side
-head_or c [] = c
-head_or c (s ∷ xs) = s
 
 -- ---- the ring begun before a side
 pub record Begun (n : Plane) (us : List Side) (c : Side) (ws : List Side) : Type 1 where

@@ -5,7 +5,7 @@ use Rattle.std.specs.Int.{int_rem_euclid}
 use Rattle.std.specs.List.{starts_with}
 use Rattle.mesh_number.specs.Number.Fractions.{Fraction, is_below_limit, floor_of_multiple}
 use Rattle.mesh_number.specs.Number.Texts.{value_of_text}
-use Rattle.mesh_read.specs.Scan.Parts.{before, onward}
+use Rattle.ember_obj.specs.Scan.{before, onward}
 use Rattle.mesh_read.specs.Surface.Surfaces.{Point, point_of}
 use Rattle.mesh_place.specs.declared.maps.axes.Axis.{Axis}
 use Rattle.mesh_place.specs.declared.maps.axes.Axis.TheVariants.{X, Y, Z}

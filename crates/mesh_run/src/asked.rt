@@ -63,12 +63,10 @@ pub(crate) fn placings_asked(
     ensures { IfOk result (λ placings. AreAsked request.now placings.items) }
 {
     let files = request.files.items().len() as u32;
-    placings_of(
-        alloc,
-        files,
-        request.places.items(),
-        request.turns.items(),
-    )
+    match placings_of(alloc, files, request.places.items(), request.turns.items()) {
+        Ok(placings) => Ok(placings),
+        Err(_) => Err(AllocError),
+    }
 }
 
 // The file that a request asks for, with its placings, unless no grid has the step.

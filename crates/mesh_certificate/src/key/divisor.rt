@@ -5,26 +5,6 @@ ghost use Rattle.mesh_certificate.specs.Key.Divisors.{IsGreatestDivisor};
 
 use ember_algebra::gcd;
 
-/// The same for numbers of 128 bits. It divides in 128 bits only while both need more than 64.
-pub fn large_gcd(a: u128, b: u128) -> u128
-    ensures { IsGcd a b result }
-{
-    if a == 1 {
-        return 1;
-    }
-    let mut x = a;
-    let mut y = b;
-    while y > u64::MAX as u128 {
-        let rest = x % y;
-        x = y;
-        y = rest;
-    }
-    if y == 0 {
-        return x;
-    }
-    gcd(y as u64, (x % y) as u64) as u128
-}
-
 /// The greatest common divisor of three numbers; 0 if all three are 0.
 pub fn divisor_of_three(a: i64, b: i64, c: i64) -> u64
     ensures { IsGreatestDivisor (a ∷ b ∷ c ∷ []) result }

@@ -11,7 +11,8 @@ ghost use Rattle.mesh_certificate.specs.Key.LineKeys.{direction, moment, directi
 ghost use Rattle.mesh_certificate.specs.Key.LineKeys.{IsLineSized, IsOnLine, IsOnBoth, IsLineKey, IsMultiple, most_moment};
 
 use crate::key::division::large_quotient;
-use crate::key::divisor::{divisor_of_three, divisor_with, large_gcd};
+use crate::key::divisor::{divisor_of_three, divisor_with};
+use ember_algebra::long_gcd;
 use ember_model::Plane;
 
 /// Pluecker coordinates of a line: its direction `(dx, dy, dz)`, and its moment `(mx, my, mz)`, the
@@ -97,11 +98,11 @@ fn short_divisor(line: &LineKey) -> u64
 fn long_divisor(line: &LineKey) -> u128
     ensures { IsGreatestDivisor (coordinates line.now) result }
 {
-    let of_two = large_gcd(line.dx.unsigned_abs(), line.dy.unsigned_abs());
-    let of_direction = large_gcd(of_two, line.dz.unsigned_abs());
-    let with_x = large_gcd(of_direction, line.mx.unsigned_abs());
-    let with_y = large_gcd(with_x, line.my.unsigned_abs());
-    large_gcd(with_y, line.mz.unsigned_abs())
+    let of_two = long_gcd(line.dx.unsigned_abs(), line.dy.unsigned_abs());
+    let of_direction = long_gcd(of_two, line.dz.unsigned_abs());
+    let with_x = long_gcd(of_direction, line.mx.unsigned_abs());
+    let with_y = long_gcd(with_x, line.my.unsigned_abs());
+    long_gcd(with_y, line.mz.unsigned_abs())
 }
 
 fn divisor_of_line(line: &LineKey) -> u128

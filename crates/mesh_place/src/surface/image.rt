@@ -3,7 +3,7 @@ ghost use Rattle.std.specs.Prelude.{◌≡◌, ◌≤◌, true, None, IfOk, IfEr
 ghost use Rattle.mesh_read.specs.Surface.Surfaces.{Point, point_of, content_of};
 ghost use Rattle.std.specs.List.{list_all};
 ghost use Rattle.std.specs.Char.{is_ascii_digit};
-ghost use Rattle.ember_dec.specs.Decimal.{number_from};
+ghost use Rattle.ember_dec.specs.Digits.{number_from};
 ghost use Rattle.mesh_place.specs.Integers.{side_of};
 ghost use Rattle.mesh_place.specs.Decimals.{exact_value};
 ghost use Rattle.mesh_place.specs.AffineMaps.{affine_of, row_of, tuple_of, value_at};

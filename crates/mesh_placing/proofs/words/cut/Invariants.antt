@@ -1,5 +1,5 @@
 use Rattle.std.proofs.Common.{◌≡◌, ◌≤◌, ◌-◌, ◌==◌, ◌++◌, length, take, drop}
-use Rattle.mesh_read.specs.Scan.Parts.{before, onward}
+use Rattle.ember_obj.specs.Scan.{before, onward}
 use Rattle.mesh_placing.proofs.words.cut.Given as goal
 
 abbrev pub invariant-loop-end : goal.invariant-loop-end

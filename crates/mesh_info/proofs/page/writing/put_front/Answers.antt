@@ -1,4 +1,4 @@
-use Rattle.mesh_write.proofs.Appended.{after5, on_ok_if}
+use Rattle.mesh_number.proofs.Appended.{after5, on_ok_if}
 use Rattle.mesh_info.proofs.page.writing.put_front.Goals as goal
 
 pub returns : goal.returns
