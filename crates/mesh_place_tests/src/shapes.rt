@@ -1,6 +1,6 @@
 // Boxes and cylinders: their corners, and which way their triangles turn.
 use mesh_number::{integer, read_decimal};
-use mesh_place::{TransformedSurface, ShapeFault, StepsFault, box_between, cylinder};
+use mesh_place::{ShapeFault, StepsFault, TransformedSurface, box_between, cylinder};
 use mesh_read::Vertex;
 use std::test::Fail;
 

@@ -75,10 +75,7 @@ static PLY_HEADERS_THAT_ARE_REFUSED: [(&[u8], PlyFault); 13] = [
     (b"", PlyFault::NoEnd),
     (b"ply\nformat ascii 1.0\n", PlyFault::NoEnd),
     (b"ply\nend\n", PlyFault::NoEnd),
-    (
-        b"ply\nelement vertex 1\nend\n",
-        PlyFault::NotUnderstood(3),
-    ),
+    (b"ply\nelement vertex 1\nend\n", PlyFault::NotUnderstood(3)),
     (
         b"ply\nelemnt vertex 1\nproperty float x\n",
         PlyFault::NotUnderstood(3),

@@ -150,18 +150,21 @@ module _ (ws : List WrittenFace) (ns sorted : List ℕ) (numbered : AreNumbered 
       let g = face_at numbered.planes ws ns (index_in n) n numbered.each (place_of n pair.second_in) in
       let one = and_parts (eqb (plane_in m) (plane_in n)) (are_overlaid ws m n) pair.holds in
       let two = and_parts (not (eqb (index_in m) (index_in n))) (not_apart (slice_get ws (index_in m)) (slice_get ws (index_in n))) one.1 in
-      let same = same_entry_at numbered.planes (plane_in m) (plane_in n) _ _ f.has g.has (eqb-true (plane_in m) (plane_in n) one.0) in
-      (index_in m, index_in n, record {
-        two = eqb-false (index_in m) (index_in n) (negated (eqb (index_in m) (index_in n)) two.0);
-        first = f.face;
-        second = g.face;
-        first_is = f.here;
-        second_is = g.here;
-        plane = (plane_keys_decide f.has.holds g.has.holds).0 same;
-        not_apart = negated (are_apart f.face g.face)
-            (subst (λ (o : Option WrittenFace). not_apart (Some f.face) o ≡ true) g.here
-            (subst (λ (o : Option WrittenFace). not_apart o (slice_get ws (index_in n)) ≡ true) f.here two.1));
-      })
+      let same = same_entry_at numbered.planes (plane_in m) (plane_in n) _ _ f.has g.has (eqb-true (plane_in m) (plane_in n) one.0) in (
+        index_in m,
+        index_in n,
+        record {
+          two = eqb-false (index_in m) (index_in n) (negated (eqb (index_in m) (index_in n)) two.0);
+          first = f.face;
+          second = g.face;
+          first_is = f.here;
+          second_is = g.here;
+          plane = (plane_keys_decide f.has.holds g.has.holds).0 same;
+          not_apart = negated (are_apart f.face g.face)
+              (subst (λ (o : Option WrittenFace). not_apart (Some f.face) o ≡ true) g.here
+              (subst (λ (o : Option WrittenFace). not_apart o (slice_get ws (index_in n)) ≡ true) f.here two.1));
+        },
+      )
     where
       negated : (b : Bool) → not b ≡ true → b ≡ false
       negated true e = absurd (false≢true e)

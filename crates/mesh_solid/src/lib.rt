@@ -14,8 +14,6 @@ pub use mesh::{
     triangles_of_meshes_have_the_meaning,
 };
 pub use outline::{OutlineFault, check_outline, round_faces_are_outlined};
-pub use refusal::{
-    are_lines_closed, faces_with_a_common_inside_point_are_not_apart, have_overlap,
-};
+pub use refusal::{are_lines_closed, faces_with_a_common_inside_point_are_not_apart, have_overlap};
 pub use tables::{TableFault, Tables, tables_of};
 pub use winding::certified_triangles_wind_as_faces;

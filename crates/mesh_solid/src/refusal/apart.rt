@@ -25,9 +25,7 @@ fn starts_beyond(plane: &Plane, edge: &CorneredEdge) -> bool
 fn start_beyond(edge: &CorneredEdge, others: &[CorneredEdge]) -> bool
     ensures { result ≡ start_beyond edge.now.plane others.now }
 {
-    others
-        .iter()
-        .all(|other| starts_beyond(&edge.plane, other))
+    others.iter().all(|other| starts_beyond(&edge.plane, other))
 }
 
 // Whether all others start so for some edge.
