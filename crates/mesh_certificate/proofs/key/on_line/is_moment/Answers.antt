@@ -1,7 +1,8 @@
 use Rattle.std.proofs.Common.{◌≡◌, ℤ, pos, ◌-ℤ◌, ◌*ℤ◌, SFits, to_z-of_z, refl, sym, subst, ◌∙◌, rules}
 use mir.Syntax.{w32, w64, w128}
 use Rattle.ember_algebra.specs.Size.{Small}
-use Rattle.ember_algebra.proofs.Exact.{stored, kept, ◌&◌, done, exact, bounded}
+use Rattle.ember_algebra.proofs.Exact.{stored, kept, ◌&◌, done, exact, bounded, no_overflow}
+use Rattle.ember_algebra.proofs.Size.{fits_small}
 use Rattle.ember_wide.specs.Whole.{value_of}
 use Rattle.ember_width.specs.Broad.{most_short}
 use Rattle.ember_width.proofs.CubeValues.{remainder_small}
@@ -13,6 +14,25 @@ use Rattle.mesh_certificate.proofs.key.on_line.is_moment.Goals as goal
 -- a coordinate's remainder is as small as a weight that is its own
 rest_small : {m : _} (c : Coordinate) {w : ℤ} → c.weight ≡ w → Small m w → Small m c.rest
 rest_small {m} c e s = remainder_small c.valid.rest (subst (Small m) (sym e) s)
+
+pub overflow_cast-y : goal.overflow_cast-y
+overflow_cast-y c =
+    let y = c.args.y.now in let sw = subst (Small most_short) (exact (y.valid.weight & done) (kept 0) tt) (c.if-is_short.ensures refl) in
+    no_overflow (rest_small y refl sw & done) w64 (kept 0) tt
+
+pub overflow_cast-b : goal.overflow_cast-b
+overflow_cast-b c = fits_small w64 (c.if-is_short-2.ensures refl) tt
+
+pub overflow_cast-z : goal.overflow_cast-z
+overflow_cast-z c =
+    let y = c.args.y.now in let sw = subst (Small most_short) (exact (y.valid.weight & done) (kept 0) tt) (c.if-is_short.ensures refl) in
+    no_overflow (rest_small c.args.z.now c.requires.weights sw & done) w64 (kept 0) tt
+
+pub overflow_cast-y-then-is_short-5 : goal.overflow_cast-y-then-is_short-5
+overflow_cast-y-then-is_short-5 c = fits_small w64 (c.if-is_short.ensures refl) tt
+
+pub overflow_cast-lack : goal.overflow_cast-lack
+overflow_cast-lack c = fits_small w64 (c.if-is_short-5.ensures refl) tt
 
 pub is_short_moment-requires-clause-a : goal.is_short_moment-requires-clause-a
 is_short_moment-requires-clause-a c =

@@ -13,17 +13,17 @@ is_moment-requires-clause-weights c = c.along-z.ensures.weight ∙ sym c.along-y
 pub is_moment-requires-clause-small : goal.is_moment-requires-clause-small
 is_moment-requires-clause-small c = subst (Small most_corner_weight) (sym c.along-y.ensures.weight) c.args.p.now.valid.w
 
-pub is_moment-2-requires-clause-weights : goal.is_moment-2-requires-clause-weights
-is_moment-2-requires-clause-weights c = c.along-x.ensures.weight ∙ sym c.along-z.ensures.weight
+pub is_moment-requires-2-clause-weights : goal.is_moment-requires-2-clause-weights
+is_moment-requires-2-clause-weights c = c.along-x.ensures.weight ∙ sym c.along-z.ensures.weight
 
-pub is_moment-2-requires-clause-small : goal.is_moment-2-requires-clause-small
-is_moment-2-requires-clause-small c = subst (Small most_corner_weight) (sym c.along-z.ensures.weight) c.args.p.now.valid.w
+pub is_moment-requires-2-clause-small : goal.is_moment-requires-2-clause-small
+is_moment-requires-2-clause-small c = subst (Small most_corner_weight) (sym c.along-z.ensures.weight) c.args.p.now.valid.w
 
-pub is_moment-3-requires-clause-weights : goal.is_moment-3-requires-clause-weights
-is_moment-3-requires-clause-weights c = c.along-y.ensures.weight ∙ sym c.along-x.ensures.weight
+pub is_moment-requires-3-clause-weights : goal.is_moment-requires-3-clause-weights
+is_moment-requires-3-clause-weights c = c.along-y.ensures.weight ∙ sym c.along-x.ensures.weight
 
-pub is_moment-3-requires-clause-small : goal.is_moment-3-requires-clause-small
-is_moment-3-requires-clause-small c = subst (Small most_corner_weight) (sym c.along-x.ensures.weight) c.args.p.now.valid.w
+pub is_moment-requires-3-clause-small : goal.is_moment-requires-3-clause-small
+is_moment-requires-3-clause-small c = subst (Small most_corner_weight) (sym c.along-x.ensures.weight) c.args.p.now.valid.w
 
 pub returns-then-not-is_moment : goal.returns-then-not-is_moment
 returns-then-not-is_moment c =

@@ -30,7 +30,7 @@ returns-clause-value c =
     let e = c.product.ensures ∙ rw (to_z-of_z r.m) refl in
     let y = c.product-of_y.ensures ∙ rw (to_z-of_z r.i, exact (i & done) (stored w128 (number (pos 0) ⊟ kept 0)) tt, to_z-of_z r.b) refl in
     let z = c.product-of_z.ensures ∙ rw (to_z-of_z r.j, exact (j & done) (kept 0) tt, to_z-of_z r.d) refl in
-    c.plus-2.ensures ∙ rw (c.plus.ensures, e, y, z) refl ∙ lack_added_up a.i a.b a.j a.d a.m
+    c.plus-2.ensures ∙ rw (c.plus.ensures, e, y, z) (lack_added_up a.i a.b a.j a.d a.m)
 
 pub returns-clause-small : goal.returns-clause-small
 returns-clause-small c =
