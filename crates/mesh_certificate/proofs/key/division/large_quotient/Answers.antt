@@ -1,4 +1,4 @@
-use Rattle.std.proofs.Common.{arith, to_z-of_z}
+use Rattle.std.proofs.Common.{arith}
 use mir.Syntax.{w128}
 use Rattle.mesh_certificate.proofs.Divisors.{size_read}
 use Rattle.mesh_certificate.proofs.Quotients.{stored_quotient, narrow_quotient}

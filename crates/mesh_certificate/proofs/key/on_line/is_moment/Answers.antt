@@ -1,4 +1,4 @@
-use Rattle.std.proofs.Common.{◌≡◌, ℤ, pos, ◌-ℤ◌, ◌*ℤ◌, SFits, to_z-of_z, refl, sym, subst, ◌∙◌, rules}
+use Rattle.std.proofs.Common.{◌≡◌, ℤ, ◌-ℤ◌, ◌*ℤ◌, SFits, to_z-of_z, refl, sym, subst, ◌∙◌, rules}
 use mir.Syntax.{w32, w64, w128}
 use Rattle.ember_algebra.specs.Size.{Small}
 use Rattle.ember_algebra.proofs.Exact.{stored, kept, ◌&◌, done, exact, bounded, no_overflow}

@@ -1,8 +1,9 @@
-use Rattle.std.proofs.Common.{pos, ◌-ℤ◌, ◌∙◌, arith, refl, to_z-of_z, lit<}
+use Rattle.std.proofs.Common.{◌≡◌, pos, ◌-ℤ◌, ◌*ℤ◌, ◌∙◌, arith, refl, to_z-of_z, lit<}
 use Rattle.std.proofs.lemmas.Bool.{false≢true}
 use mir.Syntax.{w128}
 use Rattle.ember_algebra.proofs.Exact.{stored, kept, number, ◌⊟◌, ◌&◌, done, exact}
 use Rattle.ember_algebra.proofs.Size.{small_of_fits}
+use Rattle.ember_wide.specs.Whole.{value_of}
 use Rattle.ember_width.proofs.Sums.{product_fits}
 use Rattle.mesh_certificate.proofs.OnLine.{product_within, negative_small, difference_of, equal_order, less_order, greater_order}
 use Rattle.mesh_certificate.proofs.key.on_line.is_wide_moment.Goals as goal
@@ -10,8 +11,9 @@ use Rattle.mesh_certificate.proofs.key.on_line.is_wide_moment.Goals as goal
 pub plus-difference-requires : goal.plus-difference-requires
 plus-difference-requires c =
     let sb = small_of_fits w128 c.ranges.b in let sd = small_of_fits w128 c.ranges.d in
-    let e = c.product.ensures ∙ rw (to_z-of_z c.ranges.a, to_z-of_z c.ranges.b) refl in
-    let f = c.product-2.ensures ∙ rw (exact (c.requires.c & done) (stored w128 (number (pos 0) ⊟ kept 0)) tt, to_z-of_z c.ranges.d) refl in
+    let e : value_of c.product.result ≡ c.args.a *ℤ c.args.b = c.product.ensures ∙ rw (to_z-of_z c.ranges.a, to_z-of_z c.ranges.b) refl in
+    let f : value_of c.product-2.result ≡ (pos 0 -ℤ c.args.c) *ℤ c.args.d =
+    c.product-2.ensures ∙ rw (exact (c.requires.c & done) (stored w128 (number (pos 0) ⊟ kept 0)) tt, to_z-of_z c.ranges.d) refl in
     let s = product_within c.product.result c.args.a c.args.b _ _ e c.requires.a sb (omega arith) in
     let t = product_within c.product-2.result (pos 0 -ℤ c.args.c) c.args.d _ _ f (negative_small c.requires.c) sd (omega arith) in
     omega (arith, s, t)
