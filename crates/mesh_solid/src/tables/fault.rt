@@ -11,8 +11,8 @@ pub enum TableFault {
     /// The face with this number, from 0, has an edge whose plane is parallel to the face.
     #[error("face {0}: an edge without a line")]
     NoLine(usize),
-    /// In the face with this number, from 0, two neighbouring edges don't meet in one corner of
-    /// less than 2^86 in size and of a weight of less than 2^75.
+    /// In the face with this number, from 0, two neighbouring edges don't meet in one corner with
+    /// coordinates nearer than 2^31 and a weight below 2^75.
     #[error("face {0}: an edge without a corner")]
     NoCorner(usize),
     /// The faces have more than 2,147,483,647 edges.
