@@ -13,5 +13,5 @@ returns-then-at-eq0 c z =
 pub returns-else-at-eq0 : goal.returns-else-at-eq0
 returns-else-at-eq0 c z =
     let at = c.along-at.result in let f : SFits w32 at.floor = search rules in
-    let next = rw (to_z-of_z f) (exact (small_of_fits w32 f & done) (stored w64 (stored w64 (input 0) ⊞ number (pos 1))) tt) in
-    next_is_exact at c.along-at.ensures.weight c.along-at.ensures.value _ z (rest_is_nonzero at c.if-at-eq0.false) next
+    next_is_exact at c.along-at.ensures.weight c.along-at.ensures.value _ z (rest_is_nonzero at c.if-at-eq0.false)
+    (rw (to_z-of_z f) (exact (small_of_fits w32 f & done) (stored w64 (stored w64 (input 0) ⊞ number (pos 1))) tt))
