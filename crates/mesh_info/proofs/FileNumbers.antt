@@ -1,12 +1,26 @@
 -- The numbers of triangles' files, one file more at a time.
 use Rattle.std.proofs.Common.{◌≡◌, ℕ, suc, ◌+◌, ◌<◌, List, [], ◌∷◌, ◌++◌, map, length, take, get_or, append_assoc, append-nil, sym, ap, ◌∙◌, arith}
-use Rattle.std.proofs.lemmas.List.{length-take-le, take_more}
+use Rattle.std.proofs.lemmas.List.{length-take-le, map-append, take_more}
 use Rattle.mesh_read.specs.declared.surface.surface.Facet.{Facet}
 use Rattle.mesh_read.specs.declared.surface.surface.Surface.{Surface}
 use Rattle.mesh_info.specs.View.Views.{files_from, of_file}
 
 abbrev numbers_of : ℕ → Surface → List ℕ
 numbers_of n s = map (of_file n) s.facets.items
+
+-- the number of one triangle more of the same file
+same_number_again : (n i : ℕ) (fs : List Facet) → i < length fs → map (of_file n) (take (i + 1) fs) ≡ map (of_file n) (take i fs) ++ n ∷ []
+same_number_again n i [] l = absurd (omega (arith, l))
+same_number_again n i (f ∷ fs) l =
+    ap (map (of_file n)) (take_more (f ∷ fs) i f l) ∙ map-append (of_file n) (take i (f ∷ fs)) (get_or (f ∷ fs) i f ∷ [])
+
+pub one_number_more : (n i : ℕ) (fs : List Facet) (start before after : List ℕ) → i < length fs →
+    before ≡ start ++ map (of_file n) (take i fs) → after ≡ before ++ n ∷ [] → after ≡ start ++ map (of_file n) (take (i + 1) fs)
+one_number_more n i fs start before after l is e =
+    e
+    ∙ ap (λ (xs : List ℕ). xs ++ n ∷ []) is
+    ∙ append_assoc start (map (of_file n) (take i fs)) (n ∷ [])
+    ∙ ap (λ (xs : List ℕ). start ++ xs) (sym (same_number_again n i fs l))
 
 -- those of one surface more
 files_behind : (n m : ℕ) (ss : List Surface) (s : Surface) → n + length ss ≡ m →

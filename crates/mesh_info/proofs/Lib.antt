@@ -4,3 +4,4 @@ pub mod SaidLines
 pub mod Rounded
 pub mod PageReadBack
 pub mod FileNumbers
+pub mod Viewed

@@ -5,9 +5,7 @@ use Rattle.base64.specs.GeneralPurpose.{decode_of}
 use Rattle.mesh_write.specs.Glb.Written.{corner_bytes}
 use Rattle.mesh_write.proofs.Points.{corners_alone}
 use Rattle.mesh_write.specs.declared.stl.triangle.FloatTriangle.{FloatTriangle}
-use Rattle.mesh_info.specs.declared.page.head.TheConstants.{HEAD, PANEL, CONTROLS, FILES}
-use Rattle.mesh_info.specs.declared.page.counts.TheConstants.{COUNTS}
-use Rattle.mesh_info.specs.declared.page.drawing.TheConstants.{DRAWING}
+use Rattle.mesh_info.specs.declared.page.head.TheConstants.{HEAD, PANEL, CONTROLS}
 use Rattle.mesh_info.specs.Page.Pages.{back_of, escaped, file_byte, front_of, item_text}
 use Rattle.mesh_info.specs.Page.ReadBack.{IsReadBack}
 

@@ -1,4 +1,4 @@
-use Rattle.std.proofs.Common.{List, ap, ◌∙◌}
+use Rattle.std.proofs.Common.{ap, ◌∙◌}
 use Rattle.mesh_read.specs.declared.surface.surface.Surface.{Surface}
 use Rattle.mesh_info.proofs.FileNumbers.{one_file_more}
 use Rattle.mesh_info.proofs.view.files.files_of.Goals as goal
