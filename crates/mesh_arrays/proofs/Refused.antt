@@ -9,7 +9,7 @@ use Rattle.mesh_ply.specs.ReadPly.{of_flaw}
 use Rattle.mesh_ply.specs.declared.fault.PlyFault.{PlyFault}
 use Rattle.mesh_ply.specs.declared.fault.PlyFault.TheVariants as fault
 use Rattle.mesh_read.proofs.FarPoints.{far_by_content}
-use Rattle.mesh_read.specs.Surface.Flaws.{flaw_in}
+use Rattle.mesh_read.specs.Surface.Flaws.{flaw_in, flaw_with}
 use Rattle.mesh_read.specs.Surface.Surfaces.{Content, content_of, first_far, is_facet_too_large}
 use Rattle.mesh_read.specs.declared.surface.flaw.Flaw.{Flaw}
 use Rattle.mesh_read.specs.declared.surface.flaw.Flaw.TheVariants as flaw

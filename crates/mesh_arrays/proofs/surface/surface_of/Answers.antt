@@ -24,6 +24,6 @@ returns-in-Err-as_mesh-clause-fault c =
     subst (IsMeshFault mesh) (sym c.from.ensures)
     (flaw_is mesh (record { points = map point_of found; facets = c.in-Ok-facets_of.facets.items }) c.in-Err-as_mesh.flaw
     (record { points = c.in-Ok.ensures.points; facets = c.in-Ok-facets_of.ensures.facets })
-    (has_some (length c.in-Ok-facets_of.facets.items) (sym c.is_empty.ensures ∙ c.if-is_empty.false))
+    (omega (arith, has_some c.in-Ok-facets_of.facets.len (sym c.is_empty.ensures ∙ c.if-is_empty.false)))
     (all_corners_within mesh.triangles.now c.len.result (length mesh.vertices.now) 1 c.in-Ok-facets_of.facets.items
     (omega (arith, as_many)) c.in-Ok-facets_of.ensures.facets c.in-Ok-facets_of.ensures.within) c.in-Err-as_mesh.ensures.flaw)
