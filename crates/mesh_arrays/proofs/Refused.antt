@@ -10,7 +10,7 @@ use Rattle.mesh_ply.specs.declared.fault.PlyFault.{PlyFault}
 use Rattle.mesh_ply.specs.declared.fault.PlyFault.TheVariants as fault
 use Rattle.mesh_read.proofs.FarPoints.{far_by_content}
 use Rattle.mesh_read.specs.Surface.Flaws.{flaw_in, flaw_with}
-use Rattle.mesh_read.specs.Surface.Surfaces.{Content, content_of, first_far, is_facet_too_large}
+use Rattle.mesh_read.specs.Surface.Surfaces.{Content, Point, content_of, first_far, is_facet_too_large}
 use Rattle.mesh_read.specs.declared.surface.flaw.Flaw.{Flaw}
 use Rattle.mesh_read.specs.declared.surface.flaw.Flaw.TheVariants as flaw
 use Rattle.mesh_read.specs.declared.surface.surface.Facet.{Facet}
@@ -63,9 +63,19 @@ no_place : (found : Option Facet) → option_map (λ (f : Facet). f.place) found
 no_place None e = refl
 no_place (Some facet) e = absurd (cc)
 
+-- without triangles none is too far out
+pub no_triangle_is_far : (points : List Point) (facets : List Facet) → length facets ≡ 0 →
+    first_far (record { points = points; facets = facets }) ≡ None
+no_triangle_is_far points [] none = refl
+no_triangle_is_far points (facet ∷ facets) none = absurd (omega (arith, none))
+
+-- what has no flaw has no triangle that is too far out
+pub without_flaw_is_near : (content : Content) → flaw_in content ≡ None → first_far content ≡ None
+without_flaw_is_near content e = far_is_flaw (first_far content) content.facets e
+
 -- a surface without a flaw has no triangle that is too far out
 pub no_flaw_is_within : (s : Surface) → flaw_in (content_of s) ≡ None →
     find (is_facet_too_large s.vertices.items) s.facets.items ≡ None
 no_flaw_is_within s e =
     no_place (find (is_facet_too_large s.vertices.items) s.facets.items)
-    (sym (far_by_content s) ∙ far_is_flaw (first_far (content_of s)) s.facets.items e)
+    (sym (far_by_content s) ∙ without_flaw_is_near (content_of s) e)

@@ -2,8 +2,7 @@
 use Rattle.std.specs.Prelude.{◌≡◌, ◌≤◌, ℕ, ◌+◌, ◌*◌, List, [], ◌∷◌, length, map, Option, None, Some, slice_index}
 use Rattle.mesh_number.specs.Number.Floats.{binary64_value}
 use Rattle.mesh_read.specs.Stl.Binary.{finite_point}
-use Rattle.mesh_read.specs.Surface.Flaws.{flaw_in}
-use Rattle.mesh_read.specs.Surface.Surfaces.{Content, IsSurface, Point, content_of}
+use Rattle.mesh_read.specs.Surface.Surfaces.{Content, IsSurface, Point, content_of, first_far}
 use Rattle.mesh_read.specs.declared.surface.surface.Facet.{Facet}
 use Rattle.mesh_read.specs.declared.surface.surface.Surface.{Surface}
 use Rattle.mesh_arrays.specs.declared.mesh.ArrayMesh.{ArrayMesh}
@@ -34,8 +33,8 @@ pub record IsContentOf (mesh : ArrayMesh) (content : Content) : Type 0 where
   pub points : ArePointsOf mesh.vertices.now content.points
   pub facets : content.facets ≡ facets_from 1 mesh.triangles.now
 
--- the surface of a mesh: each corner is a vertex, there are triangles, and none is too far out
+-- the surface of a mesh: each corner is a vertex, and no triangle is too far out
 pub record IsSurfaceOf (mesh : ArrayMesh) (surface : Surface) : Type 0 where
   pub content : IsContentOf mesh (content_of surface)
   pub within : IsSurface surface
-  pub no_flaw : flaw_in (content_of surface) ≡ None
+  pub near : first_far (content_of surface) ≡ None

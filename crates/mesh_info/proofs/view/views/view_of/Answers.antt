@@ -8,6 +8,6 @@ use Rattle.mesh_info.proofs.view.views.view_of.Goals as goal
 pub returns : goal.returns
 returns c =
     let shown = subst (λ (ts : List FloatTriangle). AreShown (flat_map triangles_of c.args.surfaces.now) ts)
-        (sym c.deref.ensures.value) c.in_ok-written.ensures in
+    (sym c.deref.ensures.value) c.in_ok-written.ensures in
     page_is_view c.args.title.now c.args.names.now c.args.surfaces.now c.deref.result.now c.deref-2.result.now c.page_bytes.result
     shown (c.deref-2.ensures.value ∙ c.in_ok-files.ensures) c.page_bytes.ensures.page c.page_bytes.ensures.read_back

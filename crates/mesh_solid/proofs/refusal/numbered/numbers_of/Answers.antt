@@ -1,4 +1,4 @@
-use Rattle.std.proofs.Common.{◌≡◌, ◌+◌, ◌*◌, ◌++◌, ◌∷◌, [], ℕ, List, map, length, length-append, take, Some, slice_get, sym, ap, subst, ◌∙◌, arith}
+use Rattle.std.proofs.Common.{◌≡◌, ◌<◌, ◌+◌, ◌*◌, ◌++◌, ◌∷◌, [], ℕ, List, map, length, length-append, take, Some, slice_get, sym, ap, subst, ◌∙◌, arith}
 use Rattle.std.specs.List.{AllZip}
 use Rattle.std.proofs.lemmas.List.{take_all}
 use Rattle.ember_reread.specs.declared.cornered_face.CorneredFace.{CorneredFace}
@@ -20,7 +20,7 @@ loop-index-preserved c =
     let after = c.number_of.new.table.keys in
     let old = c.loop-index.numbers.items in
     let plane = c.in-Ok.plane in
-    let small = omega (arith, c.loop-index-test.true, c.if-faces-ge4294967295.false) in
+    let small : i < 4294967296 = omega (arith, c.loop-index-test.true, c.if-faces-ge4294967295.false) in
     let entry = c.entry_of.result in
     let same : plane_of entry ≡ c.plane_key.result = ap plane_of c.entry_of.ensures in
     let put = mapped_put plane_of entry before after c.in-Ok.ensures.entries in
