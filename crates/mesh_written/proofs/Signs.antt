@@ -77,6 +77,12 @@ module _ (r : Ratio) (v : Fraction) (e : fraction_of r ≡ v) where
       let long : IsTooLong (fraction_of r) = subst (λ (w : Fraction). IsTooLong w) (sym e) h in
       omega (arith, size_of_value r.numerator, long, l)
 
+  -- and one that isn't below it is
+  pub is_long : r.denominator * 10 ^ 21 ≤ size_of r.numerator.size → IsTooLong v
+  is_long l =
+      let long : IsTooLong (fraction_of r) = omega (arith, size_of_value r.numerator, l) in
+      subst (λ (w : Fraction). IsTooLong w) e long
+
 ten_powers : (k : ℕ) → k ≤ 17 → 10 ^ k ≤ 10 ^ 17
 ten_powers k l =
     let sum : k + (17 - k) ≡ 17 = omega (arith, l) in

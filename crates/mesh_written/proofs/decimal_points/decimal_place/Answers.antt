@@ -1,10 +1,10 @@
-use Rattle.std.proofs.Common.{◌<◌, ◌*◌, ◌^◌, ap, ◌∙◌, rules, arith}
+use Rattle.std.proofs.Common.{◌<◌, ◌≤◌, ◌*◌, ◌^◌, refl, ap, ◌∙◌, rules, arith}
 use Rattle.std.proofs.lemmas.Int.{to_z-of_z}
 use mir.Syntax.{w128}
 use Rattle.ember_wide.specs.Whole.{size_of}
 use Rattle.mesh_written.specs.Decimals.{units_of}
 use Rattle.mesh_written.specs.Places.{place_of}
-use Rattle.mesh_written.proofs.Signs.{not_long}
+use Rattle.mesh_written.proofs.Signs.{is_long, not_long}
 use Rattle.mesh_written.proofs.decimal_points.decimal_place.Goals as goal
 
 pub units_of-requires-clause-short : goal.units_of-requires-clause-short
@@ -28,3 +28,12 @@ returns-clause-units c =
     to_z-of_z w128 c.units_of.result (record { sfits = c.units_of.type_inv })
     ∙ c.units_of.ensures
     ∙ ap (units_of c.args.places) c.exact_place-place.ensures
+
+pub returns-then-ne-clause-far : goal.returns-then-ne-clause-far
+returns-then-ne-clause-far c =
+    let r = c.exact_place-place.result in
+    let above : size_of c.product-limit.result ≤ size_of r.numerator.size = search rules in
+    let long : r.denominator * 10 ^ 21 ≤ size_of r.numerator.size = omega (arith, above, c.product-limit.ensures) in (
+      λ e. is_long r (place_of c.args.step.now c.args.offset.now c.args.axis c.args.corner.now) c.exact_place-place.ensures long,
+      λ h. refl,
+    )
