@@ -1,10 +1,14 @@
 -- What a call saw of a shelf and of a sink, before and after it
+use denote.Triple.Both.{Both}
 use Rattle.std.specs.Prelude.{◌≡◌, ℕ, ◌≤◌, List}
+use Rattle.std.specs.Borrow.{MutBor}
 use Rattle.std.specs.declared.option.Option.{Option}
 use Rattle.std.specs.Io.KnownBytes.{Appends}
 use Rattle.ember_io.specs.Causes.{HasRisen}
 use Rattle.ember_io.specs.Sinks.{AppendsPrefix, IsFlushed}
 use Rattle.ember_io.specs.declared.shelf.FaultKind.{FaultKind}
+use Rattle.ember_io.specs.declared.shelf.Shelf
+use Rattle.ember_io.specs.declared.sink.Sink
 
 -- what a call saw of a shelf
 pub record ShelfCall : Type 0 where
@@ -51,6 +55,20 @@ sink_call taken flushed faults old new =
       faults = faults old;
       faults_after = faults new;
     }
+
+-- ---- the same in a clause, by the device's trait and by the parameter itself
+-- a `&mut` parameter in a clause: as the call begins (`entry`), and as it ends (`exit`)
+abbrev pub MutParameter : Type 0 → Type 0
+MutParameter A = Both (MutBor A) (MutBor A)
+
+-- what the call saw of this shelf
+abbrev pub shelf_seen : {S : Type 0} → Shelf.Ghosts S → MutParameter S → ShelfCall
+shelf_seen shown shelf =
+    shelf_call shown.contents shown.faults shown.fault_at shown.fault_kind shelf.entry.now shelf.exit.now
+
+-- what the call saw of this sink
+abbrev pub sink_seen : {O : Type 0} → Sink.Ghosts O → MutParameter O → SinkCall
+sink_seen shown sink = sink_call shown.taken shown.flushed shown.faults sink.entry.now sink.exit.now
 
 -- ---- shelves
 -- it has what it had, and its count of faults hasn't fallen
