@@ -16,6 +16,7 @@ use Rattle.ember_expr.specs.Grammar.{expr_of, whole}
 use Rattle.ember_expr.specs.Truth.{truth}
 use Rattle.ember_gen.specs.Scene.{scene_of}
 use Rattle.ember_expr.proofs.OneTree.{parsed_has_tree, text_is_parsed}
+use Rattle.ember_io.specs.Shelves.{Told}
 use Rattle.ember_model.specs.declared.point.Spot.{Spot}
 use Rattle.ember_model.specs.declared.tri.Tri.{Tri}
 use Rattle.ember_model.specs.Clear.{AreClear, IsClear, IsClearOf}
@@ -301,9 +302,6 @@ clear_passes (t ∷ ts) p w c =
     let k = flat_or_clear t p (is_flat t) refl ts c in rw (clear_of_to t p w k.0) (clear_passes ts p w k.1)
 
 -- ---- commands
-abbrev Told : Type 0
-Told = List ℕ → Option (List ℕ)
-
 told_length : (told : Told) (names : List (List ℕ)) → 1 ≤ length names → AreNames names → (1 ≤ length (map told names)) × (length (map told names) ≤ 64)
 told_length told names some are =
     let e = length-map names told in let most = are.0 in (omega (arith, e, some), omega (arith, e, most))

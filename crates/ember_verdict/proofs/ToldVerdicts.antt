@@ -18,6 +18,7 @@ use Rattle.ember_obj.specs.Table.{FileTriangles}
 use Rattle.ember_words.specs.declared.command.Command.{Command}
 use Rattle.ember_words.specs.declared.command.Command.TheVariants as command
 use Rattle.ember_verdict.specs.Held.{AreContentsOf}
+use Rattle.ember_verdict.specs.OneText.{HaveOneVerdict, by_workers}
 use Rattle.ember_verdict.specs.Outputs.{FaceTexts, Lattice, MeetingPairs, SolidFaces}
 use Rattle.ember_verdict.specs.declared.status.LimitKind.TheVariants.{Bytes}
 use Rattle.ember_verdict.specs.declared.status.Status.TheVariants.{Limit, Unbounded}
@@ -153,3 +154,13 @@ verdict_told (Some (command.Pairs workers places files)) told contents h =
 verdict_told (Some (command.Slice at file)) told [] h = absurd h
 verdict_told (Some (command.Slice at file)) told (bytes ∷ contents) h =
     bytes_told 1 (told file) bytes (λ bytes. Slices at bytes) (λ bytes. Slices at bytes) h.0 (λ bytes. refl)
+
+-- the number of workers is no matter
+pub verdict_by_workers : (given : Command) (workers : ℕ) → HaveOneVerdict (by_workers workers given) given
+verdict_by_workers (command.Faces places file) workers = λ told. refl
+verdict_by_workers (command.At point expr places files) workers = λ told. refl
+verdict_by_workers (command.Boole expr n places report files) workers = λ told. refl
+verdict_by_workers (command.Demo boxes n) workers = λ told. refl
+verdict_by_workers (command.Voxels expr size n places files) workers = λ told. refl
+verdict_by_workers (command.Pairs n places files) workers = λ told. refl
+verdict_by_workers (command.Slice at file) workers = λ told. refl

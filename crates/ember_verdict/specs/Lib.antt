@@ -10,9 +10,12 @@ pub mod Slices
 pub mod Verdict
 pub mod Held
 pub mod Accepted
+pub mod AcceptedInputs
 pub mod Statuses
+pub mod HeldTexts
 pub mod Reported
 pub mod NoReplies
 pub mod Scenes
 pub mod OptionalExpr
+pub mod OneText
 pub mod OneSolid

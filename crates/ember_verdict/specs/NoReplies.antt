@@ -6,8 +6,10 @@ use Rattle.ember_verdict.specs.Statuses.{IsRefusal, IsRefusalIfTold, hides_memor
 use Rattle.ember_verdict.specs.Statuses.{refused_file}
 use Rattle.ember_io.specs.Calls.{ShelfCall, HasShelfFailed}
 use Rattle.ember_io.specs.Shelves.{IsFileIn}
+use Rattle.ember_words.specs.declared.command.Command.{Command}
 use Rattle.ember_verdict.specs.Held.{MayHold, MayHoldOne}
 use Rattle.ember_verdict.specs.Verdict.{Contents, Verdict, Unknown, Refused, Refuses, after_scene, first_told}
+use Rattle.ember_verdict.specs.Verdict.{names_of, verdict_of}
 use Rattle.ember_verdict.specs.declared.status.Status.{Status}
 use Rattle.ember_verdict.specs.declared.status.Status.TheVariants.{Done, Words, ReadFault, WriteFault}
 use Rattle.ember_verdict.specs.declared.status.Status.TheVariants.{ExprRefused, Unbounded, OutOfMemory}
@@ -48,6 +50,10 @@ pub record IsNoReply (verdict : Contents → Verdict) (names : List (List ℕ)) 
       (λ contents. verdict (first_told (i - 1) contents) ≡ Unknown)
   pub memory : hides_memory status ≡ false
   pub never : (status ≢ Done) × (status ≢ Words) × (status ≢ WriteFault)
+
+-- why this command has no reply
+abbrev pub IsNoReplyTo : Command → ShelfCall → Status → Type 0
+IsNoReplyTo command shelf status = IsNoReply (verdict_of (Some command)) (names_of (Some command)) shelf status
 
 -- why files give no scene, whatever is asked of it
 abbrev pub IsNoScene : ℕ → List (List ℕ) → ShelfCall → Status → Type 0

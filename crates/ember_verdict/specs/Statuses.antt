@@ -8,7 +8,7 @@ use Rattle.ember_mesh.specs.declared.fault.MeshFault.TheVariants as mesh
 use Rattle.ember_obj.specs.declared.fault.ObjFault.TheVariants as obj
 use Rattle.ember_verdict.specs.Outputs.{IsOutput}
 use Rattle.ember_verdict.specs.Slices.{IsSlice, IsSliceRefusal, IsSliceable}
-use Rattle.ember_verdict.specs.Verdict.{Verdict, Unknown, Refused, Writes, Slices}
+use Rattle.ember_verdict.specs.Verdict.{Verdict, Unknown, Refused, Writes, Slices, Refuses}
 use Rattle.ember_verdict.specs.declared.status.LimitKind.TheVariants.{Bytes, Triangles}
 use Rattle.ember_verdict.specs.declared.status.Status.{Status}
 use Rattle.ember_verdict.specs.declared.status.Status.TheVariants.{Done, Words, ReadFault, WriteFault}
@@ -84,6 +84,14 @@ IsRefusal status Unknown = ⊥
 IsRefusal status (Refused refusal) = refusal ≡ status
 IsRefusal status (Writes output) = ⊥
 IsRefusal status (Slices at bytes) = IsSliceRefusal at bytes status
+
+-- the status, if it is a refusal, is that of the verdict
+abbrev pub RefusesOnlyAs : Verdict → Status → Type 0
+RefusesOnlyAs verdict status = is_refusal status ≡ true → IsRefusal status verdict
+
+-- the status, if it is a refusal, is that of the step, whatever would be done next
+abbrev pub RefusesOnlyBy : {A : Type 0} → ((A → Verdict) → Verdict) → Status → Type 0
+RefusesOnlyBy {A} step status = is_refusal status ≡ true → Refuses step status
 
 -- the verdict, if told, is an output, and these are its bytes
 abbrev pub IsTextIfTold : Verdict → List ℕ → Type 0

@@ -6,13 +6,13 @@ ghost use Rattle.ember_model.specs.declared.point.Axis.TheVariants.{X};
 ghost use Rattle.ember_model.specs.ClearTest.{is_clear_of};
 ghost use Rattle.ember_model.specs.Meshes.{vector};
 ghost use Rattle.ember_model.specs.Valid.{IsValidSpot, IsValidTri};
-ghost use Rattle.ember_verdict.specs.OptionalExpr.{given_formula};
+ghost use Rattle.ember_verdict.specs.OptionalExpr.{given_formula, point_verdict};
 ghost use Rattle.ember_verdict.specs.Outputs.{count_line, count_lines, counts_text, value_line, value_lines};
-ghost use Rattle.ember_verdict.specs.Statuses.{IsRefusal, IsText, is_refusal};
-ghost use Rattle.ember_io.specs.Calls.{shelf_call};
-ghost use Rattle.ember_verdict.specs.Held.{MayHold};
-ghost use Rattle.ember_verdict.specs.NoReplies.{IsAfterFiles, IsNoReply};
-ghost use Rattle.ember_verdict.specs.Verdict.{at_verdict, counts_verdict};
+ghost use Rattle.ember_verdict.specs.Statuses.{IsText, RefusesOnlyAs};
+ghost use Rattle.ember_io.specs.Calls.{shelf_seen};
+ghost use Rattle.ember_words.specs.declared.command.Command.TheVariants.{At};
+ghost use Rattle.ember_verdict.specs.HeldTexts.{IsTextOf};
+ghost use Rattle.ember_verdict.specs.NoReplies.{IsAfterFiles, IsNoReplyTo};
 
 use crate::expression::parse_given;
 use crate::scene::read_scene;
@@ -132,10 +132,8 @@ fn text_at(
 ) -> Result<Vec<u8>, Status>
     requires point { IsValidSpot point.now }
     requires meshes { meshes ≤ 64 }
-    ensures text { IfOk result (λ text.
-        IsText (counts_verdict point.now meshes (given_formula expr.now) scene.now.tris) text.items) }
-    ensures refused { IfErr result (λ status. is_refusal status ≡ true →
-        IsRefusal status (counts_verdict point.now meshes (given_formula expr.now) scene.now.tris)) }
+    ensures text { IfOk result (λ text. IsText (point_verdict point.now meshes expr.now scene.now) text.items) }
+    ensures refused { IfErr result (RefusesOnlyAs (point_verdict point.now meshes expr.now scene.now)) }
     ensures kind { IfErr result IsAfterFiles }
     ensures no_read_fault { (i : ℕ) → result ≢ Err (Status.ReadFault i) }
     ensures never { (result ≢ Err Status.Done) × (result ≢ Err Status.Words) × (result ≢ Err Status.WriteFault) }
@@ -163,11 +161,9 @@ pub fn at_output<S: Shelf>(
     requires few { length files.now ≤ 64 }
     ensures contents { S.contents shelf.new ≡ S.contents shelf.old }
     ensures later { S.faults shelf.old ≤ S.faults shelf.new }
-    ensures text { IfOk result (λ text. MayHold (S.contents shelf.old) files.now
-        (λ contents. IsText (at_verdict point.now expr.now places contents) text.items)) }
+    ensures text { IfOk result (IsTextOf (At point.now expr.now places files.now) (S.contents shelf.old)) }
     ensures no_reply { IfErr result
-        (IsNoReply (at_verdict point.now expr.now places) files.now
-        (shelf_call S.contents S.faults S.fault_at S.fault_kind shelf.old shelf.new)) }
+        (IsNoReplyTo (At point.now expr.now places files.now) (shelf_seen S.Shelf shelf)) }
 {
     let files = files.items();
     let expr = match parse_given(alloc, expr, files.len() as u32) {

@@ -1,13 +1,12 @@
 // The command `faces`.
-ghost use Rattle.std.specs.Prelude.{[], ◌∷◌, ◌≡◌, ◌≤◌, length, All, IfOk, IfErr};
+ghost use Rattle.std.specs.Prelude.{◌≡◌, ◌≤◌, length, All, IfOk, IfErr};
 ghost use Rattle.ember_model.specs.Limits.{most_triangles};
 ghost use Rattle.ember_model.specs.Valid.{IsValidTri};
 ghost use Rattle.ember_verdict.specs.FaceTexts.{AddsFace, IsFaceFileOf};
-ghost use Rattle.ember_verdict.specs.Statuses.{IsText};
-ghost use Rattle.ember_io.specs.Calls.{shelf_call};
-ghost use Rattle.ember_verdict.specs.Held.{MayHold};
-ghost use Rattle.ember_verdict.specs.NoReplies.{IsNoReply};
-ghost use Rattle.ember_verdict.specs.Verdict.{faces_verdict, file_at};
+ghost use Rattle.ember_io.specs.Calls.{shelf_seen};
+ghost use Rattle.ember_words.specs.declared.command.Command.TheVariants.{Faces};
+ghost use Rattle.ember_verdict.specs.HeldTexts.{IsTextOf};
+ghost use Rattle.ember_verdict.specs.NoReplies.{IsNoReplyTo};
 
 use crate::reading::read_file;
 use crate::status::Status;
@@ -60,11 +59,8 @@ pub fn faces_output<S: Shelf>(
     requires { places ≤ 3 }
     ensures contents { S.contents shelf.new ≡ S.contents shelf.old }
     ensures later { S.faults shelf.old ≤ S.faults shelf.new }
-    ensures text { IfOk result (λ text. MayHold (S.contents shelf.old) (file.now ∷ [])
-        (λ contents. IsText (faces_verdict places (file_at contents 1)) text.items)) }
-    ensures no_reply { IfErr result
-        (IsNoReply (λ contents. faces_verdict places (file_at contents 1)) (file.now ∷ [])
-        (shelf_call S.contents S.faults S.fault_at S.fault_kind shelf.old shelf.new)) }
+    ensures text { IfOk result (IsTextOf (Faces places file.now) (S.contents shelf.old)) }
+    ensures no_reply { IfErr result (IsNoReplyTo (Faces places file.now) (shelf_seen S.Shelf shelf)) }
 {
     let soup = read_file(alloc, shelf, file.as_str(), 1, places)?;
     Ok(faces_text(alloc, soup.tris.items())?)

@@ -2,7 +2,8 @@
 // a line too.
 ghost use Rattle.std.specs.Prelude.{◌≡◌, [], ◌∷◌, Some, decimal, flat_map};
 ghost use Rattle.std.specs.Fmt.{signed_decimal};
-ghost use Rattle.ember_verdict.specs.Messages.{AppendsUntilFault};
+ghost use Rattle.ember_io.specs.Calls.{sink_seen};
+ghost use Rattle.ember_verdict.specs.Messages.{Says};
 ghost use Rattle.ember_verdict.specs.Verdict.{names_of};
 ghost use Rattle.ember_verdict.specs.Lines.{decimal_text, endless_line, expr_line, face_line, fault_line, line_on_err, loose_line, mesh_line, name_of, no_mesh_line, obj_line, place_line, text_on_err, triangles_line};
 
@@ -19,8 +20,7 @@ use itoa::Buffer;
 
 // Writes the pieces one after another, up to the first fault.
 fn say<E: Sink>(err: &mut E, pieces: &[&[u8]])
-    ensures { AppendsUntilFault (E.faults err.old) (E.faults err.new) (E.taken err.old) (E.taken err.new)
-        (flat_map (λ p. p.now) pieces.now) }
+    ensures { Says (sink_seen E.Sink err) (flat_map (λ p. p.now) pieces.now) }
 {
     for piece in pieces {
         let Ok(()) = write_all(err, piece) else {
@@ -79,8 +79,7 @@ fn name_at(command: &Command, number: u32) -> &[u8]
 
 // The line of a fault in a line of a file.
 fn say_fault<E: Sink>(err: &mut E, name: &[u8], line: u32, fault: &[u8])
-    ensures { AppendsUntilFault (E.faults err.old) (E.faults err.new) (E.taken err.old) (E.taken err.new)
-        (fault_line name.now line fault.now) }
+    ensures { Says (sink_seen E.Sink err) (fault_line name.now line fault.now) }
 {
     let mut buffer = Buffer::new();
     let line = buffer.format(line).as_bytes();
@@ -92,8 +91,7 @@ fn say_fault<E: Sink>(err: &mut E, name: &[u8], line: u32, fault: &[u8])
 
 // The line of a file's first fault.
 fn say_obj_fault<E: Sink>(err: &mut E, name: &[u8], fault: &ObjFault)
-    ensures { AppendsUntilFault (E.faults err.old) (E.faults err.new) (E.taken err.old) (E.taken err.new)
-        (obj_line name.now fault.now) }
+    ensures { Says (sink_seen E.Sink err) (obj_line name.now fault.now) }
 {
     match fault {
         ObjFault::Word(line) => say_fault(err, name, *line, b"word"),
@@ -133,8 +131,7 @@ fn count_digits(buffer: &mut Buffer, count: u32) -> &[u8]
 
 // The line of an edge that occurs more often than its reverse.
 fn say_loose<E: Sink>(err: &mut E, name: &[u8], loose: &Loose)
-    ensures { AppendsUntilFault (E.faults err.old) (E.faults err.new) (E.taken err.old) (E.taken err.new)
-        (loose_line name.now loose.now) }
+    ensures { Says (sink_seen E.Sink err) (loose_line name.now loose.now) }
 {
     let (mut x, mut y, mut z) = (Buffer::new(), Buffer::new(), Buffer::new());
     let (mut u, mut v, mut w) = (Buffer::new(), Buffer::new(), Buffer::new());
@@ -167,8 +164,7 @@ fn say_loose<E: Sink>(err: &mut E, name: &[u8], loose: &Loose)
 
 // The line of a mesh that isn't closed.
 fn say_mesh_fault<E: Sink>(err: &mut E, name: &[u8], fault: &MeshFault)
-    ensures { AppendsUntilFault (E.faults err.old) (E.faults err.new) (E.taken err.old) (E.taken err.new)
-        (mesh_line name.now fault.now) }
+    ensures { Says (sink_seen E.Sink err) (mesh_line name.now fault.now) }
 {
     match fault {
         MeshFault::Unbalanced(loose) => say_loose(err, name, loose),
@@ -178,8 +174,7 @@ fn say_mesh_fault<E: Sink>(err: &mut E, name: &[u8], fault: &MeshFault)
 
 // The line of a fault at a place of the expression.
 fn say_place<E: Sink>(err: &mut E, fault: &[u8], place: u32)
-    ensures { AppendsUntilFault (E.faults err.old) (E.faults err.new) (E.taken err.old) (E.taken err.new)
-        (place_line fault.now place) }
+    ensures { Says (sink_seen E.Sink err) (place_line fault.now place) }
 {
     let mut buffer = Buffer::new();
     let place = buffer.format(place).as_bytes();
@@ -188,8 +183,7 @@ fn say_place<E: Sink>(err: &mut E, fault: &[u8], place: u32)
 
 // The line of an expression that names a mesh which isn't given.
 fn say_no_mesh<E: Sink>(err: &mut E, number: u32)
-    ensures { AppendsUntilFault (E.faults err.old) (E.faults err.new) (E.taken err.old) (E.taken err.new)
-        (no_mesh_line number) }
+    ensures { Says (sink_seen E.Sink err) (no_mesh_line number) }
 {
     let mut buffer = Buffer::new();
     let number = buffer.format(number).as_bytes();
@@ -198,8 +192,7 @@ fn say_no_mesh<E: Sink>(err: &mut E, number: u32)
 
 // The line of an expression's first fault.
 fn say_expr_fault<E: Sink>(err: &mut E, fault: &ExprFault)
-    ensures { AppendsUntilFault (E.faults err.old) (E.faults err.new) (E.taken err.old) (E.taken err.new)
-        (expr_line fault.now) }
+    ensures { Says (sink_seen E.Sink err) (expr_line fault.now) }
 {
     match fault {
         ExprFault::Syntax(place) => say_place(err, b"syntax", *place),
@@ -213,8 +206,7 @@ fn say_expr_fault<E: Sink>(err: &mut E, fault: &ExprFault)
 
 // The line of an endless face.
 fn say_endless<E: Sink>(err: &mut E, name: &[u8], number: u32)
-    ensures { AppendsUntilFault (E.faults err.old) (E.faults err.new) (E.taken err.old) (E.taken err.new)
-        (endless_line name.now number) }
+    ensures { Says (sink_seen E.Sink err) (endless_line name.now number) }
 {
     let mut buffer = Buffer::new();
     let number = buffer.format(number).as_bytes();
@@ -223,16 +215,14 @@ fn say_endless<E: Sink>(err: &mut E, name: &[u8], number: u32)
 
 // The line of a file that isn't a face file.
 fn say_no_face_file<E: Sink>(err: &mut E, name: &[u8])
-    ensures { AppendsUntilFault (E.faults err.old) (E.faults err.new) (E.taken err.old) (E.taken err.new)
-        (face_line name.now FaceFault.Form) }
+    ensures { Says (sink_seen E.Sink err) (face_line name.now FaceFault.Form) }
 {
     say(err, &[b"ember: ", name, b": not a face file\n"]);
 }
 
 // The line of a face file's fault.
 fn say_face_fault<E: Sink>(err: &mut E, name: &[u8], fault: &FaceFault)
-    ensures { AppendsUntilFault (E.faults err.old) (E.faults err.new) (E.taken err.old) (E.taken err.new)
-        (face_line name.now fault.now) }
+    ensures { Says (sink_seen E.Sink err) (face_line name.now fault.now) }
 {
     match fault {
         FaceFault::Form => say_no_face_file(err, name),
@@ -242,8 +232,7 @@ fn say_face_fault<E: Sink>(err: &mut E, name: &[u8], fault: &FaceFault)
 
 // The line of too many triangles.
 fn say_triangles<E: Sink>(err: &mut E, count: u64)
-    ensures { AppendsUntilFault (E.faults err.old) (E.faults err.new) (E.taken err.old) (E.taken err.new)
-        (triangles_line count) }
+    ensures { Says (sink_seen E.Sink err) (triangles_line count) }
 {
     let mut buffer = Buffer::new();
     let count = buffer.format(count).as_bytes();
@@ -252,8 +241,7 @@ fn say_triangles<E: Sink>(err: &mut E, count: u64)
 
 // The line of too many bytes, or of too many triangles.
 fn say_limit<E: Sink>(err: &mut E, command: &Command, kind: LimitKind, count: u64)
-    ensures { AppendsUntilFault (E.faults err.old) (E.faults err.new) (E.taken err.old) (E.taken err.new)
-        (line_on_err (names_of (Some command.now)) (Status.Limit kind count)) }
+    ensures { Says (sink_seen E.Sink err) (line_on_err (names_of (Some command.now)) (Status.Limit kind count)) }
 {
     match kind {
         LimitKind::Bytes(i) => {
@@ -266,16 +254,14 @@ fn say_limit<E: Sink>(err: &mut E, command: &Command, kind: LimitKind, count: u6
 
 /// Writes the line of refused words to err.
 pub fn say_words_refused<E: Sink>(err: &mut E)
-    ensures { AppendsUntilFault (E.faults err.old) (E.faults err.new) (E.taken err.old) (E.taken err.new)
-        (line_on_err [] Status.Words) }
+    ensures { Says (sink_seen E.Sink err) (line_on_err [] Status.Words) }
 {
     say(err, &[b"ember: words refused\n"]);
 }
 
 /// Writes the out-of-memory line to err.
 pub fn say_out_of_memory<E: Sink>(err: &mut E)
-    ensures { AppendsUntilFault (E.faults err.old) (E.faults err.new) (E.taken err.old) (E.taken err.new)
-        (line_on_err [] Status.OutOfMemory) }
+    ensures { Says (sink_seen E.Sink err) (line_on_err [] Status.OutOfMemory) }
 {
     say(err, &[b"ember: out of memory\n"]);
 }
@@ -283,8 +269,7 @@ pub fn say_out_of_memory<E: Sink>(err: &mut E)
 /// Writes the status's line to err, or the report after success. A fault of err ends the line, and
 /// changes nothing else.
 pub fn say_status<E: Sink>(err: &mut E, command: &Command, status: &Status, report: &[u8])
-    ensures { AppendsUntilFault (E.faults err.old) (E.faults err.new) (E.taken err.old) (E.taken err.new)
-        (text_on_err (names_of (Some command.now)) status.now report.now) }
+    ensures { Says (sink_seen E.Sink err) (text_on_err (names_of (Some command.now)) status.now report.now) }
 {
     match status {
         // Without a report no byte is written, and err is only flushed.

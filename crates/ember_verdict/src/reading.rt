@@ -2,10 +2,10 @@
 ghost use Rattle.std.specs.Prelude.{◌≡◌, ◌≤◌, length, All, IfOk, IfErr};
 ghost use Rattle.ember_io.specs.Shelves.{AreBytes};
 ghost use Rattle.ember_model.specs.Limits.{most_triangles};
-ghost use Rattle.ember_io.specs.Calls.{shelf_call};
-ghost use Rattle.ember_verdict.specs.Held.{MayHoldOne};
+ghost use Rattle.ember_io.specs.Calls.{shelf_seen};
+ghost use Rattle.ember_verdict.specs.Held.{MayPassOn};
 ghost use Rattle.ember_verdict.specs.NoReplies.{IsNoFile};
-ghost use Rattle.ember_verdict.specs.Verdict.{PassesOn, after_bytes, after_file};
+ghost use Rattle.ember_verdict.specs.Verdict.{after_bytes, after_file};
 
 use crate::status::{LimitKind, Status};
 use ember_io::{ReadEnd, Shelf, read_all};
@@ -28,8 +28,7 @@ pub fn read_bytes<S: Shelf>(
     ensures contents { S.contents shelf.new ≡ S.contents shelf.old }
     ensures later { S.faults shelf.old ≤ S.faults shelf.new }
     ensures bytes { IfOk result (λ bytes. AreBytes (S.contents shelf.old) name.now bytes.items) }
-    ensures no_file { IfErr result (IsNoFile (after_bytes number) number name.now
-        (shelf_call S.contents S.faults S.fault_at S.fault_kind shelf.old shelf.new)) }
+    ensures no_file { IfErr result (IsNoFile (after_bytes number) number name.now (shelf_seen S.Shelf shelf)) }
 {
     match read_all(alloc, shelf, name, number, MOST_BYTES) {
         Ok(bytes) => Ok(bytes),
@@ -53,12 +52,11 @@ pub fn read_file<S: Shelf>(
     requires { places ≤ 3 }
     ensures contents { S.contents shelf.new ≡ S.contents shelf.old }
     ensures later { S.faults shelf.old ≤ S.faults shelf.new }
-    ensures read { IfOk result (λ soup. MayHoldOne (S.contents shelf.old name.now)
-        (λ content. PassesOn (after_file places number content) soup.tris)) }
+    ensures read { IfOk result (λ soup.
+        MayPassOn (after_file places number) (S.contents shelf.old name.now) soup.tris) }
     ensures few { IfOk result (λ soup. length soup.tris ≤ most_triangles) }
     ensures mesh { IfOk result (λ soup. All (λ t. t.mesh ≡ number) soup.tris) }
-    ensures no_file { IfErr result (IsNoFile (after_file places number) number name.now
-        (shelf_call S.contents S.faults S.fault_at S.fault_kind shelf.old shelf.new)) }
+    ensures no_file { IfErr result (IsNoFile (after_file places number) number name.now (shelf_seen S.Shelf shelf)) }
 {
     let bytes = read_bytes(alloc, shelf, name, number)?;
     match read_obj(alloc, &bytes, places, number) {

@@ -1,13 +1,13 @@
 // The scene of several files: each is a closed mesh, and all together have few enough triangles.
 // `after_x` is a step of the verdict (specs/Verdict.antt).
-ghost use Rattle.std.specs.Prelude.{ℕ, ◌≡◌, ◌≢◌, ◌≤◌, length, true, All, Err, IfOk, IfErr};
+ghost use Rattle.std.specs.Prelude.{ℕ, ◌≡◌, ◌≢◌, ◌≤◌, length, All, Err, IfOk, IfErr};
 ghost use Rattle.ember_mesh.specs.Joined.{AreNumbered, triangles_of};
-ghost use Rattle.ember_verdict.specs.Held.{MayHold, MayHoldOne};
-ghost use Rattle.ember_verdict.specs.Scenes.{HasParts};
-ghost use Rattle.ember_verdict.specs.Statuses.{is_refusal};
-ghost use Rattle.ember_io.specs.Calls.{shelf_call};
+ghost use Rattle.ember_verdict.specs.Held.{MayAllPassOn, MayPassOn};
+ghost use Rattle.ember_verdict.specs.Scenes.{ArePartsOf};
+ghost use Rattle.ember_verdict.specs.Statuses.{RefusesOnlyBy};
+ghost use Rattle.ember_io.specs.Calls.{shelf_seen};
 ghost use Rattle.ember_verdict.specs.NoReplies.{IsAfterFiles, IsNoFile, IsNoScene};
-ghost use Rattle.ember_verdict.specs.Verdict.{PassesOn, Refuses, after_mesh, after_scene, after_total};
+ghost use Rattle.ember_verdict.specs.Verdict.{PassesOn, after_mesh, after_scene, after_total};
 
 use crate::reading::read_file;
 use crate::status::{LimitKind, Status};
@@ -29,11 +29,10 @@ fn read_mesh<S: Shelf>(
     requires { places ≤ 3 }
     ensures contents { S.contents shelf.new ≡ S.contents shelf.old }
     ensures later { S.faults shelf.old ≤ S.faults shelf.new }
-    ensures read { IfOk result (λ mesh. MayHoldOne (S.contents shelf.old name.now)
-        (λ content. PassesOn (after_mesh places number content) mesh.tris)) }
+    ensures read { IfOk result (λ mesh.
+        MayPassOn (after_mesh places number) (S.contents shelf.old name.now) mesh.tris) }
     ensures number { IfOk result (λ mesh. All (λ t. t.mesh ≡ number) mesh.tris) }
-    ensures no_file { IfErr result (IsNoFile (after_mesh places number) number name.now
-        (shelf_call S.contents S.faults S.fault_at S.fault_kind shelf.old shelf.new)) }
+    ensures no_file { IfErr result (IsNoFile (after_mesh places number) number name.now (shelf_seen S.Shelf shelf)) }
 {
     let soup = read_file(alloc, shelf, name, number, places)?;
     // `check` tests nothing: `read_file` has counted the triangles. `balanced` is the test.
@@ -57,10 +56,8 @@ fn read_parts<S: Shelf>(
     requires few { length files.now ≤ 64 }
     ensures contents { S.contents shelf.new ≡ S.contents shelf.old }
     ensures later { S.faults shelf.old ≤ S.faults shelf.new }
-    ensures parts { IfOk result (λ parts. MayHold (S.contents shelf.old) files.now
-        (λ contents. HasParts places contents parts.items)) }
-    ensures no_reply { IfErr result
-        (IsNoScene places files.now (shelf_call S.contents S.faults S.fault_at S.fault_kind shelf.old shelf.new)) }
+    ensures parts { IfOk result (ArePartsOf places files.now (S.contents shelf.old)) }
+    ensures no_reply { IfErr result (IsNoScene places files.now (shelf_seen S.Shelf shelf)) }
 {
     let mut parts = Vec::new(alloc);
     let mut number = 1;
@@ -82,8 +79,7 @@ fn join_parts(alloc: Global, parts: Vec<Closed>) -> Result<Scene, Status>
     requires numbered { AreNumbered 1 parts.items }
     ensures scene { IfOk result (λ scene. PassesOn (after_total (triangles_of parts.items)) scene.tris) }
     ensures meshes { IfOk result (λ scene. scene.meshes ≡ length parts.items) }
-    ensures refused { IfErr result (λ status. is_refusal status ≡ true →
-        Refuses (after_total (triangles_of parts.items)) status) }
+    ensures refused { IfErr result (RefusesOnlyBy (after_total (triangles_of parts.items))) }
     ensures kind { IfErr result IsAfterFiles }
     ensures no_read_fault { (i : ℕ) → result ≢ Err (Status.ReadFault i) }
     ensures never { (result ≢ Err Status.Done) × (result ≢ Err Status.Words) × (result ≢ Err Status.WriteFault) }
@@ -113,11 +109,10 @@ pub fn read_scene<S: Shelf>(
     requires few { length files.now ≤ 64 }
     ensures contents { S.contents shelf.new ≡ S.contents shelf.old }
     ensures later { S.faults shelf.old ≤ S.faults shelf.new }
-    ensures read { IfOk result (λ scene. MayHold (S.contents shelf.old) files.now
-        (λ contents. PassesOn (after_scene places contents) scene.tris)) }
+    ensures read { IfOk result (λ scene.
+        MayAllPassOn (after_scene places) files.now (S.contents shelf.old) scene.tris) }
     ensures meshes { IfOk result (λ scene. scene.meshes ≡ length files.now) }
-    ensures no_reply { IfErr result
-        (IsNoScene places files.now (shelf_call S.contents S.faults S.fault_at S.fault_kind shelf.old shelf.new)) }
+    ensures no_reply { IfErr result (IsNoScene places files.now (shelf_seen S.Shelf shelf)) }
 {
     let parts = read_parts(alloc, shelf, files, places)?;
     join_parts(alloc, parts)

@@ -1,14 +1,15 @@
 // The command `slice`.
-ghost use Rattle.std.specs.Prelude.{ℕ, ℤ, pos, negsuc, ◌≤ℤ◌, ◌≡◌, ◌≢◌, ◌≤◌, List, [], ◌∷◌, length, true, All, Err, IfOk, IfErr};
+ghost use Rattle.std.specs.Prelude.{ℕ, ℤ, pos, negsuc, ◌≤ℤ◌, ◌≡◌, ◌≢◌, ◌≤◌, List, length, All, Err, IfOk, IfErr};
 ghost use Rattle.ember_model.specs.Limits.{most_bytes, narrow_limit};
 ghost use Rattle.ember_model.specs.FaceFiles.{IsFaceFile};
 ghost use Rattle.ember_model.specs.Valid.{IsValidFace};
-ghost use Rattle.ember_verdict.specs.Statuses.{IsText, is_refusal};
-ghost use Rattle.ember_io.specs.Calls.{shelf_call};
-ghost use Rattle.ember_verdict.specs.Held.{MayHold};
-ghost use Rattle.ember_verdict.specs.NoReplies.{IsNoReply};
-ghost use Rattle.ember_verdict.specs.Slices.{IsSlice, IsSliceRefusal};
-ghost use Rattle.ember_verdict.specs.Verdict.{file_at, slice_verdict};
+ghost use Rattle.ember_verdict.specs.Statuses.{RefusesOnlyAs};
+ghost use Rattle.ember_io.specs.Calls.{shelf_seen};
+ghost use Rattle.ember_words.specs.declared.command.Command.TheVariants.{Slice};
+ghost use Rattle.ember_verdict.specs.HeldTexts.{IsTextOf};
+ghost use Rattle.ember_verdict.specs.NoReplies.{IsNoReplyTo};
+ghost use Rattle.ember_verdict.specs.Slices.{IsSlice};
+ghost use Rattle.ember_verdict.specs.Verdict.{Slices};
 
 use crate::reading::read_bytes;
 use crate::status::{FaceFault, Status};
@@ -25,8 +26,7 @@ fn faces_in(alloc: Global, bytes: &[u8]) -> Result<FaceList, Status>
     ensures faces { IfOk result (λ faces. IsFaceFile bytes.now faces) }
     ensures valid { IfOk result (λ faces. All IsValidFace faces) }
     ensures count { IfOk result (λ faces. length faces ≤ most_bytes) }
-    ensures refused { (at : ℤ) → IfErr result (λ status. is_refusal status ≡ true →
-        IsSliceRefusal at bytes.now status) }
+    ensures refused { (at : ℤ) → IfErr result (RefusesOnlyAs (Slices at bytes.now)) }
     ensures no_read_fault { (i : ℕ) → result ≢ Err (Status.ReadFault i) }
     ensures never { (result ≢ Err Status.Done) × (result ≢ Err Status.Words) × (result ≢ Err Status.WriteFault) }
 {
@@ -44,8 +44,7 @@ fn segments_text(alloc: Global, faces: &FaceList, at: i32) -> Result<Vec<u8>, St
     requires low { negsuc narrow_limit ≤ℤ at }
     requires high { at ≤ℤ pos narrow_limit }
     ensures text { (bytes : List ℕ) → IsFaceFile bytes faces.now → IfOk result (λ text. IsSlice at bytes text.items) }
-    ensures refused { (bytes : List ℕ) → IsFaceFile bytes faces.now → IfErr result (λ status. is_refusal status ≡ true →
-        IsSliceRefusal at bytes status) }
+    ensures refused { (bytes : List ℕ) → IsFaceFile bytes faces.now → IfErr result (RefusesOnlyAs (Slices at bytes)) }
     ensures no_read_fault { (i : ℕ) → result ≢ Err (Status.ReadFault i) }
     ensures never { (result ≢ Err Status.Done) × (result ≢ Err Status.Words) × (result ≢ Err Status.WriteFault) }
 {
@@ -62,7 +61,7 @@ fn slice_of(alloc: Global, bytes: &[u8], at: i32) -> Result<Vec<u8>, Status>
     requires low { negsuc narrow_limit ≤ℤ at }
     requires high { at ≤ℤ pos narrow_limit }
     ensures text { IfOk result (λ text. IsSlice at bytes.now text.items) }
-    ensures refused { IfErr result (λ status. is_refusal status ≡ true → IsSliceRefusal at bytes.now status) }
+    ensures refused { IfErr result (RefusesOnlyAs (Slices at bytes.now)) }
     ensures no_read_fault { (i : ℕ) → result ≢ Err (Status.ReadFault i) }
     ensures never { (result ≢ Err Status.Done) × (result ≢ Err Status.Words) × (result ≢ Err Status.WriteFault) }
 {
@@ -85,11 +84,8 @@ pub fn slice_output<S: Shelf>(
     requires high { at ≤ℤ pos narrow_limit }
     ensures contents { S.contents shelf.new ≡ S.contents shelf.old }
     ensures later { S.faults shelf.old ≤ S.faults shelf.new }
-    ensures text { IfOk result (λ text. MayHold (S.contents shelf.old) (file.now ∷ [])
-        (λ contents. IsText (slice_verdict at (file_at contents 1)) text.items)) }
-    ensures no_reply { IfErr result
-        (IsNoReply (λ contents. slice_verdict at (file_at contents 1)) (file.now ∷ [])
-        (shelf_call S.contents S.faults S.fault_at S.fault_kind shelf.old shelf.new)) }
+    ensures text { IfOk result (IsTextOf (Slice at file.now) (S.contents shelf.old)) }
+    ensures no_reply { IfErr result (IsNoReplyTo (Slice at file.now) (shelf_seen S.Shelf shelf)) }
 {
     let bytes = match read_bytes(alloc, shelf, file.as_str(), 1) {
         Ok(bytes) => bytes,
