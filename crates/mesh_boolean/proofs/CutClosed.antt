@@ -1,8 +1,7 @@
 -- Triangles whose edges over vertices are in pairs are closed by the positions of their corners
-use Rattle.std.proofs.Common.{◌≡◌, ℕ, ◌+◌, Bool, true, false, not, ◌&&◌, cond, List, [], ◌∷◌, ◌++◌, map, Option, Some, None}
-use Rattle.std.proofs.Common.{slice_get, refl, sym, ap, subst, ◌∙◌, arith, eqb, ltb}
+use Rattle.std.proofs.Common.{◌≡◌, ℕ, ◌+◌, Bool, true, false, not, ◌&&◌, cond, List, [], ◌∷◌, map, Option, Some, None}
+use Rattle.std.proofs.Common.{slice_get, refl, sym, ap, ◌∙◌, arith, eqb, ltb}
 use Rattle.std.specs.List.{AllZip, sum_by}
-use Rattle.std.specs.List.Sorted.{IsPermutation}
 use Rattle.std.proofs.Math.Bool.{and_comm}
 use Rattle.std.proofs.lemmas.Bool.{and_parts, eqb-true, false≢true}
 use Rattle.std.proofs.lemmas.List.Sorted.{sum_by-IsPermutation}
@@ -131,4 +130,4 @@ split_is_closed split ts are manifold = record { each = at_each }
     at_each p q =
         ap (edges_between same_point p q) (sym same)
         ∙ manifold_is_turned (spot_of (vertices_of ts) split.origins.items) p q split.triangles.items manifold
-        ∙ ap (edges_between same_point q p) (same q p)
+        ∙ ap (edges_between same_point q p) same

@@ -1,4 +1,4 @@
-pub mod Images
+pub mod ImageLists
 pub mod Readings
 pub mod Refusals
 pub mod WritingRefusals

@@ -1,6 +1,5 @@
 -- The volume of a mesh, triangle by triangle
-use Rattle.std.proofs.Common.{◌≡◌, ℕ, ◌+◌, ◌*◌, ◌<◌, ◌≤◌, List, [], ◌∷◌, ◌++◌, length, take, get_or, map, nat_eq, ℤ, pos, ◌+ℤ◌, sym, ap, ap₂, ◌∙◌, arith}
-use Rattle.std.specs.List.{range_with_len}
+use Rattle.std.proofs.Common.{◌≡◌, ℕ, ◌+◌, ◌*◌, ◌<◌, List, [], ◌∷◌, ◌++◌, length, take, get_or, nat_eq, ℤ, ◌+ℤ◌, sym, ap₂, ◌∙◌, arith}
 use Rattle.std.proofs.lemmas.List.FromFn.{map-range_with_len_more}
 use Rattle.ember_algebra.specs.Size.{Small}
 use Rattle.ember_algebra.specs.Sums.{total}

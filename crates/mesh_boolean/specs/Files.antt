@@ -1,5 +1,5 @@
 -- What mesh files hold, and the scene of it
-use Rattle.std.specs.Prelude.{◌≡◌, ◌≤◌, List, length, map, Option, Result, Ok}
+use Rattle.std.specs.Prelude.{◌≡◌, ◌≤◌, All, List, length, map, Option, Result, Ok}
 use Rattle.mesh_file.specs.File.Faults.{Fault}
 use Rattle.mesh_file.specs.File.ReadFile.{reading_of}
 use Rattle.mesh_grid.specs.declared.grid.choice.Wanted.{Wanted}
@@ -11,6 +11,7 @@ use Rattle.mesh_scene.specs.Scene.Faults.{IsSceneGrid}
 use Rattle.mesh_scene.specs.Scene.Images.{images_of, counts_on}
 use Rattle.mesh_read.specs.declared.surface.surface.Surface.{Surface}
 use Rattle.mesh_read.specs.Surface.Surfaces.{Content, content_of}
+use Rattle.mesh_grid.specs.Grid.Closed.{IsSurfaceClosed}
 use Rattle.mesh_placing.specs.declared.files.Placing.{Placing}
 use Rattle.mesh_boolean.specs.declared.files.InputFile.{InputFile}
 use Rattle.mesh_boolean.specs.Images.{AreGiven}
@@ -40,6 +41,11 @@ pub record ArePlaced (files : List InputFile) (placings : List (Option Placing))
   pub given : AreGiven placings as_read surfaces
   pub on_grid : IsSceneGrid surfaces wanted grid
   pub scene : IsScene (images_of grid surfaces) (length surfaces)
+
+-- the surfaces of the files, where they are placed, are closed by the exact positions of their corners
+abbrev pub AreClosedWherePlaced : List InputFile → List (Option Placing) → Type 0
+AreClosedWherePlaced files placings =
+    (read given : List Surface) → AreReadings files read → AreGiven placings read given → All IsSurfaceClosed given
 
 -- the triangles, counts and moves of such surfaces, each of which is a mesh
 pub record IsPlaced (files : List InputFile) (placings : List (Option Placing)) (wanted : Wanted)

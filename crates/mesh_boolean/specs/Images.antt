@@ -1,5 +1,5 @@
 -- The images of surfaces that are placed
-use Rattle.std.specs.Prelude.{◌≡◌, ◌≢◌, ⊤, ◌⊎◌, ℕ, List, [], ◌∷◌, length, map, Option, None, Some, slice_get}
+use Rattle.std.specs.Prelude.{◌≡◌, ◌≢◌, ⊤, ◌⊎◌, ℕ, List, [], ◌∷◌, length, Option, None, Some, slice_get}
 use Rattle.mesh_read.specs.declared.surface.surface.Surface.{Surface}
 use Rattle.mesh_read.specs.declared.surface.flaw.Flaw.{Flaw}
 use Rattle.mesh_read.specs.Surface.Surfaces.{content_of}

@@ -24,7 +24,6 @@ use Rattle.mesh_write.specs.Stl.ReadBack as stl
 use Rattle.mesh_write.specs.Stl.Written.{stl_bytes_of}
 use Rattle.mesh_read.specs.declared.surface.surface.Surface.{Surface}
 use Rattle.mesh_write.specs.declared.vertices.point.DecimalTriangle.{DecimalTriangle}
-use Rattle.mesh_write.specs.declared.vertices.point.IndexedTriangle.{IndexedTriangle}
 use Rattle.mesh_write.specs.Vertices.Vertices.{vertices_of, point_at}
 use Rattle.mesh_written.specs.Digits.{written_places}
 use Rattle.mesh_written.specs.Triangles.{AreWritten}

@@ -60,11 +60,11 @@ pub fn images_of<'a>(
 }
 
 // The image as a surface that borrows its digits, if there is one; otherwise the surface itself.
-fn given_surface<'a>(
+fn given_surface<'s: 'i, 'i>(
     alloc: Global,
-    surface: Surface<'a>,
-    image: &'a Option<TransformedSurface>,
-) -> Result<Surface<'a>, ImageFault>
+    surface: Surface<'s>,
+    image: &'i Option<TransformedSurface>,
+) -> Result<Surface<'i>, ImageFault>
     requires { IsWithinLimit surface }
     ensures lent { IfOk result (IsLent image.now surface.entry) }
     ensures within { IfOk result IsWithinLimit }
@@ -82,15 +82,15 @@ fn given_surface<'a>(
 
 /// The images as surfaces that borrow their digits; where there is none, the surface itself. If there
 /// are no images at all, these are the surfaces.
-pub fn given_surfaces<'a, 'f>(
+pub fn given_surfaces<'s: 'i, 'i, 'f>(
     alloc: Global,
-    surfaces: Vec<Surface<'a>>,
-    images: &'a [Option<TransformedSurface>],
-) -> Result<Vec<Surface<'a>>, BooleanFault<'f>>
+    surfaces: Vec<Surface<'s>>,
+    images: &'i [Option<TransformedSurface>],
+) -> Result<Vec<Surface<'i>>, BooleanFault<'f>>
     requires few { length surfaces.items ≤ 64 }
     requires images { AreForEach images.now surfaces.items }
     requires within { All IsWithinLimit surfaces.items }
-    ensures lent { IfOk result (λ given. AreLent images.now surfaces.items given.items) }
+    ensures lent { IfOk result (λ given. AreLent images.now surfaces.entry.items given.items) }
     ensures within { IfOk result (λ given. All IsWithinLimit given.items) }
     ensures fault { IfErr result (HaveFlaw images.now) }
 {

@@ -1,20 +1,18 @@
 // What outputs mean, and which files are never open.
-ghost use Rattle.std.specs.Prelude.{List, All};
+ghost use Rattle.std.specs.Prelude.{List};
 ghost use Rattle.ember_meaning.specs.Closed.Chains.{IsClosedSurface};
 ghost use Rattle.ember_expr.specs.Formula.{Formula};
-ghost use Rattle.mesh_grid.specs.Grid.Closed.{IsSurfaceClosed};
 ghost use Rattle.ember_meaning.specs.Regions.Meaning.{IsFalseOutside, HaveMeaning};
 ghost use Rattle.ember_meaning.specs.Regions.Nearby.{WindOnceAtMost};
 ghost use Rattle.mesh_scene.specs.declared.scene.fault.Open.{Open};
 ghost use Rattle.mesh_scene.specs.declared.scene.fault.SceneFault.TheVariants as scene_fault;
 ghost use Rattle.mesh_scene.specs.Scene.Images.{images_of};
 ghost use Rattle.mesh_solid.specs.Mesh.MeshFaces.{faces_of_mesh};
-ghost use Rattle.mesh_read.specs.declared.surface.surface.Surface.{Surface};
 ghost use Rattle.mesh_boolean.specs.declared.fault.BooleanFault.TheVariants.{Scene};
 ghost use Rattle.mesh_boolean.specs.declared.files.InputFile.{InputFile};
 ghost use Rattle.mesh_boolean.specs.declared.wanted.WantedFile.{WantedFile};
 ghost use Rattle.mesh_boolean.specs.declared.output.SolidFile.{SolidFile};
-ghost use Rattle.mesh_boolean.specs.Files.{AreReadings};
+ghost use Rattle.mesh_boolean.specs.Files.{AreClosedWherePlaced};
 ghost use Rattle.mesh_boolean.specs.Outputs.{IsOutput};
 ghost use Rattle.mesh_boolean.specs.Faults.{IsBooleanFault};
 ghost use Rattle.mesh_boolean.specs.Tolerance.{MeansOutsideMoves, MeansOutsideRounding};
@@ -60,11 +58,11 @@ pub fn written_files_have_the_meaning()
         MeansOutsideRounding files formula wanted out is }
 {}
 
-/// Files whose surfaces are closed by the exact positions of their corners are never refused as
-/// open.
+/// Files whose surfaces, where they are placed, are closed by the exact positions of their corners
+/// are never refused as open.
 pub fn closed_files_are_never_open()
     ensures { (files : List InputFile) (formula : Formula) (wanted : WantedFile) (o : Open) →
-        ((surfaces : List Surface) → AreReadings files surfaces → All IsSurfaceClosed surfaces) →
+        AreClosedWherePlaced files wanted.placings.now →
         IsBooleanFault files formula wanted (Scene (scene_fault.Open o)) → ⊥ }
 {
     closed_surfaces_are_never_open();

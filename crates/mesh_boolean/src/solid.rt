@@ -75,8 +75,8 @@ pub fn solid_file<
     requires digits { HasFewDigits wanted.format }
     requires executor { IsExecutor C.pre C.post executor.now }
     requires plane_executor { IsPlaneExecutor D.pre D.post plane_executor.now }
-    ensures output { IfOk result (IsOutput files.now (formula_of expr.now) wanted) }
-    ensures fault { IfErr result (IsBooleanFault files.now (formula_of expr.now) wanted) }
+    ensures output { IfOk result (IsOutput files.now (formula_of expr.now) wanted.entry) }
+    ensures fault { IfErr result (IsBooleanFault files.now (formula_of expr.now) wanted.entry) }
 {
     let placed = placed_files(alloc, files, wanted.placings, wanted.grid, stages)?;
     let sixfold_volumes = sixfold_volumes_of_meshes(alloc, &placed.scene)?;

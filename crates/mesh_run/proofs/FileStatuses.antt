@@ -9,7 +9,7 @@ use Rattle.mesh_boolean.specs.declared.fault.BooleanFault.TheVariants as boolean
 use Rattle.mesh_boolean.specs.declared.files.InputFile.{InputFile}
 use Rattle.mesh_boolean.specs.Faults.{IsBooleanFault, IsFirstUnread, IsPlacingFault, IsReadFault, IsUnplaceable}
 use Rattle.mesh_boolean.specs.Files.{AreReadings}
-use Rattle.mesh_boolean.proofs.Images.{given_are_as_many}
+use Rattle.mesh_boolean.proofs.ImageLists.{given_are_as_many}
 use Rattle.mesh_boolean.proofs.Readings.{readings_are_as_many}
 use Rattle.mesh_placing.specs.declared.files.Placing.{Placing}
 use Rattle.mesh_placing.specs.declared.image.ImageFault.{ImageFault}

@@ -9,7 +9,7 @@ use Rattle.mesh_boolean.specs.declared.output.SolidFile.{SolidFile}
 use Rattle.mesh_boolean.specs.declared.writing.OutputMesh.{OutputMesh}
 use Rattle.mesh_boolean.specs.Files.{ArePlaced}
 use Rattle.mesh_boolean.specs.Images.{AreForEach}
-use Rattle.mesh_boolean.proofs.Images.{given_are_as_many}
+use Rattle.mesh_boolean.proofs.ImageLists.{given_are_as_many}
 use Rattle.mesh_placing.specs.Files.{ArePlacingsOf}
 use Rattle.mesh_placing.specs.declared.files.Placing.{Placing}
 use Rattle.mesh_grid.specs.declared.grid.choice.Wanted.{Wanted}

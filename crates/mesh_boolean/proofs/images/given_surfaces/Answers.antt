@@ -1,6 +1,6 @@
-use Rattle.std.proofs.Common.{◌≡◌, ◌<◌, length, drop, sym, ap, subst, ◌∙◌, arith}
+use Rattle.std.proofs.Common.{sym, subst, arith}
 use Rattle.mesh_boolean.specs.Images.{HaveFlaw, IsLent}
-use Rattle.mesh_boolean.proofs.Images.{flaw_at, lent_are_all, next_of_rest, rest_has_next, rest_more, three_more, within_for_each}
+use Rattle.mesh_boolean.proofs.ImageLists.{flaw_at, next_of_rest, rest_has_next, rest_more, three_more, within_for_each}
 use Rattle.mesh_boolean.proofs.Readings.{within_more}
 use Rattle.mesh_boolean.proofs.images.given_surfaces.Goals as goal
 
@@ -27,6 +27,6 @@ loop-index-preserved c =
     record {
       rest = rest_more c.loop-index.rest.items c.remove-surface.new.self.items surfaces index i.rest c.remove-surface.ensures.items;
       lent = three_more IsLent images surfaces _ _ index c.index-images-index.result c.remove-surface.result c.in-Ok.surface
-          c.loop-index-test.true within c.index-images-index.is here i.lent c.in_ok-push.ensures.items c.in-Ok.ensures.lent;
-      within = within_more _ _ c.in-Ok.surface i.within c.in_ok-push.ensures.items c.in-Ok.ensures.within;
+          c.loop-index-test.true within c.index-images-index.is here i.lent c.in_ok-push-in-Ok.ensures.items c.in-Ok.ensures.lent;
+      within = within_more _ _ c.in-Ok.surface i.within c.in_ok-push-in-Ok.ensures.items c.in-Ok.ensures.within;
     }

@@ -1,4 +1,4 @@
-use Rattle.std.proofs.Common.{◌≡◌, ◌≤◌, ◌+◌, ◌∙◌, ◌++◌, ◌∷◌, [], ℕ, List, length, nat_eq, sym, ap, subst, arith}
+use Rattle.std.proofs.Common.{◌≡◌, ◌+◌, ◌∙◌, ◌++◌, ◌∷◌, [], ℕ, List, length, nat_eq, sym, ap, subst, arith}
 use Rattle.std.specs.List.{All, AllZip, range_with_len}
 use Rattle.std.proofs.lemmas.List.Elements.{All-filter}
 use Rattle.std.proofs.lemmas.List.Sums.{length-filter, count_by-le-length}
@@ -7,7 +7,7 @@ use Rattle.ember_model.specs.declared.plane.Plane.{Plane}
 use Rattle.ember_model.specs.declared.tri.Tri.{Tri}
 use Rattle.ember_model.specs.Meshes.{of_mesh}
 use Rattle.ember_model.specs.Valid.{IsValidPlane, IsValidTri}
-use Rattle.mesh_certificate.specs.declared.certificate.space_point.SpacePoint.{SpacePoint}
+use Rattle.mesh_point.specs.declared.space_point.SpacePoint.{SpacePoint}
 use Rattle.mesh_certificate.specs.declared.certificate.triangle.Triangle.{Triangle}
 use Rattle.mesh_sources.specs.Sources.{IsSourceCount}
 use Rattle.mesh_boolean.specs.Lying.{IsLyingCount}
@@ -34,7 +34,7 @@ source_count-requires-clause-scene c =
     subst (All IsValidTri) (sym own) (All-filter (λ (t : Tri). nat_eq t.mesh number) IsValidTri ts c.args.scene.now.kept.valid)
 
 pub source_count-requires-clause-planes : goal.source_count-requires-clause-planes
-source_count-requires-clause-planes c = subst (All IsValidPlane) (sym c.deref-3.ensures.value) c.requires
+source_count-requires-clause-planes c = subst (All IsValidPlane) (sym c.deref-in-loop-index-2.ensures.value) c.requires
 
 pub loop-index-preserved : goal.loop-index-preserved
 loop-index-preserved c =
@@ -44,10 +44,17 @@ loop-index-preserved c =
     let counts = c.loop-index.counts.items in
     let R = λ (index count : ℕ). IsLyingCount ts solid (index + 1) count in
     let own : c.deref.result.now ≡ of_mesh (i + 1) ts = c.deref.ensures.value ∙ c.in_ok-own.ensures ∙ ap (of_mesh (i + 1)) c.items.ensures in
-    let of_own = subst (λ (us : List Tri). IsSourceCount us c.deref-2.result.now c.deref-3.result.now c.deref-4.result.now c.in_ok-count.count) own c.in_ok-count.ensures in
-    let of_points = subst (λ (ps : List SpacePoint). IsSourceCount (of_mesh (i + 1) ts) ps c.deref-3.result.now c.deref-4.result.now c.in_ok-count.count) c.deref-2.ensures.value of_own in
-    let of_planes = subst (λ (ps : List Plane). IsSourceCount (of_mesh (i + 1) ts) solid.corners.items ps c.deref-4.result.now c.in_ok-count.count) c.deref-3.ensures.value of_points in
-    let is = subst (λ (us : List Triangle). IsSourceCount (of_mesh (i + 1) ts) solid.corners.items solid.planes.items us c.in_ok-count.count) c.deref-4.ensures.value of_planes in
+    let ps = c.deref-in-loop-index.result.now in
+    let planes = c.deref-in-loop-index-2.result.now in
+    let us = c.deref-in-loop-index-3.result.now in
+    let count = c.in_ok-count.count in
+    let of_own = subst (λ (own : List Tri). IsSourceCount own ps planes us count) own c.in_ok-count.ensures in
+    let of_points = subst (λ (ps : List SpacePoint). IsSourceCount (of_mesh (i + 1) ts) ps planes us count)
+    c.deref-in-loop-index.ensures.value of_own in
+    let of_planes = subst (λ (planes : List Plane). IsSourceCount (of_mesh (i + 1) ts) solid.corners.items planes us count)
+    c.deref-in-loop-index-2.ensures.value of_points in
+    let is = subst (λ (us : List Triangle). IsSourceCount (of_mesh (i + 1) ts) solid.corners.items solid.planes.items us count)
+    c.deref-in-loop-index-3.ensures.value of_planes in
     subst (λ (is : List ℕ). AllZip R is c.push.new.self.items) (sym (range_more i))
     (subst (λ (cs : List ℕ). AllZip R (range_with_len 0 i ++ i ∷ []) cs) (sym c.in_ok-push.ensures.items)
     (AllZip-push R (range_with_len 0 i) counts i c.in_ok-count.count c.loop-index.invariant is))

@@ -1,4 +1,4 @@
-use Rattle.std.proofs.Common.{List, length, sym, ap, subst, ◌∙◌, arith}
+use Rattle.std.proofs.Common.{List, length, sym, ap, subst, arith}
 use Rattle.std.specs.List.{All}
 use Rattle.std.specs.declared.option.Option.{Option}
 use Rattle.mesh_grid.specs.Grid.Grids.{IsWithinLimit}
@@ -7,7 +7,7 @@ use Rattle.mesh_read.specs.declared.surface.surface.Surface.{Surface}
 use Rattle.mesh_solid.proofs.Passing.{passed_on}
 use Rattle.mesh_boolean.specs.Images.{AreForEach, AreGiven, AreImages, AreLent, HaveFlaw, HaveImageFault}
 use Rattle.mesh_boolean.specs.Faults.{IsPlacingFault, of_scene_fault}
-use Rattle.mesh_boolean.proofs.Images.{flaws_are_faults, for_each_of, given_are_as_many, given_by_images, images_are_for_each}
+use Rattle.mesh_boolean.proofs.ImageLists.{flaws_are_faults, for_each_of, given_are_as_many, given_by_images, images_are_for_each}
 use Rattle.mesh_boolean.proofs.Readings.{readings_are_as_many, files_are_placed}
 use Rattle.mesh_boolean.proofs.Refusals.{image_fault_is, read_fault_is, scene_fault_is}
 use Rattle.mesh_boolean.proofs.placing.placed_files.Goals as goal

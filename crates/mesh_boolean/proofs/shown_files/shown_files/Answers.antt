@@ -1,12 +1,11 @@
 use Rattle.std.proofs.Common.{◌≡◌, ◌∙◌, ℕ, List, length, map, true, Option, ap, refl, subst, sym}
 use Rattle.std.specs.List.{list_all}
 use Rattle.std.proofs.lemmas.List.{length-map}
-use Rattle.mesh_certificate.specs.declared.certificate.space_point.SpacePoint.{SpacePoint}
+use Rattle.mesh_point.specs.declared.space_point.SpacePoint.{SpacePoint}
 use Rattle.mesh_certificate.specs.declared.certificate.triangle.Triangle.{Triangle}
 use Rattle.mesh_sources.specs.Sources.{IsTriangleSource}
 use Rattle.mesh_sources.specs.declared.source.Source.{Source}
 use Rattle.mesh_write.specs.declared.stl.triangle.FloatPoint.{FloatPoint}
-use Rattle.mesh_written.specs.Floats.{IsFloatFault}
 use Rattle.mesh_written.specs.Triangles.{has_corners}
 use Rattle.mesh_boolean.specs.ShownFiles.{file_of}
 use Rattle.mesh_boolean.proofs.Outputs.{corners_are_there}

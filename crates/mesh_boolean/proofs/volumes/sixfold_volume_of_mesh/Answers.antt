@@ -1,4 +1,4 @@
-use Rattle.std.proofs.Common.{◌+◌, ◌*◌, ◌≤◌, ◌<◌, ℤ, ◌∙◌, sym, subst, to_z, length, take, arith}
+use Rattle.std.proofs.Common.{◌+◌, ◌*◌, ◌≤◌, ℤ, ◌∙◌, sym, subst, arith}
 use mir.Syntax.{w64}
 use Rattle.ember_algebra.specs.Size.{Small}
 use Rattle.ember_algebra.proofs.Exact.{input, stored, ◌⊞◌, ◌&◌, done, exact, no_overflow}

@@ -5,7 +5,7 @@ use Rattle.mesh_boolean.specs.Faults.{IsBooleanFault}
 use Rattle.mesh_boolean.specs.Files.{IsSmall}
 use Rattle.mesh_boolean.specs.Outputs.{IsOutput}
 use Rattle.ember_expr.specs.Formula.{formula_of}
-use Rattle.mesh_boolean.proofs.Images.{for_each_of}
+use Rattle.mesh_boolean.proofs.ImageLists.{for_each_of}
 use Rattle.mesh_refusal.specs.Statuses.{IsStatusOf, NamesFile}
 use Rattle.mesh_run.proofs.FileStatuses.{faulty_file_is_there, status_caused}
 use Rattle.mesh_run.proofs.ToldFiles.{all_names, files_are_of_contents, files_are_small, files_are_told}

@@ -1,12 +1,16 @@
 -- Surfaces that are placed: their images, and what borrows from these
-use Rattle.std.proofs.Common.{◌≡◌, ◌<◌, ◌⊎◌, inl, inr, ℕ, zero, suc, ◌+◌, List, [], ◌∷◌, ◌++◌, length, drop, drop-cons, drop-drop, take, get_or, refl, sym, ap, subst, ◌∙◌, arith}
+use Rattle.std.proofs.Common.{◌≡◌, ◌<◌, inl, inr, ℕ, zero, suc, ◌+◌, List, [], ◌∷◌, ◌++◌, length, drop, drop-cons, drop-drop, take, get_or, refl, sym, ap, subst, ◌∙◌, arith}
 use Rattle.std.proofs.Common.{Option, None, Some}
-use Rattle.std.specs.List.{slice_get}
+use Rattle.std.specs.List.{find, slice_get}
+use Rattle.std.specs.Option.{option_map}
 use Rattle.std.proofs.lemmas.List.{length-drop, take_all, take_more}
 use Rattle.std.proofs.lemmas.Option.{none-some, same_Some, slice_get_read}
 use Rattle.mesh_read.specs.declared.surface.surface.Surface.{Surface}
-use Rattle.mesh_read.specs.declared.surface.flaw.Flaw.{Flaw}
-use Rattle.mesh_read.specs.Surface.Surfaces.{Content, content_of}
+use Rattle.mesh_grid.specs.Grid.Grids.{IsWithinLimit}
+use Rattle.mesh_read.proofs.FarPoints.{far_by_content}
+use Rattle.mesh_read.proofs.Flaws.{far_is_flaw}
+use Rattle.mesh_read.specs.declared.surface.surface.Facet.{Facet}
+use Rattle.mesh_read.specs.Surface.Surfaces.{content_of, first_far, is_facet_too_large}
 use Rattle.mesh_read.specs.Surface.Flaws.{flaw_in}
 use Rattle.mesh_place.specs.declared.surface.transformed.TransformedSurface.{TransformedSurface}
 use Rattle.mesh_place.specs.Images.{transformed_content}
@@ -98,6 +102,16 @@ pub images_are_for_each : (placings : List (Option Placing)) (read : List Surfac
     AreImages placings read images → AreForEach images read
 images_are_for_each [] read images h = inl h
 images_are_for_each (p ∷ ps) read images h = inr (three_are_as_many IsImageIf (p ∷ ps) read images h)
+
+-- a surface without a flaw has no triangle that is too far out
+pub mesh_is_within_limit : (s : Surface) → flaw_in (content_of s) ≡ None → IsWithinLimit s
+mesh_is_within_limit s e =
+    found_nowhere (find (is_facet_too_large s.vertices.items) s.facets.items)
+    (sym (far_by_content s) ∙ far_is_flaw (first_far (content_of s)) s.facets.items e)
+  where
+    found_nowhere : (found : Option Facet) → option_map (λ (f : Facet). f.place) found ≡ None → found ≡ None
+    found_nowhere None e = refl
+    found_nowhere (Some facet) e = absurd (none-some facet.place (sym e))
 
 -- ---- faults
 -- an image that is no mesh is one of a surface that is placed
