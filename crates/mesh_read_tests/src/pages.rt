@@ -12,7 +12,7 @@ fn parts_of(page: &str) -> Option<(&str, &str)> {
 
 #[test]
 fn no_surfaces(rt: HostRuntime) -> Result<(), Fail> {
-    let page = view_of(rt.alloc(), b"", &[])?;
+    let page = view_of(rt.alloc(), b"", &[], &[])?;
     let Some((head, numbers)) = parts_of(std::str::from_utf8(&page)?) else {
         return Err(Fail::from("no page"));
     };
