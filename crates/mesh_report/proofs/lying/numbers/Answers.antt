@@ -1,4 +1,4 @@
-use Rattle.std.proofs.Common.{List, [], ◌∷◌, ◌++◌, ℕ, Vec, Global, decimal, map, take, ap, sym, ◌∙◌}
+use Rattle.std.proofs.Common.{[], ◌∷◌, ◌++◌, ℕ, Vec, Global, decimal, ap, sym, ◌∙◌}
 use Rattle.std.proofs.lemmas.List.{map-append, map_more}
 use Rattle.mesh_texts.specs.Objects.{texts_of}
 use Rattle.mesh_report.proofs.lying.numbers.Goals as goal
@@ -7,9 +7,7 @@ pub loop-count-preserved : goal.loop-count-preserved
 loop-count-preserved c =
     let old = c.loop-count in
     let counts = c.args.counts.now in
-    let before = map decimal (take old.count-index counts) in
     let pushed = ap texts_of c.in_ok-push.ensures.items
     ∙ map-append (λ (v : Vec ℕ Global). v.items) old.texts.items (c.in_ok-number.field-0 ∷ []) in
     pushed ∙ (λ k. old.invariant k ++ c.in_ok-number.ensures k ∷ [])
-    ∙ ap (λ (n : ℕ). before ++ decimal n ∷ []) c.count-item.is
-    ∙ sym (map_more decimal counts old.count-index c.count-item.result c.loop-count-test.true)
+    ∙ sym (map_more decimal counts old.count-index 0 c.loop-count-test.true)
