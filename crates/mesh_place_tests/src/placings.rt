@@ -11,69 +11,77 @@ use std::test::Fail;
 type Coordinate = (bool, &'static [u8], u16);
 
 // Steps, the coordinates of a vertex, and those of its image.
-type Placing = (&'static [u8], [&'static [u8]; 3], [Coordinate; 3]);
+type Placing = (
+    &'static [u8],
+    [&'static [u8]; 3],
+    Coordinate,
+    Coordinate,
+    Coordinate,
+);
 
 static PLACINGS: [Placing; 9] = [
     (
         b"move=1,2.5,-3",
         [b"0.5", b"0", b"1e1"],
-        [(false, b"150", 2), (false, b"250", 2), (false, b"700", 2)],
+        (false, b"150", 2),
+        (false, b"250", 2),
+        (false, b"700", 2),
     ),
     (
         b"scale=2",
         [b"1.5", b"-2", b"0"],
-        [(false, b"30", 1), (true, b"40", 1), (false, b"", 1)],
+        (false, b"30", 1),
+        (true, b"40", 1),
+        (false, b"", 1),
     ),
     (
         b"scale=1,-2,0.5",
         [b"1", b"1", b"1"],
-        [(false, b"10", 1), (true, b"20", 1), (false, b"5", 1)],
+        (false, b"10", 1),
+        (true, b"20", 1),
+        (false, b"5", 1),
     ),
     (
         b"mirror=y",
         [b"1", b"2", b"3"],
-        [(false, b"1", 0), (true, b"2", 0), (false, b"3", 0)],
+        (false, b"1", 0),
+        (true, b"2", 0),
+        (false, b"3", 0),
     ),
     (
         b"turn=z,90",
         [b"1", b"2", b"3"],
-        [
-            (true, b"200000000000000000000", 20),
-            (false, b"100000000000000000000", 20),
-            (false, b"300000000000000000000", 20),
-        ],
+        (true, b"200000000000000000000", 20),
+        (false, b"100000000000000000000", 20),
+        (false, b"300000000000000000000", 20),
     ),
     (
         b"turn=z,30",
         [b"1", b"0", b"0"],
-        [
-            (false, b"86602540378443864676", 20),
-            (false, b"50000000000000000000", 20),
-            (false, b"", 20),
-        ],
+        (false, b"86602540378443864676", 20),
+        (false, b"50000000000000000000", 20),
+        (false, b"", 20),
     ),
     (
         b"turn=x,-22.5",
         [b"0", b"1", b"0"],
-        [
-            (false, b"", 20),
-            (false, b"92387953251128675613", 20),
-            (true, b"38268343236508977173", 20),
-        ],
+        (false, b"", 20),
+        (false, b"92387953251128675613", 20),
+        (true, b"38268343236508977173", 20),
     ),
     (
         b"turn=y,900;move=0,0,0.5",
         [b"1", b"0", b"2"],
-        [
-            (true, b"1000000000000000000000", 21),
-            (false, b"", 21),
-            (true, b"1500000000000000000000", 21),
-        ],
+        (true, b"1000000000000000000000", 21),
+        (false, b"", 21),
+        (true, b"1500000000000000000000", 21),
     ),
     (
         b"move=1,0,0;scale=3;mirror=x",
         [b"1", b"0", b"0"],
-        [(true, b"6", 0), (false, b"", 0), (false, b"", 0)],
+        (true, b"6", 0),
+        (false, b"", 0),
+        (false, b"", 0),
     ),
 ];
 
@@ -108,9 +116,8 @@ fn placed(alloc: Global, steps: &[u8], texts: [&[u8]; 3]) -> Result<TransformedS
 
 #[test]
 fn vertices_have_their_images(rt: HostRuntime) -> Result<(), Fail> {
-    for &(steps, texts, want) in &PLACINGS {
+    for &(steps, texts, x, y, z) in &PLACINGS {
         let all = placed(rt.alloc(), steps, texts)?;
-        let [x, y, z] = want;
         let point = all.points.first().expect(&rt, "a point");
         assert!(rt; is_coordinate(&point.x, x));
         assert!(rt; is_coordinate(&point.y, y));

@@ -14,13 +14,16 @@ fn vertex_of(texts: [&[u8]; 3]) -> Vertex<'_> {
     }
 }
 
-fn digits_of_last(surface: &TransformedSurface) -> Option<[&[u8]; 3]> {
-    let point = surface.points.last()?;
-    Some([
-        point.x.digits.as_slice(),
-        point.y.digits.as_slice(),
-        point.z.digits.as_slice(),
-    ])
+// Whether these are the digits of the last corner.
+fn ends_at(surface: &TransformedSurface, x: &[u8], y: &[u8], z: &[u8]) -> bool {
+    match surface.points.last() {
+        Some(point) => {
+            point.x.digits.as_slice() == x
+                && point.y.digits.as_slice() == y
+                && point.z.digits.as_slice() == z
+        }
+        None => false,
+    }
 }
 
 #[test]
@@ -30,9 +33,7 @@ fn boxes_have_their_corners(rt: HostRuntime) -> Result<(), Fail> {
     let first = box_between(rt.alloc(), &low, &high)?;
     assert!(rt; first.points.len() == 8);
     assert!(rt; first.facets.len() == 12);
-    assert!(rt;
-        digits_of_last(&first) == Some([b"10".as_slice(), b"25".as_slice(), b"30".as_slice()])
-    );
+    assert!(rt; ends_at(&first, b"10", b"25", b"30"));
     assert!(rt; first.facets.first().map(|f| f.corners) == Some([0, 3, 2]));
     let upright = box_between(rt.alloc(), &low, &vertex_of([b"1", b"1", b"1"]))?;
     assert!(rt; upright.facets.first().map(|f| f.corners) == Some([0, 2, 3]));
@@ -51,12 +52,14 @@ fn cylinders_have_their_corners(rt: HostRuntime) -> Result<(), Fail> {
     let square = cylinder(rt.alloc(), &centre, &radius, &height, 4)?;
     assert!(rt; square.points.len() == 8);
     assert!(rt; square.facets.len() == 12);
-    let want = [
-        b"".as_slice(),
-        b"200000000000000000000".as_slice(),
-        b"400000000000000000000".as_slice(),
-    ];
-    assert!(rt; digits_of_last(&square) == Some(want));
+    assert!(rt;
+        ends_at(
+            &square,
+            b"",
+            b"200000000000000000000",
+            b"400000000000000000000"
+        )
+    );
     for sides in [0, 2, 4097] {
         match cylinder(rt.alloc(), &centre, &radius, &height, sides) {
             Ok(_) => assert!(rt; false),
