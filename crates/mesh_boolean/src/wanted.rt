@@ -25,9 +25,9 @@ pub enum MeshFormat {
 /// A wanted file: how the files are placed, the grid on which the solid is exact, the format in which
 /// it is written, and what is wanted beside it.
 #[derive(Clone, Copy)]
-pub struct WantedFile<'a> {
+pub struct WantedFile<'p, 's> {
     /// None at all, or an entry for each file.
-    pub placings: &'a [Option<Placing<'a>>],
+    pub placings: &'p [Option<Placing<'s>>],
     pub grid: Wanted,
     pub format: MeshFormat,
     /// Whether the triangles are wanted as a page shows them.

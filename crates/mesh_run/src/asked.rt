@@ -18,8 +18,8 @@ use std::alloc::{AllocError, Global};
 
 // The file and the expression that a request asks for.
 #[derive(Drop)]
-pub(crate) struct Asked<'a> {
-    pub wanted: WantedFile<'a>,
+pub(crate) struct Asked<'p, 's> {
+    pub wanted: WantedFile<'p, 's>,
     pub expr: Expr,
 }
 
@@ -70,10 +70,10 @@ pub(crate) fn placings_asked(
 }
 
 // The file that a request asks for, with its placings, unless no grid has the step.
-fn file_asked<'a>(
+fn file_asked<'p, 's>(
     request: &Request,
-    placings: &'a [Option<Placing<'a>>],
-) -> Result<WantedFile<'a>, Status>
+    placings: &'p [Option<Placing<'s>>],
+) -> Result<WantedFile<'p, 's>, Status>
     requires limits { IsWithinLimits request.now }
     requires placings { AreAsked request.now placings.now }
     ensures wanted { IfOk result (AsksFile request.now) }
@@ -116,11 +116,11 @@ fn bounded_expression(alloc: Global, text: &Text, meshes: u32) -> Result<Expr, S
 
 // The file and the expression that a request asks for, with its placings, or why it asks for nothing
 // that can be computed.
-pub(crate) fn asked_by<'a>(
+pub(crate) fn asked_by<'p, 's>(
     alloc: Global,
     request: &Request,
-    placings: &'a [Option<Placing<'a>>],
-) -> Result<Asked<'a>, Status>
+    placings: &'p [Option<Placing<'s>>],
+) -> Result<Asked<'p, 's>, Status>
     requires limits { IsWithinLimits request.now }
     requires placings { AreAsked request.now placings.now }
     ensures asks { IfOk result (λ asked. Asks request.now asked.wanted (formula_of asked.expr)) }
