@@ -49,7 +49,8 @@ returns-clause-stop g c =
     let name = string_bytes c.in_ok-from_str.field-0 in
     let same = c.in_ok-from_str.ensures.ok ∙ c.as_str.ensures in
     let is_page = subst (λ (names : List (List ℕ)). IsPageOf shelf.told names page) c.items.ensures c.in-Ok.ensures.page in
-    let is = record { page = page; is_page = is_page; all = ap (λ (n : List ℕ). (n, page) ∷ []) same } in
+    let is : IsPageFor request shelf.told ((name, page) ∷ []) =
+    record { page = page; is_page = is_page; all = ap (λ (n : List ℕ). (n, page) ∷ []) same } in
     IfErr-weaker c.write_files.result _ (IsPageUnmet request shelf target)
     (λ status h. stop_is_unmet (IsReadingCause request.files shelf) (IsPageFor request shelf.told) target ((name, page) ∷ []) is status h)
     c.write_files.ensures.stop
