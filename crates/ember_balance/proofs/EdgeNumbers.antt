@@ -12,41 +12,42 @@ use Rattle.ember_algebra.specs.Sign.{is_negative, is_zero}
 use Rattle.ember_algebra.proofs.Laws.{linear}
 use Rattle.ember_algebra.proofs.Size.{fits_small}
 use Rattle.ember_model.specs.declared.point.Corner.{Corner}
-use Rattle.ember_model.specs.Valid.{IsValidCorner}
+use Rattle.ember_model.specs.Limits.{broad_limit}
 use Rattle.ember_model.specs.Meshes.{Edge}
+use Rattle.ember_model.specs.Within.{IsCornerWithin}
 use Rattle.ember_model.proofs.SignTests.{negative_out, zero_out, clash, negative_not_out}
-use Rattle.ember_balance.specs.Numbers.{digit, corner_number, edge_number, IsValidEdge}
+use Rattle.ember_balance.specs.Numbers.{digit, corner_number, edge_number, IsBroadEdge}
 use Rattle.ember_balance.specs.Loose.{precedes, coordinates, comes_before}
 
-digit_small : {z : ℤ} → Small 2047 z → digit z < 4096
+digit_small : {z : ℤ} → Small broad_limit z → digit z < 1048576
 digit_small {z} p = omega (arith, ints, p.small)
 
-digit_less : {x y : ℤ} → Small 2047 x → Small 2047 y → x <ℤ y → digit x < digit y
+digit_less : {x y : ℤ} → Small broad_limit x → Small broad_limit y → x <ℤ y → digit x < digit y
 digit_less {x} {y} p q l = omega (arith, ints, p.small, q.small, l)
 
-digit_same : {x y : ℤ} → Small 2047 x → Small 2047 y → digit x ≡ digit y → x ≡ y
+digit_same : {x y : ℤ} → Small broad_limit x → Small broad_limit y → digit x ≡ digit y → x ≡ y
 digit_same {x} {y} p q e = omega (arith, ints, p.small, q.small, e)
 
-corner_small : {c : Corner} → IsValidCorner c → corner_number c < 2 ^ 36
+corner_small : {c : Corner} → IsCornerWithin broad_limit c → corner_number c < 2 ^ 60
 corner_small {c} v = omega (arith, digit_small v.x, digit_small v.y, digit_small v.z)
 
--- valid corners with one number are equal
-pub same_corners : {c d : Corner} → IsValidCorner c → IsValidCorner d → corner_number c ≡ corner_number d → c ≡ d
+-- corners on the broad grid with one number are equal
+pub same_corners : {c d : Corner} → IsCornerWithin broad_limit c → IsCornerWithin broad_limit d → corner_number c ≡ corner_number d → c ≡ d
 same_corners {c} {d} v w e =
-    let p = same_from_place (digit c.x * 4096 + digit c.y) (digit c.z) (digit d.x * 4096 + digit d.y) (digit d.z) 4096 (digit_small v.z) (digit_small w.z) e in
-    let q = same_from_place (digit c.x) (digit c.y) (digit d.x) (digit d.y) 4096 (digit_small v.y) (digit_small w.y) p.0 in
+    let p = same_from_place (digit c.x * 1048576 + digit c.y) (digit c.z) (digit d.x * 1048576 + digit d.y) (digit d.z) 1048576 (digit_small v.z) (digit_small w.z) e in
+    let q = same_from_place (digit c.x) (digit c.y) (digit d.x) (digit d.y) 1048576 (digit_small v.y) (digit_small w.y) p.0 in
     let x = digit_same v.x w.x q.0 in let y = digit_same v.y w.y q.1 in let z = digit_same v.z w.z p.1 in
     λ i. record { x = x i; y = y i; z = z i }
 
--- the number of a valid edge is below 2^72
-pub edge_small : {e : Edge} → IsValidEdge e → edge_number e < 2 ^ 72
+-- the number of an edge on the broad grid is below 2^120
+pub edge_small : {e : Edge} → IsBroadEdge e → edge_number e < 2 ^ 120
 edge_small {e} v = omega (arith, corner_small v.from, corner_small v.to)
 
--- valid edges with one number are equal
-pub same_edges : {e f : Edge} → IsValidEdge e → IsValidEdge f → edge_number e ≡ edge_number f → e ≡ f
+-- edges on the broad grid with one number are equal
+pub same_edges : {e f : Edge} → IsBroadEdge e → IsBroadEdge f → edge_number e ≡ edge_number f → e ≡ f
 same_edges {e} {f} v w h =
     let p = same_from_place (corner_number e.from) (corner_number e.to) (corner_number f.from) (corner_number f.to)
-    (2 ^ 36) (corner_small v.to) (corner_small w.to) h in
+    (2 ^ 60) (corner_small v.to) (corner_small w.to) h in
     let from = same_corners v.from w.from p.0 in let to = same_corners v.to w.to p.1 in
     λ i. record { from = from i; to = to i }
 
@@ -65,7 +66,7 @@ corner_precedes c d r =
     && (is_negative (c.y -ℤ d.y) || (is_zero (c.y -ℤ d.y)
     && (is_negative (c.z -ℤ d.z) || (is_zero (c.z -ℤ d.z) && r)))))
 
-corners_rise : (c d : Corner) (r : Bool) → IsValidCorner c → IsValidCorner d → corner_precedes c d r ≡ true →
+corners_rise : (c d : Corner) (r : Bool) → IsCornerWithin broad_limit c → IsCornerWithin broad_limit d → corner_precedes c d r ≡ true →
     (corner_number c < corner_number d) ⊎ ((corner_number c ≡ corner_number d) × (r ≡ true))
 corners_rise c d r v w e = by_x (first_difference c.x d.x _ e)
   where
@@ -89,7 +90,7 @@ corners_rise c d r v w e = by_x (first_difference c.x d.x _ e)
     by_x (inr t) = by_y (ap digit t.0) (first_difference c.y d.y _ t.1)
 
 -- an edge that comes before another has the lower number
-pub edges_rise : (e f : Edge) → IsValidEdge e → IsValidEdge f → comes_before e f ≡ true → edge_number e < edge_number f
+pub edges_rise : (e f : Edge) → IsBroadEdge e → IsBroadEdge f → comes_before e f ≡ true → edge_number e < edge_number f
 edges_rise e f v w h = by (corners_rise e.from f.from (corner_precedes e.to f.to false) v.from w.from h)
   where
     by_end : corner_number e.from ≡ corner_number f.from →
@@ -134,27 +135,27 @@ one_edge e f p q =
 
 -- ---- read back
 -- the coordinate that the code reads from its digit
-pub read_digit : (z : ℤ) (n : ℕ) → Small 2047 z → n ≡ digit z → to_z w32 (of_z w32 (to_z w32 n -ℤ pos 2047)) ≡ z
+pub read_digit : (z : ℤ) (n : ℕ) → Small broad_limit z → n ≡ digit z → to_z w32 (of_z w32 (to_z w32 n -ℤ pos 524287)) ≡ z
 read_digit z n p e =
     let l = digit_small p in
-    ap (λ (y : ℤ). to_z w32 (of_z w32 (y -ℤ pos 2047))) (to_z_pos w32 n (omega (arith, e, l)))
-    ∙ to_z-of_z w32 (pos n -ℤ pos 2047) (subst (SFits w32) (sym same) (fits_small w32 p tt)) ∙ same
+    ap (λ (y : ℤ). to_z w32 (of_z w32 (y -ℤ pos 524287))) (to_z_pos w32 n (omega (arith, e, l)))
+    ∙ to_z-of_z w32 (pos n -ℤ pos 524287) (subst (SFits w32) (sym same) (fits_small w32 p tt)) ∙ same
   where
-    same : pos n -ℤ pos 2047 ≡ z
+    same : pos n -ℤ pos 524287 ≡ z
     same = omega (arith, ints, e, p.small)
 
 -- the three digits of a corner's number are those of its coordinates
-pub digits_of : (c : Corner) → IsValidCorner c → (n : ℕ) → corner_number c ≡ n →
-    (n / 16777216 ≡ digit c.x) × (n / 4096 % 4096 ≡ digit c.y) × (n % 4096 ≡ digit c.z)
+pub digits_of : (c : Corner) → IsCornerWithin broad_limit c → (n : ℕ) → corner_number c ≡ n →
+    (n / 1099511627776 ≡ digit c.x) × (n / 1048576 % 1048576 ≡ digit c.y) × (n % 1048576 ≡ digit c.z)
 digits_of c v n e =
     let x = digit_small v.x in let y = digit_small v.y in let z = digit_small v.z in
-    let a : n / 4096 ≡ digit c.x * 4096 + digit c.y = rw (sym e) (div-mul-add (digit c.x * 4096 + digit c.y) 4096 (digit c.z) z) in
-    (omega (arith, e, x, y, z), rw a (mod-mul-add (digit c.x) 4096 (digit c.y) y), rw (sym e) (mod-mul-add (digit c.x * 4096 + digit c.y) 4096 (digit c.z) z))
+    let a : n / 1048576 ≡ digit c.x * 1048576 + digit c.y = rw (sym e) (div-mul-add (digit c.x * 1048576 + digit c.y) 1048576 (digit c.z) z) in
+    (omega (arith, e, x, y, z), rw a (mod-mul-add (digit c.x) 1048576 (digit c.y) y), rw (sym e) (mod-mul-add (digit c.x * 1048576 + digit c.y) 1048576 (digit c.z) z))
 
--- the quotient and the rest of an edge's number by 2^36 are the numbers of its ends
-pub ends_from : (e : Edge) → IsValidEdge e → (n : ℕ) → edge_number e ≡ n → (corner_number e.from ≡ n / 2 ^ 36) × (corner_number e.to ≡ n % 2 ^ 36)
+-- the quotient and the rest of an edge's number by 2^60 are the numbers of its ends
+pub ends_from : (e : Edge) → IsBroadEdge e → (n : ℕ) → edge_number e ≡ n → (corner_number e.from ≡ n / 2 ^ 60) × (corner_number e.to ≡ n % 2 ^ 60)
 ends_from e v n h =
     let l = corner_small v.to in (
-      rw (sym h) (sym (div-mul-add (corner_number e.from) (2 ^ 36) (corner_number e.to) l)),
-      rw (sym h) (sym (mod-mul-add (corner_number e.from) (2 ^ 36) (corner_number e.to) l)),
+      rw (sym h) (sym (div-mul-add (corner_number e.from) (2 ^ 60) (corner_number e.to) l)),
+      rw (sym h) (sym (mod-mul-add (corner_number e.from) (2 ^ 60) (corner_number e.to) l)),
     )

@@ -4,16 +4,19 @@ use Rattle.std.proofs.Common.{map, length, take, get_or, refl, sym, ap, subst, �
 use Rattle.std.specs.List.{All, AllByRecursion}
 use Rattle.std.proofs.lemmas.List.{take_more, map-append}
 use Rattle.std.proofs.lemmas.Bool.{eq-eqb, eqb-true, ne_eqb}
-use Rattle.std.proofs.lemmas.List.Elements.{All-head, All-tail}
+use Rattle.std.proofs.lemmas.List.Elements.{All-head, All-tail, All-weaker}
 use Rattle.ember_algebra.proofs.Sums.{occurrences-map}
 use Rattle.ember_model.specs.declared.tri.Tri.{Tri}
+use Rattle.ember_model.specs.Limits.{broad_limit}
 use Rattle.ember_model.specs.Valid.{IsValidTri}
 use Rattle.ember_model.specs.Meshes.{Edge, reversed, edges_in, same_edge, edge_count}
-use Rattle.ember_model.proofs.SignTests.{clash, In, is_zero-self}
-use Rattle.ember_model.proofs.SameEdges.{same_corner_out, same_edge_out, same_edge-refl}
+use Rattle.ember_model.specs.Within.{IsTriWithin}
+use Rattle.ember_model.proofs.PlaneSizes.{tri_broad}
+use Rattle.ember_model.proofs.SignTests.{clash, In}
+use Rattle.ember_model.proofs.SameEdges.{same_edge_out, same_edge-refl}
 use Rattle.ember_model.proofs.SameEdges.{same_edge_reversed}
 use Rattle.ember_balance.specs.Counts.{count}
-use Rattle.ember_balance.specs.Numbers.{edge_number, two_way_number, IsValidEdge}
+use Rattle.ember_balance.specs.Numbers.{edge_number, two_way_number, IsBroadEdge}
 
 -- ---- equal edges
 -- an edge is as often a reverse as its own reverse is an edge
@@ -21,8 +24,8 @@ pub times_reversed : (e : Edge) (es : List Edge) → edge_count e (map reversed 
 times_reversed = occurrences-map same_edge reversed reversed same_edge_reversed
 
 -- ---- by their numbers
-module _ (number : Edge → ℕ) (one : (e f : Edge) → IsValidEdge e → IsValidEdge f → number e ≡ number f → e ≡ f) where
-  same_by_number : (e f : Edge) → IsValidEdge e → IsValidEdge f → same_edge e f ≡ eqb (number e) (number f)
+module _ (number : Edge → ℕ) (one : (e f : Edge) → IsBroadEdge e → IsBroadEdge f → number e ≡ number f → e ≡ f) where
+  same_by_number : (e f : Edge) → IsBroadEdge e → IsBroadEdge f → same_edge e f ≡ eqb (number e) (number f)
   same_by_number e f v w = by (same_edge e f) refl
     where
       by : (b : Bool) → same_edge e f ≡ b → b ≡ eqb (number e) (number f)
@@ -31,7 +34,7 @@ module _ (number : Edge → ℕ) (one : (e f : Edge) → IsValidEdge e → IsVal
           sym (ne_eqb _ _ (λ n. clash (subst (λ (g : Edge). same_edge e g ≡ true) (one e f v w n) (same_edge-refl e)) h))
 
   -- an edge occurs as often as its number among the numbers
-  pub times_is_count : (e : Edge) → IsValidEdge e → (es : List Edge) → AllByRecursion IsValidEdge es → edge_count e es ≡ count (number e) (map number es)
+  pub times_is_count : (e : Edge) → IsBroadEdge e → (es : List Edge) → AllByRecursion IsBroadEdge es → edge_count e es ≡ count (number e) (map number es)
   times_is_count e v [] a = refl
   times_is_count e v (f ∷ es) a =
       let t = times_is_count e v es a.1 in
@@ -39,17 +42,21 @@ module _ (number : Edge → ℕ) (one : (e f : Edge) → IsValidEdge e → IsVal
       λ i. cond (s i) 1 0 + t i
 
 -- ---- the edges of triangles
--- the edges of valid triangles are valid
-pub valid_edges : (ts : List Tri) → All IsValidTri ts → AllByRecursion IsValidEdge (edges_in ts)
-valid_edges [] h = tt
-valid_edges (t ∷ ts) h =
-    let v = All-head IsValidTri t ts h in
-    (record { from = v.a; to = v.b }, (record { from = v.b; to = v.c }, (record { from = v.c; to = v.a }, valid_edges ts (All-tail IsValidTri t ts h))))
+-- valid triangles are within the broad limit
+pub tris_broad : (ts : List Tri) → All IsValidTri ts → All (IsTriWithin broad_limit) ts
+tris_broad = All-weaker IsValidTri (IsTriWithin broad_limit) (λ t. tri_broad)
 
--- the reverses of valid edges are valid
-pub valid_reversed : (es : List Edge) → AllByRecursion IsValidEdge es → AllByRecursion IsValidEdge (map reversed es)
-valid_reversed [] a = tt
-valid_reversed (e ∷ es) a = (record { from = a.0.to; to = a.0.from }, valid_reversed es a.1)
+-- the edges of triangles on the broad grid are on it
+pub broad_edges : (ts : List Tri) → All (IsTriWithin broad_limit) ts → AllByRecursion IsBroadEdge (edges_in ts)
+broad_edges [] h = tt
+broad_edges (t ∷ ts) h =
+    let v = All-head (IsTriWithin broad_limit) t ts h in
+    (record { from = v.a; to = v.b }, (record { from = v.b; to = v.c }, (record { from = v.c; to = v.a }, broad_edges ts (All-tail (IsTriWithin broad_limit) t ts h))))
+
+-- the reverses of edges on the broad grid are on it
+pub broad_reversed : (es : List Edge) → AllByRecursion IsBroadEdge es → AllByRecursion IsBroadEdge (map reversed es)
+broad_reversed [] a = tt
+broad_reversed (e ∷ es) a = (record { from = a.0.to; to = a.0.from }, broad_reversed es a.1)
 
 -- triangles have three edges each
 pub length-edges_in : (ts : List Tri) → length (edges_in ts) ≡ 3 * length ts
@@ -106,11 +113,11 @@ member_from_times e (f ∷ es) l = by (same_edge e f) refl l (member_from_times 
     by true h l k = inl (same_edge_out e f h)
     by false h l k = inr (k (omega (arith, l)))
 
--- a member of a list of valid edges is valid
-pub valid_member : (e : Edge) (es : List Edge) → In e es → AllByRecursion IsValidEdge es → IsValidEdge e
-valid_member e [] m a = absurd m
-valid_member e (f ∷ es) (inl p) a = subst IsValidEdge (sym p) a.0
-valid_member e (f ∷ es) (inr m) a = valid_member e es m a.1
+-- a member of a list of edges on the broad grid is on it
+pub broad_member : (e : Edge) (es : List Edge) → In e es → AllByRecursion IsBroadEdge es → IsBroadEdge e
+broad_member e [] m a = absurd m
+broad_member e (f ∷ es) (inl p) a = subst IsBroadEdge (sym p) a.0
+broad_member e (f ∷ es) (inr m) a = broad_member e es m a.1
 
 pub record Numbered (k : ℕ) (es : List Edge) : Type 0 where
   pub edge : Edge

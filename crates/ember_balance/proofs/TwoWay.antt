@@ -6,15 +6,16 @@ use Rattle.std.specs.List.Sorted.{IsPermutation}
 use Rattle.std.proofs.lemmas.Bool.{cases_lt, or_cases, lt-ltb, le-ltb, eqb-true, eqb-false, ne_eqb, eq-eqb}
 use Rattle.ember_algebra.proofs.Sums.{occurrences-append}
 use Rattle.ember_model.specs.declared.tri.Tri.{Tri}
-use Rattle.ember_model.specs.Valid.{IsValidTri}
+use Rattle.ember_model.specs.Limits.{broad_limit}
 use Rattle.ember_model.specs.Meshes.{Edge, reversed, edges_in, edge_count, IsBalanced}
+use Rattle.ember_model.specs.Within.{IsTriWithin}
 use Rattle.ember_model.proofs.SignTests.{clash}
 use Rattle.ember_balance.specs.declared.two_way.Tally.{Tally}
 use Rattle.ember_balance.specs.Counts.{count}
-use Rattle.ember_balance.specs.Numbers.{corner_number, edge_number, two_way_number, has_one_end, AreTwoWay, IsValidEdge}
+use Rattle.ember_balance.specs.Numbers.{corner_number, edge_number, two_way_number, has_one_end, AreTwoWay, IsBroadEdge}
 use Rattle.ember_balance.specs.Tallies.{IsTallied}
 use Rattle.ember_balance.proofs.EdgeNumbers.{same_corners, same_edges, ends_from}
-use Rattle.ember_balance.proofs.Edges.{times_is_count, valid_edges}
+use Rattle.ember_balance.proofs.Edges.{times_is_count, broad_edges}
 use Rattle.ember_balance.proofs.Sorted.{by_standing}
 use Rattle.ember_balance.proofs.SortedSurplus.{count_permutation}
 
@@ -95,10 +96,10 @@ rising_number e l = rw (le-ltb (corner_number e.to) (corner_number e.from) l) re
 falling_number : (e : Edge) → corner_number e.to < corner_number e.from → two_way_number e ≡ 2 * edge_number (reversed e) + 1
 falling_number e l = rw (lt-ltb (corner_number e.to) (corner_number e.from) l) refl
 
-valid_turned : {e : Edge} → IsValidEdge e → IsValidEdge (reversed e)
-valid_turned v = record { from = v.to; to = v.from }
+broad_turned : {e : Edge} → IsBroadEdge e → IsBroadEdge (reversed e)
+broad_turned v = record { from = v.to; to = v.from }
 
-one_two_way : (e f : Edge) → IsValidEdge e → IsValidEdge f → two_way_number e ≡ two_way_number f → e ≡ f
+one_two_way : (e f : Edge) → IsBroadEdge e → IsBroadEdge f → two_way_number e ≡ two_way_number f → e ≡ f
 one_two_way e f v w h =
     by (cases_lt (corner_number e.to) (corner_number e.from)) (cases_lt (corner_number f.to) (corner_number f.from))
   where
@@ -106,41 +107,41 @@ one_two_way e f v w h =
         (corner_number f.to < corner_number f.from) ⊎ (corner_number f.from ≤ corner_number f.to) → e ≡ f
     by (inl l) (inl m) =
         let a = falling_number e l in let b = falling_number f m in
-        ap reversed (same_edges (valid_turned v) (valid_turned w) (omega (arith, a, b, h)))
+        ap reversed (same_edges (broad_turned v) (broad_turned w) (omega (arith, a, b, h)))
     by (inl l) (inr m) = let a = falling_number e l in let b = rising_number f m in absurd (omega (arith, a, b, h))
     by (inr l) (inl m) = let a = rising_number e l in let b = falling_number f m in absurd (omega (arith, a, b, h))
     by (inr l) (inr m) =
         let a = rising_number e l in let b = rising_number f m in same_edges v w (omega (arith, a, b, h))
 
 -- ---- the triangles
-module _ (ts : List Tri) (valid : All IsValidTri ts) (ks : List ℕ) (p : IsPermutation (map two_way_number (edges_in ts)) ks) (h : AreTwoWay ks) where
-  standing : (e : Edge) → IsValidEdge e → count (two_way_number e) ks ≡ edge_count e (edges_in ts)
+module _ (ts : List Tri) (within : All (IsTriWithin broad_limit) ts) (ks : List ℕ) (p : IsPermutation (map two_way_number (edges_in ts)) ks) (h : AreTwoWay ks) where
+  standing : (e : Edge) → IsBroadEdge e → count (two_way_number e) ks ≡ edge_count e (edges_in ts)
   standing e v =
-      count_permutation _ _ _ p ∙ sym (times_is_count two_way_number one_two_way e v (edges_in ts) (valid_edges ts valid))
+      count_permutation _ _ _ p ∙ sym (times_is_count two_way_number one_two_way e v (edges_in ts) (broad_edges ts within))
 
-  rising : (e : Edge) → IsValidEdge e → corner_number e.from < corner_number e.to → edge_count e (edges_in ts) ≡ edge_count (reversed e) (edges_in ts)
+  rising : (e : Edge) → IsBroadEdge e → corner_number e.from < corner_number e.to → edge_count e (edges_in ts) ≡ edge_count (reversed e) (edges_in ts)
   rising e v l =
       let n = ends_from e v (edge_number e) refl in
       let two : has_one_end (edge_number e) ≡ false = ne_eqb _ _ (λ q. omega (arith, n.0, n.1, q, l)) in
-      let a = standing e v in let b = standing (reversed e) (valid_turned v) in
+      let a = standing e v in let b = standing (reversed e) (broad_turned v) in
       let d = rising_number e (omega (arith, l)) in let f = falling_number (reversed e) l in
       let g = h.each (edge_number e) two in
       sym a ∙ ap (λ (k : ℕ). count k ks) d ∙ g ∙ sym (ap (λ (k : ℕ). count k ks) f) ∙ b
 
-  even : (e : Edge) → IsValidEdge e → edge_count e (edges_in ts) ≡ edge_count (reversed e) (edges_in ts)
+  even : (e : Edge) → IsBroadEdge e → edge_count e (edges_in ts) ≡ edge_count (reversed e) (edges_in ts)
   even e v = by (cases_lt (corner_number e.from) (corner_number e.to)) (cases_lt (corner_number e.to) (corner_number e.from))
     where
       by : (corner_number e.from < corner_number e.to) ⊎ (corner_number e.to ≤ corner_number e.from) →
           (corner_number e.to < corner_number e.from) ⊎ (corner_number e.from ≤ corner_number e.to) →
           edge_count e (edges_in ts) ≡ edge_count (reversed e) (edges_in ts)
       by (inl l) m = rising e v l
-      by (inr l) (inl m) = sym (rising (reversed e) (valid_turned v) m)
+      by (inr l) (inl m) = sym (rising (reversed e) (broad_turned v) m)
       by (inr l) (inr m) =
           let q = same_corners v.from v.to (omega (arith, l, m)) in
           λ i. edge_count (record { from = q i; to = sym q i }) (edges_in ts)
 
   at_most : (e : Edge) → edge_count e (edges_in ts) ≤ edge_count (reversed e) (edges_in ts)
-  at_most e = by_standing ts valid e (λ v. let q = even e v in omega (arith, q))
+  at_most e = by_standing ts within e (λ v. let q = even e v in omega (arith, q))
 
   pub balanced_by_two_way : IsBalanced ts
   balanced_by_two_way e =

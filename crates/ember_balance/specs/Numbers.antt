@@ -4,21 +4,22 @@ use Rattle.std.specs.Prelude.{if◌then◌else◌, List, map, ℤ, pos, ◌+ℤ�
 use Rattle.std.specs.List.Sorted.{IsPermutation, IsNonDecreasing}
 use Rattle.ember_model.specs.declared.point.Corner.{Corner}
 use Rattle.ember_model.specs.declared.tri.Tri.{Tri}
-use Rattle.ember_model.specs.Valid.{IsValidCorner}
+use Rattle.ember_model.specs.Limits.{broad_limit}
 use Rattle.ember_model.specs.Meshes.{Edge, reversed, edges_in}
+use Rattle.ember_model.specs.Within.{IsCornerWithin}
 use Rattle.ember_balance.specs.Counts.{count}
 
--- from 0 to 4094
+-- from 0 to 1,048,574
 abbrev pub digit : ℤ → ℕ
-digit z = unsigned_abs (z +ℤ pos 2047)
+digit z = unsigned_abs (z +ℤ pos 524287)
 
--- the digits x, y and z to the base 4096
+-- the digits x, y and z to the base 2^20
 abbrev pub corner_number : Corner → ℕ
-corner_number c = (digit c.x * 4096 + digit c.y) * 4096 + digit c.z
+corner_number c = (digit c.x * 1048576 + digit c.y) * 1048576 + digit c.z
 
--- the number of an edge: those of its start and its end, 36 bits each
+-- the number of an edge: those of its start and its end, 60 bits each
 abbrev pub edge_number : Edge → ℕ
-edge_number e = corner_number e.from * 2 ^ 36 + corner_number e.to
+edge_number e = corner_number e.from * 2 ^ 60 + corner_number e.to
 
 -- one number for an edge and its reverse, doubled; one more for an edge to a corner of lower number
 abbrev pub two_way_number : Edge → ℕ
@@ -27,16 +28,16 @@ two_way_number e =
 
 -- of the edge with this number both ends are one corner
 abbrev pub has_one_end : ℕ → Bool
-has_one_end n = nat_eq (n / 2 ^ 36) (n % 2 ^ 36)
+has_one_end n = nat_eq (n / 2 ^ 60) (n % 2 ^ 60)
 
 -- of the two-way numbers, each edge with two ends has one direction as often as the other
 pub record AreTwoWay (ks : List ℕ) : Type 0 where
   pub each : (n : ℕ) → has_one_end n ≡ false → count (2 * n) ks ≡ count (2 * n + 1) ks
 
--- both ends are valid
-pub record IsValidEdge (e : Edge) : Type 0 where
-  pub from : IsValidCorner e.from
-  pub to : IsValidCorner e.to
+-- both ends are on the broad grid
+pub record IsBroadEdge (e : Edge) : Type 0 where
+  pub from : IsCornerWithin broad_limit e.from
+  pub to : IsCornerWithin broad_limit e.to
 
 -- the numbers of the edges of the triangles, and those of their reverses, each list in order
 pub record AreNumbers (ts : List Tri) (ns rs : List ℕ) : Type 0 where

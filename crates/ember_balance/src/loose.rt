@@ -1,10 +1,10 @@
 // Edges that occur more often than their reverse.
 ghost use Rattle.std.specs.Prelude.{◌≡◌, ◌<◌, ◌≤◌, ◌^◌, [], ◌∷◌, ◌++◌, length, map, All, IfOk, OnOk, IsTrue, MatchOption};
-ghost use Rattle.ember_model.specs.Limits.{most_edges, most_triangles};
-ghost use Rattle.ember_model.specs.Valid.{IsValidCorner, IsValidTri};
+ghost use Rattle.ember_model.specs.Limits.{broad_limit, most_edges, most_triangles};
 ghost use Rattle.ember_model.specs.Meshes.{Edge, reversed, edges_in, IsBalanced};
+ghost use Rattle.ember_model.specs.Within.{IsCornerWithin, IsTriWithin};
 ghost use Rattle.ember_balance.specs.Counts.{count};
-ghost use Rattle.ember_balance.specs.Numbers.{edge_number, two_way_number, IsValidEdge, AreNumbers};
+ghost use Rattle.ember_balance.specs.Numbers.{edge_number, two_way_number, IsBroadEdge, AreNumbers};
 ghost use Rattle.ember_balance.specs.Loose.{edge_of, loose_of, IsLeastLoose};
 
 use crate::numbers::{edge_number, ends_of, two_way_number};
@@ -31,8 +31,8 @@ struct Numbers {
 
 impl Numbers {
     fn push(&mut self, from: &Corner, to: &Corner) -> Result<(), OutOfMemory>
-        requires from { IsValidCorner from.now }
-        requires to { IsValidCorner to.now }
+        requires from { IsCornerWithin broad_limit from.now }
+        requires to { IsCornerWithin broad_limit to.now }
         ensures there { OnOk result (self.new.there.items ≡ self.old.there.items ++
             edge_number (record { from = from.now; to = to.now }) ∷ []) }
         ensures back { OnOk result (self.new.back.items ≡ self.old.back.items ++
@@ -44,7 +44,7 @@ impl Numbers {
     }
 
     fn push_edges(&mut self, t: &Tri) -> Result<(), OutOfMemory>
-        requires { IsValidTri t.now }
+        requires { IsTriWithin broad_limit t.now }
         ensures there { OnOk result (self.new.there.items ≡ self.old.there.items ++
             map edge_number (edges_in (t.now ∷ []))) }
         ensures back { OnOk result (self.new.back.items ≡ self.old.back.items ++
@@ -57,7 +57,7 @@ impl Numbers {
 }
 
 fn numbers_of(alloc: Global, tris: &[Tri]) -> Result<Numbers, OutOfMemory>
-    requires valid { All IsValidTri tris.now }
+    requires within { All (IsTriWithin broad_limit) tris.now }
     requires few { length tris.now ≤ most_triangles }
     ensures there { IfOk result (λ n. n.there.items ≡ map edge_number (edges_in tris.now)) }
     ensures back { IfOk result (λ n. n.back.items ≡ map edge_number (map reversed (edges_in tris.now))) }
@@ -74,7 +74,7 @@ fn numbers_of(alloc: Global, tris: &[Tri]) -> Result<Numbers, OutOfMemory>
 }
 
 fn sorted_numbers(alloc: Global, tris: &[Tri]) -> Result<Numbers, OutOfMemory>
-    requires valid { All IsValidTri tris.now }
+    requires within { All (IsTriWithin broad_limit) tris.now }
     requires few { length tris.now ≤ most_triangles }
     ensures { IfOk result (λ n. AreNumbers tris.now n.there.items n.back.items) }
 {
@@ -86,10 +86,10 @@ fn sorted_numbers(alloc: Global, tris: &[Tri]) -> Result<Numbers, OutOfMemory>
 
 // The edge with this number, and how often it and its reverse occur.
 fn loose_with(number: u128, numbers: &Numbers) -> Loose
-    requires number { number < 2 ^ 72 }
+    requires number { number < 2 ^ 120 }
     requires there { length numbers.now.there.items ≤ most_edges }
     requires back { length numbers.now.back.items ≤ most_edges }
-    ensures edge { (e : Edge) → IsValidEdge e → edge_number e ≡ number → edge_of result ≡ e }
+    ensures edge { (e : Edge) → IsBroadEdge e → edge_number e ≡ number → edge_of result ≡ e }
     ensures there { result.there ≡ count number numbers.now.there.items }
     ensures back { result.back ≡ count number numbers.now.back.items }
 {
@@ -104,7 +104,7 @@ fn loose_with(number: u128, numbers: &Numbers) -> Loose
 
 // The two-way numbers of the triangles' edges.
 fn push_two_way(numbers: &mut Vec<u128>, t: &Tri) -> Result<(), OutOfMemory>
-    requires { IsValidTri t.now }
+    requires { IsTriWithin broad_limit t.now }
     ensures { OnOk result (numbers.new.items ≡ numbers.old.items ++ map two_way_number (edges_in (t.now ∷ []))) }
 {
     numbers.push(two_way_number(&t.a, &t.b))?;
@@ -114,7 +114,7 @@ fn push_two_way(numbers: &mut Vec<u128>, t: &Tri) -> Result<(), OutOfMemory>
 }
 
 fn two_way_numbers(alloc: Global, tris: &[Tri]) -> Result<Vec<u128>, OutOfMemory>
-    requires valid { All IsValidTri tris.now }
+    requires within { All (IsTriWithin broad_limit) tris.now }
     requires few { length tris.now ≤ most_triangles }
     ensures { IfOk result (λ numbers. numbers.items ≡ map two_way_number (edges_in tris.now)) }
 {
@@ -129,7 +129,7 @@ fn two_way_numbers(alloc: Global, tris: &[Tri]) -> Result<Vec<u128>, OutOfMemory
 // sorts two. Its `false` would be right too, since the list is sorted, but that isn't proved:
 // `least_loose` decides.
 fn are_balanced(alloc: Global, tris: &[Tri]) -> Result<bool, OutOfMemory>
-    requires valid { All IsValidTri tris.now }
+    requires within { All (IsTriWithin broad_limit) tris.now }
     requires few { length tris.now ≤ most_triangles }
     ensures { IfOk result (λ b. IsTrue b → IsBalanced tris.now) }
 {
@@ -140,7 +140,7 @@ fn are_balanced(alloc: Global, tris: &[Tri]) -> Result<bool, OutOfMemory>
 
 // The least loose edge, or `None` exactly if the triangles are balanced.
 fn least_loose(alloc: Global, tris: &[Tri]) -> Result<Option<Loose>, OutOfMemory>
-    requires valid { All IsValidTri tris.now }
+    requires within { All (IsTriWithin broad_limit) tris.now }
     requires few { length tris.now ≤ most_triangles }
     ensures value { IfOk result (λ found. found ≡ loose_of tris.now) }
     ensures meaning { IfOk result (λ found. MatchOption found (IsBalanced tris.now) (λ l. IsLeastLoose tris.now l)) }
@@ -156,7 +156,7 @@ fn least_loose(alloc: Global, tris: &[Tri]) -> Result<Option<Loose>, OutOfMemory
 /// and z of `from` and then of `to`. `None` exactly if the triangles are balanced: each directed
 /// edge occurs as often as its reverse.
 pub fn balance(alloc: Global, tris: &[Tri]) -> Result<Option<Loose>, OutOfMemory>
-    requires valid { All IsValidTri tris.now }
+    requires within { All (IsTriWithin broad_limit) tris.now }
     requires few { length tris.now ≤ most_triangles }
     ensures value { IfOk result (λ found. found ≡ loose_of tris.now) }
     ensures meaning { IfOk result (λ found. MatchOption found (IsBalanced tris.now) (λ l. IsLeastLoose tris.now l)) }

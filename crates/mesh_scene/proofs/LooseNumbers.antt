@@ -4,22 +4,23 @@ use Rattle.std.specs.List.{All, AllByRecursion}
 use Rattle.std.proofs.lemmas.Bool.{ne_eqb}
 use Rattle.std.proofs.lemmas.List.Sums.{sum_by-cons}
 use Rattle.ember_model.specs.declared.tri.Tri.{Tri}
-use Rattle.ember_model.specs.Valid.{IsValidTri}
+use Rattle.ember_model.specs.Limits.{broad_limit}
 use Rattle.ember_model.specs.Meshes.{Edge, reversed, edges_in, same_edge, edge_count}
+use Rattle.ember_model.specs.Within.{IsTriWithin}
 use Rattle.ember_balance.specs.Counts.{count}
-use Rattle.ember_balance.specs.Numbers.{edge_number, IsValidEdge}
+use Rattle.ember_balance.specs.Numbers.{edge_number, IsBroadEdge}
 use Rattle.ember_balance.proofs.EdgeNumbers.{same_edges}
-use Rattle.ember_balance.proofs.Edges.{times_is_count, times_reversed, valid_edges, valid_reversed}
+use Rattle.ember_balance.proofs.Edges.{times_is_count, times_reversed, broad_edges, broad_reversed}
 use Rattle.ember_balance.proofs.SortedSurplus.{count_permutation}
 use Rattle.mesh_scene.specs.Scene.LooseEdges.{each_once, excess, loose_count, number_excess, AreSorted}
 use Rattle.mesh_scene.proofs.Excesses.{excess_permuted}
 
-by_number : (e : Edge) → IsValidEdge e → (es : List Edge) → AllByRecursion IsValidEdge es → edge_count e es ≡ count (edge_number e) (map edge_number es)
+by_number : (e : Edge) → IsBroadEdge e → (es : List Edge) → AllByRecursion IsBroadEdge es → edge_count e es ≡ count (edge_number e) (map edge_number es)
 by_number = times_is_count edge_number (λ e f v w. same_edges v w)
 
--- a sum over valid edges, each once, is that over their numbers
-once_by_number : (f : Edge → ℕ) (g : ℕ → ℕ) → ((e : Edge) → IsValidEdge e → f e ≡ g (edge_number e)) →
-    (es : List Edge) → AllByRecursion IsValidEdge es →
+-- a sum over edges on the broad grid, each once, is that over their numbers
+once_by_number : (f : Edge → ℕ) (g : ℕ → ℕ) → ((e : Edge) → IsBroadEdge e → f e ≡ g (edge_number e)) →
+    (es : List Edge) → AllByRecursion IsBroadEdge es →
     sum_by f (each_once same_edge es) ≡ sum_by g (each_once eqb (map edge_number es))
 once_by_number f g h [] a = refl
 once_by_number f g h (e ∷ es) a =
@@ -37,7 +38,7 @@ once_by_number f g h (e ∷ es) a =
     by (suc k) (suc m) p r =
         rw (ne_eqb (suc k) 0 (λ q. omega (arith, q)), ne_eqb (suc m) 0 (λ q. omega (arith, q))) r
 
-module _ (ts : List Tri) (valid : All IsValidTri ts) where
+module _ (ts : List Tri) (within : All (IsTriWithin broad_limit) ts) where
   abbrev es : List Edge
   es = edges_in ts
 
@@ -47,10 +48,10 @@ module _ (ts : List Tri) (valid : All IsValidTri ts) where
   abbrev reverses : List ℕ
   reverses = map edge_number (map reversed es)
 
-  same_excess : (e : Edge) → IsValidEdge e → excess es e ≡ count (edge_number e) numbers - count (edge_number e) reverses
+  same_excess : (e : Edge) → IsBroadEdge e → excess es e ≡ count (edge_number e) numbers - count (edge_number e) reverses
   same_excess e v =
-      let a = by_number e v es (valid_edges ts valid) in
-      let b = sym (times_reversed e es) ∙ by_number e v (map reversed es) (valid_reversed es (valid_edges ts valid)) in
+      let a = by_number e v es (broad_edges ts within) in
+      let b = sym (times_reversed e es) ∙ by_number e v (map reversed es) (broad_reversed es (broad_edges ts within)) in
       λ i. a i - b i
 
   -- the excess of sorted numbers is the number of loose edges
@@ -60,4 +61,4 @@ module _ (ts : List Tri) (valid : All IsValidTri ts) where
       excess_permuted there numbers back reverses (λ n. count_permutation n numbers there s.permutation)
       (λ n. count_permutation n reverses back r.permutation)
       ∙ sym (once_by_number (excess es) (λ n. count n numbers - count n reverses) same_excess es
-      (valid_edges ts valid))
+      (broad_edges ts within))

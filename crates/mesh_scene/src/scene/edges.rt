@@ -2,8 +2,8 @@
 // itself.
 ghost use Rattle.std.specs.Prelude.{◌≡◌, ◌<◌, ◌≤◌, ◌+◌, ◌*◌, ◌^◌, ℕ, [], ◌∷◌, ◌++◌, length, map, drop, slice_index, All, IfOk, OnOk};
 ghost use Rattle.std.specs.List.Sorted.{IsNonDecreasing};
-ghost use Rattle.ember_model.specs.Limits.{most_triangles};
-ghost use Rattle.ember_model.specs.Valid.{IsValidCorner, IsValidTri};
+ghost use Rattle.ember_model.specs.Limits.{broad_limit, most_triangles};
+ghost use Rattle.ember_model.specs.Within.{IsCornerWithin, IsTriWithin};
 ghost use Rattle.ember_model.specs.Meshes.{Edge, reversed, edges_in};
 ghost use Rattle.ember_balance.specs.Counts.{count};
 ghost use Rattle.ember_balance.specs.Numbers.{corner_number, edge_number};
@@ -12,26 +12,27 @@ ghost use Rattle.mesh_scene.specs.Scene.LooseEdges.{loose_count, number_excess, 
 use ember_model::{Corner, OutOfMemory, Tri};
 use std::alloc::Global;
 
-// The number of a corner, of 36 bits: 12 for each coordinate.
+// The number of a corner, of 60 bits: 20 for each coordinate.
 fn corner_number(c: &Corner) -> u64
-    requires { IsValidCorner c.now }
+    requires { IsCornerWithin broad_limit c.now }
     ensures value { result ≡ corner_number c.now }
-    ensures small { result < 2 ^ 36 }
+    ensures small { result < 2 ^ 60 }
 {
-    ((c.x + 2047) as u64 * 4096 + (c.y + 2047) as u64) * 4096 + (c.z + 2047) as u64
+    ((c.x + 524_287) as u64 * 1_048_576 + (c.y + 524_287) as u64) * 1_048_576
+        + (c.z + 524_287) as u64
 }
 
-// The number of the edge from one corner to another, of 72 bits.
+// The number of the edge from one corner to another, of 120 bits.
 fn edge_number(from: &Corner, to: &Corner) -> u128
-    requires from { IsValidCorner from.now }
-    requires to { IsValidCorner to.now }
+    requires from { IsCornerWithin broad_limit from.now }
+    requires to { IsCornerWithin broad_limit to.now }
     ensures { result ≡ edge_number (record { from = from.now; to = to.now }) }
 {
-    u128::from(corner_number(from)) * 68_719_476_736 + u128::from(corner_number(to))
+    u128::from(corner_number(from)) * 1_152_921_504_606_846_976 + u128::from(corner_number(to))
 }
 
 fn push_edges(numbers: &mut Vec<u128>, t: &Tri) -> Result<(), OutOfMemory>
-    requires { IsValidTri t.now }
+    requires { IsTriWithin broad_limit t.now }
     ensures { OnOk result (numbers.new.items ≡ numbers.old.items ++ map edge_number (edges_in (t.now ∷ []))) }
 {
     numbers.push(edge_number(&t.a, &t.b))?;
@@ -41,7 +42,7 @@ fn push_edges(numbers: &mut Vec<u128>, t: &Tri) -> Result<(), OutOfMemory>
 }
 
 fn push_reverses(numbers: &mut Vec<u128>, t: &Tri) -> Result<(), OutOfMemory>
-    requires { IsValidTri t.now }
+    requires { IsTriWithin broad_limit t.now }
     ensures { OnOk result (numbers.new.items ≡ numbers.old.items ++
         map edge_number (map reversed (edges_in (t.now ∷ [])))) }
 {
@@ -53,7 +54,7 @@ fn push_reverses(numbers: &mut Vec<u128>, t: &Tri) -> Result<(), OutOfMemory>
 
 // The numbers of the triangles' edges, in order.
 fn edge_numbers(alloc: Global, tris: &[Tri]) -> Result<Vec<u128>, OutOfMemory>
-    requires valid { All IsValidTri tris.now }
+    requires within { All (IsTriWithin broad_limit) tris.now }
     requires few { length tris.now ≤ most_triangles }
     ensures { IfOk result (λ ns. AreSorted (map edge_number (edges_in tris.now)) ns.items) }
 {
@@ -67,7 +68,7 @@ fn edge_numbers(alloc: Global, tris: &[Tri]) -> Result<Vec<u128>, OutOfMemory>
 
 // The numbers of their reverses, in order.
 fn reverse_numbers(alloc: Global, tris: &[Tri]) -> Result<Vec<u128>, OutOfMemory>
-    requires valid { All IsValidTri tris.now }
+    requires within { All (IsTriWithin broad_limit) tris.now }
     requires few { length tris.now ≤ most_triangles }
     ensures { IfOk result (λ ns. AreSorted (map edge_number (map reversed (edges_in tris.now))) ns.items) }
 {
@@ -119,7 +120,7 @@ fn excess(there: &[u128], back: &[u128]) -> u64
 /// The number of loose edges: by how much directed edges occur more often than their reverse, all
 /// edges together.
 pub fn count_loose(alloc: Global, tris: &[Tri]) -> Result<u64, OutOfMemory>
-    requires valid { All IsValidTri tris.now }
+    requires within { All (IsTriWithin broad_limit) tris.now }
     requires few { length tris.now ≤ most_triangles }
     ensures { IfOk result (λ n. n ≡ loose_count tris.now) }
 {

@@ -18,6 +18,6 @@ are_two_way-requires c =
 pub returns : goal.returns
 returns c = λ t.
     let ks = c.sort_unstable.new.self.items in
-    balanced_by_two_way c.args.tris.now c.requires.valid ks
+    balanced_by_two_way c.args.tris.now c.requires.within ks
     (subst (λ (ns : List ℕ). IsPermutation ns ks) c.in_ok-numbers.ensures c.sort_unstable.ensures.permutation)
     (subst AreTwoWay c.deref.ensures.value (c.are_two_way.ensures t))

@@ -7,7 +7,7 @@ use Rattle.mesh_scene.proofs.scene.edges.count_loose.Goals as goal
 
 pub returns : goal.returns
 returns c =
-    c.excess.ensures ∙ excess_is_loose_count c.args.tris.now c.requires.valid _ _
+    c.excess.ensures ∙ excess_is_loose_count c.args.tris.now c.requires.within _ _
     (subst (AreSorted (map edge_number (edges_in c.args.tris.now))) (sym c.deref.ensures.value) c.in_ok-there.ensures)
     (subst (AreSorted (map edge_number (map reversed (edges_in c.args.tris.now)))) (sym c.deref-2.ensures.value)
     c.in_ok-back.ensures)
