@@ -1,6 +1,7 @@
 pub mod Floors
 pub mod Nearest
 pub mod NiceSteps
+pub mod GridSizes
 pub mod SpanSteps
 pub mod Landings
 pub mod DecimalSteps

@@ -1,3 +1,4 @@
+pub mod Sizes
 pub mod Steps
 pub mod Cells
 pub mod Spans

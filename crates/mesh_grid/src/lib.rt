@@ -11,6 +11,7 @@ pub use grid::{
 };
 pub use moves::{Length, greatest_moves, moves_are_not_below_the_true_ones};
 pub use snap::{
-    Coordinates, GridStep, Offset, are_coordinates, cell, finest_step, nice_step, offset_at,
+    Coordinates, GridSize, GridStep, Offset, are_coordinates, cell, finest_step,
+    finest_step_within, grid_number_within, nice_step, nice_step_within, offset_at, offset_within,
     step_of,
 };

@@ -1,6 +1,7 @@
 // Grids for the numbers of mesh files: cells, steps and offsets.
 use mesh_grid::{
-    Coordinates, GridStep, Offset, are_coordinates, cell, finest_step, nice_step, offset_at,
+    Coordinates, GridSize, GridStep, Offset, are_coordinates, cell, finest_step,
+    finest_step_within, nice_step, nice_step_within, offset_at, offset_within,
 };
 use mesh_number::{Number, read_decimal};
 use std::process::Abort;
@@ -110,5 +111,39 @@ fn grids_of_scenes(rt: HostRuntime) -> Result<(), Fail> {
     assert!(rt; too_long_by_a_cell.0 == step(2, 1000));
     let long = grid(&rt, [b"0", b"0", b"0"], [b"4.0944999", b"0", b"0"])?;
     assert!(rt; long == (step(1, 1000), step(1000, 1_000_000), offset(2047, 0, 0)));
+    Ok(())
+}
+
+// Two numbers along x, with zeros along y and z: the nice step of the broad grid, its finest step,
+// and the offset along x at the nice step. The broad grid has 1,048,574 steps.
+static BROAD_GRIDS: [(&[u8], &[u8], (u64, u64), (u64, u64), i128); 5] = [
+    (b"0", b"15", (2, 100_000), (1431, 100_000_000), 375_000),
+    (b"0", b"1048.57449", (1, 1000), (1000, 1_000_000), 524_287),
+    (b"0", b"1048.5745", (2, 1000), (1001, 1_000_000), 0),
+    (b"-524.287", b"524.287", (1, 1000), (1000, 1_000_000), 0),
+    (b"-524.286", b"524.288", (1, 1000), (1000, 1_000_000), 1),
+];
+
+#[test]
+fn broad_grids_of_scenes(rt: HostRuntime) -> Result<(), Fail> {
+    for &(low, high, nice, finest, along_x) in &BROAD_GRIDS {
+        let x = [number(low)?, number(high)?];
+        let zeros = [number(b"0")?, number(b"0")?];
+        let coordinates = Coordinates {
+            x: &x,
+            y: &zeros,
+            z: &zeros,
+        };
+        assert!(rt; are_coordinates(&coordinates));
+        assert!(rt; finest_step_within(&coordinates, GridSize::Broad) == step(finest.0, finest.1));
+        match nice_step_within(&coordinates, GridSize::Broad) {
+            Some(found) => {
+                assert!(rt; Some(found) == step(nice.0, nice.1));
+                let lies = offset_within(&coordinates, &found, GridSize::Broad);
+                assert!(rt; lies == offset(along_x, 0, 0));
+            }
+            None => return Err(Fail::from("no nice step")),
+        }
+    }
     Ok(())
 }

@@ -1,8 +1,9 @@
 -- What the cells of many numbers span
-use Rattle.std.specs.Prelude.{◌≡◌, ◌⊎◌, ℕ, ◌<◌, true, ℤ, pos, ◌+ℤ◌, ◌-ℤ◌, ◌≤ℤ◌, List, length, All, Any}
+use Rattle.std.specs.Prelude.{◌≡◌, ◌⊎◌, ℕ, ◌*◌, ◌<◌, true, ℤ, pos, ◌+ℤ◌, ◌-ℤ◌, ◌≤ℤ◌, List, length, All, Any}
 use Rattle.mesh_number.specs.declared.number.values.Number.{Number}
 use Rattle.mesh_number.specs.Number.Fractions.{is_below_limit}
 use Rattle.mesh_number.specs.Number.Values.{value_of}
+use Rattle.ember_model.specs.Limits.{narrow_limit}
 use Rattle.mesh_grid.specs.declared.snap.steps.GridStep.{GridStep}
 use Rattle.mesh_grid.specs.declared.snap.spans.Coordinates.{Coordinates}
 use Rattle.mesh_grid.specs.declared.snap.spans.CellRange.{CellRange}
@@ -11,15 +12,15 @@ use Rattle.mesh_grid.specs.declared.snap.search.FarPair.{FarPair}
 use Rattle.mesh_grid.specs.declared.snap.search.FarPairs.{FarPairs}
 use Rattle.mesh_grid.specs.Snap.Cells.{cell_at, IsBetween}
 
--- all cells are among 4095 neighbours, so they fit on a grid
-abbrev pub Fits : GridStep → List Number → Type 0
-Fits s xs = (least : ℤ) × All (λ x. IsBetween least (cell_at s x) (least +ℤ pos 4094)) xs
+-- all cells are among 2m + 1 neighbours, so they fit on a grid from -m to m
+abbrev pub FitsWithin : ℕ → GridStep → List Number → Type 0
+FitsWithin m s xs = (least : ℤ) × All (λ x. IsBetween least (cell_at s x) (least +ℤ pos (2 * m))) xs
 
 -- along all axes
-pub record FitsAll (s : GridStep) (c : Coordinates) : Type 0 where
-  pub x : Fits s c.x.now
-  pub y : Fits s c.y.now
-  pub z : Fits s c.z.now
+pub record FitsAllWithin (m : ℕ) (s : GridStep) (c : Coordinates) : Type 0 where
+  pub x : FitsWithin m s c.x.now
+  pub y : FitsWithin m s c.y.now
+  pub z : FitsWithin m s c.z.now
 
 -- there are numbers, and each is below the limit
 pub record AreNumbers (xs : List Number) : Type 0 where
@@ -40,35 +41,35 @@ pub record IsWidened (old : CellRange) (cell : ℤ) (new : CellRange) : Type 0 w
   pub least : (new.least ≡ old.least) ⊎ (new.least ≡ cell)
   pub greatest : (new.greatest ≡ old.greatest) ⊎ (new.greatest ≡ cell)
 
--- from the least to the greatest cell there are at most 4095
-pub record IsNarrow (span : CellRange) : Type 0 where
+-- from the least to the greatest cell there are at most 2m + 1
+pub record IsNarrowWithin (m : ℕ) (span : CellRange) : Type 0 where
   pub ordered : span.least ≤ℤ span.greatest
-  pub narrow : (span.greatest -ℤ span.least) ≤ℤ pos 4094
+  pub narrow : (span.greatest -ℤ span.least) ≤ℤ pos (2 * m)
 
-pub record AreNarrow (spans : CellRanges) : Type 0 where
-  pub x : IsNarrow spans.x
-  pub y : IsNarrow spans.y
-  pub z : IsNarrow spans.z
+pub record AreNarrowWithin (m : ℕ) (spans : CellRanges) : Type 0 where
+  pub x : IsNarrowWithin m spans.x
+  pub y : IsNarrowWithin m spans.y
+  pub z : IsNarrowWithin m spans.z
 
 -- the least and the greatest cell, which fit on a grid
-pub record IsSpan (s : GridStep) (xs : List Number) (span : CellRange) : Type 0 where
+pub record IsSpanWithin (m : ℕ) (s : GridStep) (xs : List Number) (span : CellRange) : Type 0 where
   pub within : All (λ x. IsBetween span.least (cell_at s x) span.greatest) xs
   pub least_met : Any (λ x. cell_at s x ≡ span.least) xs
   pub greatest_met : Any (λ x. cell_at s x ≡ span.greatest) xs
-  pub narrow : (span.greatest -ℤ span.least) ≤ℤ pos 4094
+  pub narrow : (span.greatest -ℤ span.least) ≤ℤ pos (2 * m)
 
 -- the least and the greatest cell along each axis
-pub record AreSpans (s : GridStep) (c : Coordinates) (spans : CellRanges) : Type 0 where
-  pub x : IsSpan s c.x.now spans.x
-  pub y : IsSpan s c.y.now spans.y
-  pub z : IsSpan s c.z.now spans.z
+pub record AreSpansWithin (m : ℕ) (s : GridStep) (c : Coordinates) (spans : CellRanges) : Type 0 where
+  pub x : IsSpanWithin m s c.x.now spans.x
+  pub y : IsSpanWithin m s c.y.now spans.y
+  pub z : IsSpanWithin m s c.z.now spans.z
 
--- the first of these steps at which the coordinates fit on a grid
-pub record IsLeast (steps : ℕ → GridStep) (c : Coordinates) (s : GridStep) : Type 0 where
+-- the first of these steps at which the coordinates fit on a grid from -m to m
+pub record IsLeastWithin (m : ℕ) (steps : ℕ → GridStep) (c : Coordinates) (s : GridStep) : Type 0 where
   pub rank : ℕ
   pub step : s ≡ steps rank
-  pub fits : FitsAll s c
-  pub least : (lower : ℕ) → lower < rank → FitsAll (steps lower) c → ⊥
+  pub fits : FitsAllWithin m s c
+  pub least : (lower : ℕ) → lower < rank → FitsAllWithin m (steps lower) c → ⊥
 
 -- two indices of a list
 pub record AreEnds (xs : List Number) (ends : FarPair) : Type 0 where
@@ -79,3 +80,19 @@ pub record AreAllEnds (c : Coordinates) (ends : FarPairs) : Type 0 where
   pub x : AreEnds c.x.now ends.x
   pub y : AreEnds c.y.now ends.y
   pub z : AreEnds c.z.now ends.z
+
+-- ---- the same on the narrow grid
+abbrev pub Fits : GridStep → List Number → Type 0
+Fits s xs = FitsWithin narrow_limit s xs
+
+abbrev pub FitsAll : GridStep → Coordinates → Type 0
+FitsAll s c = FitsAllWithin narrow_limit s c
+
+abbrev pub IsSpan : GridStep → List Number → CellRange → Type 0
+IsSpan s xs span = IsSpanWithin narrow_limit s xs span
+
+abbrev pub AreSpans : GridStep → Coordinates → CellRanges → Type 0
+AreSpans s c spans = AreSpansWithin narrow_limit s c spans
+
+abbrev pub IsLeast : (ℕ → GridStep) → Coordinates → GridStep → Type 0
+IsLeast steps c s = IsLeastWithin narrow_limit steps c s

@@ -1,10 +1,12 @@
 // The search for a step.
 ghost use Rattle.std.specs.Prelude.{ℕ, ◌<◌, ◌↔◌, IsTrue, IfSome, IfNone};
+ghost use Rattle.mesh_grid.specs.Snap.Sizes.{limit_of};
 ghost use Rattle.mesh_grid.specs.Snap.Steps.{IsStep, nice_of, fine_of};
-ghost use Rattle.mesh_grid.specs.Snap.Spans.{Fits, FitsAll, AreNumbers, AreCoordinates, IsLeast, AreEnds, AreAllEnds};
+ghost use Rattle.mesh_grid.specs.Snap.Spans.{FitsAll, FitsWithin, FitsAllWithin, AreNumbers, AreCoordinates, IsLeast, IsLeastWithin, AreEnds, AreAllEnds};
 
 use crate::snap::cells::cell;
-use crate::snap::spans::{Coordinates, MOST, fitting_spans};
+use crate::snap::sizes::GridSize;
+use crate::snap::spans::{Coordinates, fitting_spans};
 use crate::snap::steps::{FINE_STEPS, FINEST, GridStep, NICE_STEPS, fine, nice};
 use mesh_number::Number;
 
@@ -48,32 +50,33 @@ fn ends_of(numbers: &[Number]) -> FarPair
 
 // `true` only if the numbers don't fit on the grid, as the cells of two of them show; `false` shows
 // nothing.
-fn are_far_apart(numbers: &[Number], ends: &FarPair, step: &GridStep) -> bool
+fn are_far_apart(numbers: &[Number], ends: &FarPair, step: &GridStep, size: GridSize) -> bool
     requires step { IsStep step.now }
     requires numbers { AreNumbers numbers.now }
     requires ends { AreEnds numbers.now ends.now }
-    ensures { IsTrue result → Fits step.now numbers.now → ⊥ }
+    ensures { IsTrue result → FitsWithin (limit_of size) step.now numbers.now → ⊥ }
 {
-    cell(&numbers[ends.high], step) - cell(&numbers[ends.low], step) > MOST
+    let most = size.steps();
+    cell(&numbers[ends.high], step) - cell(&numbers[ends.low], step) > most
 }
 
-// Whether the coordinates fit on the grid along all axes.
-fn fits(coordinates: &Coordinates, ends: &FarPairs, step: &GridStep) -> bool
+// Whether the coordinates fit on a grid of this size along all axes.
+fn fits(coordinates: &Coordinates, ends: &FarPairs, step: &GridStep, size: GridSize) -> bool
     requires step { IsStep step.now }
     requires coordinates { AreCoordinates coordinates.now }
     requires ends { AreAllEnds coordinates.now ends.now }
-    ensures { IsTrue result ↔ FitsAll step.now coordinates.now }
+    ensures { IsTrue result ↔ FitsAllWithin (limit_of size) step.now coordinates.now }
 {
-    if are_far_apart(coordinates.x, &ends.x, step) {
+    if are_far_apart(coordinates.x, &ends.x, step, size) {
         return false;
     }
-    if are_far_apart(coordinates.y, &ends.y, step) {
+    if are_far_apart(coordinates.y, &ends.y, step, size) {
         return false;
     }
-    if are_far_apart(coordinates.z, &ends.z, step) {
+    if are_far_apart(coordinates.z, &ends.z, step, size) {
         return false;
     }
-    match fitting_spans(coordinates, step) {
+    match fitting_spans(coordinates, step, size) {
         Some(_) => true,
         None => false,
     }
@@ -90,8 +93,28 @@ fn all_ends(coordinates: &Coordinates) -> FarPairs
     }
 }
 
-/// The least of the nice steps at which the coordinates fit on a grid, or `None`. Nice are 1, 2 and
-/// 5 times a power of ten, from 10^-12 to 5 * 10^11.
+/// The least of the nice steps at which the coordinates fit on a grid of this size, or `None`. Nice
+/// are 1, 2 and 5 times a power of ten, from 10^-12 to 5 * 10^11.
+///
+/// There are coordinates along each axis, and each is below 10^15 in size.
+pub fn nice_step_within(coordinates: &Coordinates, size: GridSize) -> Option<GridStep>
+    requires { AreCoordinates coordinates.now }
+    ensures found { IfSome result (IsLeastWithin (limit_of size) nice_of coordinates.now) }
+    ensures step { IfSome result IsStep }
+    ensures none { IfNone result (
+        (rank : ℕ) → rank < 72 → FitsAllWithin (limit_of size) (nice_of rank) coordinates.now → ⊥) }
+{
+    let ends = all_ends(coordinates);
+    for rank in 0..NICE_STEPS {
+        let step = nice(rank);
+        if fits(coordinates, &ends, &step, size) {
+            return Some(step);
+        }
+    }
+    None
+}
+
+/// [`nice_step_within`] for the narrow grid.
 ///
 /// There are coordinates along each axis, and each is below 10^15 in size.
 pub fn nice_step(coordinates: &Coordinates) -> Option<GridStep>
@@ -100,18 +123,31 @@ pub fn nice_step(coordinates: &Coordinates) -> Option<GridStep>
     ensures step { IfSome result IsStep }
     ensures none { IfNone result ((rank : ℕ) → rank < 72 → FitsAll (nice_of rank) coordinates.now → ⊥) }
 {
+    nice_step_within(coordinates, GridSize::Narrow)
+}
+
+/// The least step at which the coordinates fit on a grid of this size, or `None`. The steps are the
+/// numbers of at most four digits times a power of ten, from 10^-12 to 9.999 * 10^11.
+///
+/// There are coordinates along each axis, and each is below 10^15 in size.
+pub fn finest_step_within(coordinates: &Coordinates, size: GridSize) -> Option<GridStep>
+    requires { AreCoordinates coordinates.now }
+    ensures found { IfSome result (IsLeastWithin (limit_of size) fine_of coordinates.now) }
+    ensures step { IfSome result IsStep }
+    ensures none { IfNone result (
+        (rank : ℕ) → rank < 189_999 → FitsAllWithin (limit_of size) (fine_of rank) coordinates.now → ⊥) }
+{
     let ends = all_ends(coordinates);
-    for rank in 0..NICE_STEPS {
-        let step = nice(rank);
-        if fits(coordinates, &ends, &step) {
+    for rank in 0..FINE_STEPS {
+        let step = fine(rank);
+        if fits(coordinates, &ends, &step, size) {
             return Some(step);
         }
     }
     None
 }
 
-/// The least step at which the coordinates fit on a grid, or `None`. The steps are the numbers of
-/// at most four digits times a power of ten, from 10^-12 to 9.999 * 10^11.
+/// [`finest_step_within`] for the narrow grid.
 ///
 /// There are coordinates along each axis, and each is below 10^15 in size.
 pub fn finest_step(coordinates: &Coordinates) -> Option<GridStep>
@@ -120,12 +156,5 @@ pub fn finest_step(coordinates: &Coordinates) -> Option<GridStep>
     ensures step { IfSome result IsStep }
     ensures none { IfNone result ((rank : ℕ) → rank < 189_999 → FitsAll (fine_of rank) coordinates.now → ⊥) }
 {
-    let ends = all_ends(coordinates);
-    for rank in 0..FINE_STEPS {
-        let step = fine(rank);
-        if fits(coordinates, &ends, &step) {
-            return Some(step);
-        }
-    }
-    None
+    finest_step_within(coordinates, GridSize::Narrow)
 }

@@ -2,10 +2,12 @@
 ghost use Rattle.std.specs.Prelude.{◌≡◌, ◌↔◌, true, ◌≤ℤ◌, All, IsTrue, IfSome, IfNone};
 ghost use Rattle.mesh_number.specs.Number.Fractions.{is_below_limit};
 ghost use Rattle.mesh_number.specs.Number.Values.{value_of};
+ghost use Rattle.mesh_grid.specs.Snap.Sizes.{limit_of};
 ghost use Rattle.mesh_grid.specs.Snap.Steps.{IsStep};
-ghost use Rattle.mesh_grid.specs.Snap.Spans.{Fits, FitsAll, IsSpan, AreSpans, AreNumbers, AreCoordinates, IsWidened};
+ghost use Rattle.mesh_grid.specs.Snap.Spans.{FitsWithin, FitsAllWithin, IsSpanWithin, AreSpansWithin, AreNumbers, AreCoordinates, IsWidened};
 
 use crate::snap::cells::cell;
+use crate::snap::sizes::GridSize;
 use crate::snap::steps::GridStep;
 use mesh_number::{Number, is_below_limit};
 
@@ -51,9 +53,6 @@ pub fn are_coordinates(coordinates: &Coordinates) -> bool
     are_numbers(coordinates.x) && are_numbers(coordinates.y) && are_numbers(coordinates.z)
 }
 
-// The most cells from the least to the greatest that a grid has.
-pub(crate) const MOST: i128 = 4094;
-
 fn widened(span: CellRange, cell: i128) -> CellRange
     requires { span.least ≤ℤ span.greatest }
     ensures { IsWidened span cell result }
@@ -73,13 +72,14 @@ fn widened(span: CellRange, cell: i128) -> CellRange
     }
 }
 
-// The least and the greatest cell, if the cells fit on a grid.
-pub(crate) fn fitting_span(numbers: &[Number], step: &GridStep) -> Option<CellRange>
+// The least and the greatest cell, if the cells fit on a grid of this size.
+pub(crate) fn fitting_span(numbers: &[Number], step: &GridStep, size: GridSize) -> Option<CellRange>
     requires step { IsStep step.now }
     requires numbers { AreNumbers numbers.now }
-    ensures found { IfSome result (IsSpan step.now numbers.now) }
-    ensures none { IfNone result (Fits step.now numbers.now → ⊥) }
+    ensures found { IfSome result (IsSpanWithin (limit_of size) step.now numbers.now) }
+    ensures none { IfNone result (FitsWithin (limit_of size) step.now numbers.now → ⊥) }
 {
+    let most = size.steps();
     let first = cell(&numbers[0], step);
     let mut span = CellRange {
         least: first,
@@ -87,23 +87,27 @@ pub(crate) fn fitting_span(numbers: &[Number], step: &GridStep) -> Option<CellRa
     };
     for number in numbers {
         span = widened(span, cell(number, step));
-        if span.greatest - span.least > MOST {
+        if span.greatest - span.least > most {
             return None;
         }
     }
     Some(span)
 }
 
-// The least and the greatest cell along each axis, if the cells fit on a grid along all of them.
-pub(crate) fn fitting_spans(coordinates: &Coordinates, step: &GridStep) -> Option<CellRanges>
+// The least and the greatest cell along each axis, if the cells fit on such a grid along all of them.
+pub(crate) fn fitting_spans(
+    coordinates: &Coordinates,
+    step: &GridStep,
+    size: GridSize,
+) -> Option<CellRanges>
     requires step { IsStep step.now }
     requires coordinates { AreCoordinates coordinates.now }
-    ensures found { IfSome result (AreSpans step.now coordinates.now) }
-    ensures none { IfNone result (FitsAll step.now coordinates.now → ⊥) }
+    ensures found { IfSome result (AreSpansWithin (limit_of size) step.now coordinates.now) }
+    ensures none { IfNone result (FitsAllWithin (limit_of size) step.now coordinates.now → ⊥) }
 {
-    match fitting_span(coordinates.x, step) {
-        Some(x) => match fitting_span(coordinates.y, step) {
-            Some(y) => match fitting_span(coordinates.z, step) {
+    match fitting_span(coordinates.x, step, size) {
+        Some(x) => match fitting_span(coordinates.y, step, size) {
+            Some(y) => match fitting_span(coordinates.z, step, size) {
                 Some(z) => Some(CellRanges { x, y, z }),
                 None => None,
             },

@@ -1,7 +1,0 @@
-use Rattle.std.proofs.Common.{ℕ, ◌<◌}
-use Rattle.mesh_grid.specs.Snap.Steps.{fine_of}
-use Rattle.mesh_grid.specs.Snap.Spans.{FitsAll}
-use Rattle.mesh_grid.proofs.snap.search.finest_step.Given as goal
-
-abbrev pub invariant-loop-rank : goal.invariant-loop-rank
-invariant-loop-rank l = (lower : ℕ) → lower < l.rank → FitsAll (fine_of lower) l.coordinates → ⊥
