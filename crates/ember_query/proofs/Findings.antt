@@ -1,5 +1,5 @@
 -- What the leaves below a root give is what a query asks for.
-use Rattle.std.proofs.Common.{◌≡◌, ◌≤◌, ℕ, List, Vec, Global, Bor, sym, subst}
+use Rattle.std.proofs.Common.{◌≡◌, ◌≤◌, ◌^◌, ℕ, List, Vec, Global, Bor, sym, subst}
 use Rattle.ember_box.specs.Boxes as boxes
 use Rattle.ember_expr.specs.declared.trees.Tree.{Tree}
 use Rattle.ember_expr.specs.Formula.{formula_of}
@@ -7,10 +7,12 @@ use Rattle.ember_job.specs.declared.job.Job.{Job}
 use Rattle.ember_job.specs.Visited.{leaves}
 use Rattle.ember_model.specs.declared.face.Face.{Face}
 use Rattle.ember_model.specs.declared.scene.Scene.{Scene}
+use Rattle.ember_model.specs.declared.tri.Tri.{Tri}
+use Rattle.ember_model.specs.Limits.{broad_limit, most_meshes}
 use Rattle.ember_pairs.specs.declared.pair.Pair.{Pair}
 use Rattle.ember_pairs.specs.Pairs.{AreMeetingPairs}
 use Rattle.ember_pairs.specs.Works.{job_at, pairs_shape}
-use Rattle.ember_visit.specs.Jobs.{root_job}
+use Rattle.ember_visit.specs.Jobs.{root_job, root_job_on}
 use Rattle.ember_visit.specs.Values as values
 use Rattle.ember_voxel.specs.declared.fill.Fill.{Fill}
 use Rattle.ember_voxel.specs.Fills.{IsFill}
@@ -18,6 +20,7 @@ use Rattle.ember_voxel.specs.Lattice as lattice
 use Rattle.ember_voxel.specs.Laws.{root_is_voxel_job}
 use Rattle.ember_step.specs.Counts.{IsCount}
 use Rattle.ember_step.specs.Faces.{AreBoxFaces}
+use Rattle.ember_step.specs.Outlines.{AreBoxOutlines}
 use Rattle.ember_step.specs.Texts.{IsBoxText}
 use Rattle.ember_text.specs.FacesTexts.{FacesText}
 use Rattle.ember_job.specs.Items.{EachAnswers}
@@ -26,8 +29,10 @@ use Rattle.ember_query.specs.declared.query.RunResult.{RunResult}
 use Rattle.ember_query.specs.declared.query.Query.{Query}
 use Rattle.ember_query.specs.declared.query.Query.TheVariants as query
 use Rattle.ember_report.specs.Runs.{AreJournalsOf}
+use Rattle.ember_query.specs.BroadLeaves.{broad_numbers}
 use Rattle.ember_query.specs.Leaves.{IsWrittenAt}
 use Rattle.ember_query.specs.Queries.{IsAnswer, IsQuery}
+use Rattle.ember_width.specs.Scenes.{IsSceneWithin}
 
 -- what the leaves give answers the query for pairs
 pub pairs_found : (asked : Query) (scene : Bor Scene) (root : Job) (items : Vec (List Pair) Global) →
@@ -97,3 +102,22 @@ counts_found asked scene expr root found e f are holds =
           (leaves (values.shape scene.now.tris (formula_of expr.now)) root) found.items.items) f are,
       subst (λ (root : Job). AreJournalsOf (values.shape scene.now.tris (formula_of expr.now)) root found.journals) f holds,
     )
+
+-- what the leaves give answers the query for outlines on the broad grid
+pub outlines_found : (asked : Query) (tris : Bor (List Tri)) (expr : Bor Tree) (root : Job) (found : RunResult (List Face)) →
+    asked ≡ query.BroadOutlines tris expr → root ≡ root_job_on 8 tris.now →
+    EachAnswers (λ job faces. AreBoxOutlines broad_numbers tris.now (formula_of expr.now) job.cell faces)
+    (leaves (values.shape_on 8 (2 ^ 43) tris.now (formula_of expr.now)) root) found.items.items →
+    AreJournalsOf (values.shape_on 8 (2 ^ 43) tris.now (formula_of expr.now)) root found.journals →
+    IsAnswer asked (answer.BroadOutlines found)
+outlines_found asked tris expr root found e f are holds =
+    subst (λ (asked : Query). IsAnswer asked (answer.BroadOutlines found)) (sym e) (
+      subst (λ (root : Job). EachAnswers (λ job faces. AreBoxOutlines broad_numbers tris.now (formula_of expr.now) job.cell faces)
+          (leaves (values.shape_on 8 (2 ^ 43) tris.now (formula_of expr.now)) root) found.items.items) f are,
+      subst (λ (root : Job). AreJournalsOf (values.shape_on 8 (2 ^ 43) tris.now (formula_of expr.now)) root found.journals) f holds,
+    )
+
+-- the triangles of such a query are a scene
+pub outlines_asked : (asked : Query) (tris : Bor (List Tri)) (expr : Bor Tree) → IsQuery asked →
+    asked ≡ query.BroadOutlines tris expr → IsSceneWithin broad_limit tris.now most_meshes
+outlines_asked asked tris expr may e = subst IsQuery e may

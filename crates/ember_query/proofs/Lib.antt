@@ -4,3 +4,4 @@ pub mod Counts
 pub mod FacesOfSolids
 pub mod SolidRuns
 pub mod Findings
+pub mod BroadRuns

@@ -7,18 +7,22 @@ use Rattle.ember_query.specs.declared.query.Answer.{Answer}
 use Rattle.ember_query.specs.declared.query.Answer.TheVariants as answer
 use Rattle.ember_query.specs.declared.query.Query.{Query}
 use Rattle.ember_query.specs.declared.query.Query.TheVariants as query
+use Rattle.ember_model.specs.Limits.{broad_limit, most_meshes}
+use Rattle.ember_query.specs.BroadLeaves.{AreBroadOutlines, AreJournalsOnBroad}
 use Rattle.ember_query.specs.Leaves.{AreFills, ArePairsOfLeaves, AreRegionCounts}
 use Rattle.ember_meaning.specs.Regions.Solids.{AreJournalsOfSolid}
 use Rattle.ember_step.specs.Faces.{AreLeafFaces}
 use Rattle.ember_step.specs.Texts.{AreLeafTexts}
+use Rattle.ember_width.specs.Scenes.{IsSceneWithin}
 
--- the queries that may be asked: cells have a side of 2 ^ 4 to 2 ^ 12
+-- the queries that may be asked: cells have a side of 2 ^ 4 to 2 ^ 12, and triangles on the broad grid are a scene
 abbrev pub IsQuery : Query → Type 0
 IsQuery (query.Pairs scene) = ⊤
 IsQuery (query.Fills scene expr size) = (4 ≤ size) × (size ≤ 12)
 IsQuery (query.Texts scene expr) = ⊤
 IsQuery (query.Faces scene expr) = ⊤
 IsQuery (query.Counts scene expr) = ⊤
+IsQuery (query.BroadOutlines tris expr) = IsSceneWithin broad_limit tris.now most_meshes
 
 -- this is the answer to the query; it is of the same kind (`query.Pairs` is a variant of `Query`,
 -- and `answer.Pairs` the one of `Answer`)
@@ -35,6 +39,9 @@ IsAnswer (query.Faces scene expr) (answer.Faces found) =
 IsAnswer (query.Counts scene expr) (answer.Counts found) =
     AreRegionCounts scene.now.tris (formula_of expr.now) found.items.items ×
     AreJournalsOfSolid scene.now.tris (formula_of expr.now) found.journals
+IsAnswer (query.BroadOutlines tris expr) (answer.BroadOutlines found) =
+    AreBroadOutlines tris.now (formula_of expr.now) found.items.items ×
+    AreJournalsOnBroad tris.now (formula_of expr.now) found.journals
 IsAnswer _ _ = ⊥
 
 -- the closure `call` may be called at each query, and each Ok of it is the answer

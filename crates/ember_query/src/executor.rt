@@ -14,11 +14,15 @@ use crate::query::{Answer, Query, RunResult};
 use ember_job::{Job, Outcome, Step, Work};
 use ember_model::OutOfMemory;
 use ember_pairs::{PairWork, pair_step, root_pairs};
-use ember_step::{CountWork, FaceWork, TextWork, count_step, faces_step, text_step};
+use ember_step::{
+    CountWork, FaceWork, OutlineWork, TextWork, count_step, faces_step, outlines_step, text_step,
+};
 use ember_tree::merge;
-use ember_visit::root_job;
+use ember_visit::{root_job, root_job_among};
 use ember_voxel::{VoxelWork, voxel_step};
+use ember_width::Broad;
 use std::alloc::Global;
+use std::marker::PhantomData;
 use std::sync::Wait;
 use std::thread::Threads;
 use steal_pool::{Gate, Harvest, merged_items_answer_the_leaves, run_alone, run_tree};
@@ -129,6 +133,18 @@ macro_rules! run_query {
                     call: |job: &Job| count_step($alloc, scene, expr, job),
                 };
                 Ok(Answer::Counts($run?))
+            }
+            Query::BroadOutlines(tris, expr) => {
+                let $root = root_job_among::<Broad>($alloc, tris)?;
+                let $step = Step {
+                    work: OutlineWork {
+                        tris,
+                        expr,
+                        width: PhantomData::<Broad>,
+                    },
+                    call: |job: &Job| outlines_step::<Broad>($alloc, tris, expr, job),
+                };
+                Ok(Answer::BroadOutlines($run?))
             }
         }
     };

@@ -20,7 +20,7 @@ pub struct SolidFaces {
 }
 
 // The faces of all lists, in order. Each list is dropped as soon as its faces have moved.
-fn joined(alloc: Global, lists: Vec<FaceList>) -> Result<Vec<Face>, OutOfMemory>
+pub(crate) fn joined(alloc: Global, lists: Vec<FaceList>) -> Result<Vec<Face>, OutOfMemory>
     ensures { IfOk result (λ faces. faces.items ≡ flat_map (λ list. list) lists.items) }
 {
     let count = lists.iter().fold(

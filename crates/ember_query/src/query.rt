@@ -4,7 +4,7 @@
 // answer, that it gets from `run` or `run_one` (top.rt of ember_run). They make the closure of
 // `answer_by_workers` or `answer_alone` (executor.rt). The macro `run_query!` there takes the
 // root's job and the step of each query, and gives both to the pool. One closure answers queries of
-// all five kinds, so it packs its answer into the enum `Answer`. The functions here ask it and
+// all six kinds, so it packs its answer into the enum `Answer`. The functions here ask it and
 // unpack the answer; by `IsExecutor` the answer is of the query's kind, so `unreachable!` is proved
 // never to run.
 //
@@ -12,15 +12,18 @@
 // `Send`, which starting a thread needs, on a trait's method (README.md).
 ghost use Rattle.std.specs.Prelude.{◌≤◌, IfOk};
 ghost use Rattle.ember_expr.specs.Formula.{formula_of};
+ghost use Rattle.ember_model.specs.Limits.{broad_limit, most_meshes};
+ghost use Rattle.ember_query.specs.BroadLeaves.{AreBroadOutlines, AreJournalsOnBroad};
 ghost use Rattle.ember_query.specs.Leaves.{AreFills, ArePairsOfLeaves, AreRegionCounts};
 ghost use Rattle.ember_query.specs.Queries.{IsExecutor};
 ghost use Rattle.ember_meaning.specs.Regions.Solids.{AreJournalsOfSolid};
 ghost use Rattle.ember_step.specs.Faces.{AreLeafFaces};
 ghost use Rattle.ember_step.specs.Texts.{AreLeafTexts};
+ghost use Rattle.ember_width.specs.Scenes.{IsSceneWithin};
 
 use ember_expr::Expr;
 use ember_job::Journals;
-use ember_model::{FaceList, OutOfMemory, Scene};
+use ember_model::{FaceList, OutOfMemory, Scene, Tri};
 use ember_pairs::PairList;
 use ember_text::FacesText;
 use ember_voxel::Fill;
@@ -38,6 +41,9 @@ pub enum Query<'a> {
     Faces(&'a Scene, &'a Expr),
     /// The number of written regions of each leaf.
     Counts(&'a Scene, &'a Expr),
+    /// The faces of the outlines of the written regions of each leaf, for triangles of a scene on the
+    /// broad grid.
+    BroadOutlines(&'a [Tri], &'a Expr),
 }
 
 /// The items of the leaves, in the order of the tree, and the journals: which boxes were ended.
@@ -55,6 +61,7 @@ pub enum Answer {
     Texts(RunResult<FacesText>),
     Faces(RunResult<FaceList>),
     Counts(RunResult<u64>),
+    BroadOutlines(RunResult<FaceList>),
 }
 
 /// Asks the executor for the pairs that meet in each leaf. The only error is out-of-memory.
@@ -136,6 +143,24 @@ pub fn query_counts<C: Fn(&Query) -> Result<Answer, OutOfMemory>>(
     ensures journals { IfOk result (λ found. AreJournalsOfSolid scene.now.tris (formula_of expr.now) found.journals) }
 {
     let Answer::Counts(found) = executor(&Query::Counts(scene, expr))? else {
+        unreachable!()
+    };
+    Ok(found)
+}
+
+/// Asks the executor for the faces of the outlines of the written regions of each leaf, for triangles of
+/// a scene on the broad grid. The only error is out-of-memory.
+pub fn query_broad_outlines<C: Fn(&Query) -> Result<Answer, OutOfMemory>>(
+    tris: &[Tri],
+    expr: &Expr,
+    executor: &C,
+) -> Result<RunResult<FaceList>, OutOfMemory>
+    requires scene { IsSceneWithin broad_limit tris.now most_meshes }
+    requires executor { IsExecutor C.pre C.post executor.now }
+    ensures items { IfOk result (λ found. AreBroadOutlines tris.now (formula_of expr.now) found.items.items) }
+    ensures journals { IfOk result (λ found. AreJournalsOnBroad tris.now (formula_of expr.now) found.journals) }
+{
+    let Answer::BroadOutlines(found) = executor(&Query::BroadOutlines(tris, expr))? else {
         unreachable!()
     };
     Ok(found)

@@ -19,6 +19,7 @@ use Rattle.mesh_scene.specs.declared.scene.scene.PlacedScene.{PlacedScene}
 use Rattle.mesh_scene.specs.Scene.Images.{images_of}
 use Rattle.mesh_grid.specs.declared.snap.offsets.Offset.{Offset}
 use Rattle.mesh_grid.specs.declared.snap.steps.GridStep.{GridStep}
+use Rattle.mesh_solid.proofs.ValidTables.{tables_in_are_valid}
 use Rattle.mesh_solid.specs.declared.mesh.mesh.SolidMesh.{SolidMesh}
 use Rattle.mesh_solid.specs.declared.mesh.solid.SolidRun.{SolidRun}
 use Rattle.mesh_solid.specs.Mesh.Asked.{IsThereIf}
@@ -134,7 +135,7 @@ over_is_text format places ts over points triangles bytes count are f g h k = re
 -- ---- planes
 -- the planes of a document's mesh are valid
 pub planes_are_valid : (bytes : List ℕ) (mesh : SolidMesh) → IsDocumentMesh bytes mesh → All IsValidPlane mesh.planes.items
-planes_are_valid bytes mesh is = subst (λ (ps : List Plane). All IsValidPlane ps) (sym is.cut.planes) is.tables_are.are_tables.valid
+planes_are_valid bytes mesh is = subst (λ (ps : List Plane). All IsValidPlane ps) (sym is.cut.planes) (tables_in_are_valid bytes is.tables is.tables_are)
 
 -- ---- closed files
 -- the triangles of a document's mesh are closed before they are rounded

@@ -1,3 +1,4 @@
 pub mod LongDivision
 pub mod LowestRemainders
 pub mod Signed
+pub mod ReducedPoints

@@ -1,3 +1,4 @@
 pub mod Ranges
 pub mod Remainders
 pub mod Numerators
+pub mod Reduced

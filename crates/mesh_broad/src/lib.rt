@@ -4,7 +4,9 @@
 
 mod binary32;
 mod dividing;
+mod far_places;
 mod numerators;
+mod points;
 mod reducing;
 mod remainders;
 mod rounding;
@@ -13,6 +15,7 @@ mod scaling;
 pub use binary32::nearest_binary32;
 pub use dividing::divide;
 pub use numerators::{LongNumber, long_numerator};
+pub use points::reduced_point;
 pub use reducing::reduced;
 pub use remainders::Remainders;
 pub use rounding::{nearest, nearest_multiple};

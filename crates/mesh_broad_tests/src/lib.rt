@@ -4,6 +4,8 @@
 #[cfg(test)]
 mod floats;
 #[cfg(test)]
+mod points;
+#[cfg(test)]
 mod remainders;
 #[cfg(test)]
 mod wholes;

@@ -7,6 +7,7 @@ use Rattle.std.proofs.lemmas.List.Elements.{Contains-append_right}
 use Rattle.std.proofs.lemmas.Slice.Zip.{AllZip-long}
 use Rattle.ember_model.specs.declared.plane.Plane.{Plane}
 use Rattle.ember_model.specs.declared.face.Face.{Face}
+use Rattle.ember_model.specs.Valid.{IsValidPlane}
 use Rattle.mesh_certificate.specs.Key.PlaneKeys.{IsPlaneKey}
 use Rattle.mesh_solid.specs.declared.tables.face_edge.FaceEdge.{FaceEdge}
 use Rattle.mesh_solid.specs.declared.tables.fault.TableFault.{TableFault}
@@ -67,11 +68,11 @@ module _ (all more : List FaceEdge) (face : ℕ) (n : Plane) (d : TableBuilder) 
 
   -- its plane is one of a face
   pub plane_is_used : (xs : List Plane) (e : Plane) (es : List Plane) (p : Plane) → xs ≡ e ∷ es → IsPlaneKey n p →
-      IsDraftBefore all (edges_round face n xs ++ more) d → IsPlaneOf all p
-  plane_is_used xs e es p x key h =
+      (IsValidPlane n → IsValidPlane p) → IsDraftBefore all (edges_round face n xs ++ more) d → IsPlaneOf all p
+  plane_is_used xs e es p x key valid h =
       let first : FaceEdge = record { face = face; support = n; before = last_or e es; plane = e; after = first_or e es } in
       let begun = subst (λ (ys : List Plane). IsDraftBefore all (edges_round face n ys ++ more) d) x h in
-      record { edge = first; one = next_is_one all (edges_behind face n e e es ++ more) first d begun; is = key }
+      record { edge = first; one = next_is_one all (edges_behind face n e e es ++ more) first d begun; is = key; valid = valid }
 
   -- the next one, with the plane of the one after it
   pub round_goes_on : (first before : Plane) (xs : List Plane) (e : Plane) (es : List Plane) (after : Plane) →

@@ -4,7 +4,7 @@ use Rattle.std.specs.List.{All}
 use Rattle.std.proofs.lemmas.List.Elements.{All-head, All-tail}
 use Rattle.std.proofs.lemmas.Option.{none-some, same_Some}
 use Rattle.ember_model.specs.declared.plane.Plane.{Plane}
-use Rattle.ember_model.specs.Valid.{IsValidPlane}
+use Rattle.ember_width.specs.Broad.{IsBroadPlane}
 use Rattle.mesh_solid.specs.Tables.Edges.{first_or, last_or}
 
 -- ---- the last plane
@@ -25,13 +25,13 @@ pub last_is_none : (p : Plane) (es : List Plane) → None ≡ slice_get es (leng
 last_is_none p [] h = refl
 last_is_none p (e ∷ es) h = absurd (none-some (last_or e es) (h ∙ ap (slice_get (e ∷ es)) (one_less e es) ∙ last_found e es))
 
--- ---- valid planes
--- the first of valid planes
-pub valid_first : (p : Plane) (es : List Plane) → IsValidPlane p → All IsValidPlane es → IsValidPlane (first_or p es)
-valid_first p [] v h = v
-valid_first p (e ∷ es) v h = All-head IsValidPlane e es h
+-- ---- planes of the broad grid
+-- the first of them
+pub broad_first : (p : Plane) (es : List Plane) → IsBroadPlane p → All IsBroadPlane es → IsBroadPlane (first_or p es)
+broad_first p [] v h = v
+broad_first p (e ∷ es) v h = All-head IsBroadPlane e es h
 
 -- the last one
-pub valid_last : (p : Plane) (es : List Plane) → IsValidPlane p → All IsValidPlane es → IsValidPlane (last_or p es)
-valid_last p [] v h = v
-valid_last p (e ∷ es) v h = valid_last e es (All-head IsValidPlane e es h) (All-tail IsValidPlane e es h)
+pub broad_last : (p : Plane) (es : List Plane) → IsBroadPlane p → All IsBroadPlane es → IsBroadPlane (last_or p es)
+broad_last p [] v h = v
+broad_last p (e ∷ es) v h = broad_last e es (All-head IsBroadPlane e es h) (All-tail IsBroadPlane e es h)

@@ -34,3 +34,8 @@ pub mod SolidFaces
 pub mod Outlined
 pub mod DocumentWinding
 pub mod MeshMeaning
+pub mod BroadCorners
+pub mod BroadFaces
+pub mod ValidTables
+pub mod FaceSteps
+pub mod FaceMeaning

@@ -3,7 +3,7 @@ use Rattle.std.proofs.Common.{◌≡◌, List, [], ◌∷◌, ◌++◌, sym, sub
 use Rattle.std.specs.List.{AllZip, IsDistinct, All}
 use Rattle.ember_algebra.proofs.Lists.{AllZip-push}
 use Rattle.ember_model.specs.declared.plane.Plane.{Plane}
-use Rattle.ember_model.specs.Valid.{IsValidPlane}
+use Rattle.ember_width.specs.Broad.{IsBroadPlane}
 use Rattle.mesh_certificate.specs.declared.key.lines.LineKey.{LineKey}
 use Rattle.mesh_certificate.specs.Key.PlaneKeys.{IsPlaneKey}
 use Rattle.mesh_certificate.specs.Key.LineKeys.{IsLineKey}
@@ -30,7 +30,7 @@ stays ps qs ls ms cs ds p l c edge s h =
 
 -- a draft stays one as its tables grow
 pub grown : (all rest : List FaceEdge) (d e : TableBuilder) → IsDistinct same_entry e.planes.keys →
-    IsDistinct same_line e.lines.keys → IsDistinct same_corner e.corners.keys → All IsValidPlane (planes_in e) →
+    IsDistinct same_line e.lines.keys → IsDistinct same_corner e.corners.keys → All IsBroadPlane (planes_in e) →
     All (IsPlaneOf all) (planes_in e) →
     Extends (planes_in d) (planes_in e) → Extends d.lines.keys e.lines.keys → Extends d.corners.keys e.corners.keys →
     e.segments.items ≡ d.segments.items → IsDraftBefore all rest d → IsDraftBefore all rest e
@@ -42,7 +42,7 @@ grown all rest d e i j k v u p l c s h =
         planes = i;
         lines = j;
         corners = k;
-        valid = v;
+        broad = v;
         segments = subst (AllZip (IsSegmentOf (planes_in e) e.lines.keys e.corners.keys) h.done) (sym s)
             (pairs_with (IsSegmentOf (planes_in d) d.lines.keys d.corners.keys)
             (IsSegmentOf (planes_in e) e.lines.keys e.corners.keys)
@@ -67,7 +67,7 @@ edge_put all rest edge d e s only is t h = subst (λ (x : TableBuilder). IsDraft
             planes = h.draft.planes;
             lines = h.draft.lines;
             corners = h.draft.corners;
-            valid = h.draft.valid;
+            broad = h.draft.broad;
             segments = subst (AllZip (IsSegmentOf (planes_in d) d.lines.keys d.corners.keys) (h.done ++ edge ∷ []))
                 (sym t) (AllZip-push (IsSegmentOf (planes_in d) d.lines.keys d.corners.keys) h.done d.segments.items edge s
                 h.draft.segments is);

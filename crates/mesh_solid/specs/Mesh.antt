@@ -3,3 +3,4 @@ pub mod FaceTables
 pub mod Faults
 pub mod Meshes
 pub mod MeshFaces
+pub mod FaceMeshes

@@ -2,6 +2,8 @@
 // subject by calls from outside.
 
 #[cfg(test)]
+mod broad;
+#[cfg(test)]
 mod certificates;
 #[cfg(test)]
 mod cuts;

@@ -2,7 +2,7 @@
 use Rattle.std.specs.Prelude.{◌≡◌, ◌+◌, ◌≤◌, List, ◌++◌, length, map, All}
 use Rattle.std.specs.List.{AllZip, IsDistinct}
 use Rattle.ember_model.specs.declared.plane.Plane.{Plane}
-use Rattle.ember_model.specs.Valid.{IsValidPlane}
+use Rattle.ember_width.specs.Broad.{IsBroadPlane}
 use Rattle.mesh_solid.specs.declared.tables.face_edge.FaceEdge.{FaceEdge}
 use Rattle.mesh_solid.specs.declared.tables.draft.TableBuilder.{TableBuilder}
 use Rattle.mesh_solid.specs.Tables.Numberings.{plane_of, same_entry, same_line, same_corner}
@@ -17,7 +17,7 @@ pub record IsDraft (edges : List FaceEdge) (d : TableBuilder) : Type 0 where
   pub planes : IsDistinct same_entry d.planes.keys
   pub lines : IsDistinct same_line d.lines.keys
   pub corners : IsDistinct same_corner d.corners.keys
-  pub valid : All IsValidPlane (planes_in d)
+  pub broad : All IsBroadPlane (planes_in d)
   pub segments : AllZip (IsSegmentOf (planes_in d) d.lines.keys d.corners.keys) edges d.segments.items
 
 -- d is the draft of those of all edges that are before the rest; the face of the next one may have its plane already

@@ -1,8 +1,8 @@
 -- The edges of faces, each with its neighbours
-use Rattle.std.specs.Prelude.{ℕ, ◌+◌, List, [], ◌∷◌, ◌++◌}
+use Rattle.std.specs.Prelude.{ℕ, ◌+◌, List, [], ◌∷◌, ◌++◌, All}
 use Rattle.ember_model.specs.declared.plane.Plane.{Plane}
 use Rattle.ember_model.specs.declared.face.Face.{Face}
-use Rattle.ember_model.specs.Valid.{IsValidPlane}
+use Rattle.ember_width.specs.Broad.{IsBroadPlane}
 use Rattle.mesh_solid.specs.declared.tables.face_edge.FaceEdge.{FaceEdge}
 
 -- the first plane of the list, or p if it has none
@@ -32,9 +32,15 @@ abbrev pub face_edges_of : ℕ → List Face → List FaceEdge
 face_edges_of face [] = []
 face_edges_of face (f ∷ fs) = edges_round face f.support f.edges ++ face_edges_of (face + 1) fs
 
--- all planes are valid
-pub record IsValidEdge (e : FaceEdge) : Type 0 where
-  pub support : IsValidPlane e.support
-  pub before : IsValidPlane e.before
-  pub plane : IsValidPlane e.plane
-  pub after : IsValidPlane e.after
+-- ---- faces of the broad grid
+-- all planes of a face are planes of the broad grid
+pub record IsBroadFace (f : Face) : Type 0 where
+  pub support : IsBroadPlane f.support
+  pub edges : All IsBroadPlane f.edges
+
+-- and those of an edge
+pub record IsBroadEdge (e : FaceEdge) : Type 0 where
+  pub support : IsBroadPlane e.support
+  pub before : IsBroadPlane e.before
+  pub plane : IsBroadPlane e.plane
+  pub after : IsBroadPlane e.after

@@ -7,6 +7,7 @@ use Rattle.ember_model.specs.declared.point.Spot.{Spot}
 use Rattle.ember_model.specs.Edges.{SamePoint}
 use Rattle.ember_model.specs.FaceFiles.{IsLowest}
 use Rattle.ember_model.specs.Valid.{IsValidPlane}
+use Rattle.ember_width.specs.Broad.{IsBroadPlane}
 use Rattle.ember_point.specs.Points.{weight, meet_of}
 use Rattle.mesh_certificate.specs.declared.key.lines.LineKey.{LineKey}
 use Rattle.mesh_certificate.specs.Key.PlaneKeys.{IsPlaneKey}
@@ -42,11 +43,12 @@ pub record IsSegmentOf (ps : List Plane) (ls : List LineKey) (cs : List SpacePoi
   pub start : HasEntry cs s.start (λ c. IsCorner edge.support edge.before edge.plane (spot_of c))
   pub end : HasEntry cs s.end (λ c. IsCorner edge.support edge.plane edge.after (spot_of c))
 
--- the plane is that of a face, of which this is an edge
+-- the plane is that of a face, of which this is an edge, and valid if the face's is
 pub record IsPlaneOf (edges : List FaceEdge) (p : Plane) : Type 0 where
   pub edge : FaceEdge
   pub one : Contains edges edge
   pub is : IsPlaneKey edge.support p
+  pub valid : IsValidPlane edge.support → IsValidPlane p
 
 -- the segments are the edges in their order, no plane, line or corner has two numbers, and each plane is a face's
 pub record AreTables (edges : List FaceEdge) (t : Tables) : Type 0 where
@@ -54,7 +56,7 @@ pub record AreTables (edges : List FaceEdge) (t : Tables) : Type 0 where
   pub planes : AreDistinct (λ (p : Plane). p) t.planes.items
   pub lines : AreDistinct (λ (k : LineKey). k) t.lines.items
   pub corners : AreDistinct spot_of t.corners.items
-  pub valid : All IsValidPlane t.planes.items
+  pub broad : All IsBroadPlane t.planes.items
   pub used : All (IsPlaneOf edges) t.planes.items
 
 -- ---- faults

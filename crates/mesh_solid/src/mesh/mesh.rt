@@ -1,9 +1,11 @@
 // The mesh of faces.
 ghost use Rattle.std.specs.Prelude.{◌≡◌, ℕ, List, length, All, IfOk, IfErr};
 ghost use Rattle.ember_model.specs.FaceFiles.{IsFaceFile};
-ghost use Rattle.ember_model.specs.Valid.{IsValidFace, IsValidPlane};
+ghost use Rattle.ember_width.specs.Broad.{IsBroadPlane};
+ghost use Rattle.mesh_solid.specs.Mesh.FaceMeshes.{IsFacesMesh, IsFacesFault};
 ghost use Rattle.mesh_solid.specs.Mesh.Faults.{IsCutFault, IsFileFault};
 ghost use Rattle.mesh_solid.specs.Mesh.Meshes.{IsDocumentMesh, IsMeshOf};
+ghost use Rattle.mesh_solid.specs.Tables.Edges.{IsBroadFace};
 ghost use Rattle.mesh_triangles.specs.PlaneQueries.{IsPlaneExecutor};
 
 use crate::mesh::fault::SolidFault;
@@ -14,7 +16,7 @@ use mesh_point::SpacePoint;
 use mesh_triangles::{PlaneAnswer, PlaneQuery, TrianglesFault, certified_triangles};
 use std::alloc::Global;
 
-/// Triangles of the faces of a document, with the planes and corners that their numbers stand for.
+/// Triangles of the faces of a solid or a document, with the planes and corners that their numbers stand for.
 /// A corner may belong to no triangle.
 #[derive(Drop)]
 pub struct SolidMesh {
@@ -32,7 +34,7 @@ fn mesh_of<D: Fn(&PlaneQuery) -> Result<PlaneAnswer, TrianglesFault>>(
     faces: u64,
     plane_executor: &D,
 ) -> Result<SolidMesh, SolidFault>
-    requires valid { All IsValidPlane tables.planes.items }
+    requires broad { All IsBroadPlane tables.planes.items }
     requires plane_executor { IsPlaneExecutor D.pre D.post plane_executor.now }
     ensures mesh { IfOk result (λ mesh. IsMeshOf tables mesh) }
     ensures faces { IfOk result (λ mesh. mesh.faces ≡ faces) }
@@ -60,14 +62,16 @@ fn mesh_of<D: Fn(&PlaneQuery) -> Result<PlaneAnswer, TrianglesFault>>(
     })
 }
 
-// The mesh of the faces of a document, which aren't kept while triangles are made.
+// The mesh of faces, which aren't kept while triangles are made: those of a document, or of outlines.
 pub(crate) fn mesh_of_faces<D: Fn(&PlaneQuery) -> Result<PlaneAnswer, TrianglesFault>>(
     alloc: Global,
     faces: Vec<Face>,
     plane_executor: &D,
 ) -> Result<SolidMesh, SolidFault>
-    requires valid { All IsValidFace faces.items }
+    requires broad { All IsBroadFace faces.items }
     requires plane_executor { IsPlaneExecutor D.pre D.post plane_executor.now }
+    ensures faces { IfOk result (IsFacesMesh faces.items) }
+    ensures faces_fault { IfErr result (IsFacesFault faces.items) }
     ensures mesh { (bytes : List ℕ) → IsFaceFile bytes faces.items → IfOk result (IsDocumentMesh bytes) }
     ensures fault { (bytes : List ℕ) → IsFaceFile bytes faces.items → IfErr result (IsFileFault bytes) }
 {

@@ -1,6 +1,6 @@
 // Tables of some edges.
 ghost use Rattle.std.specs.Prelude.{◌≡◌, ◌+◌, ◌≤◌, [], ◌∷◌, ◌++◌, List, length, All, IfOk, IfErr, OnOk};
-ghost use Rattle.ember_model.specs.Valid.{IsValidPlane};
+ghost use Rattle.ember_width.specs.Broad.{IsBroadPlane};
 ghost use Rattle.mesh_certificate.specs.Key.PlaneKeys.{IsPlaneKey};
 ghost use Rattle.mesh_certificate.specs.Certificate.Facing.{spot_of};
 ghost use Rattle.mesh_solid.specs.declared.tables.face_edge.FaceEdge.{FaceEdge};
@@ -84,8 +84,8 @@ impl TableBuilder {
         support: &Plane,
         edges: &[Plane],
     ) -> Result<(), TableFault>
-        requires support { IsValidPlane support.now }
-        requires edges { All IsValidPlane edges.now }
+        requires support { IsBroadPlane support.now }
+        requires edges { All IsBroadPlane edges.now }
         requires few { HasFew self.old }
         ensures ok { (all more : List FaceEdge) →
             IsDraftBefore all (edges_round face support.now edges.now ++ more) self.old →

@@ -1,9 +1,9 @@
 // What an edge has in the tables.
 ghost use Rattle.std.specs.Prelude.{IfOk, IfErr};
 ghost use Rattle.ember_model.specs.declared.plane.Plane.{Plane};
-ghost use Rattle.ember_model.specs.Valid.{IsValidPlane};
+ghost use Rattle.ember_width.specs.Broad.{IsBroadPlane};
 ghost use Rattle.mesh_certificate.specs.Certificate.Facing.{spot_of};
-ghost use Rattle.mesh_solid.specs.Tables.Edges.{IsValidEdge};
+ghost use Rattle.mesh_solid.specs.Tables.Edges.{IsBroadEdge};
 ghost use Rattle.mesh_solid.specs.Tables.Tables.{IsCorner, IsKeyed, IsEdgeFault};
 
 use crate::tables::corner::corner_of;
@@ -28,9 +28,9 @@ pub fn start_of(
     before: &Plane,
     plane: &Plane,
 ) -> Result<SpacePoint, TableFault>
-    requires support { IsValidPlane support.now }
-    requires before { IsValidPlane before.now }
-    requires plane { IsValidPlane plane.now }
+    requires support { IsBroadPlane support.now }
+    requires before { IsBroadPlane before.now }
+    requires plane { IsBroadPlane plane.now }
     ensures ok { IfOk result (λ c. IsCorner support.now before.now plane.now (spot_of c)) }
     ensures fault { (after : Plane) → IfErr result (λ e. IsEdgeFault
         (record { face = face; support = support.now; before = before.now; plane = plane.now; after = after }) e) }
@@ -47,7 +47,7 @@ pub fn start_of(
 /// The key of an edge's line, and the corner in which it ends. `NoLine` if its plane is parallel to
 /// the face, and `NoCorner` if it doesn't end in one point within the limits of a `SpacePoint`.
 pub fn keys_of(edge: &FaceEdge) -> Result<Keyed, TableFault>
-    requires { IsValidEdge edge.now }
+    requires { IsBroadEdge edge.now }
     ensures ok { IfOk result (λ k. IsKeyed edge.now k) }
     ensures fault { IfErr result (λ e. IsEdgeFault edge.now e) }
 {

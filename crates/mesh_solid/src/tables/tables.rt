@@ -1,7 +1,6 @@
 // The tables of faces.
 ghost use Rattle.std.specs.Prelude.{All, IfOk, IfErr};
-ghost use Rattle.ember_model.specs.Valid.{IsValidFace};
-ghost use Rattle.mesh_solid.specs.Tables.Edges.{face_edges_of};
+ghost use Rattle.mesh_solid.specs.Tables.Edges.{face_edges_of, IsBroadFace};
 ghost use Rattle.mesh_solid.specs.Tables.Tables.{IsFault, IsPlaneOf, AreTables};
 ghost use Rattle.mesh_solid.specs.Tables.Drafts.{planes_in, IsDraft};
 
@@ -25,7 +24,7 @@ pub struct Tables {
 
 // The draft of all edges of the faces.
 fn draft_of(alloc: Global, faces: &[Face]) -> Result<TableBuilder, TableFault>
-    requires { All IsValidFace faces.now }
+    requires { All IsBroadFace faces.now }
     ensures ok { IfOk result (λ d. IsDraft (face_edges_of 0 faces.now) d) }
     ensures used { IfOk result (λ d. All (IsPlaneOf (face_edges_of 0 faces.now)) (planes_in d)) }
     ensures fault { IfErr result (λ e. IsFault (face_edges_of 0 faces.now) e) }
@@ -41,7 +40,7 @@ fn draft_of(alloc: Global, faces: &[Face]) -> Result<TableBuilder, TableFault>
 /// by numbers. It is a fault if an edge has no line, or no corner within the limits of a space
 /// point, or if there are too many edges: see [`TableFault`].
 pub fn tables_of(alloc: Global, faces: &[Face]) -> Result<Tables, TableFault>
-    requires { All IsValidFace faces.now }
+    requires { All IsBroadFace faces.now }
     ensures tables { IfOk result (λ t. AreTables (face_edges_of 0 faces.now) t) }
     ensures fault { IfErr result (λ e. IsFault (face_edges_of 0 faces.now) e) }
 {

@@ -1,4 +1,4 @@
-use Rattle.ember_query.proofs.Findings.{counts_found, faces_found, fills_found, fills_root, texts_found, pairs_found}
+use Rattle.ember_query.proofs.Findings.{counts_found, faces_found, fills_found, fills_root, outlines_asked, outlines_found, texts_found, pairs_found}
 use Rattle.ember_query.proofs.executor.answer_alone.Goals as goal
 
 pub results_alone-requires-in-Fills-clause-root : goal.results_alone-requires-in-Fills-clause-root
@@ -27,3 +27,11 @@ pub returns-in_ok-results_alone-in-Counts : goal.returns-in_ok-results_alone-in-
 returns-in_ok-results_alone-in-Counts g c =
     counts_found _ _ _ _ _ c.in-Counts.is c.in_ok-root-in-Counts.ensures.value
     c.in_ok-results_alone-in-Counts.ensures.items c.in_ok-results_alone-in-Counts.ensures.journals
+
+pub root_job_among-requires : goal.root_job_among-requires
+root_job_among-requires g c = outlines_asked _ _ _ c.requires c.in-BroadOutlines.is
+
+pub returns-in_ok-results_alone-in-BroadOutlines : goal.returns-in_ok-results_alone-in-BroadOutlines
+returns-in_ok-results_alone-in-BroadOutlines g c =
+    outlines_found _ _ _ _ _ c.in-BroadOutlines.is c.in_ok-root-in-BroadOutlines.ensures.value
+    c.in_ok-results_alone-in-BroadOutlines.ensures.items c.in_ok-results_alone-in-BroadOutlines.ensures.journals

@@ -1,4 +1,4 @@
-use Rattle.ember_query.proofs.Findings.{counts_found, faces_found, fills_found, fills_root, texts_found, pairs_found}
+use Rattle.ember_query.proofs.Findings.{counts_found, faces_found, fills_found, fills_root, outlines_asked, outlines_found, texts_found, pairs_found}
 use Rattle.ember_query.proofs.executor.answer_by_workers.Goals as goal
 
 pub results_by_workers-requires-in-Fills-clause-root : goal.results_by_workers-requires-in-Fills-clause-root
@@ -27,3 +27,11 @@ pub returns-in_ok-results_by_workers-in-Counts : goal.returns-in_ok-results_by_w
 returns-in_ok-results_by_workers-in-Counts g c =
     counts_found _ _ _ _ _ c.in-Counts.is c.in_ok-root-in-Counts.ensures.value
     c.in_ok-results_by_workers-in-Counts.ensures.items c.in_ok-results_by_workers-in-Counts.ensures.journals
+
+pub root_job_among-requires : goal.root_job_among-requires
+root_job_among-requires g c = outlines_asked _ _ _ c.requires.query c.in-BroadOutlines.is
+
+pub returns-in_ok-results_by_workers-in-BroadOutlines : goal.returns-in_ok-results_by_workers-in-BroadOutlines
+returns-in_ok-results_by_workers-in-BroadOutlines g c =
+    outlines_found _ _ _ _ _ c.in-BroadOutlines.is c.in_ok-root-in-BroadOutlines.ensures.value
+    c.in_ok-results_by_workers-in-BroadOutlines.ensures.items c.in_ok-results_by_workers-in-BroadOutlines.ensures.journals

@@ -1,14 +1,14 @@
 use Rattle.std.proofs.Common.{List, map, sym, ap, subst, ◌∙◌}
 use Rattle.std.specs.List.{All}
 use Rattle.std.proofs.lemmas.Bool.{false≢true, both_ways}
-use Rattle.ember_model.specs.FaceFiles.{WrittenFace}
-use Rattle.ember_model.specs.Valid.{IsValidFace}
 use Rattle.ember_reread.specs.declared.cornered_face.CorneredFace.{CorneredFace}
 use Rattle.ember_reread.specs.Cornered.{IsFileOf, face_of}
 use Rattle.ember_reread.specs.Lines.{face_in}
 use Rattle.mesh_solid.specs.Mesh.Faults.{IsDocumentFault, of_reading_fault, of_tables_fault}
 use Rattle.mesh_solid.specs.Refusal.ClosedLines.{AreLinesClosed}
 use Rattle.mesh_solid.specs.Refusal.Overlaps.{HaveOverlap}
+use Rattle.mesh_solid.specs.Tables.Edges.{IsBroadFace}
+use Rattle.mesh_solid.proofs.BroadFaces.{valid_faces_are_broad}
 use Rattle.mesh_solid.proofs.Passing.{passed_on}
 use Rattle.mesh_solid.proofs.SolidSteps.{reading_fault_is}
 use Rattle.mesh_solid.proofs.UncutDocuments.{document_has_no_tables, document_has_overlap, document_is_not_closed, document_is_not_cut}
@@ -31,7 +31,7 @@ pub tables_of-requires : goal.tables_of-requires
 tables_of-requires c =
     let same = c.deref-2.ensures.value ∙ c.in_ok-faces.ensures.faces
     ∙ ap (λ (fs : List CorneredFace). map face_in (map face_of fs)) c.deref.ensures.value in
-    subst (All IsValidFace) (sym same) c.in_ok-written.ensures.valid
+    subst (All IsBroadFace) (sym same) (valid_faces_are_broad _ c.in_ok-written.ensures.valid)
 
 pub returns-in_err-tables-clause-fault : goal.returns-in_err-tables-clause-fault
 returns-in_err-tables-clause-fault c =

@@ -1,13 +1,14 @@
 use Rattle.std.proofs.Common.{List, map, sym, ap, subst, ◌∙◌}
 use Rattle.std.specs.List.{All}
 use Rattle.ember_model.specs.FaceFiles.{IsFaceFile}
-use Rattle.ember_model.specs.Valid.{IsValidFace}
 use Rattle.mesh_solid.specs.Outline.Rounds.{IsRound}
 use Rattle.ember_reread.specs.declared.cornered_face.CorneredFace.{CorneredFace}
 use Rattle.ember_reread.specs.Cornered.{IsFileOf, face_of}
 use Rattle.ember_reread.specs.Lines.{face_in}
 use Rattle.mesh_solid.specs.Mesh.Faults.{IsDocumentFault, IsFileFault, of_reading_fault}
 use Rattle.mesh_solid.proofs.Outlined.{file_holds, outlined_mesh_is}
+use Rattle.mesh_solid.specs.Tables.Edges.{IsBroadFace}
+use Rattle.mesh_solid.proofs.BroadFaces.{valid_faces_are_broad}
 use Rattle.mesh_solid.proofs.Passing.{passed_on}
 use Rattle.mesh_solid.proofs.SolidSteps.{reading_fault_is}
 use Rattle.mesh_solid.proofs.mesh.document.document_mesh.Goals as goal
@@ -25,10 +26,10 @@ returns-in_err-faces-clause-fault g c =
     passed_on (IsDocumentFault c.args.bytes.now) c.from_residual-in_err-faces.result cause
     c.from_residual-in_err-faces.ensures.1 (c.in_err-faces.ensures.fault c.args.bytes.now file)
 
-pub mesh_of_faces-requires-clause-valid : goal.mesh_of_faces-requires-clause-valid
-mesh_of_faces-requires-clause-valid g c =
+pub mesh_of_faces-requires-clause-broad : goal.mesh_of_faces-requires-clause-broad
+mesh_of_faces-requires-clause-broad g c =
     let same = c.in_ok-faces.ensures.faces ∙ ap (λ (fs : List CorneredFace). map face_in (map face_of fs)) c.deref.ensures.value in
-    subst (All IsValidFace) (sym same) c.in_ok-written.ensures.valid
+    subst (All IsBroadFace) (sym same) (valid_faces_are_broad _ c.in_ok-written.ensures.valid)
 
 pub returns-in-Ok-clause-mesh : goal.returns-in-Ok-clause-mesh
 returns-in-Ok-clause-mesh g c =

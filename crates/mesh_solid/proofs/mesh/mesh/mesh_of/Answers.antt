@@ -1,15 +1,12 @@
 use Rattle.std.proofs.Common.{refl, sym, subst}
 use Rattle.std.specs.List.{All}
-use Rattle.std.proofs.lemmas.List.Elements.{All-weaker}
-use Rattle.ember_model.specs.Valid.{IsValidPlane}
 use Rattle.ember_width.specs.Broad.{IsBroadPlane}
-use Rattle.ember_width.specs.Laws.{narrow_is_broad}
 use Rattle.mesh_solid.proofs.SolidSteps.{certified_of}
 use Rattle.mesh_solid.proofs.mesh.mesh.mesh_of.Goals as goal
 
 pub certified_triangles-requires-clause-valid : goal.certified_triangles-requires-clause-valid
 certified_triangles-requires-clause-valid g c =
-    subst (All IsBroadPlane) (sym c.deref.ensures.value) (All-weaker IsValidPlane IsBroadPlane narrow_is_broad _ c.requires.valid)
+    subst (All IsBroadPlane) (sym c.deref.ensures.value) c.requires.broad
 
 pub returns-clause-mesh : goal.returns-clause-mesh
 returns-clause-mesh g c =

@@ -1,6 +1,7 @@
 use Rattle.std.proofs.Common.{refl}
 use Rattle.ember_expr.specs.Formula.{formula_of}
 use Rattle.mesh_solid.specs.Mesh.Faults.{IsSolidFault}
+use Rattle.mesh_solid.proofs.BroadFaces.{valid_faces_are_broad}
 use Rattle.mesh_solid.proofs.Passing.{passed_on}
 use Rattle.mesh_solid.proofs.SolidSteps.{solid_fault_is}
 use Rattle.mesh_solid.proofs.mesh.solid.mesh_alone.Goals as goal
@@ -22,3 +23,6 @@ returns-in_err-mesh-clause-fault g c =
     passed_on (IsSolidFault c.args.scene.now.tris formula) c.from_residual-in_err-mesh.result cause
     c.from_residual-in_err-mesh.ensures.1 (solid_fault_is c.args.scene.now.tris formula held.bytes held.text cause
     (c.in_err-mesh.ensures.fault held.bytes held.read))
+
+pub mesh_of_faces-requires-clause-broad : goal.mesh_of_faces-requires-clause-broad
+mesh_of_faces-requires-clause-broad g c = valid_faces_are_broad _ c.in_ok-faces.ensures.valid

@@ -3,6 +3,7 @@ use Rattle.ember_expr.specs.Formula.{formula_of}
 use Rattle.ember_model.specs.FaceFiles.{IsFaceFile}
 use Rattle.mesh_solid.specs.Mesh.FaceTables.{HoldsFaces}
 use Rattle.mesh_solid.specs.Mesh.Faults.{IsSolidFault}
+use Rattle.mesh_solid.proofs.BroadFaces.{valid_faces_are_broad}
 use Rattle.mesh_solid.proofs.Passing.{passed_on}
 use Rattle.mesh_solid.proofs.ReadBack.{solid_holds_faces}
 use Rattle.mesh_solid.proofs.SolidSteps.{solid_fault_is}
@@ -33,3 +34,6 @@ returns-in_err-mesh-clause-fault g c =
     passed_on (IsSolidFault c.args.scene.now.tris formula) c.from_residual-in_err-mesh.result cause
     c.from_residual-in_err-mesh.ensures.1 (solid_fault_is c.args.scene.now.tris formula text.items
     c.in_ok-text.ensures.text cause (c.in_err-mesh.ensures.fault text.items read))
+
+pub mesh_of_faces-requires-clause-broad : goal.mesh_of_faces-requires-clause-broad
+mesh_of_faces-requires-clause-broad g c = valid_faces_are_broad _ c.in_ok-faces.ensures.valid

@@ -1,7 +1,7 @@
 use Rattle.std.proofs.Common.{◌≡◌, ◌∙◌, List, map, sym, ap, subst}
 use Rattle.std.specs.List.{All, AllZip}
 use Rattle.ember_model.specs.declared.plane.Plane.{Plane}
-use Rattle.ember_model.specs.Valid.{IsValidPlane}
+use Rattle.ember_width.specs.Broad.{IsBroadPlane}
 use Rattle.mesh_certificate.specs.declared.key.lines.LineKey.{LineKey}
 use Rattle.mesh_point.specs.declared.space_point.SpacePoint.{SpacePoint}
 use Rattle.mesh_certificate.specs.Certificate.Facing.{spot_of}
@@ -30,6 +30,6 @@ returns-clause-tables c =
           h.planes));
       lines = subst (AreDistinct (λ (k : LineKey). k)) (sym ls) (distinct same_line (λ k. k) same_line_decides d.lines.keys h.lines);
       corners = subst (AreDistinct spot_of) (sym cs) (distinct same_corner spot_of same_corner_decides d.corners.keys h.corners);
-      valid = subst (All IsValidPlane) (sym ps) h.valid;
+      broad = subst (All IsBroadPlane) (sym ps) h.broad;
       used = subst (All (IsPlaneOf edges)) (sym ps) c.in_ok-planes.ensures.used;
     }

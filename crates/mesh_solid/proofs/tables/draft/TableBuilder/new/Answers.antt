@@ -1,7 +1,7 @@
 use Rattle.std.proofs.Common.{◌≡◌, [], List, map, sym, subst}
 use Rattle.std.specs.List.{All, AllZip}
 use Rattle.std.proofs.lemmas.List.Elements.{All-nil}
-use Rattle.ember_model.specs.Valid.{IsValidPlane}
+use Rattle.ember_width.specs.Broad.{IsBroadPlane}
 use Rattle.mesh_solid.specs.declared.tables.plane_entry.PlaneEntry.{PlaneEntry}
 use Rattle.mesh_solid.specs.Tables.Numberings.{plane_of}
 use Rattle.mesh_solid.specs.Tables.Tables.{IsSegmentOf}
@@ -15,6 +15,6 @@ returns-clause-draft c =
       planes = p.ensures.unique;
       lines = l.ensures.unique;
       corners = k.ensures.unique;
-      valid = subst (λ (es : List PlaneEntry). All IsValidPlane (map plane_of es)) (sym none) (All-nil IsValidPlane);
+      broad = subst (λ (es : List PlaneEntry). All IsBroadPlane (map plane_of es)) (sym none) (All-nil IsBroadPlane);
       segments = subst (AllZip (IsSegmentOf (map plane_of p.result.keys) l.result.keys k.result.keys) []) (sym c.new-4.ensures.items) tt;
     }

@@ -18,7 +18,7 @@ returns-clause-ok c =
     let mid : TableBuilder = record old { lines = c.number_of.new.table; corners = c.number_of-2.new.table } in
     let lines = extends_put k.line old.lines.keys mid.lines.keys l.entries in
     let corners = extends_put k.end old.corners.keys mid.corners.keys e.entries in
-    let g = grown all _ old mid h.draft.planes l.distinct e.distinct h.draft.valid h.used (extends_same (planes_in old) (planes_in old) refl) lines corners refl h in
+    let g = grown all _ old mid h.draft.planes l.distinct e.distinct h.draft.broad h.used (extends_same (planes_in old) (planes_in old) refl) lines corners refl h in
     edge_put all rest edge mid _ _ refl
     (record {
       plane = p;

@@ -1,6 +1,6 @@
 use Rattle.std.proofs.Common.{◌≡◌, ◌+◌, ◌≤◌, List, ◌++◌, length}
 use Rattle.std.specs.List.{All}
-use Rattle.ember_model.specs.Valid.{IsValidPlane}
+use Rattle.ember_width.specs.Broad.{IsBroadPlane}
 use Rattle.mesh_certificate.specs.Key.PlaneKeys.{IsPlaneKey}
 use Rattle.mesh_certificate.specs.Certificate.Facing.{spot_of}
 use Rattle.mesh_solid.specs.declared.tables.face_edge.FaceEdge.{FaceEdge}
@@ -14,8 +14,8 @@ abbrev pub invariant-loop-plane : goal.invariant-loop-plane
 invariant-loop-plane l = record {
   done : (all more : List FaceEdge) → IsDraftBefore all (edges_round l.face l.support l.edges ++ more) l.fn.self →
       IsDraftBefore all (edges_behind l.face l.support l.first l.before l.rest ++ more) l.self;
-  before : IsValidPlane l.before;
-  rest : All IsValidPlane l.rest;
+  before : IsBroadPlane l.before;
+  rest : All IsBroadPlane l.rest;
   number : HasEntry (planes_in l.self) l.number (IsPlaneKey l.support);
   start : HasEntry l.self.corners.keys l.start (λ c. IsCorner l.support l.before (first_or l.first l.rest) (spot_of c));
   planes : length l.self.planes.keys ≤ length l.fn.self.segments.items + 1;
