@@ -1,3 +1,4 @@
 pub mod Meaning
 pub mod Nearby
+pub mod All
 pub mod Solids

@@ -1,5 +1,7 @@
 -- What a call promises: which status it may end with, and what it then did to each device
 use Rattle.std.specs.Prelude.{◌≡◌, ◌≢◌, ◌≤◌, ◌⊎◌, Bool, true, false, ℕ, ◌-◌, List, length, map, None, Some}
+use Rattle.std.specs.Prelude.{String, string_bytes}
+use Rattle.std.specs.declared.alloc.Global.{Global}
 use Rattle.std.specs.declared.option.Option.{Option}
 use Rattle.ember_io.specs.Sinks.{IsFlushed}
 use Rattle.ember_words.specs.declared.command.Command.{Command}
@@ -9,7 +11,7 @@ use Rattle.ember_verdict.specs.Statuses.{HasOutput, IsBegun, IsBegunIfTold, IsRe
 use Rattle.ember_verdict.specs.Statuses.{IsText, IsWritten, IsWrittenIfTold, hides_memory}
 use Rattle.ember_verdict.specs.Statuses.{is_before_files, is_refusal, refused_file}
 use Rattle.ember_io.specs.Calls.{ShelfCall, SinkCall, HasShelfFailed, HasSinkFailed}
-use Rattle.ember_io.specs.Shelves.{IsFileIn}
+use Rattle.ember_io.specs.Shelves.{IsFileIn, Told}
 use Rattle.ember_verdict.specs.Held.{MayHold}
 use Rattle.ember_verdict.specs.Messages.{AppendsUntilFault}
 use Rattle.ember_verdict.specs.Reported.{IsErrText, IsReported, IsReportOfVerdictIfAsked, asks_report}
@@ -25,8 +27,12 @@ pub record IsReply (asked : Bool) (verdict : Verdict) (reply : Reply) : Type 0 w
   pub text : IsText verdict reply.text.items
   pub report : IsReportOfVerdictIfAsked asked verdict reply.report.items
 
+-- it is the reply to a verdict over contents that the files with these names may have
+abbrev pub IsReplyOver : Bool → (Contents → Verdict) → List (List ℕ) → Told → Reply → Type 0
+IsReplyOver asked verdict names told reply = MayHold told names (λ contents. IsReply asked (verdict contents) reply)
+
 -- this is the reply to a command over contents that its files may have
-abbrev pub IsReplyTo : Command → (List ℕ → Option (List ℕ)) → Reply → Type 0
+abbrev pub IsReplyTo : Command → Told → Reply → Type 0
 IsReplyTo command told reply =
     MayHold told (names_of (Some command))
     (λ contents. IsReply (asks_report (Some command)) (verdict_of (Some command) contents) reply)
@@ -99,3 +105,7 @@ pub record Serves (command : Option Command) (shelf : ShelfCall) (out err : Sink
   -- err took the report, or the line of the status, up to its first fault
   pub err_text : (text : List ℕ) × IsErrText command shelf.told status text ×
       AppendsUntilFault err.faults err.faults_after err.taken err.taken_after text
+
+-- what a call promises for its words
+abbrev pub ServesWords : List (String Global) → ShelfCall → SinkCall → SinkCall → Status → Type 0
+ServesWords words shelf out err status = Serves (command_of (map string_bytes words)) shelf out err status

@@ -4,10 +4,9 @@ ghost use Rattle.ember_gen.specs.Limits.{most_demo_boxes};
 ghost use Rattle.ember_expr.specs.Formula.{formula_of};
 ghost use Rattle.ember_query.specs.Queries.{IsExecutor};
 ghost use Rattle.ember_meaning.specs.Regions.Solids.{IsSolidText};
-ghost use Rattle.ember_run.specs.Serves.{IsReply};
+ghost use Rattle.ember_run.specs.Serves.{IsReplyOver};
 ghost use Rattle.ember_verdict.specs.Statuses.{IsText};
-ghost use Rattle.ember_io.specs.Calls.{shelf_call};
-ghost use Rattle.ember_verdict.specs.Held.{MayHold};
+ghost use Rattle.ember_io.specs.Calls.{shelf_seen};
 ghost use Rattle.ember_verdict.specs.NoReplies.{IsNoReply, IsNoReplyToExpression};
 ghost use Rattle.ember_verdict.specs.Solids.{IsReportTextIfAsked, IsReportText, line_if_asked};
 ghost use Rattle.ember_verdict.specs.Verdict.{bool_verdict, demo_verdict};
@@ -45,7 +44,7 @@ fn reply_of_solid<C: Fn(&Query) -> Result<Answer, OutOfMemory>>(
     requires { IsExecutor C.pre C.post executor.now }
     ensures text { IfOk result (λ reply. IsSolidText scene.now.tris (formula_of expr.now) reply.text.items) }
     ensures report { IfOk result
-        (λ reply. IsReportTextIfAsked reported scene.now.tris (formula_of expr.now) reply.report.items) }
+        (λ it. IsReportTextIfAsked reported scene.now.tris (formula_of expr.now) it.report.items) }
 {
     let solid = solid_of(alloc, scene, expr, executor)?;
     let report = line_if_asked(alloc, reported, &solid.report)?;
@@ -71,11 +70,10 @@ pub fn bool_output<S: Shelf, C: Fn(&Query) -> Result<Answer, OutOfMemory>>(
     requires executor { IsExecutor C.pre C.post executor.now }
     ensures contents { S.contents shelf.new ≡ S.contents shelf.old }
     ensures later { S.faults shelf.old ≤ S.faults shelf.new }
-    ensures reply { IfOk result (λ reply. MayHold (S.contents shelf.old) files.now
-        (λ contents. IsReply reported (bool_verdict expr.now places contents) reply)) }
+    ensures reply { IfOk result
+        (IsReplyOver reported (bool_verdict expr.now places) files.now (S.contents shelf.old)) }
     ensures no_reply { IfErr result
-        (IsNoReply (bool_verdict expr.now places) files.now
-        (shelf_call S.contents S.faults S.fault_at S.fault_kind shelf.old shelf.new)) }
+        (IsNoReply (bool_verdict expr.now places) files.now (shelf_seen S.Shelf shelf)) }
 {
     let files = files.items();
     let expr = match parse_bounded(alloc, expr, files.len() as u32) {

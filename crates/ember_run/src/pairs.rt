@@ -2,9 +2,8 @@
 ghost use Rattle.std.specs.Prelude.{◌≡◌, ◌≤◌, length, IfOk, IfErr};
 ghost use Rattle.ember_query.specs.Queries.{IsExecutor};
 ghost use Rattle.ember_verdict.specs.PairLists.{IsPairsText};
-ghost use Rattle.ember_verdict.specs.Statuses.{IsText};
-ghost use Rattle.ember_io.specs.Calls.{shelf_call};
-ghost use Rattle.ember_verdict.specs.Held.{MayHold};
+ghost use Rattle.ember_io.specs.Calls.{shelf_seen};
+ghost use Rattle.ember_verdict.specs.HeldTexts.{IsTextOver};
 ghost use Rattle.ember_verdict.specs.NoReplies.{IsNoReply};
 ghost use Rattle.ember_verdict.specs.Verdict.{pairs_verdict};
 
@@ -46,11 +45,8 @@ pub fn pairs_output<S: Shelf, C: Fn(&Query) -> Result<Answer, OutOfMemory>>(
     requires executor { IsExecutor C.pre C.post executor.now }
     ensures contents { S.contents shelf.new ≡ S.contents shelf.old }
     ensures later { S.faults shelf.old ≤ S.faults shelf.new }
-    ensures text { IfOk result (λ text. MayHold (S.contents shelf.old) files.now
-        (λ contents. IsText (pairs_verdict places contents) text.items)) }
-    ensures no_reply { IfErr result
-        (IsNoReply (pairs_verdict places) files.now
-        (shelf_call S.contents S.faults S.fault_at S.fault_kind shelf.old shelf.new)) }
+    ensures text { IfOk result (IsTextOver (pairs_verdict places) files.now (S.contents shelf.old)) }
+    ensures no_reply { IfErr result (IsNoReply (pairs_verdict places) files.now (shelf_seen S.Shelf shelf)) }
 {
     let scene = match read_scene(alloc, shelf, files.items(), places) {
         Ok(scene) => scene,

@@ -1,16 +1,11 @@
 // The top call. `run` and `run_one` make the *executor*: the closure that runs the boxes of a query
 // (query.rt of ember_query). A command that runs boxes gets it and doesn't know who runs them.
 ghost use Rattle.std.specs.Prelude.{◌≡◌, ◌≤◌, ◌⊎◌, Some, IfOk, IfErr, map, string_bytes};
-ghost use Rattle.std.specs.Io.KnownBytes.{Appends};
-ghost use Rattle.ember_io.specs.Causes.{HasRisen};
-ghost use Rattle.ember_io.specs.Sinks.{AppendsPrefix, IsFlushed};
 ghost use Rattle.ember_query.specs.Queries.{IsAnswer, IsExecutor, IsExecutorOfAny, IsQuery};
-ghost use Rattle.ember_words.specs.WordsCommand.{command_of};
 ghost use Rattle.ember_words.specs.Within.{IsWithinLimits};
-ghost use Rattle.ember_io.specs.Calls.{shelf_call, sink_call};
-ghost use Rattle.ember_run.specs.Serves.{IsReplyTo, ReadsCanonical, Serves};
-ghost use Rattle.ember_verdict.specs.NoReplies.{IsNoReply};
-ghost use Rattle.ember_verdict.specs.Verdict.{names_of, verdict_of};
+ghost use Rattle.ember_io.specs.Calls.{TakesAll, TakesSome, shelf_seen, sink_seen};
+ghost use Rattle.ember_run.specs.Serves.{IsReplyTo, ReadsCanonical, Serves, ServesWords};
+ghost use Rattle.ember_verdict.specs.NoReplies.{IsNoReplyTo};
 
 use crate::bool_command::{bool_output, demo_output};
 use crate::pairs::pairs_output;
@@ -40,9 +35,7 @@ fn reply_to<S: Shelf, C: Fn(&Query) -> Result<Answer, OutOfMemory>>(
     ensures contents { S.contents shelf.new ≡ S.contents shelf.old }
     ensures later { S.faults shelf.old ≤ S.faults shelf.new }
     ensures reply { IfOk result (IsReplyTo command.now (S.contents shelf.old)) }
-    ensures no_reply { IfErr result
-        (IsNoReply (verdict_of (Some command.now)) (names_of (Some command.now))
-        (shelf_call S.contents S.faults S.fault_at S.fault_kind shelf.old shelf.new)) }
+    ensures no_reply { IfErr result (IsNoReplyTo command.now (shelf_seen S.Shelf shelf)) }
 {
     match command {
         Command::Faces { places, file } => {
@@ -94,10 +87,8 @@ fn reply_to<S: Shelf, C: Fn(&Query) -> Result<Answer, OutOfMemory>>(
 // Writes the output to `out`, and flushes it.
 fn write_output<O: Sink>(out: &mut O, text: &[u8]) -> Status
     ensures out_later { O.faults out.old ≤ O.faults out.new }
-    ensures done { result ≡ Status.Done →
-        Appends (O.taken out.old) (O.taken out.new) text.now × IsFlushed (O.taken out.new) (O.flushed out.new) }
-    ensures write_fault { result ≡ Status.WriteFault →
-        HasRisen (O.faults out.old) (O.faults out.new) × AppendsPrefix (O.taken out.old) (O.taken out.new) text.now }
+    ensures done { result ≡ Status.Done → TakesAll (sink_seen O.Sink out) text.now }
+    ensures write_fault { result ≡ Status.WriteFault → TakesSome (sink_seen O.Sink out) text.now }
     ensures either { (result ≡ Status.Done) ⊎ (result ≡ Status.WriteFault) }
 {
     match write_all(out, text) {
@@ -118,10 +109,7 @@ fn serve<S: Shelf, O: Sink, E: Sink, C: Fn(&Query) -> Result<Answer, OutOfMemory
     requires command { IsWithinLimits command.now }
     requires executor { IsExecutor C.pre C.post executor.now }
     ensures { Serves (Some command.now)
-        (shelf_call S.contents S.faults S.fault_at S.fault_kind shelf.old shelf.new)
-        (sink_call O.taken O.flushed O.faults out.old out.new)
-        (sink_call E.taken E.flushed E.faults err.old err.new)
-        result }
+        (shelf_seen S.Shelf shelf) (sink_seen O.Sink out) (sink_seen E.Sink err) result }
 {
     match reply_to(alloc, command, shelf, executor) {
         Ok(reply) => {
@@ -165,11 +153,8 @@ fn run_with<S: Shelf, O: Sink, E: Sink, C: Fn(u32, &Query) -> Result<Answer, Out
     executor: &C,
 ) -> Status
     requires { IsExecutorOfAny C.pre C.post executor.now }
-    ensures serves { Serves (command_of (map string_bytes words.now))
-        (shelf_call S.contents S.faults S.fault_at S.fault_kind shelf.old shelf.new)
-        (sink_call O.taken O.flushed O.faults out.old out.new)
-        (sink_call E.taken E.flushed E.faults err.old err.new)
-        result }
+    ensures serves { ServesWords words.now
+        (shelf_seen S.Shelf shelf) (sink_seen O.Sink out) (sink_seen E.Sink err) result }
     ensures canonical { ReadsCanonical (map string_bytes words.now) }
 {
     match read_words(alloc, words) {
@@ -209,11 +194,8 @@ pub fn run_one<S: Shelf, O: Sink, E: Sink, G: Gate>(
     err: &mut E,
     gate: &G,
 ) -> Status
-    ensures serves { Serves (command_of (map string_bytes words.now))
-        (shelf_call S.contents S.faults S.fault_at S.fault_kind shelf.old shelf.new)
-        (sink_call O.taken O.flushed O.faults out.old out.new)
-        (sink_call E.taken E.flushed E.faults err.old err.new)
-        result }
+    ensures serves { ServesWords words.now
+        (shelf_seen S.Shelf shelf) (sink_seen O.Sink out) (sink_seen E.Sink err) result }
     ensures canonical { ReadsCanonical (map string_bytes words.now) }
 {
     run_with(
@@ -242,11 +224,8 @@ pub fn run<R: Threads + Wait + Sync, S: Shelf, O: Sink, E: Sink, G: Gate + Sync>
     err: &mut E,
     gate: &G,
 ) -> Status
-    ensures serves { Serves (command_of (map string_bytes words.now))
-        (shelf_call S.contents S.faults S.fault_at S.fault_kind shelf.old shelf.new)
-        (sink_call O.taken O.flushed O.faults out.old out.new)
-        (sink_call E.taken E.flushed E.faults err.old err.new)
-        result }
+    ensures serves { ServesWords words.now
+        (shelf_seen S.Shelf shelf) (sink_seen O.Sink out) (sink_seen E.Sink err) result }
     ensures canonical { ReadsCanonical (map string_bytes words.now) }
 {
     run_with(

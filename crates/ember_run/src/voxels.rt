@@ -3,9 +3,8 @@ ghost use Rattle.std.specs.Prelude.{◌≡◌, ◌≤◌, length, IfOk, IfErr};
 ghost use Rattle.ember_expr.specs.Formula.{formula_of};
 ghost use Rattle.ember_query.specs.Queries.{IsExecutor};
 ghost use Rattle.ember_verdict.specs.Lattices.{IsLatticeText};
-ghost use Rattle.ember_verdict.specs.Statuses.{IsText};
-ghost use Rattle.ember_io.specs.Calls.{shelf_call};
-ghost use Rattle.ember_verdict.specs.Held.{MayHold};
+ghost use Rattle.ember_io.specs.Calls.{shelf_seen};
+ghost use Rattle.ember_verdict.specs.HeldTexts.{IsTextOver};
 ghost use Rattle.ember_verdict.specs.NoReplies.{IsNoReply};
 ghost use Rattle.ember_verdict.specs.Verdict.{voxels_verdict};
 
@@ -56,11 +55,10 @@ pub fn voxels_output<S: Shelf, C: Fn(&Query) -> Result<Answer, OutOfMemory>>(
     requires executor { IsExecutor C.pre C.post executor.now }
     ensures contents { S.contents shelf.new ≡ S.contents shelf.old }
     ensures later { S.faults shelf.old ≤ S.faults shelf.new }
-    ensures text { IfOk result (λ text. MayHold (S.contents shelf.old) files.now
-        (λ contents. IsText (voxels_verdict expr.now size places contents) text.items)) }
+    ensures text { IfOk result
+        (IsTextOver (voxels_verdict expr.now size places) files.now (S.contents shelf.old)) }
     ensures no_reply { IfErr result
-        (IsNoReply (voxels_verdict expr.now size places) files.now
-        (shelf_call S.contents S.faults S.fault_at S.fault_kind shelf.old shelf.new)) }
+        (IsNoReply (voxels_verdict expr.now size places) files.now (shelf_seen S.Shelf shelf)) }
 {
     let files = files.items();
     let expr = match parse_text(alloc, expr, files.len() as u32) {

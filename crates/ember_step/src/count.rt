@@ -1,10 +1,8 @@
 // The number of regions that a box writes.
 ghost use Rattle.std.specs.Prelude.{IfOk};
 ghost use Rattle.ember_expr.specs.Formula.{formula_of};
-ghost use Rattle.ember_job.specs.Works.{Answers};
-ghost use Rattle.ember_step.specs.Counts.{IsBoxCount};
+ghost use Rattle.ember_step.specs.Counts.{AnswersByCounts};
 ghost use Rattle.ember_visit.specs.Jobs.{IsJob};
-ghost use Rattle.ember_visit.specs.Values.{shape};
 
 use crate::step::box_step;
 use ember_expr::Expr;
@@ -61,9 +59,7 @@ pub fn count_step(
     job: &Job,
 ) -> Result<Outcome<u64>, OutOfMemory>
     requires { IsJob s.now.tris job.now }
-    ensures { IfOk result (λ o.
-        Answers (shape s.now.tris (formula_of e.now)) (λ j n. IsBoxCount s.now.tris (formula_of e.now) j.cell n)
-        job.now o) }
+    ensures { IfOk result (λ o. AnswersByCounts s.now.tris (formula_of e.now) job.now o) }
 {
     match box_step(alloc, s, e, job)? {
         Outcome::Halves(left, right) => Ok(Outcome::Halves(left, right)),

@@ -2,12 +2,8 @@
 ghost use Rattle.std.specs.Prelude.{IfOk};
 ghost use Rattle.ember_model.specs.Limits.{most_meshes};
 ghost use Rattle.ember_expr.specs.Formula.{formula_of};
-ghost use Rattle.ember_job.specs.Works.{Answers};
-ghost use Rattle.ember_box.specs.Near.{near};
-ghost use Rattle.ember_leaf.specs.Written.{IsWrittenIn};
-ghost use Rattle.ember_step.specs.Boxes.{AnswersByRegions, IsWrittenInBox};
+ghost use Rattle.ember_step.specs.Boxes.{AnswersByRegions, AnswersByWritten, IsWrittenInBox};
 ghost use Rattle.ember_visit.specs.Jobs.{IsJob, IsJobOn};
-ghost use Rattle.ember_visit.specs.Values.{shape};
 ghost use Rattle.ember_width.specs.Scenes.{IsSceneWithin};
 
 use ember_expr::Expr;
@@ -103,8 +99,7 @@ pub fn box_step(
     job: &Job,
 ) -> Result<Outcome<KeptList>, OutOfMemory>
     requires { IsJob s.now.tris job.now }
-    ensures { IfOk result (λ o. Answers (shape s.now.tris (formula_of e.now)) (λ j kept.
-        IsWrittenIn s.now.tris (formula_of e.now) j.cell (near s.now.tris j.cell) kept) job.now o) }
+    ensures { IfOk result (λ o. AnswersByWritten s.now.tris (formula_of e.now) job.now o) }
 {
     box_step_among::<Narrow>(alloc, s.tris.items(), e, job)
 }

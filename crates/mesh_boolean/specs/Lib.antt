@@ -10,3 +10,5 @@ pub mod WritingFaults
 pub mod Faults
 pub mod DocumentFiles
 pub mod Tolerance
+pub mod Meanings
+pub mod MeshTexts

@@ -10,7 +10,9 @@ use Rattle.mesh_manifold.specs.Paired.{IsManifold}
 use Rattle.mesh_manifold.specs.Splits.{AreSplitOf}
 use Rattle.mesh_manifold.specs.declared.edge_set.PointEdge.{PointEdge}
 use Rattle.mesh_manifold.specs.declared.split.SplitMesh.{SplitMesh}
-use Rattle.mesh_write.specs.Vertices.Vertices.{point_at, vertices_of}
+use Rattle.mesh_manifold.specs.declared.split.CheckedSplit.{CheckedSplit}
+use Rattle.mesh_write.specs.Vertices.Vertices.{IsMeshOf, point_at, vertices_of}
+use Rattle.mesh_write.specs.declared.vertices.mesh.IndexedMesh.{IndexedMesh}
 use Rattle.mesh_write.specs.declared.vertices.point.DecimalTriangle.{DecimalTriangle}
 
 -- the indices of the triangles that the pieces are cut of, when triangles are cut along these edges; they are left out
@@ -32,3 +34,12 @@ pub record AreDecimalsOver (ts : List DecimalTriangle) (over : SplitDecimals) : 
   pub manifold : over.is_manifold ≡ true → IsManifold split.triangles.items
   pub whole : over.is_manifold ≡ false → cut ≡ ts
   pub origins : AreOriginsOf are_cut.edges ts over.origins
+
+-- it is so of triangles if this is a mesh of them, some of them cut, and this is its split; if that isn't called
+-- manifold, none is cut, and if it is, each edge has two triangles. These are the indices of the triangles that its
+-- pieces are cut of
+abbrev pub IfSplitOver : IndexedMesh → CheckedSplit → Option (Vec ℕ) → (List DecimalTriangle → Type 0) → Type 0
+IfSplitOver mesh split origins Is =
+    (ts cut : List DecimalTriangle) → (are_cut : AreCutOf ts cut) → IsMeshOf cut mesh →
+    AreSplitOf split.mesh (over_vertices cut) → (split.is_manifold ≡ true → IsManifold split.mesh.triangles.items) →
+    (split.is_manifold ≡ false → cut ≡ ts) → AreOriginsOf are_cut.edges ts origins → Is ts

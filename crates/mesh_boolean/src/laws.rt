@@ -1,20 +1,10 @@
 // What outputs mean, and which files are never open.
 ghost use Rattle.std.specs.Prelude.{List};
-ghost use Rattle.ember_meaning.specs.Closed.Chains.{IsClosedSurface};
-ghost use Rattle.ember_expr.specs.Formula.{Formula};
-ghost use Rattle.ember_meaning.specs.Regions.Meaning.{IsFalseOutside, HaveMeaning};
-ghost use Rattle.ember_meaning.specs.Regions.Nearby.{WindOnceAtMost};
-ghost use Rattle.mesh_scene.specs.declared.scene.fault.Open.{Open};
-ghost use Rattle.mesh_scene.specs.declared.scene.fault.SceneFault.TheVariants as scene_fault;
-ghost use Rattle.mesh_scene.specs.Scene.Images.{images_of};
-ghost use Rattle.mesh_solid.specs.Mesh.MeshFaces.{faces_of_mesh};
-ghost use Rattle.mesh_boolean.specs.declared.fault.BooleanFault.TheVariants.{Scene};
 ghost use Rattle.mesh_boolean.specs.declared.files.InputFile.{InputFile};
 ghost use Rattle.mesh_boolean.specs.declared.wanted.WantedFile.{WantedFile};
-ghost use Rattle.mesh_boolean.specs.declared.output.SolidFile.{SolidFile};
 ghost use Rattle.mesh_boolean.specs.Files.{AreClosedWherePlaced};
-ghost use Rattle.mesh_boolean.specs.Outputs.{IsOutput};
-ghost use Rattle.mesh_boolean.specs.Faults.{IsBooleanFault};
+ghost use Rattle.mesh_boolean.specs.Meanings.{AllOutputs, AreNeverOpen, FacesAreClosed, FacesHaveMeaning};
+ghost use Rattle.mesh_boolean.specs.Meanings.{TrianglesHaveMeaning, TrianglesWindOnceAtMost};
 ghost use Rattle.mesh_boolean.specs.Tolerance.{MeansOutsideMoves, MeansOutsideRounding};
 
 use mesh_scene::closed_surfaces_are_never_open;
@@ -23,12 +13,8 @@ use mesh_scene::closed_surfaces_are_never_open;
 /// output cut up, before these are rounded, wind once where it is true of the files' triangles on
 /// the grid, and not at all elsewhere, and they are a closed surface.
 pub fn faces_of_outputs_have_the_meaning()
-    ensures means { (files : List InputFile) (formula : Formula) (wanted : WantedFile) (out : SolidFile) →
-        IsFalseOutside formula → (is : IsOutput files formula wanted out) →
-        HaveMeaning (images_of out.grid is.surfaces) formula is.solid.of_document.tables_are.faces }
-    ensures closed { (files : List InputFile) (formula : Formula) (wanted : WantedFile) (out : SolidFile) →
-        IsFalseOutside formula → (is : IsOutput files formula wanted out) →
-        IsClosedSurface is.solid.of_document.tables_are.read.written }
+    ensures means { AllOutputs FacesHaveMeaning }
+    ensures closed { AllOutputs FacesAreClosed }
 {}
 
 /// Let an expression be false if all winding numbers are 0. The triangles of an output, before they
@@ -36,11 +22,8 @@ pub fn faces_of_outputs_have_the_meaning()
 /// elsewhere. Around each point that is clear of the output's triangles alone, they wind once or not
 /// at all.
 pub fn triangles_of_outputs_have_the_meaning()
-    ensures means { (files : List InputFile) (formula : Formula) (wanted : WantedFile) (out : SolidFile) →
-        IsFalseOutside formula → (is : IsOutput files formula wanted out) →
-        HaveMeaning (images_of out.grid is.surfaces) formula (faces_of_mesh is.mesh) }
-    ensures once { (files : List InputFile) (formula : Formula) (wanted : WantedFile) (out : SolidFile) →
-        IsFalseOutside formula → (is : IsOutput files formula wanted out) → WindOnceAtMost (faces_of_mesh is.mesh) }
+    ensures means { AllOutputs TrianglesHaveMeaning }
+    ensures once { AllOutputs TrianglesWindOnceAtMost }
 {}
 
 /// From files to the written one. Let an expression be false if all winding numbers are 0, and the
@@ -50,20 +33,15 @@ pub fn triangles_of_outputs_have_the_meaning()
 /// triangles wind once where the expression is true of the winding numbers of the surfaces, and not
 /// at all elsewhere. With the winding numbers of the triangles on the grid this holds of all files.
 pub fn written_files_have_the_meaning()
-    ensures files { (files : List InputFile) (formula : Formula) (wanted : WantedFile) (out : SolidFile) →
-        IsFalseOutside formula → (is : IsOutput files formula wanted out) →
-        MeansOutsideMoves files formula wanted out is }
-    ensures grid { (files : List InputFile) (formula : Formula) (wanted : WantedFile) (out : SolidFile) →
-        IsFalseOutside formula → (is : IsOutput files formula wanted out) →
-        MeansOutsideRounding files formula wanted out is }
+    ensures files { AllOutputs MeansOutsideMoves }
+    ensures grid { AllOutputs MeansOutsideRounding }
 {}
 
 /// Files whose surfaces, where they are placed, are closed by the exact positions of their corners
 /// are never refused as open.
 pub fn closed_files_are_never_open()
-    ensures { (files : List InputFile) (formula : Formula) (wanted : WantedFile) (o : Open) →
-        AreClosedWherePlaced files wanted.placings.now →
-        IsBooleanFault files formula wanted (Scene (scene_fault.Open o)) → ⊥ }
+    ensures { (files : List InputFile) (wanted : WantedFile) →
+        AreClosedWherePlaced files wanted.placings.now → AreNeverOpen files wanted }
 {
     closed_surfaces_are_never_open();
 }

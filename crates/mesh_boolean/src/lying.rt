@@ -49,8 +49,8 @@ pub fn lying_if(
     solid: &SolidMesh,
 ) -> Result<Option<Vec<u64>>, OutOfMemory>
     requires { All IsValidPlane solid.now.planes.items }
-    ensures { IfOk result (IsThereIf is_wanted (λ counts.
-        AreLyingCounts scene.now.tris scene.now.meshes solid.now counts.items)) }
+    ensures { IfOk result (IsThereIf is_wanted (λ it.
+        AreLyingCounts scene.now.tris scene.now.meshes solid.now it.items)) }
 {
     if !is_wanted {
         return Ok(None);

@@ -1,10 +1,6 @@
 // Rounded triangles over vertices of which some are doubled.
-ghost use Rattle.std.specs.Prelude.{◌≡◌, true, false, List, IfOk};
-ghost use Rattle.mesh_boolean.specs.Effects.{over_vertices};
-ghost use Rattle.mesh_boolean.specs.Splits.{AreDecimalsOver, AreOriginsOf};
-ghost use Rattle.mesh_manifold.specs.Cuts.{AreCutOf};
-ghost use Rattle.mesh_manifold.specs.Paired.{IsManifold};
-ghost use Rattle.mesh_manifold.specs.Splits.{AreSplitOf};
+ghost use Rattle.std.specs.Prelude.{List, IfOk};
+ghost use Rattle.mesh_boolean.specs.Splits.{AreDecimalsOver, IfSplitOver};
 ghost use Rattle.mesh_write.specs.Vertices.Vertices.{IsMeshOf};
 ghost use Rattle.mesh_write.specs.declared.vertices.point.DecimalTriangle.{DecimalTriangle};
 
@@ -32,12 +28,7 @@ fn split_over(
     split: CheckedSplit,
     triangle_origins: Option<Vec<usize>>,
 ) -> Result<SplitDecimals, AllocError>
-    ensures { (ts cut : List DecimalTriangle) → (are_cut : AreCutOf ts cut) → IsMeshOf cut mesh.now →
-        AreSplitOf split.mesh (over_vertices cut) →
-        (split.is_manifold ≡ true → IsManifold split.mesh.triangles.items) →
-        (split.is_manifold ≡ false → cut ≡ ts) →
-        AreOriginsOf are_cut.edges ts triangle_origins →
-        IfOk result (AreDecimalsOver ts) }
+    ensures { IfSplitOver mesh.now split triangle_origins (λ ts. IfOk result (AreDecimalsOver ts)) }
 {
     let is_manifold = split.is_manifold;
     let SplitMesh { origins, triangles } = split.mesh;

@@ -1,12 +1,13 @@
 // The OBJ, PLY or OFF of a mesh.
-ghost use Rattle.std.specs.Prelude.{◌≡◌, ◌≤◌, List, All, IfOk, IfErr, IfSome};
+ghost use Rattle.std.specs.Prelude.{◌≤◌, List, All, IfOk, IfErr, IfSome};
 ghost use Rattle.mesh_certificate.specs.Certificate.Certificate.{IsProper};
 ghost use Rattle.ember_model.specs.Valid.{IsValidPlane};
 ghost use Rattle.mesh_grid.specs.Snap.Steps.{IsStep};
 ghost use Rattle.mesh_write.specs.declared.vertices.point.DecimalTriangle.{DecimalTriangle};
 ghost use Rattle.mesh_write.specs.Vertices.Vertices.{IsMeshOf};
 ghost use Rattle.mesh_boolean.specs.declared.wanted.MeshFormat.TheVariants.{Text};
-ghost use Rattle.mesh_boolean.specs.Outputs.{AreShownIf, IsText, IsTextOver};
+ghost use Rattle.mesh_boolean.specs.MeshTexts.{IsMeshTextOver};
+ghost use Rattle.mesh_boolean.specs.Outputs.{AreShownIf, IsText};
 ghost use Rattle.mesh_boolean.specs.WritingFaults.{IsWritingFault};
 
 use crate::effect::decimal_effect;
@@ -39,7 +40,7 @@ fn split_text(
 ) -> Result<MeshText, AllocError>
     requires { places ≤ 17 }
     ensures { (ts : List DecimalTriangle) → IsMeshOf ts written.now.mesh →
-        IfOk result (λ text. IsTextOver format places ts text.bytes.items text.triangles text.is_manifold) }
+        IfOk result (IsMeshTextOver format places ts) }
 {
     let split = split_decimals(alloc, planes, written)?;
     let bytes = mesh_text(alloc, format, &split.points, &split.triangles, places)?;

@@ -5,3 +5,5 @@ pub mod Squares
 pub mod Shown
 pub mod Greatest
 pub mod Texts
+pub mod Given
+pub mod NotBelow

@@ -13,6 +13,7 @@ use Rattle.mesh_words.specs.declared.command.Request.{Request}
 use Rattle.mesh_words.specs.declared.command.SnapRequest.{SnapRequest}
 use Rattle.mesh_words.specs.declared.command.WantedStep.{WantedStep}
 use Rattle.mesh_scene.specs.declared.scene.fault.Open.{Open}
+use Rattle.mesh_grid.specs.declared.grid.extent.SceneExtent.{SceneExtent}
 use Rattle.mesh_grid.specs.Snap.Steps.{IsStep}
 use Rattle.mesh_solid.specs.declared.mesh.fault.SolidFault.{SolidFault}
 use Rattle.mesh_solid.specs.declared.mesh.fault.SolidFault.TheVariants as solid
@@ -64,6 +65,18 @@ open_text o format =
     (codes " to " ++ (corner_text o.grid o.loose.to ++
     (codes ", in " ++ (noun_of format ++
     (codes " " ++ (decimal o.place ++ codes "; close the hole in the modeller")))))))))
+
+-- what is said of a file that isn't closed
+abbrev pub not_closed_text : List (List ℕ) → Open → Format → List ℕ
+not_closed_text names o format = file_text names (o.file + 1) (open_text o format)
+
+-- ---- steps
+-- the step that is given is too small: how long the scene is, and the finest step that would do
+abbrev pub extent_text : List ℕ → SceneExtent → List ℕ
+extent_text given extent =
+    codes "--step " ++ (given ++
+    (codes ": the scene is " ++ (length_text extent ++
+    (codes " long, which needs a step of at least " ++ step_text extent.finest))))
 
 -- ---- the solid
 -- what has no triangles: one plane, or none is known
@@ -119,13 +132,10 @@ scene_why names step StepOfNoGrid =
     codes "--step " ++ (wanted_text step ++
     codes ": no grid has this step; give at most 12 digits and 12 decimal places")
 scene_why names step NoTriangles = codes "no triangles in the files; are they meshes?"
-scene_why names step (NotClosed o format) = file_text names (o.file + 1) (open_text o format)
+scene_why names step (NotClosed o format) = not_closed_text names o format
 scene_why names step (TooManyTriangles count) =
     decimal count ++ codes " triangles after snapping, more than 262144; simplify the meshes"
-scene_why names step (StepTooSmall extent) =
-    codes "--step " ++ (wanted_text step ++
-    (codes ": the scene is " ++ (length_text extent ++
-    (codes " long, which needs a step of at least " ++ step_text extent.finest))))
+scene_why names step (StepTooSmall extent) = extent_text (wanted_text step) extent
 scene_why names step status = reading_why names status
 
 abbrev pub snap_why : SnapRequest → Status → List ℕ

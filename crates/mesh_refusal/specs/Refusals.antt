@@ -1,8 +1,10 @@
 -- A refusal as an object of JSON: the parts of its line, under keys
-use Rattle.std.specs.Prelude.{ℕ, ◌+◌, ◌-◌, ◌==◌, nat_lt, not, List, [], ◌∷◌, length, map, take, drop, codes, decimal}
+use Rattle.std.specs.Prelude.{◌≡◌, ℕ, ◌+◌, ◌-◌, ◌==◌, nat_lt, not, List, [], ◌∷◌, length, map, take, drop, codes, decimal}
 use Rattle.std.specs.Prelude.{Some, None, option_map, option_and_then, unwrap_or, if◌then◌else◌}
 use Rattle.std.specs.declared.option.Option.{Option}
+use Rattle.std.specs.Borrow.{Bor}
 use Rattle.std.specs.Char.{is_ascii_digit}
+use Rattle.std.specs.Global.{Vec}
 use Rattle.std.specs.List.{prefix_len}
 use Rattle.std.specs.Option.{option_or}
 use Rattle.std.specs.Str.{bytes_eq}
@@ -76,6 +78,10 @@ reason_and_remedy (remedy ∷ others) text =
     split_at (before_remedy remedy text) remedy (reason_and_remedy others text)
 
 -- ---- the object
+-- the text behind a reference, if there is one
+abbrev pub text_behind : Option (Bor (List ℕ)) → Option (List ℕ)
+text_behind reference = option_map (λ (it : Bor (List ℕ)). it.now) reference
+
 -- of a line with this text: the exit status, the file, the place in the text or the known one, the reason and the
 -- remedy
 unfoldable pub refusal_object : ℕ → Option (List ℕ) → Option (List ℕ) → List ℕ → List ℕ
@@ -86,3 +92,8 @@ refusal_object number file known why =
     (codes "status", decimal number) ∷ (codes "file", optional file) ∷
     (codes "place", optional (option_or known parts.0)) ∷
     (codes "reason", quoted said.0) ∷ (codes "remedy", optional said.1) ∷ [])
+
+-- the text is that object; the file and the known place are behind references, if there are some
+abbrev pub IsRefusalObject : ℕ → Option (Bor (List ℕ)) → Option (Bor (List ℕ)) → List ℕ → Vec ℕ → Type 0
+IsRefusalObject number file known why text =
+    text.items ≡ refusal_object number (text_behind file) (text_behind known) why

@@ -1,5 +1,7 @@
 -- What standard error takes of a request that isn't met: a line, or one object of JSON
-use Rattle.std.specs.Prelude.{ℕ, ◌+◌, Bool, List, ◌++◌, length, Some, None, codes, decimal, string_bytes}
+use Rattle.std.specs.Prelude.{◌≡◌, ℕ, ◌+◌, Bool, List, ◌++◌, length, Some, None, codes, decimal, string_bytes}
+use Rattle.std.specs.Borrow.{Bor}
+use Rattle.std.specs.Global.{Vec}
 use Rattle.std.specs.Prelude.{if◌then◌else◌}
 use Rattle.std.specs.declared.option.Option.{Option}
 use Rattle.mesh_words.specs.declared.command.ExportRequest.{ExportRequest}
@@ -10,7 +12,7 @@ use Rattle.mesh_refusal.specs.ExportLines.{export_why, names_read}
 use Rattle.mesh_refusal.specs.Lines.{noun_of, reading_why, snap_why, why_of}
 use Rattle.mesh_texts.specs.Texts.{line, name_of}
 use Rattle.mesh_refusal.specs.Numbers.{number_of}
-use Rattle.mesh_refusal.specs.Refusals.{refusal_object}
+use Rattle.mesh_refusal.specs.Refusals.{refusal_object, text_behind}
 use Rattle.mesh_refusal.specs.WordLines.{refusal_text}
 use Rattle.mesh_refusal.specs.declared.status.Status.{Status}
 use Rattle.mesh_refusal.specs.declared.status.Status.TheVariants.{ReadFault, NotWritten, NotAScene, DocumentRefused}
@@ -37,6 +39,10 @@ place_known status = None
 -- the line with this text, or the object of its parts
 abbrev pub said : Bool → ℕ → Option (List ℕ) → Option (List ℕ) → List ℕ → List ℕ
 said json number file place why = if json then refusal_object number file place why else line why
+
+-- the text is that; the file and the place are behind references, if there are some
+abbrev pub IsSaidOf : Bool → ℕ → Option (Bor (List ℕ)) → Option (Bor (List ℕ)) → List ℕ → Vec ℕ → Type 0
+IsSaidOf json number file place why text = text.items ≡ said json number (text_behind file) (text_behind place) why
 
 -- of a status of these files
 abbrev pub status_said : Bool → List (List ℕ) → Status → List ℕ → List ℕ

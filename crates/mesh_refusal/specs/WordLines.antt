@@ -1,8 +1,10 @@
 -- The line on standard error of words that are refused
-use Rattle.std.specs.Prelude.{ℕ, ◌-◌, List, [], ◌++◌, length, codes, get_or}
+use Rattle.std.specs.Prelude.{ℕ, ◌-◌, List, [], ◌++◌, length, codes, get_or, map, String, string_bytes}
+use Rattle.std.specs.declared.alloc.Global.{Global}
 use Rattle.mesh_words.specs.declared.faults.Refusal.{Refusal}
 use Rattle.mesh_words.specs.declared.faults.Refusal.TheVariants as refusal
 use Rattle.mesh_words.specs.declared.names.Setting.{Setting}
+use Rattle.mesh_placing.specs.declared.files.PlaceFault.{PlaceFault}
 use Rattle.mesh_refusal.specs.Placings.{place_text}
 use Rattle.mesh_words.specs.Given.{input_given, output_given, step_given, value_given}
 use Rattle.mesh_words.specs.Spelling.{option_of}
@@ -23,6 +25,10 @@ foreign_text option command =
 -- `OPTION VALUE`
 abbrev pub value_text : Setting → List (List ℕ) → List ℕ
 value_text option words = option_of option ++ (codes " " ++ value_given option words)
+
+-- a value of `--place` says no placing
+abbrev pub no_place_text : PlaceFault → List ℕ
+no_place_text fault = codes "--place: " ++ (place_text fault ++ codes "; see ember-mesh help")
 
 -- why words are refused; word 0 is the name of the command
 abbrev pub refusal_text : List (List ℕ) → Refusal → List ℕ
@@ -56,5 +62,9 @@ refusal_text words refusal.OutputEnding =
 refusal_text words refusal.NotAStep = codes "--step " ++ (step_given words ++ codes ": not a number above 0")
 refusal_text words refusal.Workers = word_text (codes "--workers") (codes "not a number from 1 to 64")
 refusal_text words refusal.Digits = word_text (codes "--digits") (codes "not a number from 0 to 17")
-refusal_text words (refusal.Place fault) = codes "--place: " ++ (place_text fault ++ codes "; see ember-mesh help")
+refusal_text words (refusal.Place fault) = no_place_text fault
 refusal_text words refusal.Turn = word_text (codes "--turn") (codes "not the number of a file")
+
+-- the same of words as the program gets them
+abbrev pub why_refused : List (String Global) → Refusal → List ℕ
+why_refused words why = refusal_text (map string_bytes words) why

@@ -1,8 +1,7 @@
 // Why a request isn't met.
-ghost use Rattle.std.specs.Prelude.{◌≡◌, ◌++◌, ◌+◌, ◌<◌, codes, decimal, OnOk};
+ghost use Rattle.std.specs.Prelude.{◌≡◌, ◌++◌, ◌+◌, ◌<◌, decimal, OnOk};
 ghost use Rattle.mesh_grid.specs.Snap.Steps.{IsStep};
-ghost use Rattle.mesh_texts.specs.Texts.{length_text, step_text};
-ghost use Rattle.mesh_refusal.specs.Lines.{IsShown, expr_text, file_text, noun_of, not_found_text, open_text, place_text, reading_why, scene_why, solid_text, too_far_text, too_many_text, uncut_text, unreadable_text, why_of};
+ghost use Rattle.mesh_refusal.specs.Lines.{IsShown, expr_text, extent_text, file_text, not_closed_text, noun_of, not_found_text, open_text, place_text, reading_why, scene_why, solid_text, too_far_text, too_many_text, uncut_text, unreadable_text, why_of};
 
 use crate::status::Status;
 use ember_expr::ExprFault;
@@ -125,7 +124,7 @@ fn put_not_closed(
     requires file { fault.now.file < 64 }
     requires step { IsStep fault.now.grid.step }
     ensures { OnOk result (text.new.items ≡
-        text.old.items ++ file_text files.now (fault.now.file + 1) (open_text fault.now format)) }
+        text.old.items ++ not_closed_text files.now fault.now format) }
 {
     put_file(files, fault.file + 1, b"", text)?;
     put_open(fault, format, text)
@@ -174,9 +173,7 @@ fn put_too_many(count: u64, text: &mut Vec<u8>) -> Result<(), OutOfMemory>
 // Appends that a step is too small, how long the scene is, and the finest step that would do.
 fn put_extent(given: &[u8], extent: &SceneExtent, text: &mut Vec<u8>) -> Result<(), OutOfMemory>
     requires { 0 < extent.now.finest.denominator }
-    ensures { OnOk result (text.new.items ≡ text.old.items ++
-        (codes "--step " ++ (given.now ++ (SCENE_IS.now ++ (length_text extent.now ++
-        (COARSER_STEP.now ++ step_text extent.now.finest)))))) }
+    ensures { OnOk result (text.new.items ≡ text.old.items ++ extent_text given.now extent.now) }
 {
     put_value(b"--step ", given, SCENE_IS, text)?;
     put_length(extent, text)?;

@@ -2,7 +2,7 @@
 ghost use Rattle.std.specs.Prelude.{◌≡◌, ◌≤◌, length, map, option_map, IfOk};
 ghost use Rattle.std.specs.Char.{is_ascii_digit};
 ghost use Rattle.std.specs.List.{prefix_len};
-ghost use Rattle.mesh_refusal.specs.Refusals.{before_remedy, noun_length, parts_of, placed, reason_and_remedy, refusal_object, without_name};
+ghost use Rattle.mesh_refusal.specs.Refusals.{IsRefusalObject, before_remedy, noun_length, parts_of, placed, reason_and_remedy, text_behind, without_name};
 
 use ember_model::OutOfMemory;
 use mesh_texts::{keyed, number, object_line, optional, string};
@@ -102,8 +102,7 @@ fn placed(text: &[u8]) -> (Option<&[u8]>, &[u8])
 
 // The place in the text of a line, if the line names a file, and the rest without the name.
 fn parts_of<'a>(file: Option<&[u8]>, why: &'a [u8]) -> (Option<&'a [u8]>, &'a [u8])
-    ensures { (option_map (λ place. place.now) result.0, result.1.now) ≡
-        parts_of (option_map (λ name. name.now) file.entry) why.now }
+    ensures { (text_behind result.0, result.1.now) ≡ parts_of (text_behind file.entry) why.now }
 {
     match file {
         Some(name) => placed(without_name(name, why)),
@@ -124,7 +123,7 @@ fn reason_and_remedy<'a>(
     remedies: &[&'static [u8]],
     text: &'a [u8],
 ) -> (&'a [u8], Option<&'static [u8]>)
-    ensures { (result.0.now, option_map (λ remedy. remedy.now) result.1) ≡
+    ensures { (result.0.now, text_behind result.1) ≡
         reason_and_remedy (map (λ remedy. remedy.now) remedies.now) text.now }
 {
     for remedy in remedies {
@@ -145,8 +144,7 @@ pub fn refusal_object(
     known: Option<&[u8]>,
     why: &[u8],
 ) -> Result<Vec<u8>, OutOfMemory>
-    ensures { IfOk result (λ text. text.items ≡ refusal_object status (option_map (λ name. name.now) file.entry)
-        (option_map (λ place. place.now) known.entry) why.now) }
+    ensures { IfOk result (IsRefusalObject status file.entry known.entry why.now) }
 {
     let (place, text) = parts_of(file, why);
     let (reason, remedy) = reason_and_remedy(&REMEDIES, text);

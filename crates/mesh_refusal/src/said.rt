@@ -2,7 +2,7 @@
 ghost use Rattle.std.specs.Prelude.{◌≡◌, ◌+◌, length, map, option_map, IfOk, string_bytes};
 ghost use Rattle.mesh_refusal.specs.Lines.{IsShown};
 ghost use Rattle.mesh_texts.specs.Texts.{name_of};
-ghost use Rattle.mesh_refusal.specs.Said.{export_said, file_at_fault, memory_said, output_said, place_known, reading_said, said, snap_said, solid_said, status_said, words_said};
+ghost use Rattle.mesh_refusal.specs.Said.{IsSaidOf, export_said, file_at_fault, memory_said, output_said, place_known, reading_said, said, snap_said, solid_said, status_said, words_said};
 
 use crate::export_lines::{names_read, put_export_why};
 use crate::lines::{noun_of, put_reading_why, put_scene_why, put_why};
@@ -53,8 +53,7 @@ fn said(
     place: Option<&[u8]>,
     why: &[u8],
 ) -> Result<Vec<u8>, OutOfMemory>
-    ensures { IfOk result (λ text. text.items ≡ said json number (option_map (λ name. name.now) file.entry)
-        (option_map (λ place. place.now) place.entry) why.now) }
+    ensures { IfOk result (IsSaidOf json number file.entry place.entry why.now) }
 {
     if json {
         refusal_object(alloc, number, file, place, why)

@@ -1,8 +1,7 @@
 // Why words are refused.
-ghost use Rattle.std.specs.Prelude.{◌≡◌, ◌++◌, codes, map, OnOk, string_bytes};
-ghost use Rattle.mesh_words.specs.Given.{input_given, output_given, step_given};
-ghost use Rattle.mesh_refusal.specs.Placings.{place_text};
-ghost use Rattle.mesh_refusal.specs.WordLines.{foreign_text, refusal_text, value_text, word_text, word_at};
+ghost use Rattle.std.specs.Prelude.{◌≡◌, ◌++◌, map, OnOk, string_bytes};
+ghost use Rattle.mesh_words.specs.declared.faults.Refusal.TheVariants.{NotAStep, OutputEnding, OverInput, OverOutput, PageEnding};
+ghost use Rattle.mesh_refusal.specs.WordLines.{foreign_text, no_place_text, refusal_text, value_text, why_refused, word_text, word_at};
 
 use crate::placings::put_place;
 use ember_model::OutOfMemory;
@@ -41,8 +40,7 @@ fn word_at(words: &[String], number: usize) -> &[u8]
 
 // Appends that the name of the output has another ending.
 fn put_output_ending(alloc: Global, words: &[String], text: &mut Vec<u8>) -> Result<(), OutOfMemory>
-    ensures { OnOk result (text.new.items ≡ text.old.items ++
-        (codes "-o " ++ (output_given (map string_bytes words.now) ++ OUTPUT_ENDING.now))) }
+    ensures { OnOk result (text.new.items ≡ text.old.items ++ why_refused words.now OutputEnding) }
 {
     let output = output_given(alloc, words)?;
     put_value(b"-o ", output.as_str().as_bytes(), OUTPUT_ENDING, text)
@@ -50,8 +48,7 @@ fn put_output_ending(alloc: Global, words: &[String], text: &mut Vec<u8>) -> Res
 
 // Appends that the value of `--step` is no step.
 fn put_no_step(alloc: Global, words: &[String], text: &mut Vec<u8>) -> Result<(), OutOfMemory>
-    ensures { OnOk result (text.new.items ≡ text.old.items ++
-        (codes "--step " ++ (step_given (map string_bytes words.now) ++ NOT_A_STEP.now))) }
+    ensures { OnOk result (text.new.items ≡ text.old.items ++ why_refused words.now NotAStep) }
 {
     let step = step_given(alloc, words)?;
     put_value(b"--step ", step.as_str().as_bytes(), NOT_A_STEP, text)
@@ -91,8 +88,7 @@ fn put_page_ending(
     option: Setting,
     text: &mut Vec<u8>,
 ) -> Result<(), OutOfMemory>
-    ensures { OnOk result (text.new.items ≡ text.old.items ++
-        (value_text option (map string_bytes words.now) ++ PAGE_ENDING.now)) }
+    ensures { OnOk result (text.new.items ≡ text.old.items ++ why_refused words.now (PageEnding option)) }
 {
     put_given(alloc, words, option, text)?;
     text.extend_from_slice(PAGE_ENDING)
@@ -106,9 +102,8 @@ fn put_over_input(
     number: usize,
     text: &mut Vec<u8>,
 ) -> Result<(), OutOfMemory>
-    ensures { OnOk result (text.new.items ≡ text.old.items ++
-        (value_text option (map string_bytes words.now) ++ (codes ": would write over the input " ++
-        (input_given number (map string_bytes words.now) ++ codes "; give another name")))) }
+    ensures { OnOk result (text.new.items ≡
+        text.old.items ++ why_refused words.now (OverInput option number)) }
 {
     let input = input_given(alloc, words, number)?;
     put_given(alloc, words, option, text)?;
@@ -127,9 +122,7 @@ fn put_over_output(
     option: Setting,
     text: &mut Vec<u8>,
 ) -> Result<(), OutOfMemory>
-    ensures { OnOk result (text.new.items ≡ text.old.items ++
-        (value_text option (map string_bytes words.now) ++ (codes ": would write the same file as -o " ++
-        (output_given (map string_bytes words.now) ++ codes "; give another name")))) }
+    ensures { OnOk result (text.new.items ≡ text.old.items ++ why_refused words.now (OverOutput option)) }
 {
     let output = output_given(alloc, words)?;
     put_given(alloc, words, option, text)?;
@@ -143,8 +136,7 @@ fn put_over_output(
 
 // Appends that a value of `--place` says no placing.
 fn put_no_place(fault: &PlaceFault, text: &mut Vec<u8>) -> Result<(), OutOfMemory>
-    ensures { OnOk result (text.new.items ≡
-        text.old.items ++ (codes "--place: " ++ (place_text fault.now ++ codes "; see ember-mesh help"))) }
+    ensures { OnOk result (text.new.items ≡ text.old.items ++ no_place_text fault.now) }
 {
     text.extend_from_slice(b"--place: ")?;
     put_place(fault, text)?;

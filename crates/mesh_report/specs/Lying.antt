@@ -1,8 +1,9 @@
 -- How many triangles of the result lie on each file
-use Rattle.std.specs.Prelude.{ℕ, List, [], ◌∷◌, ◌++◌, ◌==◌, codes, decimal, if◌then◌else◌, None, Some}
+use Rattle.std.specs.Prelude.{◌≡◌, ℕ, List, [], ◌∷◌, ◌++◌, ◌==◌, codes, decimal, if◌then◌else◌, None, Some}
 use Rattle.std.specs.declared.option.Option.{Option}
 use Rattle.std.specs.Global.{Vec}
 use Rattle.mesh_info.specs.Info.Lines.{quoted}
+use Rattle.mesh_texts.specs.Objects.{texts_of}
 use Rattle.mesh_texts.specs.Texts.{line}
 
 -- ---- lines
@@ -42,6 +43,10 @@ missed_warnings [] counts all = []
 missed_warnings (name ∷ names) [] all = []
 missed_warnings (name ∷ names) (count ∷ counts) all =
     missed_warning name count all ++ missed_warnings names counts all
+
+-- these texts are appended
+abbrev pub AddsTexts : List (List ℕ) → Vec (Vec ℕ) → Vec (Vec ℕ) → Type 0
+AddsTexts more old new = texts_of new.items ≡ texts_of old.items ++ more
 
 -- ---- a result
 -- the numbers of those that lie on each file, if they were counted

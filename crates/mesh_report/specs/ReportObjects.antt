@@ -1,5 +1,6 @@
 -- The report as an object of JSON: the numbers of the lines, under keys
-use Rattle.std.specs.Prelude.{ℕ, ◌+◌, ℤ, pos, int_lt, ◌==◌, List, [], ◌∷◌, ◌++◌, codes, decimal, drop, map}
+use Rattle.std.specs.Global.{Vec}
+use Rattle.std.specs.Prelude.{◌≡◌, ℕ, ◌+◌, ℤ, pos, int_lt, ◌==◌, List, [], ◌∷◌, ◌++◌, codes, decimal, drop, map}
 use Rattle.std.specs.Prelude.{if◌then◌else◌}
 use Rattle.std.specs.Fmt.{signed_decimal}
 use Rattle.std.specs.Str.{bytes_eq}
@@ -15,7 +16,7 @@ use Rattle.mesh_scene.specs.declared.scene.counts.Counts.{Counts}
 use Rattle.mesh_scene.specs.declared.scene.scene.PlacedScene.{PlacedScene}
 use Rattle.mesh_words.specs.declared.command.OutputFormat.{OutputFormat}
 use Rattle.mesh_texts.specs.Texts.{size_text, step_text}
-use Rattle.mesh_texts.specs.Objects.{array, object, object_line, truth_value}
+use Rattle.mesh_texts.specs.Objects.{array, object, object_line, texts_of, truth_value}
 use Rattle.mesh_report.specs.Lying.{missed_warnings, told}
 use Rattle.mesh_report.specs.Reports.{coarse_text, first_move, is_text, is_unpaired, rounding_text, unpaired_text}
 use Rattle.mesh_report.specs.Volumes.{turned_text, volume_text}
@@ -126,3 +127,11 @@ mesh_object format mesh =
     object_line (
     (codes "result", result_object format mesh.faces mesh) ∷
     (codes "warnings", array (mesh_warnings format mesh)) ∷ [])
+
+-- ---- what calls give
+abbrev pub AreFileObjects : List (List ℕ) → GridStep → List Counts → List Length → List ℤ → Vec (Vec ℕ) → Type 0
+AreFileObjects names step counts moves volumes texts =
+    texts_of texts.items ≡ file_objects names step counts moves volumes
+
+abbrev pub IsFilesValue : List (List ℕ) → GridStep → List Counts → List Length → List ℤ → Vec ℕ → Type 0
+IsFilesValue names step counts moves volumes text = text.items ≡ array (file_objects names step counts moves volumes)

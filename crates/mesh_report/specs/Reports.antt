@@ -1,5 +1,6 @@
 -- What is reported
-use Rattle.std.specs.Prelude.{ℕ, ℤ, Bool, true, false, ◌&&◌, not, ◌==◌, List, [], ◌∷◌, ◌++◌, codes, decimal, drop}
+use Rattle.std.specs.Global.{Vec}
+use Rattle.std.specs.Prelude.{◌≡◌, ℕ, ℤ, Bool, true, false, ◌&&◌, not, ◌==◌, List, [], ◌∷◌, ◌++◌, codes, decimal, drop}
 use Rattle.std.specs.Prelude.{if◌then◌else◌}
 use Rattle.std.specs.Fmt.{signed_decimal}
 use Rattle.mesh_boolean.specs.declared.output.SolidFile.{SolidFile}
@@ -157,3 +158,13 @@ snap_report request placed =
 
 abbrev pub export_report : ExportRequest → OutputMesh → List ℕ
 export_report request mesh = if request.quiet then [] else mesh_lines request.format mesh.faces mesh
+
+-- ---- what calls append
+-- the lines of the grid, of the files and of their volumes
+abbrev pub AddsScene : List (List ℕ) → Grid → List Counts → List Length → List ℤ → Vec ℕ → Vec ℕ → Type 0
+AddsScene names g counts moves sixfold_volumes old new =
+    new.items ≡ old.items ++ scene_lines names g counts moves sixfold_volumes
+
+-- the lines of the triangles on each file, and those of the mesh
+abbrev pub AddsResult : Request → SolidFile → Vec ℕ → Vec ℕ → Type 0
+AddsResult request out old new = new.items ≡ old.items ++ result_lines request.files request.format out

@@ -2,7 +2,7 @@
 ghost use Rattle.std.specs.Prelude.{◌≡◌, ◌++◌, decimal, map, IfOk, OnOk};
 ghost use Rattle.mesh_texts.specs.Objects.{texts_of};
 ghost use Rattle.mesh_texts.specs.Texts.{line};
-ghost use Rattle.mesh_report.specs.Lying.{lying_text, missed_text, missed_warning, missed_warning_text, missed_warnings, on_file_lines, on_file_text, told};
+ghost use Rattle.mesh_report.specs.Lying.{AddsTexts, lying_text, missed_text, missed_warning, missed_warning_text, missed_warnings, on_file_lines, on_file_text, told};
 
 use crate::report::put_line;
 use ember_model::OutOfMemory;
@@ -133,8 +133,7 @@ pub fn put_missed_warnings(
     all: u64,
     texts: &mut Vec<Vec<u8>>,
 ) -> Result<(), OutOfMemory>
-    ensures { OnOk result (texts_of texts.new.items ≡
-        texts_of texts.old.items ++ missed_warnings names.now counts.now all) }
+    ensures { OnOk result (AddsTexts (missed_warnings names.now counts.now all) texts.old texts.new) }
 {
     let mut file = 0;
     for name in names {

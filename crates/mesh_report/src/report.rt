@@ -3,7 +3,7 @@ ghost use Rattle.std.specs.Prelude.{◌≡◌, ◌++◌, ◌<◌, drop, IfOk, On
 ghost use Rattle.mesh_texts.specs.Texts.{line};
 ghost use Rattle.mesh_grid.specs.Moves.Shown.{rounded_of};
 ghost use Rattle.mesh_grid.specs.Snap.Steps.{IsStep};
-ghost use Rattle.mesh_report.specs.Reports.{coarse_line, coarse_text, counts_line, counts_lines, empty_line, export_report, first_move, grid_line, is_text, is_unpaired, losses_text, mesh_line, mesh_lines, mesh_text, name_of_format, remedy, report_of, result_lines, scene_lines, snap_report, unpaired_line, unpaired_text};
+ghost use Rattle.mesh_report.specs.Reports.{AddsResult, AddsScene, coarse_line, coarse_text, counts_line, counts_lines, empty_line, export_report, first_move, grid_line, is_text, is_unpaired, losses_text, mesh_line, mesh_lines, mesh_text, name_of_format, remedy, report_of, snap_report, unpaired_line, unpaired_text};
 
 use crate::lying::{put_on_files, told};
 use crate::volumes::put_volumes;
@@ -281,8 +281,8 @@ fn put_scene(
     text: &mut Vec<u8>,
 ) -> Result<(), OutOfMemory>
     requires { IsStep grid.now.step }
-    ensures { OnOk result (text.new.items ≡
-        text.old.items ++ scene_lines names.now grid.now counts.now moves.now sixfold_volumes.now) }
+    ensures { OnOk result
+        (AddsScene names.now grid.now counts.now moves.now sixfold_volumes.now text.old text.new) }
 {
     put_grid(alloc, grid, text)?;
     put_all_counts(alloc, names, counts, moves, text)?;
@@ -296,8 +296,7 @@ fn put_result(
     output: &SolidFile,
     text: &mut Vec<u8>,
 ) -> Result<(), OutOfMemory>
-    ensures { OnOk result (text.new.items ≡
-        text.old.items ++ result_lines request.now.files request.now.format output.now) }
+    ensures { OnOk result (AddsResult request.now output.now text.old text.new) }
 {
     let mesh = &output.written;
     let counts = told(mesh.triangles, &output.lying);

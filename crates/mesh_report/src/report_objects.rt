@@ -5,8 +5,8 @@ ghost use Rattle.mesh_grid.specs.Moves.Shown.{rounded_of};
 ghost use Rattle.mesh_grid.specs.Snap.Steps.{IsStep};
 ghost use Rattle.mesh_texts.specs.Texts.{size_text, step_text};
 ghost use Rattle.mesh_texts.specs.Objects.{array, texts_of};
-ghost use Rattle.mesh_report.specs.ReportObjects.{coarse_warning, file_object, file_objects, first_volume, manifold_value, mesh_object, mesh_warnings, offset_value, result_object, scene_object, solid_object, solid_warnings, turned_warning, turned_warnings, unpaired_warning, volume_value};
-ghost use Rattle.mesh_report.specs.Lying.{told};
+ghost use Rattle.mesh_report.specs.ReportObjects.{AreFileObjects, IsFilesValue, coarse_warning, file_object, first_volume, manifold_value, mesh_object, mesh_warnings, offset_value, result_object, scene_object, solid_object, solid_warnings, turned_warning, turned_warnings, unpaired_warning, volume_value};
+ghost use Rattle.mesh_report.specs.Lying.{AddsTexts, told};
 ghost use Rattle.mesh_report.specs.Reports.{rounding_text};
 
 use crate::lying::{numbers, put_missed_warnings, told};
@@ -134,8 +134,8 @@ fn file_objects(
     sixfold_volumes: &[i64],
 ) -> Result<Vec<Vec<u8>>, OutOfMemory>
     requires { IsStep step.now }
-    ensures { IfOk result (λ texts. texts_of texts.items ≡
-        file_objects names.now step.now counts.now moves.now sixfold_volumes.now) }
+    ensures { IfOk result
+        (AreFileObjects names.now step.now counts.now moves.now sixfold_volumes.now) }
 {
     let mut texts = Vec::new(alloc);
     let mut file = 0;
@@ -162,8 +162,8 @@ fn files_value(
     sixfold_volumes: &[i64],
 ) -> Result<Vec<u8>, OutOfMemory>
     requires { IsStep step.now }
-    ensures { IfOk result (λ text. text.items ≡
-        array (file_objects names.now step.now counts.now moves.now sixfold_volumes.now)) }
+    ensures { IfOk result
+        (IsFilesValue names.now step.now counts.now moves.now sixfold_volumes.now) }
 {
     let texts = file_objects(alloc, names, step, counts, moves, sixfold_volumes)?;
     array(alloc, &texts)
@@ -230,8 +230,8 @@ fn put_turned_warning(
     texts: &mut Vec<Vec<u8>>,
 ) -> Result<(), OutOfMemory>
     requires { IsStep step.now }
-    ensures { OnOk result (texts_of texts.new.items ≡
-        texts_of texts.old.items ++ turned_warning number name.now step.now sixfold_volume) }
+    ensures { OnOk result
+        (AddsTexts (turned_warning number name.now step.now sixfold_volume) texts.old texts.new) }
 {
     if sixfold_volume >= 0 {
         return Ok(());

@@ -7,6 +7,7 @@ pub mod Pages
 pub mod Outputs
 pub mod Exports
 pub mod Causes
+pub mod OfAsked
 pub mod Writes
 pub mod Unmet
 pub mod Serves

@@ -1,6 +1,10 @@
 -- What a call promises
 use Rattle.std.specs.Prelude.{◌≡◌, ◌≤◌, ℕ, Bool, List, [], ◌∷◌, false, None, Some, Result, Ok, Err}
+use Rattle.std.specs.Prelude.{String, map, string_bytes}
+use Rattle.std.specs.Global.{Vec}
+use Rattle.std.specs.declared.alloc.Global.{Global}
 use Rattle.std.specs.declared.option.Option.{Option}
+use Rattle.mesh_run.specs.declared.writing.Sending.{Sending}
 use Rattle.mesh_boolean.specs.declared.output.SolidFile.{SolidFile}
 use Rattle.mesh_boolean.specs.declared.writing.OutputMesh.{OutputMesh}
 use Rattle.mesh_words.specs.declared.command.Command.{Command}
@@ -16,7 +20,8 @@ use Rattle.mesh_scene.specs.declared.scene.scene.PlacedScene.{PlacedScene}
 use Rattle.mesh_outside.specs.Target.Several.{NamedBytes, PutsEach}
 use Rattle.mesh_outside.specs.Target.Targets.{Puts}
 use Rattle.ember_io.specs.Calls.{ShelfCall, SinkCall, KeepsContents}
-use Rattle.mesh_run.specs.Calls.{TargetCall, HoldsAll}
+use Rattle.ember_io.specs.Shelves.{Told}
+use Rattle.mesh_run.specs.Calls.{TargetCall, FilesCall, StreamsCall, DevicesCall, HoldsAll, IsSaid}
 use Rattle.ember_io.specs.Calls.{TakesAll, TakesSome, TakesUntilFault}
 use Rattle.mesh_run.specs.Causes.{IsReadingCause, IsSnapStop, IsStop}
 use Rattle.mesh_run.specs.Exports.{IsExport, IsExportStop}
@@ -29,7 +34,7 @@ use Rattle.mesh_refusal.specs.Said.{export_said, memory_said, output_said, readi
 use Rattle.mesh_refusal.specs.Said.{snap_said, solid_said, words_said}
 use Rattle.mesh_report.specs.Said.{exported_report, placed_report, solid_report}
 use Rattle.mesh_run.specs.Unmet.{EndsAs, EndsOn, IsUnmet}
-use Rattle.mesh_run.specs.Writes.{ArePageAndMesh, AreSceneFiles, AreSolidFiles, sent_to}
+use Rattle.mesh_run.specs.Writes.{ArePageAndMesh, AreSceneFiles, AreSolidFiles, sent_bytes, sent_to}
 use Rattle.mesh_refusal.specs.declared.status.Status.{Status}
 use Rattle.mesh_refusal.specs.declared.status.Status.TheVariants.{Done, Words, WriteFault, OutOfMemory}
 
@@ -42,6 +47,10 @@ IsSent json None report out status text = (status ≡ Done) × (text ≡ report)
 IsSent json (Some mesh) report out Done text = TakesAll out mesh × (text ≡ report)
 IsSent json (Some mesh) report out WriteFault text = TakesSome out mesh × (text ≡ output_said json)
 IsSent json (Some mesh) report out status text = ⊥
+
+-- the same by the mesh itself
+abbrev pub AreSent : Bool → Option (Vec ℕ) → List ℕ → SinkCall → Status → List ℕ → Type 0
+AreSent json sent report out status text = IsSent json (sent_bytes sent) report out status text
 
 -- ---- a Boolean
 -- the output is that of the request, and its files are put, each in its turn; this goes to out, and this is the report
@@ -64,7 +73,7 @@ pub record WritesSolid (json : Bool) (request : Request) (shelf : ShelfCall) (ta
   pub is_sent : IsSent json sent report out status text
 
 -- these are the files of an output of the request
-pub record AreFilesFor (request : Request) (told : List ℕ → Option (List ℕ)) (files : List NamedBytes) : Type 0 where
+pub record AreFilesFor (request : Request) (told : Told) (files : List NamedBytes) : Type 0 where
   pub output : SolidFile
   pub is_output : IsOutputFor request told output
   pub are_files : AreSolidFiles request output files
@@ -92,7 +101,7 @@ pub record WritesScene (json : Bool) (request : SnapRequest) (shelf : ShelfCall)
   pub text_is : text ≡ placed_report json request placed
 
 -- these are the files of a scene that the request asks for
-pub record AreSnapFilesFor (request : SnapRequest) (told : List ℕ → Option (List ℕ)) (files : List NamedBytes) :
+pub record AreSnapFilesFor (request : SnapRequest) (told : Told) (files : List NamedBytes) :
     Type 0 where
   pub placed : PlacedScene
   pub is_placed : IsPlacedFor request told placed
@@ -130,7 +139,7 @@ pub record WritesExport (json : Bool) (request : ExportRequest) (shelf : ShelfCa
   pub is_sent : IsSent json sent report out status text
 
 -- these are the files of a mesh that the request asks for
-pub record AreExportFilesFor (request : ExportRequest) (told : List ℕ → Option (List ℕ)) (files : List NamedBytes) :
+pub record AreExportFilesFor (request : ExportRequest) (told : Told) (files : List NamedBytes) :
     Type 0 where
   pub mesh : OutputMesh
   pub is_export : IsExport request told mesh
@@ -178,7 +187,7 @@ pub record WritesPage (request : ViewRequest) (shelf : ShelfCall) (target : Targ
   pub text_is : text ≡ []
 
 -- this is the page of the files under its name
-pub record IsPageFor (request : ViewRequest) (told : List ℕ → Option (List ℕ)) (files : List NamedBytes) : Type 0 where
+pub record IsPageFor (request : ViewRequest) (told : Told) (files : List NamedBytes) : Type 0 where
   pub page : List ℕ
   pub is_page : IsPageOf told request.files page
   pub all : files ≡ (request.output, page) ∷ []
@@ -234,3 +243,48 @@ pub record MeshServes (words : List (List ℕ)) (shelf : ShelfCall) (target : Ta
   pub said : TakesUntilFault err text
   -- out-of-memory isn't hidden in another status
   pub memory : hides_memory status ≡ false
+
+-- ---- the same in the clauses of the calls
+-- want of memory for what is said of a status: this is the status, and it is said
+abbrev pub SaysMemory : Bool → SinkCall → Status → Type 0
+SaysMemory json err status = (status ≡ OutOfMemory) × TakesUntilFault err (memory_said json)
+
+-- the files are put, and this is to be sent
+abbrev pub SendsSolid : Bool → Request → ShelfCall → TargetCall → Sending → Type 0
+SendsSolid json request shelf target sending =
+    PutsSolid json request shelf target (sent_bytes sending.sent) sending.report.items
+
+abbrev pub SendsExport : Bool → ExportRequest → ShelfCall → TargetCall → Sending → Type 0
+SendsExport json request shelf target sending =
+    PutsExport json request shelf target (sent_bytes sending.sent) sending.report.items
+
+-- the files are put, and this is the report
+abbrev pub PutsScene : Bool → SnapRequest → ShelfCall → TargetCall → Vec ℕ → Type 0
+PutsScene json request shelf target report = WritesScene json request shelf target report.items
+
+-- the page is put
+abbrev pub PutsPage : ViewRequest → ShelfCall → TargetCall → Type 0
+PutsPage request shelf target = WritesPage request shelf target []
+
+-- a request is served: this is the outcome, and it is said
+abbrev pub ServesSolid : Bool → Request → DevicesCall → Status → Type 0
+ServesSolid json request seen status = IsSaid seen.streams.err
+    (IsSolidOutcome json request seen.files.shelf seen.files.target seen.streams.out status)
+
+abbrev pub ServesExport : Bool → ExportRequest → DevicesCall → Status → Type 0
+ServesExport json request seen status = IsSaid seen.streams.err
+    (IsExportOutcome json request seen.files.shelf seen.files.target seen.streams.out status)
+
+abbrev pub ServesSnap : Bool → SnapRequest → FilesCall → SinkCall → Status → Type 0
+ServesSnap json request files err status = IsSaid err (IsSnapOutcome json request files.shelf files.target status)
+
+abbrev pub ServesView : Bool → ViewRequest → FilesCall → SinkCall → Status → Type 0
+ServesView json request files err status = IsSaid err (IsViewOutcome json request files.shelf files.target status)
+
+abbrev pub ServesInfos : Bool → List (List ℕ) → ShelfCall → StreamsCall → Status → Type 0
+ServesInfos json names shelf streams status = IsSaid streams.err (IsInfoOutcome json names shelf streams.out status)
+
+-- what a call promises for its words
+abbrev pub ServesWords : List (String Global) → DevicesCall → Status → Type 0
+ServesWords words seen status = MeshServes (map string_bytes words)
+    seen.files.shelf seen.files.target seen.streams.out seen.streams.err status

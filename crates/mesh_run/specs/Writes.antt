@@ -1,5 +1,5 @@
 -- The files that a request gets, by their names and bytes
-use Rattle.std.specs.Prelude.{◌≡◌, ℕ, zero, suc, List, [], ◌∷◌, ◌++◌, length, codes, Some, None, MatchOption}
+use Rattle.std.specs.Prelude.{◌≡◌, ℕ, zero, suc, List, [], ◌∷◌, ◌++◌, length, codes, Some, None, MatchOption, option_map}
 use Rattle.std.specs.declared.option.Option.{Option}
 use Rattle.std.specs.Global.{Vec}
 use Rattle.mesh_boolean.specs.declared.output.KeptDocument.{KeptDocument}
@@ -16,7 +16,8 @@ use Rattle.mesh_scene.specs.declared.scene.scene.PlacedScene.{PlacedScene}
 use Rattle.mesh_scene.specs.SceneFile.Meshes.{mesh_text, triangles_of}
 use Rattle.mesh_scene.specs.SceneFile.Texts.{IsSceneText}
 use Rattle.mesh_write.specs.declared.stl.triangle.FloatTriangle.{FloatTriangle}
-use Rattle.mesh_outside.specs.Target.Several.{NamedBytes}
+use Rattle.mesh_outside.specs.Target.Several.{NamedBytes, names_and_bytes}
+use Rattle.mesh_outside.specs.declared.target.several.NamedFile.{NamedFile}
 
 -- they are there if a name is given for them
 abbrev pub AreFilesIf : Option (List ℕ) → (List ℕ → List NamedBytes → Type 0) → List NamedBytes → Type 0
@@ -27,6 +28,19 @@ pub record AreAppended (Are : List NamedBytes → Type 0) (old new : List NamedB
   pub made : List NamedBytes
   pub are : Are made
   pub all : new ≡ old ++ made
+
+-- ---- the same of lists of files, before and after a call
+-- these files are appended
+abbrev pub AddsFiles : List NamedBytes → Vec NamedFile → Vec NamedFile → Type 0
+AddsFiles made old new = names_and_bytes new.items ≡ names_and_bytes old.items ++ made
+
+-- this one is appended
+abbrev pub AddsFile : NamedBytes → Vec NamedFile → Vec NamedFile → Type 0
+AddsFile made old new = AddsFiles (made ∷ []) old new
+
+-- files that have the property are appended
+abbrev pub Adds : (List NamedBytes → Type 0) → Vec NamedFile → Vec NamedFile → Type 0
+Adds Are old new = AreAppended Are (names_and_bytes old.items) (names_and_bytes new.items)
 
 -- ---- a scene in a folder
 -- mesh i under its name
@@ -57,6 +71,10 @@ abbrev pub sent_to : Destination → List ℕ → Option (List ℕ)
 sent_to (File name) bytes = None
 sent_to StandardOutput bytes = Some bytes
 
+-- the bytes that are sent there, if there are some
+abbrev pub sent_bytes : Option (Vec ℕ) → Option (List ℕ)
+sent_bytes sent = option_map (λ (bytes : Vec ℕ). bytes.items) sent
+
 -- what a page calls it
 abbrev pub title_at : Destination → List ℕ
 title_at (File name) = name
@@ -72,6 +90,16 @@ pub record IsPageFile (title : List ℕ) (names : List (List ℕ)) (numbers : Li
   pub are_shown : shown ≡ Some triangles
   pub all : files ≡ (name, page_of title names triangles.items numbers) ∷ []
   pub read_back : IsReadBack triangles.items numbers (page_of title names triangles.items numbers)
+
+-- that page, if a name is given for it
+abbrev pub ArePages : Option (List ℕ) → List ℕ → List (List ℕ) → List ℕ → Option (Vec FloatTriangle) →
+    List NamedBytes → Type 0
+ArePages page title names numbers shown = AreFilesIf page (IsPageFile title names numbers shown)
+
+-- the page of this name that shows these triangles is appended
+abbrev pub AddsPage : List ℕ → List ℕ → List (List ℕ) → List FloatTriangle → List ℕ → Vec NamedFile →
+    Vec NamedFile → Type 0
+AddsPage name title names shown numbers old new = AddsFile (name, page_of title names shown numbers) old new
 
 -- the page that shows a mesh and of which of the named files its triangles are, if a page is asked for, and behind it
 -- the mesh, if it goes to a file
@@ -100,6 +128,10 @@ pub record AreOutputsKept (names : List (List ℕ)) (out : SolidFile) (folder : 
   pub kept : KeptDocument
   pub is_kept : out.kept ≡ Some kept
   pub are_files : AreKeptFiles names (placed_of out kept) kept.document.items folder files
+
+-- they are there if the request names a folder for them
+abbrev pub AreKeptFor : Request → SolidFile → List NamedBytes → Type 0
+AreKeptFor request out files = AreFilesIf request.keep (AreOutputsKept request.files out) files
 
 -- the numbers of files, if they are there
 abbrev pub numbers_in : Option (Vec ℕ) → List ℕ

@@ -1,13 +1,13 @@
 // The mesh of a document.
-ghost use Rattle.std.specs.Prelude.{◌≡◌, ◌≤◌, ℕ, List, false, None, IfOk, IfErr, IfSome, option_map};
+ghost use Rattle.std.specs.Prelude.{◌≡◌, ◌≤◌, false, None, IfOk, IfErr, IfSome};
 ghost use Rattle.ember_io.specs.Shelves.{AreBytes};
 ghost use Rattle.mesh_scene.specs.SceneFile.Scenes.{IsSceneOf};
 ghost use Rattle.mesh_grid.specs.Snap.Steps.{IsStep};
-ghost use Rattle.ember_io.specs.Calls.{KeepsContents, TakesUntilFault, shelf_call, sink_call};
-ghost use Rattle.mesh_run.specs.Calls.{target_call};
+ghost use Rattle.ember_io.specs.Calls.{KeepsContents, shelf_seen};
+ghost use Rattle.mesh_run.specs.Calls.{devices, target_seen};
 ghost use Rattle.mesh_run.specs.Exports.{IsExport, IsExportStop, IsGridGiven, IsNoGrid, IsUnreadFile, document_index, status_of_document, unit_grid};
 ghost use Rattle.mesh_run.specs.Memory.{hides_memory};
-ghost use Rattle.mesh_run.specs.Serves.{IsExportOutcome, IsExportUnmet, PutsExport};
+ghost use Rattle.mesh_run.specs.Serves.{IsExportUnmet, SendsExport, ServesExport};
 
 use crate::asked::format_asked;
 use crate::files::written_files;
@@ -44,10 +44,9 @@ fn bytes_in<S: Shelf>(
     name: &Text,
     number: u32,
 ) -> Result<Vec<u8>, Status>
-    ensures contents { KeepsContents (shelf_call S.contents S.faults S.fault_at S.fault_kind shelf.old shelf.new) }
+    ensures contents { KeepsContents (shelf_seen S.Shelf shelf) }
     ensures bytes { IfOk result (λ bytes. AreBytes (S.contents shelf.old) name.now bytes.items) }
-    ensures cause { IfErr result (IsUnreadFile name.now number
-        (shelf_call S.contents S.faults S.fault_at S.fault_kind shelf.old shelf.new)) }
+    ensures cause { IfErr result (IsUnreadFile name.now number (shelf_seen S.Shelf shelf)) }
 {
     match read_all(alloc, shelf, name.as_str(), number, MOST_BYTES) {
         Ok(bytes) => Ok(bytes),
@@ -75,11 +74,10 @@ fn grid_given<S: Shelf>(
     request: &ExportRequest,
     shelf: &mut S,
 ) -> Result<Grid, Status>
-    ensures contents { KeepsContents (shelf_call S.contents S.faults S.fault_at S.fault_kind shelf.old shelf.new) }
+    ensures contents { KeepsContents (shelf_seen S.Shelf shelf) }
     ensures step { IfOk result (λ grid. IsStep grid.step) }
     ensures grid { IfOk result (IsGridGiven request.now (S.contents shelf.old)) }
-    ensures stop { IfErr result
-        (IsExportStop request.now (shelf_call S.contents S.faults S.fault_at S.fault_kind shelf.old shelf.new)) }
+    ensures stop { IfErr result (IsExportStop request.now (shelf_seen S.Shelf shelf)) }
 {
     let Some(name) = &request.scene else {
         return Ok(unit_grid());
@@ -116,10 +114,9 @@ fn mesh_for<S: Shelf>(
     shelf: &mut S,
 ) -> Result<OutputMesh, Status>
     requires { IfSome request.now.digits (λ n. n ≤ 17) }
-    ensures contents { KeepsContents (shelf_call S.contents S.faults S.fault_at S.fault_kind shelf.old shelf.new) }
+    ensures contents { KeepsContents (shelf_seen S.Shelf shelf) }
     ensures mesh { IfOk result (IsExport request.now (S.contents shelf.old)) }
-    ensures stop { IfErr result
-        (IsExportStop request.now (shelf_call S.contents S.faults S.fault_at S.fault_kind shelf.old shelf.new)) }
+    ensures stop { IfErr result (IsExportStop request.now (shelf_seen S.Shelf shelf)) }
 {
     let grid = match grid_given(alloc, request, shelf) {
         Ok(grid) => grid,
@@ -147,16 +144,13 @@ fn write_export<S: Shelf, T: Target>(
 ) -> Result<Sending, Status>
     requires digits { IfSome request.now.digits (λ n. n ≤ 17) }
     requires begun { T.begun target.old ≡ None }
-    ensures contents { KeepsContents (shelf_call S.contents S.faults S.fault_at S.fault_kind shelf.old shelf.new) }
+    ensures contents { KeepsContents (shelf_seen S.Shelf shelf) }
     ensures none_begun { T.begun target.new ≡ None }
     ensures later { T.faults target.old ≤ T.faults target.new }
-    ensures written { IfOk result (λ sending. PutsExport json request.now
-        (shelf_call S.contents S.faults S.fault_at S.fault_kind shelf.old shelf.new)
-        (target_call T.held T.begun T.faults target.old target.new)
-        (option_map (λ bytes. bytes.items) sending.sent) sending.report.items) }
-    ensures stop { IfErr result (IsExportUnmet request.now
-        (shelf_call S.contents S.faults S.fault_at S.fault_kind shelf.old shelf.new)
-        (target_call T.held T.begun T.faults target.old target.new)) }
+    ensures written { IfOk result
+        (SendsExport json request.now (shelf_seen S.Shelf shelf) (target_seen T.Target target)) }
+    ensures stop { IfErr result
+        (IsExportUnmet request.now (shelf_seen S.Shelf shelf) (target_seen T.Target target)) }
 {
     let mesh = match mesh_for(alloc, request, shelf) {
         Ok(mesh) => mesh,
@@ -186,15 +180,12 @@ pub fn serve_export<S: Shelf, T: Target, O: Sink, E: Sink>(
 ) -> Status
     requires digits { IfSome request.now.digits (λ n. n ≤ 17) }
     requires begun { T.begun target.old ≡ None }
-    ensures contents { KeepsContents (shelf_call S.contents S.faults S.fault_at S.fault_kind shelf.old shelf.new) }
+    ensures contents { KeepsContents (shelf_seen S.Shelf shelf) }
     ensures none_begun { T.begun target.new ≡ None }
     ensures later { T.faults target.old ≤ T.faults target.new }
     ensures later_out { O.faults out.old ≤ O.faults out.new }
-    ensures outcome { (text : List ℕ) × IsExportOutcome json request.now
-        (shelf_call S.contents S.faults S.fault_at S.fault_kind shelf.old shelf.new)
-        (target_call T.held T.begun T.faults target.old target.new)
-        (sink_call O.taken O.flushed O.faults out.old out.new) result text ×
-        TakesUntilFault (sink_call E.taken E.flushed E.faults err.old err.new) text }
+    ensures outcome { ServesExport json request.now
+        (devices S.Shelf T.Target O.Sink E.Sink shelf target out err) result }
     ensures memory { hides_memory result ≡ false }
 {
     match write_export(alloc, json, request, shelf, target) {

@@ -1,11 +1,11 @@
 // The files that a request gets.
-ghost use Rattle.std.specs.Prelude.{◌≡◌, ◌≤◌, ◌++◌, ◌∷◌, [], length, IfOk, IsSome, OnOk, option_map};
+ghost use Rattle.std.specs.Prelude.{◌≡◌, ◌≤◌, [], length, IfOk, IsSome, OnOk};
 ghost use Rattle.mesh_info.specs.Page.Pages.{page_of};
 ghost use Rattle.mesh_info.specs.Page.ReadBack.{IsReadBack};
 ghost use Rattle.mesh_grid.specs.Snap.Steps.{IsStep};
 ghost use Rattle.mesh_outside.specs.Target.Several.{names_and_bytes};
 ghost use Rattle.mesh_words.specs.Folders.{document_name, scene_name};
-ghost use Rattle.mesh_run.specs.Writes.{AreAppended, AreFilesIf, AreKeptFiles, ArePageAndMesh, AreOutputsKept, AreSceneFiles, AreSolidFiles, IsPageFile, mesh_file, mesh_file_at, mesh_files, numbers_in, sent_to, title_at};
+ghost use Rattle.mesh_run.specs.Writes.{Adds, AddsFile, AddsFiles, AddsPage, AreKeptFiles, AreKeptFor, ArePageAndMesh, ArePages, AreSceneFiles, AreSolidFiles, mesh_file, mesh_file_at, mesh_files, numbers_in, sent_bytes, sent_to, title_at};
 
 use ember_model::{OutOfMemory, Tri};
 use ember_words::Text;
@@ -31,8 +31,7 @@ fn put_named(
     bytes: Vec<u8>,
     files: &mut Vec<NamedFile>,
 ) -> Result<(), OutOfMemory>
-    ensures { OnOk result (names_and_bytes files.new.items ≡
-        names_and_bytes files.old.items ++ (name.now, bytes.items) ∷ []) }
+    ensures { OnOk result (AddsFile (name.now, bytes.items) files.old files.new) }
 {
     let name = String::from_str(alloc, name.as_str())?;
     files.push(NamedFile { name, bytes })?;
@@ -46,8 +45,7 @@ fn put_grid(
     text: Vec<u8>,
     files: &mut Vec<NamedFile>,
 ) -> Result<(), OutOfMemory>
-    ensures { OnOk result (names_and_bytes files.new.items ≡
-        names_and_bytes files.old.items ++ (scene_name folder.now, text.items) ∷ []) }
+    ensures { OnOk result (AddsFile (scene_name folder.now, text.items) files.old files.new) }
 {
     let name = scene_name(alloc, folder.as_str())?;
     files.push(NamedFile { name, bytes: text })?;
@@ -61,8 +59,7 @@ fn put_document(
     document: Vec<u8>,
     files: &mut Vec<NamedFile>,
 ) -> Result<(), OutOfMemory>
-    ensures { OnOk result (names_and_bytes files.new.items ≡
-        names_and_bytes files.old.items ++ (document_name folder.now, document.items) ∷ []) }
+    ensures { OnOk result (AddsFile (document_name folder.now, document.items) files.old files.new) }
 {
     let name = document_name(alloc, folder.as_str())?;
     files.push(NamedFile {
@@ -80,8 +77,7 @@ fn put_mesh(
     mesh: u32,
     files: &mut Vec<NamedFile>,
 ) -> Result<(), OutOfMemory>
-    ensures { OnOk result (names_and_bytes files.new.items ≡
-        names_and_bytes files.old.items ++ mesh_file folder.now tris.now mesh ∷ []) }
+    ensures { OnOk result (AddsFile (mesh_file folder.now tris.now mesh) files.old files.new) }
 {
     let bytes = grid_mesh(alloc, tris, mesh)?;
     let name = mesh_name(alloc, folder.as_str(), mesh as usize)?;
@@ -97,8 +93,7 @@ fn put_meshes(
     meshes: u32,
     files: &mut Vec<NamedFile>,
 ) -> Result<(), OutOfMemory>
-    ensures { OnOk result (names_and_bytes files.new.items ≡
-        names_and_bytes files.old.items ++ mesh_files folder.now tris.now meshes) }
+    ensures { OnOk result (AddsFiles (mesh_files folder.now tris.now meshes) files.old files.new) }
 {
     for index in 0..meshes {
         put_mesh(alloc, folder, tris, index + 1, files)?;
@@ -118,8 +113,7 @@ fn put_scene(
     requires step { IsStep placed.now.grid.step }
     requires counts { length placed.now.counts.items ≡ length names.now }
     requires moves { length placed.now.moves.items ≡ length names.now }
-    ensures { OnOk result (AreAppended (AreSceneFiles folder.now names.now placed.now)
-        (names_and_bytes files.old.items) (names_and_bytes files.new.items)) }
+    ensures { OnOk result (Adds (AreSceneFiles folder.now names.now placed.now) files.old files.new) }
 {
     put_meshes(
         alloc,
@@ -160,8 +154,8 @@ fn put_page(
     numbers: &[usize],
     files: &mut Vec<NamedFile>,
 ) -> Result<(), OutOfMemory>
-    ensures is_page { OnOk result (names_and_bytes files.new.items ≡ names_and_bytes files.old.items ++
-        (page.now, page_of title.now names.now shown.now numbers.now) ∷ []) }
+    ensures is_page { OnOk result
+        (AddsPage page.now title.now names.now shown.now numbers.now files.old files.new) }
     ensures read_back { OnOk result (IsReadBack shown.now numbers.now
         (page_of title.now names.now shown.now numbers.now)) }
 {
@@ -180,8 +174,8 @@ fn put_pages(
     files: &mut Vec<NamedFile>,
 ) -> Result<(), OutOfMemory>
     requires { IsSome page.now → IsSome shown }
-    ensures { OnOk result (AreAppended (AreFilesIf page.now (IsPageFile title.now names.now numbers.now shown))
-        (names_and_bytes files.old.items) (names_and_bytes files.new.items)) }
+    ensures { OnOk result
+        (Adds (ArePages page.now title.now names.now numbers.now shown) files.old files.new) }
 {
     let Some(page) = page else {
         return Ok(());
@@ -207,9 +201,8 @@ fn put_mesh_at(
     bytes: Vec<u8>,
     files: &mut Vec<NamedFile>,
 ) -> Result<Option<Vec<u8>>, OutOfMemory>
-    ensures put { OnOk result (names_and_bytes files.new.items ≡
-        names_and_bytes files.old.items ++ mesh_file_at output.now bytes.items) }
-    ensures sent { IfOk result (λ sent. option_map (λ b. b.items) sent ≡ sent_to output.now bytes.items) }
+    ensures put { OnOk result (AddsFiles (mesh_file_at output.now bytes.items) files.old files.new) }
+    ensures sent { IfOk result (λ sent. sent_bytes sent ≡ sent_to output.now bytes.items) }
 {
     match output {
         Destination::File(name) => {
@@ -232,9 +225,9 @@ fn put_page_and_mesh(
     files: &mut Vec<NamedFile>,
 ) -> Result<Option<Vec<u8>>, OutOfMemory>
     requires { IsSome page.now → IsSome mesh.shown }
-    ensures put { OnOk result (AreAppended (ArePageAndMesh page.now names.now numbers.now output.now mesh)
-        (names_and_bytes files.old.items) (names_and_bytes files.new.items)) }
-    ensures sent { IfOk result (λ sent. option_map (λ b. b.items) sent ≡ sent_to output.now mesh.bytes.items) }
+    ensures put { OnOk result
+        (Adds (ArePageAndMesh page.now names.now numbers.now output.now mesh) files.old files.new) }
+    ensures sent { IfOk result (λ sent. sent_bytes sent ≡ sent_to output.now mesh.bytes.items) }
 {
     let OutputMesh { bytes, shown, .. } = mesh;
     put_pages(alloc, page, title_at(output), names, shown, numbers, files)?;
@@ -252,8 +245,7 @@ pub fn written_files(
     requires { IsSome page.now → IsSome mesh.shown }
     ensures files { IfOk result (λ made.
         ArePageAndMesh page.now [] [] output.now mesh (names_and_bytes made.files.items)) }
-    ensures sent { IfOk result (λ made.
-        option_map (λ b. b.items) made.sent ≡ sent_to output.now mesh.bytes.items) }
+    ensures sent { IfOk result (λ made. sent_bytes made.sent ≡ sent_to output.now mesh.bytes.items) }
 {
     let mut files = Vec::new(alloc);
     let sent = put_page_and_mesh(alloc, page, &[], &[], output, mesh, &mut files)?;
@@ -283,8 +275,8 @@ fn put_kept(
     requires step { IsStep placed.now.grid.step }
     requires counts { length placed.now.counts.items ≡ length names.now }
     requires moves { length placed.now.moves.items ≡ length names.now }
-    ensures { OnOk result (AreAppended (AreKeptFiles names.now placed.now document.items folder.now)
-        (names_and_bytes files.old.items) (names_and_bytes files.new.items)) }
+    ensures { OnOk result
+        (Adds (AreKeptFiles names.now placed.now document.items folder.now) files.old files.new) }
 {
     put_scene(alloc, folder, names, placed, files)?;
     put_document(alloc, folder, document, files)
@@ -302,8 +294,7 @@ fn kept_files(
     requires counts { length output.counts.items ≡ length request.now.files }
     requires moves { length output.moves.items ≡ length request.now.files }
     requires kept { IsSome request.now.keep → IsSome output.kept }
-    ensures files { IfOk result (λ made.
-        AreFilesIf request.now.keep (AreOutputsKept request.now.files output) (names_and_bytes made.0.items)) }
+    ensures files { IfOk result (λ made. AreKeptFor request.now output (names_and_bytes made.0.items)) }
     ensures mesh { IfOk result (λ made. made.1 ≡ output.written) }
     ensures shown { IfOk result (λ made. made.2 ≡ output.shown_files) }
 {
@@ -353,7 +344,7 @@ pub fn solid_files(
     requires shown { IsSome request.now.view → IsSome output.written.shown }
     ensures files { IfOk result (λ made. AreSolidFiles request.now output (names_and_bytes made.files.items)) }
     ensures sent { IfOk result (λ made.
-        option_map (λ b. b.items) made.sent ≡ sent_to request.now.output output.written.bytes.items) }
+        sent_bytes made.sent ≡ sent_to request.now.output output.written.bytes.items) }
 {
     let (mut files, mesh, shown_files) = kept_files(alloc, request, output)?;
     let sent = put_page_and_mesh(

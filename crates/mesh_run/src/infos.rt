@@ -1,15 +1,15 @@
 // What is said of meshes.
-ghost use Rattle.std.specs.Prelude.{◌≡◌, ◌≤◌, ℕ, List, length, All, false, IfOk, IfErr};
-ghost use Rattle.std.specs.declared.option.Option.{Option};
+ghost use Rattle.std.specs.Prelude.{◌≡◌, ◌≤◌, length, All, false, IfOk, IfErr};
 ghost use Rattle.ember_model.specs.Limits.{most_bytes};
 ghost use Rattle.ember_algebra.specs.Relations.{Each};
 ghost use Rattle.mesh_boolean.specs.Files.{AreReadings};
-ghost use Rattle.ember_io.specs.Calls.{KeepsContents, TakesUntilFault, shelf_call, sink_call};
+ghost use Rattle.ember_io.specs.Calls.{KeepsContents, shelf_seen};
+ghost use Rattle.mesh_run.specs.Calls.{streams_seen};
 ghost use Rattle.mesh_run.specs.Causes.{IsReadingCause, IsRefusalCause};
-ghost use Rattle.mesh_run.specs.Files.{AreContents};
+ghost use Rattle.mesh_run.specs.Files.{IfTold};
 ghost use Rattle.mesh_run.specs.Infos.{AreInfoLines, IsFileLine};
 ghost use Rattle.mesh_run.specs.Memory.{hides_memory};
-ghost use Rattle.mesh_run.specs.Serves.{IsInfoOutcome};
+ghost use Rattle.mesh_run.specs.Serves.{ServesInfos};
 
 use crate::reading::{input_files, read_contents};
 use crate::writing::{say, say_out_of_memory, write_bytes};
@@ -45,10 +45,8 @@ fn infos_of_contents(alloc: Global, names: &[Text], contents: &[Vec<u8>]) -> Res
     requires few { length names.now ≤ 64 }
     requires one_each { length contents.now ≡ length names.now }
     requires small { All (λ bytes. length bytes.items ≤ most_bytes) contents.now }
-    ensures lines { IfOk result (λ lines. (told : List ℕ → Option (List ℕ)) →
-        AreContents told names.now contents.now → AreInfoLines told names.now lines.items) }
-    ensures cause { IfErr result (λ status. (told : List ℕ → Option (List ℕ)) →
-        AreContents told names.now contents.now → IsRefusalCause told names.now status) }
+    ensures lines { IfOk result (λ lines. IfTold names.now contents.now AreInfoLines lines.items) }
+    ensures cause { IfErr result (IfTold names.now contents.now IsRefusalCause) }
 {
     let made = input_files(alloc, names, contents)?;
     let files = made.as_slice();
@@ -65,10 +63,9 @@ fn infos_of_contents(alloc: Global, names: &[Text], contents: &[Vec<u8>]) -> Res
 // instead.
 fn infos_in<S: Shelf>(alloc: Global, shelf: &mut S, names: &[Text]) -> Result<Vec<u8>, Status>
     requires { length names.now ≤ 64 }
-    ensures contents { KeepsContents (shelf_call S.contents S.faults S.fault_at S.fault_kind shelf.old shelf.new) }
+    ensures contents { KeepsContents (shelf_seen S.Shelf shelf) }
     ensures lines { IfOk result (λ lines. AreInfoLines (S.contents shelf.old) names.now lines.items) }
-    ensures cause { IfErr result
-        (IsReadingCause names.now (shelf_call S.contents S.faults S.fault_at S.fault_kind shelf.old shelf.new)) }
+    ensures cause { IfErr result (IsReadingCause names.now (shelf_seen S.Shelf shelf)) }
 {
     match read_contents(alloc, shelf, names) {
         Ok(contents) => infos_of_contents(alloc, names, &contents),
@@ -87,12 +84,10 @@ pub fn serve_infos<S: Shelf, O: Sink, E: Sink>(
     err: &mut E,
 ) -> Status
     requires { length names.now ≤ 64 }
-    ensures contents { KeepsContents (shelf_call S.contents S.faults S.fault_at S.fault_kind shelf.old shelf.new) }
+    ensures contents { KeepsContents (shelf_seen S.Shelf shelf) }
     ensures later { O.faults out.old ≤ O.faults out.new }
-    ensures outcome { (text : List ℕ) × IsInfoOutcome json names.now
-        (shelf_call S.contents S.faults S.fault_at S.fault_kind shelf.old shelf.new)
-        (sink_call O.taken O.flushed O.faults out.old out.new) result text ×
-        TakesUntilFault (sink_call E.taken E.flushed E.faults err.old err.new) text }
+    ensures outcome { ServesInfos json names.now
+        (shelf_seen S.Shelf shelf) (streams_seen O.Sink E.Sink out err) result }
     ensures memory { hides_memory result ≡ false }
 {
     match infos_in(alloc, shelf, names.items()) {

@@ -1,10 +1,9 @@
 // The bytes of the files, in order.
-ghost use Rattle.std.specs.Prelude.{◌≡◌, ◌<◌, ◌≤◌, ◌+◌, ℕ, List, length, map, take, All, IfOk, IfErr};
-ghost use Rattle.std.specs.declared.option.Option.{Option};
+ghost use Rattle.std.specs.Prelude.{◌≡◌, ◌<◌, ◌≤◌, ◌+◌, length, map, take, All, IfOk, IfErr};
 ghost use Rattle.ember_model.specs.Limits.{most_bytes};
-ghost use Rattle.ember_io.specs.Calls.{shelf_call};
+ghost use Rattle.ember_io.specs.Calls.{shelf_seen};
 ghost use Rattle.mesh_run.specs.Causes.{IsEndAt, IsReadingCause, IsRefusalCause};
-ghost use Rattle.mesh_run.specs.Files.{AreContents, AreReadAs};
+ghost use Rattle.mesh_run.specs.Files.{AreContents, AreReadAs, IfFirstTold, IfTold};
 
 use ember_io::{FaultKind, ReadEnd, Shelf, read_all};
 use ember_model::OutOfMemory;
@@ -28,7 +27,7 @@ pub fn input_files<'a>(
     ensures names { IfOk result (λ files.
         map (λ file. file.name.now) files.items ≡ take (length contents.now) names.now) }
     ensures bytes { IfOk result (λ files.
-        map (λ file. file.bytes.now) files.items ≡ map (λ bytes. bytes.items) contents.now) }
+        map (λ file. file.bytes.now) files.items ≡ map (λ b. b.items) contents.now) }
 {
     let mut files = Vec::with_capacity(alloc, contents.len())?;
     for (index, bytes) in contents.iter().enumerate() {
@@ -50,12 +49,9 @@ pub fn surfaces_of<'a>(
     requires few { length names.now ≤ 64 }
     requires named { length contents.now ≤ length names.now }
     requires small { All (λ bytes. length bytes.items ≤ most_bytes) contents.now }
-    ensures read { IfOk result (λ surfaces. (told : List ℕ → Option (List ℕ)) →
-        AreContents told (take (length contents.now) names.now) contents.now →
-        AreReadAs told (take (length contents.now) names.now) surfaces.items) }
-    ensures cause { IfErr result (λ status. (told : List ℕ → Option (List ℕ)) →
-        AreContents told (take (length contents.now) names.now) contents.now →
-        IsRefusalCause told names.now status) }
+    ensures read { IfOk result (λ it.
+        IfTold (take (length contents.now) names.now) contents.now AreReadAs it.items) }
+    ensures cause { IfErr result (IfFirstTold names.now contents.now IsRefusalCause) }
 {
     let files = input_files(alloc, names, contents)?;
     match surfaces_in(alloc, &files, &OpenGate) {
@@ -76,9 +72,8 @@ fn status_after(
     requires few { length names.now ≤ 64 }
     requires named { length contents.now < length names.now }
     requires small { All (λ bytes. length bytes.items ≤ most_bytes) contents.now }
-    ensures { (told : List ℕ → Option (List ℕ)) →
-        AreContents told (take (length contents.now) names.now) contents.now →
-        IsEndAt told names.now (length contents.now + 1) end kind result }
+    ensures { IfFirstTold names.now contents.now
+        (λ told all. IsEndAt told all (length contents.now + 1) end kind) result }
 {
     let number = contents.len() as u32 + 1;
     match surfaces_of(alloc, names, contents) {
@@ -105,8 +100,7 @@ pub fn read_contents<S: Shelf>(
     ensures same { S.contents shelf.new ≡ S.contents shelf.old }
     ensures later { S.faults shelf.old ≤ S.faults shelf.new }
     ensures contents { IfOk result (λ contents. AreContents (S.contents shelf.old) names.now contents.items) }
-    ensures cause { IfErr result
-        (IsReadingCause names.now (shelf_call S.contents S.faults S.fault_at S.fault_kind shelf.old shelf.new)) }
+    ensures cause { IfErr result (IsReadingCause names.now (shelf_seen S.Shelf shelf)) }
 {
     let mut contents = Vec::with_capacity(alloc, names.len())?;
     for name in names {

@@ -1,16 +1,15 @@
 // Meshes on their grid.
-ghost use Rattle.std.specs.Prelude.{◌≡◌, ◌≤◌, ℕ, List, [], length, All, false, None, IfOk, IfErr};
-ghost use Rattle.std.specs.declared.option.Option.{Option};
+ghost use Rattle.std.specs.Prelude.{◌≡◌, ◌≤◌, [], length, All, false, None, IfOk, IfErr};
 ghost use Rattle.ember_model.specs.Limits.{most_bytes};
 ghost use Rattle.mesh_grid.specs.Grid.Grids.{IsChoice};
 ghost use Rattle.mesh_words.specs.Commands.{IsWithinSnapLimits};
-ghost use Rattle.ember_io.specs.Calls.{KeepsContents, TakesUntilFault, shelf_call, sink_call};
-ghost use Rattle.mesh_run.specs.Calls.{target_call};
+ghost use Rattle.ember_io.specs.Calls.{KeepsContents, shelf_seen, sink_seen};
+ghost use Rattle.mesh_run.specs.Calls.{files_seen, target_seen};
 ghost use Rattle.mesh_run.specs.Causes.{IsPlacingCause, IsSnapStop};
-ghost use Rattle.mesh_run.specs.Files.{AreContents};
+ghost use Rattle.mesh_run.specs.Files.{IfTold};
 ghost use Rattle.mesh_run.specs.Memory.{hides_memory};
 ghost use Rattle.mesh_run.specs.Outputs.{AreFilesPlaced, IsPlacedFor};
-ghost use Rattle.mesh_run.specs.Serves.{IsSnapOutcome, IsSnapUnmet, WritesScene};
+ghost use Rattle.mesh_run.specs.Serves.{IsSnapUnmet, PutsScene, ServesSnap};
 
 use crate::asked::wanted_of;
 use crate::files::scene_files;
@@ -39,10 +38,10 @@ fn placed_of_contents<P: Stages>(
     requires one_each { length contents.now ≡ length names.now }
     requires small { All (λ bytes. length bytes.items ≤ most_bytes) contents.now }
     requires choice { IsChoice wanted }
-    ensures placed { IfOk result (λ placed. (told : List ℕ → Option (List ℕ)) →
-        AreContents told names.now contents.now → AreFilesPlaced told names.now wanted placed) }
-    ensures cause { IfErr result (λ status. (told : List ℕ → Option (List ℕ)) →
-        AreContents told names.now contents.now → IsPlacingCause told names.now [] wanted status) }
+    ensures placed { IfOk result
+        (IfTold names.now contents.now (λ told names. AreFilesPlaced told names wanted)) }
+    ensures cause { IfErr result
+        (IfTold names.now contents.now (λ told names. IsPlacingCause told names [] wanted)) }
 {
     let files = input_files(alloc, names, contents)?;
     match placed_files(alloc, &files, &[], wanted, stages) {
@@ -60,10 +59,9 @@ fn placed_for<S: Shelf, P: Stages>(
     stages: &P,
 ) -> Result<PlacedScene, Status>
     requires { IsWithinSnapLimits request.now }
-    ensures contents { KeepsContents (shelf_call S.contents S.faults S.fault_at S.fault_kind shelf.old shelf.new) }
+    ensures contents { KeepsContents (shelf_seen S.Shelf shelf) }
     ensures placed { IfOk result (IsPlacedFor request.now (S.contents shelf.old)) }
-    ensures stop { IfErr result
-        (IsSnapStop request.now (shelf_call S.contents S.faults S.fault_at S.fault_kind shelf.old shelf.new)) }
+    ensures stop { IfErr result (IsSnapStop request.now (shelf_seen S.Shelf shelf)) }
 {
     let Some(wanted) = wanted_of(&request.step) else {
         return Err(Status::StepOfNoGrid);
@@ -87,15 +85,13 @@ fn write_scene<S: Shelf, T: Target, P: Stages>(
 ) -> Result<Vec<u8>, Status>
     requires limits { IsWithinSnapLimits request.now }
     requires begun { T.begun target.old ≡ None }
-    ensures contents { KeepsContents (shelf_call S.contents S.faults S.fault_at S.fault_kind shelf.old shelf.new) }
+    ensures contents { KeepsContents (shelf_seen S.Shelf shelf) }
     ensures none_begun { T.begun target.new ≡ None }
     ensures later { T.faults target.old ≤ T.faults target.new }
-    ensures written { IfOk result (λ report. WritesScene json request.now
-        (shelf_call S.contents S.faults S.fault_at S.fault_kind shelf.old shelf.new)
-        (target_call T.held T.begun T.faults target.old target.new) report.items) }
-    ensures stop { IfErr result (IsSnapUnmet request.now
-        (shelf_call S.contents S.faults S.fault_at S.fault_kind shelf.old shelf.new)
-        (target_call T.held T.begun T.faults target.old target.new)) }
+    ensures written { IfOk result
+        (PutsScene json request.now (shelf_seen S.Shelf shelf) (target_seen T.Target target)) }
+    ensures stop { IfErr result
+        (IsSnapUnmet request.now (shelf_seen S.Shelf shelf) (target_seen T.Target target)) }
 {
     let placed = match placed_for(alloc, request, shelf, stages) {
         Ok(placed) => placed,
@@ -122,13 +118,11 @@ pub fn serve_snap<S: Shelf, T: Target, E: Sink, P: Stages>(
 ) -> Status
     requires limits { IsWithinSnapLimits request.now }
     requires begun { T.begun target.old ≡ None }
-    ensures contents { KeepsContents (shelf_call S.contents S.faults S.fault_at S.fault_kind shelf.old shelf.new) }
+    ensures contents { KeepsContents (shelf_seen S.Shelf shelf) }
     ensures none_begun { T.begun target.new ≡ None }
     ensures later { T.faults target.old ≤ T.faults target.new }
-    ensures outcome { (text : List ℕ) × IsSnapOutcome json request.now
-        (shelf_call S.contents S.faults S.fault_at S.fault_kind shelf.old shelf.new)
-        (target_call T.held T.begun T.faults target.old target.new) result text ×
-        TakesUntilFault (sink_call E.taken E.flushed E.faults err.old err.new) text }
+    ensures outcome { ServesSnap json request.now
+        (files_seen S.Shelf T.Target shelf target) (sink_seen E.Sink err) result }
     ensures memory { hides_memory result ≡ false }
 {
     match write_scene(alloc, json, request, shelf, target, stages) {

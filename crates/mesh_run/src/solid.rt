@@ -1,21 +1,20 @@
 // The files of a Boolean.
-ghost use Rattle.std.specs.Prelude.{◌≡◌, ◌≤◌, ℕ, List, length, All, false, None, IfOk, IfErr, option_map};
-ghost use Rattle.std.specs.declared.option.Option.{Option};
+ghost use Rattle.std.specs.Prelude.{◌≡◌, ◌≤◌, length, All, false, None, IfOk, IfErr};
 ghost use Rattle.ember_model.specs.Limits.{most_bytes};
 ghost use Rattle.mesh_boolean.specs.Images.{AreForEach};
 ghost use Rattle.mesh_boolean.specs.Outputs.{HasFewDigits};
-ghost use Rattle.ember_expr.specs.Formula.{formula_of};
 ghost use Rattle.mesh_grid.specs.Grid.Grids.{IsChoice};
 ghost use Rattle.mesh_words.specs.Commands.{IsWithinLimits};
 ghost use Rattle.ember_query.specs.Queries.{IsExecutor};
 ghost use Rattle.mesh_triangles.specs.PlaneQueries.{IsPlaneExecutor};
-ghost use Rattle.ember_io.specs.Calls.{KeepsContents, TakesUntilFault, shelf_call, sink_call};
-ghost use Rattle.mesh_run.specs.Calls.{target_call};
-ghost use Rattle.mesh_run.specs.Causes.{IsFilesCause, IsStop};
-ghost use Rattle.mesh_run.specs.Files.{AreContents};
+ghost use Rattle.ember_io.specs.Calls.{KeepsContents, shelf_seen};
+ghost use Rattle.mesh_run.specs.Calls.{devices, target_seen};
+ghost use Rattle.mesh_run.specs.Causes.{IsStop};
+ghost use Rattle.mesh_run.specs.OfAsked.{IsCauseAsked, IsOutputAsked};
+ghost use Rattle.mesh_run.specs.Files.{IfTold};
 ghost use Rattle.mesh_run.specs.Memory.{hides_memory};
-ghost use Rattle.mesh_run.specs.Outputs.{IsFilesOutput, IsOutputFor};
-ghost use Rattle.mesh_run.specs.Serves.{IsSolidOutcome, IsSolidUnmet, PutsSolid};
+ghost use Rattle.mesh_run.specs.Outputs.{IsOutputFor};
+ghost use Rattle.mesh_run.specs.Serves.{IsSolidUnmet, SendsSolid, ServesSolid};
 
 use crate::asked::{Asked, asked_by, placings_asked};
 use crate::files::solid_files;
@@ -55,12 +54,8 @@ fn output_of_contents<
     requires digits { HasFewDigits asked.now.wanted.format }
     requires executor { IsExecutor C.pre C.post executor.now }
     requires plane_executor { IsPlaneExecutor D.pre D.post plane_executor.now }
-    ensures output { IfOk result (λ output. (told : List ℕ → Option (List ℕ)) →
-        AreContents told names.now contents.now →
-        IsFilesOutput told names.now (formula_of asked.now.expr) asked.now.wanted output) }
-    ensures cause { IfErr result (λ status. (told : List ℕ → Option (List ℕ)) →
-        AreContents told names.now contents.now →
-        IsFilesCause told names.now (formula_of asked.now.expr) asked.now.wanted status) }
+    ensures output { IfOk result (IfTold names.now contents.now (IsOutputAsked asked.now)) }
+    ensures cause { IfErr result (IfTold names.now contents.now (IsCauseAsked asked.now)) }
 {
     let files = input_files(alloc, names, contents)?;
     match solid_file(
@@ -98,8 +93,7 @@ fn solid_output<
     ensures same { S.contents shelf.new ≡ S.contents shelf.old }
     ensures later { S.faults shelf.old ≤ S.faults shelf.new }
     ensures output { IfOk result (IsOutputFor request.now (S.contents shelf.old)) }
-    ensures stop { IfErr result
-        (IsStop request.now (shelf_call S.contents S.faults S.fault_at S.fault_kind shelf.old shelf.new)) }
+    ensures stop { IfErr result (IsStop request.now (shelf_seen S.Shelf shelf)) }
 {
     let placings = placings_asked(alloc, request)?;
     let asked = match asked_by(alloc, request, placings.as_slice()) {
@@ -145,16 +139,13 @@ fn write_solid<
     requires begun { T.begun target.old ≡ None }
     requires executor { IsExecutor C.pre C.post executor.now }
     requires plane_executor { IsPlaneExecutor D.pre D.post plane_executor.now }
-    ensures contents { KeepsContents (shelf_call S.contents S.faults S.fault_at S.fault_kind shelf.old shelf.new) }
+    ensures contents { KeepsContents (shelf_seen S.Shelf shelf) }
     ensures none_begun { T.begun target.new ≡ None }
     ensures later { T.faults target.old ≤ T.faults target.new }
-    ensures written { IfOk result (λ sending. PutsSolid json request.now
-        (shelf_call S.contents S.faults S.fault_at S.fault_kind shelf.old shelf.new)
-        (target_call T.held T.begun T.faults target.old target.new)
-        (option_map (λ bytes. bytes.items) sending.sent) sending.report.items) }
-    ensures stop { IfErr result (IsSolidUnmet request.now
-        (shelf_call S.contents S.faults S.fault_at S.fault_kind shelf.old shelf.new)
-        (target_call T.held T.begun T.faults target.old target.new)) }
+    ensures written { IfOk result
+        (SendsSolid json request.now (shelf_seen S.Shelf shelf) (target_seen T.Target target)) }
+    ensures stop { IfErr result
+        (IsSolidUnmet request.now (shelf_seen S.Shelf shelf) (target_seen T.Target target)) }
 {
     let output = match solid_output(alloc, request, shelf, stages, executor, plane_executor) {
         Ok(output) => output,
@@ -197,15 +188,12 @@ pub fn serve_solid<
     requires begun { T.begun target.old ≡ None }
     requires executor { IsExecutor C.pre C.post executor.now }
     requires plane_executor { IsPlaneExecutor D.pre D.post plane_executor.now }
-    ensures contents { KeepsContents (shelf_call S.contents S.faults S.fault_at S.fault_kind shelf.old shelf.new) }
+    ensures contents { KeepsContents (shelf_seen S.Shelf shelf) }
     ensures none_begun { T.begun target.new ≡ None }
     ensures later { T.faults target.old ≤ T.faults target.new }
     ensures later_out { O.faults out.old ≤ O.faults out.new }
-    ensures outcome { (text : List ℕ) × IsSolidOutcome json request.now
-        (shelf_call S.contents S.faults S.fault_at S.fault_kind shelf.old shelf.new)
-        (target_call T.held T.begun T.faults target.old target.new)
-        (sink_call O.taken O.flushed O.faults out.old out.new) result text ×
-        TakesUntilFault (sink_call E.taken E.flushed E.faults err.old err.new) text }
+    ensures outcome { ServesSolid json request.now
+        (devices S.Shelf T.Target O.Sink E.Sink shelf target out err) result }
     ensures memory { hides_memory result ≡ false }
 {
     match write_solid(

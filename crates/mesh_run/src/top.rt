@@ -1,13 +1,13 @@
 // The top call. `run_mesh` and `run_mesh_one` make the *executors*: the closure that runs the boxes of
 // a query (query.rt of ember_query), and the one that answers for lines and planes (query.rt of
 // mesh_triangles).
-ghost use Rattle.std.specs.Prelude.{◌≡◌, ◌≤◌, ℕ, List, false, None, IfOk, map, string_bytes};
+ghost use Rattle.std.specs.Prelude.{◌≡◌, ◌≤◌, false, None, IfOk, map, string_bytes};
 ghost use Rattle.ember_query.specs.Queries.{IsAnswer, IsExecutorOfAny, IsQuery};
 ghost use Rattle.mesh_triangles.specs.PlaneQueries.{IsPlaneAnswer, IsPlaneExecutorOfAny, IsPlaneQuery};
-ghost use Rattle.ember_io.specs.Calls.{TakesUntilFault, shelf_call, sink_call};
-ghost use Rattle.mesh_run.specs.Calls.{target_call};
+ghost use Rattle.ember_io.specs.Calls.{sink_seen};
+ghost use Rattle.mesh_run.specs.Calls.{IsSaid, devices};
 ghost use Rattle.mesh_run.specs.Memory.{hides_memory};
-ghost use Rattle.mesh_run.specs.Serves.{IsWordsOutcome, MeshServes};
+ghost use Rattle.mesh_run.specs.Serves.{IsWordsOutcome, ServesWords};
 
 use crate::exports::serve_export;
 use crate::infos::serve_infos;
@@ -38,8 +38,8 @@ fn refuse_words<E: Sink>(
     why: Refusal,
     err: &mut E,
 ) -> Status
-    ensures outcome { (text : List ℕ) × IsWordsOutcome json (map string_bytes words.now) why result text ×
-        TakesUntilFault (sink_call E.taken E.flushed E.faults err.old err.new) text }
+    ensures outcome { IsSaid (sink_seen E.Sink err)
+        (IsWordsOutcome json (map string_bytes words.now) why result) }
     ensures memory { hides_memory result ≡ false }
 {
     match words_said(alloc, json, words, why) {
@@ -80,12 +80,7 @@ fn run_by<
     requires begun { T.begun target.old ≡ None }
     requires executor { IsExecutorOfAny C.pre C.post executor.now }
     requires plane_executor { IsPlaneExecutorOfAny D.pre D.post plane_executor.now }
-    ensures { MeshServes (map string_bytes words.now)
-        (shelf_call S.contents S.faults S.fault_at S.fault_kind shelf.old shelf.new)
-        (target_call T.held T.begun T.faults target.old target.new)
-        (sink_call O.taken O.flushed O.faults out.old out.new)
-        (sink_call E.taken E.flushed E.faults err.old err.new)
-        result }
+    ensures { ServesWords words.now (devices S.Shelf T.Target O.Sink E.Sink shelf target out err) result }
 {
     let json = words_ask_json(words);
     match read_words(alloc, words) {
@@ -138,12 +133,7 @@ pub fn run_mesh_one<S: Shelf, T: Target, O: Sink, E: Sink, G: Gate + Stages>(
     gate: &G,
 ) -> Status
     requires { T.begun target.old ≡ None }
-    ensures { MeshServes (map string_bytes words.now)
-        (shelf_call S.contents S.faults S.fault_at S.fault_kind shelf.old shelf.new)
-        (target_call T.held T.begun T.faults target.old target.new)
-        (sink_call O.taken O.flushed O.faults out.old out.new)
-        (sink_call E.taken E.flushed E.faults err.old err.new)
-        result }
+    ensures { ServesWords words.now (devices S.Shelf T.Target O.Sink E.Sink shelf target out err) result }
 {
     run_by(
         alloc,
@@ -196,12 +186,7 @@ pub fn run_mesh<
     gate: &G,
 ) -> Status
     requires { T.begun target.old ≡ None }
-    ensures { MeshServes (map string_bytes words.now)
-        (shelf_call S.contents S.faults S.fault_at S.fault_kind shelf.old shelf.new)
-        (target_call T.held T.begun T.faults target.old target.new)
-        (sink_call O.taken O.flushed O.faults out.old out.new)
-        (sink_call E.taken E.flushed E.faults err.old err.new)
-        result }
+    ensures { ServesWords words.now (devices S.Shelf T.Target O.Sink E.Sink shelf target out err) result }
 {
     run_by(
         alloc,

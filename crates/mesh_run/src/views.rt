@@ -1,15 +1,14 @@
 // The page that shows meshes.
-ghost use Rattle.std.specs.Prelude.{◌≡◌, ◌++◌, ◌≤◌, ℕ, List, [], length, All, false, None, IfOk, IfErr, OnOk, codes};
-ghost use Rattle.std.specs.declared.option.Option.{Option};
+ghost use Rattle.std.specs.Prelude.{◌≡◌, ◌++◌, ◌≤◌, length, All, false, None, IfOk, IfErr, OnOk, codes};
 ghost use Rattle.ember_model.specs.Limits.{most_bytes};
 ghost use Rattle.mesh_info.specs.View.Views.{IsView};
-ghost use Rattle.ember_io.specs.Calls.{KeepsContents, TakesUntilFault, shelf_call, sink_call};
-ghost use Rattle.mesh_run.specs.Calls.{target_call};
+ghost use Rattle.ember_io.specs.Calls.{KeepsContents, shelf_seen, sink_seen};
+ghost use Rattle.mesh_run.specs.Calls.{files_seen, target_seen};
 ghost use Rattle.mesh_run.specs.Causes.{IsReadingCause, IsRefusalCause};
-ghost use Rattle.mesh_run.specs.Files.{AreContents};
+ghost use Rattle.mesh_run.specs.Files.{IfTold};
 ghost use Rattle.mesh_run.specs.Memory.{hides_memory};
 ghost use Rattle.mesh_run.specs.Pages.{IsPageOf, title_of};
-ghost use Rattle.mesh_run.specs.Serves.{IsPageUnmet, IsViewOutcome, WritesPage};
+ghost use Rattle.mesh_run.specs.Serves.{IsPageUnmet, PutsPage, ServesView};
 
 use crate::reading::{read_contents, surfaces_of};
 use crate::writing::{say, say_why, write_files};
@@ -58,10 +57,8 @@ fn page_of_contents(alloc: Global, names: &[Text], contents: &[Vec<u8>]) -> Resu
     requires few { length names.now ≤ 64 }
     requires one_each { length contents.now ≡ length names.now }
     requires small { All (λ bytes. length bytes.items ≤ most_bytes) contents.now }
-    ensures page { IfOk result (λ page. (told : List ℕ → Option (List ℕ)) →
-        AreContents told names.now contents.now → IsPageOf told names.now page.items) }
-    ensures cause { IfErr result (λ status. (told : List ℕ → Option (List ℕ)) →
-        AreContents told names.now contents.now → IsRefusalCause told names.now status) }
+    ensures page { IfOk result (λ page. IfTold names.now contents.now IsPageOf page.items) }
+    ensures cause { IfErr result (IfTold names.now contents.now IsRefusalCause) }
 {
     match surfaces_of(alloc, names, contents) {
         Ok(surfaces) => {
@@ -75,10 +72,9 @@ fn page_of_contents(alloc: Global, names: &[Text], contents: &[Vec<u8>]) -> Resu
 // The page of the files with these names. The error is the status with which the call ends instead.
 fn page_in<S: Shelf>(alloc: Global, shelf: &mut S, names: &[Text]) -> Result<Vec<u8>, Status>
     requires { length names.now ≤ 64 }
-    ensures contents { KeepsContents (shelf_call S.contents S.faults S.fault_at S.fault_kind shelf.old shelf.new) }
+    ensures contents { KeepsContents (shelf_seen S.Shelf shelf) }
     ensures page { IfOk result (λ page. IsPageOf (S.contents shelf.old) names.now page.items) }
-    ensures cause { IfErr result
-        (IsReadingCause names.now (shelf_call S.contents S.faults S.fault_at S.fault_kind shelf.old shelf.new)) }
+    ensures cause { IfErr result (IsReadingCause names.now (shelf_seen S.Shelf shelf)) }
 {
     match read_contents(alloc, shelf, names) {
         Ok(contents) => page_of_contents(alloc, names, &contents),
@@ -95,15 +91,13 @@ fn write_view<S: Shelf, T: Target>(
 ) -> Result<(), Status>
     requires few { length request.now.files ≤ 64 }
     requires begun { T.begun target.old ≡ None }
-    ensures contents { KeepsContents (shelf_call S.contents S.faults S.fault_at S.fault_kind shelf.old shelf.new) }
+    ensures contents { KeepsContents (shelf_seen S.Shelf shelf) }
     ensures none_begun { T.begun target.new ≡ None }
     ensures later { T.faults target.old ≤ T.faults target.new }
-    ensures written { IfOk result (λ _. WritesPage request.now
-        (shelf_call S.contents S.faults S.fault_at S.fault_kind shelf.old shelf.new)
-        (target_call T.held T.begun T.faults target.old target.new) []) }
-    ensures stop { IfErr result (IsPageUnmet request.now
-        (shelf_call S.contents S.faults S.fault_at S.fault_kind shelf.old shelf.new)
-        (target_call T.held T.begun T.faults target.old target.new)) }
+    ensures written { IfOk result
+        (λ _. PutsPage request.now (shelf_seen S.Shelf shelf) (target_seen T.Target target)) }
+    ensures stop { IfErr result
+        (IsPageUnmet request.now (shelf_seen S.Shelf shelf) (target_seen T.Target target)) }
 {
     let page = match page_in(alloc, shelf, request.files.items()) {
         Ok(page) => page,
@@ -127,13 +121,11 @@ pub fn serve_view<S: Shelf, T: Target, E: Sink>(
 ) -> Status
     requires few { length request.now.files ≤ 64 }
     requires begun { T.begun target.old ≡ None }
-    ensures contents { KeepsContents (shelf_call S.contents S.faults S.fault_at S.fault_kind shelf.old shelf.new) }
+    ensures contents { KeepsContents (shelf_seen S.Shelf shelf) }
     ensures none_begun { T.begun target.new ≡ None }
     ensures later { T.faults target.old ≤ T.faults target.new }
-    ensures outcome { (text : List ℕ) × IsViewOutcome json request.now
-        (shelf_call S.contents S.faults S.fault_at S.fault_kind shelf.old shelf.new)
-        (target_call T.held T.begun T.faults target.old target.new) result text ×
-        TakesUntilFault (sink_call E.taken E.flushed E.faults err.old err.new) text }
+    ensures outcome { ServesView json request.now
+        (files_seen S.Shelf T.Target shelf target) (sink_seen E.Sink err) result }
     ensures memory { hides_memory result ≡ false }
 {
     match write_view(alloc, request, shelf, target) {

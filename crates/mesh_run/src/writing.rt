@@ -1,11 +1,11 @@
 // What the target and the two streams get.
-ghost use Rattle.std.specs.Prelude.{◌≡◌, ◌≤◌, ℕ, List, false, None, IfOk, IfErr, OnOk, OnErr, option_map};
+ghost use Rattle.std.specs.Prelude.{◌≡◌, ◌≤◌, false, None, IfOk, IfErr, OnOk, OnErr};
 ghost use Rattle.mesh_outside.specs.Target.Several.{PutsEach, names_and_bytes};
-ghost use Rattle.ember_io.specs.Calls.{TakesUntilFault, sink_call};
-ghost use Rattle.mesh_run.specs.Calls.{HoldsAll, target_call};
+ghost use Rattle.ember_io.specs.Calls.{TakesUntilFault, sink_seen};
+ghost use Rattle.mesh_run.specs.Calls.{HoldsAll, IsSaid, target_seen};
 ghost use Rattle.mesh_refusal.specs.Said.{memory_said};
 ghost use Rattle.mesh_run.specs.Memory.{hides_memory};
-ghost use Rattle.mesh_run.specs.Serves.{IsMessageOutcome, IsSent};
+ghost use Rattle.mesh_run.specs.Serves.{AreSent, IsMessageOutcome, SaysMemory};
 ghost use Rattle.mesh_run.specs.Unmet.{IsUnwrittenStatus, IsWriteStop};
 
 use ember_io::{Sink, write_all};
@@ -25,14 +25,14 @@ pub struct Sending {
 
 /// Writes a text to err, up to its first fault, which changes nothing else.
 pub fn say<E: Sink>(err: &mut E, text: &[u8])
-    ensures { TakesUntilFault (sink_call E.taken E.flushed E.faults err.old err.new) text.now }
+    ensures { TakesUntilFault (sink_seen E.Sink err) text.now }
 {
     let _ = write_all(err, text);
 }
 
 /// Writes what is said of out-of-memory to err. It allocates nothing.
 pub fn say_out_of_memory<E: Sink>(json: bool, err: &mut E)
-    ensures { TakesUntilFault (sink_call E.taken E.flushed E.faults err.old err.new) (memory_said json) }
+    ensures { TakesUntilFault (sink_seen E.Sink err) (memory_said json) }
 {
     say(err, memory_said(json));
 }
@@ -40,9 +40,8 @@ pub fn say_out_of_memory<E: Sink>(json: bool, err: &mut E)
 /// Writes bytes to `out`, or what is said of a failure to err.
 pub fn write_bytes<O: Sink, E: Sink>(json: bool, out: &mut O, err: &mut E, bytes: &[u8]) -> Status
     ensures later { O.faults out.old ≤ O.faults out.new }
-    ensures outcome { (text : List ℕ) × IsMessageOutcome json bytes.now
-        (sink_call O.taken O.flushed O.faults out.old out.new) result text ×
-        TakesUntilFault (sink_call E.taken E.flushed E.faults err.old err.new) text }
+    ensures outcome { IsSaid (sink_seen E.Sink err)
+        (IsMessageOutcome json bytes.now (sink_seen O.Sink out) result) }
     ensures memory { hides_memory result ≡ false }
 {
     match write_all(out, bytes) {
@@ -66,9 +65,8 @@ pub fn send<O: Sink, E: Sink>(
     report: &[u8],
 ) -> Status
     ensures later { O.faults out.old ≤ O.faults out.new }
-    ensures outcome { (text : List ℕ) × IsSent json (option_map (λ bytes. bytes.items) sent.now)
-        report.now (sink_call O.taken O.flushed O.faults out.old out.new) result text ×
-        TakesUntilFault (sink_call E.taken E.flushed E.faults err.old err.new) text }
+    ensures outcome { IsSaid (sink_seen E.Sink err)
+        (AreSent json sent.now report.now (sink_seen O.Sink out) result) }
     ensures memory { hides_memory result ≡ false }
 {
     match sent {
@@ -97,10 +95,8 @@ pub fn say_why<E: Sink>(
     status: Status,
     said: Result<Vec<u8>, OutOfMemory>,
 ) -> Status
-    ensures said { IfOk said (λ text. (result ≡ status) ×
-        TakesUntilFault (sink_call E.taken E.flushed E.faults err.old err.new) text.items) }
-    ensures memory { OnErr said ((result ≡ Status.OutOfMemory) ×
-        TakesUntilFault (sink_call E.taken E.flushed E.faults err.old err.new) (memory_said json)) }
+    ensures said { IfOk said (λ text. (result ≡ status) × TakesUntilFault (sink_seen E.Sink err) text.items) }
+    ensures memory { OnErr said (SaysMemory json (sink_seen E.Sink err) result) }
 {
     match said {
         Ok(text) => {
@@ -119,7 +115,7 @@ pub fn say_why<E: Sink>(
 #[tactic(auto, using(crate::proofs::KeptNames::names_hold_the_same))]
 fn make_folder<T: Target>(target: &mut T, folder: Option<&Text>)
     ensures begun { T.begun target.new ≡ T.begun target.old }
-    ensures held { HoldsAll (target_call T.held T.begun T.faults target.old target.new) }
+    ensures held { HoldsAll (target_seen T.Target target) }
     ensures later { T.faults target.old ≤ T.faults target.new }
 {
     if let Some(folder) = folder {
@@ -152,8 +148,7 @@ pub fn write_files<T: Target>(
     ensures none_begun { T.begun target.new ≡ None }
     ensures later { T.faults target.old ≤ T.faults target.new }
     ensures written { OnOk result (PutsEach (names_and_bytes files.now) (T.held target.old) (T.held target.new)) }
-    ensures stop { IfErr result (IsWriteStop (names_and_bytes files.now)
-        (target_call T.held T.begun T.faults target.old target.new)) }
+    ensures stop { IfErr result (IsWriteStop (names_and_bytes files.now) (target_seen T.Target target)) }
 {
     make_folder(target, folder);
     match write_each(alloc, target, files) {

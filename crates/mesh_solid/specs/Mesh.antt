@@ -3,4 +3,8 @@ pub mod FaceTables
 pub mod Faults
 pub mod Meshes
 pub mod MeshFaces
+<<<<<<< ours
 pub mod FaceMeshes
+=======
+pub mod All
+>>>>>>> theirs

@@ -1,1 +1,2 @@
 pub mod TriangleFaces
+pub mod Certified

@@ -4,3 +4,4 @@ pub mod Similar
 pub mod Moves
 pub mod Meshes
 pub mod Files
+pub mod Solids

@@ -45,3 +45,8 @@ MeshWindsAsBefore size unit ps cs to ts =
     (a : Axis) (p : Spot) → pos 0 <ℤ p.w → AllByRecursion (IsFar size unit p) (exact_triangles cs ts) →
     AreClear (triangle_faces ps cs ts) p → AreClear (faces_of_triangles (moved_triangles to ts)) p →
     wind a (faces_of_triangles (moved_triangles to ts)) p ≡ wind a (triangle_faces ps cs ts) p
+
+-- so they do for each such move
+abbrev pub MovesKeepWinding : List Plane → List SpacePoint → List Triangle → Type 0
+MovesKeepWinding ps cs ts =
+    (size unit : ℕ) (to : ℕ → Spot) → MoveWithin size unit cs to ts → MeshWindsAsBefore size unit ps cs to ts

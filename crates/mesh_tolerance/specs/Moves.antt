@@ -52,3 +52,10 @@ abbrev pub PointsMoveWithin : ℕ → ℕ → (ℕ → Spot) → (ℕ → Spot) 
 PointsMoveWithin size unit from to ts =
     AllByRecursion (λ t. (i j k : ℕ) → IsWithin size unit (mean_of i j k (with_points from t))
     (mean_of i j k (with_points to t))) ts
+
+-- ---- all surfaces
+-- it is so of each surface that is closed, and of which no corner moves by more than size / unit
+abbrev pub AllMovedSurfaces : (ℕ → ℕ → (ℕ → Spot) → (ℕ → Spot) → List (Positions ℕ) → Type 0) → Type 0
+AllMovedSurfaces Is =
+    (size unit : ℕ) (from to : ℕ → Spot) (ts : List (Positions ℕ)) → IsMovedSurface size unit from to ts →
+    Is size unit from to ts

@@ -39,3 +39,10 @@ abbrev pub AreClearAsPlaced : ℤ → ℤ → Vector → List (Positions Spot) �
 AreClearAsPlaced n m o ts =
     (p : Spot) → AreClear (faces_of_triangles ts) p →
     AreClear (faces_of_triangles (map (triangle_placed_by n m o) ts)) (placed_by n m o p)
+
+-- ---- in each unit and from each origin
+abbrev pub WindAsAllPlaced : List (Positions Spot) → Type 0
+WindAsAllPlaced ts = (n m : ℤ) (o : Vector) → pos 0 <ℤ n → pos 0 <ℤ m → WindAsPlaced n m o ts
+
+abbrev pub AreClearAsAllPlaced : List (Positions Spot) → Type 0
+AreClearAsAllPlaced ts = (n m : ℤ) (o : Vector) → pos 0 <ℤ n → pos 0 <ℤ m → AreClearAsPlaced n m o ts

@@ -1,5 +1,5 @@
 -- Triangles of decimals
-use Rattle.std.specs.Prelude.{◌≡◌, ℕ, ◌+◌, Bool, not, ◌||◌, if◌then◌else◌, List, [], ◌∷◌, map, filter}
+use Rattle.std.specs.Prelude.{◌≡◌, ℕ, ◌+◌, Bool, not, ◌||◌, if◌then◌else◌, List, [], ◌∷◌, ◌++◌, length, map, filter}
 use Rattle.mesh_grid.specs.declared.snap.steps.GridStep.{GridStep}
 use Rattle.mesh_grid.specs.declared.snap.offsets.Offset.{Offset}
 use Rattle.mesh_write.specs.declared.vertices.point.DecimalPoint.{DecimalPoint}
@@ -53,3 +53,21 @@ pub record IsMeshOver (ps : List DecimalPoint) (ts : List Triangle) (written : D
   pub mesh : IsMeshOf (map (triangle_at ps) (kept ps ts)) written.mesh
   pub planes : written.planes.items ≡ map plane_of (kept ps ts)
   pub origins : written.origins.items ≡ indices_from 0 ps ts
+
+-- it is so of each list of this length whose mesh this is
+abbrev pub IfOver : List DecimalPoint → ℕ → DecimalMesh → (List Triangle → Type 0) → Type 0
+IfOver ps index written Is = (before : List Triangle) → length before ≡ index → IsMeshOver ps before written → Is before
+
+-- the mesh with one more triangle
+abbrev pub IsMeshWith : List DecimalPoint → List Triangle → Triangle → DecimalMesh → Type 0
+IsMeshWith ps before t written = IsMeshOver ps (before ++ t ∷ []) written
+
+-- ---- what is made of the triangles of a table of corners
+abbrev pub HasDecimalTriangles : ℕ → GridStep → Offset → List SpacePoint → List Triangle → DecimalMesh → Type 0
+HasDecimalTriangles places s o cs ts written = IsMeshOf (decimal_triangles places s o cs ts) written.mesh
+
+abbrev pub HasDecimalPlanes : ℕ → GridStep → Offset → List SpacePoint → List Triangle → DecimalMesh → Type 0
+HasDecimalPlanes places s o cs ts written = written.planes.items ≡ decimal_planes places s o cs ts
+
+abbrev pub HasDecimalOrigins : ℕ → GridStep → Offset → List SpacePoint → List Triangle → DecimalMesh → Type 0
+HasDecimalOrigins places s o cs ts written = written.origins.items ≡ decimal_origins places s o cs ts

@@ -1,10 +1,12 @@
 -- Corners as decimals
 use Rattle.std.specs.Prelude.{ℕ, ◌*◌, ◌^◌, ◌≤◌, ℤ, pos, int_lt, unsigned_abs, List, ⊤}
+use Rattle.std.specs.Prelude.{◌≡◌, MatchOption}
+use Rattle.std.specs.declared.option.Option.{Option}
 use Rattle.std.specs.List.{Any}
 use Rattle.ember_model.specs.declared.point.Axis.{Axis}
 use Rattle.ember_model.specs.declared.point.Axis.TheVariants.{X, Y, Z}
 use Rattle.mesh_number.specs.Number.Fractions.{Fraction, signed_whole}
-use Rattle.mesh_number.specs.Round.Nearest.{nearest_whole}
+use Rattle.mesh_number.specs.Round.Nearest.{IsNearest, nearest_whole}
 use Rattle.mesh_number.specs.Round.Decimals.{decimal_text}
 use Rattle.mesh_grid.specs.declared.snap.steps.GridStep.{GridStep}
 use Rattle.mesh_grid.specs.declared.snap.offsets.Offset.{Offset}
@@ -30,6 +32,23 @@ abbrev pub units_of : ℕ → Fraction → ℤ
 units_of places v =
     signed_whole (int_lt v.numerator (pos 0)) (nearest_whole (unsigned_abs v.numerator * 10 ^ places) v.denominator)
 
+-- the decimal of so many of these units
+abbrev pub text_of_units : ℕ → ℤ → List ℕ
+text_of_units places units = decimal_text (int_lt units (pos 0)) (unsigned_abs units) places
+
+-- no whole number of units is nearer to the size of the number; of two, this is the even one
+abbrev pub AreNearestUnits : ℕ → Fraction → ℤ → Type 0
+AreNearestUnits places v units =
+    IsNearest (unsigned_abs v.numerator * 10 ^ places) v.denominator (unsigned_abs units)
+
+-- so many units with the sign of the number
+abbrev pub with_sign_of : Fraction → ℤ → ℤ
+with_sign_of v units = signed_whole (int_lt v.numerator (pos 0)) (unsigned_abs units)
+
+-- the decimal of the corner along the axis
+abbrev pub place_text : GridStep → Offset → Axis → SpacePoint → ℕ → List ℕ
+place_text s o axis c places = decimal_of (place_of s o axis c) places
+
 -- the corner in the user's unit, rounded along each axis
 abbrev pub decimal_point : ℕ → GridStep → Offset → SpacePoint → DecimalPoint
 decimal_point places s o c = record {
@@ -42,6 +61,11 @@ decimal_point places s o c = record {
 pub record IsFarPoint (s : GridStep) (o : Offset) (c : SpacePoint) : Type 0 where
   pub axis : Axis
   pub long : IsTooLong (place_of s o axis c)
+
+-- the point to which the corner is rounded, or none if it is too far away
+abbrev pub IsPointIfNear : ℕ → GridStep → Offset → SpacePoint → Option DecimalPoint → Type 0
+IsPointIfNear places s o c result =
+    MatchOption result (IsFarPoint s o c) (λ point. point ≡ decimal_point places s o c)
 
 abbrev pub IsDecimalFault : GridStep → Offset → List SpacePoint → PlaceFault → Type 0
 IsDecimalFault s o cs TooFar = Any (IsFarPoint s o) cs

@@ -6,4 +6,6 @@ pub mod Decimals
 pub mod DecimalTriangles
 pub mod Digits
 pub mod Closed
+pub mod Certified
 pub mod Shared
+pub mod Noting

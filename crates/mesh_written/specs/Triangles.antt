@@ -1,6 +1,7 @@
 -- Triangles of floats
 use Rattle.std.specs.Prelude.{◌≡◌, ℕ, nat_eq, nat_lt, Bool, not, ◌&&◌, ◌||◌, List, [], ◌∷◌, map, filter, slice_index_or}
-use Rattle.std.specs.Prelude.{if◌then◌else◌}
+use Rattle.std.specs.Prelude.{if◌then◌else◌, true, length}
+use Rattle.std.specs.List.{list_all}
 use Rattle.ember_model.specs.declared.plane.Plane.{Plane}
 use Rattle.mesh_grid.specs.declared.snap.steps.GridStep.{GridStep}
 use Rattle.mesh_grid.specs.declared.snap.offsets.Offset.{Offset}
@@ -15,6 +16,10 @@ use Rattle.mesh_written.specs.Normals.{normal_at}
 abbrev pub has_corners : ℕ → Triangle → Bool
 has_corners count t =
     nat_lt t.first.start count && (nat_lt t.second.start count && nat_lt t.third.start count)
+
+-- the corners of each of these triangles are in the table
+abbrev pub HaveCorners : List SpacePoint → List Triangle → Type 0
+HaveCorners corners ts = list_all (has_corners (length corners)) ts ≡ true
 
 -- the point with this number; what is no point, of no triangle, is at zero
 abbrev pub point_at : List FloatPoint → ℕ → FloatPoint

@@ -1,10 +1,10 @@
 // Corners as points of decimals.
-ghost use Rattle.std.specs.Prelude.{◌≡◌, ◌↔◌, ◌*◌, ◌^◌, ◌<◌, ◌≤◌, None, map, IfSome, IfOk, IfErr, MatchOption};
+ghost use Rattle.std.specs.Prelude.{◌≡◌, ◌↔◌, ◌*◌, ◌^◌, ◌<◌, ◌≤◌, None, map, IfSome, IfOk, IfErr};
 ghost use Rattle.mesh_number.specs.Number.Fractions.{signed_whole};
 ghost use Rattle.ember_wide.specs.Whole.{size_of};
 ghost use Rattle.mesh_grid.specs.Snap.Steps.{IsStep};
 ghost use Rattle.mesh_written.specs.Places.{fraction_of, place_of};
-ghost use Rattle.mesh_written.specs.Decimals.{units_of, decimal_point, IsTooLong, IsFarPoint, IsDecimalFault};
+ghost use Rattle.mesh_written.specs.Decimals.{units_of, decimal_point, IsTooLong, IsPointIfNear, IsDecimalFault};
 
 use crate::decimals::LIMIT;
 use crate::fault::PlaceFault;
@@ -73,8 +73,7 @@ fn decimal_point(
 ) -> Option<DecimalPoint>
     requires step { IsStep step.now }
     requires places { places ≤ 17 }
-    ensures { MatchOption result (IsFarPoint step.now offset.now corner.now)
-        (λ point. point ≡ decimal_point places step.now offset.now corner.now) }
+    ensures { IsPointIfNear places step.now offset.now corner.now result }
 {
     let x = decimal_place(corner, Axis::X, step, offset, places)?;
     let y = decimal_place(corner, Axis::Y, step, offset, places)?;

@@ -1,11 +1,10 @@
 // Triangles of decimals.
-ghost use Rattle.std.specs.Prelude.{◌≡◌, ◌<◌, ◌≤◌, [], ◌∷◌, ◌++◌, true, List, length, IfOk, IfErr, OnOk};
+ghost use Rattle.std.specs.Prelude.{◌≡◌, ◌<◌, ◌≤◌, true, length, IfOk, IfErr, OnOk};
 ghost use Rattle.std.specs.List.{list_all};
 ghost use Rattle.mesh_grid.specs.Snap.Steps.{IsStep};
-ghost use Rattle.mesh_certificate.specs.declared.certificate.triangle.Triangle.{Triangle};
-ghost use Rattle.mesh_write.specs.Vertices.Vertices.{same_point, point_at, IsMeshOf};
+ghost use Rattle.mesh_write.specs.Vertices.Vertices.{same_point, point_at};
 ghost use Rattle.mesh_written.specs.Decimals.{IsDecimalFault};
-ghost use Rattle.mesh_written.specs.DecimalTriangles.{triangle_at, vanishes, IsMeshOver, decimal_triangles, decimal_planes, decimal_origins};
+ghost use Rattle.mesh_written.specs.DecimalTriangles.{triangle_at, vanishes, HasDecimalOrigins, HasDecimalPlanes, HasDecimalTriangles, IfOver, IsMeshOver, IsMeshWith};
 ghost use Rattle.mesh_written.specs.Triangles.{has_corners};
 
 use crate::decimal_points::decimal_points;
@@ -64,8 +63,8 @@ fn push_kept(
     index: usize,
 ) -> Result<(), AllocError>
     requires { has_corners (length points.now) triangle.now ≡ true }
-    ensures { (before : List Triangle) → length before ≡ index → IsMeshOver points.now before written.old →
-        OnOk result (IsMeshOver points.now (before ++ triangle.now ∷ []) written.new) }
+    ensures { IfOver points.now index written.old (λ ts.
+        OnOk result (IsMeshWith points.now ts triangle.now written.new)) }
 {
     let rounded = triangle_at(points, triangle);
     if vanishes(&rounded) {
@@ -116,12 +115,12 @@ pub fn decimal_mesh(
     requires step { IsStep step.now }
     requires corners { list_all (has_corners (length corners.now)) triangles.now ≡ true }
     requires places { places ≤ 17 }
-    ensures mesh { IfOk result (λ written. IsMeshOf
-        (decimal_triangles places step.now offset.now corners.now triangles.now) written.mesh) }
-    ensures planes { IfOk result (λ written. written.planes.items ≡
-        decimal_planes places step.now offset.now corners.now triangles.now) }
-    ensures origins { IfOk result (λ written. written.origins.items ≡
-        decimal_origins places step.now offset.now corners.now triangles.now) }
+    ensures mesh { IfOk result
+        (HasDecimalTriangles places step.now offset.now corners.now triangles.now) }
+    ensures planes { IfOk result
+        (HasDecimalPlanes places step.now offset.now corners.now triangles.now) }
+    ensures origins { IfOk result
+        (HasDecimalOrigins places step.now offset.now corners.now triangles.now) }
     ensures fault { IfErr result (IsDecimalFault step.now offset.now corners.now) }
 {
     let points = decimal_points(alloc, corners, step, offset, places)?;

@@ -3,7 +3,7 @@ ghost use Rattle.std.specs.Prelude.{◌≡◌, ◌↔◌, ◌≤◌, ◌++◌, E
 ghost use Rattle.mesh_grid.specs.Snap.Steps.{IsStep};
 ghost use Rattle.mesh_written.specs.declared.fault.PlaceFault.TheVariants.{TooFar};
 ghost use Rattle.mesh_written.specs.Places.{place_of};
-ghost use Rattle.mesh_written.specs.Decimals.{decimal_of, IsTooLong};
+ghost use Rattle.mesh_written.specs.Decimals.{place_text, IsTooLong};
 
 use crate::fault::PlaceFault;
 use crate::places::exact_place;
@@ -34,7 +34,7 @@ pub fn put_place(
     ensures far { result ≡ Err TooFar ↔ IsTooLong (place_of step.now offset.now axis corner.now) }
     ensures unchanged { result ≡ Err TooFar → out.new.items ≡ out.old.items }
     ensures text { OnOk result (out.new.items ≡
-        out.old.items ++ decimal_of (place_of step.now offset.now axis corner.now) places) }
+        out.old.items ++ place_text step.now offset.now axis corner.now places) }
 {
     let place = exact_place(corner, axis, step, offset);
     let limit = Magnitude::product(place.denominator, LIMIT);

@@ -1,8 +1,8 @@
 // Edges of more than two triangles.
-ghost use Rattle.std.specs.Prelude.{◌≡◌, ◌∷◌, [], ◌++◌, not, List, IfOk, OnOk};
-ghost use Rattle.mesh_written.specs.declared.shared.EdgeKey.{EdgeKey};
+ghost use Rattle.std.specs.Prelude.{◌≡◌, ◌∷◌, [], not, IfOk, OnOk};
+ghost use Rattle.mesh_written.specs.Noting.{NotesKeys};
 ghost use Rattle.mesh_written.specs.Closed.{positions_of, AreWrittenClosed};
-ghost use Rattle.mesh_written.specs.Shared.{is_lower, key_between, same_ends, has_key, with_key, rising, rising_edges, AreNoted, IsSharedCount};
+ghost use Rattle.mesh_written.specs.Shared.{is_lower, key_between, same_ends, has_key, with_key, rising, rising_edges, IsSharedCount};
 
 use indexmap::IndexSet;
 use mesh_write::{FloatPoint, FloatTriangle};
@@ -77,9 +77,7 @@ impl Edges {
 
     // Notes an edge.
     fn add(&mut self, key: EdgeKey) -> Result<(), AllocError>
-        ensures { OnOk result ((keys : List EdgeKey) →
-            AreNoted same_ends keys self.old.once.keys self.old.again.keys →
-            AreNoted same_ends (keys ++ key ∷ []) self.new.once.keys self.new.again.keys) }
+        ensures { OnOk result (NotesKeys (key ∷ []) self.old self.new) }
     {
         let is_new = put(&mut self.once, key)?;
         if is_new {
@@ -90,10 +88,7 @@ impl Edges {
 
     // Notes an edge if its start comes before its end.
     fn add_rising(&mut self, from: &FloatPoint, to: &FloatPoint) -> Result<(), AllocError>
-        ensures { OnOk result ((keys : List EdgeKey) →
-            AreNoted same_ends keys self.old.once.keys self.old.again.keys →
-            AreNoted same_ends (keys ++ rising is_lower key_between from.now to.now)
-            self.new.once.keys self.new.again.keys) }
+        ensures { OnOk result (NotesKeys (rising is_lower key_between from.now to.now) self.old self.new) }
     {
         if is_lower(from, to) {
             return self.add(key_between(from, to));
@@ -103,10 +98,8 @@ impl Edges {
 
     // Notes those edges of the triangle whose start comes before their end.
     fn add_triangle(&mut self, t: &FloatTriangle) -> Result<(), AllocError>
-        ensures { OnOk result ((keys : List EdgeKey) →
-            AreNoted same_ends keys self.old.once.keys self.old.again.keys →
-            AreNoted same_ends (keys ++ rising_edges is_lower key_between (positions_of t.now ∷ []))
-            self.new.once.keys self.new.again.keys) }
+        ensures { OnOk result
+            (NotesKeys (rising_edges is_lower key_between (positions_of t.now ∷ [])) self.old self.new) }
     {
         self.add_rising(&t.a, &t.b)?;
         self.add_rising(&t.b, &t.c)?;

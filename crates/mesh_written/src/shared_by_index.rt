@@ -1,8 +1,8 @@
 // Edges of more than two triangles over vertices.
-ghost use Rattle.std.specs.Prelude.{◌≡◌, ◌∷◌, [], ◌++◌, nat_lt, not, List, IfOk, OnOk};
-ghost use Rattle.mesh_written.specs.declared.shared_by_index.IndexEdge.{IndexEdge};
+ghost use Rattle.std.specs.Prelude.{◌≡◌, ◌∷◌, [], nat_lt, not, IfOk, OnOk};
+ghost use Rattle.mesh_written.specs.Noting.{NotesEdges};
 ghost use Rattle.mesh_written.specs.Closed.{indices_of, AreIndicesClosed};
-ghost use Rattle.mesh_written.specs.Shared.{index_edge, same_edge, has_key, with_key, rising, rising_edges, AreNoted, IsSharedIndexCount};
+ghost use Rattle.mesh_written.specs.Shared.{index_edge, same_edge, has_key, with_key, rising, rising_edges, IsSharedIndexCount};
 
 use indexmap::IndexSet;
 use mesh_write::IndexedTriangle;
@@ -53,9 +53,7 @@ impl IndexEdges {
 
     // Notes an edge.
     fn add(&mut self, edge: IndexEdge) -> Result<(), AllocError>
-        ensures { OnOk result ((edges : List IndexEdge) →
-            AreNoted same_edge edges self.old.once.keys self.old.again.keys →
-            AreNoted same_edge (edges ++ edge ∷ []) self.new.once.keys self.new.again.keys) }
+        ensures { OnOk result (NotesEdges (edge ∷ []) self.old self.new) }
     {
         let is_new = put(&mut self.once, edge)?;
         if is_new {
@@ -66,10 +64,7 @@ impl IndexEdges {
 
     // Notes an edge if its start comes before its end.
     fn add_rising(&mut self, from: usize, to: usize) -> Result<(), AllocError>
-        ensures { OnOk result ((edges : List IndexEdge) →
-            AreNoted same_edge edges self.old.once.keys self.old.again.keys →
-            AreNoted same_edge (edges ++ rising nat_lt index_edge from to)
-            self.new.once.keys self.new.again.keys) }
+        ensures { OnOk result (NotesEdges (rising nat_lt index_edge from to) self.old self.new) }
     {
         if from < to {
             return self.add(IndexEdge { from, to });
@@ -79,10 +74,8 @@ impl IndexEdges {
 
     // Notes those edges of the triangle whose start comes before their end.
     fn add_triangle(&mut self, t: &IndexedTriangle) -> Result<(), AllocError>
-        ensures { OnOk result ((edges : List IndexEdge) →
-            AreNoted same_edge edges self.old.once.keys self.old.again.keys →
-            AreNoted same_edge (edges ++ rising_edges nat_lt index_edge (indices_of t.now ∷ []))
-            self.new.once.keys self.new.again.keys) }
+        ensures { OnOk result
+            (NotesEdges (rising_edges nat_lt index_edge (indices_of t.now ∷ [])) self.old self.new) }
     {
         self.add_rising(t.a, t.b)?;
         self.add_rising(t.b, t.c)?;

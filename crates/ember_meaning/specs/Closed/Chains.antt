@@ -1,6 +1,6 @@
 -- Directed edges, and closed lists of them
 use Rattle.std.specs.Prelude.{◌≡◌, ℕ, ℤ, pos, ◌-ℤ◌, ◌<ℤ◌, Bool, false, not, ◌&&◌, cond}
-use Rattle.std.specs.Prelude.{if◌then◌else◌, List, [], ◌∷◌}
+use Rattle.std.specs.Prelude.{if◌then◌else◌, List, [], ◌∷◌, map}
 use Rattle.std.specs.List.{AllByRecursion, count_by, flat_map}
 use Rattle.ember_algebra.specs.Vector.{Vector, dot, cross}
 use Rattle.ember_algebra.specs.Sign.{is_negative, is_zero, is_positive}
@@ -111,6 +111,10 @@ directed_edges (e ∷ es) = edges_to e.start (e ∷ es)
 abbrev pub IsClosedSurface : List WrittenFace → Type 0
 IsClosedSurface ws = IsClosed (flat_map (λ w. directed_edges w.edges) ws)
 
+-- each piece of them is led over as often one way as the other
+abbrev pub HavePairedPieces : List WrittenFace → Type 0
+HavePairedPieces ws = ArePiecesPaired (flat_map (λ w. directed_edges w.edges) ws)
+
 -- the face with the edge planes of its written edges. `face_in` of ember_reread and `written_face` of
 -- ember_verdict are the
 -- same map
@@ -121,7 +125,15 @@ face_from w = face_of_edges w.support w.edges
 abbrev pub IsOutlined : WrittenFace → Type 0
 IsOutlined w = IsOutline (face_from w) w.edges
 
+-- so are those of each of these faces
+abbrev pub AreOutlined : List WrittenFace → Type 0
+AreOutlined ws = AllByRecursion IsOutlined ws
+
 -- at each point that is clear of the triangles and of the faces, the faces wind alike along all axes
 abbrev pub AxesAgreeOffScene : List Tri → List Face → Type 0
 AxesAgreeOffScene ts fs =
     (a b : Axis) (p : Spot) → pos 0 <ℤ p.w → AreClear (faces_of ts) p → AreClear fs p → wind a fs p ≡ wind b fs p
+
+-- the same of the faces of written edges
+abbrev pub AgreeOffScene : List Tri → List WrittenFace → Type 0
+AgreeOffScene ts ws = AxesAgreeOffScene ts (map face_from ws)

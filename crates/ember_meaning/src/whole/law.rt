@@ -1,14 +1,11 @@
 // The laws of whole triangles in place of written regions.
-ghost use Rattle.std.specs.Prelude.{List, map};
-ghost use Rattle.std.specs.List.{AllByRecursion};
+ghost use Rattle.std.specs.Prelude.{List};
 ghost use Rattle.ember_model.specs.declared.tri.Tri.{Tri};
-ghost use Rattle.ember_model.specs.FaceFiles.{WrittenFace};
-ghost use Rattle.ember_model.specs.Meshes.{IsScene};
 ghost use Rattle.ember_expr.specs.Formula.{Formula};
 ghost use Rattle.ember_leaf.specs.KeptRegions.{NarrowKept as Kept};
 ghost use Rattle.ember_leaf.specs.Scenes.{IsWritten};
-ghost use Rattle.ember_meaning.specs.Closed.Chains.{face_from, IsClosedSurface, IsOutlined};
-ghost use Rattle.ember_meaning.specs.Regions.Meaning.{HaveMeaning, IsFalseOutside};
+ghost use Rattle.ember_meaning.specs.Closed.Chains.{IsClosedSurface};
+ghost use Rattle.ember_meaning.specs.Regions.All.{AllWithMeaning, AllWrittenRegions};
 ghost use Rattle.ember_meaning.specs.Whole.Written.{AreFragments, WholeFacesHaveMeaning};
 
 /// The faces of the written regions of a scene are fragments of its triangles, and near every point
@@ -21,13 +18,12 @@ pub fn written_regions_are_fragments()
 /// triangles that no other one touches, and add for each of these on whose two sides the expression
 /// differs its face, with the front where it is false. The faces have the meaning of the expression.
 pub fn whole_faces_keep_the_meaning()
-    ensures { (scene : List Tri) (f : Formula) (ks : List Kept) → IsScene scene 64 → IsWritten scene f ks →
-        IsFalseOutside f → (are : AreFragments scene ks) → WholeFacesHaveMeaning scene f are.fragments }
+    ensures { AllWrittenRegions (λ ts f ks.
+        (are : AreFragments ts ks) → WholeFacesHaveMeaning ts f are.fragments) }
 {}
 
 /// Let the written edges of each face be its outline, and let the faces have the meaning of an
 /// expression over a scene. Then they are a closed surface.
 pub fn faces_with_a_meaning_are_closed()
-    ensures { (scene : List Tri) (f : Formula) (ws : List WrittenFace) → AllByRecursion IsOutlined ws →
-        HaveMeaning scene f (map face_from ws) → IsClosedSurface ws }
+    ensures { AllWithMeaning (λ ts f ws. IsClosedSurface ws) }
 {}

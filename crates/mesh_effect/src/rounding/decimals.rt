@@ -1,12 +1,11 @@
 // Moves of corners that are written as decimals.
-ghost use Rattle.std.specs.Prelude.{◌≡◌, ◌*◌, ◌^◌, ◌<◌, ◌≤◌, map, IfSome, IfOk, IfErr, MatchOption};
+ghost use Rattle.std.specs.Prelude.{◌≡◌, ◌*◌, ◌^◌, ◌<◌, ◌≤◌, map, IfSome, IfOk, IfErr};
 ghost use Rattle.ember_wide.specs.Whole.{size_of};
-ghost use Rattle.mesh_number.specs.Float.Binary32.{distance};
 ghost use Rattle.mesh_grid.specs.Snap.Steps.{IsStep};
 ghost use Rattle.mesh_written.specs.Places.{fraction_of, place_of};
-ghost use Rattle.mesh_written.specs.Decimals.{IsTooLong, IsFarPoint, IsDecimalFault};
-ghost use Rattle.mesh_effect.specs.Rounding.Ticks.{ticks_between, decimal_tick};
-ghost use Rattle.mesh_effect.specs.Rounding.Squares.{decimal_number, decimal_square};
+ghost use Rattle.mesh_written.specs.Decimals.{IsDecimalFault};
+ghost use Rattle.mesh_effect.specs.Rounding.Given.{AreDecimalTicks, IsDecimalSquare, decimal_error};
+ghost use Rattle.mesh_effect.specs.Rounding.Squares.{decimal_square};
 
 use crate::rounding::squares::sum_of_squares;
 use crate::rounding::ticks::ticks;
@@ -26,8 +25,7 @@ const LIMIT: u128 = 1_000_000_000_000_000_000_000;
 fn error_of(number: &Ratio, places: u32) -> u128
     requires places { places ≤ 17 }
     requires short { size_of number.now.numerator.size < number.now.denominator * 10 ^ 21 }
-    ensures value { let v = fraction_of number.now in
-        result ≡ distance v.numerator v.denominator (decimal_number places v) }
+    ensures value { result ≡ decimal_error places (fraction_of number.now) }
     ensures small { result ≤ number.now.denominator }
 {
     let unit = 10u64.pow(places);
@@ -47,9 +45,7 @@ fn decimal_ticks(
 ) -> Option<u128>
     requires step { IsStep step.now }
     requires places { places ≤ 17 }
-    ensures ticks { MatchOption result (IsTooLong (place_of step.now offset.now axis corner.now)) (λ ticks.
-        let v = place_of step.now offset.now axis corner.now in
-        ticks ≡ ticks_between (decimal_tick places) v (decimal_number places v)) }
+    ensures ticks { AreDecimalTicks places (place_of step.now offset.now axis corner.now) result }
     ensures few { IfSome result (λ ticks. ticks ≤ 2 ^ 62) }
 {
     let place = exact_place(corner, axis, step, offset);
@@ -70,8 +66,7 @@ fn decimal_square(
 ) -> Option<u128>
     requires step { IsStep step.now }
     requires places { places ≤ 17 }
-    ensures { MatchOption result (IsFarPoint step.now offset.now corner.now)
-        (λ square. square ≡ decimal_square places step.now offset.now corner.now) }
+    ensures { IsDecimalSquare places step.now offset.now corner.now result }
 {
     let x = decimal_ticks(corner, Axis::X, step, offset, places)?;
     let y = decimal_ticks(corner, Axis::Y, step, offset, places)?;

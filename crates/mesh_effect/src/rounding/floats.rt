@@ -1,15 +1,13 @@
 // Moves of corners that are written as floats.
-ghost use Rattle.std.specs.Prelude.{◌≡◌, ◌+◌, ◌-◌, ◌*◌, ◌^◌, ◌<◌, ◌≤◌, min, IfSome, IfOk, IfErr, MatchOption};
-ghost use Rattle.ember_wide.specs.Whole.{size_of, value_of};
-ghost use Rattle.mesh_number.specs.Float.Binary32.{distance};
+ghost use Rattle.std.specs.Prelude.{◌≡◌, ◌+◌, ◌-◌, ◌*◌, ◌^◌, ◌<◌, ◌≤◌, min, IfSome, IfOk, IfErr};
+ghost use Rattle.ember_wide.specs.Whole.{size_of};
 ghost use Rattle.mesh_grid.specs.Snap.Steps.{IsStep};
 ghost use Rattle.mesh_written.specs.Places.{fraction_of, place_of};
-ghost use Rattle.mesh_written.specs.Floats.{IsFloatOf, IsInfinite, IsFloatPoint, IsTooFar};
+ghost use Rattle.mesh_written.specs.Floats.{IsFloatOf, IsFloatPoint};
 ghost use Rattle.mesh_written.specs.Floats.{AreFloatPoints, IsFloatFault};
-ghost use Rattle.mesh_effect.specs.Rounding.Ticks.{ticks_between, power_tick};
-ghost use Rattle.mesh_effect.specs.Rounding.Floats.{float_number, significand_of, last_place, point_place, top_place};
+ghost use Rattle.mesh_effect.specs.Rounding.Given.{AreFloatSquares, AreFloatTicks, IsFloatSquare, float_error};
+ghost use Rattle.mesh_effect.specs.Rounding.Floats.{significand_of, last_place, point_place, top_place};
 ghost use Rattle.mesh_effect.specs.Rounding.Maximum.{greatest_of};
-ghost use Rattle.mesh_effect.specs.Rounding.Squares.{float_square, float_squares};
 
 use crate::rounding::squares::sum_of_squares;
 use crate::rounding::ticks::moved_ticks;
@@ -114,7 +112,7 @@ fn error_of(number: &Ratio, bits: u32) -> Magnitude
     requires below { size_of number.now.numerator.size < (2 ^ 128 - 2 ^ 103) * number.now.denominator }
     requires float { IsFloatOf (fraction_of number.now) bits }
     ensures { size_of result * 2 ^ min (last_place bits) 149 ≡
-        distance (value_of number.now.numerator) number.now.denominator (float_number bits) }
+        float_error number.now bits }
 {
     let behind = UNIT.saturating_sub(last_place(bits));
     let exact = Wide {
@@ -143,8 +141,7 @@ fn float_ticks(
     requires float { IsFloatOf (place_of step.now offset.now axis corner.now) bits }
     requires place { last_place bits ≤ top }
     requires top { top ≤ 254 }
-    ensures ticks { MatchOption result (IsInfinite (place_of step.now offset.now axis corner.now)) (λ ticks.
-        ticks ≡ ticks_between (power_tick top) (place_of step.now offset.now axis corner.now) (float_number bits)) }
+    ensures ticks { AreFloatTicks top bits (place_of step.now offset.now axis corner.now) result }
     ensures few { IfSome result (λ ticks. ticks ≤ 2 ^ 62) }
 {
     let place = exact_place(corner, axis, step, offset);
@@ -169,8 +166,7 @@ fn float_square(
     requires point { IsFloatPoint step.now offset.now corner.now point.now }
     requires place { point_place point.now ≤ top }
     requires top { top ≤ 254 }
-    ensures { MatchOption result (IsTooFar step.now offset.now corner.now)
-        (λ square. square ≡ float_square (power_tick top) step.now offset.now corner.now point.now) }
+    ensures { IsFloatSquare top step.now offset.now corner.now point.now result }
 {
     let x = float_ticks(corner, Axis::X, point.x, step, offset, top)?;
     let y = float_ticks(corner, Axis::Y, point.y, step, offset, top)?;
@@ -191,8 +187,8 @@ pub(crate) fn float_squares(
     requires points { AreFloatPoints step.now offset.now corners.now points.now }
     requires place { top_place points.now ≤ top }
     requires top { top ≤ 254 }
-    ensures squares { IfOk result (λ squares. squares.items ≡
-        float_squares (power_tick top) step.now offset.now corners.now points.now) }
+    ensures squares { IfOk result
+        (AreFloatSquares top step.now offset.now corners.now points.now) }
     ensures fault { IfErr result (IsFloatFault step.now offset.now corners.now) }
 {
     let mut squares = Vec::with_capacity(alloc, corners.len())?;

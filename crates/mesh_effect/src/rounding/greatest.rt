@@ -1,10 +1,9 @@
 // The greatest move of a corner.
-ghost use Rattle.std.specs.Prelude.{◌≡◌, ◌≤◌, IfOk, IfErr};
+ghost use Rattle.std.specs.Prelude.{◌≤◌, IfOk, IfErr};
 ghost use Rattle.mesh_grid.specs.Snap.Steps.{IsStep};
 ghost use Rattle.mesh_written.specs.Floats.{AreFloatPoints, IsFloatFault};
 ghost use Rattle.mesh_written.specs.Decimals.{IsDecimalFault};
-ghost use Rattle.mesh_effect.specs.Rounding.Shown.{rounded_of};
-ghost use Rattle.mesh_effect.specs.Rounding.Greatest.{greatest_float_move, greatest_decimal_move};
+ghost use Rattle.mesh_effect.specs.Rounding.Given.{IsGreatestDecimalMove, IsGreatestFloatMove};
 
 use crate::rounding::decimals::decimal_squares;
 use crate::rounding::floats::{float_squares, top_place};
@@ -34,8 +33,8 @@ pub fn greatest_float_move(
 ) -> Result<Move, PlaceFault>
     requires step { IsStep step.now }
     requires points { AreFloatPoints step.now offset.now corners.now points.now }
-    ensures moved { IfOk result (λ m.
-        rounded_of m ≡ greatest_float_move step.now offset.now corners.now points.now triangles.now) }
+    ensures moved { IfOk result
+        (IsGreatestFloatMove step.now offset.now corners.now points.now triangles.now) }
     ensures fault { IfErr result (IsFloatFault step.now offset.now corners.now) }
 {
     let top = top_place(points);
@@ -58,8 +57,8 @@ pub fn greatest_decimal_move(
 ) -> Result<Move, PlaceFault>
     requires step { IsStep step.now }
     requires places { places ≤ 17 }
-    ensures moved { IfOk result (λ m.
-        rounded_of m ≡ greatest_decimal_move places step.now offset.now corners.now triangles.now) }
+    ensures moved { IfOk result
+        (IsGreatestDecimalMove places step.now offset.now corners.now triangles.now) }
     ensures fault { IfErr result (IsDecimalFault step.now offset.now corners.now) }
 {
     let squares = decimal_squares(alloc, corners, step, offset, places)?;

@@ -1,11 +1,15 @@
 -- Faces of one plane that overlap
-use Rattle.std.specs.Prelude.{◌≡◌, ◌≢◌, ℕ, Bool, false, not, ◌||◌, List, Some, slice_get}
+use Rattle.std.specs.Prelude.{◌≡◌, ◌≢◌, ℕ, Bool, true, false, not, ◌||◌, List, Some, slice_get}
 use Rattle.std.specs.List.{list_all, list_any}
 use Rattle.ember_algebra.specs.Sign.{is_negative}
 use Rattle.ember_model.specs.declared.plane.Plane.{Plane}
+use Rattle.ember_model.specs.declared.point.Spot.{Spot}
+use Rattle.ember_meaning.specs.Closed.Chains.{face_from}
 use Rattle.ember_model.specs.FaceFiles.{WrittenFace}
+use Rattle.ember_model.specs.Faces.{is_inside}
 use Rattle.ember_model.specs.Planes.{value_at}
 use Rattle.mesh_certificate.specs.Key.PlaneKeys.{IsSameOriented}
+use Rattle.mesh_solid.specs.Outline.Rounds.{IsRound}
 
 -- no corner of the face is behind the plane
 abbrev pub is_beyond : Plane → WrittenFace → Bool
@@ -19,6 +23,11 @@ has_outer v w = list_any (λ e. is_beyond e.plane w) v.edges
 -- so exactly if they have no inside point in common, by the theorem of the separating axis; one half is a law
 abbrev pub are_apart : WrittenFace → WrittenFace → Bool
 are_apart v w = has_outer v w || has_outer w v
+
+-- the edges of the face lead around it, and p is an inside point
+pub record IsRoundAbout (v : WrittenFace) (p : Spot) : Type 0 where
+  pub round : IsRound v
+  pub inside : is_inside (face_from v) p ≡ true
 
 -- the faces i and j lie in one plane with one front, and aren't apart
 pub record Overlap (ws : List WrittenFace) (i j : ℕ) : Type 0 where

@@ -15,6 +15,11 @@ abbrev pub last_or : Plane → List Plane → Plane
 last_or p [] = p
 last_or p (e ∷ es) = last_or e es
 
+-- an edge with its neighbours
+abbrev pub face_edge : ℕ → Plane → Plane → Plane → Plane → FaceEdge
+face_edge face support before plane after =
+    record { face = face; support = support; before = before; plane = plane; after = after }
+
 -- those of a face's edges that are after the edge `before`; after the last one comes the first
 abbrev pub edges_behind : ℕ → Plane → Plane → Plane → List Plane → List FaceEdge
 edges_behind face n first before [] = []

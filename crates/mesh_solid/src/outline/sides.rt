@@ -6,6 +6,7 @@ ghost use Rattle.ember_model.specs.Planes.{value_at};
 ghost use Rattle.ember_model.specs.Valid.{IsValidPlane};
 ghost use Rattle.ember_point.specs.Points.{spot_of};
 ghost use Rattle.ember_reread.specs.declared.cornered_face.CorneredEdge.{CorneredEdge};
+ghost use Rattle.mesh_solid.specs.Outline.Sides.{start_on};
 
 use ember_algebra::Sign;
 use ember_model::Plane;
@@ -22,8 +23,7 @@ pub fn is_on(plane: &Plane, corner: &Meet) -> bool
 
 /// Whether all corners of the face are on its plane.
 pub fn are_on_face(face: &CorneredFace) -> bool
-    ensures { result ≡ list_all (λ (e : CorneredEdge). is_zero (value_at face.now.support (spot_of e.start)))
-        face.now.edges.items }
+    ensures { result ≡ start_on face.now.support face.now.edges.items }
 {
     face.edges
         .iter()

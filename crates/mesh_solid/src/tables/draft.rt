@@ -1,13 +1,16 @@
 // Tables of some edges.
+<<<<<<< ours
 ghost use Rattle.std.specs.Prelude.{◌≡◌, ◌+◌, ◌≤◌, [], ◌∷◌, ◌++◌, List, length, All, IfOk, IfErr, OnOk};
 ghost use Rattle.ember_width.specs.Broad.{IsBroadPlane};
 ghost use Rattle.mesh_certificate.specs.Key.PlaneKeys.{IsPlaneKey};
+=======
+ghost use Rattle.std.specs.Prelude.{◌≡◌, ◌+◌, ◌≤◌, [], length, All, IfOk, IfErr, OnOk};
+ghost use Rattle.ember_model.specs.Valid.{IsValidPlane};
+>>>>>>> theirs
 ghost use Rattle.mesh_certificate.specs.Certificate.Facing.{spot_of};
-ghost use Rattle.mesh_solid.specs.declared.tables.face_edge.FaceEdge.{FaceEdge};
-ghost use Rattle.mesh_solid.specs.Tables.Edges.{edges_round};
 ghost use Rattle.mesh_solid.specs.Tables.Numberings.{HasEntry};
-ghost use Rattle.mesh_solid.specs.Tables.Tables.{IsCorner, IsKeyed, IsFault};
-ghost use Rattle.mesh_solid.specs.Tables.Drafts.{planes_in, IsDraft, IsDraftBefore, HasFew, HasRoom};
+ghost use Rattle.mesh_solid.specs.Tables.Tables.{IsFault};
+ghost use Rattle.mesh_solid.specs.Tables.Drafts.{planes_in, IsDraft, IsDraftBefore, HasFew, HasRoom, IfEdge, IfFace, IfMore};
 
 use crate::tables::face_edge::{FaceEdge, first_or, last_or};
 use crate::tables::fault::TableFault;
@@ -50,18 +53,15 @@ impl TableBuilder {
     // is one too many. Returns the number of the corner in which it ends.
     fn push(&mut self, plane: u32, start: u32, keyed: &Keyed) -> Result<u32, TableFault>
         requires { HasRoom self.old }
-        ensures ok { (all rest : List FaceEdge) (edge : FaceEdge) → IsDraftBefore all (edge ∷ rest) self.old →
-            IsKeyed edge keyed.now → HasEntry (planes_in self.old) plane (IsPlaneKey edge.support) →
-            HasEntry self.old.corners.keys start (λ c. IsCorner edge.support edge.before edge.plane (spot_of c)) →
-            OnOk result (IsDraftBefore all rest self.new) }
+        ensures ok { IfEdge self.old plane start keyed.now (λ all rest.
+            OnOk result (IsDraftBefore all rest self.new)) }
         ensures end { IfOk result (λ n. HasEntry self.new.corners.keys n (λ c. spot_of c ≡ spot_of keyed.now.end)) }
         ensures planes { OnOk result (self.new.planes ≡ self.old.planes) }
         ensures lines { OnOk result (length self.new.lines.keys ≤ length self.old.lines.keys + 1) }
         ensures corners { OnOk result (length self.new.corners.keys ≤ length self.old.corners.keys + 1) }
         ensures segments { OnOk result (length self.new.segments.items ≡ length self.old.segments.items + 1) }
         ensures fits { OnOk result (length self.new.segments.items ≤ 2147483647) }
-        ensures fault { (all rest : List FaceEdge) (edge : FaceEdge) → IsDraftBefore all (edge ∷ rest) self.old →
-            IfErr result (λ e. IsFault all e) }
+        ensures fault { IfMore self.old (λ all. IfErr result (λ e. IsFault all e)) }
     {
         if self.segments.len() >= MOST_EDGES {
             return Err(TableFault::TooMany);
@@ -87,13 +87,11 @@ impl TableBuilder {
         requires support { IsBroadPlane support.now }
         requires edges { All IsBroadPlane edges.now }
         requires few { HasFew self.old }
-        ensures ok { (all more : List FaceEdge) →
-            IsDraftBefore all (edges_round face support.now edges.now ++ more) self.old →
-            OnOk result (IsDraftBefore all more self.new) }
+        ensures ok { IfFace self.old face support.now edges.now (λ all more.
+            OnOk result (IsDraftBefore all more self.new)) }
         ensures few { OnOk result (HasFew self.new) }
-        ensures fault { (all more : List FaceEdge) →
-            IsDraftBefore all (edges_round face support.now edges.now ++ more) self.old →
-            IfErr result (λ e. IsFault all e) }
+        ensures fault { IfFace self.old face support.now edges.now (λ all more.
+            IfErr result (λ e. IsFault all e)) }
     {
         let Some((first, others)) = edges.split_first() else {
             return Ok(());

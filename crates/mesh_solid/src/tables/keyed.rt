@@ -3,7 +3,11 @@ ghost use Rattle.std.specs.Prelude.{IfOk, IfErr};
 ghost use Rattle.ember_model.specs.declared.plane.Plane.{Plane};
 ghost use Rattle.ember_width.specs.Broad.{IsBroadPlane};
 ghost use Rattle.mesh_certificate.specs.Certificate.Facing.{spot_of};
+<<<<<<< ours
 ghost use Rattle.mesh_solid.specs.Tables.Edges.{IsBroadEdge};
+=======
+ghost use Rattle.mesh_solid.specs.Tables.Edges.{IsValidEdge, face_edge};
+>>>>>>> theirs
 ghost use Rattle.mesh_solid.specs.Tables.Tables.{IsCorner, IsKeyed, IsEdgeFault};
 
 use crate::tables::corner::corner_of;
@@ -32,8 +36,8 @@ pub fn start_of(
     requires before { IsBroadPlane before.now }
     requires plane { IsBroadPlane plane.now }
     ensures ok { IfOk result (λ c. IsCorner support.now before.now plane.now (spot_of c)) }
-    ensures fault { (after : Plane) → IfErr result (λ e. IsEdgeFault
-        (record { face = face; support = support.now; before = before.now; plane = plane.now; after = after }) e) }
+    ensures fault { (after : Plane) →
+        IfErr result (IsEdgeFault (face_edge face support.now before.now plane.now after)) }
 {
     if let Some(start) = corner_of(support, before, plane) {
         return Ok(start);

@@ -6,7 +6,9 @@ pub returns-in-Ok : goal.returns-in-Ok
 returns-in-Ok g c =
     let e = c.in-Ok.ensures in let w = c.write_output-status.ensures in
     replied_call_serves _ _ _ _ _ c.in-Ok.reply _ _ e.contents e.later w.out_later e.reply
-    c.deref.ensures.value c.deref-in-Ok.ensures.value w.done w.write_fault w.either c.say_status.ensures
+    c.deref.ensures.value c.deref-in-Ok.ensures.value
+    (λ d. let all = w.done d in (all.taken, all.flushed)) (λ f. let some = w.write_fault f in (some.failed, some.prefix))
+    w.either c.say_status.ensures
 
 pub returns-in-Err : goal.returns-in-Err
 returns-in-Err g c =

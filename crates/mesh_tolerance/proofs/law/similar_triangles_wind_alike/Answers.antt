@@ -2,7 +2,7 @@ use Rattle.mesh_tolerance.proofs.SimilarTriangles.{winds_as_placed, clear_as_pla
 use Rattle.mesh_tolerance.proofs.law.similar_triangles_wind_alike.Goals as goal
 
 pub returns-clause-alike : goal.returns-clause-alike
-returns-clause-alike c = λ n m o ts pn pm weights. winds_as_placed n m o pn pm ts weights
+returns-clause-alike c = λ ts weights n m o pn pm. winds_as_placed n m o pn pm ts weights
 
 pub returns-clause-clear : goal.returns-clause-clear
-returns-clause-clear c = λ n m o ts pn pm. clear_as_placed n m o pn pm ts
+returns-clause-clear c = λ ts n m o pn pm. clear_as_placed n m o pn pm ts

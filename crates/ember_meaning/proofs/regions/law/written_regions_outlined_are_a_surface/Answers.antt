@@ -6,4 +6,4 @@ pub returns : goal.returns
 returns g c =
     let w = g.met.W.Width in
     let holds = subst (λ u. pos g.W.Width.corner <ℤ (pos 2048 *ℤ u)) w.unit_is w.holds in
-    λ scene f ks faces v r o a. outlines_are_a_surface g.W.Width g.W.Width.scale g.W.Width.corner holds scene f ks faces v r o a
+    λ scene v f ks faces r o a. outlines_are_a_surface g.W.Width g.W.Width.scale g.W.Width.corner holds scene f ks faces v r o a
