@@ -1,8 +1,8 @@
 -- Texts cut at a byte
-use Rattle.std.proofs.Common.{◌≡◌, ℕ, ◌==◌, Bool, true, false, List, [], ◌∷◌, ◌++◌, refl, sym, ap, ◌∙◌, if◌then◌else◌, map, length, arith, suc, ◌+◌}
+use Rattle.std.proofs.Common.{◌≡◌, ℕ, ◌==◌, Bool, true, false, List, [], ◌∷◌, ◌++◌, refl, sym, ap, ◌∙◌, if◌then◌else◌, map, length, arith, ◌+◌}
 use Rattle.std.proofs.Common.{Option, None, Some, Result, Ok, Err}
 use Rattle.std.proofs.lemmas.List.{map-append, append_assoc, append-nil, length-append}
-use Rattle.ember_obj.specs.Scan.{before, onward}
+use Rattle.ember_obj.specs.Scan.{onward}
 use Rattle.mesh_placing.specs.declared.words.TextFault.{TextFault}
 use Rattle.mesh_place.specs.declared.maps.steps.Step.{Step}
 use Rattle.mesh_placing.specs.Words.{Said, said_by, behind, behind_first, part_before, parts_by, onto_first, step_said, steps_in, before_others}

@@ -1,5 +1,5 @@
 -- Steps as text: move=X,Y,Z  scale=S  scale=X,Y,Z  turn=AXIS,DEGREES  mirror=AXIS, with semicolons between them
-use Rattle.std.specs.Prelude.{ℕ, ◌+◌, ◌*◌, ◌^◌, ◌==◌, Bool, ◌&&◌, nat_eq, nat_le, codes, if◌then◌else◌}
+use Rattle.std.specs.Prelude.{ℕ, ◌+◌, ◌^◌, ◌==◌, ◌&&◌, nat_eq, nat_le, codes, if◌then◌else◌}
 use Rattle.std.specs.Prelude.{List, [], ◌∷◌, length, drop, Option, None, Some, Result, Ok, Err, pos, unsigned_abs}
 use Rattle.std.specs.Int.{int_rem_euclid}
 use Rattle.std.specs.List.{starts_with}

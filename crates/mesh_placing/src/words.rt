@@ -42,7 +42,7 @@ impl<T: Drop> From<AllocFailed<T>> for TextFault {
 }
 
 // Trillionths in a degree, and in a full turn.
-const TRILLIONTHS: u64 = 1_000_000_000_000;
+pub(crate) const TRILLIONTHS: u64 = 1_000_000_000_000;
 
 const FULL_TURN: i128 = 360_000_000_000_000;
 
@@ -67,7 +67,7 @@ pub(crate) fn cut(text: &[u8], stop: u8) -> (&[u8], Option<&[u8]>)
 }
 
 // The text behind this head, if it begins with it.
-fn behind_head<'a>(text: &'a [u8], head: &[u8]) -> Option<&'a [u8]>
+pub(crate) fn behind_head<'a>(text: &'a [u8], head: &[u8]) -> Option<&'a [u8]>
     ensures { MatchOption result (behind_head head.now text.now ≡ None)
         (λ rest. behind_head head.now text.now ≡ Some rest.now) }
 {
@@ -136,7 +136,7 @@ fn is_coarse_two(power: u16) -> bool
 }
 
 // Whether the number has at most twelve decimal places.
-fn is_coarse(number: &Number) -> bool
+pub(crate) fn is_coarse(number: &Number) -> bool
     ensures { result ≡ nat_le (value_of number.now).denominator (10 ^ 12) }
 {
     match number {

@@ -1,6 +1,12 @@
 -- The line on standard error of words that are refused
+<<<<<<< ours
 use Rattle.std.specs.Prelude.{ℕ, ◌-◌, List, [], ◌++◌, length, codes, get_or, map, String, string_bytes}
 use Rattle.std.specs.declared.alloc.Global.{Global}
+=======
+use Rattle.std.specs.Prelude.{ℕ, ◌-◌, List, [], ◌++◌, length, codes, get_or}
+use Rattle.mesh_placing.specs.declared.shapes.ShapeWordFault.{ShapeWordFault}
+use Rattle.mesh_placing.specs.declared.shapes.ShapeWordFault.TheVariants as shape
+>>>>>>> theirs
 use Rattle.mesh_words.specs.declared.faults.Refusal.{Refusal}
 use Rattle.mesh_words.specs.declared.faults.Refusal.TheVariants as refusal
 use Rattle.mesh_words.specs.declared.names.Setting.{Setting}
@@ -26,9 +32,21 @@ foreign_text option command =
 abbrev pub value_text : Setting → List (List ℕ) → List ℕ
 value_text option words = option_of option ++ (codes " " ++ value_given option words)
 
+<<<<<<< ours
 -- a value of `--place` says no placing
 abbrev pub no_place_text : PlaceFault → List ℕ
 no_place_text fault = codes "--place: " ++ (place_text fault ++ codes "; see ember-mesh help")
+=======
+-- a name that begins as a shape says none
+abbrev pub shape_text : ShapeWordFault → List ℕ
+shape_text shape.NoBox = word_text (codes "box") (codes "not X,Y,Z,X,Y,Z with at most 12 decimal places")
+shape_text shape.NoCylinder =
+    word_text (codes "cylinder") (codes "not X,Y,Z,RADIUS,HEIGHT,SIDES with at most 12 decimal places")
+shape_text shape.Flat = word_text (codes "box") (codes "no volume")
+shape_text shape.Radius = word_text (codes "cylinder") (codes "the radius is not above 0")
+shape_text shape.Height = word_text (codes "cylinder") (codes "the height is 0")
+shape_text shape.Sides = word_text (codes "cylinder") (codes "not 3 to 4096 sides")
+>>>>>>> theirs
 
 -- why words are refused; word 0 is the name of the command
 abbrev pub refusal_text : List (List ℕ) → Refusal → List ℕ
@@ -39,6 +57,7 @@ refusal_text words refusal.NoValue = word_text (word_at words (length words - 1)
 refusal_text words refusal.NoFiles = codes "no files; see ember-mesh help"
 refusal_text words refusal.TooManyFiles = codes "more than 64 files; see ember-mesh help"
 refusal_text words refusal.SecondInput = word_text (codes "-") (codes "standard input is read once")
+refusal_text words (refusal.Shape fault) = shape_text fault
 refusal_text words refusal.NoExpression = word_text (codes "--expr") (codes "is missing")
 refusal_text words refusal.NeedlessExpression = word_text (codes "--expr") (codes "is for bool alone")
 refusal_text words (refusal.NotFor s) = foreign_text s (word_at words 0)

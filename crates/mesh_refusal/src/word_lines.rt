@@ -1,11 +1,18 @@
 // Why words are refused.
+<<<<<<< ours
 ghost use Rattle.std.specs.Prelude.{◌≡◌, ◌++◌, map, OnOk, string_bytes};
 ghost use Rattle.mesh_words.specs.declared.faults.Refusal.TheVariants.{NotAStep, OutputEnding, OverInput, OverOutput, PageEnding};
 ghost use Rattle.mesh_refusal.specs.WordLines.{foreign_text, no_place_text, refusal_text, value_text, why_refused, word_text, word_at};
+=======
+ghost use Rattle.std.specs.Prelude.{◌≡◌, ◌++◌, codes, map, OnOk, string_bytes};
+ghost use Rattle.mesh_words.specs.Given.{input_given, output_given, step_given};
+ghost use Rattle.mesh_refusal.specs.Placings.{place_text};
+ghost use Rattle.mesh_refusal.specs.WordLines.{foreign_text, refusal_text, shape_text, value_text, word_text, word_at};
+>>>>>>> theirs
 
 use crate::placings::put_place;
 use ember_model::OutOfMemory;
-use mesh_placing::PlaceFault;
+use mesh_placing::{PlaceFault, ShapeWordFault};
 use mesh_texts::put_value;
 use mesh_words::{Refusal, Setting, input_given, output_given, step_given, value_given};
 use std::alloc::Global;
@@ -17,6 +24,10 @@ const UNKNOWN_FORMAT: &[u8] = b"not one of stl, obj, ply, off and glb";
 const NOT_A_STEP: &[u8] = b": not a number above 0";
 
 const PAGE_ENDING: &[u8] = b": the name must end in .html or .htm";
+
+const NO_BOX: &[u8] = b"not X,Y,Z,X,Y,Z with at most 12 decimal places";
+
+const NO_CYLINDER: &[u8] = b"not X,Y,Z,RADIUS,HEIGHT,SIDES with at most 12 decimal places";
 
 // Appends why a word is refused.
 fn put_word(word: &[u8], why: &[u8], text: &mut Vec<u8>) -> Result<(), OutOfMemory>
@@ -143,6 +154,20 @@ fn put_no_place(fault: &PlaceFault, text: &mut Vec<u8>) -> Result<(), OutOfMemor
     text.extend_from_slice(b"; see ember-mesh help")
 }
 
+// Appends that a name that begins as a shape says none.
+fn put_no_shape(fault: ShapeWordFault, text: &mut Vec<u8>) -> Result<(), OutOfMemory>
+    ensures { OnOk result (text.new.items ≡ text.old.items ++ shape_text fault) }
+{
+    match fault {
+        ShapeWordFault::NoBox => put_word(b"box", NO_BOX, text),
+        ShapeWordFault::NoCylinder => put_word(b"cylinder", NO_CYLINDER, text),
+        ShapeWordFault::Flat => put_word(b"box", b"no volume", text),
+        ShapeWordFault::Radius => put_word(b"cylinder", b"the radius is not above 0", text),
+        ShapeWordFault::Height => put_word(b"cylinder", b"the height is 0", text),
+        ShapeWordFault::Sides => put_word(b"cylinder", b"not 3 to 4096 sides", text),
+    }
+}
+
 /// Appends why the words are refused.
 pub fn put_refusal(
     alloc: Global,
@@ -164,6 +189,7 @@ pub fn put_refusal(
         Refusal::NoFiles => text.extend_from_slice(b"no files; see ember-mesh help"),
         Refusal::TooManyFiles => text.extend_from_slice(b"more than 64 files; see ember-mesh help"),
         Refusal::SecondInput => put_word(b"-", b"standard input is read once", text),
+        Refusal::Shape(fault) => put_no_shape(fault, text),
         Refusal::NoExpression => put_word(b"--expr", b"is missing", text),
         Refusal::NeedlessExpression => put_word(b"--expr", b"is for bool alone", text),
         Refusal::NotFor(option) => put_foreign(option, word_at(words, 0), text),

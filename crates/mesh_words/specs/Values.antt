@@ -7,6 +7,8 @@ use Rattle.std.specs.Str.{bytes_eq, str_eq_ignore_ascii_case}
 use Rattle.mesh_number.specs.Number.Fractions.{Fraction}
 use Rattle.mesh_number.specs.Number.Naturals.{number_of, below}
 use Rattle.mesh_number.specs.Number.Texts.{value_of_text}
+use Rattle.mesh_placing.specs.declared.shapes.ShapeWordFault.{ShapeWordFault}
+use Rattle.mesh_placing.specs.ShapeWords.{first_shape_fault}
 use Rattle.mesh_words.specs.declared.command.Destination.{Destination}
 use Rattle.mesh_words.specs.declared.command.Destination.TheVariants as destination
 use Rattle.mesh_words.specs.declared.command.OutputFormat.{OutputFormat}
@@ -14,7 +16,7 @@ use Rattle.mesh_words.specs.declared.command.OutputFormat.TheVariants as format
 use Rattle.mesh_words.specs.declared.command.WantedStep.{WantedStep}
 use Rattle.mesh_words.specs.declared.command.WantedStep.TheVariants as step
 use Rattle.mesh_words.specs.declared.faults.Refusal.{Refusal}
-use Rattle.mesh_words.specs.declared.faults.Refusal.TheVariants.{NoFiles, TooManyFiles, SecondInput}
+use Rattle.mesh_words.specs.declared.faults.Refusal.TheVariants.{NoFiles, TooManyFiles, SecondInput, Shape}
 use Rattle.mesh_words.specs.declared.faults.Refusal.TheVariants.{NoExpression, NeedlessExpression}
 use Rattle.mesh_words.specs.declared.faults.Refusal.TheVariants.{NoFolder, NoOutput, OutputEnding}
 use Rattle.mesh_words.specs.declared.faults.Refusal.TheVariants.{NoFormat, NeedlessFormat, UnknownFormat}
@@ -22,13 +24,17 @@ use Rattle.mesh_words.specs.declared.faults.Refusal.TheVariants.{NotAStep, Worke
 use Rattle.mesh_words.specs.Names.{Text}
 use Rattle.mesh_words.specs.Streams.{is_stream, reads_twice}
 
--- 1 to 64 names, at most one of which is `-`
+abbrev pub unless_shape_fault : Option ShapeWordFault → List Text → Result (List Text) Refusal
+unless_shape_fault None names = Ok names
+unless_shape_fault (Some fault) names = Err (Shape fault)
+
+-- 1 to 64 names, at most one of which is `-`; each that begins as a shape says one
 abbrev pub files_of : List Text → Result (List Text) Refusal
 files_of [] = Err NoFiles
 files_of (name ∷ names) =
     if nat_lt 64 (length (name ∷ names)) then Err TooManyFiles
     else (if reads_twice (name ∷ names) then Err SecondInput
-    else Ok (name ∷ names))
+    else unless_shape_fault (first_shape_fault (name ∷ names)) (name ∷ names))
 
 -- the meshes 1 to n + 1 with the operator between them, as m1|m2|m3
 abbrev pub joined : Text → ℕ → Text

@@ -3,7 +3,7 @@ ghost use Rattle.std.specs.Prelude.{◌≡◌};
 ghost use Rattle.mesh_words.specs.declared.faults.WordsFault.TheVariants.{Refused, OutOfMemory};
 
 use crate::names::Setting;
-use mesh_placing::PlaceFault;
+use mesh_placing::{PlaceFault, ShapeWordFault};
 use std::alloc::{AllocError, AllocFailed};
 use thiserror::Error;
 
@@ -32,6 +32,9 @@ pub enum Refusal {
     /// Two of the inputs or more are `-`.
     #[error("-: standard input is read once; see ember-mesh help")]
     SecondInput,
+    /// The name of a file begins with `box:` or `cylinder:`, and says no shape.
+    #[error("{0}; see ember-mesh help")]
+    Shape(ShapeWordFault),
     /// `bool` has no `--expr`.
     #[error("--expr is missing; see ember-mesh help")]
     NoExpression,

@@ -15,10 +15,11 @@ use crate::streams::{is_stream, reads_twice};
 use crate::texts::copied;
 use ember_words::{Text, Texts};
 use mesh_number::number_below;
+use mesh_placing::first_shape_fault;
 use std::alloc::{AllocError, Global};
 
-/// The same names, if there are 1 to 64 of them and at most one is `-`. Otherwise `NoFiles`,
-/// `TooManyFiles` or `SecondInput`.
+/// The same names, if there are 1 to 64 of them, at most one is `-`, and each that begins as a shape
+/// says one. Otherwise `NoFiles`, `TooManyFiles`, `SecondInput` or `Shape`.
 pub fn counted(names: Texts) -> Result<Texts, Refusal>
     ensures value { result ≡ files_of names }
     ensures range { IfOk result (λ files. IsInRange 1 64 (length files)) }
@@ -32,6 +33,9 @@ pub fn counted(names: Texts) -> Result<Texts, Refusal>
     }
     if reads_twice(names.items()) {
         return Err(Refusal::SecondInput);
+    }
+    if let Some(fault) = first_shape_fault(names.items()) {
+        return Err(Refusal::Shape(fault));
     }
     Ok(names)
 }

@@ -1,0 +1,5 @@
+pub mod FractionTexts
+pub mod CoordinateTexts
+pub mod SurfaceTexts
+pub mod ShapesRead
+pub mod ShapeFiles

@@ -1,0 +1,13 @@
+//! Boxes and cylinders as files: their texts, and a shelf that has them beside the files of another.
+#![tactic(auto)]
+
+mod decimals;
+mod files;
+mod shapes;
+mod shelf;
+mod texts;
+
+pub use files::shape_files;
+pub use shapes::{shape_text, shape_texts_are_read};
+pub use shelf::ShapeShelf;
+pub use texts::surface_text;
