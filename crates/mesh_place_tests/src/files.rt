@@ -48,7 +48,8 @@ fn text_of(alloc: Global, word: &[u8]) -> Result<Vec<u8>, Fail> {
     Ok(Vec::new(alloc))
 }
 
-const BOX: &[u8] = b"OFF\n8 12 0\n0 0 0\n1 0 0\n0 2.5 0\n1 2.5 0\n0 0 -3\n1 0 -3\n0 2.5 -3\n1 2.5 -3\n\
+const BOX: &[u8] =
+    b"OFF\n8 12 0\n0 0 0\n1 0 0\n0 2.5 0\n1 2.5 0\n0 0 -3\n1 0 -3\n0 2.5 -3\n1 2.5 -3\n\
 3 0 3 2\n3 0 1 3\n3 4 7 5\n3 4 6 7\n3 0 5 1\n3 0 4 5\n3 2 3 7\n3 2 7 6\n3 0 6 4\n3 0 2 6\n3 1 7 3\n3 1 5 7\n";
 
 const PRISM: &[u8] = b"OFF\n6 8 0\n-9 -0.05 0\n-9 -0.05 1\n-10.5 0.81602540378443864676 0\n\

@@ -1,12 +1,8 @@
 -- The line on standard error of words that are refused
-<<<<<<< ours
 use Rattle.std.specs.Prelude.{ℕ, ◌-◌, List, [], ◌++◌, length, codes, get_or, map, String, string_bytes}
 use Rattle.std.specs.declared.alloc.Global.{Global}
-=======
-use Rattle.std.specs.Prelude.{ℕ, ◌-◌, List, [], ◌++◌, length, codes, get_or}
 use Rattle.mesh_placing.specs.declared.shapes.ShapeWordFault.{ShapeWordFault}
 use Rattle.mesh_placing.specs.declared.shapes.ShapeWordFault.TheVariants as shape
->>>>>>> theirs
 use Rattle.mesh_words.specs.declared.faults.Refusal.{Refusal}
 use Rattle.mesh_words.specs.declared.faults.Refusal.TheVariants as refusal
 use Rattle.mesh_words.specs.declared.names.Setting.{Setting}
@@ -32,11 +28,10 @@ foreign_text option command =
 abbrev pub value_text : Setting → List (List ℕ) → List ℕ
 value_text option words = option_of option ++ (codes " " ++ value_given option words)
 
-<<<<<<< ours
 -- a value of `--place` says no placing
 abbrev pub no_place_text : PlaceFault → List ℕ
 no_place_text fault = codes "--place: " ++ (place_text fault ++ codes "; see ember-mesh help")
-=======
+
 -- a name that begins as a shape says none
 abbrev pub shape_text : ShapeWordFault → List ℕ
 shape_text shape.NoBox = word_text (codes "box") (codes "not X,Y,Z,X,Y,Z with at most 12 decimal places")
@@ -46,7 +41,6 @@ shape_text shape.Flat = word_text (codes "box") (codes "no volume")
 shape_text shape.Radius = word_text (codes "cylinder") (codes "the radius is not above 0")
 shape_text shape.Height = word_text (codes "cylinder") (codes "the height is 0")
 shape_text shape.Sides = word_text (codes "cylinder") (codes "not 3 to 4096 sides")
->>>>>>> theirs
 
 -- why words are refused; word 0 is the name of the command
 abbrev pub refusal_text : List (List ℕ) → Refusal → List ℕ

@@ -1,14 +1,7 @@
 // Why words are refused.
-<<<<<<< ours
-ghost use Rattle.std.specs.Prelude.{◌≡◌, ◌++◌, map, OnOk, string_bytes};
-ghost use Rattle.mesh_words.specs.declared.faults.Refusal.TheVariants.{NotAStep, OutputEnding, OverInput, OverOutput, PageEnding};
-ghost use Rattle.mesh_refusal.specs.WordLines.{foreign_text, no_place_text, refusal_text, value_text, why_refused, word_text, word_at};
-=======
 ghost use Rattle.std.specs.Prelude.{◌≡◌, ◌++◌, codes, map, OnOk, string_bytes};
-ghost use Rattle.mesh_words.specs.Given.{input_given, output_given, step_given};
-ghost use Rattle.mesh_refusal.specs.Placings.{place_text};
-ghost use Rattle.mesh_refusal.specs.WordLines.{foreign_text, refusal_text, shape_text, value_text, word_text, word_at};
->>>>>>> theirs
+ghost use Rattle.mesh_words.specs.declared.faults.Refusal.TheVariants.{NotAStep, OutputEnding, OverInput, OverOutput, PageEnding};
+ghost use Rattle.mesh_refusal.specs.WordLines.{foreign_text, no_place_text, refusal_text, shape_text, value_text, why_refused, word_text, word_at};
 
 use crate::placings::put_place;
 use ember_model::OutOfMemory;

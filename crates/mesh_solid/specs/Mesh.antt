@@ -3,8 +3,5 @@ pub mod FaceTables
 pub mod Faults
 pub mod Meshes
 pub mod MeshFaces
-<<<<<<< ours
 pub mod FaceMeshes
-=======
 pub mod All
->>>>>>> theirs

@@ -1,7 +1,6 @@
 // The laws of the meshes of solids and documents.
 ghost use Rattle.std.specs.Prelude.{ℕ, List};
 ghost use Rattle.ember_meaning.specs.Closed.Chains.{IsClosedSurface};
-<<<<<<< ours
 ghost use Rattle.ember_expr.specs.Formula.{Formula};
 ghost use Rattle.ember_meaning.specs.Regions.Meaning.{IsFalseOutside, HaveMeaning, AreSurfaceWithMeaning};
 ghost use Rattle.ember_meaning.specs.Regions.Nearby.{WindOnceAtMost};
@@ -13,15 +12,8 @@ ghost use Rattle.mesh_solid.specs.Winding.TriangleFaces.{WindAlike, WindAlikeNea
 ghost use Rattle.mesh_solid.specs.declared.mesh.mesh.SolidMesh.{SolidMesh};
 ghost use Rattle.mesh_solid.specs.declared.mesh.solid.SolidRun.{SolidRun};
 ghost use Rattle.mesh_solid.specs.Mesh.FaceMeshes.{IsBroadRun, IsMeshOfSolid};
-ghost use Rattle.mesh_solid.specs.Mesh.Meshes.{IsDocumentMesh, IsOutlinedMesh, IsSolidMesh};
-=======
-ghost use Rattle.ember_meaning.specs.Regions.Meaning.{HaveMeaning};
-ghost use Rattle.ember_meaning.specs.Regions.Nearby.{WindOnceAtMost};
-ghost use Rattle.mesh_solid.specs.Winding.TriangleFaces.{WindAlike, WindAlikeNearby};
-ghost use Rattle.mesh_solid.specs.declared.mesh.mesh.SolidMesh.{SolidMesh};
+ghost use Rattle.mesh_solid.specs.Mesh.Meshes.{IsDocumentMesh, IsSolidMesh};
 ghost use Rattle.mesh_solid.specs.Mesh.All.{AllOutlined, AllSolidMeshes, HasClosedEdges};
-ghost use Rattle.mesh_solid.specs.Mesh.Meshes.{IsDocumentMesh};
->>>>>>> theirs
 ghost use Rattle.mesh_solid.specs.Mesh.MeshFaces.{faces_of_mesh};
 
 /// Let an expression be false if all winding numbers are 0. The faces that the mesh of its solid
@@ -70,7 +62,7 @@ pub fn meshes_of_solids_have_the_meaning()
     ensures faces { (tris : List Tri) (formula : Formula) (mesh : SolidMesh) → IsFalseOutside formula →
         (is : IsMeshOfSolid tris formula mesh) → WindAlike is.faces (faces_of_mesh mesh) }
     ensures closed { (tris : List Tri) (formula : Formula) (mesh : SolidMesh) → IsMeshOfSolid tris formula mesh →
-        AreSegmentsClosed (edges_in mesh.triangles.items) }
+        HasClosedEdges mesh }
     ensures narrow { (tris : List Tri) (meshes : ℕ) (formula : Formula) (mesh : SolidMesh) → IsScene tris meshes →
         IsSolidMesh tris formula mesh → IsMeshOfSolid tris formula mesh }
     ensures broad { (tris : List Tri) (formula : Formula) (solid : SolidRun) →

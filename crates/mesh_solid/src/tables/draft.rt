@@ -1,12 +1,6 @@
 // Tables of some edges.
-<<<<<<< ours
-ghost use Rattle.std.specs.Prelude.{◌≡◌, ◌+◌, ◌≤◌, [], ◌∷◌, ◌++◌, List, length, All, IfOk, IfErr, OnOk};
-ghost use Rattle.ember_width.specs.Broad.{IsBroadPlane};
-ghost use Rattle.mesh_certificate.specs.Key.PlaneKeys.{IsPlaneKey};
-=======
 ghost use Rattle.std.specs.Prelude.{◌≡◌, ◌+◌, ◌≤◌, [], length, All, IfOk, IfErr, OnOk};
-ghost use Rattle.ember_model.specs.Valid.{IsValidPlane};
->>>>>>> theirs
+ghost use Rattle.ember_width.specs.Broad.{IsBroadPlane};
 ghost use Rattle.mesh_certificate.specs.Certificate.Facing.{spot_of};
 ghost use Rattle.mesh_solid.specs.Tables.Numberings.{HasEntry};
 ghost use Rattle.mesh_solid.specs.Tables.Tables.{IsFault};

@@ -3,11 +3,7 @@ ghost use Rattle.std.specs.Prelude.{IfOk, IfErr};
 ghost use Rattle.ember_model.specs.declared.plane.Plane.{Plane};
 ghost use Rattle.ember_width.specs.Broad.{IsBroadPlane};
 ghost use Rattle.mesh_certificate.specs.Certificate.Facing.{spot_of};
-<<<<<<< ours
-ghost use Rattle.mesh_solid.specs.Tables.Edges.{IsBroadEdge};
-=======
-ghost use Rattle.mesh_solid.specs.Tables.Edges.{IsValidEdge, face_edge};
->>>>>>> theirs
+ghost use Rattle.mesh_solid.specs.Tables.Edges.{IsBroadEdge, face_edge};
 ghost use Rattle.mesh_solid.specs.Tables.Tables.{IsCorner, IsKeyed, IsEdgeFault};
 
 use crate::tables::corner::corner_of;
