@@ -2,7 +2,7 @@
 use ember_io::{FileSet, SafeShelf, read_all};
 use mesh_file::read_file;
 use mesh_placing::{ShapeWordFault, shape_of};
-use mesh_shapes::{ShapeShelf, shape_files, shape_text};
+use mesh_shapes::{ShapeShelf, shape_text};
 use std::alloc::Global;
 use std::test::Fail;
 
@@ -94,8 +94,7 @@ fn shapes_are_files_beside_others(rt: HostRuntime) -> Result<(), Fail> {
     let bytes = Vec::from_slice(rt.alloc(), b"other".as_slice())?;
     others.push((String::from_str(rt.alloc(), "a.obj")?, bytes))?;
     let below = SafeShelf::new(rt.alloc(), FileSet::of(others))?;
-    let made = shape_files(rt.alloc(), &words)?;
-    let mut shelf = ShapeShelf::new(rt.alloc(), made, below)?;
+    let mut shelf = ShapeShelf::over(rt.alloc(), &words, below)?;
     let first = read_all(rt.alloc(), &mut shelf, "box:0,0,0,1,2.5,-3", 1, 1000)?;
     assert!(rt; first.as_slice() == BOX);
     let second = read_all(rt.alloc(), &mut shelf, "a.obj", 2, 1000)?;

@@ -1,5 +1,6 @@
-//! The program `ember-mesh`: it hands `run_mesh` the words of the command line, the file system, the
-//! standard streams and a line of progress, and ends with the status that comes back.
+//! The program `ember-mesh`: it hands `run_mesh` the words of the command line, the file system and the
+//! shapes that the words say, the standard streams and a line of progress, and ends with the status that
+//! comes back.
 #![tactic(auto)]
 
 mod input;
@@ -8,6 +9,7 @@ use ember_io::StdSink;
 use input::InputShelf;
 use mesh_outside::{FileTarget, ProgressGate};
 use mesh_run::run_mesh;
+use mesh_shapes::ShapeShelf;
 use std::io::{Input, IsTerminal};
 use std::process::ExitCode;
 use std::{env, io};
@@ -56,7 +58,10 @@ fn main(rt: HostRuntime) -> ExitCode {
     }
     let is_shown = rt.stderr().is_terminal() && !are_quiet(&words);
     let gate = ProgressGate::new(&rt, is_shown);
-    let mut shelf = InputShelf::new(&rt, rt.reader());
+    let input = InputShelf::new(&rt, rt.reader());
+    let Ok(mut shelf) = ShapeShelf::over(rt.alloc(), &words, input) else {
+        return ExitCode::from(NO_MEMORY);
+    };
     let mut target = FileTarget::new(&rt, rt.alloc());
     // Standard output.
     let mut out = StdSink::new(io::writer(&rt));

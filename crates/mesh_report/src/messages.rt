@@ -48,8 +48,10 @@ take none; all take --json, and all but info --quiet. A folder is made if it isn
 there. No page and no file of DIR may replace a file that is read; OUT may.
 
 FILE.. are 1 to 64 meshes in STL, OBJ, PLY, OFF or glTF files, which must be closed
-but for view and info. The name - is standard input, which is read once. Each file
-is written whole or stays as it was, OUT as the last.
+but for view and info. The name - is standard input, which is read once. In place of
+a file, box:X,Y,Z,X,Y,Z is a box between two corners, and an upright cylinder is
+cylinder:X,Y,Z,RADIUS,HEIGHT,SIDES, with the centre of its bottom.
+Each file is written whole or stays as it was, OUT as the last.
 The report, or why nothing is written, goes to standard error.
 ";
 

@@ -1,7 +1,9 @@
 -- Shapes as files
-use Rattle.std.specs.Prelude.{◌≡◌, ◌≢◌, ◌⊎◌, ℕ, pos, ◌*ℤ◌, false, List, map, All, None, Some, Ok}
+use Rattle.std.specs.Prelude.{◌≡◌, ◌≢◌, ◌⊎◌, ℕ, pos, ◌*ℤ◌, false, List, map, All, Option, None, Some, Ok}
 use Rattle.std.specs.List.{AllZip}
+use Rattle.std.specs.Option.{option_or}
 use Rattle.ember_io.specs.Files.{first_of}
+use Rattle.ember_io.specs.Shelves.{Told}
 use Rattle.mesh_number.specs.Number.Fractions.{Fraction}
 use Rattle.mesh_read.specs.Surface.Surfaces.{Point, Content, point_of}
 use Rattle.mesh_place.specs.declared.shapes.fault.ShapeFault.{ShapeFault}
@@ -88,3 +90,16 @@ pub record IsNext (old new : List (List ℕ × List ℕ)) (word : List ℕ) : Ty
 pub record AreShapeFiles (words : List (List ℕ)) (files : List (List ℕ × List ℕ)) : Type 0 where
   pub each : All IsShapeFile files
   pub all : All (λ word. first_of files word ≡ None → IsNoFile word) words
+
+-- ---- shelves
+-- what is told of each name is the file of the shape that it says, or else what is told below
+pub record HasShapes (words : List (List ℕ)) (below told : Told) : Type 0 where
+  pub files : List (List ℕ × List ℕ)
+  pub are : AreShapeFiles words files
+  pub shows : (name : List ℕ) → told name ≡ option_or (first_of files name) (below name)
+
+-- what is unread, which file was begun, and how many faults there were
+pub record IsAsBelow (unread : Option (List ℕ)) (begun faults : ℕ) (now : Option (List ℕ)) (last count : ℕ) : Type 0 where
+  pub unread_as_below : now ≡ unread
+  pub begun_as_below : last ≡ begun
+  pub faults_as_below : count ≡ faults

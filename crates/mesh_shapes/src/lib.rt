@@ -7,7 +7,5 @@ mod shapes;
 mod shelf;
 mod texts;
 
-pub use files::shape_files;
 pub use shapes::{shape_text, shape_texts_are_read};
 pub use shelf::ShapeShelf;
-pub use texts::surface_text;

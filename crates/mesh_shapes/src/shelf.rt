@@ -1,8 +1,10 @@
 // A shelf with files of its own beside those of another.
-ghost use Rattle.std.specs.Prelude.{◌≡◌, [], List, ℕ, Some, IfOk, if◌then◌else◌};
+ghost use Rattle.std.specs.Prelude.{◌≡◌, [], List, ℕ, Some, IfOk, if◌then◌else◌, map, string_bytes};
 ghost use Rattle.std.specs.Option.{option_or};
 ghost use Rattle.ember_io.specs.Files.{first_of};
+ghost use Rattle.mesh_shapes.specs.Shapes.{HasShapes, IsAsBelow};
 
+use crate::files::shape_files;
 use ember_io::{Calls, Failed, FaultKind, FileSet, MemoryShelf, Shelf};
 use std::alloc::{AllocError, Global};
 
@@ -17,13 +19,13 @@ pub struct ShapeShelf<S: Shelf + Drop> {
 }
 
 impl<S: Shelf + Drop> ShapeShelf<S> {
-    /// A shelf of these files and of those below.
-    pub fn new(alloc: Global, files: FileSet, below: S) -> Result<ShapeShelf<S>, AllocError>
+    // A shelf of these files and of those below.
+    fn with_files(alloc: Global, files: FileSet, below: S) -> Result<ShapeShelf<S>, AllocError>
         ensures contents { IfOk result (λ s. (name : List ℕ) →
             ⟦<ShapeShelf<S> as Shelf>⟧.contents s name ≡ option_or (first_of files name) (S.contents below name)) }
-        ensures unread { IfOk result (λ s. ⟦<ShapeShelf<S> as Shelf>⟧.unread s ≡ S.unread below) }
-        ensures begun { IfOk result (λ s. ⟦<ShapeShelf<S> as Shelf>⟧.begun s ≡ S.begun below) }
-        ensures faults { IfOk result (λ s. ⟦<ShapeShelf<S> as Shelf>⟧.faults s ≡ S.faults below) }
+        ensures start { IfOk result (λ s. IsAsBelow (S.unread below) (S.begun below) (S.faults below)
+            (⟦<ShapeShelf<S> as Shelf>⟧.unread s) (⟦<ShapeShelf<S> as Shelf>⟧.begun s)
+            (⟦<ShapeShelf<S> as Shelf>⟧.faults s)) }
     {
         let made = MemoryShelf::new(alloc, files, usize::MAX, Calls::of(Vec::new(alloc)))?;
         Ok(ShapeShelf {
@@ -31,6 +33,20 @@ impl<S: Shelf + Drop> ShapeShelf<S> {
             below,
             is_made: false,
         })
+    }
+
+    /// A shelf with the files of the shapes that these words say, and behind them those of the shelf
+    /// below. The one error is out-of-memory.
+    pub fn over(alloc: Global, words: &[String], below: S) -> Result<ShapeShelf<S>, AllocError>
+        ensures contents { IfOk result (λ s. HasShapes (map string_bytes words.now) (S.contents below)
+            (⟦<ShapeShelf<S> as Shelf>⟧.contents s)) }
+        ensures start { IfOk result (λ s. IsAsBelow (S.unread below) (S.begun below) (S.faults below)
+            (⟦<ShapeShelf<S> as Shelf>⟧.unread s) (⟦<ShapeShelf<S> as Shelf>⟧.begun s)
+            (⟦<ShapeShelf<S> as Shelf>⟧.faults s)) }
+    {
+        let files = shape_files(alloc, words)?;
+        let shelf = ShapeShelf::with_files(alloc, files, below)?;
+        Ok(shelf)
     }
 }
 

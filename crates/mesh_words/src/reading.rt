@@ -161,6 +161,9 @@ fn read(alloc: Global, words: &[String]) -> Result<Command, WordsFault>
 /// write into their folder, may have the same path as a file that the command reads, or as the output
 /// beside it.
 ///
+/// A file whose name begins with `box:` or `cylinder:` is a shape, as
+/// [`shape_of`](mesh_placing::shape_of) reads it.
+///
 /// `-` is a file name, of standard input, which can be read once; and `-o -` is standard output, for
 /// which `--format` names the format. Of a file the ending of its name shows it.
 ///
