@@ -99,7 +99,8 @@ pub record HasShapes (words : List (List ℕ)) (below told : Told) : Type 0 wher
   pub shows : (name : List ℕ) → told name ≡ option_or (first_of files name) (below name)
 
 -- what is unread, which file was begun, and how many faults there were
-pub record IsAsBelow (unread : Option (List ℕ)) (begun faults : ℕ) (now : Option (List ℕ)) (last count : ℕ) : Type 0 where
+pub record IsAsBelow (unread : Option (List ℕ)) (begun faults : ℕ) (now : Option (List ℕ)) (last count : ℕ) :
+    Type 0 where
   pub unread_as_below : now ≡ unread
   pub begun_as_below : last ≡ begun
   pub faults_as_below : count ≡ faults

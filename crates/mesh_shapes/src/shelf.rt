@@ -22,7 +22,8 @@ impl<S: Shelf + Drop> ShapeShelf<S> {
     // A shelf of these files and of those below.
     fn with_files(alloc: Global, files: FileSet, below: S) -> Result<ShapeShelf<S>, AllocError>
         ensures contents { IfOk result (λ s. (name : List ℕ) →
-            ⟦<ShapeShelf<S> as Shelf>⟧.contents s name ≡ option_or (first_of files name) (S.contents below name)) }
+            ⟦<ShapeShelf<S> as Shelf>⟧.contents s name
+            ≡ option_or (first_of files name) (S.contents below name)) }
         ensures start { IfOk result (λ s. IsAsBelow (S.unread below) (S.begun below) (S.faults below)
             (⟦<ShapeShelf<S> as Shelf>⟧.unread s) (⟦<ShapeShelf<S> as Shelf>⟧.begun s)
             (⟦<ShapeShelf<S> as Shelf>⟧.faults s)) }
