@@ -1,5 +1,5 @@
 -- Bounding boxes of boxes and of triangles, and the tests on them
-use Rattle.std.specs.Prelude.{ℕ, ◌*◌, ℤ, ◌+ℤ◌, ◌*ℤ◌, Bool, ◌&&◌, ◌||◌, if◌then◌else◌, int_le}
+use Rattle.std.specs.Prelude.{◌≡◌, ℕ, ◌*◌, ℤ, ◌+ℤ◌, ◌*ℤ◌, Bool, true, ◌&&◌, ◌||◌, if◌then◌else◌, int_le}
 use Rattle.std.specs.Int.{int_min, int_max}
 use Rattle.ember_algebra.specs.Size.{Small}
 use Rattle.ember_algebra.specs.Sign.{is_negative}
@@ -8,6 +8,7 @@ use Rattle.ember_model.specs.declared.plane.Plane.{Plane}
 use Rattle.ember_model.specs.declared.point.Corner.{Corner}
 use Rattle.ember_model.specs.declared.point.Axis.{Axis}
 use Rattle.ember_model.specs.declared.point.Axis.TheVariants.{X, Y, Z}
+use Rattle.ember_model.specs.Planes.{support_of}
 use Rattle.ember_model.specs.Limits.{broad_limit}
 use Rattle.ember_model.specs.Within.{normal_limit}
 use Rattle.ember_box.specs.declared.aabb.Interval.{Interval}
@@ -16,6 +17,10 @@ use Rattle.ember_box.specs.Boxes.{Cell, low, high}
 
 abbrev pub interval_between : ℤ → ℤ → Interval
 interval_between l h = record { low = l; high = h }
+
+-- the interval of a box along an axis
+abbrev pub interval_of_cell : Cell → Axis → Interval
+interval_of_cell c k = interval_between (low c k) (high c k)
 
 -- the bounding box of a box, with its upper walls
 abbrev pub aabb_of_cell : Cell → Aabb
@@ -105,6 +110,11 @@ greatest_value p b = value_without_constant p (greatest_end p.a b.x) (greatest_e
 -- whether the corners of the bounding box aren't all strictly on one side of the plane
 unfoldable pub crosses : Plane → Aabb → Bool
 crosses p b = int_le (least_value p b) p.d && int_le p.d (greatest_value p b)
+
+-- the answer is whether the support plane of the triangle crosses the bounding box of a box that its own meets
+abbrev pub TellsCrossing : Aabb → Tri → Bool → Type 0
+TellsCrossing b t answer =
+    (c : Cell) → b ≡ aabb_of_cell c → aabbs_meet (aabb_of_tri t) b ≡ true → answer ≡ crosses (support_of t) b
 
 -- ---- sizes
 -- the greatest coordinate of a box on the grid of the finest steps: 2048 units of 256 steps

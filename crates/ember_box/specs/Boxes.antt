@@ -1,5 +1,5 @@
 -- Boxes: the root, its halves, and the paths that name them.
-use Rattle.std.specs.Prelude.{◌≡◌, ℕ, zero, suc, pred, ◌+◌, ◌*◌, ◌^◌, ◌≤◌, List, ℤ, pos, ◌+ℤ◌, neg_ℤ, refl}
+use Rattle.std.specs.Prelude.{◌≡◌, ℕ, zero, suc, pred, ◌+◌, ◌*◌, ◌^◌, ◌≤◌, List, [], ◌∷◌, ℤ, pos, ◌+ℤ◌, neg_ℤ, refl}
 use Rattle.std.specs.Prelude.{slice_index_or}
 use Rattle.std.specs.Coded.{Coded, code_by, coded×, coded_ℕ, coded_ℤ}
 use Rattle.std.proofs.Common.{ap}
@@ -76,6 +76,10 @@ right_half c k =
     }
 
 -- ---- in steps
+-- the least coordinates of a box, as a list
+abbrev pub lo_list : Cell → List ℤ
+lo_list c = c.lo.x ∷ c.lo.y ∷ c.lo.z ∷ []
+
 -- the box measured in lengths half as long: each coordinate and each side is twice the number
 abbrev pub doubled : Cell → Cell
 doubled c =

@@ -1,6 +1,6 @@
 -- Along which axis a box is halved, which boxes are leaves, and the full tree
-use Rattle.std.specs.Prelude.{ℕ, zero, suc, ◌+◌, ◌*◌, Bool, true, false, not, ◌&&◌, ◌||◌, nat_lt, nat_le}
-use Rattle.std.specs.Prelude.{if◌then◌else◌, List, [], ◌∷◌, ◌++◌, length}
+use Rattle.std.specs.Prelude.{◌≡◌, ℕ, zero, suc, ◌+◌, ◌*◌, Bool, true, false, not, ◌&&◌, ◌||◌, nat_lt, nat_le}
+use Rattle.std.specs.Prelude.{if◌then◌else◌, Option, None, Some, List, [], ◌∷◌, ◌++◌, length}
 use Rattle.ember_model.specs.declared.tri.Tri.{Tri}
 use Rattle.ember_model.specs.declared.point.Axis.{Axis}
 use Rattle.ember_model.specs.declared.point.Axis.TheVariants.{X, Y, Z}
@@ -60,6 +60,18 @@ halving_axis ts c = halving_axis_on 0 ts c
 
 abbrev pub is_leaf : List Tri → Cell → Bool
 is_leaf ts c = is_leaf_on 0 ts c
+
+-- ---- whether, and along which axis
+-- the axis along which a box is halved, none of a leaf
+abbrev pub halving_on : ℕ → List Tri → Cell → Option Axis
+halving_on s ts c = if is_leaf_on s ts c then None else Some (halving_axis_on s ts c)
+
+abbrev pub halving : List Tri → Cell → Option Axis
+halving ts c = if is_leaf ts c then None else Some (halving_axis ts c)
+
+-- this is the same by those triangles alone that are near the box
+abbrev pub IsDecidedByNear : {A : Type 0} → (ℕ → List Tri → Cell → A) → Type 0
+IsDecidedByNear decision = (n : ℕ) (ts : List Tri) (c : Cell) → decision n (near ts (in_steps n c)) c ≡ decision n ts c
 
 abbrev pub leaves_within : List Tri → ℕ → Cell → List Cell
 leaves_within ts n c = leaves_within_on 0 ts n c

@@ -1,5 +1,5 @@
 -- Which triangles are near a box
-use Rattle.std.specs.Prelude.{ℕ, pos, Bool, not, ◌&&◌, ◌||◌, int_le, List, [], ◌∷◌, filter, map, length, slice_index_or}
+use Rattle.std.specs.Prelude.{◌≡◌, ℕ, pos, Bool, not, ◌&&◌, ◌||◌, int_le, List, [], ◌∷◌, filter, map, length, slice_index_or}
 use Rattle.std.specs.List.{list_all, range_with_len}
 use Rattle.ember_algebra.specs.Sign.{is_negative, is_positive}
 use Rattle.ember_algebra.specs.Vector.{Vector}
@@ -10,7 +10,7 @@ use Rattle.ember_model.specs.declared.point.Axis.{Axis}
 use Rattle.ember_model.specs.declared.point.Axis.TheVariants.{X, Y, Z}
 use Rattle.ember_model.specs.Planes.{vector_of, value_at, support_of}
 use Rattle.ember_model.specs.Points.{moved}
-use Rattle.ember_box.specs.Boxes.{Cell, entry_along, side, low, high}
+use Rattle.ember_box.specs.Boxes.{Cell, entry_along, side, low, high, left_half, right_half}
 
 -- along the axis the triangle's bounding box meets the closed box
 abbrev pub spans_meet : Cell → Tri → Axis → Bool
@@ -67,3 +67,12 @@ near_indices ts c indices = filter (λ i. is_near c (tri_at ts i)) indices
 -- the indices of all triangles, in order
 abbrev pub all_indices : List Tri → List ℕ
 all_indices ts = range_with_len 0 (length ts)
+
+-- the list has the indices of just the triangles near the box
+abbrev pub AreAllNear : List Tri → Cell → List ℕ → Type 0
+AreAllNear ts c indices = indices ≡ near_indices ts c (all_indices ts)
+
+-- those of a list whose triangles are near the left half along an axis, and those near the right half
+abbrev pub AreNearHalves : List Tri → Cell → Axis → List ℕ → List ℕ → List ℕ → Type 0
+AreNearHalves ts c k indices left right =
+    (left ≡ near_indices ts (left_half c k) indices) × (right ≡ near_indices ts (right_half c k) indices)

@@ -1,5 +1,5 @@
 -- Which halves of a box along each axis a triangle is near, and what decides it
-use Rattle.std.specs.Prelude.{◌≡◌, ℕ, ◌*◌, ◌<◌, ℤ, ◌-ℤ◌, ◌*ℤ◌, neg_ℤ, false, if◌then◌else◌, List, length}
+use Rattle.std.specs.Prelude.{◌≡◌, ℕ, ◌*◌, ◌<◌, ℤ, ◌-ℤ◌, ◌*ℤ◌, neg_ℤ, Bool, true, false, ◌&&◌, int_le, if◌then◌else◌, List, length}
 use Rattle.std.specs.Prelude.{slice_index_or}
 use Rattle.ember_algebra.specs.Size.{Small}
 use Rattle.ember_algebra.specs.Sign.{is_negative}
@@ -7,6 +7,7 @@ use Rattle.ember_model.specs.declared.tri.Tri.{Tri}
 use Rattle.ember_model.specs.declared.plane.Plane.{Plane}
 use Rattle.ember_model.specs.declared.point.Axis.{Axis}
 use Rattle.ember_model.specs.declared.point.Axis.TheVariants.{X, Y, Z}
+use Rattle.ember_box.specs.declared.aabb.Interval.{Interval}
 use Rattle.ember_box.specs.declared.aabb.Aabb.{Aabb}
 use Rattle.ember_box.specs.declared.aabb.Margins.{Margins}
 use Rattle.ember_box.specs.declared.near_parts.Middle.{Middle}
@@ -14,7 +15,7 @@ use Rattle.ember_box.specs.declared.near_parts.Middles.{Middles}
 use Rattle.ember_box.specs.declared.near_parts.NearPair.{NearPair}
 use Rattle.ember_box.specs.declared.near_parts.NearParts.{NearParts}
 use Rattle.ember_box.specs.Boxes.{Cell, low, left_half, right_half, in_steps}
-use Rattle.ember_box.specs.Aabbs.{aabb_of_cell, least_value, greatest_value, most_wall, IsAabbWithin}
+use Rattle.ember_box.specs.Aabbs.{aabb_of_cell, aabb_of_tri, aabbs_meet, least_value, greatest_value, most_wall, IsAabbWithin}
 use Rattle.ember_box.specs.Near.{is_near, tri_at}
 
 -- ---- the halves
@@ -53,6 +54,15 @@ margin_of_left n m = if is_negative n then m.above else m.below
 abbrev pub margin_of_right : ℤ → Margins → ℤ
 margin_of_right n m = if is_negative n then m.below else m.above
 
+-- a span reaches the left half, and the plane gets over the margin there, so steep and rising or falling
+abbrev pub reaches_left : Middle → Interval → ℤ → Bool → Margins → Bool
+reaches_left middle span change falls margins =
+    int_le span.low middle.at && int_le change (if falls then margins.above else margins.below)
+
+abbrev pub reaches_right : Middle → Interval → ℤ → Bool → Margins → Bool
+reaches_right middle span change falls margins =
+    int_le middle.at span.high && int_le change (if falls then margins.below else margins.above)
+
 -- ---- the near parts
 -- whether the triangle is near the left half along the axis, and whether near the right one
 pub record IsNearPair (c : Cell) (k : Axis) (t : Tri) (p : NearPair) : Type 0 where
@@ -66,6 +76,12 @@ pub record AreNearParts (n : ℕ) (c : Cell) (t : Tri) (p : NearParts) : Type 0 
   pub x : 0 < c.log X → IsNearPair (in_steps n c) X t p.x
   pub y : 0 < c.log Y → IsNearPair (in_steps n c) Y t p.y
   pub z : 0 < c.log Z → IsNearPair (in_steps n c) Z t p.z
+
+-- these are the near parts of any triangle with these spans that meets the box, and of which this is so
+abbrev pub ArePartsWhere : (Tri → Type 0) → Middles → Aabb → NearParts → Type 0
+ArePartsWhere this middles spans p =
+    (n : ℕ) (c : Cell) (t : Tri) → AreMiddles n c middles → spans ≡ aabb_of_tri t →
+    aabbs_meet spans middles.whole ≡ true → this t → AreNearParts n c t p
 
 abbrev pub no_pair : NearPair
 no_pair = record { left = false; right = false }

@@ -48,6 +48,12 @@ pub record AreHalvesSized (h : HalfBoxes) : Type 0 where
   pub sized_left : IsAabbWithin most_wall h.left
   pub sized_right : IsAabbWithin most_wall h.right
 
+-- the two answers are whether a triangle is near the left half of a box with these bounding boxes, and near the right
+abbrev pub TellNearHalves : Aabb → HalfBoxes → Axis → Tri → Bool × Bool → Type 0
+TellNearHalves whole h k t answers =
+    (c : Cell) → 0 < c.log k → whole ≡ aabb_of_cell c → AreHalves c k h →
+    (answers.0 ≡ is_near (left_half c k) t) × (answers.1 ≡ is_near (right_half c k) t)
+
 -- what meets the box meets a half if its interval along the axis reaches the middle
 abbrev pub meets_left : HalfBoxes → Interval → Option Plane → Bool
 meets_left h a None = int_le a.low h.middle

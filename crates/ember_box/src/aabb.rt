@@ -6,7 +6,7 @@ ghost use Rattle.ember_model.specs.Within.{IsSupportWithin};
 ghost use Rattle.ember_box.specs.Boxes as boxes;
 ghost use Rattle.ember_box.specs.Boxes.{in_steps};
 ghost use Rattle.ember_box.specs.NearParts.{AreMargins};
-ghost use Rattle.ember_box.specs.Aabbs.{interval_between, interval_over, interval_along, aabb_of_cell, aabb_of_tri, intervals_meet, aabbs_meet, aabbs_meet_beside, covers, contains_aabb, is_point, has_zero_extent, contains_coordinate, contains_corner, least_end, greatest_end, value_without_constant, least_value, greatest_value, crosses, most_wall, most_sum, IsIntervalWithin, IsAabbWithin};
+ghost use Rattle.ember_box.specs.Aabbs.{interval_between, interval_over, interval_along, aabb_of_cell, aabb_of_tri, intervals_meet, aabbs_meet, aabbs_meet_beside, covers, contains_aabb, is_point, has_zero_extent, contains_coordinate, contains_corner, least_end, greatest_end, value_without_constant, least_value, greatest_value, crosses, most_wall, most_sum, IsIntervalWithin, IsAabbWithin, interval_of_cell};
 
 use crate::cell::Cell;
 use crate::steps::in_steps;
@@ -43,8 +43,7 @@ fn span_along(c: &Cell, k: Axis) -> Interval
 
 // The same in steps of a grid.
 fn span_on<W: Width>(c: &Cell, k: Axis) -> Interval
-    ensures value { result
-        ≡ interval_between (boxes.low (in_steps W.scale c.now) k) (boxes.high (in_steps W.scale c.now) k) }
+    ensures value { result ≡ interval_of_cell (in_steps W.scale c.now) k }
     ensures within { IsIntervalWithin (2 ^ W.scale * wall_limit) result }
     ensures sized { IsIntervalWithin most_wall result }
 {

@@ -1,5 +1,5 @@
 // A box with the triangles near its halves, found in one pass over the triangles near it.
-ghost use Rattle.std.specs.Prelude.{◌≡◌, ◌<◌, length, All, List, ℕ, None, Some, IfOk, IfSome, if◌then◌else◌};
+ghost use Rattle.std.specs.Prelude.{◌≡◌, ◌<◌, length, All, None, Some, IfOk, IfSome, if◌then◌else◌};
 ghost use Rattle.ember_model.specs.Limits.{broad_limit};
 ghost use Rattle.ember_model.specs.Within.{IsTriWithin};
 ghost use Rattle.ember_model.specs.declared.tri.Tri.{Tri};
@@ -8,7 +8,7 @@ ghost use Rattle.ember_box.specs.Near.{listed};
 ghost use Rattle.ember_box.specs.Sums.{AreSums};
 ghost use Rattle.ember_box.specs.NearParts.{AreNearPartsAt};
 ghost use Rattle.ember_box.specs.Halving as halvings;
-ghost use Rattle.ember_box.specs.Halved.{axis_of, AreNearLists, AreNearListsOn};
+ghost use Rattle.ember_box.specs.Halved.{axis_of, AreListsOfParts, HasNearLists, HasNearListsOn};
 
 use crate::cell::Cell;
 use crate::near_parts::{NearParts, middles_of, near_parts, pair_on};
@@ -82,8 +82,7 @@ fn lists_of(
     axis: Axis,
 ) -> Result<(Vec<u32>, Vec<u32>), OutOfMemory>
     requires { length parts.now ≡ length list.now }
-    ensures { IfOk result (λ v. (n : ℕ) (ts : List Tri) (c : CellView) → 0 < c.log axis →
-        AreNearPartsAt n ts c list.now parts.now → AreNearListsOn n ts c axis list.now v.0.items v.1.items) }
+    ensures { IfOk result (λ v. AreListsOfParts axis list.now parts.now v.0.items v.1.items) }
 {
     let mut left = Vec::with_capacity(alloc, list.len())?;
     let mut right = Vec::with_capacity(alloc, list.len())?;
@@ -104,11 +103,9 @@ pub fn halve_box_among<W: Width>(
 ) -> Result<Option<HalvedBox>, OutOfMemory>
     requires within { All (IsTriWithin broad_limit) tris.now }
     requires places { All (λ i. i < length tris.now) list.now }
-    ensures answer { IfOk result (λ h. axis_of h ≡ (if halvings.is_leaf_on W.scale (listed tris.now list.now) c.now
-        then None else Some (halvings.halving_axis_on W.scale (listed tris.now list.now) c.now))) }
+    ensures answer { IfOk result (λ h. axis_of h ≡ halvings.halving_on W.scale (listed tris.now list.now) c.now) }
     ensures halvable { IfOk result (λ h. IfSome h (λ v. 0 < c.now.log v.axis)) }
-    ensures lists { IfOk result (λ h.
-        IfSome h (λ v. AreNearListsOn W.scale tris.now c.now v.axis list.now v.left.items v.right.items)) }
+    ensures lists { IfOk result (λ h. IfSome h (HasNearListsOn W.scale tris.now c.now list.now)) }
 {
     // At most the listed triangles are near the box.
     if is_few(list.len() as u64) {
@@ -133,11 +130,9 @@ pub fn halve_box(
     c: &Cell,
 ) -> Result<Option<HalvedBox>, OutOfMemory>
     requires { All (λ i. i < length s.now.tris) list.now }
-    ensures answer { IfOk result (λ h. axis_of h ≡ (if halvings.is_leaf (listed s.now.tris list.now) c.now then None
-        else Some (halvings.halving_axis (listed s.now.tris list.now) c.now))) }
+    ensures answer { IfOk result (λ h. axis_of h ≡ halvings.halving (listed s.now.tris list.now) c.now) }
     ensures halvable { IfOk result (λ h. IfSome h (λ v. 0 < c.now.log v.axis)) }
-    ensures lists { IfOk result (λ h.
-        IfSome h (λ v. AreNearLists s.now.tris c.now v.axis list.now v.left.items v.right.items)) }
+    ensures lists { IfOk result (λ h. IfSome h (HasNearLists s.now.tris c.now list.now)) }
 {
     halve_box_among::<Narrow>(alloc, s.tris.items(), list, c)
 }

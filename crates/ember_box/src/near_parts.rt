@@ -9,7 +9,7 @@ ghost use Rattle.ember_model.specs.Within.{normal_limit, IsTriWithin, IsSupportW
 ghost use Rattle.ember_box.specs.Boxes.{Cell as CellView, in_steps};
 ghost use Rattle.ember_box.specs.Aabbs.{aabb_of_tri, aabbs_meet, most_wall};
 ghost use Rattle.ember_box.specs.Sums.{IsPlaneOf};
-ghost use Rattle.ember_box.specs.NearParts.{change_size, no_parts, pair_on, IsMiddle, AreMiddles, AreMiddlesSized, AreNearParts};
+ghost use Rattle.ember_box.specs.NearParts.{change_size, no_parts, pair_on, IsMiddle, AreMiddles, AreMiddlesSized, AreNearParts, ArePartsWhere, reaches_left, reaches_right};
 
 use crate::aabb::{Aabb, Interval, Margins, aabb_of_tri, aabb_on, aabbs_meet, margins_of};
 use crate::cell::{Cell, halves};
@@ -110,8 +110,7 @@ fn pair_by_span(middle: &Middle, span: &Interval) -> NearPair
 // The near parts of a triangle whose bounding box meets the box. Its plane crosses each half that
 // its bounding box meets, so bounding boxes alone decide.
 fn parts_by_spans(middles: &Middles, spans: &Aabb) -> NearParts
-    ensures { (n : ℕ) (c : CellView) (t : Tri) → AreMiddles n c middles.now → spans.now ≡ aabb_of_tri t →
-        aabbs_meet spans.now middles.now.whole ≡ true → IsPlaneOf middles.now.whole t None → AreNearParts n c t result }
+    ensures { ArePartsWhere (λ t. IsPlaneOf middles.now.whole t None) middles.now spans.now result }
 {
     NearParts {
         whole: true,
@@ -183,10 +182,8 @@ impl Slope {
 // the other is nearer by `change_size`. So the plane crosses the half exactly if the margin at that
 // other end is at least `change_size`.
 fn pair_by_plane(middle: &Middle, span: &Interval, slope: &Slope, margins: &Margins) -> NearPair
-    ensures left { result.left ≡ int_le span.now.low middle.now.at && int_le slope.now.change_size
-        (if slope.now.falls then margins.now.above else margins.now.below) }
-    ensures right { result.right ≡ int_le middle.now.at span.now.high && int_le slope.now.change_size
-        (if slope.now.falls then margins.now.below else margins.now.above) }
+    ensures left { result.left ≡ reaches_left middle.now span.now slope.now.change_size slope.now.falls margins.now }
+    ensures right { result.right ≡ reaches_right middle.now span.now slope.now.change_size slope.now.falls margins.now }
 {
     NearPair {
         left: span.low <= middle.at && slope.change_size <= slope.margin_of_left(margins),
@@ -198,8 +195,7 @@ fn pair_by_plane(middle: &Middle, span: &Interval, slope: &Slope, margins: &Marg
 fn parts_by_plane(middles: &Middles, spans: &Aabb, p: &Plane) -> NearParts
     requires sized { AreMiddlesSized middles.now }
     requires plane { IsSupportWithin broad_limit p.now }
-    ensures { (n : ℕ) (c : CellView) (t : Tri) → AreMiddles n c middles.now → spans.now ≡ aabb_of_tri t →
-        aabbs_meet spans.now middles.now.whole ≡ true → p.now ≡ support_of t → AreNearParts n c t result }
+    ensures { ArePartsWhere (λ t. p.now ≡ support_of t) middles.now spans.now result }
 {
     let margins = margins_of(p, &middles.whole);
     if !margins.are_both() {

@@ -4,10 +4,10 @@ ghost use Rattle.std.specs.Prelude.{◌≡◌, ◌+◌, ◌<◌, ◌≤◌, ◌+
 ghost use Rattle.ember_model.specs.Limits.{broad_limit};
 ghost use Rattle.ember_model.specs.Within.{IsTriWithin};
 ghost use Rattle.ember_model.specs.Planes.{support_of};
-ghost use Rattle.ember_box.specs.Boxes.{Cell as CellView, left_half, right_half, in_steps};
-ghost use Rattle.ember_box.specs.Aabbs.{aabb_of_cell, aabb_of_tri, aabbs_meet, crosses, most_wall, IsAabbWithin};
-ghost use Rattle.ember_box.specs.Near.{is_near, tri_at, near_indices};
-ghost use Rattle.ember_box.specs.Sums.{AreHalves, AreHalvesSized};
+ghost use Rattle.ember_box.specs.Boxes.{Cell as CellView, in_steps};
+ghost use Rattle.ember_box.specs.Aabbs.{aabb_of_cell, aabb_of_tri, aabbs_meet, crosses, most_wall, IsAabbWithin, TellsCrossing};
+ghost use Rattle.ember_box.specs.Near.{is_near, tri_at, near_indices, AreNearHalves};
+ghost use Rattle.ember_box.specs.Sums.{AreHalvesSized, TellNearHalves};
 
 use crate::aabb::{
     Aabb, aabb_of_cell, aabb_of_tri, aabb_on, aabbs_meet, contains_corner, crosses,
@@ -36,8 +36,7 @@ fn is_crossed(aabb: &Aabb, spans: &Aabb, t: &Tri) -> bool
     requires tri { IsTriWithin broad_limit t.now }
     requires spans { spans.now ≡ aabb_of_tri t.now }
     requires sized { IsAabbWithin most_wall aabb.now }
-    ensures { (c : CellView) → aabb.now ≡ aabb_of_cell c → aabbs_meet (aabb_of_tri t.now) aabb.now ≡ true →
-        result ≡ crosses (support_of t.now) aabb.now }
+    ensures { TellsCrossing aabb.now t.now result }
 {
     if has_zero_extent(spans) || contains_corner(aabb, &t.a) {
         return true;
@@ -103,8 +102,7 @@ pub fn push_if(belongs: bool, i: u32, list: &mut Vec<u32>)
 fn is_near_halves(whole: &Aabb, halves: &HalfBoxes, k: Axis, t: &Tri) -> (bool, bool)
     requires tri { IsTriWithin broad_limit t.now }
     requires sized { AreHalvesSized halves.now }
-    ensures { (c : CellView) → 0 < c.log k → whole.now ≡ aabb_of_cell c → AreHalves c k halves.now →
-        (result.0 ≡ is_near (left_half c k) t.now) × (result.1 ≡ is_near (right_half c k) t.now) }
+    ensures { TellNearHalves whole.now halves.now k t.now result }
 {
     let spans = aabb_of_tri(t);
     if aabbs_meet(&spans, whole) {
@@ -131,8 +129,7 @@ pub fn near_halves_among(
     requires within { All (IsTriWithin broad_limit) tris.now }
     requires places { All (λ i. i < length tris.now) list.now }
     requires side { 0 < c.now.log axis }
-    ensures { IfOk result (λ v. (v.0.items ≡ near_indices tris.now (left_half c.now axis) list.now) ×
-        (v.1.items ≡ near_indices tris.now (right_half c.now axis) list.now)) }
+    ensures { IfOk result (λ v. AreNearHalves tris.now c.now axis list.now v.0.items v.1.items) }
 {
     let whole = aabb_of_cell(c);
     let halves = half_boxes_of(c, axis);
@@ -163,8 +160,7 @@ pub fn near_halves(
 ) -> Result<(Vec<u32>, Vec<u32>), OutOfMemory>
     requires places { All (λ i. i < length s.now.tris) list.now }
     requires side { 0 < c.now.log axis }
-    ensures { IfOk result (λ v. (v.0.items ≡ near_indices s.now.tris (left_half c.now axis) list.now) ×
-        (v.1.items ≡ near_indices s.now.tris (right_half c.now axis) list.now)) }
+    ensures { IfOk result (λ v. AreNearHalves s.now.tris c.now axis list.now v.0.items v.1.items) }
 {
     near_halves_among(alloc, s.tris.items(), list, c, axis)
 }

@@ -1,8 +1,8 @@
 // Boxes measured in the steps of a grid.
-ghost use Rattle.std.specs.Prelude.{◌≡◌, ◌*◌, ◌^◌, pos, ◌*ℤ◌, [], ◌∷◌, All};
+ghost use Rattle.std.specs.Prelude.{◌≡◌, ◌*◌, ◌^◌, pos, ◌*ℤ◌, All};
 ghost use Rattle.ember_model.specs.Limits.{wall_limit};
 ghost use Rattle.ember_algebra.specs.Size.{Small};
-ghost use Rattle.ember_box.specs.Boxes.{in_steps};
+ghost use Rattle.ember_box.specs.Boxes.{in_steps, lo_list};
 ghost use Rattle.ember_box.specs.Aabbs.{most_wall};
 
 use crate::cell::Cell;
@@ -21,8 +21,7 @@ pub fn in_steps<W: Width>(x: i32) -> i32
 
 /// The least corner of a box, in steps of a grid.
 pub fn lo_on<W: Width>(c: &Cell) -> [i32; 3]
-    ensures value { result
-        ≡ (in_steps W.scale c.now).lo.x ∷ (in_steps W.scale c.now).lo.y ∷ (in_steps W.scale c.now).lo.z ∷ [] }
+    ensures value { result ≡ lo_list (in_steps W.scale c.now) }
     ensures within { All (Small (2 ^ W.scale * wall_limit)) result }
     ensures small { All (Small most_wall) result }
 {

@@ -6,7 +6,7 @@ ghost use Rattle.ember_model.specs.declared.tri.Tri.{Tri};
 ghost use Rattle.ember_model.specs.declared.point.Axis.{Axis};
 ghost use Rattle.ember_model.specs.declared.point.Axis.TheVariants.{X, Y, Z};
 ghost use Rattle.ember_box.specs.Boxes.{Cell as CellView};
-ghost use Rattle.ember_box.specs.Near.{all_indices, listed, near_indices};
+ghost use Rattle.ember_box.specs.Near.{listed, AreAllNear};
 ghost use Rattle.ember_box.specs.Halving as halvings;
 ghost use Rattle.ember_box.specs.Sums.{number, AreSumsOfOne, AreFew, AreSums};
 ghost use Rattle.ember_box.specs.NearParts.{AreNearParts};
@@ -165,8 +165,7 @@ pub fn is_leaf_by(c: &Cell, sums: &Sums) -> bool
 pub fn split_axis(s: &Scene, list: &[u32], c: &Cell) -> Axis
     requires { All (λ i. i < length s.now.tris) list.now }
     ensures axis { result ≡ halvings.halving_axis (listed s.now.tris list.now) c.now }
-    ensures near { list.now ≡ near_indices s.now.tris c.now (all_indices s.now.tris) →
-        result ≡ halvings.halving_axis s.now.tris c.now }
+    ensures near { AreAllNear s.now.tris c.now list.now → result ≡ halvings.halving_axis s.now.tris c.now }
     ensures halvable { (k : Axis) → 0 < c.now.log k → 0 < c.now.log result }
 {
     least_axis(c, &half_sums(s.tris.items(), list, c))
@@ -179,8 +178,7 @@ pub fn split_axis(s: &Scene, list: &[u32], c: &Cell) -> Axis
 pub fn is_leaf(s: &Scene, list: &[u32], c: &Cell) -> bool
     requires { All (λ i. i < length s.now.tris) list.now }
     ensures leaf { result ≡ halvings.is_leaf (listed s.now.tris list.now) c.now }
-    ensures near { list.now ≡ near_indices s.now.tris c.now (all_indices s.now.tris) →
-        result ≡ halvings.is_leaf s.now.tris c.now }
+    ensures near { AreAllNear s.now.tris c.now list.now → result ≡ halvings.is_leaf s.now.tris c.now }
 {
     halving(s, list, c).is_none()
 }
@@ -189,8 +187,7 @@ pub fn is_leaf(s: &Scene, list: &[u32], c: &Cell) -> bool
 /// this.
 pub fn halving(s: &Scene, list: &[u32], c: &Cell) -> Option<Axis>
     requires { All (λ i. i < length s.now.tris) list.now }
-    ensures answer { result ≡ (if halvings.is_leaf (listed s.now.tris list.now) c.now then None
-        else Some (halvings.halving_axis (listed s.now.tris list.now) c.now)) }
+    ensures answer { result ≡ halvings.halving (listed s.now.tris list.now) c.now }
     ensures halvable { IfSome result (λ k. 0 < c.now.log k) }
 {
     halving_of(s.tris.items(), list, c)
@@ -200,8 +197,7 @@ pub fn halving(s: &Scene, list: &[u32], c: &Cell) -> Option<Axis>
 pub fn halving_of(tris: &[Tri], list: &[u32], c: &Cell) -> Option<Axis>
     requires within { All (IsTriWithin broad_limit) tris.now }
     requires places { All (λ i. i < length tris.now) list.now }
-    ensures answer { result ≡ (if halvings.is_leaf (listed tris.now list.now) c.now then None
-        else Some (halvings.halving_axis (listed tris.now list.now) c.now)) }
+    ensures answer { result ≡ halvings.halving (listed tris.now list.now) c.now }
     ensures halvable { IfSome result (λ k. 0 < c.now.log k) }
 {
     // At most the listed triangles are near the box.

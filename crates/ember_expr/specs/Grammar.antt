@@ -1,6 +1,7 @@
 -- The grammar of expressions, rule by rule: the tree, or the first token with a fault
-use Rattle.std.specs.Prelude.{ℕ, zero, suc, Bool, true, false, ◌&&◌, if◌then◌else◌, List, [], ◌∷◌, ◌++◌}
-use Rattle.std.specs.Prelude.{length, nat_le, Option, Some, None, Result, Ok, Err}
+use Rattle.std.specs.Prelude.{◌≡◌, ℕ, zero, suc, Bool, true, false, ◌&&◌, if◌then◌else◌, List, [], ◌∷◌, ◌++◌}
+use Rattle.std.specs.Prelude.{length, nat_le, Option, Some, None, Result, Ok, Err, MatchResult}
+use Rattle.std.specs.Borrow.{Bor}
 use Rattle.ember_expr.specs.declared.trees.Rel.{Rel}
 use Rattle.ember_expr.specs.declared.trees.Term.{Term}
 use Rattle.ember_expr.specs.declared.fault.ExprFault.{ExprFault}
@@ -233,6 +234,25 @@ deeper scope (suc depth_left) = Some (not_with scope (deeper scope depth_left))
 -- the rule of `not`, if at most `depth_left` parentheses and signs `!` may be inside one another
 abbrev pub not : Scope → ℕ → Rule Formula
 not scope depth_left = not_with scope (deeper scope depth_left)
+
+-- a chain of parts that may have so many more inside
+abbrev pub chain_in : Operator → Scope → ℕ → Rule Formula
+chain_in kind scope depth_left = chain_of kind (part_of kind (not scope depth_left))
+
+-- ---- what a reader gives
+-- what the rule reads, with the tokens after it, or its first fault
+abbrev pub IsReadAs : {A : Type 0} → Result (Read A) ExprFault → Result (A × Bor (List Token)) ExprFault → Type 0
+IsReadAs reading result = MatchResult result (λ r. reading ≡ read r.0 r.1.now) (λ e. reading ≡ Err e)
+
+-- the tokens after a closing parenthesis
+abbrev pub IsClosedAs : Result (List Token) ExprFault → Result (Bor (List Token)) ExprFault → Type 0
+IsClosedAs reading result = MatchResult result (λ r. reading ≡ Ok r.now) (λ e. reading ≡ Err e)
+
+-- how many may be nested inside one at this place, or the fault that it is too deep
+abbrev pub IsOneDeeper : Scope → ℕ → ℕ → Result ℕ ExprFault → Type 0
+IsOneDeeper scope depth_left place result =
+    MatchResult result (λ inner. deeper scope depth_left ≡ Some (not scope inner))
+    (λ e. (deeper scope depth_left ≡ None) × (e ≡ Deep place))
 
 -- ---- the whole text
 -- the tree, if no token is left

@@ -1,8 +1,8 @@
 // The grammar of expressions, by recursive descent over the tokens.
-ghost use Rattle.std.specs.Prelude.{◌≡◌, ◌≤◌, ◌<◌, ◌+◌, ◌⊎◌, ◌++◌, ◌∷◌, [], IfOk, IfErr, OnOk, IfSome, MatchResult, MatchOption, length, Ok, Err, Some, None};
+ghost use Rattle.std.specs.Prelude.{◌≡◌, ◌≤◌, ◌<◌, ◌+◌, ◌⊎◌, ◌++◌, ◌∷◌, [], IfOk, IfErr, OnOk, IfSome, length, Ok, Err, Some, None};
 ghost use Rattle.ember_expr.specs.Limits.{most_expression_bytes, most_number};
 ghost use Rattle.ember_expr.specs.Formula.{formula_of, IsFit, IsFitSum, IsFitTerm, IsMeshNumber};
-ghost use Rattle.ember_expr.specs.Grammar.{read, misplaced, limited, mesh_number, mesh_winding, after_number, term, sign_before, after_first, first_term, sum, begins_with, join, chain_of, part_of, expect_close, relation, comparison, odd, not, deeper, whole};
+ghost use Rattle.ember_expr.specs.Grammar.{read, misplaced, limited, mesh_number, mesh_winding, after_number, term, sign_before, after_first, first_term, sum, begins_with, join, part_of, expect_close, relation, comparison, odd, not, deeper, whole, IsClosedAs, IsOneDeeper, IsReadAs, chain_in};
 ghost use Rattle.ember_expr.specs.declared.fault.ExprFault.TheVariants.{Deep, OutOfMemory};
 
 use crate::fault::ExprFault;
@@ -72,8 +72,7 @@ fn mesh_number(scope: Scope, place: u32, number: u32) -> Result<u32, ExprFault>
 
 // wN
 fn mesh_winding(scope: Scope, tokens: &[Token]) -> Result<(u32, &[Token]), ExprFault>
-    ensures reads { MatchResult result (λ r. mesh_winding scope tokens.now ≡ read r.0 r.1.now) (λ e.
-        mesh_winding scope tokens.now ≡ Err e) }
+    ensures reads { IsReadAs (mesh_winding scope tokens.now) result }
     ensures exists { IfOk result (λ r. IsMeshNumber scope.meshes r.0) }
     ensures shorter { IfOk result (λ r. length r.1.now < length tokens.now) }
 {
@@ -99,8 +98,7 @@ fn after_number(
     tokens: &[Token],
 ) -> Result<(Term, &[Token]), ExprFault>
     requires { factor ≤ most_number }
-    ensures reads { MatchResult result (λ r. after_number scope minus factor tokens.now ≡ read r.0 r.1.now) (λ e.
-        after_number scope minus factor tokens.now ≡ Err e) }
+    ensures reads { IsReadAs (after_number scope minus factor tokens.now) result }
     ensures fit { IfOk result (λ r. IsFitTerm scope.meshes r.0) }
     ensures shorter { IfOk result (λ r. length r.1.now ≤ length tokens.now) }
 {
@@ -137,8 +135,7 @@ fn after_number(
 
 // term = number [ "*" wN ] | wN
 fn term(scope: Scope, minus: bool, tokens: &[Token]) -> Result<(Term, &[Token]), ExprFault>
-    ensures reads { MatchResult result (λ r. term scope minus tokens.now ≡ read r.0 r.1.now) (λ e.
-        term scope minus tokens.now ≡ Err e) }
+    ensures reads { IsReadAs (term scope minus tokens.now) result }
     ensures fit { IfOk result (λ r. IsFitTerm scope.meshes r.0) }
     ensures shorter { IfOk result (λ r. length r.1.now < length tokens.now) }
 {
@@ -179,8 +176,7 @@ fn sign_before(tokens: &[Token]) -> Option<bool>
 
 // [ "-" ] term
 fn first_term(scope: Scope, tokens: &[Token]) -> Result<(Term, &[Token]), ExprFault>
-    ensures reads { MatchResult result (λ r. first_term scope tokens.now ≡ read r.0 r.1.now) (λ e.
-        first_term scope tokens.now ≡ Err e) }
+    ensures reads { IsReadAs (first_term scope tokens.now) result }
     ensures fit { IfOk result (λ r. IsFitTerm scope.meshes r.0) }
     ensures shorter { IfOk result (λ r. length r.1.now < length tokens.now) }
 {
@@ -221,8 +217,7 @@ fn add(terms: &mut Vec<Term>, next: Term) -> Result<(), ExprFault>
 
 // The tokens after a `)`.
 fn expect_close(scope: Scope, tokens: &[Token]) -> Result<&[Token], ExprFault>
-    ensures reads { MatchResult result (λ r. expect_close scope tokens.now ≡ Ok r.now) (λ e.
-        expect_close scope tokens.now ≡ Err e) }
+    ensures reads { IsClosedAs (expect_close scope tokens.now) result }
     ensures shorter { IfOk result (λ r. length r.now < length tokens.now) }
 {
     match tokens.split_first() {
@@ -240,8 +235,7 @@ fn expect_close(scope: Scope, tokens: &[Token]) -> Result<&[Token], ExprFault>
 }
 
 fn relation(scope: Scope, tokens: &[Token]) -> Result<(Rel, &[Token]), ExprFault>
-    ensures reads { MatchResult result (λ r. relation scope tokens.now ≡ read r.0 r.1.now) (λ e.
-        relation scope tokens.now ≡ Err e) }
+    ensures reads { IsReadAs (relation scope tokens.now) result }
     ensures shorter { IfOk result (λ r. length r.1.now < length tokens.now) }
 {
     match tokens.split_first() {
@@ -273,12 +267,9 @@ fn comparison(alloc: Global, scope: Scope, tokens: &[Token]) -> Result<(Tree, &[
 }
 
 // How many `(` and `!` may be nested inside this one, if `depth_left` may be nested from this one
-// on. If none may, it is too deep. In the clauses `not` is the grammar's rule, as in
-// docs/use/FORMATS.md, and not the negation.
+// on. If none may, it is too deep.
 fn one_deeper(depth_left: u32, place: u32) -> Result<u32, ExprFault>
-    ensures rule { (scope : Scope) →
-        MatchResult result (λ inner. deeper scope depth_left ≡ Some (not scope inner))
-        (λ e. (deeper scope depth_left ≡ None) × (e ≡ Deep place)) }
+    ensures rule { (scope : Scope) → IsOneDeeper scope depth_left place result }
     ensures one_less { IfOk result (λ inner. inner + 1 ≡ depth_left) }
 {
     if depth_left == 0 {
@@ -380,10 +371,9 @@ fn chain(
     tokens: &[Token],
 ) -> Result<(Tree, &[Token]), ExprFault>
     requires { length tokens.now ≤ most_expression_bytes }
-    ensures ok { IfOk result (λ r. chain_of kind (part_of kind (not scope depth_left)) tokens.now ≡
-        read (formula_of r.0) r.1.now) }
+    ensures ok { IfOk result (λ r. chain_in kind scope depth_left tokens.now ≡ read (formula_of r.0) r.1.now) }
     ensures fault { IfErr result (λ e. (e ≡ OutOfMemory) ⊎
-        (chain_of kind (part_of kind (not scope depth_left)) tokens.now ≡ Err e)) }
+        (chain_in kind scope depth_left tokens.now ≡ Err e)) }
     ensures fit { IfOk result (λ r. IsFit scope.meshes (formula_of r.0)) }
     ensures shorter { IfOk result (λ r. length r.1.now < length tokens.now) }
 {
@@ -396,7 +386,8 @@ fn chain(
     Ok((tree, rest))
 }
 
-// A part of a chain.
+// A part of a chain. In the clauses `not` is the grammar's rule, as in docs/use/FORMATS.md, and not
+// the negation.
 #[cycle(grammar)]
 fn part(
     alloc: Global,

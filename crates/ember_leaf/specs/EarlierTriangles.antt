@@ -9,7 +9,9 @@ use Rattle.ember_box.specs.declared.aabb.Aabb.{Aabb}
 use Rattle.ember_box.specs.Near.{tri_at}
 use Rattle.ember_box.specs.Regions.{cutting_planes_of, cutting_planes}
 use Rattle.ember_poly.specs.Cuts.{HasInside}
+use Rattle.ember_trace.specs.declared.near_triangle.NearTriangle.{NearTriangle}
 use Rattle.ember_leaf.specs.declared.cutter.Cutter.{Cutter}
+use Rattle.ember_leaf.specs.KeptRegions.{tris_of}
 use Rattle.ember_leaf.specs.Cutters.{cutting_planes_in, owners_in, IsBounded, OmitsUnmet, AddsCuttingPlanes}
 use Rattle.ember_leaf.specs.TriRelations.{HasContaining}
 
@@ -91,3 +93,16 @@ AreCuttingPlanesFound ts i t b cutters covered =
 abbrev pub AreOwnersFound : {W M : Type 0} {G : Ghosts W M} → List Tri → ℕ → Tri → Aabb → List (Cutter W M G) → Bool →
     Type 0
 AreOwnersFound ts i t b cutters covered = AreEarlierOrCovered ts i t b (owners_in cutters) covered
+
+-- ---- the same of near triangles
+abbrev pub AddsPlanesNear : {W M : Type 0} {G : Ghosts W M} → Aabb → NearTriangle W M G → NearTriangle W M G →
+    List (Cutter W M G) → List (Cutter W M G) → Bool → Type 0
+AddsPlanesNear b t u old new covered = AddsCuttingPlanesWithin b t.tri u.tri old new covered
+
+abbrev pub AddsOwnersNear : {W M : Type 0} {G : Ghosts W M} → Aabb → NearTriangle W M G → NearTriangle W M G → Bool →
+    List (Cutter W M G) → List (Cutter W M G) → Bool → Type 0
+AddsOwnersNear b t u is_before old new covered = AddsOwnersWithin b t.tri u.tri is_before old new covered
+
+abbrev pub AreCuttingPlanesNear : {W M : Type 0} {G : Ghosts W M} → List (NearTriangle W M G) → ℕ →
+    NearTriangle W M G → Aabb → List (Cutter W M G) → Bool → Type 0
+AreCuttingPlanesNear near i t b cutters covered = AreCuttingPlanesFound (tris_of near) i t.tri b cutters covered

@@ -15,6 +15,10 @@ use Rattle.ember_leaf.specs.declared.relation.Relation.TheVariants.{Apart, Other
 abbrev pub MissesClosedFace : Tri → Tri → Type 0
 MissesClosedFace t u = Everywhere (face_of t) (λ v. is_in_closed (face_of u) v ≡ false)
 
+-- the same both ways
+abbrev pub AreSeparate : Tri → Tri → Type 0
+AreSeparate t u = MissesClosedFace t u × MissesClosedFace u t
+
 -- the inside of u lies behind the edge plane of t with this index
 abbrev pub IsBehindEdge : Tri → Tri → ℕ → Type 0
 IsBehindEdge t u i =

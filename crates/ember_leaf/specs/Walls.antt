@@ -1,5 +1,5 @@
 -- What the walls of a box leave of a triangle
-use Rattle.std.specs.Prelude.{true, false, if◌then◌else◌, List, [], ◌∷◌, ℤ, pos, ◌<ℤ◌, ◌≤ℤ◌, ⊤}
+use Rattle.std.specs.Prelude.{Bool, true, false, if◌then◌else◌, List, [], ◌∷◌, ℤ, pos, ◌<ℤ◌, ◌≤ℤ◌, ⊤}
 use Rattle.ember_algebra.specs.Relations.{Each, Chain}
 use Rattle.ember_model.specs.declared.point.Axis.{Axis}
 use Rattle.ember_model.specs.declared.point.Axis.TheVariants.{X, Y, Z}
@@ -50,6 +50,14 @@ abbrev pub IsRemainder : regions.Wall → Tri → Remainder → Type 0
 IsRemainder w t Whole = (f : Face) → IsPartOf t f → AreLeftByWall w f (f ∷ [])
 IsRemainder w t Nothing = (f : Face) → IsPartOf t f → AreLeftByWall w f []
 IsRemainder w t Unknown = ⊤
+
+-- the face, if some of it is left
+abbrev pub face_if : Bool → Face → List Face
+face_if some f = if some then f ∷ [] else []
+
+-- what is left is so: the face, or nothing
+abbrev pub LeavesIf : (List Face → Type 0) → Face → Bool → Type 0
+LeavesIf IsLeft f some = IsLeft (face_if some f)
 
 -- what the walls, one after another, leave of t: one face, or none
 abbrev pub IsClippedBy : List regions.Wall → Tri → List Face → Type 0

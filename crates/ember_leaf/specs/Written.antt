@@ -13,8 +13,9 @@ use Rattle.ember_model.specs.Owners.{is_coplanar, IsOwner}
 use Rattle.ember_model.specs.Sides.{IsSides}
 use Rattle.ember_expr.specs.Formula.{Formula}
 use Rattle.ember_expr.specs.Truth.{truth}
-use Rattle.ember_box.specs.Boxes.{Cell}
-use Rattle.ember_box.specs.Reference.{FitsWithin}
+use Rattle.ember_width.specs.declared.width.Width.{Ghosts}
+use Rattle.ember_box.specs.Boxes.{Cell, in_steps}
+use Rattle.ember_box.specs.Reference.{FitsWithin, Fits}
 use Rattle.ember_box.specs.Regions.{IsRegions}
 use Rattle.ember_leaf.specs.Cutters.{Without}
 use Rattle.ember_leaf.specs.declared.kept.Kept.{Kept}
@@ -90,3 +91,15 @@ pub record AreOwned (c : Cell) (near : List Tri) (i : ℕ) (fs : List Face) : Ty
   pub all : List Face
   pub are_regions : IsRegions c near i all
   pub owned : Without (λ f. IsOwner near i f → ⊥) (IsOwner near i) all fs
+
+-- ---- of a leaf with these near triangles and counts: this is written in each scene that fits what is known at the box
+abbrev pub IsWrittenWhereFitsOn : {W M : Type 0} → Ghosts W M → Formula → Cell → List Tri → List ℤ →
+    List (Kept W M) → Type 0
+IsWrittenWhereFitsOn G e c near counts ks =
+    (scene : List Tri) → FitsWithin G.corner G.fine scene near (in_steps G.scale c) counts →
+    IsWrittenIn scene e (in_steps G.scale c) near ks
+
+-- on the narrow grid
+abbrev pub IsWrittenWhereFits : {W M : Type 0} → Formula → Cell → List Tri → List ℤ → List (Kept W M) → Type 0
+IsWrittenWhereFits e c near counts ks =
+    (scene : List Tri) → Fits scene near c counts → IsWrittenIn scene e c near ks

@@ -1,5 +1,5 @@
 // The part of a triangle that belongs to a box.
-ghost use Rattle.std.specs.Prelude.{◌≡◌, true, false, [], ◌∷◌, All, map, if◌then◌else◌, IfOk, OnOk};
+ghost use Rattle.std.specs.Prelude.{◌≡◌, true, false, [], All, map, if◌then◌else◌, IfOk, OnOk};
 ghost use Rattle.ember_algebra.specs.Size.{Small};
 ghost use Rattle.ember_box.specs.Aabbs.{IsIntervalWithin, most_wall};
 ghost use Rattle.ember_model.specs.Planes.{opposite};
@@ -9,7 +9,7 @@ ghost use Rattle.ember_box.specs.Regions.{level, AreLeftByWall};
 ghost use Rattle.ember_box.specs.Regions as regions;
 ghost use Rattle.ember_poly.specs.Drafts.{face_in, HoldsRing};
 ghost use Rattle.ember_leaf.specs.Cutters.{common, common_of};
-ghost use Rattle.ember_leaf.specs.Walls.{wall_of, level_by, IsLowRemainder, IsHighRemainder, IsRemainder, IsClippedBy};
+ghost use Rattle.ember_leaf.specs.Walls.{wall_of, level_by, IsLowRemainder, IsHighRemainder, IsRemainder, IsClippedBy, LeavesIf};
 
 use crate::wall::Wall;
 use ember_box::{Aabb, Cell, Interval, aabb_on, interval_along};
@@ -197,8 +197,7 @@ fn clip_at_wall<W: Width>(draft: &mut Draft<W>, wall: &Wall) -> Result<bool, Out
     requires ring { HoldsRing W.IsPlane W.spot draft.old }
     requires wall { W.IsPlane (wall_of wall.now).plane }
     ensures ring { OnOk result (HoldsRing W.IsPlane W.spot draft.new) }
-    ensures left { IfOk result (λ some. AreLeftByWall (wall_of wall.now) (face_in draft.old) (if some
-        then face_in draft.new ∷ [] else [])) }
+    ensures left { IfOk result (LeavesIf (AreLeftByWall (wall_of wall.now) (face_in draft.old)) (face_in draft.new)) }
 {
     let side = draft.clip(&plane_of(wall))?;
     match side {
@@ -220,8 +219,7 @@ fn clip_at_walls<W: Width>(
     requires whole { face_in draft.old ≡ face_of triangle.now.tri }
     requires walls { All (λ wall. W.IsPlane (wall_of wall).plane) walls.now }
     ensures ring { OnOk result (HoldsRing W.IsPlane W.spot draft.new) }
-    ensures left { IfOk result (λ some. IsClippedBy (map wall_of walls.now) triangle.now.tri (if some
-        then face_in draft.new ∷ [] else [])) }
+    ensures left { IfOk result (LeavesIf (IsClippedBy (map wall_of walls.now) triangle.now.tri) (face_in draft.new)) }
 {
     for wall in walls {
         match remainder_at(wall, triangle) {
@@ -248,8 +246,7 @@ pub fn clip_to_box<W: Width>(
     requires normal { is_flat triangle.now.tri ≡ false }
     requires walls { All (λ wall. W.IsPlane (wall_of wall).plane) walls.now }
     ensures ring { OnOk result (HoldsRing W.IsPlane W.spot draft.new) }
-    ensures left { IfOk result (λ some. IsClippedBy (map wall_of walls.now) triangle.now.tri (if some
-        then face_in draft.new ∷ [] else [])) }
+    ensures left { IfOk result (LeavesIf (IsClippedBy (map wall_of walls.now) triangle.now.tri) (face_in draft.new)) }
 {
     draft.begin(&triangle.tri, &triangle.support, &triangle.edges)?;
     clip_at_walls(draft, triangle, walls)

@@ -9,8 +9,8 @@ ghost use Rattle.ember_model.specs.Owners.{is_coplanar};
 ghost use Rattle.ember_box.specs.Near.{tri_at};
 ghost use Rattle.ember_leaf.specs.KeptRegions.{tris_of};
 ghost use Rattle.ember_leaf.specs.Cutters.{role_if, IsAdded, IsCutterOf};
-ghost use Rattle.ember_leaf.specs.EarlierTriangles.{AddsPlanesOf, AddsOwners};
-ghost use Rattle.ember_leaf.specs.EarlierTriangles.{AddsCuttingPlanesWithin, AddsOwnersWithin, AreCuttingPlanesFound, AreOwnersFound};
+ghost use Rattle.ember_leaf.specs.EarlierTriangles.{AddsPlanesOf, AddsOwners, AddsPlanesNear, AddsOwnersNear, AreCuttingPlanesNear};
+ghost use Rattle.ember_leaf.specs.EarlierTriangles.{AreOwnersFound};
 
 use crate::cutter::{Cutter, Role};
 use crate::relation::{Relation, covers, is_flat, relation_of};
@@ -113,9 +113,9 @@ fn add_near_unless_covering<W: Width>(
     requires cutters { All (IsCutterOf target.now.tri) list.old.items }
     ensures cutters { OnOk result (All (IsCutterOf target.now.tri) list.new.items) }
     ensures cutting_planes { IfOk result
-        (AddsCuttingPlanesWithin bounds.now target.now.tri other.now.tri list.old.items list.new.items) }
+        (AddsPlanesNear bounds.now target.now other.now list.old.items list.new.items) }
     ensures owners { IfOk result
-        (AddsOwnersWithin bounds.now target.now.tri other.now.tri is_before list.old.items list.new.items) }
+        (AddsOwnersNear bounds.now target.now other.now is_before list.old.items list.new.items) }
 {
     if aabbs_meet(bounds, &other.aabb) {
         add_unless_covering(list, target, other, is_before)
@@ -139,7 +139,7 @@ pub fn find_cutters_unless_covered<W: Width>(
     requires target { target.now.tri ≡ tri_at (tris_of near.now) i }
     ensures cutters { OnOk result (All (IsCutterOf target.now.tri) list.new.items) }
     ensures cutting_planes { IfOk result
-        (AreCuttingPlanesFound (tris_of near.now) i target.now.tri bounds.now list.new.items) }
+        (AreCuttingPlanesNear near.now i target.now bounds.now list.new.items) }
     ensures owners { IfOk result (AreOwnersFound (tris_of near.now) i target.now.tri bounds.now list.new.items) }
 {
     list.clear();

@@ -1,5 +1,5 @@
 // The written regions of a leaf.
-ghost use Rattle.std.specs.Prelude.{◌≡◌, List, [], ◌∷◌, ◌≤◌, ◌<◌, ◌+◌, ◌*◌, map, length, All};
+ghost use Rattle.std.specs.Prelude.{◌≡◌, [], ◌∷◌, ◌≤◌, ◌<◌, ◌+◌, ◌*◌, map, length, All};
 ghost use Rattle.std.specs.Prelude.{IfOk, IfSome, OnOk, option_to_list};
 ghost use Rattle.ember_model.specs.Limits.{most_triangles};
 ghost use Rattle.ember_model.specs.Within.{IsTriWithin};
@@ -9,7 +9,6 @@ ghost use Rattle.ember_model.specs.Meshes.{HasMesh};
 ghost use Rattle.ember_box.specs.Near.{tri_at};
 ghost use Rattle.ember_model.specs.declared.tri.Tri.{Tri as TriView};
 ghost use Rattle.ember_box.specs.Boxes.{in_steps};
-ghost use Rattle.ember_box.specs.Reference.{FitsWithin, Fits};
 ghost use Rattle.ember_box.specs.Aabbs.{aabb_of_cell};
 ghost use Rattle.ember_box.specs.Regions.{walls as box_walls};
 ghost use Rattle.ember_leaf.specs.Walls.{wall_of};
@@ -18,7 +17,7 @@ ghost use Rattle.ember_trace.specs.Boxed.{LiesIn};
 ghost use Rattle.ember_algebra.specs.Sign.{is_positive};
 ghost use Rattle.ember_model.specs.Planes.{along, main_axis};
 ghost use Rattle.ember_expr.specs.Formula.{formula_of};
-ghost use Rattle.ember_leaf.specs.Written.{IsFlip, IsWrittenIn, AreOwned};
+ghost use Rattle.ember_leaf.specs.Written.{IsFlip, AreOwned, IsWrittenWhereFits, IsWrittenWhereFitsOn};
 ghost use Rattle.ember_leaf.specs.LeafBoxes.{WritesRegion, AddsWritten};
 ghost use Rattle.ember_leaf.specs.KeptRegions.{LiesInPlaneOf, IsKeptOf, ArePlaced, ArePlacedBelow, tris_of};
 
@@ -236,9 +235,7 @@ pub fn leaf_faces_on<W: Width>(
     requires few { length near.now ≤ most_triangles }
     requires counts { AreBoxCounts v.now.counts }
     ensures placed { IfOk result (λ ks. ArePlaced near.now ks) }
-    ensures written { IfOk result (λ ks. (scene : List TriView) →
-        FitsWithin W.corner W.fine scene near.now (in_steps W.scale c.now) v.now.counts →
-        IsWrittenIn scene (formula_of e.now) (in_steps W.scale c.now) near.now ks) }
+    ensures written { IfOk result (IsWrittenWhereFitsOn W.Width (formula_of e.now) c.now near.now v.now.counts) }
 {
     let near_triangles = near_triangles_on::<W>(alloc, near, c)?;
     let aabb = aabb_on::<W>(c);
@@ -284,8 +281,7 @@ pub fn leaf_faces(
     requires few { length near.now ≤ most_triangles }
     requires counts { AreBoxCounts v.now.counts }
     ensures placed { IfOk result (λ ks. ArePlaced near.now ks) }
-    ensures written { IfOk result (λ ks. (scene : List TriView) → Fits scene near.now c.now v.now.counts →
-        IsWrittenIn scene (formula_of e.now) c.now near.now ks) }
+    ensures written { IfOk result (IsWrittenWhereFits (formula_of e.now) c.now near.now v.now.counts) }
 {
     leaf_faces_on::<Narrow>(alloc, e, c, near, v)
 }

@@ -2,7 +2,7 @@
 ghost use Rattle.std.specs.Prelude.{◌≡◌, ◌<◌, true, false};
 ghost use Rattle.ember_model.specs.Faces.{is_flat, face_of, Contains};
 ghost use Rattle.ember_model.specs.Owners.{is_coplanar};
-ghost use Rattle.ember_leaf.specs.TriRelations.{MissesClosedFace, IsBehindEdge, IsRelation};
+ghost use Rattle.ember_leaf.specs.TriRelations.{MissesClosedFace, IsBehindEdge, IsRelation, AreSeparate};
 
 use ember_model::has_no_normal;
 use ember_trace::NearTriangle;
@@ -30,8 +30,7 @@ pub fn is_flat<W: Width>(triangle: &NearTriangle<W>) -> bool
 fn separates<W: Width>(first: &NearTriangle<W>, second: &NearTriangle<W>) -> bool
     requires first { is_flat first.now.tri ≡ false }
     requires second { is_flat second.now.tri ≡ false }
-    ensures { result ≡ true →
-        MissesClosedFace first.now.tri second.now.tri × MissesClosedFace second.now.tri first.now.tri }
+    ensures { result ≡ true → AreSeparate first.now.tri second.now.tri }
 {
     for i in 0..3 {
         if heights_of(&first.edges[i], &second.tri).lie_in_front() {

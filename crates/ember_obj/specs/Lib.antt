@@ -1,4 +1,5 @@
 pub mod Scan
+pub mod Errors
 pub mod Lines
 pub mod References
 pub mod Table

@@ -43,6 +43,9 @@ pub record Line : Type 0 where
   pub number : ℕ
   pub text : List ℕ
 
+abbrev pub line_with : ℕ → List ℕ → Line
+line_with number text = record { number = number; text = text }
+
 -- the joined lines with a text put before the first one; that line gets this number
 abbrev pub joined_to : ℕ → List ℕ → List Line → List Line
 joined_to number text [] = (record { number = number; text = text }) ∷ []
@@ -59,6 +62,28 @@ joined_lines number (line ∷ lines) =
 -- the joined lines of the bytes from the beginning of a physical line on, which has this number
 abbrev pub lines_from : ℕ → List ℕ → List Line
 lines_from number bytes = joined_lines number (physical_lines bytes)
+
+-- the same, with this physical line in front of the bytes
+abbrev pub lines_with : ℕ → List ℕ → List ℕ → List Line
+lines_with number line after = joined_lines number (line ∷ physical_lines after)
+
+-- the same, with this text in front of the first line, which gets the number
+abbrev pub continued_lines : ℕ → List ℕ → ℕ → List ℕ → List Line
+continued_lines number text next bytes = joined_to number text (lines_from next bytes)
+
+-- the first physical line of the bytes, and the bytes after it
+abbrev pub BeginWithLine : List ℕ → List ℕ → List ℕ → Type 0
+BeginWithLine bytes line rest = physical_lines bytes ≡ line ∷ physical_lines rest
+
+-- the first of the lines, and then those of the bytes after it
+abbrev pub AreLineThen : List Line → ℕ → List ℕ → ℕ → List ℕ → Type 0
+AreLineThen lines number text next rest =
+    lines ≡ (record { number = number; text = text }) ∷ lines_from next rest
+
+-- the new text is the old one with the rest of its line; then the lines go on
+abbrev pub JoinsRest : ℕ → List ℕ → ℕ → List ℕ → List ℕ → ℕ → List ℕ → Type 0
+JoinsRest number old next bytes new number_after rest =
+    AreLineThen (continued_lines number old next bytes) number new number_after rest
 
 -- the first line has this number and more bytes than a line may have
 abbrev pub BeginsLong : ℕ → List Line → Type 0

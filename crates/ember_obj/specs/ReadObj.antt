@@ -5,12 +5,13 @@ use Rattle.ember_dec.specs.Decimal.{coordinate_of}
 use Rattle.ember_dec.specs.declared.DecFault.{DecFault}
 use Rattle.ember_model.specs.declared.point.Corner.{Corner}
 use Rattle.ember_model.specs.declared.tri.Tri.{Tri}
+use Rattle.ember_model.specs.declared.tri.Soup.{Soup}
 use Rattle.ember_obj.specs.declared.fault.ObjFault.{ObjFault}
 use Rattle.ember_obj.specs.declared.fault.ObjFault.TheVariants.{Word, Coordinate, FewCorners, LongLine, TooMany}
 use Rattle.ember_obj.specs.declared.reading.Keyword.{Keyword}
 use Rattle.ember_obj.specs.declared.reading.Keyword.TheVariants.{Vertex, Face, Other}
-use Rattle.ember_obj.specs.Scan.{fields_of, first_three}
-use Rattle.ember_obj.specs.Lines.{Line, unmarked, physical_lines, joined_lines, lines_from}
+use Rattle.ember_obj.specs.Scan.{fields_of, first_three, first_three_in}
+use Rattle.ember_obj.specs.Lines.{Line, unmarked, lines_from, lines_with}
 use Rattle.ember_obj.specs.References.{corners_of, fan}
 use Rattle.ember_obj.specs.Table.{Table, FileTriangles}
 
@@ -59,6 +60,13 @@ with_face mesh line table (Err fault) = Err fault
 with_face mesh line table (Ok corners) =
     if nat_lt (length corners) 3 then Err (FewCorners line) else with_tris line table (fan mesh corners)
 
+-- ---- the same of the fields in these bytes
+abbrev pub with_vertex_in : ℕ → ℕ → Table → List ℕ → Result Table ObjFault
+with_vertex_in places line table fields = with_vertex line table (corner_in places line (first_three_in fields))
+
+abbrev pub with_face_in : ℕ → ℕ → Table → List ℕ → Result Table ObjFault
+with_face_in mesh line table fields = with_face mesh line table (corners_of line table.vertices (fields_of fields))
+
 -- what is read after a line with this keyword and these fields
 abbrev pub after_keyword : ℕ → ℕ → ℕ → Table → Keyword → List (List ℕ) → Result Table ObjFault
 after_keyword places mesh line table Vertex fields = with_vertex line table (corner_in places line (first_three fields))
@@ -82,12 +90,15 @@ after_lines places mesh so_far [] = so_far
 after_lines places mesh (Err fault) (line ∷ lines) = Err fault
 after_lines places mesh (Ok table) (line ∷ lines) = after_lines places mesh (after_line places mesh table line) lines
 
+-- the same from this table on
+abbrev pub read_on : ℕ → ℕ → Table → List Line → Result Table ObjFault
+read_on places mesh table lines = after_lines places mesh (Ok table) lines
+
 -- one joined line was read: reading on with the table `old`, from this line and the bytes after it, gives what reading
 -- on with the table `new` gives, from the bytes `rest`, where the line with the number `next` begins
 abbrev pub ReadsOneLine : ℕ → ℕ → Table → ℕ → List ℕ → List ℕ → Table → ℕ → List ℕ → Type 0
 ReadsOneLine places mesh old number line after new next rest =
-    after_lines places mesh (Ok old) (joined_lines number (line ∷ physical_lines after)) ≡
-    after_lines places mesh (Ok new) (lines_from next rest)
+    read_on places mesh old (lines_with number line after) ≡ read_on places mesh new (lines_from next rest)
 
 -- the triangles of a file, once all lines are read
 abbrev pub file_triangles_of : Result Table ObjFault → Result FileTriangles ObjFault
@@ -102,3 +113,7 @@ table_of places mesh bytes =
 -- the triangles of a file with their lines, or its first fault
 abbrev pub read_obj_of : ℕ → ℕ → List ℕ → Result FileTriangles ObjFault
 read_obj_of places mesh bytes = file_triangles_of (table_of places mesh bytes)
+
+-- the triangles and lines of a soup are those that are read
+abbrev pub IsSoupOf : Result FileTriangles ObjFault → Soup → Type 0
+IsSoupOf read soup = read ≡ Ok (record { tris = soup.tris; lines = soup.lines })

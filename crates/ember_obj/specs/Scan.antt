@@ -1,5 +1,6 @@
 -- Parts of a text.
-use Rattle.std.specs.Prelude.{ℕ, Bool, ◌||◌, List, [], ◌∷◌, ◌++◌, if◌then◌else◌, ◌==◌, Option, None, Some}
+use Rattle.std.specs.Prelude.{ℕ, Bool, ◌||◌, List, [], ◌∷◌, ◌++◌, if◌then◌else◌, ◌==◌, Option, None, Some, ◌≡◌, MatchOption}
+use Rattle.std.specs.Borrow.{Bor}
 
 -- the bytes before the first byte of a kind
 abbrev pub before : (ℕ → Bool) → List ℕ → List ℕ
@@ -36,3 +37,15 @@ first_three [] = None
 first_three (a ∷ []) = None
 first_three (a ∷ b ∷ []) = None
 first_three (a ∷ b ∷ c ∷ more) = Some (a, b, c)
+
+-- the first field of the bytes, and the bytes after it
+abbrev pub BeginWithField : List ℕ → List ℕ → List ℕ → Type 0
+BeginWithField bytes field rest = fields_of bytes ≡ field ∷ fields_of rest
+
+abbrev pub first_three_in : List ℕ → Option (List ℕ × List ℕ × List ℕ)
+first_three_in bytes = first_three (fields_of bytes)
+
+-- the three are these; none if there are fewer
+abbrev pub AreFirstThree : List ℕ → Option (Bor (List ℕ) × Bor (List ℕ) × Bor (List ℕ)) → Type 0
+AreFirstThree bytes result =
+    MatchOption result (first_three_in bytes ≡ None) (λ t. first_three_in bytes ≡ Some (t.0.now, t.1.now, t.2.now))

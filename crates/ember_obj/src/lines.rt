@@ -1,8 +1,9 @@
 // Physical lines, and lines that are joined from several.
-ghost use Rattle.std.specs.Prelude.{◌≡◌, ◌⊎◌, ◌+◌, ◌^◌, ◌<◌, ◌≤◌, [], ◌∷◌, ◌++◌, true, length, MatchOption, IfSome, OnOk, IfOk, IfErr};
+ghost use Rattle.std.specs.Prelude.{◌≡◌, ◌+◌, ◌^◌, ◌<◌, ◌≤◌, [], ◌++◌, true, length, MatchOption, IfSome, OnOk, IfOk, IfErr};
 ghost use Rattle.std.specs.List.{list_any};
 ghost use Rattle.ember_obj.specs.Scan.{before};
-ghost use Rattle.ember_obj.specs.Lines.{unmarked, without_return, physical_lines, is_hash, is_continued, with_space, joined_to, joined_lines, lines_from, Line, BeginsLong};
+ghost use Rattle.ember_obj.specs.Lines.{unmarked, without_return, physical_lines, is_hash, is_continued, with_space, AreLineThen, BeginWithLine, JoinsRest, continued_lines, lines_with};
+ghost use Rattle.ember_obj.specs.Errors.{IsLineError, IsFirstLineError};
 
 use crate::fault::ObjFault;
 use crate::scan::cut_before;
@@ -36,8 +37,7 @@ fn trim_return(line: &[u8]) -> &[u8]
 
 // The first physical line, and what follows it.
 pub(crate) fn next_line(bytes: &[u8]) -> Option<(&[u8], &[u8])>
-    ensures lines { MatchOption result (physical_lines bytes.now ≡ []) (λ p. physical_lines bytes.now ≡ p.0.now ∷
-        physical_lines p.1.now) }
+    ensures lines { MatchOption result (physical_lines bytes.now ≡ []) (λ p. BeginWithLine bytes.now p.0.now p.1.now) }
     ensures shorter { IfSome result (λ p. length p.1.now < length bytes.now) }
 {
     if bytes.is_empty() {
@@ -74,8 +74,7 @@ pub(crate) fn skip_comment(line: &[u8]) -> &[u8]
 // Appends a part of the joined line with this number.
 fn append(text: &mut Vec<u8>, number: u32, part: &[u8]) -> Result<(), ObjFault>
     ensures ok { OnOk result (text.new.items ≡ text.old.items ++ part.now) }
-    ensures fault { IfErr result (λ e. (e ≡ ObjFault.OutOfMemory) ⊎
-        ((e ≡ ObjFault.LongLine number) × (MOST_BYTES < length (text.old.items ++ part.now)))) }
+    ensures fault { IfErr result (IsLineError number (MOST_BYTES < length (text.old.items ++ part.now))) }
 {
     if part.len() > MOST_BYTES.saturating_sub(text.len()) {
         return Err(ObjFault::LongLine(number));
@@ -90,8 +89,7 @@ fn append(text: &mut Vec<u8>, number: u32, part: &[u8]) -> Result<(), ObjFault>
 fn append_continued(text: &mut Vec<u8>, number: u32, line: &[u8]) -> Result<(), ObjFault>
     requires { 0 < length line.now }
     ensures ok { OnOk result (text.new.items ≡ text.old.items ++ with_space line.now) }
-    ensures fault { IfErr result (λ e. (e ≡ ObjFault.OutOfMemory) ⊎
-        ((e ≡ ObjFault.LongLine number) × (MOST_BYTES < length (text.old.items ++ with_space line.now)))) }
+    ensures fault { IfErr result (IsLineError number (MOST_BYTES < length (text.old.items ++ with_space line.now))) }
 {
     append(text, number, line.split_at(line.len() - 1).0)?;
     append(text, number, b" ")
@@ -108,13 +106,10 @@ fn append_rest<'a>(
     bytes: &'a [u8],
 ) -> Result<(u32, &'a [u8]), ObjFault>
     requires { next + length bytes.now < 2 ^ 32 }
-    ensures ok { IfOk result (λ p. joined_to number text.old.items (lines_from next bytes.now) ≡
-        (record { number = number; text = text.new.items }) ∷ lines_from p.0 p.1.now) }
+    ensures ok { IfOk result (λ p. JoinsRest number text.old.items next bytes.now text.new.items p.0 p.1.now) }
     ensures shorter { IfOk result (λ p. length p.1.now ≤ length bytes.now) }
     ensures numbers { IfOk result (λ p. p.0 + length p.1.now ≤ next + length bytes.now) }
-    ensures fault { IfErr result (λ e. (e ≡ ObjFault.OutOfMemory) ⊎
-        ((e ≡ ObjFault.LongLine number) ×
-        BeginsLong number (joined_to number text.old.items (lines_from next bytes.now)))) }
+    ensures fault { IfErr result (IsFirstLineError number (continued_lines number text.old.items next bytes.now)) }
 {
     let mut next = next;
     let mut rest = bytes;
@@ -142,13 +137,10 @@ pub(crate) fn join<'a>(
 ) -> Result<(u32, &'a [u8]), ObjFault>
     requires continued { is_continued line.now ≡ true }
     requires numbers { number + 1 + length after.now < 2 ^ 32 }
-    ensures ok { IfOk result (λ p. joined_lines number (line.now ∷ physical_lines after.now) ≡
-        (record { number = number; text = text.new.items }) ∷ lines_from p.0 p.1.now) }
+    ensures ok { IfOk result (λ p. AreLineThen (lines_with number line.now after.now) number text.new.items p.0 p.1.now) }
     ensures shorter { IfOk result (λ p. length p.1.now ≤ length after.now) }
     ensures numbers { IfOk result (λ p. p.0 + length p.1.now ≤ number + 1 + length after.now) }
-    ensures fault { IfErr result (λ e. (e ≡ ObjFault.OutOfMemory) ⊎
-        ((e ≡ ObjFault.LongLine number) ×
-        BeginsLong number (joined_lines number (line.now ∷ physical_lines after.now)))) }
+    ensures fault { IfErr result (IsFirstLineError number (lines_with number line.now after.now)) }
 {
     text.clear();
     append_continued(text, number, line)?;

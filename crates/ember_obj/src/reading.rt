@@ -1,10 +1,9 @@
 // The table of vertices and triangles, and the pass over a file.
-ghost use Rattle.std.specs.Prelude.{◌≡◌, ◌⊎◌, ◌+◌, ◌^◌, ◌<◌, ◌≤◌, [], ◌∷◌, length, All, Ok, Err, OnOk, IfOk, IfErr};
+ghost use Rattle.std.specs.Prelude.{◌≡◌, ◌+◌, ◌^◌, ◌<◌, ◌≤◌, [], length, All, Ok, Err, OnOk, IfOk, IfErr};
 ghost use Rattle.ember_model.specs.Limits.{most_bytes, most_triangles};
-ghost use Rattle.ember_obj.specs.Scan.{fields_of, first_three};
-ghost use Rattle.ember_obj.specs.Lines.{physical_lines, joined_lines};
-ghost use Rattle.ember_obj.specs.References.{corners_of};
-ghost use Rattle.ember_obj.specs.ReadObj.{keyword_of, corner_in, with_vertex, with_face, after_line, after_lines, ReadsOneLine, read_obj_of};
+ghost use Rattle.ember_obj.specs.ReadObj.{keyword_of, after_line, ReadsOneLine, read_obj_of, IsSoupOf, with_face_in, with_vertex_in, read_on};
+ghost use Rattle.ember_obj.specs.Errors.{IsErrorOf};
+ghost use Rattle.ember_obj.specs.Lines.{lines_with, line_with};
 
 use crate::fault::ObjFault;
 use crate::lines::{MOST_BYTES, continues, join, next_line, skip_comment, skip_mark};
@@ -70,10 +69,8 @@ impl Table {
 
     fn add_vertex(&mut self, places: u8, line: u32, fields: &[u8]) -> Result<(), ObjFault>
         requires { places ≤ 3 }
-        ensures ok { OnOk result
-            (with_vertex line self.old (corner_in places line (first_three (fields_of fields.now))) ≡ Ok self.new) }
-        ensures fault { IfErr result (λ e. (e ≡ ObjFault.OutOfMemory) ⊎
-            (with_vertex line self.old (corner_in places line (first_three (fields_of fields.now))) ≡ Err e)) }
+        ensures ok { OnOk result (with_vertex_in places line self.old fields.now ≡ Ok self.new) }
+        ensures fault { IfErr result (IsErrorOf (with_vertex_in places line self.old fields.now)) }
     {
         let corner = read_vertex(places, line, fields)?;
         if self.vertices.len() >= MOST_VERTICES {
@@ -87,10 +84,8 @@ impl Table {
 
     #[tactic(auto, using(crate::proofs::Joins::length_fan))]
     fn add_face(&mut self, mesh: u32, line: u32, fields: &[u8]) -> Result<(), ObjFault>
-        ensures ok { OnOk result
-            (with_face mesh line self.old (corners_of line self.old.vertices (fields_of fields.now)) ≡ Ok self.new) }
-        ensures fault { IfErr result (λ e. (e ≡ ObjFault.OutOfMemory) ⊎
-            (with_face mesh line self.old (corners_of line self.old.vertices (fields_of fields.now)) ≡ Err e)) }
+        ensures ok { OnOk result (with_face_in mesh line self.old fields.now ≡ Ok self.new) }
+        ensures fault { IfErr result (IsErrorOf (with_face_in mesh line self.old fields.now)) }
     {
         read_corners(&mut self.corners, line, &self.vertices, fields)?;
         if self.corners.len() < 3 {
@@ -108,10 +103,8 @@ impl Table {
     // Reads one line, joined and without comments.
     fn add_line(&mut self, places: u8, mesh: u32, number: u32, text: &[u8]) -> Result<(), ObjFault>
         requires { places ≤ 3 }
-        ensures ok { OnOk result (after_line places mesh self.old (record { number = number; text = text.now }) ≡
-            Ok self.new) }
-        ensures fault { IfErr result (λ e. (e ≡ ObjFault.OutOfMemory) ⊎
-            (after_line places mesh self.old (record { number = number; text = text.now }) ≡ Err e)) }
+        ensures ok { OnOk result (after_line places mesh self.old (line_with number text.now) ≡ Ok self.new) }
+        ensures fault { IfErr result (IsErrorOf (after_line places mesh self.old (line_with number text.now))) }
     {
         if text.len() > MOST_BYTES {
             return Err(ObjFault::LongLine(number));
@@ -147,9 +140,7 @@ impl Table {
             ReadsOneLine places mesh self.old number line.now after.now self.new p.0 p.1.now) }
         ensures shorter { IfOk result (λ p. length p.1.now ≤ length after.now) }
         ensures numbers { IfOk result (λ p. p.0 + length p.1.now ≤ number + 1 + length after.now) }
-        ensures fault { IfErr result (λ e. (e ≡ ObjFault.OutOfMemory) ⊎
-            (after_lines places mesh (Ok self.old) (joined_lines number (line.now ∷ physical_lines after.now)) ≡
-            Err e)) }
+        ensures fault { IfErr result (IsErrorOf (read_on places mesh self.old (lines_with number line.now after.now))) }
     {
         if !continues(line) {
             self.add_line(places, mesh, number, skip_comment(line))?;
@@ -172,9 +163,8 @@ impl Table {
 pub fn read_obj(alloc: Global, bytes: &[u8], places: u8, mesh: u32) -> Result<Soup, ObjFault>
     requires places { places ≤ 3 }
     requires bytes { length bytes.now ≤ most_bytes }
-    ensures ok { IfOk result (λ soup. read_obj_of places mesh bytes.now ≡
-        Ok (record { tris = soup.tris; lines = soup.lines })) }
-    ensures fault { IfErr result (λ e. (e ≡ ObjFault.OutOfMemory) ⊎ (read_obj_of places mesh bytes.now ≡ Err e)) }
+    ensures ok { IfOk result (IsSoupOf (read_obj_of places mesh bytes.now)) }
+    ensures fault { IfErr result (IsErrorOf (read_obj_of places mesh bytes.now)) }
     ensures few { IfOk result (λ soup. length soup.tris ≤ most_triangles) }
     ensures mesh { IfOk result (λ soup. All (λ t. t.mesh ≡ mesh) soup.tris) }
 {

@@ -1,10 +1,11 @@
 // The references of a face, and its triangles.
-ghost use Rattle.std.specs.Prelude.{◌≡◌, ◌⊎◌, ◌≤◌, ◌^◌, ◌++◌, true, length, replicate, reverse, if◌then◌else◌, Ok, Err, OnOk, IfErr, MatchOption};
+ghost use Rattle.std.specs.Prelude.{◌≡◌, ◌≤◌, ◌^◌, ◌++◌, true, length, replicate, reverse, if◌then◌else◌, Ok, Err, OnOk, IfErr, MatchOption};
 ghost use Rattle.std.specs.List.{list_all};
 ghost use Rattle.std.specs.Char.{is_ascii_digit};
 ghost use Rattle.ember_dec.specs.Digits.{number_from};
 ghost use Rattle.ember_obj.specs.Scan.{fields_of};
 ghost use Rattle.ember_obj.specs.References.{nth_corner, vertex_at, vertex_named, corners_of, fan};
+ghost use Rattle.ember_obj.specs.Errors.{IsErrorOf};
 
 use crate::fault::ObjFault;
 use crate::scan::{cut_before, next_field};
@@ -75,8 +76,7 @@ pub(crate) fn read_corners(
     fields: &[u8],
 ) -> Result<(), ObjFault>
     ensures ok { OnOk result (corners_of line vertices.now (fields_of fields.now) ≡ Ok corners.new.items) }
-    ensures fault { IfErr result (λ e. (e ≡ ObjFault.OutOfMemory) ⊎
-        (corners_of line vertices.now (fields_of fields.now) ≡ Err e)) }
+    ensures fault { IfErr result (IsErrorOf (corners_of line vertices.now (fields_of fields.now))) }
 {
     corners.clear();
     let mut rest = fields;

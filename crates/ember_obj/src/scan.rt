@@ -1,6 +1,6 @@
 // Parts of a line.
-ghost use Rattle.std.specs.Prelude.{◌≡◌, ◌+◌, ◌<◌, ◌≤◌, ◌==◌, slice_index, false, [], ◌∷◌, length, MatchOption, IfSome, Some, None};
-ghost use Rattle.ember_obj.specs.Scan.{before, onward, is_separator, fields_of, first_three};
+ghost use Rattle.std.specs.Prelude.{◌≡◌, ◌+◌, ◌<◌, ◌≤◌, ◌==◌, slice_index, false, [], length, MatchOption, IfSome, Some, None};
+ghost use Rattle.ember_obj.specs.Scan.{before, onward, is_separator, fields_of, BeginWithField, AreFirstThree};
 
 // The bytes before the first `stop`, and from it on.
 pub(crate) fn cut_before(bytes: &[u8], stop: u8) -> (&[u8], &[u8])
@@ -50,8 +50,7 @@ fn skip_separators(bytes: &[u8]) -> &[u8]
 
 // The first field, and what follows it.
 pub(crate) fn next_field(bytes: &[u8]) -> Option<(&[u8], &[u8])>
-    ensures fields { MatchOption result (fields_of bytes.now ≡ []) (λ p. fields_of bytes.now ≡ p.0.now ∷
-        fields_of p.1.now) }
+    ensures fields { MatchOption result (fields_of bytes.now ≡ []) (λ p. BeginWithField bytes.now p.0.now p.1.now) }
     ensures shorter { IfSome result (λ p. length p.1.now < length bytes.now) }
 {
     let start = skip_separators(bytes);
@@ -63,8 +62,7 @@ pub(crate) fn next_field(bytes: &[u8]) -> Option<(&[u8], &[u8])>
 
 // The first three fields, if there are three or more.
 pub(crate) fn three_fields(bytes: &[u8]) -> Option<(&[u8], &[u8], &[u8])>
-    ensures { MatchOption result (first_three (fields_of bytes.now) ≡ None) (λ t. first_three (fields_of bytes.now) ≡
-        Some (t.0.now, t.1.now, t.2.now)) }
+    ensures { AreFirstThree bytes.now result }
 {
     let (a, rest) = next_field(bytes)?;
     let (b, rest) = next_field(rest)?;

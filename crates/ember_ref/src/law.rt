@@ -1,19 +1,15 @@
 // The law of reference points: they are clear of every triangle.
-ghost use Rattle.std.specs.Prelude.{ℕ, ◌<◌, List, All};
+ghost use Rattle.std.specs.Prelude.{ℕ, List, All};
 ghost use Rattle.ember_algebra.specs.Vector.{Vector};
 ghost use Rattle.ember_model.specs.declared.tri.Tri.{Tri};
 ghost use Rattle.ember_model.specs.Valid.{IsValidTri};
-ghost use Rattle.ember_model.specs.Within.{normal_limit, IsTriWithin};
-ghost use Rattle.ember_model.specs.Clear.{AreClear};
-ghost use Rattle.ember_model.specs.Meshes.{faces_of};
-ghost use Rattle.ember_box.specs.Reference.{reference_at, reference_beside};
+ghost use Rattle.ember_box.specs.Reference.{reference_at};
+ghost use Rattle.ember_ref.specs.References.{IsAlwaysClear, IsClearOf};
 
 /// The reference point of a box with any least corner is clear of all valid triangles: it is on
 /// none of them, and its rays along the three axes meet none of their edges. The same holds on each
 /// grid, if the point is shifted by less than what a normal of its triangles tells apart.
 pub fn reference_points_are_clear()
-    ensures valid { (least : Vector) (tris : List Tri) → All IsValidTri tris →
-        AreClear (faces_of tris) (reference_at least) }
-    ensures within { (m f : ℕ) (least : Vector) (tris : List Tri) → normal_limit m < f → All (IsTriWithin m) tris →
-        AreClear (faces_of tris) (reference_beside f least) }
+    ensures valid { (least : Vector) (tris : List Tri) → All IsValidTri tris → IsClearOf tris (reference_at least) }
+    ensures within { (m f : ℕ) → IsAlwaysClear m f }
 {}

@@ -4,17 +4,14 @@ ghost use Rattle.ember_algebra.specs.Size.{Small};
 ghost use Rattle.ember_algebra.specs.Sign.{number, times, is_neg};
 ghost use Rattle.ember_model.specs.Limits.{broad_limit, count_limit, most_triangles};
 ghost use Rattle.ember_model.specs.Valid.{IsValidTri};
-ghost use Rattle.ember_model.specs.Within.{normal_limit, IsTriWithin};
-ghost use Rattle.ember_model.specs.Points.{DifferAlong};
-ghost use Rattle.ember_model.specs.Faces.{face_of, leg};
+ghost use Rattle.ember_model.specs.Within.{IsTriWithin};
 ghost use Rattle.ember_model.specs.Meshes.{HasMesh};
-ghost use Rattle.ember_law.specs.Counts.{HasRoom, with_more};
-ghost use Rattle.ember_box.specs.Boxes.{Cell as CellView, right_half, in_steps};
+ghost use Rattle.ember_law.specs.Counts.{HasRoom};
+ghost use Rattle.ember_box.specs.Boxes.{Cell as CellView, in_steps};
 ghost use Rattle.ember_box.specs.Near.{listed};
-ghost use Rattle.ember_box.specs.Reference.{reference_beside};
 ghost use Rattle.ember_box.specs.Aabbs.{interval_between, aabb_of_cell, most_wall};
-ghost use Rattle.ember_ref.specs.References.{vector_of_list, reference_of_list, IsBoxCornerWithin, counts_beside, counts_at_right_half, ShiftsAll, ShiftsAllWithin};
-ghost use Rattle.ember_ref.specs.Segments.{column, IsAlongAxis, IsSegmentBack};
+ghost use Rattle.ember_ref.specs.References.{vector_of_list, IsBoxCornerWithin, counts_at_right_half, ShiftsAll, IsLegBetween, ShiftsAllOn, counts_on};
+ghost use Rattle.ember_ref.specs.Segments.{column, IsAlongAxis, IsSegmentBack, AddsLegBack, IsLegBack};
 
 use crate::signs::{projects_inside, side_beside};
 use ember_algebra::Sign;
@@ -48,9 +45,7 @@ fn crossing_between(t: &Tri, p: [i32; 3], q: [i32; 3], k: Axis) -> i32
     requires tri { IsTriWithin broad_limit t.now }
     requires from { IsBoxCornerWithin most_wall (vector_of_list p) }
     requires to { IsBoxCornerWithin most_wall (vector_of_list q) }
-    ensures value { (m f : ℕ) → IsTriWithin m t.now → normal_limit m < f →
-        DifferAlong k (reference_of_list f p) (reference_of_list f q) →
-        result ≡ leg (face_of t.now) (reference_of_list f p) (reference_of_list f q) }
+    ensures value { IsLegBetween t.now p q k result }
     ensures small { Small 1 result }
 {
     let n = support_of(t);
@@ -132,9 +127,7 @@ fn segment_back<W: Width>(c: &Cell, k: Axis) -> AxisSegment
 fn crossing_on(t: &Tri, segment: &AxisSegment) -> i32
     requires tri { IsTriWithin broad_limit t.now }
     requires straight { IsAlongAxis segment.now }
-    ensures value { (m f : ℕ) (c : CellView) (k : Axis) → IsTriWithin m t.now → normal_limit m < f → 0 < c.log k →
-        IsSegmentBack c k segment.now →
-        result ≡ leg (face_of t.now) (reference_beside f (right_half c k).lo) (reference_beside f c.lo) }
+    ensures value { IsLegBack t.now segment.now result }
     ensures small { Small 1 result }
 {
     if aabbs_meet_beside(t, &segment.aabb, segment.axis) {
@@ -150,9 +143,7 @@ fn add_crossing(t: &Tri, segment: &AxisSegment, v: &mut Vector)
     requires numbered { HasMesh 64 t.now }
     requires straight { IsAlongAxis segment.now }
     requires room { All (Small count_limit) v.old.counts }
-    ensures value { (m f : ℕ) (c : CellView) (k : Axis) → IsTriWithin m t.now → normal_limit m < f → 0 < c.log k →
-        IsSegmentBack c k segment.now → v.new.counts ≡ with_more v.old.counts t.now.mesh
-        (leg (face_of t.now) (reference_beside f (right_half c k).lo) (reference_beside f c.lo)) }
+    ensures value { AddsLegBack t.now segment.now v.old.counts v.new.counts }
     ensures within { (m : ℕ) → All (Small m) v.old.counts → All (Small (m + 1)) v.new.counts }
 {
     add_count(v, t.mesh, crossing_on(t, segment));
@@ -189,10 +180,8 @@ pub fn shift_listed_on<W: Width>(tris: &[Tri], list: &[u32], c: &Cell, axis: Axi
     requires few { length list.now ≤ most_triangles }
     requires side { 0 < c.now.log axis }
     requires room { HasRoom v.old.counts }
-    ensures value { v.new.counts
-        ≡ counts_beside W.fine (listed tris.now list.now) (in_steps W.scale c.now) axis v.old.counts }
-    ensures law { ShiftsAllWithin W.corner W.fine (listed tris.now list.now) (in_steps W.scale c.now) axis
-        v.old.counts v.new.counts }
+    ensures value { v.new.counts ≡ counts_on W.Width (listed tris.now list.now) c.now axis v.old.counts }
+    ensures law { ShiftsAllOn W.Width (listed tris.now list.now) c.now axis v.old.counts v.new.counts }
     ensures within { (m : ℕ) → All (Small m) v.old.counts → All (Small (m + length list.now)) v.new.counts }
 {
     let segment = segment_back::<W>(c, axis);

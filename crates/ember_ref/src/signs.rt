@@ -3,13 +3,12 @@ ghost use Rattle.std.specs.Prelude.{◌≡◌, ℕ, ◌<◌};
 ghost use Rattle.ember_algebra.specs.Sign.{sgn, is_negative};
 ghost use Rattle.ember_model.specs.Limits.{broad_limit};
 ghost use Rattle.ember_model.specs.Valid.{IsValidPlane};
-ghost use Rattle.ember_model.specs.Within.{normal_limit, IsTriWithin};
-ghost use Rattle.ember_model.specs.Planes.{value_at, edge_planes, HasNoNormal};
-ghost use Rattle.ember_model.specs.ClearTest.{all_negative};
+ghost use Rattle.ember_model.specs.Within.{IsTriWithin};
+ghost use Rattle.ember_model.specs.Planes.{value_at, HasNoNormal};
 ghost use Rattle.ember_width.specs.Broad.{IsBroadPlane};
 ghost use Rattle.ember_box.specs.Near.{spot_of_vector};
 ghost use Rattle.ember_box.specs.Aabbs.{most_wall};
-ghost use Rattle.ember_ref.specs.References.{vector_of_list, reference_of_list, reference_at_list, or_sign, HasNormalWithin, IsBoxCorner, IsBoxCornerWithin};
+ghost use Rattle.ember_ref.specs.References.{vector_of_list, reference_of_list, reference_at_list, or_sign, HasNormalWithin, IsBoxCorner, IsBoxCornerWithin, TellsInside};
 
 use ember_algebra::{Sign, sign_of};
 use ember_model::{Axis, Corner, Plane, Tri, edge_plane};
@@ -100,8 +99,7 @@ fn is_below(p: &Plane, at: [i32; 3]) -> bool
 pub fn projects_inside(t: &Tri, k: Axis, at: [i32; 3]) -> bool
     requires tri { IsTriWithin broad_limit t.now }
     requires corner { IsBoxCornerWithin most_wall (vector_of_list at) }
-    ensures { (m f : ℕ) → IsTriWithin m t.now → normal_limit m < f →
-        result ≡ all_negative (edge_planes t.now k) (reference_of_list f at) }
+    ensures { TellsInside t.now k at result }
 {
     is_below(&edge_plane(t, 0, k), at)
         && (is_below(&edge_plane(t, 1, k), at) && is_below(&edge_plane(t, 2, k), at))

@@ -1,3 +1,4 @@
 pub mod Numbers
+pub mod Taking
 pub mod Lines
 pub mod Cornered

@@ -56,6 +56,11 @@ pub record IsSupportLine (n : Plane) (count : ℕ) (bytes rest : List ℕ) : Typ
   pub enough : 3 ≤ count
   pub is : bytes ≡ support_line n count ++ rest
 
+-- the bytes begin with no support line, whatever follows it, of a number of edges that there may be
+abbrev pub BeginWithNoSupport : List ℕ → Type 0
+BeginWithNoSupport bytes =
+    (n : Plane) (count : ℕ) (rest : List ℕ) → count ≤ length bytes → IsSupportLine n count bytes rest → ⊥
+
 -- the line of some edge with this plane
 pub record HasEdge (p : Plane) (bytes rest : List ℕ) : Type 0 where
   pub start : Spot

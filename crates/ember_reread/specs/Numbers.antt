@@ -3,6 +3,7 @@ use Rattle.std.specs.Prelude.{◌≡◌, ℕ, ◌+◌, ◌≤◌, ◌==◌, ℤ,
 use Rattle.std.specs.Prelude.{List, [], ◌∷◌, ◌++◌, length, decimal, ⊤}
 use Rattle.std.specs.Fmt.{signed_decimal}
 use Rattle.ember_algebra.specs.Size.{Small}
+use Rattle.ember_dec.specs.Digits.{digits_of, behind_digits, number_from}
 
 -- ---- numbers
 -- no word goes on here
@@ -14,6 +15,15 @@ IsEnd (b ∷ bs) = b ≤ 32
 abbrev pub is_padded : List ℕ → Bool
 is_padded [] = true
 is_padded (d ∷ ds) = d == 48 && not (length ds == 0)
+
+-- ---- at the front of bytes
+-- the number that their digits spell
+abbrev pub number_in_front : List ℕ → ℕ
+number_in_front bytes = number_from 0 (digits_of bytes)
+
+-- the number is n, which is at most that, and `rest` follows
+abbrev pub IsValueAt : ℕ → ℕ → List ℕ → List ℕ → Type 0
+IsValueAt most n bytes rest = (n ≡ number_in_front bytes) × (n ≤ most) × (rest ≡ behind_digits bytes)
 
 -- the digits spell n, which is at most that
 pub record IsSize (most n : ℕ) (digits : List ℕ) : Type 0 where

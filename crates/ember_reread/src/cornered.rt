@@ -1,12 +1,11 @@
 // Faces with their corners.
-ghost use Rattle.std.specs.Prelude.{ℕ, ◌≡◌, ◌⊎◌, ◌≤◌, List, All, length, map, IfOk, IfErr, MatchOption};
+ghost use Rattle.std.specs.Prelude.{◌≡◌, ◌⊎◌, List, All, map, IfOk, IfErr, MatchOption};
 ghost use Rattle.ember_model.specs.declared.face.Face.{Face};
-ghost use Rattle.ember_model.specs.declared.plane.Plane.{Plane};
-ghost use Rattle.ember_model.specs.Edges.{RingEdge};
-ghost use Rattle.ember_model.specs.FaceFiles.{WrittenFace, IsFaceFile};
+ghost use Rattle.ember_model.specs.FaceFiles.{IsFaceFile};
 ghost use Rattle.ember_model.specs.Valid.{IsValidFace};
 ghost use Rattle.ember_reread.specs.Cornered.{HasCorneredEdges, IsCorneredBody, IsFileOf, edge_of, face_of};
 ghost use Rattle.ember_reread.specs.Lines.{IsEdgeLine, IsFaceLines, HasEdges, IsBody, face_in};
+ghost use Rattle.ember_reread.specs.Taking.{BeginWithNo, IsFormError};
 
 use crate::cornered_face::{CorneredEdge, CorneredFace};
 use crate::edges::take_support;
@@ -34,8 +33,7 @@ impl CorneredFace {
 
 // The edge of an edge's line, and what follows the line.
 pub(crate) fn take_cornered_edge(bytes: &[u8]) -> Option<(CorneredEdge, &[u8])>
-    ensures { MatchOption result ((e : RingEdge) (rest : List ℕ) → IsEdgeLine e bytes.now rest →
-        ⊥) (λ t. IsEdgeLine (edge_of t.0) bytes.now t.1.now) }
+    ensures { MatchOption result (BeginWithNo IsEdgeLine bytes.now) (λ t. IsEdgeLine (edge_of t.0) bytes.now t.1.now) }
 {
     let (plane, rest) = take_plane(skip_byte(bytes, b'e')?)?;
     let (start, rest) = take_corner(rest)?;
@@ -49,8 +47,7 @@ fn take_cornered_edges(
     count: usize,
 ) -> Result<(Vec<CorneredEdge>, &[u8]), RereadFault>
     ensures ok { IfOk result (λ t. HasCorneredEdges count t.0.items bytes.now t.1.now) }
-    ensures form { IfErr result (λ e. (e ≡ RereadFault.OutOfMemory) ⊎ ((ps : List Plane) (rest : List ℕ) →
-        HasEdges count ps bytes.now rest → ⊥)) }
+    ensures form { IfErr result (IsFormError (HasEdges count) bytes.now) }
 {
     let mut edges = Vec::new(alloc);
     let mut rest = bytes;
@@ -67,8 +64,7 @@ fn take_cornered_edges(
 // The face of the lines of a face, and what follows them.
 fn take_cornered_face(alloc: Global, bytes: &[u8]) -> Result<(CorneredFace, &[u8]), RereadFault>
     ensures ok { IfOk result (λ t. IsFaceLines (face_of t.0) bytes.now t.1.now) }
-    ensures form { IfErr result (λ e. (e ≡ RereadFault.OutOfMemory) ⊎ ((w : WrittenFace) (rest : List ℕ) →
-        IsFaceLines w bytes.now rest → ⊥)) }
+    ensures form { IfErr result (IsFormError IsFaceLines bytes.now) }
 {
     let Some((support, count, rest)) = take_support(bytes) else {
         return Err(RereadFault::Form);

@@ -1,9 +1,8 @@
 // The lines of a face.
-ghost use Rattle.std.specs.Prelude.{ℕ, List, ◌≡◌, ◌⊎◌, ◌≤◌, length, MatchOption, IfSome, IfOk, IfErr};
+ghost use Rattle.std.specs.Prelude.{◌≤◌, length, MatchOption, IfSome, IfOk, IfErr};
 ghost use Rattle.ember_model.specs.declared.plane.Plane.{Plane};
-ghost use Rattle.ember_model.specs.Edges.{RingEdge};
-ghost use Rattle.ember_model.specs.FaceFiles.{WrittenFace};
-ghost use Rattle.ember_reread.specs.Lines.{IsEdgeLine, IsSupportLine, HasEdge, HasEdges, IsFaceLines, HasFace};
+ghost use Rattle.ember_reread.specs.Lines.{IsEdgeLine, IsSupportLine, HasEdge, HasEdges, IsFaceLines, HasFace, BeginWithNoSupport};
+ghost use Rattle.ember_reread.specs.Taking.{BeginWithNo, IsFormError};
 
 use crate::cornered::take_cornered_edge;
 use crate::fault::RereadFault;
@@ -13,8 +12,7 @@ use std::alloc::Global;
 
 // The plane of an edge's line, and what follows the line.
 fn take_edge(bytes: &[u8]) -> Option<(Plane, &[u8])>
-    ensures { MatchOption result ((e : RingEdge) (rest : List ℕ) → IsEdgeLine e bytes.now rest →
-        ⊥) (λ t. HasEdge t.0 bytes.now t.1.now) }
+    ensures { MatchOption result (BeginWithNo IsEdgeLine bytes.now) (λ t. HasEdge t.0 bytes.now t.1.now) }
 {
     let (edge, rest) = take_cornered_edge(bytes)?;
     Some((edge.plane, rest))
@@ -23,8 +21,7 @@ fn take_edge(bytes: &[u8]) -> Option<(Plane, &[u8])>
 // The planes of that many edges' lines, and what follows.
 fn take_edges(alloc: Global, bytes: &[u8], count: usize) -> Result<(Vec<Plane>, &[u8]), RereadFault>
     ensures ok { IfOk result (λ t. HasEdges count t.0.items bytes.now t.1.now) }
-    ensures form { IfErr result (λ e. (e ≡ RereadFault.OutOfMemory) ⊎ ((ps : List Plane) (rest : List ℕ) →
-        HasEdges count ps bytes.now rest → ⊥)) }
+    ensures form { IfErr result (IsFormError (HasEdges count) bytes.now) }
 {
     let mut planes = Vec::new(alloc);
     let mut rest = bytes;
@@ -40,8 +37,7 @@ fn take_edges(alloc: Global, bytes: &[u8], count: usize) -> Result<(Vec<Plane>, 
 
 // A face's first line: its support plane and the number of its edges. And what follows the line.
 pub(crate) fn take_support(bytes: &[u8]) -> Option<(Plane, usize, &[u8])>
-    ensures line { MatchOption result ((n : Plane) (count : ℕ) (rest : List ℕ) → count ≤ length bytes.now →
-        IsSupportLine n count bytes.now rest → ⊥) (λ t. IsSupportLine t.0 t.1 bytes.now t.2.now) }
+    ensures line { MatchOption result (BeginWithNoSupport bytes.now) (λ t. IsSupportLine t.0 t.1 bytes.now t.2.now) }
     ensures fits { IfSome result (λ t. t.1 ≤ length bytes.now) }
 {
     let (support, rest) = take_plane(skip_byte(bytes, b'f')?)?;
@@ -55,8 +51,7 @@ pub(crate) fn take_support(bytes: &[u8]) -> Option<(Plane, usize, &[u8])>
 // The face of the lines of a face, and what follows them.
 pub(crate) fn take_face(alloc: Global, bytes: &[u8]) -> Result<(Face, &[u8]), RereadFault>
     ensures ok { IfOk result (λ t. HasFace t.0 bytes.now t.1.now) }
-    ensures form { IfErr result (λ e. (e ≡ RereadFault.OutOfMemory) ⊎ ((w : WrittenFace) (rest : List ℕ) →
-        IsFaceLines w bytes.now rest → ⊥)) }
+    ensures form { IfErr result (IsFormError IsFaceLines bytes.now) }
 {
     let Some((support, count, rest)) = take_support(bytes) else {
         return Err(RereadFault::Form);

@@ -1,8 +1,9 @@
 // Numbers in their canonical spelling, at the front of bytes.
-ghost use Rattle.std.specs.Prelude.{ℕ, ℤ, List, ◌≡◌, ◌≤◌, ◌<◌, ◌^◌, ◌∷◌, length, drop, true, IsTrue, ◌↔◌, MatchOption};
+ghost use Rattle.std.specs.Prelude.{◌≡◌, ◌≤◌, ◌<◌, ◌^◌, ◌∷◌, length, drop, true, IsTrue, ◌↔◌, MatchOption};
 ghost use Rattle.ember_dec.specs.Digits.{digits_of, behind_digits, number_from};
-ghost use Rattle.ember_reread.specs.Numbers.{is_padded};
+ghost use Rattle.ember_reread.specs.Numbers.{is_padded, IsValueAt, number_in_front};
 ghost use Rattle.ember_reread.specs.Numbers.{IsEnd, IsSizeAt, IsNumberAt};
+ghost use Rattle.ember_reread.specs.Taking.{IsTakenOff};
 
 // A number below it has a tenfold that still fits into 64 bits with a digit more.
 const SHORT: u64 = 1_000_000_000_000_000_000;
@@ -46,8 +47,7 @@ fn first_digits(bytes: &[u8]) -> (u64, usize)
 // The number that the digits at the front spell, if it is at most `most`, and what follows them.
 fn value_at(bytes: &[u8], most: u128) -> Option<(u128, &[u8])>
     requires { most < 2 ^ 124 }
-    ensures { MatchOption result (most < number_from 0 (digits_of bytes.now)) (λ p.
-        (p.0 ≡ number_from 0 (digits_of bytes.now)) × (p.0 ≤ most) × (p.1.now ≡ behind_digits bytes.now)) }
+    ensures { MatchOption result (most < number_in_front bytes.now) (λ p. IsValueAt most p.0 bytes.now p.1.now) }
 {
     let (first, mut end) = first_digits(bytes);
     let mut value = u128::from(first);
@@ -67,8 +67,7 @@ fn value_at(bytes: &[u8], most: u128) -> Option<(u128, &[u8])>
 // The number that is written at the front, if it is at most `most`, and what follows it.
 fn size_at(bytes: &[u8], most: u128) -> Option<(u128, &[u8])>
     requires { most < 2 ^ 124 }
-    ensures { MatchOption result ((n : ℕ) (rest : List ℕ) → IsSizeAt most n bytes.now rest →
-        ⊥) (λ p. IsSizeAt most p.0 bytes.now p.1.now) }
+    ensures { IsTakenOff (IsSizeAt most) bytes.now result }
 {
     if has_padding(bytes) {
         return None;
@@ -84,8 +83,7 @@ fn size_at(bytes: &[u8], most: u128) -> Option<(u128, &[u8])>
 // follows it.
 fn negative_at(bytes: &[u8], most: u128) -> Option<(i128, &[u8])>
     requires { most < 2 ^ 124 }
-    ensures { MatchOption result ((z : ℤ) (rest : List ℕ) → IsNumberAt most z (45 ∷ bytes.now) rest →
-        ⊥) (λ p. IsNumberAt most p.0 (45 ∷ bytes.now) p.1.now) }
+    ensures { IsTakenOff (IsNumberAt most) (45 ∷ bytes.now) result }
 {
     let (size, rest) = size_at(bytes, most)?;
     if size == 0 {
@@ -97,8 +95,7 @@ fn negative_at(bytes: &[u8], most: u128) -> Option<(i128, &[u8])>
 // The number that is written at the front, if its size is at most `most`, and what follows it.
 pub(crate) fn number_at(bytes: &[u8], most: u128) -> Option<(i128, &[u8])>
     requires { most < 2 ^ 124 }
-    ensures { MatchOption result ((z : ℤ) (rest : List ℕ) → IsNumberAt most z bytes.now rest →
-        ⊥) (λ p. IsNumberAt most p.0 bytes.now p.1.now) }
+    ensures { IsTakenOff (IsNumberAt most) bytes.now result }
 {
     if let Some((b'-', digits)) = bytes.split_first() {
         return negative_at(digits, most);

@@ -1,11 +1,11 @@
 // The parts of a line.
-ghost use Rattle.std.specs.Prelude.{ℕ, ℤ, List, ◌≡◌, ◌<◌, ◌^◌, ◌∷◌, ◌++◌, IsTrue, ◌↔◌, MatchOption};
+ghost use Rattle.std.specs.Prelude.{ℕ, List, ◌≡◌, ◌<◌, ◌^◌, ◌∷◌, ◌++◌, IsTrue, ◌↔◌, MatchOption};
 ghost use Rattle.ember_model.specs.declared.plane.Plane.{Plane};
-ghost use Rattle.ember_model.specs.declared.point.Spot.{Spot};
 ghost use Rattle.ember_model.specs.FaceFiles.{IsLowest};
 ghost use Rattle.ember_point.specs.Points.{spot_of};
 ghost use Rattle.ember_reread.specs.declared.fields.Four.{Four};
 ghost use Rattle.ember_reread.specs.Lines.{IsField, AreFields, IsPlane, IsCorner};
+ghost use Rattle.ember_reread.specs.Taking.{BeginDifferently, BeginWithNo, IsTakenOff};
 
 use crate::fields::Four;
 use crate::number::number_at;
@@ -24,8 +24,7 @@ pub(crate) fn skip_byte(bytes: &[u8], byte: u8) -> Option<&[u8]>
 
 // What follows the text, if the bytes begin with it.
 pub(crate) fn skip_bytes<'a>(bytes: &'a [u8], text: &[u8]) -> Option<&'a [u8]>
-    ensures { MatchOption result ((rest : List ℕ) → bytes.now ≡ text.now ++ rest →
-        ⊥) (λ rest. bytes.now ≡ text.now ++ rest.now) }
+    ensures { MatchOption result (BeginDifferently text.now bytes.now) (λ rest. bytes.now ≡ text.now ++ rest.now) }
 {
     bytes.strip_prefix(text)
 }
@@ -33,8 +32,7 @@ pub(crate) fn skip_bytes<'a>(bytes: &'a [u8], text: &[u8]) -> Option<&'a [u8]>
 // A space and a number of at most this size, and what follows.
 pub(crate) fn take_number(bytes: &[u8], most: u128) -> Option<(i128, &[u8])>
     requires { most < 2 ^ 124 }
-    ensures { MatchOption result ((z : ℤ) (rest : List ℕ) → IsField most z bytes.now rest →
-        ⊥) (λ p. IsField most p.0 bytes.now p.1.now) }
+    ensures { IsTakenOff (IsField most) bytes.now result }
 {
     number_at(skip_byte(bytes, b' ')?, most)
 }
@@ -43,8 +41,7 @@ pub(crate) fn take_number(bytes: &[u8], most: u128) -> Option<(i128, &[u8])>
 fn take_four(bytes: &[u8], most: u128, last: u128) -> Option<(Four, &[u8])>
     requires most { most < 2 ^ 124 }
     requires last { last < 2 ^ 124 }
-    ensures { MatchOption result ((v : Four) (rest : List ℕ) → AreFields most last v bytes.now rest →
-        ⊥) (λ p. AreFields most last p.0 bytes.now p.1.now) }
+    ensures { IsTakenOff (AreFields most last) bytes.now result }
 {
     let (x, rest) = take_number(bytes, most)?;
     let (y, rest) = take_number(rest, most)?;
@@ -65,8 +62,7 @@ const MOST_WEIGHT: u128 = (1 << 78) - 1;
 
 // A valid plane, and what follows.
 pub(crate) fn take_plane(bytes: &[u8]) -> Option<(Plane, &[u8])>
-    ensures { MatchOption result ((p : Plane) (rest : List ℕ) → IsPlane p bytes.now rest →
-        ⊥) (λ t. IsPlane t.0 bytes.now t.1.now) }
+    ensures { IsTakenOff IsPlane bytes.now result }
 {
     let (four, rest) = take_four(bytes, MOST_NORMAL, MOST_CONSTANT)?;
     let plane = Plane {
@@ -87,8 +83,7 @@ fn is_lowest(corner: &Meet) -> bool
 
 // A corner in lowest terms, and what follows.
 pub(crate) fn take_corner(bytes: &[u8]) -> Option<(Meet, &[u8])>
-    ensures { MatchOption result ((v : Spot) (rest : List ℕ) → IsCorner v bytes.now rest →
-        ⊥) (λ t. IsCorner (spot_of t.0) bytes.now t.1.now) }
+    ensures { MatchOption result (BeginWithNo IsCorner bytes.now) (λ t. IsCorner (spot_of t.0) bytes.now t.1.now) }
 {
     let (four, rest) = take_four(bytes, MOST_COORDINATE, MOST_WEIGHT)?;
     if four.w < 1 {

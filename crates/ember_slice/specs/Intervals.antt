@@ -1,9 +1,10 @@
 -- The part of a line that lies behind planes
-use Rattle.std.specs.Prelude.{◌≡◌, ℤ, Bool, true, false, ◌&&◌, List, Option, Some, None, IfSome}
+use Rattle.std.specs.Prelude.{◌≡◌, ℤ, Bool, true, false, ◌&&◌, List, Option, Some, None, IfSome, if◌then◌else◌}
 use Rattle.std.specs.List.{list_all}
-use Rattle.ember_algebra.specs.Sign.{sgn, is_negative}
+use Rattle.ember_algebra.specs.Sign.{sgn, is_negative, is_positive}
 use Rattle.ember_model.specs.declared.plane.Plane.{Plane}
 use Rattle.ember_model.specs.declared.point.Spot.{Spot}
+use Rattle.ember_point.specs.declared.meet_point.Meet.{Meet}
 use Rattle.ember_model.specs.Planes.{value_at}
 use Rattle.ember_point.specs.Points.{spot_of}
 use Rattle.ember_slice.specs.declared.line.HalfLine.{HalfLine}
@@ -59,6 +60,19 @@ pub record IsNarrowed (n : Plane) (at : ℤ) (p : Plane) (old new : LineInterval
   pub ends : AreEnds n at new
   pub left : (v : Spot) → is_on_line n at v ≡ true →
       is_in_interval n new v ≡ is_in_interval n old v && is_negative (value_at p v)
+
+-- the same where this is so of any line with that interval
+abbrev pub NarrowsWhere : (Plane → ℤ → Plane → Spot → Type 0) → LineInterval → Plane → Meet → LineInterval → Type 0
+NarrowsWhere IsThis old p point new =
+    (n : Plane) (at : ℤ) → AreEnds n at old → IsThis n at p (spot_of point) → IsNarrowed n at p old new
+
+-- of two ends, the one that the other's plane has in front of it
+abbrev pub tighter_of : End → End → End
+tighter_of e new = if is_positive (value_at new.plane (spot_of e.point)) then new else e
+
+-- no point of the line is behind all planes
+abbrev pub NoneIsBehind : Plane → ℤ → List Plane → Type 0
+NoneIsBehind n at planes = (v : Spot) → is_on_line n at v ≡ true → is_behind planes v ≡ false
 
 -- the span is the part of the line behind the planes
 pub record IsInterval (n : Plane) (at : ℤ) (ps : List Plane) (s : LineInterval) : Type 0 where

@@ -1,14 +1,9 @@
 // Segments of faces.
-ghost use Rattle.std.specs.Prelude.{ℤ, pos, negsuc, ◌≡◌, ◌≤ℤ◌, true, false, MatchOption};
+ghost use Rattle.std.specs.Prelude.{ℤ, pos, negsuc, ◌≤ℤ◌};
 ghost use Rattle.ember_model.specs.Limits.{narrow_limit};
-ghost use Rattle.ember_algebra.specs.Sign.{is_negative};
 ghost use Rattle.ember_model.specs.declared.face.Face.{Face};
 ghost use Rattle.ember_model.specs.Valid.{IsValidFace};
-ghost use Rattle.ember_model.specs.Planes.{value_at};
-ghost use Rattle.ember_point.specs.Points.{spot_of};
-ghost use Rattle.ember_slice.specs.Lines.{IsFlat};
-ghost use Rattle.ember_slice.specs.Intervals.{IsInterval};
-ghost use Rattle.ember_slice.specs.Segments.{IsAnswer, Joins};
+ghost use Rattle.ember_slice.specs.Segments.{IsAnswer, IsAnswerOfInterval, IsBetween};
 
 use crate::ends::Segment;
 use crate::fault::Endless;
@@ -20,9 +15,7 @@ use ember_point::{reduce, side};
 
 // The segment from one end to the other, if the first is before the last.
 fn between(first: &End, last: &End) -> Option<Segment>
-    ensures { let test = is_negative (value_at last.now.plane (spot_of first.now.point)) in
-        MatchOption result (test ≡ false) (λ s. (test ≡ true) ×
-        Joins (spot_of first.now.point) (spot_of last.now.point) s) }
+    ensures { IsBetween first.now last.now result }
 {
     match side(&last.plane, &first.point) {
         Sign::Neg => Some(Segment {
@@ -35,8 +28,7 @@ fn between(first: &End, last: &End) -> Option<Segment>
 
 // The segment from the first end to the last, if there are both.
 fn segment_between_ends(interval: &LineInterval) -> Result<Option<Segment>, Endless>
-    ensures { (f : Face) (at : ℤ) → (IsFlat f.support → ⊥) → IsInterval f.support at f.edges interval.now →
-        IsAnswer f at result }
+    ensures { IsAnswerOfInterval interval.now result }
 {
     let Some(first) = interval.first else {
         return Err(Endless);

@@ -1,14 +1,13 @@
 // What planes leave of a line.
-ghost use Rattle.std.specs.Prelude.{ℤ, pos, negsuc, ◌≡◌, ◌≤ℤ◌, true, false, All, MatchOption, if◌then◌else◌};
+ghost use Rattle.std.specs.Prelude.{ℤ, pos, negsuc, ◌≡◌, ◌≤ℤ◌, false, All, MatchOption, if◌then◌else◌};
 ghost use Rattle.ember_model.specs.Limits.{narrow_limit};
 ghost use Rattle.ember_algebra.specs.Sign.{is_positive};
 ghost use Rattle.ember_model.specs.Valid.{IsValidPlane};
 ghost use Rattle.ember_model.specs.Planes.{value_at};
 ghost use Rattle.ember_model.specs.declared.plane.Plane.{Plane};
-ghost use Rattle.ember_model.specs.declared.point.Spot.{Spot};
 ghost use Rattle.ember_point.specs.Points.{spot_of};
-ghost use Rattle.ember_slice.specs.Lines.{IsFlat, is_on_line};
-ghost use Rattle.ember_slice.specs.Intervals.{AllOf, AreEnds, Enters, IsNarrowed, IsInterval, Leaves, is_behind};
+ghost use Rattle.ember_slice.specs.Lines.{IsFlat};
+ghost use Rattle.ember_slice.specs.Intervals.{AllOf, AreEnds, Enters, IsNarrowed, IsInterval, Leaves, NarrowsWhere, NoneIsBehind, tighter_of};
 
 use crate::interval::{End, LineInterval};
 use crate::line::{HalfLine, part_behind};
@@ -26,8 +25,7 @@ fn is_in_front(p: &Plane, point: &Meet) -> bool
 
 // Of two ends on the same side the one that leaves less of the line.
 fn tighter(end: Option<End>, new: End) -> End
-    ensures { MatchOption end (result ≡ new) (λ e. result ≡ (if is_positive (value_at new.plane (spot_of e.point))
-        then new else e)) }
+    ensures { MatchOption end (result ≡ new) (λ e. result ≡ tighter_of e new) }
 {
     match end {
         None => new,
@@ -44,8 +42,7 @@ fn tighter(end: Option<End>, new: End) -> End
 // What is left of the span after the point, if the line passes to behind the plane.
 fn left_after(interval: LineInterval, plane: &Plane, point: Meet) -> LineInterval
     requires { IsValidPlane plane.now }
-    ensures { (n : Plane) (at : ℤ) → AreEnds n at interval → Enters n at plane.now (spot_of point) →
-        IsNarrowed n at plane.now interval result }
+    ensures { NarrowsWhere Enters interval plane.now point result }
 {
     let end = End {
         plane: *plane,
@@ -60,8 +57,7 @@ fn left_after(interval: LineInterval, plane: &Plane, point: Meet) -> LineInterva
 // What is left of the span before the point, if the line passes back to the plane's front.
 fn left_before(interval: LineInterval, plane: &Plane, point: Meet) -> LineInterval
     requires { IsValidPlane plane.now }
-    ensures { (n : Plane) (at : ℤ) → AreEnds n at interval → Leaves n at plane.now (spot_of point) →
-        IsNarrowed n at plane.now interval result }
+    ensures { NarrowsWhere Leaves interval plane.now point result }
 {
     let end = End {
         plane: *plane,
@@ -99,8 +95,7 @@ pub(crate) fn span_behind(support: &Plane, at: i32, planes: &[Plane]) -> Option<
     requires high { at ≤ℤ pos narrow_limit }
     requires planes { All IsValidPlane planes.now }
     requires tilted { IsFlat support.now → ⊥ }
-    ensures { MatchOption result ((v : Spot) → is_on_line support.now at v ≡ true →
-        is_behind planes.now v ≡ false) (IsInterval support.now at planes.now) }
+    ensures { MatchOption result (NoneIsBehind support.now at planes.now) (IsInterval support.now at planes.now) }
 {
     let mut interval = LineInterval {
         first: None,

@@ -1,11 +1,10 @@
 // The text of a slice.
-ghost use Rattle.std.specs.Prelude.{ℕ, ℤ, ◌≡◌, ◌⊎◌, ◌≤◌, ◌<◌, ◌^◌, ◌++◌, pos, negsuc, ◌≤ℤ◌, length, codes, All, IfOk, IfErr, OnOk};
+ghost use Rattle.std.specs.Prelude.{ℤ, ◌≡◌, ◌≤◌, ◌<◌, ◌^◌, ◌++◌, pos, negsuc, ◌≤ℤ◌, length, codes, All, IfOk, IfErr, OnOk};
 ghost use Rattle.std.specs.Fmt.{signed_decimal};
 ghost use Rattle.ember_model.specs.Limits.{narrow_limit};
 ghost use Rattle.ember_model.specs.Valid.{IsValidFace};
 ghost use Rattle.ember_model.specs.FaceFiles.{line_of};
-ghost use Rattle.ember_point.specs.Points.{spot_of};
-ghost use Rattle.ember_slice.specs.Segments.{IsEndless, IsFirstEndless, IsSliceText, segment_line};
+ghost use Rattle.ember_slice.specs.Segments.{IsSliceText, IsFaceError, IsSliceError, line_of_segment};
 ghost use Rattle.ember_slice.specs.Texts.{AddsSegment};
 
 use crate::ends::Segment;
@@ -37,8 +36,7 @@ fn put_line(keyword: &[u8], numbers: &[i128], out: &mut Vec<u8>) -> Result<(), O
 }
 
 fn put_segment(s: &Segment, out: &mut Vec<u8>) -> Result<(), OutOfMemory>
-    ensures { OnOk result (out.new.items ≡ out.old.items ++
-        segment_line (record { first = spot_of s.now.first; last = spot_of s.now.last })) }
+    ensures { OnOk result (out.new.items ≡ out.old.items ++ line_of_segment s.now) }
 {
     let numbers = [
         s.first.x, s.first.y, s.first.z, s.first.w, s.last.x, s.last.y, s.last.z, s.last.w,
@@ -54,8 +52,7 @@ fn put_face(face: &Face, number: u32, at: i32, out: &mut Vec<u8>) -> Result<u32,
     requires high { at ≤ℤ pos narrow_limit }
     ensures ok { IfOk result (λ count. AddsSegment face.now at count out.old.items out.new.items) }
     ensures one { IfOk result (λ count. count ≤ 1) }
-    ensures endless { IfErr result (λ e. (e ≡ SliceFault.OutOfMemory) ⊎
-        ((e ≡ SliceFault.Endless number) × IsEndless face.now at)) }
+    ensures endless { IfErr result (IsFaceError face.now number at) }
 {
     match segment(face, at) {
         Ok(None) => Ok(0),
@@ -76,8 +73,7 @@ pub fn slice_text(alloc: Global, faces: &FaceList, at: i32) -> Result<Vec<u8>, S
     requires low { negsuc narrow_limit ≤ℤ at }
     requires high { at ≤ℤ pos narrow_limit }
     ensures text { IfOk result (λ text. IsSliceText faces.now at text.items) }
-    ensures endless { IfErr result (λ e. (e ≡ SliceFault.OutOfMemory) ⊎
-        ((n : ℕ) × (e ≡ SliceFault.Endless n) × IsFirstEndless faces.now at n)) }
+    ensures endless { IfErr result (IsSliceError faces.now at) }
 {
     let mut text = Vec::new(alloc);
     put_line(b"slice", &[i128::from(at)], &mut text)?;

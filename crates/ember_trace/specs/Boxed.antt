@@ -5,7 +5,8 @@ use Rattle.ember_model.specs.declared.face.Face.{Face}
 use Rattle.ember_model.specs.Faces.{Everywhere}
 use Rattle.ember_model.specs.ClearTest.{none_positive}
 use Rattle.ember_model.specs.Sides.{IsSides}
-use Rattle.ember_box.specs.Boxes.{Cell}
+use Rattle.ember_width.specs.declared.width.Width.{Ghosts}
+use Rattle.ember_box.specs.Boxes.{Cell, in_steps}
 use Rattle.ember_box.specs.Reference.{FitsWithin, Fits}
 use Rattle.ember_box.specs.Regions.{walls, IsRegions}
 use Rattle.ember_trace.specs.declared.region_sides.Sides.{Sides}
@@ -20,6 +21,10 @@ abbrev pub AreSidesWithin : ℕ → ℕ → List Tri → Cell → List ℤ → F
 AreSidesWithin m f near c counts r s =
     LiesIn c r → (scene : List Tri) → FitsWithin m f scene near c counts →
     IsSides scene r s.before.counts s.after.counts
+
+-- the same on the grid of a width
+abbrev pub AreSidesOn : {W M : Type 0} → Ghosts W M → List Tri → Cell → List ℤ → Face → Sides → Type 0
+AreSidesOn G near c counts r s = AreSidesWithin G.corner G.fine near (in_steps G.scale c) counts r s
 
 -- the same on the narrow grid
 abbrev pub AreSides : List Tri → Cell → List ℤ → Face → Sides → Type 0
@@ -45,6 +50,10 @@ AreRegionSidesWithin m f near c counts r s =
     IsRegion near c r → (scene : List Tri) → FitsWithin m f scene near c counts →
     IsSides scene r s.before.counts s.after.counts
 
+-- on the grid of a width
+abbrev pub AreRegionSidesOn : {W M : Type 0} → Ghosts W M → List Tri → Cell → List ℤ → Face → Sides → Type 0
+AreRegionSidesOn G near c counts r s = AreRegionSidesWithin G.corner G.fine near (in_steps G.scale c) counts r s
+
 -- on the narrow grid
 abbrev pub AreRegionSides : List Tri → Cell → List ℤ → Face → Sides → Type 0
 AreRegionSides near c counts f s =
@@ -54,6 +63,10 @@ AreRegionSides near c counts f s =
 abbrev pub AreOnlySidesWithin : ℕ → ℕ → List Tri → Cell → List ℤ → Face → Sides → Type 0
 AreOnlySidesWithin m f near c counts r s =
     IsRegion near c r → (scene : List Tri) → FitsWithin m f scene near c counts → AreAllSides scene r s
+
+-- on the grid of a width
+abbrev pub AreOnlySidesOn : {W M : Type 0} → Ghosts W M → List Tri → Cell → List ℤ → Face → Sides → Type 0
+AreOnlySidesOn G near c counts r s = AreOnlySidesWithin G.corner G.fine near (in_steps G.scale c) counts r s
 
 -- on the narrow grid
 abbrev pub AreOnlySides : List Tri → Cell → List ℤ → Face → Sides → Type 0

@@ -1,7 +1,7 @@
 -- How often a path to a region of a box crosses the triangles near the box, by the sides of planes on
 -- which its vertices lie
 use Rattle.std.specs.Prelude.{◌≡◌, ℕ, ◌^◌, ℤ, pos, ◌+ℤ◌, neg_ℤ, int_le, Bool, false, ◌&&◌}
-use Rattle.std.specs.Prelude.{if◌then◌else◌, List, fold, replicate, Some, slice_get, slice_index_or}
+use Rattle.std.specs.Prelude.{if◌then◌else◌, List, All, map, fold, replicate, Some, slice_get, slice_index_or}
 use Rattle.std.specs.Int.{int_max}
 use Rattle.ember_algebra.specs.declared.Sign.{Sign}
 use Rattle.ember_algebra.specs.Sign.{sgn, flip, times, number, is_neg}
@@ -16,14 +16,16 @@ use Rattle.ember_width.specs.RootFloors.{moved_within}
 use Rattle.ember_poly.specs.Sides.{AreCorners}
 use Rattle.ember_law.specs.Counts.{with_more}
 use Rattle.ember_box.specs.declared.aabb.Interval.{Interval}
+use Rattle.ember_box.specs.declared.aabb.Aabb.{Aabb}
 use Rattle.ember_box.specs.Aabbs.{interval_along}
-use Rattle.ember_box.specs.Boxes.{Cell, axis_index}
+use Rattle.ember_box.specs.Boxes.{Cell, axis_index, in_steps}
 use Rattle.ember_ref.specs.References.{or_sign}
 use Rattle.ember_trace.specs.declared.near_triangle.NearTriangle.{NearTriangle}
 use Rattle.ember_trace.specs.declared.limits.Limits.{Limits}
 use Rattle.ember_trace.specs.declared.region_sides.Sides.{Sides}
 use Rattle.ember_trace.specs.Lines.{all_behind, contains_above}
-use Rattle.ember_trace.specs.NearTriangles.{AreNearTrianglesBeside}
+use Rattle.ember_trace.specs.NearTriangles.{AreNearTrianglesBeside, HasReferenceBeside, tri_of}
+use Rattle.ember_trace.specs.Boxed.{AreSidesOn}
 use Rattle.ember_trace.specs.Paths.{Path, coordinate, inside_side, side_at_end, side_after_first}
 use Rattle.ember_trace.specs.Paths.{side_after_second, floor_at_end, HasAxes, IsPathTo}
 
@@ -50,6 +52,17 @@ farthest w k = int_max (floor_at_end w k) (coordinate w.lo k)
 -- the interval begins at a whole number or below
 abbrev pub begins_by : Interval → ℤ → Bool
 begins_by s at = int_le s.low at
+
+-- ---- of a bounding box, along an axis
+-- it may contain the end of the path, reach the farthest that the path gets, and have the path's end behind its edges
+abbrev pub may_end_along : Aabb → Path → Axis → Bool
+may_end_along b w k = may_contain (interval_along b k) (floor_at_end w k)
+
+abbrev pub may_reach_along : Aabb → Path → Axis → Bool
+may_reach_along b w k = begins_by (interval_along b k) (farthest w k)
+
+abbrev pub ends_behind : Path → List Plane → Bool
+ends_behind w planes = all_behind (λ p. side_at_end w p) planes
 
 -- the limits of a path: the indices of its axes, its start along the main axis, and its clamped floors
 pub record AreLimits (w : Path) (at : Limits) : Type 0 where
@@ -117,6 +130,13 @@ side_before p k s = or_sign s (flip (sgn (along p k)))
 abbrev pub side_after : Plane → Axis → Sign → Sign
 side_after p k s = or_sign s (sgn (along p k))
 
+-- the last segment, of the path that ends directly before the region, and of that which ends directly after it
+abbrev pub last_segment_before : {W M : Type 0} {G : Ghosts W M} → Path → NearTriangle W M G → Axis → ℤ
+last_segment_before w f k = last_segment w f (side_before f.support k (side_at_end w f.support))
+
+abbrev pub last_segment_after : {W M : Type 0} {G : Ghosts W M} → Path → NearTriangle W M G → Axis → ℤ
+last_segment_after w f k = last_segment w f (side_after f.support k (side_at_end w f.support))
+
 -- the signed crossings of the path that ends directly before the region, and of that which ends directly after it
 unfoldable pub crossing_before : {W M : Type 0} {G : Ghosts W M} → Path → NearTriangle W M G → ℤ
 crossing_before w f =
@@ -148,6 +168,16 @@ pub record AreTracedBesideBy {W M : Type 0} (G : Ghosts W M) (f : ℕ) (near : L
   pub near_triangles : List (NearTriangle W M G)
   pub are_near : AreNearTrianglesBeside f near c near_triangles
   pub traced : AreTracedBeside f c near_triangles counts r s
+
+-- on the grid of a width
+abbrev pub AreTracedOn : {W M : Type 0} → Ghosts W M → List Tri → Cell → List ℤ → Face → Sides → Type 0
+AreTracedOn G near c counts r s = AreTracedBesideBy G G.fine near (in_steps G.scale c) counts r s
+
+-- the two vectors are the sides of the face, if each near triangle has what it is to have of the box's reference point
+abbrev pub AreSidesNear : {W M : Type 0} (G : Ghosts W M) → List (NearTriangle W M G) → Cell → List ℤ → Face →
+    Sides → Type 0
+AreSidesNear G near c counts r s =
+    All (HasReferenceBeside G.fine (in_steps G.scale c)) near → AreSidesOn G (map tri_of near) c counts r s
 
 -- on the narrow grid
 abbrev pub AreTracedBy : {W M : Type 0} → Ghosts W M → List Tri → Cell → List ℤ → Face → Sides → Type 0

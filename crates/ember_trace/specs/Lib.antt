@@ -6,3 +6,4 @@ pub mod LineSizes
 pub mod Lines
 pub mod NearTriangles
 pub mod Paths
+pub mod Slid

@@ -1,9 +1,10 @@
 -- Lines along an axis that run through a triangle
-use Rattle.std.specs.Prelude.{ℕ, ℤ, int_le, int_lt, Bool, ◌&&◌, List, [], ◌∷◌}
+use Rattle.std.specs.Prelude.{◌≡◌, ℕ, ℤ, int_le, int_lt, Bool, ◌&&◌, List, [], ◌∷◌, Some, slice_get}
 use Rattle.std.specs.List.{list_all}
 use Rattle.ember_algebra.specs.declared.Sign.{Sign}
 use Rattle.ember_algebra.specs.Sign.{sgn, is_neg}
 use Rattle.ember_model.specs.declared.plane.Plane.{Plane}
+use Rattle.ember_model.specs.declared.point.Spot.{Spot}
 use Rattle.ember_model.specs.declared.point.Axis.{Axis}
 use Rattle.ember_model.specs.declared.point.Axis.TheVariants.{X, Y, Z}
 use Rattle.ember_model.specs.declared.tri.Tri.{Tri}
@@ -16,6 +17,11 @@ use Rattle.ember_trace.specs.Paths.{coordinate, first_of, second_of}
 -- all planes of a list are negative at a vertex
 abbrev pub all_behind : (Plane → Sign) → List Plane → Bool
 all_behind side ps = list_all (λ p. is_neg (side p)) ps
+
+-- the answer is whether a point is behind the edge plane with this index
+abbrev pub TellsBehindEdge : Tri → Axis → ℕ → Spot → Bool → Type 0
+TellsBehindEdge t k edge point answer =
+    (p : Plane) → slice_get (edge_planes t k) edge ≡ Some p → answer ≡ is_neg (sgn (value_at p point))
 
 -- the whole number plus any small number above 0 is strictly between the ends of the interval
 abbrev pub contains_above : Interval → ℤ → Bool

@@ -145,7 +145,7 @@ pub fn short_second_is_behind<W: Width>(triangle: &NearTriangle<W>, way: &Path<W
     requires axes { HasAxes (path_of way.now) }
     requires short { way.now.is_short ≡ true }
     ensures { result ≡
-        all_behind (λ p. side_after_first (path_of way.now) p) (edge_planes triangle.now.tri way.now.second_axis) }
+        all_behind (side_after_first (path_of way.now)) (edge_planes triangle.now.tri way.now.second_axis) }
 {
     let t = &triangle.tri;
     let s = slope_number(&triangle.support, way.second_axis);

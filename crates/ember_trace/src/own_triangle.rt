@@ -6,7 +6,7 @@ ghost use Rattle.ember_model.specs.Planes.{value_at, edge_planes};
 ghost use Rattle.ember_model.specs.Faces.{edges_of, Everywhere};
 ghost use Rattle.ember_model.specs.ClearTest.{all_negative};
 ghost use Rattle.ember_trace.specs.Paths.{path_of, side_at_end};
-ghost use Rattle.ember_trace.specs.Lines.{all_behind};
+ghost use Rattle.ember_trace.specs.Crossings.{ends_behind};
 
 use crate::crossing_signs::is_parallel;
 use crate::near_triangle::NearTriangle;
@@ -66,8 +66,7 @@ fn shares_plane<W: Width>(triangle: &NearTriangle<W>, way: &Path<W>) -> bool
 /// part of it: all edge planes parallel to the segment are negative at its end. `false` shows
 /// nothing.
 pub fn is_own<W: Width>(triangle: &NearTriangle<W>, way: &Path<W>) -> bool
-    ensures { result ≡ true →
-        all_behind (λ p. side_at_end (path_of way.now) p) (edge_planes triangle.now.tri way.now.main) ≡ true }
+    ensures { result ≡ true → ends_behind (path_of way.now) (edge_planes triangle.now.tri way.now.main) ≡ true }
 {
     if !shares_plane(triangle, way) {
         return false;

@@ -1,6 +1,6 @@
 // Which lines through the reference point of a box run through a triangle. The first segments of all
 // paths in the box run along one of two such lines: one along x, one along y.
-ghost use Rattle.std.specs.Prelude.{◌≡◌, ◌<◌, Some, slice_get, All};
+ghost use Rattle.std.specs.Prelude.{◌≡◌, ◌<◌, All};
 ghost use Rattle.ember_algebra.specs.Size.{Small};
 ghost use Rattle.ember_algebra.specs.Sign.{sgn, is_neg};
 ghost use Rattle.ember_model.specs.Within.{IsTriWithin};
@@ -9,7 +9,7 @@ ghost use Rattle.ember_model.specs.declared.plane.Plane.{Plane as PlaneView};
 ghost use Rattle.ember_box.specs.Aabbs.{interval_along, aabb_of_tri, most_wall};
 ghost use Rattle.ember_ref.specs.References.{reference_of_list};
 ghost use Rattle.ember_trace.specs.Paths.{coordinate};
-ghost use Rattle.ember_trace.specs.Lines.{all_behind, contains_above, line_runs_through, first_lines_of};
+ghost use Rattle.ember_trace.specs.Lines.{all_behind, contains_above, line_runs_through, first_lines_of, TellsBehindEdge};
 
 use crate::edges::is_neg;
 use crate::path_limits::contains_above;
@@ -33,8 +33,7 @@ fn is_behind_edge<W: Width>(t: &Tri, lo: [i32; 3], edge: u8, k: Axis) -> bool
     requires tri { IsTriWithin W.corner t.now }
     requires corner { All (Small most_wall) lo }
     requires edge { edge < 3 }
-    ensures { (p : PlaneView) → slice_get (edge_planes t.now k) edge ≡ Some p →
-        result ≡ is_neg (sgn (value_at p (reference_of_list W.fine lo))) }
+    ensures { TellsBehindEdge t.now k edge (reference_of_list W.fine lo) result }
 {
     is_neg(side_beside(&edge_plane(t, edge, k), lo))
 }

@@ -1,15 +1,14 @@
 // Where the segments of a path cross a triangle.
 ghost use Rattle.std.specs.Prelude.{◌≡◌, ◌<◌, true};
 ghost use Rattle.ember_algebra.specs.Size.{Small};
-ghost use Rattle.ember_algebra.specs.declared.Sign.{Sign};
 ghost use Rattle.ember_algebra.specs.Sign.{is_neg};
 ghost use Rattle.ember_model.specs.Within.{IsSupportWithin};
 ghost use Rattle.ember_model.specs.Planes.{edge_planes, main_axis};
 ghost use Rattle.ember_box.specs.Aabbs.{interval_along};
 ghost use Rattle.ember_box.specs.Boxes.{axis_index};
-ghost use Rattle.ember_trace.specs.Paths.{path_of, HasAxes, coordinate, side_after_first, side_at_end, floor_at_end};
+ghost use Rattle.ember_trace.specs.Paths.{path_of, HasAxes, coordinate, side_after_first, side_at_end};
 ghost use Rattle.ember_trace.specs.Lines.{all_behind, contains_above};
-ghost use Rattle.ember_trace.specs.Crossings.{begins_by, may_contain, may_end, farthest, AreLimits, first_runs_through, second_runs_through, last_runs_through, first_segment, second_segment, segments_above_wall, last_segment, side_before, side_after, crossing_before, crossing_after};
+ghost use Rattle.ember_trace.specs.Crossings.{begins_by, may_contain, may_end, farthest, AreLimits, first_runs_through, second_runs_through, last_runs_through, first_segment, second_segment, segments_above_wall, side_before, side_after, crossing_before, crossing_after, last_segment_after, last_segment_before, may_end_along, may_reach_along};
 
 use crate::crossing_signs::{is_parallel, side_after, side_before, signed_crossing};
 use crate::edges::{
@@ -36,7 +35,7 @@ fn is_behind_after_first<W: Width>(way: &Path<W>, p: &Plane) -> bool
 fn second_is_behind<W: Width>(triangle: &NearTriangle<W>, way: &Path<W>) -> bool
     requires { HasAxes (path_of way.now) }
     ensures { result ≡
-        all_behind (λ p. side_after_first (path_of way.now) p) (edge_planes triangle.now.tri way.now.second_axis) }
+        all_behind (side_after_first (path_of way.now)) (edge_planes triangle.now.tri way.now.second_axis) }
 {
     let k = way.second_axis;
     let t = &triangle.tri;
@@ -103,8 +102,7 @@ fn interval_at<W: Width>(triangle: &NearTriangle<W>, index: usize) -> Interval
 // Whether the end of the path can be within the bounding box along the first axis.
 fn may_end_along_first<W: Width>(triangle: &NearTriangle<W>, way: &Path<W>, at: &Limits) -> bool
     requires { AreLimits (path_of way.now) at.now }
-    ensures { result ≡ may_contain (interval_along triangle.now.aabb way.now.first_axis)
-        (floor_at_end (path_of way.now) way.now.first_axis) }
+    ensures { result ≡ may_end_along triangle.now.aabb (path_of way.now) way.now.first_axis }
 {
     may_contain(&interval_at(triangle, at.first_index), at.first)
 }
@@ -112,8 +110,7 @@ fn may_end_along_first<W: Width>(triangle: &NearTriangle<W>, way: &Path<W>, at: 
 // Whether the end of the path can be within the bounding box along the second axis.
 fn may_end_along_second<W: Width>(triangle: &NearTriangle<W>, way: &Path<W>, at: &Limits) -> bool
     requires { AreLimits (path_of way.now) at.now }
-    ensures { result ≡ may_contain (interval_along triangle.now.aabb way.now.second_axis)
-        (floor_at_end (path_of way.now) way.now.second_axis) }
+    ensures { result ≡ may_end_along triangle.now.aabb (path_of way.now) way.now.second_axis }
 {
     may_contain(&interval_at(triangle, at.second_index), at.second)
 }
@@ -129,8 +126,7 @@ fn may_end<W: Width>(triangle: &NearTriangle<W>, way: &Path<W>, at: &Limits) -> 
 // Whether the second segment doesn't lie below the whole triangle along its own axis.
 fn second_may_reach<W: Width>(triangle: &NearTriangle<W>, way: &Path<W>, at: &Limits) -> bool
     requires { AreLimits (path_of way.now) at.now }
-    ensures { result ≡ begins_by (interval_along triangle.now.aabb way.now.second_axis)
-        (farthest (path_of way.now) way.now.second_axis) }
+    ensures { result ≡ may_reach_along triangle.now.aabb (path_of way.now) way.now.second_axis }
 {
     begins_by(&interval_at(triangle, at.second_index), at.farthest_second)
 }
@@ -237,12 +233,8 @@ pub struct Crossings {
 // The crossings of the last segments, one along each path.
 fn last_segments<W: Width>(triangle: &NearTriangle<W>, way: &Path<W>, at: &Limits) -> Crossings
     requires { AreLimits (path_of way.now) at.now }
-    ensures before { result.before ≡
-        last_segment (path_of way.now) triangle.now
-        (side_before triangle.now.support way.now.main (side_at_end (path_of way.now) triangle.now.support)) }
-    ensures after { result.after ≡
-        last_segment (path_of way.now) triangle.now
-        (side_after triangle.now.support way.now.main (side_at_end (path_of way.now) triangle.now.support)) }
+    ensures before { result.before ≡ last_segment_before (path_of way.now) triangle.now way.now.main }
+    ensures after { result.after ≡ last_segment_after (path_of way.now) triangle.now way.now.main }
     ensures small { Small 1 result.before × Small 1 result.after }
 {
     if !last_runs_through(triangle, way, at) {

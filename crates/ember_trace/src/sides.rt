@@ -1,5 +1,5 @@
 // The sides of a region, by the crossings on the path to it.
-ghost use Rattle.std.specs.Prelude.{◌≡◌, ℕ, ◌+◌, ◌*◌, ◌≤◌, All, IfOk, length, map, neg_ℤ};
+ghost use Rattle.std.specs.Prelude.{◌≡◌, ℕ, ◌+◌, ◌*◌, ◌≤◌, All, IfOk, length, neg_ℤ};
 ghost use Rattle.ember_model.specs.Limits.{count_limit, most_triangles};
 ghost use Rattle.ember_algebra.specs.Size.{Small};
 ghost use Rattle.ember_model.specs.Within.{IsTriWithin};
@@ -7,9 +7,9 @@ ghost use Rattle.ember_model.specs.Valid.{IsValidTri};
 ghost use Rattle.ember_model.specs.Meshes.{HasMesh};
 ghost use Rattle.ember_law.specs.Counts.{with_more};
 ghost use Rattle.ember_box.specs.Boxes.{in_steps};
-ghost use Rattle.ember_trace.specs.Boxed.{AreSidesWithin, AreRegionSidesWithin, AreOnlySidesWithin, AreSides, AreRegionSides, AreOnlySides};
-ghost use Rattle.ember_trace.specs.NearTriangles.{AreBoxCounts, HasReferenceBeside, AreWithinBound, tri_of};
-ghost use Rattle.ember_trace.specs.Crossings.{AreTracedBeside, AreTracedBesideBy, AreTracedBy};
+ghost use Rattle.ember_trace.specs.Boxed.{AreSides, AreRegionSides, AreOnlySides, AreOnlySidesOn, AreRegionSidesOn, AreSidesOn};
+ghost use Rattle.ember_trace.specs.NearTriangles.{AreBoxCounts, AreWithinBound};
+ghost use Rattle.ember_trace.specs.Crossings.{AreTracedBeside, AreTracedBy, AreSidesNear, AreTracedOn};
 
 use crate::near::near_triangles_on;
 use crate::near_triangle::NearTriangle;
@@ -73,8 +73,7 @@ pub fn trace_sides_on<W: Width>(
     requires few { length near.now ≤ most_triangles }
     requires counts { AreBoxCounts v.now.counts }
     ensures traced { AreTracedBeside W.fine (in_steps W.scale c.now) near.now v.now.counts r.now sides.new }
-    ensures sides { All (HasReferenceBeside W.fine (in_steps W.scale c.now)) near.now → AreSidesWithin W.corner W.fine
-        (map tri_of near.now) (in_steps W.scale c.now) v.now.counts r.now sides.new }
+    ensures sides { AreSidesNear W.Width near.now c.now v.now.counts r.now sides.new }
     ensures before { AreWithinBound (length near.now) v.now.counts sides.new.before.counts }
     ensures after { AreWithinBound (length near.now) v.now.counts sides.new.after.counts }
 {
@@ -93,8 +92,7 @@ fn sides_beside<W: Width>(near: &[NearTriangle<W>], c: &Cell, v: &Vector, r: &Ri
     requires few { length near.now ≤ most_triangles }
     requires counts { AreBoxCounts v.now.counts }
     ensures traced { AreTracedBeside W.fine (in_steps W.scale c.now) near.now v.now.counts r.now result }
-    ensures sides { All (HasReferenceBeside W.fine (in_steps W.scale c.now)) near.now → AreSidesWithin W.corner W.fine
-        (map tri_of near.now) (in_steps W.scale c.now) v.now.counts r.now result }
+    ensures sides { AreSidesNear W.Width near.now c.now v.now.counts r.now result }
     ensures before { AreWithinBound (length near.now) v.now.counts result.before.counts }
     ensures after { AreWithinBound (length near.now) v.now.counts result.after.counts }
 {
@@ -118,14 +116,10 @@ fn sides_traced_on<W: Width>(
     requires numbered { All (HasMesh 64) near.now }
     requires few { length near.now ≤ most_triangles }
     requires counts { AreBoxCounts v.now.counts }
-    ensures traced { IfOk result (λ s. AreTracedBesideBy W.Width W.fine
-        near.now (in_steps W.scale c.now) v.now.counts r.now s) }
-    ensures sides { IfOk result (λ s. AreSidesWithin W.corner W.fine
-        near.now (in_steps W.scale c.now) v.now.counts r.now s) }
-    ensures region { IfOk result (λ s. AreRegionSidesWithin W.corner W.fine
-        near.now (in_steps W.scale c.now) v.now.counts r.now s) }
-    ensures only { IfOk result (λ s. AreOnlySidesWithin W.corner W.fine
-        near.now (in_steps W.scale c.now) v.now.counts r.now s) }
+    ensures traced { IfOk result (AreTracedOn W.Width near.now c.now v.now.counts r.now) }
+    ensures sides { IfOk result (AreSidesOn W.Width near.now c.now v.now.counts r.now) }
+    ensures region { IfOk result (AreRegionSidesOn W.Width near.now c.now v.now.counts r.now) }
+    ensures only { IfOk result (AreOnlySidesOn W.Width near.now c.now v.now.counts r.now) }
     ensures before { IfOk result (λ s. AreWithinBound (length near.now) v.now.counts s.before.counts) }
     ensures after { IfOk result (λ s. AreWithinBound (length near.now) v.now.counts s.after.counts) }
 {

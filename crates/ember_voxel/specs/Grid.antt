@@ -8,6 +8,7 @@ use Rattle.ember_model.specs.declared.point.Axis.TheVariants.{X, Y, Z}
 use Rattle.ember_box.specs.Boxes.{Cell, low, high}
 use Rattle.ember_voxel.specs.declared.fill.Fill.{Fill}
 use Rattle.ember_voxel.specs.declared.grid.Extent.{Extent}
+use Rattle.ember_voxel.specs.declared.grid.Block.{Block}
 
 -- ---- which cells lie in a box
 -- the coordinate of the least corner of cell i
@@ -85,3 +86,23 @@ pub record AddsRows (n count : ℕ) (old new : List ℕ) : Type 0 where
   pub rows : List ℕ
   pub is : new ≡ old ++ rows
   pub blank : AreBlank n count rows
+
+-- the block has the cell
+abbrev pub is_in_block : Block → ℕ → ℕ → ℕ → Bool
+is_in_block b i j l = between b.z l && (between b.y j && between b.x i)
+
+-- in n columns the new rows have a 1 at the chosen places, and elsewhere what the old ones have
+abbrev pub SetsChars : ℕ → (ℕ → ℕ → Bool) → List ℕ → List ℕ → Type 0
+SetsChars n chosen old new =
+    (q i : ℕ) → i < n → char_at n new q i ≡ (if chosen q i then 49 else char_at n old q i)
+
+-- the same of the cells of a grid with n along each axis
+abbrev pub SetsCells : ℕ → (ℕ → ℕ → ℕ → Bool) → List ℕ → List ℕ → Type 0
+SetsCells n chosen old new =
+    (i j m : ℕ) → i < n → j < n → m < n →
+    char_at n new (m * n + j) i ≡ (if chosen i j m then 49 else char_at n old (m * n + j) i)
+
+-- they determine all bytes
+abbrev pub HaveOneText : ℕ → (ℕ → ℕ → ℕ → Bool) → Type 0
+HaveOneText size bit =
+    (text other : List ℕ) → IsTextOfBits size bit text → IsTextOfBits size bit other → text ≡ other

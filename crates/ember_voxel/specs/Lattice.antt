@@ -37,6 +37,10 @@ abbrev pub ends : Option Bool → Bool → Bool
 ends None last = last
 ends (Some b) last = true
 
+-- the box of this job ends
+abbrev pub ends_at : ℕ → List Tri → Formula → Job → Bool
+ends_at size ts f job = ends (box_value ts f job) (is_lattice_cell size job.cell)
+
 -- what becomes of a job: a leaf, or its box is halved along its longest side
 unfoldable pub shape : List Tri → Formula → ℕ → Job → Shape
 shape ts f size j =

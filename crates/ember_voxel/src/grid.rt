@@ -1,9 +1,9 @@
 // The text of all lattice cells. Along each axis there are n cells, with the indices 0 to n - 1. A
 // row is the line of the cells with one j along y and one l along z.
-ghost use Rattle.std.specs.Prelude.{◌≡◌, ℕ, ◌+◌, ◌-◌, ◌*◌, ◌^◌, ◌<◌, ◌≤◌, ◌==◌, ◌&&◌, Bool, nat_lt, nat_le, pos, ◌+ℤ◌, codes, decimal, ◌++◌, length, count_by, if◌then◌else◌, IfOk, OnOk};
+ghost use Rattle.std.specs.Prelude.{◌≡◌, ℕ, ◌+◌, ◌-◌, ◌*◌, ◌^◌, ◌<◌, ◌≤◌, ◌==◌, ◌&&◌, nat_lt, nat_le, pos, ◌+ℤ◌, codes, decimal, ◌++◌, length, count_by, if◌then◌else◌, IfOk, OnOk};
 ghost use Rattle.ember_model.specs.Limits.{wall_limit};
 ghost use Rattle.ember_voxel.specs.Limits.{most_cells, most_columns};
-ghost use Rattle.ember_voxel.specs.Grid.{char_at, between, contains_cell, sets_cell, is_set, is_one, IsExtent, IsGridText, AddsRows, KeepsFeeds, header_of};
+ghost use Rattle.ember_voxel.specs.Grid.{between, contains_cell, sets_cell, is_set, is_one, IsExtent, IsGridText, AddsRows, KeepsFeeds, header_of, SetsCells, SetsChars, is_in_block};
 ghost use Rattle.ember_box.specs.Boxes as boxes;
 ghost use Rattle.ember_voxel.specs.Grid as grids;
 
@@ -75,8 +75,7 @@ fn set_row(rows: &mut [u8], n: usize, r: usize, x: &Extent)
     requires row { r < n * n }
     requires x { IsExtent n x.now }
     ensures len { length rows.new ≡ length rows.old }
-    ensures cells { (q i : ℕ) → i < n →
-        char_at n rows.new q i ≡ (if q == r && between x.now i then 49 else char_at n rows.old q i) }
+    ensures cells { SetsChars n (λ q i. q == r && between x.now i) rows.old rows.new }
     ensures feeds { KeepsFeeds n rows.old rows.new }
 {
     let start = row_start(n, r);
@@ -93,9 +92,7 @@ fn set_layer(rows: &mut [u8], n: usize, l: usize, x: &Extent, y: &Extent)
     requires x { IsExtent n x.now }
     requires y { IsExtent n y.now }
     ensures len { length rows.new ≡ length rows.old }
-    ensures cells { (i j m : ℕ) → i < n → j < n → m < n →
-        char_at n rows.new (m * n + j) i ≡ (if m == l && (between y.now j && between x.now i) then 49
-        else char_at n rows.old (m * n + j) i) }
+    ensures cells { SetsCells n (λ i j m. m == l && (between y.now j && between x.now i)) rows.old rows.new }
     ensures feeds { KeepsFeeds n rows.old rows.new }
 {
     for j in y.from..y.end {
@@ -111,9 +108,7 @@ fn set_block(rows: &mut [u8], n: usize, block: &Block)
     requires y { IsExtent n block.now.y }
     requires z { IsExtent n block.now.z }
     ensures len { length rows.new ≡ length rows.old }
-    ensures cells { (i j m : ℕ) → i < n → j < n → m < n →
-        char_at n rows.new (m * n + j) i ≡ (if between block.now.z m && (between block.now.y j && between block.now.x i)
-        then 49 else char_at n rows.old (m * n + j) i) }
+    ensures cells { SetsCells n (is_in_block block.now) rows.old rows.new }
     ensures feeds { KeepsFeeds n rows.old rows.new }
 {
     for l in block.z.from..block.z.end {
@@ -161,8 +156,7 @@ fn block_of(size: u8, c: &Cell) -> Block
     ensures x { IsExtent (2 ^ (12 - size)) result.x }
     ensures y { IsExtent (2 ^ (12 - size)) result.y }
     ensures z { IsExtent (2 ^ (12 - size)) result.z }
-    ensures cells { (i j l : ℕ) →
-        (between result.z l && (between result.y j && between result.x i)) ≡ contains_cell size c.now i j l }
+    ensures cells { (i j l : ℕ) → is_in_block result i j l ≡ contains_cell size c.now i j l }
 {
     Block {
         x: extent_along(size, c, Axis::X),
@@ -177,9 +171,7 @@ fn set_fill(rows: &mut [u8], size: u8, n: usize, fill: &Fill)
     requires cells { n ≡ 2 ^ (12 - size) }
     requires size { length rows.old ≡ n * n * (n + 1) }
     ensures len { length rows.new ≡ length rows.old }
-    ensures cells { (i j m : ℕ) → i < n → j < n → m < n →
-        char_at n rows.new (m * n + j) i ≡ (if sets_cell size i j m fill.now then 49
-        else char_at n rows.old (m * n + j) i) }
+    ensures cells { SetsCells n (λ i j m. sets_cell size i j m fill.now) rows.old rows.new }
     ensures feeds { KeepsFeeds n rows.old rows.new }
 {
     if fill.bit {
@@ -193,9 +185,7 @@ fn set_fills(rows: &mut [u8], size: u8, n: usize, fills: &[Fill])
     requires cells { n ≡ 2 ^ (12 - size) }
     requires size { length rows.old ≡ n * n * (n + 1) }
     ensures len { length rows.new ≡ length rows.old }
-    ensures cells { (i j m : ℕ) → i < n → j < n → m < n →
-        char_at n rows.new (m * n + j) i ≡ (if is_set size fills.now i j m then 49
-        else char_at n rows.old (m * n + j) i) }
+    ensures cells { SetsCells n (is_set size fills.now) rows.old rows.new }
     ensures feeds { KeepsFeeds n rows.old rows.new }
 {
     for fill in fills {

@@ -1,10 +1,8 @@
 // The laws of the sampled solid.
-ghost use Rattle.std.specs.Prelude.{◌≡◌, ◌≤◌, ℕ, Bool, List};
+ghost use Rattle.std.specs.Prelude.{ℕ, Bool};
 ghost use Rattle.ember_expr.specs.Formula.{formula_of};
-ghost use Rattle.ember_voxel.specs.declared.fill.Fill.{Fill};
-ghost use Rattle.ember_voxel.specs.Fills.{leaf_fills};
-ghost use Rattle.ember_voxel.specs.Grid.{IsGridText, IsTextOfBits};
-ghost use Rattle.ember_voxel.specs.Voxels.{IsVoxelText};
+ghost use Rattle.ember_voxel.specs.Voxels.{HasValueInEachCell};
+ghost use Rattle.ember_voxel.specs.Grid.{HaveOneText};
 
 use ember_expr::{Expr, tree};
 use ember_model::Scene;
@@ -13,9 +11,7 @@ use ember_model::Scene;
 /// value at the cell's own reference point. If the value of a leaf is known, it is the value at
 /// each of its cells; a leaf whose value isn't known is one cell.
 pub fn each_cell_has_its_value(_s: &Scene, e: &Expr)
-    ensures { (size : ℕ) (fills : List Fill) (text : List ℕ) → size ≤ 12 →
-        fills ≡ leaf_fills _s.now.tris (formula_of e.now) size → IsGridText size fills text →
-        IsVoxelText _s.now.tris (formula_of e.now) size text }
+    ensures { HasValueInEachCell _s.now.tris (formula_of e.now) }
 {
     // Called only for its clause `fit`, which the prover then knows of `e`.
     tree(e);
@@ -23,6 +19,5 @@ pub fn each_cell_has_its_value(_s: &Scene, e: &Expr)
 
 /// A lattice with these bits has one text.
 pub fn bits_have_one_text()
-    ensures { (size : ℕ) (bit : ℕ → ℕ → ℕ → Bool) (text other : List ℕ) → IsTextOfBits size bit text →
-        IsTextOfBits size bit other → text ≡ other }
+    ensures { (size : ℕ) (bit : ℕ → ℕ → ℕ → Bool) → HaveOneText size bit }
 {}

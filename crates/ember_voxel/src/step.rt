@@ -82,8 +82,7 @@ fn is_lattice_cell(c: &Cell, size: u8) -> bool
 fn bit_of(e: &Expr, s: &Scene, size: u8, job: &Job) -> Option<bool>
     requires places { All (λ i. i < length s.now.tris) job.now.list }
     requires counts { AreCounts job.now.at.counts }
-    ensures ends { is_some result ≡
-        ends (values.box_value s.now.tris (formula_of e.now) job.now) (lattice.is_lattice_cell size job.now.cell) }
+    ensures ends { is_some result ≡ lattice.ends_at size s.now.tris (formula_of e.now) job.now }
     ensures bit { IfSome result (λ b. b ≡ truth job.now.at.counts (formula_of e.now)) }
 {
     match box_value(e, s, job) {

@@ -1,6 +1,6 @@
 -- Remainders divided by a common divisor.
 use Rattle.std.proofs.Common.{◌≡◌, ℕ, zero, suc, ◌+◌, ◌*◌, ◌/◌, ◌^◌, ◌<◌, ◌≤◌, ℤ, pos, negsuc, ◌+ℤ◌, ◌*ℤ◌, unsigned_abs, mul-le-mul}
-use Rattle.std.proofs.Common.{sym, ap, subst, ◌∙◌, arith}
+use Rattle.std.proofs.Common.{sym, subst, ◌∙◌, arith}
 use Rattle.std.specs.Int.{◌∣◌, IsGcd}
 use Rattle.std.proofs.lemmas.Int.{ints}
 use Rattle.std.proofs.lemmas.Nat.Gcd.{dvd_antisymm, dvd_trans}
@@ -125,5 +125,8 @@ quotients_are r d g =
     }
 
 -- a quotient is no larger
+pub no_larger : (e w d : ℕ) → 0 < d → e * d ≡ w → e ≤ w
+no_larger e w d p q = let one : 1 ≤ d = omega (arith, p) in let m : e * 1 ≤ e * d = mul-le-mul (omega arith) one in omega (arith, m, q)
+
 pub smaller : (e w d : ℕ) → 0 < d → e * d ≡ w → w < 2 ^ 123 → e < 2 ^ 123
-smaller e w d p q l = let one : 1 ≤ d = omega (arith, p) in let m : e * 1 ≤ e * d = mul-le-mul (omega arith) one in omega (arith, m, q, l)
+smaller e w d p q l = omega (arith, no_larger e w d p q, l)

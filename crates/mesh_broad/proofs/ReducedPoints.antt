@@ -168,15 +168,11 @@ pub size_as_kept : {r : ℤ} {n : ℕ} → Small most_weight r → pos 0 ≤ℤ 
 size_as_kept {r} {n} s l e =
     let f : n ≡ unsigned_abs r = e ∙ ap unsigned_abs (exact (s & done) (kept 0) tt) in omega (arith, ints, f, l)
 
--- what is found for floors and remainders is found for their point
-pub found_by_floors : (i j k : ℤ) (x y z w : ℕ) (v : Spot) → i *ℤ pos w +ℤ pos x ≡ v.x → j *ℤ pos w +ℤ pos y ≡ v.y →
-    k *ℤ pos w +ℤ pos z ≡ v.z → pos w ≡ v.w → (found : Option SpacePoint) →
-    MatchOption found
-    (IsBeyondReach (record { x = i *ℤ pos w +ℤ pos x; y = j *ℤ pos w +ℤ pos y; z = k *ℤ pos w +ℤ pos z; w = pos w }))
-    (λ p. IsReduced (record { x = i *ℤ pos w +ℤ pos x; y = j *ℤ pos w +ℤ pos y; z = k *ℤ pos w +ℤ pos z; w = pos w }) (spot_of p)) →
-    MatchOption found (IsBeyondReach v) (λ p. IsReduced v (spot_of p))
-found_by_floors i j k x y z w v ex ey ez ew found h =
-    subst (λ (s : Spot). MatchOption found (IsBeyondReach s) (λ p. IsReduced s (spot_of p))) (same_spot ex ey ez ew) h
+-- the lowest terms of floors and remainders are those of their point
+pub reduced_by_floors : (i j k : ℤ) (x y z w : ℕ) (v u : Spot) → i *ℤ pos w +ℤ pos x ≡ v.x → j *ℤ pos w +ℤ pos y ≡ v.y →
+    k *ℤ pos w +ℤ pos z ≡ v.z → pos w ≡ v.w →
+    IsReduced (record { x = i *ℤ pos w +ℤ pos x; y = j *ℤ pos w +ℤ pos y; z = k *ℤ pos w +ℤ pos z; w = pos w }) u → IsReduced v u
+reduced_by_floors i j k x y z w v u ex ey ez ew h = subst (λ (s : Spot). IsReduced s u) (same_spot ex ey ez ew) h
 
 -- what is found for a point in lowest terms is found for the point
 pub found_by_lowest : {u v : Spot} → IsReduced u v → (found : Option SpacePoint) →

@@ -1,5 +1,6 @@
 // Points of the broad grid in lowest terms, by the floors of their coordinates.
-ghost use Rattle.std.specs.Prelude.{pos, MatchOption};
+ghost use Rattle.std.specs.Prelude.{◌≤◌, MatchOption};
+ghost use Rattle.ember_width.specs.Broad.{most_weight};
 ghost use Rattle.ember_width.specs.BroadPoints.{spot_of as broad_spot_of, short_spot, floor_spot, far_spot};
 ghost use Rattle.mesh_broad.specs.Reduced.{IsReduced, IsBeyondReach};
 ghost use Rattle.mesh_broad.specs.Remainders.{spot_from};
@@ -12,19 +13,13 @@ use ember_point::{Meet, reduce};
 use ember_width::{BroadPoint, FarPoint, FloorPoint, ShortPoint};
 use mesh_point::{SpacePoint, point_of_meet};
 
-// The greatest weight of a corner: 2^75 - 1.
-const MOST_WEIGHT: u128 = 37778931862957161709567;
-
 // The point with these remainders in the unit cube that begins at `(x, y, z)`.
-fn point_in(x: i32, y: i32, z: i32, rests: &Remainders) -> Option<SpacePoint>
-    ensures { MatchOption result (IsBeyondReach (spot_from x y z rests.now))
-        (λ p. IsReduced (spot_from x y z rests.now) (spot_of p)) }
+fn point_in(x: i32, y: i32, z: i32, rests: &Remainders) -> SpacePoint
+    requires { rests.now.w ≤ most_weight }
+    ensures { IsReduced (spot_from x y z rests.now) (spot_of result) }
 {
     let lowest = reduced(rests);
-    if lowest.w > MOST_WEIGHT {
-        return None;
-    }
-    Some(SpacePoint {
+    SpacePoint {
         floor_x: x,
         floor_y: y,
         floor_z: z,
@@ -32,7 +27,7 @@ fn point_in(x: i32, y: i32, z: i32, rests: &Remainders) -> Option<SpacePoint>
         y: lowest.y as i128,
         z: lowest.z as i128,
         w: lowest.w as i128,
-    })
+    }
 }
 
 // A point in short numbers: they are those of a meet of the narrow grid.
@@ -49,8 +44,8 @@ fn short_point(m: &ShortPoint) -> Option<SpacePoint>
 }
 
 // A point whose floors are known.
-fn floored_point(m: &FloorPoint) -> Option<SpacePoint>
-    ensures { MatchOption result (IsBeyondReach (floor_spot m.now)) (λ p. IsReduced (floor_spot m.now) (spot_of p)) }
+fn floored_point(m: &FloorPoint) -> SpacePoint
+    ensures { IsReduced (floor_spot m.now) (spot_of result) }
 {
     let rests = Remainders {
         x: m.x.unsigned_abs(),
@@ -74,18 +69,18 @@ fn far_point(m: &FarPoint) -> Option<SpacePoint>
         z: z.rest,
         w: m.w.unsigned_abs(),
     };
-    point_in(x.floor, y.floor, z.floor, &rests)
+    Some(point_in(x.floor, y.floor, z.floor, &rests))
 }
 
 /// The point in lowest terms, by the floors of its coordinates. None if one of them is 2^31 or more in
-/// size, or the weight in lowest terms 2^75 or more.
+/// size.
 pub fn reduced_point(m: &BroadPoint) -> Option<SpacePoint>
     ensures { MatchOption result (IsBeyondReach (broad_spot_of m.now))
         (λ p. IsReduced (broad_spot_of m.now) (spot_of p)) }
 {
     match m {
         BroadPoint::Short(short) => short_point(short),
-        BroadPoint::Floored(point) => floored_point(point),
+        BroadPoint::Floored(point) => Some(floored_point(point)),
         BroadPoint::Far(far) => far_point(far),
     }
 }

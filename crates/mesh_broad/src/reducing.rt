@@ -1,5 +1,5 @@
 // Remainders of a point's coordinates, in lowest terms.
-ghost use Rattle.std.specs.Prelude.{◌≡◌, ℤ};
+ghost use Rattle.std.specs.Prelude.{◌≡◌, ◌≤◌, ℤ};
 ghost use Rattle.ember_model.specs.Edges.{SamePoint};
 ghost use Rattle.ember_model.specs.FaceFiles.{IsLowest};
 ghost use Rattle.mesh_broad.specs.Remainders.{spot_from, IsCommonDivisor};
@@ -20,6 +20,7 @@ fn common_divisor(r: &Remainders) -> u128
 pub fn reduced(r: &Remainders) -> Remainders
     ensures same { (i j k : ℤ) → SamePoint (spot_from i j k r.now) (spot_from i j k result) }
     ensures lowest { (i j k : ℤ) → IsLowest (spot_from i j k result) }
+    ensures weight { result.w ≤ r.now.w }
 {
     let divisor = common_divisor(r);
     if divisor == 1 {

@@ -1,6 +1,7 @@
 -- Whether points lie on lines: moments in 64 bits and in 256.
-use Rattle.std.proofs.Common.{◌≡◌, Bool, false, ℕ, ◌*◌, ◌^◌, ◌<◌, ◌≤◌, nat_eq, ℤ, pos, ◌+ℤ◌, ◌-ℤ◌, ◌*ℤ◌, ◌<ℤ◌}
-use Rattle.std.proofs.Common.{unsigned_abs, SFits, to_z, of_z, to_z-of_z, sym, ap, ◌∙◌, arith}
+use Rattle.std.proofs.Common.{◌≡◌, Bool, false, ℕ, ◌+◌, ◌*◌, ◌^◌, ◌<◌, ◌≤◌, nat_eq, ℤ, pos, ◌+ℤ◌, ◌-ℤ◌, ◌*ℤ◌, ◌<ℤ◌}
+use Rattle.std.proofs.Common.{unsigned_abs, SFits, to_z, of_z, to_z-of_z, mul-le-mul, sym, ap, ◌∙◌, arith}
+use Rattle.std.proofs.lemmas.Int.{unsigned_abs-mul}
 use Rattle.std.proofs.lemmas.Bool.{eqb-true, eq-eqb, false≢true}
 use Rattle.std.proofs.lemmas.Bool.Decides.{not_from_Decides}
 use Rattle.std.proofs.lemmas.Cmp.{int_ranked}
@@ -12,11 +13,12 @@ use borrow.Author.Differences.{ints}
 use mir.Syntax.{Width}
 use Rattle.ember_algebra.specs.Size.{Small}
 use Rattle.ember_algebra.proofs.Laws.{linear}
-use Rattle.ember_algebra.proofs.Size.{small_mul}
+use Rattle.ember_algebra.proofs.Size.{small_mul, small_sub}
 use Rattle.ember_algebra.proofs.Ring.{◌⊕◌, ◌⊖◌, ◌⊗◌, num, ◌≈◌, solve, cancels}
 use Rattle.ember_wide.specs.declared.whole.Wide.{Wide}
 use Rattle.ember_wide.specs.Whole.{size_of, value_of}
 use Rattle.ember_wide.proofs.Values.{size_of_value}
+use Rattle.ember_width.specs.Broad.{IsRemainder}
 
 -- a test that fails refuses what asks for more
 pub refused : {P Q : Type 0} (b : Bool) → Decides b P → b ≡ false → (Q → P) → Decides false Q
@@ -49,6 +51,25 @@ pub difference_of : (n m s : Wide) (a b c d : ℤ) → value_of n ≡ a *ℤ b �
     value_of s ≡ value_of n +ℤ value_of m → value_of s ≡ a *ℤ b -ℤ c *ℤ d
 difference_of n m s a b c d e f g =
     g ∙ rw (e, f) (solve 4 (λ a b c d. a ⊗ b ⊕ (num (pos 0) ⊖ c) ⊗ d ≈ a ⊗ b ⊖ c ⊗ d) cancels a b c d)
+
+-- ---- lacks that are too large
+-- a remainder times a number of 128 bits
+rest_product : (a b w : ℤ) → IsRemainder a w → Small (2 ^ 127) b → unsigned_abs (a *ℤ b) + 2 ^ 127 ≤ unsigned_abs w * 2 ^ 127
+rest_product a b w r s =
+    let l : unsigned_abs a + 1 ≤ unsigned_abs w = omega (arith, ints, r.at_least, r.below) in
+    let m : unsigned_abs a * unsigned_abs b ≤ unsigned_abs a * 2 ^ 127 = mul-le-mul (omega arith) s.small in
+    omega (arith, unsigned_abs-mul a b, l, m)
+
+-- no remainders make up for a lack of 2^128 or more
+pub lack_too_large : (a b c d w n : ℤ) → IsRemainder a w → IsRemainder c w → Small (2 ^ 127) b → Small (2 ^ 127) d →
+    2 ^ 128 ≤ unsigned_abs n → a *ℤ b -ℤ c *ℤ d ≡ n *ℤ w → ⊥
+lack_too_large a b c d w n ra rc sb sd l e =
+    let first : Small (unsigned_abs (a *ℤ b)) (a *ℤ b) = record { small = omega arith } in
+    let second : Small (unsigned_abs (c *ℤ d)) (c *ℤ d) = record { small = omega arith } in
+    let all = (small_sub first second).small in
+    let most : 2 ^ 128 * unsigned_abs w ≤ unsigned_abs n * unsigned_abs w = mul-le-mul l (omega arith) in
+    let same : unsigned_abs (a *ℤ b -ℤ c *ℤ d) ≡ unsigned_abs n * unsigned_abs w = ap unsigned_abs e ∙ unsigned_abs-mul n w in
+    omega (arith, all, most, same, rest_product a b w ra sb, rest_product c d w rc sd)
 
 -- what an order says of equality
 pub equal_order : {x y u v : ℤ} → Equal ≡ int_cmp x y → x ≡ u → y ≡ v → u ≡ v

@@ -1,4 +1,3 @@
 pub mod Divisors
 pub mod PlaneKeys
 pub mod LineKeys
-pub mod Lacks

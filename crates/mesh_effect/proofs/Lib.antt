@@ -11,6 +11,7 @@ pub mod Doubling
 pub mod NotBelow
 pub mod FloatTables
 pub mod RatioErrors
+pub mod LongErrors
 pub mod Buckets
 pub mod Leading
 pub mod Rows

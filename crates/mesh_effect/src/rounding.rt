@@ -6,6 +6,7 @@ mod floats;
 mod greatest;
 mod laws;
 mod length;
+mod long_errors;
 mod quotients;
 mod shown;
 mod squares;

@@ -9,3 +9,5 @@ pub mod Triangles
 pub mod Primitives
 pub mod Nodes
 pub mod ReadGltf
+pub mod Errors
+pub mod Seen

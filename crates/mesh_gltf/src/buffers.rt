@@ -1,9 +1,11 @@
 // The bytes of a document's buffers.
-ghost use Rattle.std.specs.Prelude.{◌≡◌, ◌⊎◌, map, Some, None, Ok, Err, IfOk, IfErr};
-ghost use Rattle.std.specs.Option.{option_map};
+ghost use Rattle.std.specs.Prelude.{◌≡◌, Some, None, Ok, Err, IfOk, IfErr};
+ghost use Rattle.std.specs.Option.{option_map, option_copied};
 ghost use Rattle.base64.specs.declared.decode.DecodeError.{DecodeError};
-ghost use Rattle.serde_json.specs.View.{view, items_view};
-ghost use Rattle.mesh_gltf.specs.Buffers.{bytes_seen, base64_in, bytes_of_uri, bytes_by_uri, buffer_in, buffers_from, buffers_of};
+ghost use Rattle.serde_json.specs.View.{view};
+ghost use Rattle.mesh_gltf.specs.Buffers.{bytes_seen, base64_in, bytes_of_uri, buffer_in, buffers_of};
+ghost use Rattle.mesh_gltf.specs.Errors.{IsErrorOf, IsLackOf};
+ghost use Rattle.mesh_gltf.specs.Seen.{AreBuffersOf, buffers_in};
 
 use crate::fault::GltfFault;
 use base64::DecodeAllocError;
@@ -61,8 +63,7 @@ fn decoding_fault(index: usize, fault: DecodeAllocError) -> GltfFault
 // The bytes of a URI. The fault is that of this buffer.
 fn decoded<'a>(alloc: Global, index: usize, uri: &[u8]) -> Result<Buffer<'a>, GltfFault>
     ensures ok { IfOk result (λ b. bytes_of_uri uri.now ≡ Some (bytes_seen b)) }
-    ensures fault { IfErr result (λ e. (e ≡ GltfFault.OutOfMemory)
-        ⊎ (bytes_of_uri uri.now ≡ None) × (e ≡ GltfFault.NoBuffer index)) }
+    ensures fault { IfErr result (IsLackOf (bytes_of_uri uri.now) (GltfFault.NoBuffer index)) }
 {
     let Some(text) = base64_in(uri) else {
         return Err(GltfFault::NoBuffer(index));
@@ -81,10 +82,9 @@ fn buffer_in<'a>(
     value: &Value,
     chunk: Option<&'a [u8]>,
 ) -> Result<Buffer<'a>, GltfFault>
-    ensures ok { IfOk result (λ b. buffer_in (option_map (λ c. c.now) chunk.entry) index
+    ensures ok { IfOk result (λ b. buffer_in (option_copied chunk.entry) index
         (view value.now) ≡ Ok (bytes_seen b)) }
-    ensures fault { IfErr result (λ e. (e ≡ GltfFault.OutOfMemory)
-        ⊎ (buffer_in (option_map (λ c. c.now) chunk.entry) index (view value.now) ≡ Err e)) }
+    ensures fault { IfErr result (IsErrorOf (buffer_in (option_copied chunk.entry) index (view value.now))) }
 {
     let Some(uri) = value.get("uri") else {
         return match chunk {
@@ -104,10 +104,8 @@ fn read_buffers<'a>(
     values: &[Value],
     chunk: Option<&'a [u8]>,
 ) -> Result<Vec<Buffer<'a>>, GltfFault>
-    ensures ok { IfOk result (λ bs.
-        buffers_from (option_map (λ c. c.now) chunk.entry) 0 (items_view values.now) ≡ Ok (map bytes_seen bs.items)) }
-    ensures fault { IfErr result (λ e. (e ≡ GltfFault.OutOfMemory)
-        ⊎ (buffers_from (option_map (λ c. c.now) chunk.entry) 0 (items_view values.now) ≡ Err e)) }
+    ensures ok { IfOk result (λ bs. AreBuffersOf (buffers_in (option_copied chunk.entry) values.now) bs.items) }
+    ensures fault { IfErr result (IsErrorOf (buffers_in (option_copied chunk.entry) values.now)) }
 {
     let mut buffers = Vec::new(alloc);
     let mut rest = values;
@@ -128,10 +126,8 @@ pub(crate) fn buffers_of<'a>(
     document: &Value,
     chunk: Option<&'a [u8]>,
 ) -> Result<Vec<Buffer<'a>>, GltfFault>
-    ensures ok { IfOk result (λ bs.
-        buffers_of (option_map (λ c. c.now) chunk.entry) (view document.now) ≡ Ok (map bytes_seen bs.items)) }
-    ensures fault { IfErr result (λ e. (e ≡ GltfFault.OutOfMemory)
-        ⊎ (buffers_of (option_map (λ c. c.now) chunk.entry) (view document.now) ≡ Err e)) }
+    ensures ok { IfOk result (λ bs. AreBuffersOf (buffers_of (option_copied chunk.entry) (view document.now)) bs.items) }
+    ensures fault { IfErr result (IsErrorOf (buffers_of (option_copied chunk.entry) (view document.now))) }
 {
     let Some(value) = document.get("buffers") else {
         return Ok(Vec::new(alloc));

@@ -1,8 +1,9 @@
 // The corners of a primitive.
-ghost use Rattle.std.specs.Prelude.{◌≡◌, ◌⊎◌, ◌+◌, ◌≤◌, ◌<◌, ◌^◌, [], ◌∷◌, ◌++◌, true, length, None, Some, OnOk, IfErr};
+ghost use Rattle.std.specs.Prelude.{◌≡◌, ◌+◌, ◌≤◌, ◌<◌, ◌^◌, [], ◌∷◌, ◌++◌, true, length, None, Some, OnOk, IfErr};
 ghost use Rattle.mesh_gltf.specs.Bytes.{bytes_of, index_at};
 ghost use Rattle.mesh_gltf.specs.Corners.{size_of_type, corners_in, corners_in_row};
 ghost use Rattle.mesh_gltf.specs.Windows.{is_inside};
+ghost use Rattle.mesh_gltf.specs.Errors.{IsLackOfCorners};
 
 use crate::bytes::read_number;
 use crate::windows::Window;
@@ -83,8 +84,7 @@ pub(crate) fn read_corners(
     requires inside { is_inside (bytes_of size) window bytes.now ≡ true }
     requires few { base + points < 2 ^ 32 }
     ensures ok { OnOk result (corners_in base points size window bytes.now ≡ Some corners.new.items) }
-    ensures fault { IfErr result (λ e. (e ≡ NoCorners.OutOfMemory)
-        ⊎ (corners_in base points size window bytes.now ≡ None)) }
+    ensures fault { IfErr result (IsLackOfCorners (corners_in base points size window bytes.now)) }
 {
     corners.clear();
     let mut index = 0;

@@ -1,12 +1,13 @@
 // The nodes of a scene.
-ghost use Rattle.std.specs.Prelude.{◌≡◌, ◌⊎◌, ◌≤◌, ◌^◌, ◌++◌, ℕ, List, length, map, Some, None, Ok, Err, OnOk, IfErr};
-ghost use Rattle.mesh_read.specs.Surface.Surfaces.{content_of};
+ghost use Rattle.std.specs.Prelude.{◌≡◌, ◌⊎◌, ◌≤◌, ◌^◌, length, Some, None, Ok, Err, OnOk, IfErr};
 ghost use Rattle.std.specs.Option.{option_map};
 ghost use Rattle.serde_json.specs.Find.{get};
 ghost use Rattle.serde_json.specs.View.{view, items_view};
-ghost use Rattle.mesh_gltf.specs.Buffers.{bytes_seen};
 ghost use Rattle.mesh_gltf.specs.Members.{naturals, naturals_at};
-ghost use Rattle.mesh_gltf.specs.Nodes.{is_number, are_numbers, is_missing_or, is_still, primitives_of, with_primitives, with_node, children_of, with_nodes, count_of, nodes_count, roots_of, scene_content};
+ghost use Rattle.mesh_gltf.specs.Nodes.{is_number, are_numbers, is_missing_or, is_still, primitives_of, with_node, children_of, count_of, nodes_count, roots_of, scene_content};
+ghost use Rattle.mesh_gltf.specs.Seen.{AddsChildren, AddsNumbers, with_node_seen, with_nodes_seen, with_scene_seen, AddsNode, AddsNodes, AddsPrimitives, IsPrimitivesError};
+ghost use Rattle.mesh_gltf.specs.Errors.{IsErrorOf, IsLackOf};
+ghost use Rattle.mesh_read.specs.Surface.Surfaces.{IsSurfaceOf};
 
 use crate::buffers::Buffer;
 use crate::fault::GltfFault;
@@ -100,11 +101,8 @@ fn add_primitives<'a>(
 ) -> Result<(), GltfFault>
     requires points { length surface.old.vertices.items ≤ 2 ^ 24 }
     requires corners { length surface.old.facets.items ≤ 2 ^ 24 }
-    ensures ok { OnOk result (with_primitives mesh (view document.now) (map bytes_seen buffers.now)
-        (content_of surface.old) (items_view primitives.now) ≡ Ok (content_of surface.new)) }
-    ensures fault { IfErr result (λ e. (e ≡ GltfFault.OutOfMemory)
-        ⊎ (with_primitives mesh (view document.now) (map bytes_seen buffers.now)
-        (content_of surface.old) (items_view primitives.now) ≡ Err e)) }
+    ensures ok { OnOk result (AddsPrimitives mesh document.now buffers.now primitives.now surface.old surface.new) }
+    ensures fault { IfErr result (IsPrimitivesError mesh document.now buffers.now surface.old primitives.now) }
     ensures points { OnOk result (length surface.new.vertices.items ≤ 2 ^ 24) }
     ensures corners { OnOk result (length surface.new.facets.items ≤ 2 ^ 24) }
 {
@@ -139,11 +137,8 @@ fn add_node<'a>(
 ) -> Result<(), GltfFault>
     requires points { length surface.old.vertices.items ≤ 2 ^ 24 }
     requires corners { length surface.old.facets.items ≤ 2 ^ 24 }
-    ensures ok { OnOk result (with_node index (view document.now) (map bytes_seen buffers.now)
-        (content_of surface.old) (view node.now) ≡ Ok (content_of surface.new)) }
-    ensures fault { IfErr result (λ e. (e ≡ GltfFault.OutOfMemory)
-        ⊎ (with_node index (view document.now) (map bytes_seen buffers.now)
-        (content_of surface.old) (view node.now) ≡ Err e)) }
+    ensures ok { OnOk result (AddsNode index document.now buffers.now node.now surface.old surface.new) }
+    ensures fault { IfErr result (IsErrorOf (with_node_seen index document.now buffers.now surface.old node.now)) }
     ensures points { OnOk result (length surface.new.vertices.items ≤ 2 ^ 24) }
     ensures corners { OnOk result (length surface.new.facets.items ≤ 2 ^ 24) }
 {
@@ -173,8 +168,7 @@ enum NoNumbers {
 
 // Appends these values, if all of them are natural numbers.
 fn push_naturals(numbers: &mut Vec<u32>, values: &[Value]) -> Result<(), NoNumbers>
-    ensures ok { OnOk result ((ns : List ℕ) × (naturals (items_view values.now) ≡ Some ns)
-        × (numbers.new.items ≡ numbers.old.items ++ ns)) }
+    ensures ok { OnOk result (AddsNumbers (naturals (items_view values.now)) numbers.old.items numbers.new.items) }
     ensures fault { IfErr result (λ e. (e ≡ NoNumbers.OutOfMemory) ⊎ (naturals (items_view values.now) ≡ None)) }
 {
     let mut rest = values;
@@ -193,8 +187,7 @@ fn push_naturals(numbers: &mut Vec<u32>, values: &[Value]) -> Result<(), NoNumbe
 // Appends the natural numbers in the member of this name, none where the member is missing.
 #[tactic(auto, unfolding(crate::specs::Members::naturals_at))]
 fn push_naturals_at(numbers: &mut Vec<u32>, value: &Value, key: &str) -> Result<(), NoNumbers>
-    ensures ok { OnOk result ((ns : List ℕ) × (naturals_at key.now (view value.now) ≡ Some ns)
-        × (numbers.new.items ≡ numbers.old.items ++ ns)) }
+    ensures ok { OnOk result (AddsNumbers (naturals_at key.now (view value.now)) numbers.old.items numbers.new.items) }
     ensures fault { IfErr result (λ e. (e ≡ NoNumbers.OutOfMemory) ⊎ (naturals_at key.now (view value.now) ≡ None)) }
 {
     match value.get(key) {
@@ -238,9 +231,8 @@ fn nodes_count(document: &Value) -> usize
 
 // Appends the children of the node with this index.
 fn push_children(waiting: &mut Vec<u32>, index: u32, node: &Value) -> Result<(), GltfFault>
-    ensures ok { OnOk result ((ns : List ℕ) × (children_of index (view node.now) ≡ Ok ns)
-        × (waiting.new.items ≡ waiting.old.items ++ ns)) }
-    ensures fault { IfErr result (λ e. (e ≡ GltfFault.OutOfMemory) ⊎ (children_of index (view node.now) ≡ Err e)) }
+    ensures ok { OnOk result (AddsChildren index node.now waiting.old.items waiting.new.items) }
+    ensures fault { IfErr result (IsErrorOf (children_of index (view node.now))) }
 {
     match push_naturals_at(waiting, node, "children") {
         Ok(()) => Ok(()),
@@ -258,12 +250,8 @@ fn add_nodes<'a>(
 ) -> Result<(), GltfFault>
     requires points { length surface.old.vertices.items ≤ 2 ^ 24 }
     requires corners { length surface.old.facets.items ≤ 2 ^ 24 }
-    ensures ok { OnOk result (with_nodes (nodes_count (view document.now)) (view document.now)
-        (map bytes_seen buffers.now) waiting.old.items (content_of surface.old)
-        ≡ Ok (content_of surface.new)) }
-    ensures fault { IfErr result (λ e. (e ≡ GltfFault.OutOfMemory)
-        ⊎ (with_nodes (nodes_count (view document.now)) (view document.now) (map bytes_seen buffers.now)
-        waiting.old.items (content_of surface.old) ≡ Err e)) }
+    ensures ok { OnOk result (AddsNodes document.now buffers.now waiting.old.items surface.old surface.new) }
+    ensures fault { IfErr result (IsErrorOf (with_nodes_seen document.now buffers.now waiting.old.items surface.old)) }
 {
     let count = nodes_count(document);
     let mut done = 0;
@@ -285,10 +273,8 @@ fn add_nodes<'a>(
 // Appends the nodes of the document's scene, or else of its first one.
 #[tactic(auto, unfolding(crate::specs::Nodes::roots_of))]
 fn read_roots(roots: &mut Vec<u32>, document: &Value) -> Result<(), GltfFault>
-    ensures ok { OnOk result ((ns : List ℕ) × (roots_of (view document.now) ≡ Some ns)
-        × (roots.new.items ≡ roots.old.items ++ ns)) }
-    ensures fault { IfErr result (λ e. (e ≡ GltfFault.OutOfMemory)
-        ⊎ (roots_of (view document.now) ≡ None) × (e ≡ GltfFault.NoScene)) }
+    ensures ok { OnOk result (AddsNumbers (roots_of (view document.now)) roots.old.items roots.new.items) }
+    ensures fault { IfErr result (IsLackOf (roots_of (view document.now)) GltfFault.NoScene) }
 {
     let Some(index) = natural_or(document, "scene", 0) else {
         return Err(GltfFault::NoScene);
@@ -312,10 +298,8 @@ pub(crate) fn add_scene<'a>(
 ) -> Result<(), GltfFault>
     requires points { length surface.old.vertices.items ≤ 2 ^ 24 }
     requires corners { length surface.old.facets.items ≤ 2 ^ 24 }
-    ensures ok { OnOk result (scene_content (view document.now) (map bytes_seen buffers.now)
-        (content_of surface.old) ≡ Ok (content_of surface.new)) }
-    ensures fault { IfErr result (λ e. (e ≡ GltfFault.OutOfMemory)
-        ⊎ (scene_content (view document.now) (map bytes_seen buffers.now) (content_of surface.old) ≡ Err e)) }
+    ensures ok { OnOk result (IsSurfaceOf (with_scene_seen document.now buffers.now surface.old) surface.new) }
+    ensures fault { IfErr result (IsErrorOf (with_scene_seen document.now buffers.now surface.old)) }
 {
     let mut waiting = Vec::new(alloc);
     let mut corners = Vec::new(alloc);

@@ -1,10 +1,9 @@
 // The elements of accessors, and the points of a primitive.
-ghost use Rattle.std.specs.Prelude.{◌≡◌, ◌⊎◌, ◌++◌, ◌≤◌, ◌<◌, ◌^◌, true, length, map, Some, None, Ok, Err, OnOk, IfOk, IfErr};
-ghost use Rattle.mesh_read.specs.Surface.Surfaces.{point_of};
-ghost use Rattle.serde_json.specs.View.{view};
-ghost use Rattle.mesh_gltf.specs.Buffers.{bytes_seen};
+ghost use Rattle.std.specs.Prelude.{◌≡◌, ◌<◌, true, Some, Ok, Err, OnOk, IfOk, IfErr};
 ghost use Rattle.mesh_gltf.specs.Windows.{is_inside};
-ghost use Rattle.mesh_gltf.specs.Primitives.{elements_seen, elements_of, positions_at, points_in, AreAdded};
+ghost use Rattle.mesh_gltf.specs.Primitives.{elements_seen, elements_of, positions_at, points_in};
+ghost use Rattle.mesh_gltf.specs.Seen.{AddsPoints, elements_in, positions_in};
+ghost use Rattle.mesh_gltf.specs.Errors.{IsErrorOf};
 
 use crate::buffers::Buffer;
 use crate::bytes::read_point;
@@ -36,11 +35,9 @@ pub(crate) fn elements_of<'b>(
     buffers: &'b [Buffer],
     accessor: &Value,
 ) -> Result<Elements<'b>, GltfFault>
-    ensures ok { IfOk result (λ e. elements_of size index (view document.now)
-        (map bytes_seen buffers.now) (view accessor.now) ≡ Ok (elements_seen e)) }
+    ensures ok { IfOk result (λ e. elements_in size index document.now buffers.now accessor.now ≡ Ok (elements_seen e)) }
     ensures inside { IfOk result (λ e. is_inside size e.window e.bytes.now ≡ true) }
-    ensures fault { IfErr result (λ e.
-        elements_of size index (view document.now) (map bytes_seen buffers.now) (view accessor.now) ≡ Err e) }
+    ensures fault { IfErr result (λ e. elements_in size index document.now buffers.now accessor.now ≡ Err e) }
 {
     let window = dense_window(size, index, document, accessor)?;
     let Some(buffer) = buffers.get(window.buffer as usize) else {
@@ -60,11 +57,9 @@ pub(crate) fn positions_at<'b>(
     document: &Value,
     buffers: &'b [Buffer],
 ) -> Result<Elements<'b>, GltfFault>
-    ensures ok { IfOk result (λ e. positions_at index (view document.now) (map bytes_seen buffers.now)
-        ≡ Ok (elements_seen e)) }
+    ensures ok { IfOk result (λ e. positions_in index document.now buffers.now ≡ Ok (elements_seen e)) }
     ensures inside { IfOk result (λ e. is_inside 12 e.window e.bytes.now ≡ true) }
-    ensures fault { IfErr result (λ e.
-        positions_at index (view document.now) (map bytes_seen buffers.now) ≡ Err e) }
+    ensures fault { IfErr result (λ e. positions_in index document.now buffers.now ≡ Err e) }
 {
     let Some(accessor) = item_in(document, "accessors", index) else {
         return Err(GltfFault::Accessor(index));
@@ -83,10 +78,8 @@ pub(crate) fn push_points<'a>(
     elements: Elements,
 ) -> Result<(), GltfFault>
     requires { is_inside 12 elements.window elements.bytes.now ≡ true }
-    ensures ok { OnOk result (AreAdded index (elements_seen elements.entry)
-        (map point_of vertices.old.items) (map point_of vertices.new.items)) }
-    ensures fault { IfErr result (λ e. (e ≡ GltfFault.OutOfMemory)
-        ⊎ (points_in index (elements_seen elements.entry) ≡ Err e)) }
+    ensures ok { OnOk result (AddsPoints index elements.entry vertices.old.items vertices.new.items) }
+    ensures fault { IfErr result (IsErrorOf (points_in index (elements_seen elements.entry))) }
 {
     let window = elements.window;
     let mut element = 0;

@@ -1,9 +1,9 @@
 // The primitives of a mesh.
-ghost use Rattle.std.specs.Prelude.{◌≡◌, ◌⊎◌, ◌+◌, ◌≤◌, ◌<◌, ◌^◌, length, map, Some, None, Ok, Err, OnOk, IfOk, IfErr};
-ghost use Rattle.mesh_read.specs.Surface.Surfaces.{content_of};
+ghost use Rattle.std.specs.Prelude.{◌≡◌, ◌+◌, ◌≤◌, ◌<◌, ◌^◌, length, Some, None, Ok, Err, OnOk, IfErr};
 ghost use Rattle.serde_json.specs.View.{view};
-ghost use Rattle.mesh_gltf.specs.Buffers.{bytes_seen};
 ghost use Rattle.mesh_gltf.specs.Primitives.{component_of, indexed, corners_of, topology_of, with_topology, with_primitive};
+ghost use Rattle.mesh_gltf.specs.Errors.{IsErrorOf};
+ghost use Rattle.mesh_gltf.specs.Seen.{corners_by_index, corners_seen, with_primitive_seen, AddsPrimitive, AddsTriangles, IsTrianglesError};
 
 use crate::buffers::Buffer;
 use crate::corners::{IndexSize, NoCorners, bytes_of, put_in_row, read_corners, size_of_type};
@@ -54,10 +54,8 @@ fn read_indexed(
     buffers: &[Buffer],
 ) -> Result<(), GltfFault>
     requires { place.base + place.points < 2 ^ 32 }
-    ensures ok { OnOk result (indexed place.mesh index place.base place.points (view document.now)
-        (map bytes_seen buffers.now) ≡ Ok corners.new.items) }
-    ensures fault { IfErr result (λ e. (e ≡ GltfFault.OutOfMemory)
-        ⊎ (indexed place.mesh index place.base place.points (view document.now) (map bytes_seen buffers.now) ≡ Err e)) }
+    ensures ok { OnOk result (corners_by_index place index document.now buffers.now ≡ Ok corners.new.items) }
+    ensures fault { IfErr result (IsErrorOf (corners_by_index place index document.now buffers.now)) }
 {
     let Some(accessor) = item_in(document, "accessors", index) else {
         return Err(GltfFault::Accessor(index));
@@ -84,12 +82,8 @@ fn corners_of(
     primitive: &Value,
 ) -> Result<(), GltfFault>
     requires { place.base + place.points < 2 ^ 32 }
-    ensures ok { OnOk result (corners_of place.mesh place.base place.points (view document.now)
-        (map bytes_seen buffers.now)
-        (view primitive.now) ≡ Ok corners.new.items) }
-    ensures fault { IfErr result (λ e. (e ≡ GltfFault.OutOfMemory)
-        ⊎ (corners_of place.mesh place.base place.points (view document.now) (map bytes_seen buffers.now)
-        (view primitive.now) ≡ Err e)) }
+    ensures ok { OnOk result (corners_seen place document.now buffers.now primitive.now ≡ Ok corners.new.items) }
+    ensures fault { IfErr result (IsErrorOf (corners_seen place document.now buffers.now primitive.now)) }
 {
     if primitive.get("indices").is_none() {
         return match put_in_row(corners, place.base, place.points) {
@@ -129,11 +123,8 @@ fn add_triangles<'a>(
 ) -> Result<(), GltfFault>
     requires points { length surface.old.vertices.items ≤ 2 ^ 24 }
     requires corners { length surface.old.facets.items ≤ 2 ^ 24 }
-    ensures ok { OnOk result (with_topology mesh (view document.now) (map bytes_seen buffers.now) (view primitive.now)
-        (content_of surface.old) (Some topology) ≡ Ok (content_of surface.new)) }
-    ensures fault { IfErr result (λ e. (e ≡ GltfFault.OutOfMemory)
-        ⊎ (with_topology mesh (view document.now) (map bytes_seen buffers.now) (view primitive.now)
-        (content_of surface.old) (Some topology) ≡ Err e)) }
+    ensures ok { OnOk result (AddsTriangles mesh document.now buffers.now primitive.now topology surface.old surface.new) }
+    ensures fault { IfErr result (IsTrianglesError mesh document.now buffers.now primitive.now surface.old topology) }
     ensures points { OnOk result (length surface.new.vertices.items ≤ 2 ^ 24) }
     ensures corners { OnOk result (length surface.new.facets.items ≤ 2 ^ 24) }
 {
@@ -175,11 +166,8 @@ pub(crate) fn add_primitive<'a>(
 ) -> Result<(), GltfFault>
     requires points { length surface.old.vertices.items ≤ 2 ^ 24 }
     requires corners { length surface.old.facets.items ≤ 2 ^ 24 }
-    ensures ok { OnOk result (with_primitive mesh (view document.now) (map bytes_seen buffers.now)
-        (content_of surface.old) (view primitive.now) ≡ Ok (content_of surface.new)) }
-    ensures fault { IfErr result (λ e. (e ≡ GltfFault.OutOfMemory)
-        ⊎ (with_primitive mesh (view document.now) (map bytes_seen buffers.now)
-        (content_of surface.old) (view primitive.now) ≡ Err e)) }
+    ensures ok { OnOk result (AddsPrimitive mesh document.now buffers.now primitive.now surface.old surface.new) }
+    ensures fault { IfErr result (IsErrorOf (with_primitive_seen mesh document.now buffers.now surface.old primitive.now)) }
     ensures points { OnOk result (length surface.new.vertices.items ≤ 2 ^ 24) }
     ensures corners { OnOk result (length surface.new.facets.items ≤ 2 ^ 24) }
 {

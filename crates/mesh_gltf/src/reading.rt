@@ -1,10 +1,11 @@
 // The reading of a document.
-ghost use Rattle.std.specs.Prelude.{◌≡◌, ◌⊎◌, ◌≤◌, length, map, Ok, Err, IfOk, IfErr};
-ghost use Rattle.std.specs.Option.{option_map};
+ghost use Rattle.std.specs.Prelude.{◌≡◌, ◌≤◌, length, Ok, Err, IfOk, IfErr};
+ghost use Rattle.std.specs.Option.{option_copied};
 ghost use Rattle.ember_model.specs.Limits.{most_bytes};
-ghost use Rattle.mesh_read.specs.Surface.Surfaces.{IsSurface, content_of};
+ghost use Rattle.mesh_read.specs.Surface.Surfaces.{IsSurface, content_of, IsSurfaceOf};
 ghost use Rattle.serde_json.specs.View.{view, items_view};
 ghost use Rattle.mesh_gltf.specs.ReadGltf.{has_text, needs, document_content, content_in, read_gltf_of};
+ghost use Rattle.mesh_gltf.specs.Errors.{IsErrorOf};
 
 use crate::buffers::buffers_of;
 use crate::chunks::chunks_of;
@@ -48,10 +49,8 @@ fn read_document<'a>(
     document: &Value,
     chunk: Option<&[u8]>,
 ) -> Result<Surface<'a>, GltfFault>
-    ensures ok { IfOk result (λ s.
-        document_content (option_map (λ c. c.now) chunk.entry) (view document.now) ≡ Ok (content_of s)) }
-    ensures fault { IfErr result (λ e. (e ≡ GltfFault.OutOfMemory)
-        ⊎ (document_content (option_map (λ c. c.now) chunk.entry) (view document.now) ≡ Err e)) }
+    ensures ok { IfOk result (IsSurfaceOf (document_content (option_copied chunk.entry) (view document.now))) }
+    ensures fault { IfErr result (IsErrorOf (document_content (option_copied chunk.entry) (view document.now))) }
 {
     if needs(document, "KHR_draco_mesh_compression") {
         return Err(GltfFault::Draco);
@@ -76,7 +75,7 @@ fn read_document<'a>(
 fn read_content<'a>(alloc: Global, bytes: &[u8]) -> Result<Surface<'a>, GltfFault>
     requires { length bytes.now ≤ most_bytes }
     ensures ok { IfOk result (λ s. content_in bytes.now ≡ Ok (content_of s)) }
-    ensures fault { IfErr result (λ e. (e ≡ GltfFault.OutOfMemory) ⊎ (content_in bytes.now ≡ Err e)) }
+    ensures fault { IfErr result (IsErrorOf (content_in bytes.now)) }
 {
     let chunks = chunks_of(bytes)?;
     match Value::from_slice(alloc, chunks.json) {
@@ -91,7 +90,7 @@ fn read_content<'a>(alloc: Global, bytes: &[u8]) -> Result<Surface<'a>, GltfFaul
 fn read_mesh<'a>(alloc: Global, bytes: &[u8]) -> Result<Surface<'a>, GltfFault>
     requires { length bytes.now ≤ most_bytes }
     ensures ok { IfOk result (λ s. read_gltf_of bytes.now ≡ Ok (content_of s)) }
-    ensures fault { IfErr result (λ e. (e ≡ GltfFault.OutOfMemory) ⊎ (read_gltf_of bytes.now ≡ Err e)) }
+    ensures fault { IfErr result (IsErrorOf (read_gltf_of bytes.now)) }
 {
     let surface = read_content(alloc, bytes)?;
     Ok(as_mesh(surface)?)
@@ -116,7 +115,7 @@ pub fn read_gltf<'a>(alloc: Global, bytes: &[u8]) -> Result<Surface<'a>, GltfFau
     requires { length bytes.now ≤ most_bytes }
     ensures ok { IfOk result (λ s. read_gltf_of bytes.now ≡ Ok (content_of s)) }
     ensures surface { IfOk result IsSurface }
-    ensures fault { IfErr result (λ e. (e ≡ GltfFault.OutOfMemory) ⊎ (read_gltf_of bytes.now ≡ Err e)) }
+    ensures fault { IfErr result (IsErrorOf (read_gltf_of bytes.now)) }
 {
     read_mesh(alloc, bytes)
 }

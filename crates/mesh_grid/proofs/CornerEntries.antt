@@ -1,12 +1,12 @@
 -- The grid of coordinates that have the entries of all corners is the grid of all corners
-use Rattle.std.proofs.Common.{◌≡◌, ◌<◌, List, [], map, length, refl, sym, ap, subst, ◌∙◌}
+use Rattle.std.proofs.Common.{◌≡◌, ◌<◌, ℕ, List, [], map, length, refl, sym, ap, subst, ◌∙◌}
 use Rattle.std.specs.List.{All}
 use Rattle.std.specs.Prelude.{Result, Ok, Err, IfOk, IfErr}
 use Rattle.std.proofs.lemmas.List.{length-map, nil_from_length}
 use Rattle.mesh_number.specs.declared.number.values.Number.{Number}
 use Rattle.mesh_grid.specs.declared.snap.spans.Coordinates.{Coordinates}
 use Rattle.mesh_grid.specs.Snap.Spans.{AreCoordinates}
-use Rattle.mesh_grid.specs.Snap.Offsets.{IsOffset, LandsOnGrid}
+use Rattle.mesh_grid.specs.Snap.Offsets.{IsOffsetWithin, LandsOnGridWithin}
 use Rattle.mesh_read.specs.declared.surface.surface.Surface.{Surface}
 use Rattle.mesh_read.specs.declared.surface.surface.Vertex.{Vertex}
 use Rattle.mesh_grid.specs.declared.grid.choice.Wanted.{Wanted}
@@ -14,8 +14,8 @@ use Rattle.mesh_grid.specs.declared.grid.coordinates.CornerLists.{CornerLists}
 use Rattle.mesh_grid.specs.declared.grid.fault.GridFault.{GridFault}
 use Rattle.mesh_grid.specs.declared.grid.fault.GridFault.TheVariants.{NoTriangles, StepTooSmall, OutOfMemory}
 use Rattle.mesh_grid.specs.declared.grid.grid.Grid.{Grid}
-use Rattle.mesh_grid.specs.Grid.Corners.{corners_in, HasCoordinates, Lands}
-use Rattle.mesh_grid.specs.Grid.Grids.{IsWithinLimit, IsWantedStep, IsGrid, IsStepFault, IsGridFault}
+use Rattle.mesh_grid.specs.Grid.Corners.{corners_in, HasCoordinates, LandsWithin}
+use Rattle.mesh_grid.specs.Grid.Grids.{IsWithinLimit, IsWantedStepWithin, IsGridWithin, IsStepFaultWithin, IsGridFaultWithin}
 use Rattle.mesh_grid.specs.Grid.Lists.{HaveSameEntries, HasEntries}
 use Rattle.mesh_grid.proofs.GridLandings.{corners_are_coordinates, surfaces_land_if}
 use Rattle.mesh_grid.proofs.SameEntries.{AreSameCoordinates, same_map, same_some, same_as_none, same_coordinates}
@@ -29,7 +29,7 @@ of_corners ss c = record c {
   z = record c.z { now = map (λ v. v.z) (corners_in ss) };
 }
 
-of_corners_has : (ss : List Surface) (c : Coordinates) → HasCoordinates ss (of_corners ss c)
+pub of_corners_has : (ss : List Surface) (c : Coordinates) → HasCoordinates ss (of_corners ss c)
 unfolding of_corners
 of_corners_has ss c = record { x = refl; y = refl; z = refl }
 
@@ -65,38 +65,38 @@ entries_are_coordinates ss c within h some =
     same_coordinates c corners h.same (corners_are_coordinates ss corners within (of_corners_has ss c) (same_some c.x.now corners.x.now h.same.x some))
 
 -- the grid of all corners
-pub entries_grid : (ss : List Surface) (c : Coordinates) (wanted : Wanted) (r : Result Grid GridFault) →
-    AreEntries ss c → IfOk r (λ g. IsWantedStep wanted c g.step) → IfOk r (λ g. IsOffset g.step c g.offset) →
-    IfOk r (IsGrid ss wanted)
-entries_grid ss c wanted (Ok g) h step offset =
+pub entries_grid : (m : ℕ) (ss : List Surface) (c : Coordinates) (wanted : Wanted) (r : Result Grid GridFault) →
+    AreEntries ss c → IfOk r (λ g. IsWantedStepWithin m wanted c g.step) → IfOk r (λ g. IsOffsetWithin m g.step c g.offset) →
+    IfOk r (IsGridWithin m ss wanted)
+entries_grid m ss c wanted (Ok g) h step offset =
     let corners = of_corners ss c in
     record {
       coordinates = corners;
       of_corners = of_corners_has ss c;
-      step = same_wanted wanted c corners g.step h.same step;
-      offset = same_offset g.step c corners g.offset h.same offset;
+      step = same_wanted m wanted c corners g.step h.same step;
+      offset = same_offset m g.step c corners g.offset h.same offset;
     }
-entries_grid ss c wanted (Err fault) h step offset = tt
+entries_grid m ss c wanted (Err fault) h step offset = tt
 
 -- all corners land on it
-pub entries_land : (ss : List Surface) (c : Coordinates) (r : Result Grid GridFault) → All IsWithinLimit ss →
-    AreEntries ss c → IfOk r (λ g. LandsOnGrid g.step c g.offset) → IfOk r (λ g. All (Lands g) ss)
-entries_land ss c (Ok g) within h lands =
-    surfaces_land_if ss (of_corners ss c) (Ok g) within (of_corners_has ss c) (same_landing g.step c (of_corners ss c) g.offset h.same lands)
-entries_land ss c (Err fault) within h lands = tt
+pub entries_land : (m : ℕ) (ss : List Surface) (c : Coordinates) (r : Result Grid GridFault) → All IsWithinLimit ss →
+    AreEntries ss c → IfOk r (λ g. LandsOnGridWithin m g.step c g.offset) → IfOk r (λ g. All (LandsWithin m g) ss)
+entries_land m ss c (Ok g) within h lands =
+    surfaces_land_if m ss (of_corners ss c) (Ok g) within (of_corners_has ss c) (same_landing m g.step c (of_corners ss c) g.offset h.same lands)
+entries_land m ss c (Err fault) within h lands = tt
 
 -- and the fault is that of all corners
-fault_of_corners : (ss : List Surface) (c : Coordinates) (wanted : Wanted) (fault : GridFault) → AreEntries ss c →
-    IsStepFault c wanted fault → IsGridFault ss wanted fault
-fault_of_corners ss c wanted NoTriangles h is = absurd is
-fault_of_corners ss c wanted (StepTooSmall t) h is = (
+fault_of_corners : (m : ℕ) (ss : List Surface) (c : Coordinates) (wanted : Wanted) (fault : GridFault) → AreEntries ss c →
+    IsStepFaultWithin m c wanted fault → IsGridFaultWithin m ss wanted fault
+fault_of_corners m ss c wanted NoTriangles h is = absurd is
+fault_of_corners m ss c wanted (StepTooSmall t) h is = (
   of_corners ss c,
   of_corners_has ss c,
-  same_too_small c (of_corners ss c) wanted t h.same is,
+  same_too_small m c (of_corners ss c) wanted t h.same is,
 )
-fault_of_corners ss c wanted OutOfMemory h is = absurd is
+fault_of_corners m ss c wanted OutOfMemory h is = absurd is
 
-pub entries_fault : (ss : List Surface) (c : Coordinates) (wanted : Wanted) (r : Result Grid GridFault) →
-    AreEntries ss c → IfErr r (IsStepFault c wanted) → IfErr r (IsGridFault ss wanted)
-entries_fault ss c wanted (Ok g) h is = tt
-entries_fault ss c wanted (Err fault) h is = fault_of_corners ss c wanted fault h is
+pub entries_fault : (m : ℕ) (ss : List Surface) (c : Coordinates) (wanted : Wanted) (r : Result Grid GridFault) →
+    AreEntries ss c → IfErr r (IsStepFaultWithin m c wanted) → IfErr r (IsGridFaultWithin m ss wanted)
+entries_fault m ss c wanted (Ok g) h is = tt
+entries_fault m ss c wanted (Err fault) h is = fault_of_corners m ss c wanted fault h is

@@ -15,9 +15,8 @@ use Rattle.mesh_read.specs.declared.surface.surface.Facet.{Facet}
 use Rattle.mesh_read.specs.declared.surface.surface.Surface.{Surface}
 use Rattle.mesh_read.specs.declared.surface.surface.Vertex.{Vertex}
 use Rattle.ember_model.proofs.SignTests.{clash}
-use Rattle.mesh_grid.specs.declared.grid.grid.Grid.{Grid}
-use Rattle.mesh_grid.specs.Grid.Corners.{IsOnGrid, LandsAt, Lands}
 use Rattle.mesh_grid.specs.Grid.Marks.{indices_in, AreMarks, AreMarksOf, HasMarked}
+use Rattle.mesh_grid.proofs.GridLandings.{EachCorner}
 use Rattle.mesh_grid.proofs.JoinedLists.{all_in}
 
 -- three corners by their places
@@ -111,12 +110,12 @@ pub marks_hold : (P : ℕ → Type 0) (s : Surface) (marks : List Bool) (k : ℕ
 marks_hold P s marks k h all e =
     All-contains P (indices_in s.facets.items) k (all_in P (λ f. f.corners) s.facets.items all) (h.only k e)
 
--- a vertex with a mark lands on the grid
-pub marks_land : (g : Grid) (s : Surface) (marks : List Bool) (k : ℕ) (v : Vertex) → AreMarksOf s marks → Lands g s →
-    k < length s.vertices.items → get_or marks k false ≡ true → v ≡ get_or s.vertices.items k v → IsOnGrid g v
-marks_land g s marks k v h lands less e is =
+-- a vertex with a mark has what each corner has
+pub marked_has : (P : Vertex → Type 0) (s : Surface) (marks : List Bool) (k : ℕ) (v : Vertex) → AreMarksOf s marks → EachCorner P s →
+    k < length s.vertices.items → get_or marks k false ≡ true → v ≡ get_or s.vertices.items k v → P v
+marked_has P s marks k v h each less e is =
     let here : slice_get s.vertices.items k ≡ Some v = slice_get-get_or s.vertices.items k v less ∙ ap Some (sym is) in
-    subst (λ o. IfSome o (IsOnGrid g)) here (marks_hold (LandsAt g s.vertices.items) s marks k h lands e)
+    subst (λ o. IfSome o P) here (marks_hold (λ index. IfSome (slice_get s.vertices.items index) P) s marks k h each e)
 
 -- ---- marks in a vector
 -- the mark that is read at an index

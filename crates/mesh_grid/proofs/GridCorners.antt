@@ -1,16 +1,14 @@
 -- The corners on a grid, by the index of their vertex: one vertex more
 use Rattle.std.proofs.Common.{◌≡◌, ◌⊎◌, inl, inr, ◌<◌, ◌≤◌, ℕ, ◌+◌, Bool, true, false, List, [], ◌∷◌, ◌++◌, Some}
 use Rattle.std.proofs.Common.{length, get_or, sym, ap, subst, ◌∙◌, arith, pos}
-use Rattle.std.specs.List.{All}
 use Rattle.std.proofs.lemmas.Bool.{cases_eq, cases_lt}
 use Rattle.std.proofs.lemmas.List.{length_push, get_or_append_left, get_or_push, get_or_past}
-use Rattle.std.proofs.lemmas.List.Elements.{All-push, All-weaker}
+use Rattle.std.proofs.lemmas.List.Elements.{All-weaker}
 use Rattle.std.proofs.lemmas.Option.{slice_get-get_or, slice_get_past}
 use Rattle.mesh_read.specs.declared.surface.surface.Facet.{Facet}
 use Rattle.mesh_read.specs.declared.surface.surface.Surface.{Surface}
 use Rattle.mesh_read.specs.declared.surface.surface.Vertex.{Vertex}
 use Rattle.ember_model.specs.declared.point.Corner.{Corner}
-use Rattle.ember_model.specs.Valid.{IsValidCorner}
 use Rattle.mesh_grid.specs.declared.grid.grid.Grid.{Grid}
 use Rattle.mesh_grid.specs.Grid.Corners.{corner_on, corner_from, corner_at}
 use Rattle.mesh_grid.specs.Grid.Marks.{indices_in, AreMarksOf}
@@ -20,18 +18,16 @@ use Rattle.mesh_grid.proofs.JoinedLists.{all_out}
 -- the corners of the first i vertices
 pub record AreFirstCorners (g : Grid) (vs : List Vertex) (marks : List Bool) (i : ℕ) (corners : List Corner) : Type 0 where
   pub many : length corners ≡ i
-  pub valid : All IsValidCorner corners
   pub at : (k : ℕ) → k < i → get_or marks k false ≡ true → corner_in corners k ≡ corner_at g vs k
 
 -- one vertex more
 pub corners_more : (g : Grid) (vs : List Vertex) (marks : List Bool) (i : ℕ) (v : Vertex) (corner : Corner)
     (old new : List Corner) → AreFirstCorners g vs marks i old → new ≡ old ++ corner ∷ [] → i < length vs →
-    v ≡ get_or vs i v → IsValidCorner corner → (get_or marks i false ≡ true → corner ≡ corner_on g v) →
+    v ≡ get_or vs i v → (get_or marks i false ≡ true → corner ≡ corner_on g v) →
     AreFirstCorners g vs marks (i + 1) new
-corners_more g vs marks i v corner old new h e less is valid value =
+corners_more g vs marks i v corner old new h e less is value =
     subst (AreFirstCorners g vs marks (i + 1)) (sym e) (record {
       many = omega (arith, length_push old corner, h.many);
-      valid = All-push IsValidCorner old corner h.valid valid;
       at = λ k l m. by k m (cases_eq k i) l;
     })
   where

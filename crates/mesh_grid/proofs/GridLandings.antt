@@ -1,6 +1,7 @@
 -- Where the coordinates of all corners land, there each corner does
 use Rattle.std.proofs.Common.{◌≡◌, ◌<◌, Bool, true, false, cond, not, List, [], ◌∷◌, Option, Some, None, map, length}
-use Rattle.std.proofs.Common.{get_or, refl, sym, ap, subst, ◌∙◌, arith, pos, negsuc, ◌-ℤ◌}
+use Rattle.std.proofs.Common.{get_or, refl, sym, ap, subst, ◌∙◌, arith, ℕ, ◌≤◌, ℤ, pos, neg_ℤ, ◌-ℤ◌}
+use borrow.Author.Differences.{ints}
 use Rattle.std.specs.List.{All, flat_map, find, list_any}
 use Rattle.std.specs.Option.{option_to_list, IfSome}
 use Rattle.std.specs.Prelude.{slice_get, Result, Ok, Err, IfOk}
@@ -15,7 +16,7 @@ use Rattle.mesh_number.specs.Number.Values.{value_of}
 use Rattle.mesh_grid.specs.declared.snap.spans.Coordinates.{Coordinates}
 use Rattle.mesh_grid.specs.Snap.Cells.{cell_at, IsBetween}
 use Rattle.mesh_grid.specs.Snap.Spans.{AreNumbers, AreCoordinates}
-use Rattle.mesh_grid.specs.Snap.Offsets.{LandsOnGrid}
+use Rattle.mesh_grid.specs.Snap.Offsets.{LandsOnGridWithin}
 use Rattle.mesh_read.specs.declared.surface.surface.Vertex.{Vertex}
 use Rattle.mesh_read.specs.declared.surface.surface.Facet.{Facet}
 use Rattle.mesh_read.specs.declared.surface.surface.Surface.{Surface}
@@ -23,7 +24,7 @@ use Rattle.mesh_read.specs.Surface.Surfaces.{is_vertex_below, is_too_large, is_c
 use Rattle.ember_model.proofs.SignTests.{clash}
 use Rattle.mesh_grid.specs.declared.grid.grid.Grid.{Grid}
 use Rattle.mesh_grid.specs.declared.grid.fault.GridFault.{GridFault}
-use Rattle.mesh_grid.specs.Grid.Corners.{corners_of, corners_in, HasCoordinates, IsOnGrid, FacetLands, Lands}
+use Rattle.mesh_grid.specs.Grid.Corners.{corners_of, corners_in, corner_on, HasCoordinates, IsOnGridWithin, LandsWithin}
 use Rattle.mesh_grid.specs.Grid.Grids.{IsWithinLimit}
 use Rattle.mesh_grid.proofs.JoinedLists.{all_out, all_in, all_mapped, one_out, one_in}
 
@@ -106,32 +107,68 @@ corners_are_coordinates ss c h k some =
 along : (P : Number → Type 0) (f : Vertex → Number) (vs : List Vertex) (xs : List Number) → xs ≡ map f vs → All P xs → All (λ v. P (f v)) vs
 along P f vs xs e h = all_mapped P f vs (subst (All P) e h)
 
-corners_land : (ss : List Surface) (g : Grid) (c : Coordinates) → All IsWithinLimit ss → HasCoordinates ss c →
-    LandsOnGrid g.step c g.offset → All (IsOnGrid g) (corners_in ss)
-corners_land ss g c h k lands =
+corners_land : (m : ℕ) (ss : List Surface) (g : Grid) (c : Coordinates) → All IsWithinLimit ss → HasCoordinates ss c →
+    LandsOnGridWithin m g.step c g.offset → All (IsOnGridWithin m g) (corners_in ss)
+corners_land m ss g c h k lands =
     let vs = corners_in ss in
     λ i d l. record {
       below = below_corners ss h i d l;
-      x = along (λ x. IsBetween (negsuc 2046) (cell_at g.step x -ℤ g.offset.x) (pos 2047)) (λ v. v.x) vs c.x.now k.x lands.x i d l;
-      y = along (λ x. IsBetween (negsuc 2046) (cell_at g.step x -ℤ g.offset.y) (pos 2047)) (λ v. v.y) vs c.y.now k.y lands.y i d l;
-      z = along (λ x. IsBetween (negsuc 2046) (cell_at g.step x -ℤ g.offset.z) (pos 2047)) (λ v. v.z) vs c.z.now k.z lands.z i d l;
+      x = along (λ x. IsBetween (neg_ℤ (pos m)) (cell_at g.step x -ℤ g.offset.x) (pos m)) (λ v. v.x) vs c.x.now k.x lands.x i d l;
+      y = along (λ x. IsBetween (neg_ℤ (pos m)) (cell_at g.step x -ℤ g.offset.y) (pos m)) (λ v. v.y) vs c.y.now k.y lands.y i d l;
+      z = along (λ x. IsBetween (neg_ℤ (pos m)) (cell_at g.step x -ℤ g.offset.z) (pos m)) (λ v. v.z) vs c.z.now k.z lands.z i d l;
     }
 
-facet_lands : (g : Grid) (vs : List Vertex) (f : Facet) → All (IsOnGrid g) (corners_of vs f) → FacetLands g vs f
-facet_lands g vs f h k d l =
-    one_out (IsOnGrid g) (slice_get vs (get_or f.corners k d)) (all_out (IsOnGrid g) (λ corner. option_to_list (slice_get vs corner)) f.corners h k d l)
+-- each corner of each triangle of the surface is a vertex with this property, or none
+abbrev pub EachCorner : (Vertex → Type 0) → Surface → Type 0
+EachCorner P s = All (λ f. All (λ index. IfSome (slice_get s.vertices.items index) P) f.corners) s.facets.items
 
-surface_lands : (g : Grid) (s : Surface) → All (IsOnGrid g) (flat_map (corners_of s.vertices.items) s.facets.items) → Lands g s
-surface_lands g s h k d l =
-    facet_lands g s.vertices.items (get_or s.facets.items k d) (all_out (IsOnGrid g) (corners_of s.vertices.items) s.facets.items h k d l)
+facet_has : (P : Vertex → Type 0) (vs : List Vertex) (f : Facet) → All P (corners_of vs f) →
+    All (λ index. IfSome (slice_get vs index) P) f.corners
+facet_has P vs f h k d l =
+    one_out P (slice_get vs (get_or f.corners k d)) (all_out P (λ corner. option_to_list (slice_get vs corner)) f.corners h k d l)
+
+surface_has : (P : Vertex → Type 0) (s : Surface) → All P (flat_map (corners_of s.vertices.items) s.facets.items) → EachCorner P s
+surface_has P s h k d l =
+    facet_has P s.vertices.items (get_or s.facets.items k d) (all_out P (corners_of s.vertices.items) s.facets.items h k d l)
+
+-- all corners of a surface within the limit are below it
+pub corners_below : (s : Surface) → IsWithinLimit s → EachCorner (λ v. is_vertex_below v ≡ true) s
+corners_below s h = surface_has IsBelow s (below_surface s h)
 
 -- all corners of all surfaces land on the grid
-surfaces_land : (ss : List Surface) (g : Grid) (c : Coordinates) → All IsWithinLimit ss → HasCoordinates ss c → LandsOnGrid g.step c g.offset → All (Lands g) ss
-surfaces_land ss g c h k lands i d l =
-    surface_lands g (get_or ss i d) (all_out (IsOnGrid g) (λ s. flat_map (corners_of s.vertices.items) s.facets.items) ss (corners_land ss g c h k lands) i d l)
+pub surfaces_land : (m : ℕ) (ss : List Surface) (g : Grid) (c : Coordinates) → All IsWithinLimit ss → HasCoordinates ss c →
+    LandsOnGridWithin m g.step c g.offset → All (LandsWithin m g) ss
+surfaces_land m ss g c h k lands i d l =
+    surface_has (IsOnGridWithin m g) (get_or ss i d)
+    (all_out (IsOnGridWithin m g) (λ s. flat_map (corners_of s.vertices.items) s.facets.items) ss (corners_land m ss g c h k lands) i d l)
 
 -- the same if there is a grid
-pub surfaces_land_if : (ss : List Surface) (c : Coordinates) (r : Result Grid GridFault) → All IsWithinLimit ss →
-    HasCoordinates ss c → IfOk r (λ g. LandsOnGrid g.step c g.offset) → IfOk r (λ g. All (Lands g) ss)
-surfaces_land_if ss c (Ok g) h k lands = surfaces_land ss g c h k lands
-surfaces_land_if ss c (Err e) h k lands = tt
+pub surfaces_land_if : (m : ℕ) (ss : List Surface) (c : Coordinates) (r : Result Grid GridFault) → All IsWithinLimit ss →
+    HasCoordinates ss c → IfOk r (λ g. LandsOnGridWithin m g.step c g.offset) → IfOk r (λ g. All (LandsWithin m g) ss)
+surfaces_land_if m ss c (Ok g) h k lands = surfaces_land m ss g c h k lands
+surfaces_land_if m ss c (Err e) h k lands = tt
+
+-- ---- on a greater grid
+between_further : (m n : ℕ) (z : ℤ) → m ≤ n → IsBetween (neg_ℤ (pos m)) z (pos m) → IsBetween (neg_ℤ (pos n)) z (pos n)
+between_further m n z l h =
+    record { low_enough = omega (arith, ints, l, h.low_enough); high_enough = omega (arith, ints, l, h.high_enough) }
+
+on_grid_further : (m n : ℕ) (g : Grid) (v : Vertex) → m ≤ n → IsOnGridWithin m g v → IsOnGridWithin n g v
+on_grid_further m n g v l h = record {
+  below = h.below;
+  x = between_further m n (corner_on g v).x l h.x;
+  y = between_further m n (corner_on g v).y l h.y;
+  z = between_further m n (corner_on g v).z l h.z;
+}
+
+some_further : (m n : ℕ) (g : Grid) (o : Option Vertex) → m ≤ n → IfSome o (IsOnGridWithin m g) → IfSome o (IsOnGridWithin n g)
+some_further m n g None l h = tt
+some_further m n g (Some v) l h = on_grid_further m n g v l h
+
+-- what lands on a grid lands on a greater one
+pub lands_further : (m n : ℕ) (g : Grid) (s : Surface) → m ≤ n → LandsWithin m g s → LandsWithin n g s
+lands_further m n g s l h k d b i e c =
+    some_further m n g (slice_get s.vertices.items (get_or (get_or s.facets.items k d).corners i e)) l (h k d b i e c)
+
+pub all_land_further : (m n : ℕ) (g : Grid) (ss : List Surface) → m ≤ n → All (LandsWithin m g) ss → All (LandsWithin n g) ss
+all_land_further m n g ss l h = All-weaker (LandsWithin m g) (LandsWithin n g) (λ s. lands_further m n g s l) ss h

@@ -8,6 +8,12 @@ use Rattle.mesh_grid.specs.declared.snap.steps.GridStep.{GridStep}
 use Rattle.mesh_grid.specs.declared.snap.spans.Coordinates.{Coordinates}
 use Rattle.mesh_grid.specs.declared.snap.spans.CellRange.{CellRange}
 use Rattle.mesh_grid.specs.declared.snap.spans.CellRanges.{CellRanges}
+use Rattle.ember_algebra.specs.Size.{Small}
+use Rattle.ember_model.specs.Within.{IsCornerWithin}
+use Rattle.mesh_read.specs.declared.surface.surface.Vertex.{Vertex}
+use Rattle.mesh_grid.specs.declared.grid.grid.Grid.{Grid}
+use Rattle.mesh_grid.specs.Grid.Corners.{corner_on, IsOnGridWithin}
+use Rattle.mesh_grid.specs.Snap.Cells.{IsBetween}
 use Rattle.mesh_grid.specs.Snap.Spans.{IsSpanWithin, AreSpansWithin}
 use Rattle.mesh_grid.specs.Snap.Offsets.{middle_of, is_central_within, offset_of_within, LandsAlongWithin, LandsOnGridWithin}
 use Rattle.mesh_grid.proofs.Floors.{floor_low, floor_high}
@@ -53,3 +59,15 @@ spans_land m s c spans h = by (is_central_within m spans.x && is_central_within 
           z =
               lands_round_middle m s c.z.now spans.z h.z;
         })
+
+-- a number on a grid is as small as the grid reaches
+between_is_small : (m : ℕ) (z : ℤ) → IsBetween (neg_ℤ (pos m)) z (pos m) → Small m z
+between_is_small m z h = record { small = omega (arith, ints, h.low_enough, h.high_enough) }
+
+-- and so is a corner
+pub on_grid_is_within : (m : ℕ) (g : Grid) (v : Vertex) → IsOnGridWithin m g v → IsCornerWithin m (corner_on g v)
+on_grid_is_within m g v h = record {
+  x = between_is_small m (corner_on g v).x h.x;
+  y = between_is_small m (corner_on g v).y h.y;
+  z = between_is_small m (corner_on g v).z h.z;
+}

@@ -12,6 +12,7 @@ pub mod CornerMarks
 pub mod MarkedVertices
 pub mod GridCorners
 pub mod CornerEntries
+pub mod NiceGridLists
 pub mod Maps
 pub mod Positions
 pub mod Lists

@@ -1,5 +1,5 @@
 -- Lists with the same entries: what holds of the coordinates of one holds of those of the other
-use Rattle.std.proofs.Common.{◌≡◌, ◌<◌, ℕ, List, [], ◌∷◌, ◌++◌, map, length, refl, arith, true, ℤ, pos, negsuc, ◌+ℤ◌, ◌-ℤ◌}
+use Rattle.std.proofs.Common.{◌≡◌, ◌<◌, ℕ, List, [], ◌∷◌, ◌++◌, map, length, refl, arith, true, ℤ, pos, neg_ℤ, ◌*◌, ◌+ℤ◌, ◌-ℤ◌}
 use Rattle.std.specs.List.{All, Any, Contains}
 use Rattle.std.proofs.lemmas.List.Elements.{All-head, All-append, All-map, All-weaker, All-contains}
 use Rattle.std.proofs.lemmas.List.Elements.{All-contains_itself, Contains-append_left, Contains-append_right}
@@ -11,13 +11,13 @@ use Rattle.mesh_grid.specs.declared.snap.spans.Coordinates.{Coordinates}
 use Rattle.mesh_grid.specs.declared.snap.offsets.Offset.{Offset}
 use Rattle.mesh_grid.specs.Snap.Steps.{nice_of, fine_of}
 use Rattle.mesh_grid.specs.Snap.Cells.{cell_at, IsBetween}
-use Rattle.mesh_grid.specs.Snap.Spans.{Fits, FitsAll, AreNumbers, AreCoordinates, AreSpans, IsLeast}
-use Rattle.mesh_grid.specs.Snap.Offsets.{IsOffset, LandsAlong, LandsOnGrid}
+use Rattle.mesh_grid.specs.Snap.Spans.{FitsWithin, FitsAllWithin, AreNumbers, AreCoordinates, AreSpansWithin, IsLeastWithin}
+use Rattle.mesh_grid.specs.Snap.Offsets.{IsOffsetWithin, LandsAlongWithin, LandsOnGridWithin}
 use Rattle.mesh_grid.specs.declared.grid.choice.Wanted.{Wanted}
 use Rattle.mesh_grid.specs.declared.grid.choice.Wanted.TheVariants.{Nice, Finest, Given}
 use Rattle.mesh_grid.specs.declared.grid.extent.SceneExtent.{SceneExtent}
 use Rattle.mesh_grid.specs.Grid.Lengths.{IsLength, IsLengthAlong, trillionth}
-use Rattle.mesh_grid.specs.Grid.Grids.{IsWantedStep, IsExtent, IsTooSmall}
+use Rattle.mesh_grid.specs.Grid.Grids.{IsWantedStepWithin, IsExtentWithin, IsTooSmallWithin}
 use Rattle.mesh_grid.specs.Grid.Lists.{HaveSameEntries}
 use Rattle.mesh_grid.proofs.JoinedLists.{all_mapped}
 
@@ -68,7 +68,7 @@ pub record AreSameCoordinates (c d : Coordinates) : Type 0 where
   pub y : HaveSameEntries c.y.now d.y.now
   pub z : HaveSameEntries c.z.now d.z.now
 
-turned : (c d : Coordinates) → AreSameCoordinates c d → AreSameCoordinates d c
+pub turned : (c d : Coordinates) → AreSameCoordinates c d → AreSameCoordinates d c
 turned c d s = record { x = same_turned _ _ s.x; y = same_turned _ _ s.y; z = same_turned _ _ s.z }
 
 same_numbers : (xs ys : List Number) → HaveSameEntries xs ys → AreNumbers xs → AreNumbers ys
@@ -81,28 +81,30 @@ same_coordinates c d s h = record {
   z = same_numbers d.z.now c.z.now (same_turned _ _ s.z) h.z;
 }
 
-same_fits_along : (s : GridStep) (xs ys : List Number) → HaveSameEntries xs ys → Fits s xs → Fits s ys
-same_fits_along s xs ys e h = (h.0, same_all (λ x. IsBetween h.0 (cell_at s x) (h.0 +ℤ pos 4094)) xs ys e h.1)
+same_fits_along : (m : ℕ) (s : GridStep) (xs ys : List Number) → HaveSameEntries xs ys → FitsWithin m s xs → FitsWithin m s ys
+same_fits_along m s xs ys e h = (h.0, same_all (λ x. IsBetween h.0 (cell_at s x) (h.0 +ℤ pos (2 * m))) xs ys e h.1)
 
-same_fits : (s : GridStep) (c d : Coordinates) → AreSameCoordinates c d → FitsAll s c → FitsAll s d
-same_fits s c d e h = record {
-  x = same_fits_along s c.x.now d.x.now e.x h.x;
-  y = same_fits_along s c.y.now d.y.now e.y h.y;
-  z = same_fits_along s c.z.now d.z.now e.z h.z;
+pub same_fits : (m : ℕ) (s : GridStep) (c d : Coordinates) → AreSameCoordinates c d → FitsAllWithin m s c → FitsAllWithin m s d
+same_fits m s c d e h = record {
+  x = same_fits_along m s c.x.now d.x.now e.x h.x;
+  y = same_fits_along m s c.y.now d.y.now e.y h.y;
+  z = same_fits_along m s c.z.now d.z.now e.z h.z;
 }
 
-same_least : (steps : ℕ → GridStep) (c d : Coordinates) (s : GridStep) → AreSameCoordinates c d → IsLeast steps c s → IsLeast steps d s
-same_least steps c d s e h = record {
+same_least : (m : ℕ) (steps : ℕ → GridStep) (c d : Coordinates) (s : GridStep) → AreSameCoordinates c d →
+    IsLeastWithin m steps c s → IsLeastWithin m steps d s
+same_least m steps c d s e h = record {
   rank = h.rank;
   step = h.step;
-  fits = same_fits s c d e h.fits;
-  least = λ lower less fits. h.least lower less (same_fits (steps lower) d c (turned c d e) fits);
+  fits = same_fits m s c d e h.fits;
+  least = λ lower less fits. h.least lower less (same_fits m (steps lower) d c (turned c d e) fits);
 }
 
-pub same_wanted : (wanted : Wanted) (c d : Coordinates) (s : GridStep) → AreSameCoordinates c d → IsWantedStep wanted c s → IsWantedStep wanted d s
-same_wanted Nice c d s e h = same_least nice_of c d s e h
-same_wanted Finest c d s e h = same_least fine_of c d s e h
-same_wanted (Given given) c d s e h = h
+pub same_wanted : (m : ℕ) (wanted : Wanted) (c d : Coordinates) (s : GridStep) → AreSameCoordinates c d →
+    IsWantedStepWithin m wanted c s → IsWantedStepWithin m wanted d s
+same_wanted m Nice c d s e h = same_least m nice_of c d s e h
+same_wanted m Finest c d s e h = same_least m fine_of c d s e h
+same_wanted m (Given given) c d s e h = h
 
 same_within : (s : GridStep) (xs ys : List Number) (least greatest : ℤ) → HaveSameEntries xs ys →
     All (λ x. IsBetween least (cell_at s x) greatest) xs → All (λ x. IsBetween least (cell_at s x) greatest) ys
@@ -111,8 +113,9 @@ same_within s xs ys least greatest = same_all (λ x. IsBetween least (cell_at s 
 same_met : (s : GridStep) (xs ys : List Number) (z : ℤ) → HaveSameEntries xs ys → Any (λ x. cell_at s x ≡ z) xs → Any (λ x. cell_at s x ≡ z) ys
 same_met s xs ys z = same_any (λ x. cell_at s x ≡ z) xs ys
 
-same_spans : (s : GridStep) (c d : Coordinates) (o : Offset) → AreSameCoordinates c d → (h : IsOffset s c o) → AreSpans s d h.spans
-same_spans s c d o e h = record {
+same_spans : (m : ℕ) (s : GridStep) (c d : Coordinates) (o : Offset) → AreSameCoordinates c d → (h : IsOffsetWithin m s c o) →
+    AreSpansWithin m s d h.spans
+same_spans m s c d o e h = record {
   x = record {
     within = same_within s c.x.now d.x.now h.spans.x.least h.spans.x.greatest e.x h.least_and_greatest.x.within;
     least_met = same_met s c.x.now d.x.now h.spans.x.least e.x h.least_and_greatest.x.least_met;
@@ -133,21 +136,24 @@ same_spans s c d o e h = record {
   };
 }
 
-pub same_offset : (s : GridStep) (c d : Coordinates) (o : Offset) → AreSameCoordinates c d → IsOffset s c o → IsOffset s d o
-same_offset s c d o e h = record {
+pub same_offset : (m : ℕ) (s : GridStep) (c d : Coordinates) (o : Offset) → AreSameCoordinates c d → IsOffsetWithin m s c o →
+    IsOffsetWithin m s d o
+same_offset m s c d o e h = record {
   spans = h.spans;
-  least_and_greatest = same_spans s c d o e h;
+  least_and_greatest = same_spans m s c d o e h;
   offset = h.offset;
 }
 
-same_along : (s : GridStep) (xs ys : List Number) (o : ℤ) → HaveSameEntries xs ys → LandsAlong s xs o → LandsAlong s ys o
-same_along s xs ys o = same_all (λ x. IsBetween (negsuc 2046) (cell_at s x -ℤ o) (pos 2047)) xs ys
+same_along : (m : ℕ) (s : GridStep) (xs ys : List Number) (o : ℤ) → HaveSameEntries xs ys → LandsAlongWithin m s xs o →
+    LandsAlongWithin m s ys o
+same_along m s xs ys o = same_all (λ x. IsBetween (neg_ℤ (pos m)) (cell_at s x -ℤ o) (pos m)) xs ys
 
-pub same_landing : (s : GridStep) (c d : Coordinates) (o : Offset) → AreSameCoordinates c d → LandsOnGrid s c o → LandsOnGrid s d o
-same_landing s c d o e h = record {
-  x = same_along s c.x.now d.x.now o.x e.x h.x;
-  y = same_along s c.y.now d.y.now o.y e.y h.y;
-  z = same_along s c.z.now d.z.now o.z e.z h.z;
+pub same_landing : (m : ℕ) (s : GridStep) (c d : Coordinates) (o : Offset) → AreSameCoordinates c d → LandsOnGridWithin m s c o →
+    LandsOnGridWithin m s d o
+same_landing m s c d o e h = record {
+  x = same_along m s c.x.now d.x.now o.x e.x h.x;
+  y = same_along m s c.y.now d.y.now o.y e.y h.y;
+  z = same_along m s c.z.now d.z.now o.z e.z h.z;
 }
 
 same_length_along : (xs ys : List Number) (n : ℕ) → HaveSameEntries xs ys → IsLengthAlong xs n → IsLengthAlong ys n
@@ -172,16 +178,17 @@ same_length c d n e h = record {
   greatest = h.greatest;
 }
 
-same_extent : (c d : Coordinates) (t : SceneExtent) → AreSameCoordinates c d → IsExtent c t → IsExtent d t
-same_extent c d t e h = record {
+same_extent : (m : ℕ) (c d : Coordinates) (t : SceneExtent) → AreSameCoordinates c d → IsExtentWithin m c t → IsExtentWithin m d t
+same_extent m c d t e h = record {
   is_length = same_length c d t.trillionths e h.is_length;
-  least = same_least fine_of c d t.finest e h.least;
+  least = same_least m fine_of c d t.finest e h.least;
 }
 
-pub same_too_small : (c d : Coordinates) (wanted : Wanted) (t : SceneExtent) → AreSameCoordinates c d → IsTooSmall c wanted t → IsTooSmall d wanted t
-same_too_small c d wanted t e h = record {
+pub same_too_small : (m : ℕ) (c d : Coordinates) (wanted : Wanted) (t : SceneExtent) → AreSameCoordinates c d →
+    IsTooSmallWithin m c wanted t → IsTooSmallWithin m d wanted t
+same_too_small m c d wanted t e h = record {
   given = h.given;
   is_given = h.is_given;
-  too_small = λ fits. h.too_small (same_fits h.given d c (turned c d e) fits);
-  is_extent = same_extent c d t e h.is_extent;
+  too_small = λ fits. h.too_small (same_fits m h.given d c (turned c d e) fits);
+  is_extent = same_extent m c d t e h.is_extent;
 }

@@ -1,5 +1,5 @@
 -- At the greatest steps all coordinates fit on a grid
-use Rattle.std.proofs.Common.{◌≡◌, ◌<◌, ℕ, ◌*◌, ◌^◌, List, get_or, arith, ℤ, pos, negsuc, ◌+ℤ◌, ◌-ℤ◌, ◌*ℤ◌, ◌<ℤ◌}
+use Rattle.std.proofs.Common.{◌≡◌, ◌<◌, ◌≤◌, ℕ, ◌*◌, ◌^◌, List, get_or, arith, ℤ, pos, negsuc, ◌+ℤ◌, ◌-ℤ◌, ◌*ℤ◌, ◌<ℤ◌}
 use borrow.Author.Differences.{ints}
 use Rattle.std.specs.Int.RustNames.{unsigned_abs}
 use Rattle.std.proofs.lemmas.Bool.{ltb-true}
@@ -14,7 +14,7 @@ use Rattle.mesh_grid.specs.declared.snap.steps.GridStep.{GridStep}
 use Rattle.mesh_grid.specs.declared.snap.spans.Coordinates.{Coordinates}
 use Rattle.mesh_grid.specs.Snap.Steps.{nice_of, fine_of}
 use Rattle.mesh_grid.specs.Snap.Cells.{cell_of, cell_at, IsNearest, IsBetween}
-use Rattle.mesh_grid.specs.Snap.Spans.{Fits, FitsAll, AreNumbers, AreCoordinates}
+use Rattle.mesh_grid.specs.Snap.Spans.{FitsWithin, FitsAllWithin, AreNumbers, AreCoordinates}
 use Rattle.mesh_grid.proofs.Nearest.{cell_nearest}
 
 -- a number below the limit is below 2 * 10^15 halves
@@ -67,26 +67,34 @@ fine_short v p h =
     let high = cell_below 999900000000 v (cell_of (fine_of 189998) v) p h near in
     record { low_enough = omega (arith, linear, low); high_enough = omega (arith, linear, high) }
 
-fits_if_short : (s : GridStep) → ((v : Fraction) → 0 < v.denominator → unsigned_abs v.numerator < 10 ^ 15 * v.denominator →
-    IsShort (cell_of s v)) → (xs : List Number) → AreNumbers xs → Fits s xs
+-- what fits on the narrow grid fits on a greater one
+further : (m : ℕ) (c : ℤ) → 2047 ≤ m → IsShort c → IsBetween (negsuc 1999) c (negsuc 1999 +ℤ pos (2 * m))
+further m c h short = record {
+  low_enough = short.low_enough;
+  high_enough = omega (arith, ints, linear, short.high_enough, h);
+}
+
+fits_if_short : (m : ℕ) → 2047 ≤ m → (s : GridStep) → ((v : Fraction) → 0 < v.denominator → unsigned_abs v.numerator < 10 ^ 15 * v.denominator →
+    IsShort (cell_of s v)) → (xs : List Number) → AreNumbers xs → FitsWithin m s xs
 unfolding cell_at
-fits_if_short s short xs h = (
+fits_if_short m wide s short xs h = (
   negsuc 1999,
-  λ k d l. let x = get_or xs k d in short (value_of x) (denominator_pos x) (ltb-true _ _ (h.below k d l)),
+  λ k d l. let x = get_or xs k d in
+      further m (cell_of s (value_of x)) wide (short (value_of x) (denominator_pos x) (ltb-true _ _ (h.below k d l))),
 )
 
 -- at the greatest nice step all coordinates fit
-pub nice_step_fits : (c : Coordinates) → AreCoordinates c → FitsAll (nice_of 71) c
-nice_step_fits c h = record {
-  x = fits_if_short (nice_of 71) nice_short c.x.now h.x;
-  y = fits_if_short (nice_of 71) nice_short c.y.now h.y;
-  z = fits_if_short (nice_of 71) nice_short c.z.now h.z;
+pub nice_step_fits : (m : ℕ) (c : Coordinates) → 2047 ≤ m → AreCoordinates c → FitsAllWithin m (nice_of 71) c
+nice_step_fits m c wide h = record {
+  x = fits_if_short m wide (nice_of 71) nice_short c.x.now h.x;
+  y = fits_if_short m wide (nice_of 71) nice_short c.y.now h.y;
+  z = fits_if_short m wide (nice_of 71) nice_short c.z.now h.z;
 }
 
 -- at the greatest fine step all coordinates fit
-pub fine_step_fits : (c : Coordinates) → AreCoordinates c → FitsAll (fine_of 189998) c
-fine_step_fits c h = record {
-  x = fits_if_short (fine_of 189998) fine_short c.x.now h.x;
-  y = fits_if_short (fine_of 189998) fine_short c.y.now h.y;
-  z = fits_if_short (fine_of 189998) fine_short c.z.now h.z;
+pub fine_step_fits : (m : ℕ) (c : Coordinates) → 2047 ≤ m → AreCoordinates c → FitsAllWithin m (fine_of 189998) c
+fine_step_fits m c wide h = record {
+  x = fits_if_short m wide (fine_of 189998) fine_short c.x.now h.x;
+  y = fits_if_short m wide (fine_of 189998) fine_short c.y.now h.y;
+  z = fits_if_short m wide (fine_of 189998) fine_short c.z.now h.z;
 }

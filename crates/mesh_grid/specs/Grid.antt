@@ -4,6 +4,7 @@ pub mod Lists
 pub mod Images
 pub mod Closed
 pub mod Grids
+pub mod NiceGrids
 pub mod Places
 pub mod Faults
 pub mod Lengths

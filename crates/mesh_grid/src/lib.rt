@@ -6,8 +6,8 @@ mod moves;
 mod snap;
 
 pub use grid::{
-    Grid, GridFault, SceneExtent, SnapFault, Snapped, Wanted, count_images, grid_of,
-    maps_keep_meshes_closed, place_of_edge, snap_surface,
+    Grid, GridFault, SceneExtent, SnapFault, Snapped, SnappedTris, Wanted, count_images, grid_of,
+    grid_of_within, maps_keep_meshes_closed, nice_grids, place_of_edge, snap_surface, snapped_tris,
 };
 pub use moves::{Length, greatest_moves, moves_are_not_below_the_true_ones};
 pub use snap::{

@@ -15,6 +15,8 @@ pub use decimals::step_of;
 pub use offsets::{Offset, offset_at, offset_within};
 pub use quotients::remainder;
 pub use search::{finest_step, finest_step_within, nice_step, nice_step_within};
+pub(crate) use search::{FarPairs, all_ends, fits};
 pub use sizes::GridSize;
 pub use spans::{Coordinates, are_coordinates};
 pub use steps::GridStep;
+pub(crate) use steps::{NICE_STEPS, nice};

@@ -1,3 +1,4 @@
 pub mod Targets
 pub mod Memory
 pub mod Several
+pub mod Calls

@@ -112,6 +112,12 @@ affine_of a = record { x = row_of a.x; y = row_of a.y; z = row_of a.z; scale = 1
 abbrev pub tuple_of : code_column.Column → Tuple
 tuple_of c = column (integer_of c.x.now) (integer_of c.y.now) (integer_of c.z.now) (integer_of c.w.now)
 
+-- the row of the map by one with these columns and then by one with this row
+abbrev pub row_by : code_row.Row → code_columns.Columns → Row
+row_by by c =
+    let r = row_of by in
+    row (value_at r (tuple_of c.x)) (value_at r (tuple_of c.y)) (value_at r (tuple_of c.z)) (value_at r (tuple_of c.origin))
+
 -- the columns of a map, with this in place of 0 and this in place of the scale
 pub record AreColumns (a : Affine) (zero scale : ℤ) (c : code_columns.Columns) : Type 0 where
   pub x : tuple_of c.x ≡ column a.x.x a.y.x a.z.x zero

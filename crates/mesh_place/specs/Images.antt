@@ -1,18 +1,19 @@
 -- The image of a surface under an affine map, corner for corner
-use Rattle.std.specs.Prelude.{◌≡◌, ℕ, ◌+◌, ◌*◌, Bool, true, false, List, [], ◌∷◌, map, if◌then◌else◌, Option, None, Some}
+use Rattle.std.specs.Prelude.{◌≡◌, ℕ, ◌+◌, ◌*◌, Bool, List, [], ◌∷◌, map, if◌then◌else◌, Option, None, Some}
 use Rattle.std.specs.Prelude.{ℤ, pos, ◌*ℤ◌, slice_index, ⊤}
 use Rattle.std.specs.List.{AllZip}
 use Rattle.ember_algebra.specs.Vector.{Tuple}
 use Rattle.mesh_number.specs.Number.Fractions.{Fraction}
 use Rattle.mesh_read.specs.declared.surface.surface.Vertex.{Vertex}
 use Rattle.mesh_read.specs.declared.surface.surface.Facet.{Facet}
-use Rattle.mesh_read.specs.Surface.Surfaces.{Point, Content, point_of}
+use Rattle.mesh_read.specs.Surface.Surfaces.{Point, Content}
 use Rattle.mesh_place.specs.declared.surface.transformed.TransformedPoint.{TransformedPoint}
 use Rattle.mesh_place.specs.declared.surface.transformed.TransformedSurface.{TransformedSurface}
 use Rattle.mesh_place.specs.declared.surface.transformed.TransformFault.{TransformFault}
 use Rattle.mesh_place.specs.declared.surface.transformed.TransformFault.TheVariants.{OutOfMemory, TooLong}
-use Rattle.mesh_place.specs.Decimals.{IsOver, exact_value}
-use Rattle.mesh_place.specs.Points.{has_short_numbers}
+use Rattle.mesh_place.specs.Decimals.{exact_value}
+use Rattle.mesh_place.specs.declared.exact.points.ExactPoint.{ExactPoint}
+use Rattle.mesh_place.specs.Points.{IsExactPoint, has_short_numbers}
 use Rattle.mesh_place.specs.AffineMaps.{Affine, image, is_mirroring}
 
 -- a point over the product of its three denominators
@@ -37,6 +38,10 @@ pub record IsAt (t : Tuple) (q : Point) : Type 0 where
 -- q is the image of p
 pub record IsImage (a : Affine) (p q : Point) : Type 0 where
   pub at : IsAt (image a (tuple_at p)) q
+
+-- q is the image of any point that this is to so many places
+abbrev pub IsImageOfExact : Affine → ℕ → ExactPoint → Point → Type 0
+IsImageOfExact a places e q = (p : Point) → IsExactPoint p places e → IsImage a p q
 
 -- a triangle, turned over if the map mirrors
 abbrev pub turned : Facet → Facet

@@ -1,9 +1,9 @@
 -- Boxes and cylinders as surfaces
-use Rattle.std.specs.Prelude.{◌≡◌, ℕ, zero, suc, ◌+◌, ◌-◌, ◌*◌, ◌/◌, ◌%◌, ◌^◌, ◌==◌, if◌then◌else◌, List, [], ◌∷◌, ◌++◌, slice_index}
+use Rattle.std.specs.Prelude.{◌≡◌, ℕ, zero, suc, ◌+◌, ◌-◌, ◌*◌, ◌/◌, ◌%◌, ◌==◌, if◌then◌else◌, List, [], ◌∷◌, ◌++◌, slice_index}
 use Rattle.std.specs.Prelude.{true, false, ◌&&◌, nat_le, ⊤, ℤ, pos, neg_ℤ, ◌+ℤ◌}
 use Rattle.std.specs.List.{AllZip, range_with_len}
 use Rattle.ember_algebra.specs.Sums.{total}
-use Rattle.mesh_number.specs.Number.Fractions.{Fraction, whole_number}
+use Rattle.mesh_number.specs.Number.Fractions.{whole_number}
 use Rattle.mesh_read.specs.declared.surface.surface.Facet.{Facet}
 use Rattle.mesh_read.specs.declared.surface.surface.Vertex.{Vertex}
 use Rattle.mesh_read.specs.Surface.Surfaces.{Point, Content, point_of}
@@ -130,11 +130,15 @@ pub record IsImageOfCorner (map : Affine) (sides index : ℕ) (p : Point) : Type
   pub round : IsRoundCorner sides index corner
   pub image : IsImage map corner p
 
+-- the images of all corners
+abbrev pub AreImagesOfCorners : Affine → ℕ → List Point → Type 0
+AreImagesOfCorners map sides points = AllZip (IsImageOfCorner map sides) (range_with_len 0 (2 * sides)) points
+
 -- the unit cylinder scaled by the radius along x and y and by the height along z, and then moved
 pub record IsCylinder (centre : Vertex) (radius height : Number) (sides : ℕ) (c : Content) : Type 0 where
   pub map : Affine
   pub right : IsMapOfSteps (cylinder_steps centre radius height) map
-  pub points : AllZip (IsImageOfCorner map sides) (range_with_len 0 (2 * sides)) c.points
+  pub points : AreImagesOfCorners map sides c.points
   pub facets : c.facets ≡ facets_under (is_mirroring map) (cylinder_facets sides)
 
 -- ---- faults

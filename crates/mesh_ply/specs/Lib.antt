@@ -6,3 +6,5 @@ pub mod CursorViews
 pub mod Rows
 pub mod RowViews
 pub mod ReadPly
+pub mod Errors
+pub mod ReadingViews

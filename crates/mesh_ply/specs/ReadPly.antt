@@ -62,6 +62,10 @@ rows_from element ds number (suc left) content cursor =
     and_then (with_row element.kind number content r.0) (λ c.
     rows_from element ds (number + 1) left c r.1))
 
+-- all its rows
+abbrev pub all_rows : Element → List Declaration → Content → Cursor → Result (Content × Cursor) PlyFault
+all_rows element ds content cursor = rows_from element ds 1 element.count content cursor
+
 -- rows without properties take no place in the file, and say nothing
 abbrev pub bare_fault : ElementKind → ℕ → Option PlyFault
 bare_fault Vertex count = if count == 0 then None else Some NoCoordinates
@@ -75,7 +79,7 @@ unless_fault (Some fault) a = Err fault
 -- the rows of an element, which these declarations follow
 abbrev pub element_rows : Element → List Declaration → Content → Cursor → Result (Content × Cursor) PlyFault
 element_rows element ds content cursor =
-    if begins_property ds then rows_from element ds 1 element.count content cursor
+    if begins_property ds then all_rows element ds content cursor
     else unless_fault (bare_fault element.kind element.count) (content, cursor)
 
 -- the rows of all elements, in the header's order

@@ -1,5 +1,5 @@
 -- Numbers in the rows of a file
-use Rattle.std.specs.Prelude.{ℕ, List, Option, None, Some, ℤ, pos, negsuc, slice_index}
+use Rattle.std.specs.Prelude.{◌≡◌, ◌≤◌, take, drop, length, ℕ, List, Option, None, Some, ℤ, pos, negsuc, slice_index}
 use Rattle.std.specs.Int.{Width, w8, w16, w32, w64, cast_signed, from_le_bytes, from_be_bytes}
 use Rattle.mesh_number.specs.Number.Fractions.{Fraction, whole_number}
 use Rattle.mesh_number.specs.Number.Floats.{binary32_value, binary64_value}
@@ -52,6 +52,11 @@ width_of Float64 = 8
 unfoldable pub bits_of : ByteOrder → Width → List ℕ → ℕ
 bits_of Little width bytes = from_le_bytes width bytes
 bits_of Big width bytes = from_be_bytes width bytes
+
+-- the bytes are so many, with this number by a reading of them, and then the rest
+abbrev pub BeginWith : ℕ → (List ℕ → ℕ) → List ℕ → ℕ → List ℕ → Type 0
+BeginWith width reading bytes number rest =
+    (number ≡ reading (take width bytes)) × (rest ≡ drop width bytes) × (width ≤ length bytes)
 
 -- the scalar of this type in these bytes
 abbrev pub scalar_of_bytes : ScalarType → ByteOrder → List ℕ → Scalar

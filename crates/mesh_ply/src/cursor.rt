@@ -1,9 +1,10 @@
 // What is left of a file after its header.
-ghost use Rattle.std.specs.Prelude.{◌≡◌, ◌+◌, ◌≤◌, ◌<◌, ◌∷◌, [], length, MatchOption, IfSome, Some, None};
+ghost use Rattle.std.specs.Prelude.{◌≡◌, ◌+◌, ◌≤◌, ◌<◌, length, IfSome, Some, None};
 ghost use Rattle.ember_model.specs.Limits.{most_bytes};
-ghost use Rattle.mesh_read.specs.Scan.Parts.{words_in, lines_in};
-ghost use Rattle.mesh_ply.specs.Cursors.{rows_of, begun, next_row, next_scalar};
-ghost use Rattle.mesh_ply.specs.CursorViews.{scalar_of, cursor_of, left_at};
+ghost use Rattle.mesh_read.specs.Scan.Parts.{words_in};
+ghost use Rattle.mesh_ply.specs.Cursors.{begun, next_row, next_scalar};
+ghost use Rattle.mesh_ply.specs.CursorViews.{cursor_of, left_at, read_of, rows_in};
+ghost use Rattle.mesh_read.specs.Scan.Found.{IsFirstAs, IsFoundAs};
 
 use crate::declarations::{ByteOrder, Encoding, ScalarType};
 use crate::scalars::{Scalar, split_scalar};
@@ -42,8 +43,7 @@ pub(crate) fn first_cursor<'a>(encoding: Encoding, body: &'a [u8]) -> Cursor<'a>
 // The first line that has a word, and what follows it.
 #[tactic(none)]
 fn next_filled<'a>(later: Part<'a>) -> Option<(Part<'a>, Part<'a>)>
-    ensures rows { MatchOption result (rows_of (lines_in later.entry) ≡ [])
-        (λ p. rows_of (lines_in later.entry) ≡ words_in p.0 ∷ rows_of (lines_in p.1)) }
+    ensures rows { IsFirstAs words_in rows_in (rows_in later.entry) result }
     ensures left { IfSome result (λ p.
         length p.0.bytes.now + length p.1.bytes.now ≤ length later.entry.bytes.now) }
 {
@@ -59,8 +59,7 @@ fn next_filled<'a>(later: Part<'a>) -> Option<(Part<'a>, Part<'a>)>
 
 // The beginning of the next row.
 pub(crate) fn enter_row<'a>(cursor: Cursor<'a>) -> Option<Cursor<'a>>
-    ensures row { MatchOption result (next_row (cursor_of cursor.entry) ≡ None)
-        (λ c. next_row (cursor_of cursor.entry) ≡ Some (cursor_of c)) }
+    ensures row { IsFoundAs cursor_of (next_row (cursor_of cursor.entry)) result }
     ensures left { IfSome result (λ c. left_at c ≤ left_at cursor.entry) }
 {
     match cursor {
@@ -77,8 +76,7 @@ pub(crate) fn take_scalar<'a>(
     kind: ScalarType,
     cursor: Cursor<'a>,
 ) -> Option<(Scalar<'a>, Cursor<'a>)>
-    ensures scalar { MatchOption result (next_scalar kind (cursor_of cursor.entry) ≡ None)
-        (λ p. next_scalar kind (cursor_of cursor.entry) ≡ Some (scalar_of p.0, cursor_of p.1)) }
+    ensures scalar { IsFoundAs read_of (next_scalar kind (cursor_of cursor.entry)) result }
     ensures left { IfSome result (λ p. left_at p.1 < left_at cursor.entry) }
 {
     match cursor {

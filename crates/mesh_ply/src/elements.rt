@@ -1,10 +1,12 @@
 // The rows of elements.
-ghost use Rattle.std.specs.Prelude.{◌≡◌, ◌⊎◌, ◌+◌, ◌≤◌, ◌<◌, ◌^◌, true, length, Ok, Err, OnOk, IfOk, IfErr};
-ghost use Rattle.mesh_read.specs.Surface.Surfaces.{point_of, content_of};
-ghost use Rattle.mesh_ply.specs.CursorViews.{cursor_of, left_at};
+ghost use Rattle.std.specs.Prelude.{◌≡◌, ◌+◌, ◌≤◌, ◌<◌, ◌^◌, true, length, Ok, Err, OnOk, IfOk, IfErr};
+ghost use Rattle.mesh_read.specs.Surface.Surfaces.{point_of, content_of, IsSurfaceOf};
+ghost use Rattle.mesh_ply.specs.CursorViews.{left_at};
 ghost use Rattle.mesh_ply.specs.Rows.{begins_property};
 ghost use Rattle.mesh_ply.specs.RowViews.{row_of};
-ghost use Rattle.mesh_ply.specs.ReadPly.{point_of_three, with_row, place_of, rows_from, bare_fault, element_rows, elements_from};
+ghost use Rattle.mesh_ply.specs.ReadPly.{point_of_three, place_of, bare_fault, element_rows, all_rows};
+ghost use Rattle.mesh_ply.specs.ReadingViews.{IsRowsError, ReadsRows, with_row_of, with_elements};
+ghost use Rattle.mesh_ply.specs.Errors.{IsErrorOf};
 
 use crate::cursor::Cursor;
 use crate::declarations::{Declaration, Element, ElementKind};
@@ -28,9 +30,8 @@ fn row_vertex<'a>(row: &Row<'a>) -> Result<Vertex<'a>, PlyFault>
 // Appends the vertex of a row.
 fn add_vertex<'a>(surface: &mut Surface<'a>, number: u32, row: &Row<'a>) -> Result<(), PlyFault>
     ensures ok { OnOk result
-        (with_row ElementKind.Vertex number (content_of surface.old) (row_of row.now) ≡ Ok (content_of surface.new)) }
-    ensures fault { IfErr result (λ e. (e ≡ PlyFault.OutOfMemory)
-        ⊎ (with_row ElementKind.Vertex number (content_of surface.old) (row_of row.now) ≡ Err e)) }
+        (IsSurfaceOf (with_row_of ElementKind.Vertex number surface.old row.now) surface.new) }
+    ensures fault { IfErr result (IsErrorOf (with_row_of ElementKind.Vertex number surface.old row.now)) }
     ensures count { OnOk result (length surface.new.vertices.items ≡ length surface.old.vertices.items + 1) }
 {
     let vertex = row_vertex(row)?;
@@ -44,9 +45,8 @@ fn add_vertex<'a>(surface: &mut Surface<'a>, number: u32, row: &Row<'a>) -> Resu
 #[tactic(none)]
 fn add_face<'a>(surface: &mut Surface<'a>, number: u32, row: &Row<'a>) -> Result<(), PlyFault>
     ensures ok { OnOk result
-        (with_row ElementKind.Face number (content_of surface.old) (row_of row.now) ≡ Ok (content_of surface.new)) }
-    ensures fault { IfErr result (λ e. (e ≡ PlyFault.OutOfMemory)
-        ⊎ (with_row ElementKind.Face number (content_of surface.old) (row_of row.now) ≡ Err e)) }
+        (IsSurfaceOf (with_row_of ElementKind.Face number surface.old row.now) surface.new) }
+    ensures fault { IfErr result (IsErrorOf (with_row_of ElementKind.Face number surface.old row.now)) }
     ensures count { OnOk result (length surface.new.vertices.items ≡ length surface.old.vertices.items) }
 {
     if !row.has_corners {
@@ -68,10 +68,8 @@ fn add_row<'a>(
     number: u32,
     row: &Row<'a>,
 ) -> Result<(), PlyFault>
-    ensures ok { OnOk result
-        (with_row kind number (content_of surface.old) (row_of row.now) ≡ Ok (content_of surface.new)) }
-    ensures fault { IfErr result (λ e. (e ≡ PlyFault.OutOfMemory)
-        ⊎ (with_row kind number (content_of surface.old) (row_of row.now) ≡ Err e)) }
+    ensures ok { OnOk result (IsSurfaceOf (with_row_of kind number surface.old row.now) surface.new) }
+    ensures fault { IfErr result (IsErrorOf (with_row_of kind number surface.old row.now)) }
     ensures count { OnOk result (length surface.new.vertices.items ≤ length surface.old.vertices.items + 1) }
 {
     match kind {
@@ -102,12 +100,8 @@ fn read_rows<'a>(
 ) -> Result<Cursor<'a>, PlyFault>
     requires property { begins_property declarations.now ≡ true }
     requires few { length surface.old.vertices.items + left_at cursor < 2 ^ 31 }
-    ensures ok { IfOk result (λ c.
-        rows_from element declarations.now 1 element.count (content_of surface.old) (cursor_of cursor.entry)
-        ≡ Ok (content_of surface.new, cursor_of c)) }
-    ensures fault { IfErr result (λ e. (e ≡ PlyFault.OutOfMemory)
-        ⊎ (rows_from element declarations.now 1 element.count (content_of surface.old) (cursor_of cursor.entry)
-        ≡ Err e)) }
+    ensures ok { IfOk result (ReadsRows (all_rows element declarations.now) surface.old cursor.entry surface.new) }
+    ensures fault { IfErr result (IsRowsError (all_rows element declarations.now) surface.old cursor.entry) }
     ensures few { IfOk result (λ c. length surface.new.vertices.items + left_at c < 2 ^ 31) }
 {
     let mut rest = cursor;
@@ -158,11 +152,8 @@ fn read_element<'a>(
     cursor: Cursor<'a>,
 ) -> Result<Cursor<'a>, PlyFault>
     requires { length surface.old.vertices.items + left_at cursor < 2 ^ 31 }
-    ensures ok { IfOk result (λ c.
-        element_rows element declarations.now (content_of surface.old) (cursor_of cursor.entry)
-        ≡ Ok (content_of surface.new, cursor_of c)) }
-    ensures fault { IfErr result (λ e. (e ≡ PlyFault.OutOfMemory)
-        ⊎ (element_rows element declarations.now (content_of surface.old) (cursor_of cursor.entry) ≡ Err e)) }
+    ensures ok { IfOk result (ReadsRows (element_rows element declarations.now) surface.old cursor.entry surface.new) }
+    ensures fault { IfErr result (IsRowsError (element_rows element declarations.now) surface.old cursor.entry) }
     ensures few { IfOk result (λ c. length surface.new.vertices.items + left_at c < 2 ^ 31) }
 {
     if has_property(declarations) {
@@ -182,10 +173,8 @@ pub(crate) fn read_elements<'a>(
     cursor: Cursor<'a>,
 ) -> Result<(), PlyFault>
     requires { length surface.old.vertices.items + left_at cursor < 2 ^ 31 }
-    ensures ok { OnOk result (elements_from declarations.now (content_of surface.old) (cursor_of cursor.entry)
-        ≡ Ok (content_of surface.new)) }
-    ensures fault { IfErr result (λ e. (e ≡ PlyFault.OutOfMemory)
-        ⊎ (elements_from declarations.now (content_of surface.old) (cursor_of cursor.entry) ≡ Err e)) }
+    ensures ok { OnOk result (IsSurfaceOf (with_elements declarations.now surface.old cursor.entry) surface.new) }
+    ensures fault { IfErr result (IsErrorOf (with_elements declarations.now surface.old cursor.entry)) }
 {
     let mut declared = declarations;
     let mut rest = cursor;

@@ -1,9 +1,9 @@
 // The header of a file.
-ghost use Rattle.std.specs.Prelude.{◌≡◌, ◌⊎◌, ◌≤◌, ◌<◌, length, Some, Ok, Err, OnOk, IfOk, IfErr};
+ghost use Rattle.std.specs.Prelude.{◌≡◌, ◌≤◌, ◌<◌, length, Some, Ok, Err, OnOk, IfOk, IfErr};
 ghost use Rattle.ember_model.specs.Limits.{most_bytes};
-ghost use Rattle.mesh_read.specs.Scan.Parts.{lines_in};
-ghost use Rattle.mesh_ply.specs.Header.{nothing_declared, with_entry, is_end, header_from, with_body, header_of_file};
-ghost use Rattle.mesh_ply.specs.HeaderViews.{header_of};
+ghost use Rattle.mesh_ply.specs.Header.{with_entry, is_end, header_of_file};
+ghost use Rattle.mesh_ply.specs.HeaderViews.{header_of, header_in};
+ghost use Rattle.mesh_ply.specs.Errors.{IsErrorOf};
 
 use crate::declarations::{Declaration, ElementKind, Encoding, Entry};
 use crate::entries::read_entry;
@@ -60,11 +60,8 @@ fn ends_header(entry: Entry) -> bool
 // The header with which these lines begin, and the bytes after it.
 #[tactic(auto, using(crate::proofs::Steps::header_more, crate::proofs::Steps::header_ended, crate::proofs::Steps::header_fault))]
 fn read_lines<'a>(alloc: Global, file: Part<'a>) -> Result<(Header, &'a [u8]), PlyFault>
-    ensures ok { IfOk result (λ h.
-        with_body file.entry.bytes.now (header_from 1 nothing_declared (lines_in file.entry))
-        ≡ Ok (header_of h.0, h.1.now)) }
-    ensures fault { IfErr result (λ e. (e ≡ PlyFault.OutOfMemory)
-        ⊎ (with_body file.entry.bytes.now (header_from 1 nothing_declared (lines_in file.entry)) ≡ Err e)) }
+    ensures ok { IfOk result (λ h. header_in file.entry ≡ Ok (header_of h.0, h.1.now)) }
+    ensures fault { IfErr result (IsErrorOf (header_in file.entry)) }
     ensures length { IfOk result (λ h. length h.1.now ≤ length file.entry.bytes.now) }
 {
     let mut header = Header {
@@ -95,7 +92,7 @@ pub(crate) fn read_header<'a>(
 ) -> Result<(Header, &'a [u8]), PlyFault>
     requires { length bytes.now ≤ most_bytes }
     ensures ok { IfOk result (λ h. header_of_file bytes.entry.now ≡ Ok (header_of h.0, h.1.now)) }
-    ensures fault { IfErr result (λ e. (e ≡ PlyFault.OutOfMemory) ⊎ (header_of_file bytes.entry.now ≡ Err e)) }
+    ensures fault { IfErr result (IsErrorOf (header_of_file bytes.entry.now)) }
     ensures length { IfOk result (λ h. length h.1.now ≤ length bytes.entry.now) }
 {
     read_lines(alloc, Part { start: 0, bytes })

@@ -1,8 +1,10 @@
 // The properties of a row.
-ghost use Rattle.std.specs.Prelude.{◌≡◌, ◌⊎◌, ◌≤◌, ◌<◌, [], Ok, Err, IfOk, IfErr};
+ghost use Rattle.std.specs.Prelude.{◌≡◌, ◌≤◌, ◌<◌, [], Ok, Err, IfOk, IfErr};
 ghost use Rattle.mesh_ply.specs.CursorViews.{scalar_of, cursor_of, left_at};
 ghost use Rattle.mesh_ply.specs.Rows.{one_scalar, corner_of, corners_from, skipped, list_of_size, scalar_property, list_property};
 ghost use Rattle.mesh_ply.specs.RowViews.{row_of};
+ghost use Rattle.mesh_ply.specs.ReadingViews.{IsReadTo, IsRowError, ReadsRow};
+ghost use Rattle.mesh_ply.specs.Errors.{IsErrorOf};
 
 use crate::cursor::{Cursor, take_scalar};
 use crate::declarations::{Axis, ScalarType};
@@ -33,8 +35,7 @@ pub(crate) fn read_scalar_property<'a>(
     kind: ScalarType,
     cursor: Cursor<'a>,
 ) -> Result<Cursor<'a>, PlyFault>
-    ensures ok { IfOk result (λ c. scalar_property place axis kind (row_of row.old) (cursor_of cursor.entry)
-        ≡ Ok (row_of row.new, cursor_of c)) }
+    ensures ok { IfOk result (ReadsRow (scalar_property place axis kind) row.old cursor.entry row.new) }
     ensures fault { IfErr result (λ e.
         scalar_property place axis kind (row_of row.old) (cursor_of cursor.entry) ≡ Err e) }
     ensures left { IfOk result (λ c. left_at c < left_at cursor.entry) }
@@ -62,10 +63,8 @@ fn read_corners<'a>(
     size: u64,
     cursor: Cursor<'a>,
 ) -> Result<Cursor<'a>, PlyFault>
-    ensures ok { IfOk result (λ c. corners_from place item size [] (cursor_of cursor.entry)
-        ≡ Ok (corners.new.items, cursor_of c)) }
-    ensures fault { IfErr result (λ e. (e ≡ PlyFault.OutOfMemory)
-        ⊎ (corners_from place item size [] (cursor_of cursor.entry) ≡ Err e)) }
+    ensures ok { IfOk result (IsReadTo corners.new.items (corners_from place item size [] (cursor_of cursor.entry))) }
+    ensures fault { IfErr result (IsErrorOf (corners_from place item size [] (cursor_of cursor.entry))) }
     ensures left { IfOk result (λ c. left_at c ≤ left_at cursor.entry) }
 {
     corners.clear();
@@ -113,10 +112,8 @@ fn read_items<'a>(
     size: u64,
     cursor: Cursor<'a>,
 ) -> Result<Cursor<'a>, PlyFault>
-    ensures ok { IfOk result (λ c. list_of_size place are_corners item size (row_of row.old) (cursor_of cursor.entry)
-        ≡ Ok (row_of row.new, cursor_of c)) }
-    ensures fault { IfErr result (λ e. (e ≡ PlyFault.OutOfMemory)
-        ⊎ (list_of_size place are_corners item size (row_of row.old) (cursor_of cursor.entry) ≡ Err e)) }
+    ensures ok { IfOk result (ReadsRow (list_of_size place are_corners item size) row.old cursor.entry row.new) }
+    ensures fault { IfErr result (IsRowError (list_of_size place are_corners item size) row.old cursor.entry) }
     ensures left { IfOk result (λ c. left_at c ≤ left_at cursor.entry) }
 {
     if !are_corners {
@@ -135,10 +132,8 @@ pub(crate) fn read_list_property<'a>(
     item: ScalarType,
     cursor: Cursor<'a>,
 ) -> Result<Cursor<'a>, PlyFault>
-    ensures ok { IfOk result (λ c. list_property place are_corners size item (row_of row.old) (cursor_of cursor.entry)
-        ≡ Ok (row_of row.new, cursor_of c)) }
-    ensures fault { IfErr result (λ e. (e ≡ PlyFault.OutOfMemory)
-        ⊎ (list_property place are_corners size item (row_of row.old) (cursor_of cursor.entry) ≡ Err e)) }
+    ensures ok { IfOk result (ReadsRow (list_property place are_corners size item) row.old cursor.entry row.new) }
+    ensures fault { IfErr result (IsRowError (list_property place are_corners size item) row.old cursor.entry) }
     ensures left { IfOk result (λ c. left_at c < left_at cursor.entry) }
 {
     let (size, rest) = read_one(place, size, cursor)?;

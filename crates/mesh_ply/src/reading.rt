@@ -1,9 +1,10 @@
 // The reading of a file.
-ghost use Rattle.std.specs.Prelude.{◌≡◌, ◌⊎◌, ◌≤◌, length, Ok, Err, IfOk, IfErr};
+ghost use Rattle.std.specs.Prelude.{◌≡◌, ◌≤◌, length, Ok, Err, IfOk, IfErr};
 ghost use Rattle.ember_model.specs.Limits.{most_bytes};
-ghost use Rattle.mesh_read.specs.Surface.Surfaces.{IsSurface, content_of, no_content};
+ghost use Rattle.mesh_read.specs.Surface.Surfaces.{IsSurface, content_of, no_content, IsSurfaceOf};
 ghost use Rattle.mesh_ply.specs.ReadPly.{elements_from, content_of_file, read_ply_of};
 ghost use Rattle.mesh_ply.specs.Cursors.{begun};
+ghost use Rattle.mesh_ply.specs.Errors.{IsErrorOf};
 
 use crate::cursor::first_cursor;
 use crate::declarations::{Declaration, Encoding};
@@ -22,10 +23,8 @@ fn read_body<'a>(
     body: &'a [u8],
 ) -> Result<Surface<'a>, PlyFault>
     requires { length body.now ≤ most_bytes }
-    ensures ok { IfOk result (λ s.
-        elements_from declarations.now no_content (begun encoding body.entry.now) ≡ Ok (content_of s)) }
-    ensures fault { IfErr result (λ e. (e ≡ PlyFault.OutOfMemory)
-        ⊎ (elements_from declarations.now no_content (begun encoding body.entry.now) ≡ Err e)) }
+    ensures ok { IfOk result (IsSurfaceOf (elements_from declarations.now no_content (begun encoding body.entry.now))) }
+    ensures fault { IfErr result (IsErrorOf (elements_from declarations.now no_content (begun encoding body.entry.now))) }
 {
     let mut surface = Surface {
         vertices: Vec::new(alloc),
@@ -47,7 +46,7 @@ fn read_body<'a>(
 fn read_content<'a>(alloc: Global, bytes: &'a [u8]) -> Result<Surface<'a>, PlyFault>
     requires { length bytes.now ≤ most_bytes }
     ensures ok { IfOk result (λ s. content_of_file bytes.entry.now ≡ Ok (content_of s)) }
-    ensures fault { IfErr result (λ e. (e ≡ PlyFault.OutOfMemory) ⊎ (content_of_file bytes.entry.now ≡ Err e)) }
+    ensures fault { IfErr result (IsErrorOf (content_of_file bytes.entry.now)) }
 {
     let (header, body) = read_header(alloc, bytes)?;
     let Some(encoding) = header.encoding else {
@@ -61,7 +60,7 @@ fn read_content<'a>(alloc: Global, bytes: &'a [u8]) -> Result<Surface<'a>, PlyFa
 fn read_mesh<'a>(alloc: Global, bytes: &'a [u8]) -> Result<Surface<'a>, PlyFault>
     requires { length bytes.now ≤ most_bytes }
     ensures ok { IfOk result (λ s. read_ply_of bytes.now ≡ Ok (content_of s)) }
-    ensures fault { IfErr result (λ e. (e ≡ PlyFault.OutOfMemory) ⊎ (read_ply_of bytes.now ≡ Err e)) }
+    ensures fault { IfErr result (IsErrorOf (read_ply_of bytes.now)) }
 {
     let surface = read_content(alloc, bytes)?;
     Ok(as_mesh(surface)?)
@@ -85,7 +84,7 @@ pub fn read_ply<'a>(alloc: Global, text: &'a [u8]) -> Result<Surface<'a>, PlyFau
     requires { length text.now ≤ most_bytes }
     ensures ok { IfOk result (λ s. read_ply_of text.now ≡ Ok (content_of s)) }
     ensures surface { IfOk result IsSurface }
-    ensures fault { IfErr result (λ e. (e ≡ PlyFault.OutOfMemory) ⊎ (read_ply_of text.now ≡ Err e)) }
+    ensures fault { IfErr result (IsErrorOf (read_ply_of text.now)) }
 {
     read_mesh(alloc, text)
 }

@@ -1,8 +1,10 @@
 // Whole rows.
-ghost use Rattle.std.specs.Prelude.{◌≡◌, ◌⊎◌, ◌≤◌, ◌<◌, true, Ok, Err, IfOk, IfErr};
+ghost use Rattle.std.specs.Prelude.{◌≡◌, ◌≤◌, ◌<◌, true, Ok, Err, IfOk, IfErr};
 ghost use Rattle.mesh_ply.specs.CursorViews.{cursor_of, left_at};
-ghost use Rattle.mesh_ply.specs.Rows.{empty_row, begins_property, properties, row_at};
+ghost use Rattle.mesh_ply.specs.Rows.{begins_property, properties, row_at};
 ghost use Rattle.mesh_ply.specs.RowViews.{row_of};
+ghost use Rattle.mesh_ply.specs.ReadingViews.{IsReadTo, IsRowError, ReadsRow};
+ghost use Rattle.mesh_ply.specs.Errors.{IsErrorOf};
 
 use crate::cursor::{Cursor, enter_row};
 use crate::declarations::Declaration;
@@ -18,10 +20,8 @@ fn read_properties<'a>(
     declarations: &[Declaration],
     cursor: Cursor<'a>,
 ) -> Result<Cursor<'a>, PlyFault>
-    ensures ok { IfOk result (λ c. properties place declarations.now (row_of row.old) (cursor_of cursor.entry)
-        ≡ Ok (row_of row.new, cursor_of c)) }
-    ensures fault { IfErr result (λ e. (e ≡ PlyFault.OutOfMemory)
-        ⊎ (properties place declarations.now (row_of row.old) (cursor_of cursor.entry) ≡ Err e)) }
+    ensures ok { IfOk result (ReadsRow (properties place declarations.now) row.old cursor.entry row.new) }
+    ensures fault { IfErr result (IsRowError (properties place declarations.now) row.old cursor.entry) }
     ensures left { IfOk result (λ c. left_at c ≤ left_at cursor.entry) }
     ensures shorter { IfOk result (λ c. begins_property declarations.now ≡ true → left_at c < left_at cursor.entry) }
 {
@@ -49,10 +49,8 @@ pub(crate) fn read_row<'a>(
     declarations: &[Declaration],
     cursor: Cursor<'a>,
 ) -> Result<Cursor<'a>, PlyFault>
-    ensures ok { IfOk result (λ c. row_at place declarations.now (cursor_of cursor.entry)
-        ≡ Ok (row_of row.new, cursor_of c)) }
-    ensures fault { IfErr result (λ e. (e ≡ PlyFault.OutOfMemory)
-        ⊎ (row_at place declarations.now (cursor_of cursor.entry) ≡ Err e)) }
+    ensures ok { IfOk result (IsReadTo (row_of row.new) (row_at place declarations.now (cursor_of cursor.entry))) }
+    ensures fault { IfErr result (IsErrorOf (row_at place declarations.now (cursor_of cursor.entry))) }
     ensures shorter { IfOk result (λ c. begins_property declarations.now ≡ true → left_at c < left_at cursor.entry) }
 {
     clear_row(row);

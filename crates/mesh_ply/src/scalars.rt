@@ -1,12 +1,13 @@
 // Numbers in the rows of a file.
-ghost use Rattle.std.specs.Prelude.{◌≡◌, ◌≤◌, ◌<◌, length, slice_index, take, drop, min, MatchOption, IfSome, Some, None};
+ghost use Rattle.std.specs.Prelude.{◌≡◌, ◌<◌, length, slice_index, min, MatchOption, IfSome, Some, None};
 ghost use Rattle.std.specs.Option.{option_map};
 ghost use Rattle.std.specs.Int.{w16, w32, w64};
 ghost use Rattle.mesh_number.specs.Number.Naturals.{below};
 ghost use Rattle.mesh_number.specs.Number.Values.{value_of};
-ghost use Rattle.mesh_ply.specs.Scalars.{value_of_scalar, natural_of, number_of_scalar, bits_of};
-ghost use Rattle.mesh_ply.specs.Cursors.{Bytes, next_of_bytes};
-ghost use Rattle.mesh_ply.specs.CursorViews.{scalar_of};
+ghost use Rattle.mesh_ply.specs.Scalars.{value_of_scalar, natural_of, number_of_scalar, bits_of, BeginWith};
+ghost use Rattle.mesh_ply.specs.Cursors.{next_of_bytes};
+ghost use Rattle.mesh_ply.specs.CursorViews.{scalar_of, scalar_before};
+ghost use Rattle.mesh_read.specs.Scan.Found.{IsFoundAs};
 
 use crate::declarations::{ByteOrder, ScalarType};
 use mesh_number::{MOST, Number, binary32, binary64, integer, number_in, read_decimal};
@@ -67,8 +68,7 @@ pub(crate) fn index_below<'a>(limit: u32, scalar: Scalar<'a>) -> Option<u32>
 // The number in the first two bytes, and what follows them.
 #[tactic(none)]
 fn split_u16(order: ByteOrder, bytes: &[u8]) -> Option<(u16, &[u8])>
-    ensures { MatchOption result (length bytes.now < 2) (λ p.
-        (p.0 ≡ bits_of order w16 (take 2 bytes.now)) × (p.1.now ≡ drop 2 bytes.now) × (2 ≤ length bytes.now)) }
+    ensures { MatchOption result (length bytes.now < 2) (λ p. BeginWith 2 (bits_of order w16) bytes.now p.0 p.1.now) }
 {
     let (front, rest) = bytes.split_first_chunk::<2>()?;
     let number = match order {
@@ -81,8 +81,7 @@ fn split_u16(order: ByteOrder, bytes: &[u8]) -> Option<(u16, &[u8])>
 // The same of four bytes.
 #[tactic(auto, unfolding(crate::specs::Scalars::bits_of))]
 fn split_u32(order: ByteOrder, bytes: &[u8]) -> Option<(u32, &[u8])>
-    ensures { MatchOption result (length bytes.now < 4) (λ p.
-        (p.0 ≡ bits_of order w32 (take 4 bytes.now)) × (p.1.now ≡ drop 4 bytes.now) × (4 ≤ length bytes.now)) }
+    ensures { MatchOption result (length bytes.now < 4) (λ p. BeginWith 4 (bits_of order w32) bytes.now p.0 p.1.now) }
 {
     let (front, rest) = bytes.split_first_chunk::<4>()?;
     let number = match order {
@@ -95,8 +94,7 @@ fn split_u32(order: ByteOrder, bytes: &[u8]) -> Option<(u32, &[u8])>
 // The same of eight bytes.
 #[tactic(auto, unfolding(crate::specs::Scalars::bits_of))]
 fn split_u64(order: ByteOrder, bytes: &[u8]) -> Option<(u64, &[u8])>
-    ensures { MatchOption result (length bytes.now < 8) (λ p.
-        (p.0 ≡ bits_of order w64 (take 8 bytes.now)) × (p.1.now ≡ drop 8 bytes.now) × (8 ≤ length bytes.now)) }
+    ensures { MatchOption result (length bytes.now < 8) (λ p. BeginWith 8 (bits_of order w64) bytes.now p.0 p.1.now) }
 {
     let (front, rest) = bytes.split_first_chunk::<8>()?;
     let number = match order {
@@ -107,8 +105,7 @@ fn split_u64(order: ByteOrder, bytes: &[u8]) -> Option<(u64, &[u8])>
 }
 
 fn split_u8(bytes: &[u8]) -> Option<(u8, &[u8])>
-    ensures { MatchOption result (length bytes.now < 1) (λ p.
-        (p.0 ≡ slice_index (take 1 bytes.now) 0) × (p.1.now ≡ drop 1 bytes.now) × (1 ≤ length bytes.now)) }
+    ensures { MatchOption result (length bytes.now < 1) (λ p. BeginWith 1 (λ b. slice_index b 0) bytes.now p.0 p.1.now) }
 {
     let (front, rest) = bytes.split_first()?;
     Some((*front, rest))
@@ -120,8 +117,7 @@ pub(crate) fn split_scalar<'a>(
     order: ByteOrder,
     bytes: &'a [u8],
 ) -> Option<(Scalar<'a>, &'a [u8])>
-    ensures scalar { MatchOption result (next_of_bytes kind order bytes.entry.now ≡ None)
-        (λ p. next_of_bytes kind order bytes.entry.now ≡ Some (scalar_of p.0, Bytes order p.1.now)) }
+    ensures scalar { IsFoundAs (λ p. scalar_before order p.0 p.1.now) (next_of_bytes kind order bytes.entry.now) result }
     ensures shorter { IfSome result (λ p. length p.1.now < length bytes.entry.now) }
 {
     match kind {

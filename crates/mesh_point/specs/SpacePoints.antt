@@ -3,10 +3,8 @@ use Rattle.std.specs.Prelude.{◌≡◌, ℤ, pos, neg_ℤ, ◌+ℤ◌, ◌*ℤ�
 use Rattle.ember_model.specs.declared.point.Axis.{Axis}
 use Rattle.ember_model.specs.declared.point.Axis.TheVariants.{X, Y, Z}
 use Rattle.ember_model.specs.declared.point.Spot.{Spot}
-use Rattle.ember_algebra.specs.Size.{Small}
 use Rattle.ember_algebra.specs.Vector.{Vector}
 use Rattle.ember_width.specs.Broad.{IsRemainder}
-use Rattle.mesh_point.specs.Rests.{most_corner_weight}
 use Rattle.mesh_point.specs.declared.space_point.SpacePoint.{SpacePoint}
 
 -- the rational point: a coordinate is its floor and the remainder over the weight
@@ -42,9 +40,8 @@ pub record IsNear (x w : ℤ) : Type 0 where
   pub at_least : neg_ℤ (pos 2147483647 *ℤ w) ≤ℤ x
   pub below : x <ℤ (pos 2147483648 *ℤ w)
 
--- each coordinate is, and the weight is that of a corner
+-- each coordinate is
 pub record IsInReach (s : Spot) : Type 0 where
   pub x : IsNear s.x s.w
   pub y : IsNear s.y s.w
   pub z : IsNear s.z s.w
-  pub w : Small most_corner_weight s.w

@@ -12,9 +12,6 @@ use ember_point::Meet;
 // Numbers of at most this size are short: 2^62 - 1.
 const MOST_SHORT: i128 = 4611686018427387903;
 
-// The greatest weight of a corner: 2^75 - 1.
-const MOST_WEIGHT: i128 = 37778931862957161709567;
-
 // A floor and a remainder.
 #[derive(Clone, Copy)]
 struct Place {
@@ -51,14 +48,10 @@ fn place_of(x: i128, w: i128) -> Option<Place>
     Some(Place { floor, rest })
 }
 
-/// The point of a meet, by its floors. None if one of them is 2^31 or more in size, or the weight 2^75
-/// or more.
+/// The point of a meet, by its floors. None if one of them is 2^31 or more in size.
 pub fn point_of_meet(m: &Meet) -> Option<SpacePoint>
     ensures { MatchOption result (IsInReach (meets.spot_of m.now) → ⊥) (λ p. spot_of p ≡ meets.spot_of m.now) }
 {
-    if m.w > MOST_WEIGHT {
-        return None;
-    }
     let x = place_of(m.x, m.w)?;
     let y = place_of(m.y, m.w)?;
     let z = place_of(m.z, m.w)?;

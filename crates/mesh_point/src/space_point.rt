@@ -3,7 +3,7 @@ ghost use Rattle.mesh_point.specs.Rests.{AreRests};
 
 /// The point `(floor_x + x / w, floor_y + y / w, floor_z + z / w)` of space. The floors are those of
 /// its coordinates, so `x`, `y` and `z` are remainders: from 0 to `w - 1`. The weight is from 1 to
-/// below 2^75. A corner of the grid has the weight 1 and the remainders 0.
+/// below 2^123. A corner of the grid has the weight 1 and the remainders 0.
 #[derive(Clone, Copy, Debug, PartialEq, Eq, Hash)]
 pub struct SpacePoint {
     pub floor_x: i32,

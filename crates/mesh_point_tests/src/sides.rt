@@ -29,10 +29,10 @@ const FARTHEST: SpacePoint = SpacePoint {
     floor_x: 2147483647,
     floor_y: 2147483647,
     floor_z: 2147483647,
-    x: 37778931862957161709566,
-    y: 37778931862957161709566,
-    z: 37778931862957161709566,
-    w: 37778931862957161709567,
+    x: 7975367974687734572669798827746656249,
+    y: 7975367974687734572669798827746656249,
+    z: 7975367974687734572669798827746656249,
+    w: 7975367974687734572669798827746656250,
 };
 
 const SHORT: SpacePoint = SpacePoint {
@@ -95,6 +95,36 @@ const HEAVY_UP: SpacePoint = SpacePoint {
     w: 37778931862957161709567,
 };
 
+const HEAVIEST: SpacePoint = SpacePoint {
+    floor_x: 5,
+    floor_y: 5,
+    floor_z: 0,
+    x: 7975367974687734572669798827746656249,
+    y: 7975367974687734572669798827746656249,
+    z: 0,
+    w: 7975367974687734572669798827746656250,
+};
+
+const HEAVIEST_RIGHT: SpacePoint = SpacePoint {
+    floor_x: 5,
+    floor_y: 5,
+    floor_z: 0,
+    x: 7975367974687734572669798827746656249,
+    y: 7975367974687734572669798827746656248,
+    z: 0,
+    w: 7975367974687734572669798827746656250,
+};
+
+const HEAVIEST_UP: SpacePoint = SpacePoint {
+    floor_x: 5,
+    floor_y: 5,
+    floor_z: 0,
+    x: 7975367974687734572669798827746656248,
+    y: 7975367974687734572669798827746656249,
+    z: 0,
+    w: 7975367974687734572669798827746656250,
+};
+
 const ORIGIN: SpacePoint = SpacePoint {
     floor_x: 0,
     floor_y: 0,
@@ -109,10 +139,10 @@ const END_OF_CUBE: SpacePoint = SpacePoint {
     floor_x: 0,
     floor_y: 0,
     floor_z: 0,
-    x: 37778931862957161709566,
-    y: 37778931862957161709566,
-    z: 37778931862957161709566,
-    w: 37778931862957161709567,
+    x: 7975367974687734572669798827746656249,
+    y: 7975367974687734572669798827746656249,
+    z: 7975367974687734572669798827746656249,
+    w: 7975367974687734572669798827746656250,
 };
 
 const MOST_NORMAL: i64 = 1_099_511_627_775;
@@ -133,7 +163,7 @@ fn plane(numbers: [i64; 4]) -> Plane
 
 #[test]
 fn sides(rt: HostRuntime) {
-    let rows: [([i64; 4], SpacePoint, Sign); 15] = [
+    let rows: [([i64; 4], SpacePoint, Sign); 18] = [
         // a corner on a plane
         ([1, 1, 1, 6], ONE_TWO_THREE, Sign::Zero),
         // in front of it
@@ -176,7 +206,7 @@ fn sides(rt: HostRuntime) {
         ),
         // one part behind it
         ([1099511627775, -1099511627775, 0, 0], SHORT_UP, Sign::Neg),
-        // on it, with the greatest weight
+        // on it, with a weight of 75 bits
         ([1099511627775, -1099511627775, 0, 0], HEAVY, Sign::Zero),
         // one part in front
         (
@@ -186,6 +216,20 @@ fn sides(rt: HostRuntime) {
         ),
         // one part behind
         ([1099511627775, -1099511627775, 0, 0], HEAVY_UP, Sign::Neg),
+        // on it, with the greatest weight
+        ([1099511627775, -1099511627775, 0, 0], HEAVIEST, Sign::Zero),
+        // one part in front
+        (
+            [1099511627775, -1099511627775, 0, 0],
+            HEAVIEST_RIGHT,
+            Sign::Pos,
+        ),
+        // one part behind
+        (
+            [1099511627775, -1099511627775, 0, 0],
+            HEAVIEST_UP,
+            Sign::Neg,
+        ),
         // a plane three entries away from the least corner of the cube
         (
             [1099511627775, 1099511627775, 1099511627775, -3298534883325],

@@ -63,6 +63,18 @@ facets_more all vertices items new (suc left) rows more row some so_far is read 
     ∙ joined_more items new (facets_in vertices row) (facets_of vertices (take left more)) read
     ∙ ap (λ n. in_front new (facets_of vertices (take n more))) (sym less)
 
+-- the fault of a row is that of all rows
+pub facets_fault : (all : Result (List Facet) OffFault) (vertices : ℕ) (items : List Facet) (fault : OffFault) (left : ℕ)
+    (rows more : List Words) (row : Words) → 0 < left → all ≡ in_front items (facets_of vertices (take left rows)) →
+    rows ≡ row ∷ more → (fault ≡ OutOfMemory) ⊎ (facets_in vertices row ≡ Err fault) →
+    (fault ≡ OutOfMemory) ⊎ (all ≡ Err fault)
+facets_fault all vertices items fault left rows more row some so_far is (inl memory) = inl memory
+facets_fault all vertices items fault zero rows more row some so_far is (inr read) = absurd (omega arith)
+facets_fault all vertices items fault (suc left) rows more row some so_far is (inr read) =
+    inr (so_far
+    ∙ ap (λ rs. in_front items (facets_of vertices (take (suc left) rs))) is
+    ∙ ap (λ r. in_front items (joined r (facets_of vertices (take left more)))) read)
+
 -- the rows after the first n
 pub drop_more : (n left : ℕ) (all rows more : List Words) (row : Words) → 0 < left → drop n all ≡ drop left rows →
     rows ≡ row ∷ more → drop n all ≡ drop (left - 1) more

@@ -4,3 +4,4 @@ pub mod RowViews
 pub mod ReadOff
 pub mod Limits
 pub mod Signs
+pub mod Errors

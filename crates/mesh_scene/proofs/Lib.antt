@@ -5,6 +5,8 @@ pub mod LooseEdges
 pub mod Meshes
 pub mod Scenes
 pub mod SceneFaults
+pub mod Tries
+pub mod FirstSteps
 pub mod Parts
 pub mod LowestTerms
 pub mod MeshTriangles

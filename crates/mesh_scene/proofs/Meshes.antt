@@ -2,7 +2,7 @@
 use Rattle.std.proofs.Common.{◌≡◌, ℕ, suc, ◌+◌, ◌<◌, Bool, true, false, cond, List, [], ◌∷◌, ◌++◌, map, length, take}
 use Rattle.std.proofs.Common.{get_or, refl, sym, ap, ◌∙◌, arith, length-append}
 use Rattle.std.specs.List.{flat_map}
-use Rattle.std.proofs.lemmas.List.{take_more, length-map, length-take-le}
+use Rattle.std.proofs.lemmas.List.{append-nil, take_more, length-map, length-take-le}
 use Rattle.std.proofs.lemmas.Grind.{flat_map-append}
 use Rattle.mesh_read.specs.declared.surface.surface.Surface.{Surface}
 use Rattle.mesh_read.specs.declared.surface.surface.Facet.{Facet}
@@ -56,18 +56,22 @@ meshes_more g ss i d l =
     e : 1 + length (take i ss) ≡ i + 1
     e = let t = length-take-le i ss (omega (arith, l)) in omega (arith, t)
 
+-- the triangles of one surface more
+pub images_more : (g : Grid) (ss : List Surface) (i : ℕ) (d : Surface) → i < length ss →
+    images_of g (take (i + 1) ss) ≡ images_of g (take i ss) ++ images_on g (i + 1) (get_or ss i d)
+images_more g ss i d l =
+    ap (flat_map (λ ts. ts)) (meshes_more g ss i d l)
+    ∙ flat_map-append (λ ts. ts) (meshes_on g 1 (take i ss)) (images_on g (i + 1) (get_or ss i d) ∷ [])
+    ∙ ap (λ (rest : List Tri). images_of g (take i ss) ++ rest) (append-nil (images_on g (i + 1) (get_or ss i d)))
+
 -- the number of triangles with those of one surface more
 pub length-images_more : (g : Grid) (ss : List Surface) (i : ℕ) (d : Surface) → i < length ss →
     length (images_of g (take (i + 1) ss)) ≡ length (images_of g (take i ss)) + length (images_on g 0 (get_or ss i d))
 length-images_more g ss i d l =
-    let all : images_of g (take (i + 1) ss) ≡ images_of g (take i ss) ++ (images_on g (i + 1) (get_or ss i d) ++ []) =
-    ap (flat_map (λ ts. ts)) (meshes_more g ss i d l)
-    ∙ flat_map-append (λ ts. ts) (meshes_on g 1 (take i ss)) (images_on g (i + 1) (get_or ss i d) ∷ []) in
-    let a = ap length all in
-    let b = length-append (images_of g (take i ss)) (images_on g (i + 1) (get_or ss i d) ++ []) in
-    let c = length-append (images_on g (i + 1) (get_or ss i d)) [] in
+    let a = ap length (images_more g ss i d l) in
+    let b = length-append (images_of g (take i ss)) (images_on g (i + 1) (get_or ss i d)) in
     let e = length-images_on g (i + 1) 0 (get_or ss i d) in
-    omega (arith, a, b, c, e)
+    omega (arith, a, b, e)
 
 -- as many meshes as surfaces
 pub length-meshes_on : (g : Grid) (m : ℕ) (ss : List Surface) → length (meshes_on g m ss) ≡ length ss

@@ -1,19 +1,19 @@
 -- The closed meshes of surfaces: the first that is open or too large, and all of them together
 use Rattle.std.proofs.Common.{◌≡◌, ℕ, zero, suc, ◌+◌, ◌<◌, ◌≤◌, true, false, Some, List, [], ◌∷◌, ◌++◌, map, length}
-use Rattle.std.proofs.Common.{take, get_or, refl, sym, ap, subst, ◌∙◌, arith, length-append}
+use Rattle.std.proofs.Common.{take, get_or, refl, sym, ap, subst, ◌∙◌, arith, length-append, eqb}
 use Rattle.std.specs.List.{All, flat_map, take_while, slice_get}
 use Rattle.std.proofs.lemmas.Bool.{le-leb, lt-leb}
 use Rattle.std.proofs.lemmas.Option.{slice_get-get_or}
-use Rattle.std.proofs.lemmas.List.{take_more, map-append, length-map}
-use Rattle.std.proofs.lemmas.List.Elements.{All-nil, All-cons, All-head, All-tail}
+use Rattle.std.proofs.lemmas.List.{take_more, map-append}
+use Rattle.std.proofs.lemmas.List.Elements.{All-nil, All-cons, All-head, All-tail, All-push, All-append, filter-append}
 use Rattle.std.proofs.lemmas.List.Sums.{take_while-cons}
 use Rattle.std.proofs.lemmas.List.Concat.{flat_map-cons}
-use Rattle.std.proofs.lemmas.List.Folds.{flat_map-map}
 use Rattle.mesh_read.specs.declared.surface.surface.Surface.{Surface}
 use Rattle.ember_model.specs.declared.tri.Tri.{Tri}
-use Rattle.ember_model.specs.Meshes.{IsBalanced}
-use Rattle.ember_mesh.specs.declared.states.Closed.{Closed}
-use Rattle.ember_mesh.specs.Joined.{triangles_of, AreNumbered}
+use Rattle.ember_model.specs.Meshes.{of_mesh, HasMesh, IsBalanced}
+use Rattle.ember_model.specs.Within.{IsTriWithin}
+use Rattle.ember_balance.proofs.Balanced.{balanced-nil, balanced-append, balanced_of_mesh}
+use Rattle.ember_width.specs.Scenes.{IsSceneWithin}
 use Rattle.mesh_grid.specs.declared.grid.grid.Grid.{Grid}
 use Rattle.mesh_grid.specs.Grid.Corners.{corner_at}
 use Rattle.mesh_grid.proofs.Growing.{images_of_mesh}
@@ -21,15 +21,9 @@ use Rattle.mesh_scene.specs.declared.scene.counts.Counts.{Counts}
 use Rattle.mesh_scene.specs.declared.scene.fault.Open.{Open}
 use Rattle.mesh_scene.specs.Scene.Images.{images_on, places_on, meshes_on, images_of, counts_on}
 use Rattle.mesh_scene.specs.Scene.Faults.{has_few, IsClosedMesh, IsOpenMesh, IsFirstOpen}
-use Rattle.mesh_scene.proofs.Meshes.{length-images_on, length-meshes_on, meshes_more}
+use Rattle.mesh_scene.proofs.Meshes.{length-images_on, meshes_more, images_more}
 
 -- ---- closed meshes
--- the parts that the code keeps are closed meshes
-pub parts_are_closed : (parts : List Closed) → All IsClosedMesh (map (λ part. part.tris) parts)
-parts_are_closed [] = All-nil IsClosedMesh
-parts_are_closed (part ∷ parts) =
-    All-cons IsClosedMesh part.tris (map (λ part. part.tris) parts) (record { few = part.few; balanced = part.balanced }) (parts_are_closed parts)
-
 small : (ts : List Tri) → length ts ≤ 262144 → has_few ts ≡ true
 small ts l = le-leb (length ts) 262144 l
 
@@ -91,14 +85,21 @@ images_are_among g m (suc k) (t ∷ ts) s f =
 pub surface_at : (ss : List Surface) (i : ℕ) (s : Surface) → i < length ss → s ≡ get_or ss i s → slice_get ss i ≡ Some s
 surface_at ss i s l e = slice_get-get_or ss i s l ∙ ap (λ (t : Surface). Some t) (sym e)
 
--- the parts with that of one surface more
-pub parts_more : (g : Grid) (ss : List Surface) (i : ℕ) (s : Surface) (before after : List Closed) (part : Closed) →
-    i < length ss → s ≡ get_or ss i s → map (λ part. part.tris) before ≡ meshes_on g 1 (take i ss) →
-    after ≡ before ++ part ∷ [] → part.tris ≡ images_on g (i + 1) s →
-    map (λ part. part.tris) after ≡ meshes_on g 1 (take (i + 1) ss)
-parts_more g ss i s before after part l e h p q =
-    ap (map (λ (part : Closed). part.tris)) p ∙ map-append (λ part. part.tris) before (part ∷ [])
-    ∙ (λ k. h k ++ (q ∙ ap (images_on g (i + 1)) e) k ∷ []) ∙ sym (meshes_more g ss i s l)
+-- the triangles with those of one surface more
+pub tris_more : (g : Grid) (ss : List Surface) (i : ℕ) (s : Surface) (before after tris : List Tri) → i < length ss →
+    s ≡ get_or ss i s → before ≡ images_of g (take i ss) → after ≡ before ++ tris → tris ≡ images_on g (i + 1) s →
+    after ≡ images_of g (take (i + 1) ss)
+tris_more g ss i s before after tris l e h p q =
+    p ∙ (λ k. h k ++ (q ∙ ap (images_on g (i + 1)) e) k) ∙ sym (images_more g ss i s l)
+
+-- and one closed mesh more
+pub closed_more : (g : Grid) (ss : List Surface) (i : ℕ) (s : Surface) (tris : List Tri) → i < length ss →
+    s ≡ get_or ss i s → All IsClosedMesh (meshes_on g 1 (take i ss)) → tris ≡ images_on g (i + 1) s → IsClosedMesh tris →
+    All IsClosedMesh (meshes_on g 1 (take (i + 1) ss))
+closed_more g ss i s tris l e h q closed =
+    subst (All IsClosedMesh) (sym (meshes_more g ss i s l))
+    (All-push IsClosedMesh (meshes_on g 1 (take i ss)) (images_on g (i + 1) (get_or ss i s)) h
+    (subst IsClosedMesh (q ∙ ap (images_on g (i + 1)) e) closed))
 
 -- the counts with those of one surface more
 pub counts_more : (g : Grid) (ss : List Surface) (i : ℕ) (s : Surface) (before after : List Counts) (counts : Counts) →
@@ -121,22 +122,46 @@ first_open_at g ss i s o f b e h = record {
 }
 
 -- ---- all meshes together
--- the triangles of the parts are those of all surfaces
-pub joined_images : (g : Grid) (ss : List Surface) (parts : List Closed) →
-    map (λ part. part.tris) parts ≡ meshes_on g 1 ss → triangles_of parts ≡ images_of g ss
-joined_images g ss parts e =
-    sym (flat_map-map (λ ts. ts) (λ part. part.tris) parts) ∙ ap (flat_map (λ ts. ts)) e
+balanced_images : (mesh k : ℕ) (g : Grid) (ss : List Surface) → All IsClosedMesh (meshes_on g k ss) →
+    IsBalanced (of_mesh mesh (flat_map (λ ts. ts) (meshes_on g k ss)))
+balanced_images mesh k g [] h = balanced-nil
+balanced_images mesh k g (s ∷ ss) h =
+    let ts = images_on g k s in
+    let rest = flat_map (λ ts. ts) (meshes_on g (k + 1) ss) in
+    let first = All-head IsClosedMesh ts (meshes_on g (k + 1) ss) h in
+    subst IsBalanced (sym (filter-append (λ t. eqb t.mesh mesh) ts rest))
+    (balanced-append (of_mesh mesh ts) (of_mesh mesh rest)
+    (balanced_of_mesh mesh k ts (images_of_mesh (corner_at g s.vertices.items) k s.facets.items) first.balanced)
+    (balanced_images mesh (k + 1) g ss (All-tail IsClosedMesh ts (meshes_on g (k + 1) ss) h)))
 
--- the parts have the numbers from m on
-pub parts_are_numbered : (g : Grid) (m : ℕ) (ss : List Surface) (parts : List Closed) → map (λ part. part.tris) parts ≡ meshes_on g m ss → AreNumbered m parts
-parts_are_numbered g m ss [] e = tt
-parts_are_numbered g m [] (part ∷ parts) e = cc
-parts_are_numbered g m (s ∷ ss) (part ∷ parts) e =
-    let first : part.tris ≡ images_on g m s = cc in
-    let rest : map (λ part. part.tris) parts ≡ meshes_on g (m + 1) ss = cc in
-    (subst (All (λ t. t.mesh ≡ m)) (sym first) (images_of_mesh (corner_at g s.vertices.items) m s.facets.items), parts_are_numbered g (m + 1) ss parts rest)
+has_mesh : (most k : ℕ) (ts : List Tri) → 1 ≤ k → k ≤ most → All (λ t. t.mesh ≡ k) ts → All (HasMesh most) ts
+has_mesh most k ts l u h i d b =
+    let e = h i d b in record { first = omega (arith, e, l); last = omega (arith, e, u) }
 
--- there are as many parts as surfaces
-pub parts_are_as_many : (g : Grid) (ss : List Surface) (parts : List Closed) → map (λ part. part.tris) parts ≡ meshes_on g 1 ss → length parts ≡ length ss
-parts_are_as_many g ss parts e =
-    sym (length-map parts (λ part. part.tris)) ∙ ap length e ∙ length-meshes_on g 1 ss
+numbered_images : (most k : ℕ) (g : Grid) (ss : List Surface) → 1 ≤ k → k + length ss ≤ most + 1 →
+    All (HasMesh most) (flat_map (λ ts. ts) (meshes_on g k ss))
+numbered_images most k g [] l u = All-nil (HasMesh most)
+numbered_images most k g (s ∷ ss) l u =
+    All-append (HasMesh most) (images_on g k s) (flat_map (λ ts. ts) (meshes_on g (k + 1) ss))
+    (has_mesh most k (images_on g k s) l (omega (arith, u)) (images_of_mesh (corner_at g s.vertices.items) k s.facets.items))
+    (numbered_images most (k + 1) g ss (omega (arith, l)) (omega (arith, u)))
+
+-- the triangles of at most 64 closed meshes are a scene, if there are at most 262,144
+pub images_are_scene : (m : ℕ) (g : Grid) (ss : List Surface) → All IsClosedMesh (meshes_on g 1 ss) →
+    All (IsTriWithin m) (images_of g ss) → length ss ≤ 64 → length (images_of g ss) ≤ 262144 →
+    IsSceneWithin m (images_of g ss) (length ss)
+images_are_scene m g ss closed within most few = record {
+  within = within;
+  few = few;
+  few_meshes = most;
+  numbered = numbered_images (length ss) 1 g ss (omega arith) (omega arith);
+  balanced = λ mesh. balanced_images mesh 1 g ss closed;
+}
+
+-- the same of the triangles that the code has
+pub tris_are_scene : (m : ℕ) (g : Grid) (ss : List Surface) (ts : List Tri) (n : ℕ) → ts ≡ images_of g ss → n ≡ length ss →
+    All IsClosedMesh (meshes_on g 1 ss) → All (IsTriWithin m) ts → length ss ≤ 64 → length ts ≤ 262144 → IsSceneWithin m ts n
+tris_are_scene m g ss ts n e p closed within most few =
+    subst (λ (us : List Tri). IsSceneWithin m us n) (sym e)
+    (subst (IsSceneWithin m (images_of g ss)) (sym p) (images_are_scene m g ss closed
+    (subst (All (IsTriWithin m)) e within) most (subst (λ (us : List Tri). length us ≤ 262144) e few)))

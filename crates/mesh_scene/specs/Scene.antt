@@ -1,3 +1,4 @@
 pub mod LooseEdges
 pub mod Images
 pub mod Faults
+pub mod Finest

@@ -4,7 +4,10 @@
 mod scene;
 mod scene_file;
 
-pub use scene::{Counts, Open, PlacedScene, SceneFault, closed_surfaces_are_never_open, scene_of};
+pub use scene::{
+    AnyScene, Counts, FinestScene, GridScene, Open, PlacedGridScene, PlacedScene, SceneFault,
+    closed_surfaces_are_never_open, finest_closed_scene, scene_of, scene_of_within,
+};
 pub use scene_file::{
     SceneFileFault, grid_mesh, read_grid, scene_text, scenes_have_one_grid, written_scenes_are_read,
 };

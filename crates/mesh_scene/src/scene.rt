@@ -4,11 +4,15 @@ mod counting;
 mod counts;
 mod edges;
 mod fault;
+mod finest;
+mod grid_scene;
 mod laws;
 mod scene;
 mod surface;
 
 pub use counts::Counts;
 pub use fault::{Open, SceneFault};
+pub use finest::{AnyScene, FinestScene, finest_closed_scene};
+pub use grid_scene::GridScene;
 pub use laws::closed_surfaces_are_never_open;
-pub use scene::{PlacedScene, scene_of};
+pub use scene::{PlacedGridScene, PlacedScene, scene_of, scene_of_within};

@@ -22,7 +22,8 @@ use std::cell::RefCell;
 use std::test::Fail;
 use steal_pool::OpenGate;
 
-fn file<'a>(name: &'a [u8], bytes: &'a [u8]) -> InputFile<'a> {
+/// The file with this name.
+pub fn file<'a>(name: &'a [u8], bytes: &'a [u8]) -> InputFile<'a> {
     InputFile { name, bytes }
 }
 
@@ -33,7 +34,8 @@ fn is_small(file: &InputFile) -> bool
     file.bytes.len() <= 268_435_456
 }
 
-fn are_small(files: &[InputFile]) -> bool
+/// Whether each has at most 2^28 bytes.
+pub fn are_small(files: &[InputFile]) -> bool
     ensures { IsTrue result → All IsSmall files.now }
 {
     for file in files {

@@ -4,6 +4,8 @@
 #[cfg(test)]
 mod files;
 #[cfg(test)]
+mod finest;
+#[cfg(test)]
 mod queries;
 #[cfg(test)]
 mod scene_files;

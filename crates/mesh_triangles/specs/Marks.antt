@@ -1,5 +1,5 @@
 -- Marks at the corners of a line
-use Rattle.std.specs.Prelude.{◌≡◌, ℕ, nat_eq, ℤ, pos, ◌+ℤ◌, ◌-ℤ◌, if◌then◌else◌, List}
+use Rattle.std.specs.Prelude.{◌≡◌, ℕ, nat_eq, ℤ, pos, ◌+ℤ◌, ◌-ℤ◌, if◌then◌else◌, List, [], ◌∷◌, ◌++◌, Result, OnOk}
 use Rattle.ember_algebra.specs.Sums.{total}
 use Rattle.mesh_certificate.specs.declared.certificate.segment.Segment.{Segment}
 use Rattle.mesh_certificate.specs.Certificate.Chains.{one_at, boundary}
@@ -28,3 +28,15 @@ change_at plane corner m = only_at corner m.corner (change_by plane m)
 pub record AreMarks (line : ℕ) (ss : List Segment) (ms : List Mark) : Type 0 where
   pub corners : (plane corner : ℕ) → boundary plane line corner ss +ℤ total (change_at plane corner) ms ≡ pos 0
   pub whole : (plane : ℕ) → total (change_by plane) ms ≡ pos 0
+
+-- ---- what a step does to the marks of segments, if it doesn't fail
+-- from those of whatever segments on its line, they are those of this segment too
+abbrev pub AddsMarksOf : {A E : Type 0} → Result A E → Segment → List Mark → List Mark → Type 0
+AddsMarksOf result s old new =
+    (line : ℕ) (done : List Segment) → s.line ≡ line → AreMarks line done old →
+    OnOk result (AreMarks line (done ++ s ∷ []) new)
+
+-- they stay those of the same segments
+abbrev pub KeepsMarks : {A E : Type 0} → Result A E → List Mark → List Mark → Type 0
+KeepsMarks result old new =
+    (line : ℕ) (done : List Segment) → AreMarks line done old → OnOk result (AreMarks line done new)

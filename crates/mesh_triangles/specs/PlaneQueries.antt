@@ -1,14 +1,22 @@
 -- Queries about lines and planes, their answers, and who answers
-use Rattle.std.specs.Prelude.{◌≤◌, ⊤, ℕ, All, Result, IfOk, IsTrue}
+use Rattle.std.specs.Prelude.{◌≤◌, ⊤, ℕ, Bool, List, All, Result, IfOk, IsTrue}
 use Rattle.std.specs.Borrow.{Bor}
 use Rattle.ember_width.specs.Broad.{IsBroadPlane}
+use Rattle.mesh_certificate.specs.declared.certificate.segment.Segment.{Segment}
+use Rattle.mesh_certificate.specs.declared.certificate.triangle.Triangle.{Triangle}
 use Rattle.mesh_certificate.specs.Certificate.Certificate.{ArePartsCertified}
 use Rattle.mesh_certificate.specs.Certificate.Chains.{HaveSameChains}
+use Rattle.mesh_triangles.specs.declared.tables.TablesView.{TablesView}
 use Rattle.mesh_triangles.specs.declared.fault.TrianglesFault.{TrianglesFault}
 use Rattle.mesh_triangles.specs.declared.query.PlaneAnswer.{PlaneAnswer}
 use Rattle.mesh_triangles.specs.declared.query.PlaneAnswer.TheVariants as answer
 use Rattle.mesh_triangles.specs.declared.query.PlaneQuery.{PlaneQuery}
 use Rattle.mesh_triangles.specs.declared.query.PlaneQuery.TheVariants as query
+
+-- what is said to be certified is certified, by these tables
+abbrev pub AreCertifiedIf : TablesView → List Segment → List Triangle → Bool → Type 0
+AreCertifiedIf tables boundary triangles certified =
+    IsTrue certified → ArePartsCertified tables.planes.now tables.lines.now tables.corners.now boundary triangles
 
 -- the queries that may be asked: planes that triangles are compared with are valid
 abbrev pub IsPlaneQuery : PlaneQuery → Type 0

@@ -1,8 +1,8 @@
 // The boundaries of the planes' parts.
-ghost use Rattle.std.specs.Prelude.{◌≡◌, ◌≤◌, ℕ, List, [], ◌∷◌, length, take, All, IfOk, OnOk, IsTrue};
+ghost use Rattle.std.specs.Prelude.{◌≡◌, ◌≤◌, [], ◌∷◌, length, take, All, IfOk, OnOk, IsTrue};
 ghost use Rattle.mesh_certificate.specs.declared.certificate.segment.Segment.{Segment};
 ghost use Rattle.mesh_certificate.specs.Certificate.Chains.{HaveSameChains};
-ghost use Rattle.mesh_triangles.specs.Walks.{AddsBoundary, IsWalked};
+ghost use Rattle.mesh_triangles.specs.Walks.{AddsBoundary, AddsTo, PassesAll};
 
 use crate::corner_order::CornerOrder;
 use crate::fault::TrianglesFault;
@@ -30,8 +30,7 @@ fn push_opposite(
     requires line { first.now.line ≡ second.now.line }
     requires start { first.now.start ≡ second.now.end }
     requires end { first.now.end ≡ second.now.start }
-    ensures { OnOk result (AddsBoundary boundaries.old.segments.items (first.now ∷ second.now ∷ [])
-        boundaries.new.segments.items) }
+    ensures { OnOk result (AddsTo boundaries.old (first.now ∷ second.now ∷ []) boundaries.new) }
 {
     if first.plane == second.plane {
         return Ok(());
@@ -55,8 +54,7 @@ fn pass_all(
     marks: &[Mark],
     boundaries: &mut Boundaries,
 ) -> Result<(), TrianglesFault>
-    ensures { (line : ℕ) (before : List Segment) → IsWalked line [] before walk.old boundaries.old.segments.items →
-        OnOk result (IsWalked line marks.now before walk.new boundaries.new.segments.items) }
+    ensures { PassesAll result marks.now walk.old boundaries.old.segments.items walk.new boundaries.new.segments.items }
 {
     for m in marks {
         walk.pass(m, boundaries)?;

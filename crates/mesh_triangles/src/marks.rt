@@ -1,7 +1,7 @@
 // What is at the corners of a line.
-ghost use Rattle.std.specs.Prelude.{◌≡◌, ℕ, List, [], ◌∷◌, ◌++◌, All, OnOk};
+ghost use Rattle.std.specs.Prelude.{◌≡◌, All, OnOk};
 ghost use Rattle.mesh_certificate.specs.declared.certificate.segment.Segment.{Segment};
-ghost use Rattle.mesh_triangles.specs.Marks.{AreMarks};
+ghost use Rattle.mesh_triangles.specs.Marks.{AreMarks, AddsMarksOf, KeepsMarks};
 
 use crate::corner_order::CornerOrder;
 use crate::fault::TrianglesFault;
@@ -47,8 +47,7 @@ fn push_ends(
     order: &CornerOrder,
     segment: &Segment,
 ) -> Result<(), TrianglesFault>
-    ensures { (line : ℕ) (done : List Segment) → segment.now.line ≡ line → AreMarks line done marks.old.items →
-        OnOk result (AreMarks line (done ++ segment.now ∷ []) marks.new.items) }
+    ensures { AddsMarksOf result segment.now marks.old.items marks.new.items }
 {
     let is_over = order.place_of(segment.start) < order.place_of(segment.end);
     marks.push(mark_at(order, segment.start, What::Start(segment.plane), is_over))?;
@@ -61,8 +60,7 @@ fn push_splits(
     order: &CornerOrder,
     splits: &[Split],
 ) -> Result<(), TrianglesFault>
-    ensures { (line : ℕ) (done : List Segment) → AreMarks line done marks.old.items →
-        OnOk result (AreMarks line done marks.new.items) }
+    ensures { KeepsMarks result marks.old.items marks.new.items }
 {
     for s in splits {
         marks.push(mark_at(order, s.corner, What::Split, false))?;

@@ -5,11 +5,10 @@
 // caller, as in ember_query. It is made of `answer_planes_alone` or `answer_planes_by_workers`
 // (executor.rt). The functions here ask it and unpack the answer; by `IsPlaneExecutor` the answer is
 // of the query's kind, so `unreachable!` is proved never to run.
-ghost use Rattle.std.specs.Prelude.{◌≡◌, All, IfOk, IsTrue};
+ghost use Rattle.std.specs.Prelude.{All, IfOk};
 ghost use Rattle.ember_width.specs.Broad.{IsBroadPlane};
-ghost use Rattle.mesh_certificate.specs.Certificate.Certificate.{ArePartsCertified};
 ghost use Rattle.mesh_certificate.specs.Certificate.Chains.{HaveSameChains};
-ghost use Rattle.mesh_triangles.specs.PlaneQueries.{IsPlaneExecutor};
+ghost use Rattle.mesh_triangles.specs.PlaneQueries.{IsPlaneExecutor, AreCertifiedIf};
 
 use crate::cutting::{CutParts, PlanePart};
 use crate::fault::TrianglesFault;
@@ -77,8 +76,7 @@ pub fn query_certificate<C: Fn(&PlaneQuery) -> Result<PlaneAnswer, TrianglesFaul
 ) -> Result<bool, TrianglesFault>
     requires valid { All IsBroadPlane tables.now.planes.now }
     requires executor { IsPlaneExecutor C.pre C.post executor.now }
-    ensures { IfOk result (λ certified. IsTrue certified → ArePartsCertified tables.now.planes.now
-        tables.now.lines.now tables.now.corners.now boundary.now triangles.now) }
+    ensures { IfOk result (AreCertifiedIf tables.now boundary.now triangles.now) }
 {
     let query = PlaneQuery::Certificate(*tables, boundary, triangles);
     let PlaneAnswer::Certificate(certified) = executor(&query)? else {

@@ -1,11 +1,11 @@
 // Lines and planes that are shared out among threads, by halves: one half goes to a new thread, with
 // half of the workers. So no more than the logarithm of their number stands on the stack if no
 // thread can be made.
-ghost use Rattle.std.specs.Prelude.{◌≡◌, ◌≤◌, ◌<◌, ◌++◌, length, All, IfOk, IsTrue};
+ghost use Rattle.std.specs.Prelude.{◌≡◌, ◌≤◌, ◌<◌, ◌++◌, length, All, IfOk};
 ghost use Rattle.std.specs.Thread.{IsSync};
 ghost use Rattle.ember_width.specs.Broad.{IsBroadPlane};
-ghost use Rattle.mesh_certificate.specs.Certificate.Certificate.{ArePartsCertified};
 ghost use Rattle.mesh_certificate.specs.Certificate.Chains.{HaveSameChains};
+ghost use Rattle.mesh_triangles.specs.PlaneQueries.{AreCertifiedIf};
 
 use crate::boundaries::boundaries_of;
 use crate::cutting::{CutParts, PlanePart, cut_parts};
@@ -120,9 +120,7 @@ pub fn certified_by<R: Threads + Sync>(
     triangles: &[Triangle],
 ) -> Result<bool, OutOfMemory>
     requires { All IsBroadPlane tables.now.planes.now }
-    ensures { IfOk result (λ certified. IsTrue certified →
-        ArePartsCertified tables.now.planes.now tables.now.lines.now tables.now.corners.now boundary.now
-        triangles.now) }
+    ensures { IfOk result (AreCertifiedIf tables.now boundary.now triangles.now) }
 {
     if workers < 2 || triangles.len() < FEW {
         return are_parts_certified(
@@ -139,13 +137,11 @@ pub fn certified_by<R: Threads + Sync>(
     let (own, others) = triangles.split_at(triangles.partition_point(|t| t.first.plane < plane));
     let front = move || -> Result<bool, OutOfMemory>
         requires { IsSync R.row × (2 ≤ workers) × All IsBroadPlane tables.now.planes.now }
-        ensures { IfOk result (λ certified. IsTrue certified → ArePartsCertified tables.entry.now.planes.now
-            tables.entry.now.lines.now tables.entry.now.corners.now faces.entry.now own.entry.now) }
+        ensures { IfOk result (AreCertifiedIf tables.entry.now faces.entry.now own.entry.now) }
     { certified_by(rt, alloc, workers / 2, tables, faces, own) };
     let back = move || -> Result<bool, OutOfMemory>
         requires { IsSync R.row × (2 ≤ workers) × All IsBroadPlane tables.now.planes.now }
-        ensures { IfOk result (λ certified. IsTrue certified → ArePartsCertified tables.entry.now.planes.now
-            tables.entry.now.lines.now tables.entry.now.corners.now other_faces.entry.now others.entry.now) }
+        ensures { IfOk result (AreCertifiedIf tables.entry.now other_faces.entry.now others.entry.now) }
     {
         certified_by(
             rt,

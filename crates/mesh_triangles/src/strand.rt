@@ -1,6 +1,6 @@
 // Strands over a stretch of a line.
 ghost use Rattle.std.specs.Prelude.{◌≡◌, ◌+ℤ◌, ℕ, pos, [], slice_get, IsTrue, OnOk};
-ghost use Rattle.mesh_triangles.specs.Strands.{sign_in, coefficient};
+ghost use Rattle.mesh_triangles.specs.Strands.{sign_in, AddsStrand, AddsStrands};
 
 use crate::fault::TrianglesFault;
 
@@ -41,8 +41,7 @@ fn strand_at(strands: &[Strand], place: usize) -> Option<Strand>
 
 /// Adds a strand to those in order of planes. An opposite one of its plane leaves in its place.
 pub fn add_strand(strands: &mut Vec<Strand>, strand: Strand) -> Result<(), TrianglesFault>
-    ensures { (plane : ℕ) → OnOk result (coefficient plane strands.new.items ≡
-        coefficient plane strands.old.items +ℤ sign_in plane strand) }
+    ensures { AddsStrand result strand strands.old.items strands.new.items }
 {
     let place = strands.partition_point(|s| s.plane() < strand.plane());
     if let Some(s) = strand_at(strands, place)
@@ -57,8 +56,7 @@ pub fn add_strand(strands: &mut Vec<Strand>, strand: Strand) -> Result<(), Trian
 
 /// Adds the strands of one list to another, and leaves none in the first.
 pub fn move_strands(from: &mut Vec<Strand>, to: &mut Vec<Strand>) -> Result<(), TrianglesFault>
-    ensures moved { (plane : ℕ) → OnOk result (coefficient plane to.new.items ≡
-        coefficient plane to.old.items +ℤ coefficient plane from.old.items) }
+    ensures moved { AddsStrands result from.old.items to.old.items to.new.items }
     ensures emptied { OnOk result (from.new.items ≡ []) }
 {
     while let Some(strand) = from.pop() {

@@ -1,9 +1,9 @@
 // Walks along a line.
-ghost use Rattle.std.specs.Prelude.{◌≡◌, ℕ, List, [], ◌∷◌, ◌++◌, OnOk};
+ghost use Rattle.std.specs.Prelude.{◌≡◌, List, [], ◌∷◌, ◌++◌, OnOk};
 ghost use Rattle.mesh_certificate.specs.declared.certificate.segment.Segment.{Segment};
 ghost use Rattle.mesh_triangles.specs.declared.marks.Mark.{Mark};
 ghost use Rattle.mesh_triangles.specs.declared.strand.Strand.{Strand};
-ghost use Rattle.mesh_triangles.specs.Walks.{IsWalked, AddsStretch};
+ghost use Rattle.mesh_triangles.specs.Walks.{IsWalked, AddsStretch, Passes, KeepsStretch, PassesHere, StaysWalked};
 
 use crate::face_edges::FaceEdges;
 use crate::fault::TrianglesFault;
@@ -81,18 +81,14 @@ impl Walk {
 
     /// Goes on to the corner of the next mark.
     pub fn pass(&mut self, mark: &Mark, boundaries: &mut Boundaries) -> Result<(), TrianglesFault>
-        ensures { (line : ℕ) (done : List Mark) (before : List Segment) →
-            IsWalked line done before self.old boundaries.old.segments.items →
-            OnOk result (IsWalked line (done ++ mark.now ∷ []) before self.new boundaries.new.segments.items) }
+        ensures { Passes result (mark.now ∷ []) self.old boundaries.old.segments.items self.new boundaries.new.segments.items }
     {
         self.go_to(mark.corner, boundaries)?;
         self.change(mark.what, mark.is_over)
     }
 
     fn go_to(&mut self, corner: u32, boundaries: &mut Boundaries) -> Result<(), TrianglesFault>
-        ensures walked { (line : ℕ) (done : List Mark) (before : List Segment) →
-            IsWalked line done before self.old boundaries.old.segments.items →
-            OnOk result (IsWalked line done before self.new boundaries.new.segments.items) }
+        ensures walked { StaysWalked result self.old boundaries.old.segments.items self.new boundaries.new.segments.items }
         ensures here { OnOk result (self.new.here ≡ corner) }
     {
         if corner == self.here {
@@ -105,9 +101,7 @@ impl Walk {
 
     // Adds what is at the corner.
     fn change(&mut self, what: What, is_over: bool) -> Result<(), TrianglesFault>
-        ensures { (line : ℕ) (done : List Mark) (before after : List Segment) (m : Mark) →
-            IsWalked line done before self.old after → m.corner ≡ self.old.here → m.what ≡ what →
-            OnOk result (IsWalked line (done ++ m ∷ []) before self.new after) }
+        ensures { PassesHere result what self.old self.new }
     {
         self.edges.pass(what, is_over)?;
         match what {
@@ -123,9 +117,7 @@ impl Walk {
     /// Leaves the corner. It is run through if neither a coefficient nor a pair changes and the line
     /// isn't split there; otherwise a stretch ends there and another one begins.
     pub fn settle(&mut self, boundaries: &mut Boundaries) -> Result<(), TrianglesFault>
-        ensures walked { (line : ℕ) (done : List Mark) (before : List Segment) →
-            IsWalked line done before self.old boundaries.old.segments.items →
-            OnOk result (IsWalked line done before self.new boundaries.new.segments.items) }
+        ensures walked { StaysWalked result self.old boundaries.old.segments.items self.new boundaries.new.segments.items }
         ensures settled { OnOk result (self.new.changes.items ≡ []) }
     {
         let pairs = self.edges.pairs()?;
@@ -177,9 +169,7 @@ impl Walk {
 
     // Adds the edges that stay though they cancel.
     fn push_pairs(&self, segments: &mut Vec<Segment>) -> Result<(), TrianglesFault>
-        ensures { (strands : List Strand) (before : List Segment) →
-            AddsStretch self.now strands before segments.old.items →
-            OnOk result (AddsStretch self.now strands before segments.new.items) }
+        ensures { KeepsStretch result self.now segments.old.items segments.new.items }
     {
         for plane in &self.pairs {
             segments.push(self.segment(&Strand::Over(*plane)))?;

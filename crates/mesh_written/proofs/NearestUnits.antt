@@ -54,7 +54,8 @@ whole_is_nearest : (n d : ℕ) → 0 < d → IsNearest n d (nearest_whole n d)
 whole_is_nearest n d p =
     near_by n d (n / d) (n % d) (div-add-mod' n d) (mod_below n d p) (rounds_up (n / d) (n % d) d) refl
 
-size_of_signed : (b : Bool) (size : ℕ) → unsigned_abs (signed_whole b size) ≡ size
+-- a size with a sign is as large
+pub size_of_signed : (b : Bool) (size : ℕ) → unsigned_abs (signed_whole b size) ≡ size
 size_of_signed false size = refl
 size_of_signed true zero = refl
 size_of_signed true (suc k) = refl

@@ -8,14 +8,17 @@ use Rattle.std.proofs.lemmas.Bool.Decides.{nat_tests}
 use borrow.Author.Differences.{ints}
 use Rattle.mesh_number.specs.Number.Fractions.{Fraction, signed_whole}
 use Rattle.ember_wide.specs.Whole.{size_of, value_of}
+use Rattle.ember_wide.specs.Vast.{vast_size}
 use Rattle.ember_wide.proofs.Values.{size_of_value}
 use Rattle.mesh_number.specs.Round.Nearest.{nearest_whole, rounds_up}
 use Rattle.mesh_number.specs.Round.Decimals.{decimal_text}
 use Rattle.mesh_number.proofs.Digits.{power_of_10_positive}
 use Rattle.mesh_number.proofs.Halving.{rounded_down}
 use Rattle.mesh_written.specs.declared.ratio.Ratio.{Ratio}
-use Rattle.mesh_written.specs.Places.{fraction_of}
+use Rattle.mesh_written.specs.declared.ratio.LongRatio.{LongRatio}
+use Rattle.mesh_written.specs.Places.{fraction_of, long_fraction}
 use Rattle.mesh_written.specs.Decimals.{decimal_of, units_of, IsTooLong}
+use Rattle.mesh_written.proofs.NearestUnits.{size_of_signed}
 
 -- 0 is nearest to 0
 nearest_zero : (d : ℕ) → 0 < d → nearest_whole 0 d ≡ 0
@@ -83,6 +86,14 @@ module _ (r : Ratio) (v : Fraction) (e : fraction_of r ≡ v) where
       let long : IsTooLong (fraction_of r) = omega (arith, size_of_value r.numerator, l) in
       subst (λ (w : Fraction). IsTooLong w) e long
 
+-- the same for long numbers
+module _ (r : LongRatio) where
+  pub long_not_long : vast_size r.numerator.size < size_of r.denominator * 10 ^ 21 → IsTooLong (long_fraction r) → ⊥
+  long_not_long l h = omega (arith, size_of_signed r.numerator.negative (vast_size r.numerator.size), h, l)
+
+  pub long_is_long : size_of r.denominator * 10 ^ 21 ≤ vast_size r.numerator.size → IsTooLong (long_fraction r)
+  long_is_long l = omega (arith, size_of_signed r.numerator.negative (vast_size r.numerator.size), l)
+
 ten_powers : (k : ℕ) → k ≤ 17 → 10 ^ k ≤ 10 ^ 17
 ten_powers k l =
     let sum : k + (17 - k) ≡ 17 = omega (arith, l) in
@@ -122,6 +133,19 @@ pub units_of_ratio : (r : Ratio) (places : ℕ) → signed_whole r.numerator.neg
 units_of_ratio r places =
     signed_by_value r.numerator.negative (size_of r.numerator.size) r.denominator places r.positive
     ∙ ap (λ (m : ℕ). signed_whole (int_lt (value_of r.numerator) (pos 0)) (nearest_whole (m * 10 ^ places) r.denominator)) (sym (size_of_value r.numerator))
+
+units_of_signed : (s : Bool) (k d places : ℕ) → 0 < d →
+    signed_whole s (nearest_whole (k * 10 ^ places) d) ≡ units_of places (record { numerator = signed_whole s k; denominator = d })
+units_of_signed false k d places l = signed_by_value false k d places l
+units_of_signed true k d places l =
+    signed_by_value true k d places l
+    ∙ ap (λ (m : ℕ). signed_whole (int_lt (neg_ℤ (pos k)) (pos 0)) (nearest_whole (m * 10 ^ places) d)) (sym (size_of_signed true k))
+
+-- and those of a long one
+pub units_of_long : (r : LongRatio) (places : ℕ) → signed_whole r.numerator.negative
+    (nearest_whole (vast_size r.numerator.size * 10 ^ places) (size_of r.denominator)) ≡ units_of places (long_fraction r)
+units_of_long r places =
+    units_of_signed r.numerator.negative (vast_size r.numerator.size) (size_of r.denominator) places r.positive
 
 -- a number of units below 10^21 of the user's units is at most 10^38
 pub units_are_small : (m d n places : ℕ) → 0 < d → n < d * 10 ^ 21 → places ≤ 17 → 2 * m * d ≤ 2 * (n * 10 ^ places) + d → m ≤ 10 ^ 38

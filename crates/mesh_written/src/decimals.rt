@@ -1,20 +1,27 @@
 // Corners as decimals.
-ghost use Rattle.std.specs.Prelude.{◌≡◌, ◌↔◌, ◌≤◌, ◌++◌, Err, OnOk};
+ghost use Rattle.std.specs.Prelude.{◌≡◌, ◌↔◌, ◌≤◌, ◌++◌, pos, int_lt, unsigned_abs, Err, OnOk};
+ghost use Rattle.mesh_number.specs.Round.Decimals.{decimal_text};
 ghost use Rattle.mesh_grid.specs.Snap.Steps.{IsStep};
 ghost use Rattle.mesh_written.specs.declared.fault.PlaceFault.TheVariants.{TooFar};
 ghost use Rattle.mesh_written.specs.Places.{place_of};
 ghost use Rattle.mesh_written.specs.Decimals.{place_text, IsTooLong};
 
+use crate::decimal_points::decimal_place;
 use crate::fault::PlaceFault;
-use crate::places::exact_place;
 use ember_model::Axis;
 use mesh_grid::{GridStep, Offset};
-use mesh_number::{Magnitude, put_decimal};
+use mesh_number::put_shifted;
 use mesh_point::SpacePoint;
-use std::cmp::Ordering;
+use std::alloc::AllocError;
 
-// 10^21: a longer decimal isn't written. With 17 places it has fewer than 128 bits.
-pub(crate) const LIMIT: u128 = 1_000_000_000_000_000_000_000;
+// Appends so many units of the last place.
+fn put_units(units: i128, places: u32, out: &mut Vec<u8>) -> Result<(), AllocError>
+    requires { places ≤ 17 }
+    ensures { OnOk result (out.new.items ≡
+        out.old.items ++ decimal_text (int_lt units (pos 0)) (unsigned_abs units) places) }
+{
+    put_shifted(units < 0, units.unsigned_abs(), places, out)
+}
 
 /// Appends the decimal of at most `places` places that is nearest to where the corner lies along
 /// the axis, in the user's unit; of two equally near, the one whose last place is even. It has no
@@ -36,12 +43,10 @@ pub fn put_place(
     ensures text { OnOk result (out.new.items ≡
         out.old.items ++ place_text step.now offset.now axis corner.now places) }
 {
-    let place = exact_place(corner, axis, step, offset);
-    let limit = Magnitude::product(place.denominator, LIMIT);
-    if place.numerator.size.compare(&limit) != Ordering::Less {
+    let Some(units) = decimal_place(corner, axis, step, offset, places) else {
         return Err(PlaceFault::TooFar);
-    }
-    match put_decimal(&place.numerator, place.denominator, places, out) {
+    };
+    match put_units(units, places, out) {
         Ok(()) => Ok(()),
         Err(_) => Err(PlaceFault::OutOfMemory),
     }

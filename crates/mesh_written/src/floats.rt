@@ -1,17 +1,34 @@
 // Corners as floats.
 ghost use Rattle.std.specs.Prelude.{◌≡◌, ◌↔◌, None, IfSome, IfOk, IfErr, MatchOption};
 ghost use Rattle.mesh_grid.specs.Snap.Steps.{IsStep};
-ghost use Rattle.mesh_written.specs.Places.{place_of};
+ghost use Rattle.mesh_written.specs.Places.{fraction_of, long_fraction, place_of};
 ghost use Rattle.mesh_written.specs.Floats.{IsFloatOf, IsInfinite, IsFloatPoint, IsTooFar, AreFloatPoints, IsFloatFault};
 
 use crate::fault::PlaceFault;
 use crate::places::exact_place;
+use crate::ratio::{LongRatio, Place, Ratio};
 use ember_model::Axis;
 use mesh_grid::{GridStep, Offset};
-use mesh_number::nearest_binary32;
 use mesh_point::SpacePoint;
 use mesh_write::FloatPoint;
 use std::alloc::Global;
+
+// The bits of the binary32 that is nearest to the number. None if it rounds to infinity.
+fn short_float(number: &Ratio) -> Option<u32>
+    ensures infinite { result ≡ None ↔ IsInfinite (fraction_of number.now) }
+    ensures nearest { IfSome result (IsFloatOf (fraction_of number.now)) }
+{
+    mesh_number::nearest_binary32(&number.numerator, number.denominator)
+}
+
+// The same for a long number.
+fn long_float(number: &LongRatio) -> Option<u32>
+    ensures infinite { result ≡ None ↔ IsInfinite (long_fraction number.now) }
+    ensures nearest { IfSome result (IsFloatOf (long_fraction number.now)) }
+{
+    let numerator = &number.numerator;
+    mesh_broad::nearest_binary32(numerator.negative, &numerator.size, &number.denominator)
+}
 
 /// The bits of the binary32 that is nearest to where the corner lies along the axis, in the user's
 /// unit; of two equally near, the one with the even significand. It is never -0. None if this place
@@ -21,8 +38,10 @@ pub fn float_place(corner: &SpacePoint, axis: Axis, step: &GridStep, offset: &Of
     ensures infinite { result ≡ None ↔ IsInfinite (place_of step.now offset.now axis corner.now) }
     ensures nearest { IfSome result (IsFloatOf (place_of step.now offset.now axis corner.now)) }
 {
-    let place = exact_place(corner, axis, step, offset);
-    nearest_binary32(&place.numerator, place.denominator)
+    match exact_place(corner, axis, step, offset) {
+        Place::Short(number) => short_float(&number),
+        Place::Long(number) => long_float(&number),
+    }
 }
 
 // The corner with its coordinates rounded, if none of them is infinite.

@@ -26,7 +26,7 @@ pub use laws::{
     units_have_the_nearest_decimal,
 };
 pub use places::exact_place;
-pub use ratio::Ratio;
+pub use ratio::{LongRatio, Place, Ratio};
 pub use shared::shared_edges;
 pub use shared_by_index::shared_edges_by_index;
 pub use triangles::{float_triangles, have_corners, numbers_over, triangles_over};

@@ -1,5 +1,5 @@
 -- What is certified of the triangles of a mesh
-use Rattle.std.specs.Prelude.{◌≡◌, nat_eq, Bool, true, ◌&&◌, Option, Some, List, [], ◌∷◌, All, slice_get}
+use Rattle.std.specs.Prelude.{◌≡◌, ◌↔◌, IsTrue, nat_eq, Bool, true, ◌&&◌, Option, Some, List, [], ◌∷◌, All, slice_get}
 use Rattle.ember_model.specs.declared.plane.Plane.{Plane}
 use Rattle.mesh_certificate.specs.declared.key.lines.LineKey.{LineKey}
 use Rattle.mesh_certificate.specs.declared.certificate.segment.Segment.{Segment}
@@ -63,3 +63,7 @@ pub record IsCertified (ps : List Plane) (ls : List LineKey) (cs : List SpacePoi
   pub closed : AreSegmentsClosed (edges_in ts)
   pub on_lines : All (IsOnItsLine ls cs) (edges_in ts)
   pub free_paired : AreFreePaired ls (edges_in ts)
+
+-- the answer says whether this is so
+abbrev pub SaysWhether : Type 0 → Bool → Type 0
+SaysWhether this answer = IsTrue answer ↔ this

@@ -1,7 +1,8 @@
 -- Numbers for the ends of segments
-use Rattle.std.specs.Prelude.{ℕ, ◌+◌, ◌*◌, ◌/◌, ◌%◌, nat_lt, Bool, List, map, ℤ, pos, ◌-ℤ◌}
+use Rattle.std.specs.Prelude.{◌≡◌, ℕ, ◌+◌, ◌*◌, ◌/◌, ◌%◌, nat_lt, Bool, List, [], ◌∷◌, filter, map, ℤ, pos, ◌+ℤ◌, ◌-ℤ◌}
 use Rattle.ember_balance.specs.Counts.{count}
 use Rattle.mesh_certificate.specs.declared.certificate.segment.Segment.{Segment}
+use Rattle.mesh_certificate.specs.declared.certificate.unmatched.SegmentEnds.{SegmentEnds}
 
 -- the digits plane, line and corner to the base 2^32
 abbrev pub key : ℕ → ℕ → ℕ → ℕ
@@ -49,3 +50,24 @@ rises s = nat_lt s.start s.end
 -- the segment runs to a corner of lower number
 abbrev pub falls : Segment → Bool
 falls s = nat_lt s.end s.start
+
+-- the keys of the segments that rise, and those of the reverses of the segments that fall
+abbrev pub rising_keys : List Segment → List ℕ
+rising_keys ss = map edge_key (filter rises ss)
+
+abbrev pub falling_keys : List Segment → List ℕ
+falling_keys ss = map reverse_key (filter falls ss)
+
+-- ---- starts and ends in hand
+abbrev pub excess_in : ℕ → SegmentEnds → ℤ
+excess_in n ends = excess n ends.starts.items ends.ends.items
+
+-- keys are passed, up to this rest: with the excess of the rest, the new ends have that of the old ones and of all keys
+abbrev pub PassKeys : SegmentEnds → SegmentEnds → List ℕ → List ℕ → Type 0
+PassKeys old new keys rest = (n : ℕ) → excess_in n new +ℤ excess_of n rest ≡ excess_in n old +ℤ excess_of n keys
+
+-- the same, and one more key cancels one of them
+abbrev pub PassKeysButOne : SegmentEnds → SegmentEnds → List ℕ → List ℕ → ℕ → Type 0
+PassKeysButOne old new keys rest key =
+    (n : ℕ) → excess_in n new +ℤ excess_of n rest ≡
+    excess_in n old +ℤ excess_of n keys -ℤ excess_of n (key ∷ [])

@@ -1,5 +1,5 @@
 -- Edges of triangles on the lines that they name
-use Rattle.std.specs.Prelude.{◌≡◌, ◌≢◌, ℕ, length, leb, nat_eq, Bool, ◌&&◌, List, filter, Some, slice_get}
+use Rattle.std.specs.Prelude.{◌≡◌, ◌≢◌, ℕ, length, leb, nat_eq, Bool, ◌&&◌, List, filter, map, Some, slice_get}
 use Rattle.std.specs.List.{count_by}
 use Rattle.ember_algebra.specs.Vector.{zero_v}
 use Rattle.mesh_certificate.specs.declared.key.lines.LineKey.{LineKey}
@@ -7,7 +7,7 @@ use Rattle.mesh_certificate.specs.Key.LineKeys.{direction, IsOnLine}
 use Rattle.mesh_certificate.specs.declared.certificate.segment.Segment.{Segment}
 use Rattle.mesh_point.specs.declared.space_point.SpacePoint.{SpacePoint}
 use Rattle.mesh_certificate.specs.Certificate.Facing.{spot_of}
-use Rattle.mesh_certificate.specs.Certificate.Keys.{key}
+use Rattle.mesh_certificate.specs.Certificate.Keys.{key, rises, falls}
 
 -- ---- lines of the table
 -- k has a direction, and the corner lies on it
@@ -42,3 +42,17 @@ run_key s = key s.plane s.start s.end
 
 abbrev pub run_back_key : Segment → ℕ
 run_back_key s = key s.plane s.end s.start
+
+-- the keys of the segments that rise, and those of the runs back of the segments that fall
+abbrev pub rising_runs : List Segment → List ℕ
+rising_runs ss = map run_key (filter rises ss)
+
+abbrev pub falling_runs : List Segment → List ℕ
+falling_runs ss = map run_back_key (filter falls ss)
+
+-- the same of those on free lines
+abbrev pub free_rising : List LineKey → List Segment → List ℕ
+free_rising ls ss = rising_runs (filter (is_free ls) ss)
+
+abbrev pub free_falling : List LineKey → List Segment → List ℕ
+free_falling ls ss = falling_runs (filter (is_free ls) ss)

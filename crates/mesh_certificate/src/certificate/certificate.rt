@@ -1,7 +1,7 @@
 // Whether triangles cut up faces.
 ghost use Rattle.std.specs.Prelude.{◌≡◌, ◌↔◌, [], ◌∷◌, ◌++◌, All, slice_get, IfOk, OnOk, IfSome, IsTrue};
 ghost use Rattle.ember_width.specs.Broad.{IsBroadPlane};
-ghost use Rattle.mesh_certificate.specs.Certificate.Certificate.{leads_round, is_in_one_plane, is_round, FacesFrontOf};
+ghost use Rattle.mesh_certificate.specs.Certificate.Certificate.{leads_round, is_in_one_plane, is_round, FacesFrontOf, SaysWhether};
 ghost use Rattle.mesh_certificate.specs.Certificate.Certificate.{IsProper, edges_in, ArePartsCertified, IsCertified};
 ghost use Rattle.mesh_certificate.specs.Certificate.Closed.{AreSegmentsClosed};
 
@@ -135,8 +135,7 @@ pub fn are_parts_certified(
     triangles: &[Triangle],
 ) -> Result<bool, OutOfMemory>
     requires { All IsBroadPlane planes.now }
-    ensures { IfOk result (λ certified. IsTrue certified ↔ ArePartsCertified planes.now lines.now corners.now
-        faces.now triangles.now) }
+    ensures { IfOk result (SaysWhether (ArePartsCertified planes.now lines.now corners.now faces.now triangles.now)) }
 {
     if !are_proper(planes, corners, triangles) {
         return Ok(false);
@@ -170,8 +169,7 @@ pub fn is_certified(
     triangles: &[Triangle],
 ) -> Result<bool, OutOfMemory>
     requires { All IsBroadPlane planes.now }
-    ensures { IfOk result (λ certified. IsTrue certified ↔ IsCertified planes.now lines.now corners.now
-        faces.now triangles.now) }
+    ensures { IfOk result (SaysWhether (IsCertified planes.now lines.now corners.now faces.now triangles.now)) }
 {
     if !are_parts_certified(alloc, planes, lines, corners, faces, triangles)? {
         return Ok(false);

@@ -1,7 +1,7 @@
 // Whether segments are closed.
 ghost use Rattle.std.specs.Prelude.{◌≡◌, ◌↔◌, [], ◌∷◌, ◌++◌, map, filter, IfOk, OnOk, IsTrue};
 ghost use Rattle.mesh_certificate.specs.Certificate.Closed.{AreSegmentsClosed};
-ghost use Rattle.mesh_certificate.specs.Certificate.Keys.{edge_key, reverse_key, rises, falls};
+ghost use Rattle.mesh_certificate.specs.Certificate.Keys.{edge_key, reverse_key, rises, falls, falling_keys, rising_keys};
 
 use crate::certificate::keys::{edge_key, reverse_key};
 use crate::certificate::order::are_words_rearranged;
@@ -20,9 +20,9 @@ struct Halves {
 impl Halves {
     fn push(&mut self, s: &Segment) -> Result<(), OutOfMemory>
         ensures rising { OnOk result (self.new.rising.items ≡ self.old.rising.items ++
-            map edge_key (filter rises (s.now ∷ []))) }
+            rising_keys (s.now ∷ [])) }
         ensures falling { OnOk result (self.new.falling.items ≡ self.old.falling.items ++
-            map reverse_key (filter falls (s.now ∷ []))) }
+            falling_keys (s.now ∷ [])) }
     {
         if s.start < s.end {
             self.rising.push(edge_key(s))?;

@@ -1,7 +1,6 @@
 // Whether segments on lines that aren't in the table cancel in pairs.
-ghost use Rattle.std.specs.Prelude.{◌≡◌, ◌↔◌, [], ◌∷◌, ◌++◌, map, filter, IfOk, OnOk, IsTrue};
-ghost use Rattle.mesh_certificate.specs.Certificate.Keys.{rises, falls};
-ghost use Rattle.mesh_certificate.specs.Certificate.OnLines.{is_free, run_key, run_back_key, AreFreePaired};
+ghost use Rattle.std.specs.Prelude.{◌≡◌, ◌↔◌, [], ◌∷◌, ◌++◌, IfOk, OnOk, IsTrue};
+ghost use Rattle.mesh_certificate.specs.Certificate.OnLines.{is_free, run_key, run_back_key, AreFreePaired, falling_runs, free_falling, free_rising, rising_runs};
 
 use crate::certificate::keys::{run_back_key, run_key};
 use crate::certificate::order::are_rearranged;
@@ -27,10 +26,8 @@ struct Halves {
 
 impl Halves {
     fn push(&mut self, s: &Segment) -> Result<(), OutOfMemory>
-        ensures rising { OnOk result (self.new.rising.items ≡ self.old.rising.items ++
-            map run_key (filter rises (s.now ∷ []))) }
-        ensures falling { OnOk result (self.new.falling.items ≡ self.old.falling.items ++
-            map run_back_key (filter falls (s.now ∷ []))) }
+        ensures rising { OnOk result (self.new.rising.items ≡ self.old.rising.items ++ rising_runs (s.now ∷ [])) }
+        ensures falling { OnOk result (self.new.falling.items ≡ self.old.falling.items ++ falling_runs (s.now ∷ [])) }
     {
         if s.start < s.end {
             self.rising.push(run_key(s))?;
@@ -42,9 +39,9 @@ impl Halves {
 
     fn push_free(&mut self, lines: &[LineKey], s: &Segment) -> Result<(), OutOfMemory>
         ensures rising { OnOk result (self.new.rising.items ≡ self.old.rising.items ++
-            map run_key (filter rises (filter (is_free lines.now) (s.now ∷ [])))) }
+            free_rising lines.now (s.now ∷ [])) }
         ensures falling { OnOk result (self.new.falling.items ≡ self.old.falling.items ++
-            map run_back_key (filter falls (filter (is_free lines.now) (s.now ∷ [])))) }
+            free_falling lines.now (s.now ∷ [])) }
     {
         if !is_free(lines, s) {
             return Ok(());
@@ -59,10 +56,8 @@ fn free_halves(
     lines: &[LineKey],
     segments: &[Segment],
 ) -> Result<Halves, OutOfMemory>
-    ensures rising { IfOk result (λ halves. halves.rising.items ≡
-        map run_key (filter rises (filter (is_free lines.now) segments.now))) }
-    ensures falling { IfOk result (λ halves. halves.falling.items ≡
-        map run_back_key (filter falls (filter (is_free lines.now) segments.now))) }
+    ensures rising { IfOk result (λ halves. halves.rising.items ≡ free_rising lines.now segments.now) }
+    ensures falling { IfOk result (λ halves. halves.falling.items ≡ free_falling lines.now segments.now) }
 {
     let mut halves = Halves {
         rising: Vec::new(alloc),

@@ -1,8 +1,7 @@
 // What chains and their boundaries say of each other.
-ghost use Rattle.std.specs.Prelude.{◌≡◌, ℕ, ℤ, pos, List};
-ghost use Rattle.ember_algebra.specs.Sums.{total};
+ghost use Rattle.std.specs.Prelude.{◌≡◌, ℕ, ℤ, List};
 ghost use Rattle.mesh_certificate.specs.declared.certificate.segment.Segment.{Segment};
-ghost use Rattle.mesh_certificate.specs.Certificate.Closed.{AreSegmentsClosed, IsOdd};
+ghost use Rattle.mesh_certificate.specs.Certificate.Closed.{AreSegmentsClosed, CancelOut};
 ghost use Rattle.mesh_certificate.specs.Certificate.Chains.{sum_on, HaveSameBoundary, HaveSameChains};
 
 /// Segments whose chains have the same boundary have the same chain over each point of each line,
@@ -26,6 +25,5 @@ pub fn one_boundary_has_one_sum()
 /// Over closed segments any quantity that changes its sign with the direction of a segment adds up
 /// to 0.
 pub fn closed_segments_cancel()
-    ensures { (ss : List Segment) → AreSegmentsClosed ss → (f : ℕ → ℕ → ℤ) → IsOdd f →
-        total (λ s. f s.start s.end) ss ≡ pos 0 }
+    ensures { (ss : List Segment) → AreSegmentsClosed ss → CancelOut ss }
 {}

@@ -1,6 +1,6 @@
 // The segments that only one of two lists has.
 ghost use Rattle.std.specs.Prelude.{◌≡◌, ℕ, [], ◌∷◌, ◌++◌, ◌+ℤ◌, ◌-ℤ◌, IfOk, OnOk};
-ghost use Rattle.mesh_certificate.specs.Certificate.Keys.{start_in, end_in, excess, excess_of};
+ghost use Rattle.mesh_certificate.specs.Certificate.Keys.{start_in, end_in, excess_of, PassKeys, PassKeysButOne, excess_in};
 
 use crate::certificate::keys::{end_in, start_in};
 use ember_model::OutOfMemory;
@@ -34,8 +34,7 @@ impl SegmentEnds {
     }
 
     fn push_all(&mut self, keys: &[u128]) -> Result<(), OutOfMemory>
-        ensures { OnOk result ((n : ℕ) → excess n self.new.starts.items self.new.ends.items ≡
-            excess n self.old.starts.items self.old.ends.items +ℤ excess_of n keys.now) }
+        ensures { OnOk result ((n : ℕ) → excess_in n self.new ≡ excess_in n self.old +ℤ excess_of n keys.now) }
     {
         for key in keys {
             self.push(*key)?;
@@ -45,9 +44,7 @@ impl SegmentEnds {
 
     // Appends those at the front whose keys are below a number, and returns the others.
     fn push_below<'a>(&mut self, keys: &'a [u128], number: u128) -> Result<&'a [u128], OutOfMemory>
-        ensures { IfOk result (λ rest. (n : ℕ) →
-            excess n self.new.starts.items self.new.ends.items +ℤ excess_of n rest.now ≡
-            excess n self.old.starts.items self.old.ends.items +ℤ excess_of n keys.now) }
+        ensures { IfOk result (λ rest. PassKeys self.old self.new keys.now rest.now) }
     {
         let mut rest = keys;
         while let Some((key, behind)) = rest.split_first() {
@@ -63,9 +60,7 @@ impl SegmentEnds {
     // Takes a segment away from the front and returns the others. If it isn't there, appends its
     // reverse.
     fn cancel<'a>(&mut self, keys: &'a [u128], key: u128) -> Result<&'a [u128], OutOfMemory>
-        ensures { IfOk result (λ rest. (n : ℕ) →
-            excess n self.new.starts.items self.new.ends.items +ℤ excess_of n rest.now ≡
-            excess n self.old.starts.items self.old.ends.items +ℤ excess_of n keys.now -ℤ excess_of n (key ∷ [])) }
+        ensures { IfOk result (λ rest. PassKeysButOne self.old self.new keys.now rest.now key) }
     {
         if let Some((first, behind)) = keys.split_first() {
             if *first == key {
@@ -84,8 +79,7 @@ pub fn unmatched_ends(
     first: &[u128],
     second: &[u128],
 ) -> Result<SegmentEnds, OutOfMemory>
-    ensures { IfOk result (λ left. (n : ℕ) → excess n left.starts.items left.ends.items ≡
-        excess_of n first.now -ℤ excess_of n second.now) }
+    ensures { IfOk result (λ left. (n : ℕ) → excess_in n left ≡ excess_of n first.now -ℤ excess_of n second.now) }
 {
     let mut left = SegmentEnds {
         starts: Vec::new(alloc),

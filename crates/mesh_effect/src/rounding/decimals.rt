@@ -2,18 +2,21 @@
 ghost use Rattle.std.specs.Prelude.{◌≡◌, ◌*◌, ◌^◌, ◌<◌, ◌≤◌, map, IfSome, IfOk, IfErr};
 ghost use Rattle.ember_wide.specs.Whole.{size_of};
 ghost use Rattle.mesh_grid.specs.Snap.Steps.{IsStep};
-ghost use Rattle.mesh_written.specs.Places.{fraction_of, place_of};
-ghost use Rattle.mesh_written.specs.Decimals.{IsDecimalFault};
+ghost use Rattle.mesh_written.specs.Places.{fraction_of, place_of, long_fraction};
+ghost use Rattle.mesh_written.specs.Decimals.{IsDecimalFault, IsTooLong};
 ghost use Rattle.mesh_effect.specs.Rounding.Given.{AreDecimalTicks, IsDecimalSquare, decimal_error};
-ghost use Rattle.mesh_effect.specs.Rounding.Squares.{decimal_square};
+ghost use Rattle.mesh_effect.specs.Rounding.Squares.{decimal_square, decimal_number};
+ghost use Rattle.mesh_effect.specs.Rounding.Ticks.{ticks_between, decimal_tick};
 
+use crate::rounding::long_errors::decimal_error;
 use crate::rounding::squares::sum_of_squares;
-use crate::rounding::ticks::ticks;
+use crate::rounding::ticks::{long_ticks, ticks};
 use ember_model::Axis;
+use ember_wide::Vast;
 use mesh_grid::{GridStep, Offset};
 use mesh_number::{Magnitude, divide};
 use mesh_point::SpacePoint;
-use mesh_written::{PlaceFault, Ratio, exact_place};
+use mesh_written::{LongRatio, Place, PlaceFault, Ratio, exact_place};
 use std::alloc::Global;
 use std::cmp::Ordering;
 
@@ -34,6 +37,42 @@ fn error_of(number: &Ratio, places: u32) -> u128
     rest.min(number.denominator - rest)
 }
 
+// How many ticks the nearest decimal is from the number, rounded up. None if the number is 10^21 or
+// more in size.
+fn short_decimal_ticks(number: &Ratio, places: u32) -> Option<u128>
+    requires { places ≤ 17 }
+    ensures ticks { MatchOption result (IsTooLong (fraction_of number.now)) (λ ticks.
+        let v = fraction_of number.now in
+        ticks ≡ ticks_between (decimal_tick places) v (decimal_number places v)) }
+    ensures few { IfSome result (λ ticks. ticks ≤ 2 ^ 62) }
+{
+    let limit = Magnitude::product(number.denominator, LIMIT);
+    if number.numerator.size.compare(&limit) != Ordering::Less {
+        return None;
+    }
+    let error = error_of(number, places);
+    Some(ticks(&Magnitude::product(error, 1), number.denominator, 0))
+}
+
+// The same for a long number.
+fn long_decimal_ticks(number: &LongRatio, places: u32) -> Option<u128>
+    requires { places ≤ 17 }
+    ensures ticks { MatchOption result (IsTooLong (long_fraction number.now)) (λ ticks.
+        let v = long_fraction number.now in
+        ticks ≡ ticks_between (decimal_tick places) v (decimal_number places v)) }
+    ensures few { IfSome result (λ ticks. ticks ≤ 2 ^ 62) }
+{
+    let most = Magnitude {
+        high: 0,
+        low: LIMIT,
+    };
+    let limit = Vast::product(&number.denominator, &most);
+    if number.numerator.size.compare(&limit) != Ordering::Less {
+        return None;
+    }
+    Some(long_ticks(&decimal_error(number, places), &number.denominator, 0))
+}
+
 // How many ticks the nearest decimal is from where the corner lies along the axis, rounded up. None
 // if the corner is 10^21 or more from zero there.
 fn decimal_ticks(
@@ -48,13 +87,10 @@ fn decimal_ticks(
     ensures ticks { AreDecimalTicks places (place_of step.now offset.now axis corner.now) result }
     ensures few { IfSome result (λ ticks. ticks ≤ 2 ^ 62) }
 {
-    let place = exact_place(corner, axis, step, offset);
-    let limit = Magnitude::product(place.denominator, LIMIT);
-    if place.numerator.size.compare(&limit) != Ordering::Less {
-        return None;
+    match exact_place(corner, axis, step, offset) {
+        Place::Short(number) => short_decimal_ticks(&number, places),
+        Place::Long(number) => long_decimal_ticks(&number, places),
     }
-    let error = error_of(&place, places);
-    Some(ticks(&Magnitude::product(error, 1), place.denominator, 0))
 }
 
 // The square of the corner's move to its decimals, in ticks, where each axis is rounded up.

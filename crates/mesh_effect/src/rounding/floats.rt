@@ -2,21 +2,23 @@
 ghost use Rattle.std.specs.Prelude.{◌≡◌, ◌+◌, ◌-◌, ◌*◌, ◌^◌, ◌<◌, ◌≤◌, min, IfSome, IfOk, IfErr};
 ghost use Rattle.ember_wide.specs.Whole.{size_of};
 ghost use Rattle.mesh_grid.specs.Snap.Steps.{IsStep};
-ghost use Rattle.mesh_written.specs.Places.{fraction_of, place_of};
-ghost use Rattle.mesh_written.specs.Floats.{IsFloatOf, IsFloatPoint};
-ghost use Rattle.mesh_written.specs.Floats.{AreFloatPoints, IsFloatFault};
+ghost use Rattle.mesh_written.specs.Places.{fraction_of, place_of, long_fraction};
+ghost use Rattle.mesh_written.specs.Floats.{IsFloatOf, IsFloatPoint, AreFloatPoints, IsFloatFault, IsInfinite};
 ghost use Rattle.mesh_effect.specs.Rounding.Given.{AreFloatSquares, AreFloatTicks, IsFloatSquare, float_error};
-ghost use Rattle.mesh_effect.specs.Rounding.Floats.{significand_of, last_place, point_place, top_place};
+ghost use Rattle.mesh_effect.specs.Rounding.Floats.{significand_of, last_place, point_place, top_place, float_number, is_below_zero};
+ghost use Rattle.mesh_effect.specs.Rounding.Ticks.{ticks_between, power_tick};
 ghost use Rattle.mesh_effect.specs.Rounding.Maximum.{greatest_of};
 
+use crate::rounding::long_errors::float_error;
 use crate::rounding::squares::sum_of_squares;
-use crate::rounding::ticks::moved_ticks;
+use crate::rounding::ticks::{long_ticks, moved_ticks};
 use ember_model::Axis;
+use ember_wide::Vast;
 use mesh_grid::{GridStep, Offset};
 use mesh_number::{Magnitude, Wide};
 use mesh_point::SpacePoint;
 use mesh_write::FloatPoint;
-use mesh_written::{PlaceFault, Ratio, exact_place};
+use mesh_written::{LongRatio, Place, PlaceFault, Ratio, exact_place};
 use std::alloc::Global;
 use std::cmp::Ordering;
 
@@ -51,11 +53,18 @@ fn significand_of(bits: u32) -> u32
 }
 
 // The place of its last bit: 0 stands for 2^-149, and each further one for twice as much.
-fn last_place(bits: u32) -> u32
+pub(crate) fn last_place(bits: u32) -> u32
     ensures value { result ≡ last_place bits }
     ensures few { result ≤ 254 }
 {
     (bits / FRACTIONS % EXPONENTS).saturating_sub(1)
+}
+
+// Whether the float has a minus.
+pub(crate) fn is_below_zero(bits: u32) -> bool
+    ensures { result ≡ is_below_zero bits }
+{
+    bits / SIGN == 1
 }
 
 // The greatest place of a coordinate of the point.
@@ -97,7 +106,7 @@ fn doubled(n: &Magnitude, times: u32) -> Magnitude
 }
 
 // The size of the float with these bits, in units of its last bit, or of 1 if that is less.
-fn written_size(bits: u32) -> u128
+pub(crate) fn written_size(bits: u32) -> u128
     requires place { last_place bits ≤ 253 }
     requires short { significand_of bits < 2 ^ 24 }
     ensures { result ≡ significand_of bits * 2 ^ (last_place bits - 149) }
@@ -127,6 +136,47 @@ fn error_of(number: &Ratio, bits: u32) -> Magnitude
     exact.plus(&opposite).size
 }
 
+// How many ticks the float with these bits is from the number, rounded up. None if the number rounds
+// to infinity.
+fn short_float_ticks(number: &Ratio, bits: u32, top: u32) -> Option<u128>
+    requires float { IsFloatOf (fraction_of number.now) bits }
+    requires place { last_place bits ≤ top }
+    requires top { top ≤ 254 }
+    ensures ticks { MatchOption result (IsInfinite (fraction_of number.now)) (λ ticks.
+        ticks ≡ ticks_between (power_tick top) (fraction_of number.now) (float_number bits)) }
+    ensures few { IfSome result (λ ticks. ticks ≤ 2 ^ 62) }
+{
+    let limit = Magnitude::product(number.denominator, INFINITE);
+    if number.numerator.size.compare(&limit) != Ordering::Less {
+        return None;
+    }
+    let error = error_of(number, bits);
+    let unit = last_place(bits).min(UNIT);
+    Some(moved_ticks(&error, number.denominator, top - unit))
+}
+
+// The same for a long number.
+fn long_float_ticks(number: &LongRatio, bits: u32, top: u32) -> Option<u128>
+    requires float { IsFloatOf (long_fraction number.now) bits }
+    requires place { last_place bits ≤ top }
+    requires top { top ≤ 254 }
+    ensures ticks { MatchOption result (IsInfinite (long_fraction number.now)) (λ ticks.
+        ticks ≡ ticks_between (power_tick top) (long_fraction number.now) (float_number bits)) }
+    ensures few { IfSome result (λ ticks. ticks ≤ 2 ^ 62) }
+{
+    let infinite = Magnitude {
+        high: 0,
+        low: INFINITE,
+    };
+    let limit = Vast::product(&number.denominator, &infinite);
+    if number.numerator.size.compare(&limit) != Ordering::Less {
+        return None;
+    }
+    let error = float_error(number, bits);
+    let unit = last_place(bits).min(UNIT);
+    Some(long_ticks(&error, &number.denominator, top - unit))
+}
+
 // How many ticks the float with these bits is from where the corner lies along the axis, rounded
 // up. None if this place rounds to infinity.
 fn float_ticks(
@@ -144,14 +194,10 @@ fn float_ticks(
     ensures ticks { AreFloatTicks top bits (place_of step.now offset.now axis corner.now) result }
     ensures few { IfSome result (λ ticks. ticks ≤ 2 ^ 62) }
 {
-    let place = exact_place(corner, axis, step, offset);
-    let limit = Magnitude::product(place.denominator, INFINITE);
-    if place.numerator.size.compare(&limit) != Ordering::Less {
-        return None;
+    match exact_place(corner, axis, step, offset) {
+        Place::Short(number) => short_float_ticks(&number, bits, top),
+        Place::Long(number) => long_float_ticks(&number, bits, top),
     }
-    let error = error_of(&place, bits);
-    let unit = last_place(bits).min(UNIT);
-    Some(moved_ticks(&error, place.denominator, top - unit))
 }
 
 // The square of the corner's move to the point, in ticks, where each axis is rounded up.

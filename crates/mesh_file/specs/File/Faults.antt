@@ -1,5 +1,5 @@
 -- The first fault of a file, with the text of a bad word
-use Rattle.std.specs.Prelude.{ℕ, Bool, true, false, List, Option, None, Some}
+use Rattle.std.specs.Prelude.{◌≡◌, ◌⊎◌, ℕ, Bool, true, false, List, Option, None, Some, Result, Err}
 use Rattle.mesh_read.specs.declared.stl.fault.StlFault.{StlFault}
 use Rattle.mesh_read.specs.declared.stl.fault.StlFault.TheVariants as stl
 use Rattle.mesh_ply.specs.declared.fault.PlyFault.{PlyFault}
@@ -37,6 +37,10 @@ fault_of (file.Gltf fault) = Gltf fault
 fault_of (file.Wavefront fault) = Wavefront (wavefront.fault_of fault)
 fault_of (file.Unread format) = Unread format
 fault_of file.OutOfMemory = OutOfMemory
+
+-- an error that a reading which ends so may give: its fault, or out-of-memory
+abbrev pub IsErrorOf : {X : Type 0} → Result X Fault → FileFault → Type 0
+IsErrorOf reading e = (e ≡ file.OutOfMemory) ⊎ (reading ≡ Err (fault_of e))
 
 -- ---- the fault of a file for one of each reader
 -- an STL that is cut off, and out-of-memory, are faults of the file

@@ -31,15 +31,32 @@ abbrev pub or_unread : List ℕ → Result Content Fault → Result Content Faul
 or_unread bytes (Ok content) = Ok content
 or_unread bytes (Err fault) = Err (with_unread bytes fault)
 
+-- ---- what the reader of one format says of a file
+abbrev pub stl_reading : List ℕ → Result Content Fault
+stl_reading bytes = with_faults of_stl (or_nothing is_empty_stl (read_stl_of bytes))
+
+abbrev pub ply_reading : List ℕ → Result Content Fault
+ply_reading bytes = with_faults of_ply (or_nothing is_empty_ply (read_ply_of bytes))
+
+abbrev pub off_reading : List ℕ → Result Content Fault
+off_reading bytes = with_faults of_off (or_nothing is_empty_off (read_off_of bytes))
+
+abbrev pub gltf_reading : List ℕ → Result Content Fault
+gltf_reading bytes = with_faults of_gltf (or_nothing is_empty_gltf (read_gltf_of bytes))
+
+abbrev pub wavefront_reading : List ℕ → Result Content Fault
+wavefront_reading bytes = with_faults of_wavefront (read_wavefront_of bytes)
+
+-- ---- what a file says
 -- what a file of this format says, or its first fault; its bytes don't show an OBJ, so one without triangles is refused
 abbrev pub reading_in : Format → List ℕ → Result Content Fault
-reading_in format.Ply bytes = with_faults of_ply (or_nothing is_empty_ply (read_ply_of bytes))
-reading_in format.BinaryStl bytes = with_faults of_stl (or_nothing is_empty_stl (read_stl_of bytes))
-reading_in format.AsciiStl bytes = with_faults of_stl (or_nothing is_empty_stl (read_stl_of bytes))
-reading_in format.Off bytes = with_faults of_off (or_nothing is_empty_off (read_off_of bytes))
-reading_in format.Gltf bytes = with_faults of_gltf (or_nothing is_empty_gltf (read_gltf_of bytes))
+reading_in format.Ply bytes = ply_reading bytes
+reading_in format.BinaryStl bytes = stl_reading bytes
+reading_in format.AsciiStl bytes = stl_reading bytes
+reading_in format.Off bytes = off_reading bytes
+reading_in format.Gltf bytes = gltf_reading bytes
 reading_in format.CutOffStl bytes = or_unread bytes (Err (CutOff (facets_said bytes)))
-reading_in format.Obj bytes = or_unread bytes (with_faults of_wavefront (read_wavefront_of bytes))
+reading_in format.Obj bytes = or_unread bytes (wavefront_reading bytes)
 
 -- what a file with this name says, or its first fault
 abbrev pub reading_of : List ℕ → List ℕ → Result Content Fault

@@ -9,6 +9,7 @@ use Rattle.mesh_read.specs.declared.off.fault.OffFault.{OffFault}
 use Rattle.mesh_read.specs.declared.off.fault.OffFault.TheVariants as off
 use Rattle.mesh_gltf.specs.declared.fault.GltfFault.{GltfFault}
 use Rattle.mesh_gltf.specs.declared.fault.GltfFault.TheVariants as gltf
+use Rattle.mesh_read.specs.declared.wavefront.fault.WavefrontFault.{WavefrontFault}
 use Rattle.mesh_read.specs.Wavefront.Faults as wavefront
 use Rattle.mesh_file.specs.declared.file.unread.UnreadFormat.{UnreadFormat}
 use Rattle.mesh_file.specs.declared.file.unread.UnreadFormat.TheVariants as unread
@@ -179,6 +180,10 @@ wavefront_reason (wavefront.FewCorners line) =
 wavefront_reason wavefront.NoTriangles = no_triangles
 wavefront_reason (wavefront.TooLarge line) = too_large (codes "line") line
 wavefront_reason wavefront.OutOfMemory = out_of_memory
+
+-- the reason of an error
+abbrev pub reason_of_wavefront : WavefrontFault → List ℕ
+reason_of_wavefront error = wavefront_reason (wavefront.fault_of error)
 
 -- ---- formats that aren't read
 abbrev pub unread_reason : UnreadFormat → List ℕ

@@ -1,16 +1,11 @@
 // A file of any format.
-ghost use Rattle.std.specs.Prelude.{◌≡◌, ◌⊎◌, ◌≤◌, true, length, None, Ok, Err, IfOk, IfErr};
+ghost use Rattle.std.specs.Prelude.{◌≡◌, ◌≤◌, true, length, None, Ok, Err, IfOk, IfErr};
 ghost use Rattle.std.specs.List.{find};
 ghost use Rattle.ember_model.specs.Limits.{most_bytes};
-ghost use Rattle.mesh_read.specs.Surface.Surfaces.{IsSurface, content_of, is_facet_too_large};
-ghost use Rattle.mesh_read.specs.Stl.ReadStl.{read_stl_of};
-ghost use Rattle.mesh_ply.specs.ReadPly.{read_ply_of};
-ghost use Rattle.mesh_read.specs.Off.ReadOff.{read_off_of};
-ghost use Rattle.mesh_gltf.specs.ReadGltf.{read_gltf_of};
-ghost use Rattle.mesh_read.specs.Wavefront.ReadWavefront.{read_wavefront_of};
+ghost use Rattle.mesh_read.specs.Surface.Surfaces.{IsSurface, content_of, is_facet_too_large, IsSurfaceOf};
 ghost use Rattle.mesh_read.specs.Wavefront.Faults as wavefront;
-ghost use Rattle.mesh_file.specs.File.Faults.{fault_of, is_plain, of_stl, of_ply, of_off, of_gltf, of_wavefront, with_unread, is_empty_stl, is_empty_ply, is_empty_off, is_empty_gltf};
-ghost use Rattle.mesh_file.specs.File.ReadFile.{nothing, or_nothing, with_faults, or_unread, reading_of};
+ghost use Rattle.mesh_file.specs.File.Faults.{fault_of, is_plain, of_stl, of_ply, of_off, of_gltf, of_wavefront, with_unread, is_empty_stl, is_empty_ply, is_empty_off, is_empty_gltf, IsErrorOf};
+ghost use Rattle.mesh_file.specs.File.ReadFile.{nothing, or_unread, reading_of, gltf_reading, off_reading, ply_reading, stl_reading, wavefront_reading};
 
 use crate::file::fault::FileFault;
 use crate::file::unread::unread_format;
@@ -146,11 +141,10 @@ fn or_unread<'a>(bytes: &[u8], fault: FileFault<'a>) -> FileFault<'a>
 // The surface of an STL file, binary or ASCII, or the fault of one that is cut off.
 fn read_stl_file<'a>(alloc: Global, bytes: &'a [u8]) -> Result<Surface<'a>, FileFault<'a>>
     requires { length bytes.now ≤ most_bytes }
-    ensures ok { IfOk result (λ s. with_faults of_stl (or_nothing is_empty_stl (read_stl_of bytes.now)) ≡ Ok (content_of s)) }
+    ensures ok { IfOk result (IsSurfaceOf (stl_reading bytes.now)) }
     ensures surface { IfOk result IsSurface }
     ensures within { IfOk result (λ s. find (is_facet_too_large s.vertices.items) s.facets.items ≡ None) }
-    ensures fault { IfErr result (λ e. (e ≡ FileFault.OutOfMemory)
-        ⊎ (with_faults of_stl (or_nothing is_empty_stl (read_stl_of bytes.now)) ≡ Err (fault_of e))) }
+    ensures fault { IfErr result (IsErrorOf (stl_reading bytes.now)) }
     ensures plain { IfErr result (λ e. is_plain e ≡ true) }
 {
     match read_stl(alloc, bytes) {
@@ -166,11 +160,10 @@ fn read_stl_file<'a>(alloc: Global, bytes: &'a [u8]) -> Result<Surface<'a>, File
 
 fn read_ply_file<'a>(alloc: Global, bytes: &'a [u8]) -> Result<Surface<'a>, FileFault<'a>>
     requires { length bytes.now ≤ most_bytes }
-    ensures ok { IfOk result (λ s. with_faults of_ply (or_nothing is_empty_ply (read_ply_of bytes.now)) ≡ Ok (content_of s)) }
+    ensures ok { IfOk result (IsSurfaceOf (ply_reading bytes.now)) }
     ensures surface { IfOk result IsSurface }
     ensures within { IfOk result (λ s. find (is_facet_too_large s.vertices.items) s.facets.items ≡ None) }
-    ensures fault { IfErr result (λ e. (e ≡ FileFault.OutOfMemory)
-        ⊎ (with_faults of_ply (or_nothing is_empty_ply (read_ply_of bytes.now)) ≡ Err (fault_of e))) }
+    ensures fault { IfErr result (IsErrorOf (ply_reading bytes.now)) }
     ensures plain { IfErr result (λ e. is_plain e ≡ true) }
 {
     match read_ply(alloc, bytes) {
@@ -186,11 +179,10 @@ fn read_ply_file<'a>(alloc: Global, bytes: &'a [u8]) -> Result<Surface<'a>, File
 
 fn read_off_file<'a>(alloc: Global, bytes: &'a [u8]) -> Result<Surface<'a>, FileFault<'a>>
     requires { length bytes.now ≤ most_bytes }
-    ensures ok { IfOk result (λ s. with_faults of_off (or_nothing is_empty_off (read_off_of bytes.now)) ≡ Ok (content_of s)) }
+    ensures ok { IfOk result (IsSurfaceOf (off_reading bytes.now)) }
     ensures surface { IfOk result IsSurface }
     ensures within { IfOk result (λ s. find (is_facet_too_large s.vertices.items) s.facets.items ≡ None) }
-    ensures fault { IfErr result (λ e. (e ≡ FileFault.OutOfMemory)
-        ⊎ (with_faults of_off (or_nothing is_empty_off (read_off_of bytes.now)) ≡ Err (fault_of e))) }
+    ensures fault { IfErr result (IsErrorOf (off_reading bytes.now)) }
     ensures plain { IfErr result (λ e. is_plain e ≡ true) }
 {
     match read_off(alloc, bytes) {
@@ -206,11 +198,10 @@ fn read_off_file<'a>(alloc: Global, bytes: &'a [u8]) -> Result<Surface<'a>, File
 
 fn read_gltf_file<'a>(alloc: Global, bytes: &'a [u8]) -> Result<Surface<'a>, FileFault<'a>>
     requires { length bytes.now ≤ most_bytes }
-    ensures ok { IfOk result (λ s. with_faults of_gltf (or_nothing is_empty_gltf (read_gltf_of bytes.now)) ≡ Ok (content_of s)) }
+    ensures ok { IfOk result (IsSurfaceOf (gltf_reading bytes.now)) }
     ensures surface { IfOk result IsSurface }
     ensures within { IfOk result (λ s. find (is_facet_too_large s.vertices.items) s.facets.items ≡ None) }
-    ensures fault { IfErr result (λ e. (e ≡ FileFault.OutOfMemory)
-        ⊎ (with_faults of_gltf (or_nothing is_empty_gltf (read_gltf_of bytes.now)) ≡ Err (fault_of e))) }
+    ensures fault { IfErr result (IsErrorOf (gltf_reading bytes.now)) }
     ensures plain { IfErr result (λ e. is_plain e ≡ true) }
 {
     match read_gltf(alloc, bytes) {
@@ -226,11 +217,10 @@ fn read_gltf_file<'a>(alloc: Global, bytes: &'a [u8]) -> Result<Surface<'a>, Fil
 
 fn read_wavefront_file<'a>(alloc: Global, bytes: &'a [u8]) -> Result<Surface<'a>, FileFault<'a>>
     requires { length bytes.now ≤ most_bytes }
-    ensures ok { IfOk result (λ s. with_faults of_wavefront (read_wavefront_of bytes.now) ≡ Ok (content_of s)) }
+    ensures ok { IfOk result (IsSurfaceOf (wavefront_reading bytes.now)) }
     ensures surface { IfOk result IsSurface }
     ensures within { IfOk result (λ s. find (is_facet_too_large s.vertices.items) s.facets.items ≡ None) }
-    ensures fault { IfErr result (λ e. (e ≡ FileFault.OutOfMemory)
-        ⊎ (with_faults of_wavefront (read_wavefront_of bytes.now) ≡ Err (fault_of e))) }
+    ensures fault { IfErr result (IsErrorOf (wavefront_reading bytes.now)) }
     ensures plain { IfErr result (λ e. is_plain e ≡ true) }
 {
     match read_wavefront(alloc, bytes) {
@@ -242,12 +232,10 @@ fn read_wavefront_file<'a>(alloc: Global, bytes: &'a [u8]) -> Result<Surface<'a>
 // The surface of a file that is STL by its name alone, or rather its fault.
 fn read_cut_off_file<'a>(alloc: Global, bytes: &'a [u8]) -> Result<Surface<'a>, FileFault<'a>>
     requires { length bytes.now ≤ most_bytes }
-    ensures ok { IfOk result (λ s. or_unread bytes.now (with_faults of_stl (or_nothing is_empty_stl (read_stl_of bytes.now)))
-        ≡ Ok (content_of s)) }
+    ensures ok { IfOk result (IsSurfaceOf (or_unread bytes.now (stl_reading bytes.now))) }
     ensures surface { IfOk result IsSurface }
     ensures within { IfOk result (λ s. find (is_facet_too_large s.vertices.items) s.facets.items ≡ None) }
-    ensures fault { IfErr result (λ e. (e ≡ FileFault.OutOfMemory)
-        ⊎ (or_unread bytes.now (with_faults of_stl (or_nothing is_empty_stl (read_stl_of bytes.now))) ≡ Err (fault_of e))) }
+    ensures fault { IfErr result (IsErrorOf (or_unread bytes.now (stl_reading bytes.now))) }
     ensures plain { IfErr result (λ e. is_plain e ≡ true) }
 {
     match read_stl_file(alloc, bytes) {
@@ -259,12 +247,10 @@ fn read_cut_off_file<'a>(alloc: Global, bytes: &'a [u8]) -> Result<Surface<'a>, 
 // The surface of any other file, if it is an OBJ.
 fn read_other_file<'a>(alloc: Global, bytes: &'a [u8]) -> Result<Surface<'a>, FileFault<'a>>
     requires { length bytes.now ≤ most_bytes }
-    ensures ok { IfOk result (λ s. or_unread bytes.now (with_faults of_wavefront (read_wavefront_of bytes.now))
-        ≡ Ok (content_of s)) }
+    ensures ok { IfOk result (IsSurfaceOf (or_unread bytes.now (wavefront_reading bytes.now))) }
     ensures surface { IfOk result IsSurface }
     ensures within { IfOk result (λ s. find (is_facet_too_large s.vertices.items) s.facets.items ≡ None) }
-    ensures fault { IfErr result (λ e. (e ≡ FileFault.OutOfMemory)
-        ⊎ (or_unread bytes.now (with_faults of_wavefront (read_wavefront_of bytes.now)) ≡ Err (fault_of e))) }
+    ensures fault { IfErr result (IsErrorOf (or_unread bytes.now (wavefront_reading bytes.now))) }
     ensures plain { IfErr result (λ e. is_plain e ≡ true) }
 {
     match read_wavefront_file(alloc, bytes) {
@@ -292,11 +278,10 @@ pub fn read_file<'a>(
     bytes: &'a [u8],
 ) -> Result<Surface<'a>, FileFault<'a>>
     requires { length bytes.now ≤ most_bytes }
-    ensures ok { IfOk result (λ s. reading_of name.now bytes.now ≡ Ok (content_of s)) }
+    ensures ok { IfOk result (IsSurfaceOf (reading_of name.now bytes.now)) }
     ensures surface { IfOk result IsSurface }
     ensures within { IfOk result (λ s. find (is_facet_too_large s.vertices.items) s.facets.items ≡ None) }
-    ensures fault { IfErr result (λ e. (e ≡ FileFault.OutOfMemory)
-        ⊎ (reading_of name.now bytes.now ≡ Err (fault_of e))) }
+    ensures fault { IfErr result (IsErrorOf (reading_of name.now bytes.now)) }
     ensures plain { IfErr result (λ e. is_plain e ≡ true) }
 {
     match format_of(name, bytes) {

@@ -2,7 +2,7 @@
 ghost use Rattle.std.specs.Prelude.{◌≡◌, ◌++◌, OnOk, string_bytes};
 ghost use Rattle.mesh_read.specs.Wavefront.Faults as wavefront;
 ghost use Rattle.mesh_file.specs.File.Faults.{fault_of};
-ghost use Rattle.mesh_file.specs.File.Reasons.{not_a_number, unknown_word, short_row, unknown_vertex, stl_reason, ply_reason, off_reason, gltf_reason, wavefront_reason, unread_reason, reason_of};
+ghost use Rattle.mesh_file.specs.File.Reasons.{not_a_number, unknown_word, short_row, unknown_vertex, stl_reason, ply_reason, off_reason, gltf_reason, unread_reason, reason_of, reason_of_wavefront};
 
 use crate::file::fault::FileFault;
 use crate::file::phrases::{
@@ -151,8 +151,7 @@ fn put_unknown_vertex(line: u32, reference: &[u8], text: &mut String) -> Result<
 }
 
 fn put_wavefront_reason(fault: &WavefrontFault, text: &mut String) -> Result<(), AllocError>
-    ensures { OnOk result (string_bytes text.new ≡ string_bytes text.old
-        ++ wavefront_reason (wavefront.fault_of fault.now)) }
+    ensures { OnOk result (string_bytes text.new ≡ string_bytes text.old ++ reason_of_wavefront fault.now) }
 {
     match fault {
         WavefrontFault::FewCoordinates(line) => put_at("line", *line, FEW_COORDINATES, text),

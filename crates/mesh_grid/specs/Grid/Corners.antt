@@ -1,5 +1,5 @@
 -- The corners of the triangles of surfaces, and where they lie on a grid
-use Rattle.std.specs.Prelude.{◌≡◌, ℕ, true, pos, negsuc, ◌-ℤ◌, List, map, All, Option, Some, None}
+use Rattle.std.specs.Prelude.{◌≡◌, ℕ, true, pos, neg_ℤ, ◌-ℤ◌, List, map, All, Option, Some, None}
 use Rattle.std.specs.Prelude.{IfSome, slice_get, flat_map}
 use Rattle.std.specs.Option.{option_to_list}
 use Rattle.mesh_grid.specs.declared.snap.spans.Coordinates.{Coordinates}
@@ -9,6 +9,7 @@ use Rattle.mesh_read.specs.declared.surface.surface.Facet.{Facet}
 use Rattle.mesh_read.specs.declared.surface.surface.Surface.{Surface}
 use Rattle.mesh_read.specs.Surface.Surfaces.{is_vertex_below}
 use Rattle.ember_model.specs.declared.point.Corner.{Corner}
+use Rattle.ember_model.specs.Limits.{narrow_limit}
 use Rattle.mesh_grid.specs.declared.grid.grid.Grid.{Grid}
 
 -- the vertices at the corners of triangles, in order
@@ -42,20 +43,24 @@ corner_from g (Some v) = corner_on g v
 abbrev pub corner_at : Grid → List Vertex → ℕ → Corner
 corner_at g vertices index = corner_from g (slice_get vertices index)
 
--- the coordinates are below 10^15, and the corner is at most 2047 from zero along each axis
-pub record IsOnGrid (g : Grid) (v : Vertex) : Type 0 where
+-- the coordinates are below 10^15, and the corner is at most m from zero along each axis
+pub record IsOnGridWithin (m : ℕ) (g : Grid) (v : Vertex) : Type 0 where
   pub below : is_vertex_below v ≡ true
-  pub x : IsBetween (negsuc 2046) (corner_on g v).x (pos 2047)
-  pub y : IsBetween (negsuc 2046) (corner_on g v).y (pos 2047)
-  pub z : IsBetween (negsuc 2046) (corner_on g v).z (pos 2047)
+  pub x : IsBetween (neg_ℤ (pos m)) (corner_on g v).x (pos m)
+  pub y : IsBetween (neg_ℤ (pos m)) (corner_on g v).y (pos m)
+  pub z : IsBetween (neg_ℤ (pos m)) (corner_on g v).z (pos m)
 
 -- each corner of the triangle, and of each triangle
-abbrev pub LandsAt : Grid → List Vertex → ℕ → Type 0
-LandsAt g vertices index = IfSome (slice_get vertices index) (IsOnGrid g)
+abbrev pub LandsAtWithin : ℕ → Grid → List Vertex → ℕ → Type 0
+LandsAtWithin m g vertices index = IfSome (slice_get vertices index) (IsOnGridWithin m g)
 
-abbrev pub FacetLands : Grid → List Vertex → Facet → Type 0
-FacetLands g vertices f = All (LandsAt g vertices) f.corners
+abbrev pub FacetLandsWithin : ℕ → Grid → List Vertex → Facet → Type 0
+FacetLandsWithin m g vertices f = All (LandsAtWithin m g vertices) f.corners
 
--- all corners of the surface's triangles land on the grid
+-- all corners of the surface's triangles land on the grid from -m to m
+abbrev pub LandsWithin : ℕ → Grid → Surface → Type 0
+LandsWithin m g s = All (FacetLandsWithin m g s.vertices.items) s.facets.items
+
+-- the same on the narrow grid
 abbrev pub Lands : Grid → Surface → Type 0
-Lands g s = All (FacetLands g s.vertices.items) s.facets.items
+Lands g s = LandsWithin narrow_limit g s

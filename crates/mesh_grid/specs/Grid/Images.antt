@@ -3,10 +3,9 @@ use Rattle.std.specs.Prelude.{◌≡◌, ℕ, Bool, not, ◌||◌, List, map, fi
 use Rattle.mesh_read.specs.declared.surface.surface.Facet.{Facet}
 use Rattle.ember_model.specs.declared.point.Corner.{Corner}
 use Rattle.ember_model.specs.declared.tri.Tri.{Tri}
-use Rattle.ember_model.specs.Valid.{IsValidTri}
 use Rattle.ember_model.specs.Meshes.{same_corner}
 use Rattle.ember_model.specs.Faces.{is_flat}
-use Rattle.mesh_grid.specs.declared.grid.snapping.Snapping.{Snapping}
+use Rattle.mesh_grid.specs.declared.grid.snapping.SnappedTris.{SnappedTris}
 
 -- the triangle where the map takes its corners
 abbrev pub image : (ℕ → Corner) → ℕ → Facet → Tri
@@ -53,8 +52,7 @@ abbrev pub flat_ones : List Tri → List Tri
 flat_ones ts = filter is_flat ts
 
 -- what is kept of the triangles that were looked at
-pub record AreSnapped (at : ℕ → Corner) (mesh : ℕ) (fs : List Facet) (s : Snapping) : Type 0 where
-  pub valid : All IsValidTri s.tris.items
+pub record AreSnapped (at : ℕ → Corner) (mesh : ℕ) (fs : List Facet) (s : SnappedTris) : Type 0 where
   pub tris : s.tris.items ≡ images at mesh fs
   pub places : s.places.items ≡ places_of (kept at fs)
   pub vanished : s.vanished ≡ length (vanished at fs)

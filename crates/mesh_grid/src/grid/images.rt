@@ -2,8 +2,9 @@
 ghost use Rattle.std.specs.Prelude.{◌≡◌, ℕ, true, All, IfOk};
 ghost use Rattle.mesh_grid.specs.Snap.Steps.{IsStep};
 ghost use Rattle.ember_model.specs.declared.point.Corner.{Corner};
-ghost use Rattle.ember_model.specs.Valid.{IsValidCorner, IsValidTri};
-ghost use Rattle.mesh_grid.specs.Grid.Corners.{corner_on, corner_at, IsOnGrid, Lands};
+ghost use Rattle.ember_model.specs.Limits.{broad_limit};
+ghost use Rattle.ember_model.specs.Within.{IsCornerWithin, IsTriWithin};
+ghost use Rattle.mesh_grid.specs.Grid.Corners.{corner_on, corner_at, IsOnGridWithin, LandsWithin};
 ghost use Rattle.mesh_grid.specs.Grid.Marks.{indices_in};
 ghost use Rattle.mesh_grid.specs.Grid.Images.{image, corner_in, AreCornersAt};
 
@@ -20,9 +21,9 @@ const ZERO: Corner = Corner { x: 0, y: 0, z: 0 };
 // The vertex on the grid if it is a corner. Others may lie off the grid, and nobody reads them.
 fn corner_if(is_corner: bool, vertex: &Vertex, grid: &Grid) -> Corner
     requires step { IsStep grid.now.step }
-    requires lands { is_corner ≡ true → IsOnGrid grid.now vertex.now }
+    requires lands { is_corner ≡ true → IsOnGridWithin broad_limit grid.now vertex.now }
     ensures value { is_corner ≡ true → result ≡ corner_on grid.now vertex.now }
-    ensures valid { IsValidCorner result }
+    ensures within { (m : ℕ) → (is_corner ≡ true → IsOnGridWithin m grid.now vertex.now) → IsCornerWithin m result }
 {
     if is_corner {
         corner_on(vertex, grid)
@@ -38,8 +39,9 @@ pub(crate) fn corners_on(
     grid: &Grid,
 ) -> Result<Vec<Corner>, AllocError>
     requires step { IsStep grid.now.step }
-    requires lands { Lands grid.now surface.now }
-    ensures valid { IfOk result (λ corners. All IsValidCorner corners.items) }
+    requires lands { LandsWithin broad_limit grid.now surface.now }
+    ensures within { IfOk result (λ corners.
+        (m : ℕ) → LandsWithin m grid.now surface.now → All (IsCornerWithin m) corners.items) }
     ensures value { IfOk result (λ corners. AreCornersAt
         (corner_at grid.now surface.now.vertices.items) (indices_in surface.now.facets.items) corners.items) }
 {
@@ -53,9 +55,8 @@ pub(crate) fn corners_on(
 }
 
 fn corner_in(corners: &[Corner], index: u32) -> Corner
-    requires { All IsValidCorner corners.now }
     ensures value { result ≡ corner_in corners.now index }
-    ensures valid { IsValidCorner result }
+    ensures within { (m : ℕ) → All (IsCornerWithin m) corners.now → IsCornerWithin m result }
 {
     match corners.get(index as usize) {
         Some(corner) => *corner,
@@ -65,10 +66,9 @@ fn corner_in(corners: &[Corner], index: u32) -> Corner
 
 // The triangle with these corners.
 pub(crate) fn tri_of(corners: &[Corner], facet: &Facet, mesh: u32) -> Tri
-    requires { All IsValidCorner corners.now }
     ensures value { (at : ℕ → Corner) → AreCornersAt at facet.now.corners corners.now →
         result ≡ image at mesh facet.now }
-    ensures valid { IsValidTri result }
+    ensures within { (m : ℕ) → All (IsCornerWithin m) corners.now → IsTriWithin m result }
 {
     let [a, b, c] = facet.corners;
     Tri {

@@ -1,7 +1,7 @@
 // The greatest move of the corners of a surface.
 ghost use Rattle.std.specs.Prelude.{◌≡◌, All, IfOk};
 ghost use Rattle.mesh_grid.specs.Snap.Steps.{IsStep};
-ghost use Rattle.mesh_grid.specs.Grid.Corners.{Lands};
+ghost use Rattle.mesh_grid.specs.Grid.Grids.{IsWithinLimit};
 ghost use Rattle.mesh_grid.specs.Grid.Marks.{AreMarksOf, HasThreeCorners};
 ghost use Rattle.mesh_grid.specs.Moves.Moves.{IsFineness};
 ghost use Rattle.mesh_grid.specs.Moves.Greatest.{greatest_square};
@@ -20,7 +20,7 @@ use std::alloc::{AllocError, Global};
 // looked at once.
 fn greatest_of_marked(surface: &Surface, marks: &[bool], grid: &Grid, fineness: u64) -> u128
     requires step { IsStep grid.now.step }
-    requires lands { Lands grid.now surface.now }
+    requires within { IsWithinLimit surface.now }
     requires fineness { IsFineness grid.now.step fineness }
     requires marks { AreMarksOf surface.now marks.now }
     requires three { All HasThreeCorners surface.now.facets.items }
@@ -35,11 +35,11 @@ fn greatest_of_marked(surface: &Surface, marks: &[bool], grid: &Grid, fineness: 
 }
 
 // How far a corner of the surface's triangles moves to the grid at most: a length that isn't below
-// the true one, with nine digits and at most 12 places. It is 0 if no corner moves. All corners of
-// triangles are on the grid, as `grid_of` gives it.
+// the true one, with nine digits and at most 12 places. It is 0 if no corner moves. Each coordinate of
+// a corner is below 10^15 in size.
 fn greatest_move(alloc: Global, surface: &Surface, grid: &Grid) -> Result<Length, AllocError>
     requires step { IsStep grid.now.step }
-    requires lands { Lands grid.now surface.now }
+    requires within { IsWithinLimit surface.now }
     ensures { IfOk result (λ length. rounded_of length ≡ greatest_move grid.now surface.now) }
 {
     let marks = corner_marks(alloc, surface)?;
@@ -50,14 +50,14 @@ fn greatest_move(alloc: Global, surface: &Surface, grid: &Grid) -> Result<Length
 
 /// How far a corner of each surface moves to the grid at most, in order: a length that isn't below the
 /// true one, with nine digits and at most 12 places. It is 0 if no corner moves. It looks at each
-/// vertex once.
+/// vertex once. Each coordinate of a corner is below 10^15 in size.
 pub fn greatest_moves(
     alloc: Global,
     surfaces: &[Surface],
     grid: &Grid,
 ) -> Result<Vec<Length>, AllocError>
     requires step { IsStep grid.now.step }
-    requires lands { All (Lands grid.now) surfaces.now }
+    requires within { All IsWithinLimit surfaces.now }
     ensures { IfOk result (λ moves. AreMoves grid.now surfaces.now moves.items) }
 {
     let mut moves = Vec::with_capacity(alloc, surfaces.len())?;

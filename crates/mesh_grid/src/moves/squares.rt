@@ -1,7 +1,7 @@
 // How far corners move, squared.
 ghost use Rattle.std.specs.Prelude.{◌≡◌, ◌≤◌, ◌^◌, max, true, if◌then◌else◌};
 ghost use Rattle.mesh_grid.specs.Snap.Steps.{IsStep};
-ghost use Rattle.mesh_grid.specs.Grid.Corners.{IsOnGrid};
+ghost use Rattle.mesh_read.specs.Surface.Surfaces.{is_vertex_below};
 ghost use Rattle.mesh_grid.specs.Moves.Moves.{IsFineness};
 ghost use Rattle.mesh_grid.specs.Moves.Greatest.{square, square_of};
 
@@ -20,7 +20,7 @@ fn square(n: u128) -> u128
 // The square of the length of a vertex's move, where each axis is rounded up.
 fn square_of(vertex: &Vertex, grid: &Grid, fineness: u64) -> u128
     requires step { IsStep grid.now.step }
-    requires lands { IsOnGrid grid.now vertex.now }
+    requires below { is_vertex_below vertex.now ≡ true }
     requires fineness { IsFineness grid.now.step fineness }
     ensures { result ≡ square_of grid.now.step fineness vertex.now }
 {
@@ -31,7 +31,7 @@ fn square_of(vertex: &Vertex, grid: &Grid, fineness: u64) -> u128
 }
 
 // The greater of a square and that of the vertex's move. What isn't a corner doesn't count, and may
-// lie off the grid.
+// have greater coordinates.
 pub(crate) fn with_vertex(
     greatest: u128,
     is_corner: bool,
@@ -40,7 +40,7 @@ pub(crate) fn with_vertex(
     fineness: u64,
 ) -> u128
     requires step { IsStep grid.now.step }
-    requires lands { is_corner ≡ true → IsOnGrid grid.now vertex.now }
+    requires below { is_corner ≡ true → is_vertex_below vertex.now ≡ true }
     requires fineness { IsFineness grid.now.step fineness }
     ensures { result ≡ (if is_corner then max greatest (square_of grid.now.step fineness vertex.now) else greatest) }
 {

@@ -60,8 +60,14 @@ fn are_far_apart(numbers: &[Number], ends: &FarPair, step: &GridStep, size: Grid
     cell(&numbers[ends.high], step) - cell(&numbers[ends.low], step) > most
 }
 
-// Whether the coordinates fit on a grid of this size along all axes.
-fn fits(coordinates: &Coordinates, ends: &FarPairs, step: &GridStep, size: GridSize) -> bool
+// Whether the coordinates fit on a grid of this size along all axes. The ends are those that
+// [`all_ends`] finds.
+pub(crate) fn fits(
+    coordinates: &Coordinates,
+    ends: &FarPairs,
+    step: &GridStep,
+    size: GridSize,
+) -> bool
     requires step { IsStep step.now }
     requires coordinates { AreCoordinates coordinates.now }
     requires ends { AreAllEnds coordinates.now ends.now }
@@ -82,7 +88,7 @@ fn fits(coordinates: &Coordinates, ends: &FarPairs, step: &GridStep, size: GridS
     }
 }
 
-fn all_ends(coordinates: &Coordinates) -> FarPairs
+pub(crate) fn all_ends(coordinates: &Coordinates) -> FarPairs
     requires { AreCoordinates coordinates.now }
     ensures { AreAllEnds coordinates.now result }
 {

@@ -1,8 +1,9 @@
 -- What the names of a target hold, and what calls leave of it.
-use Rattle.std.specs.Prelude.{◌≡◌, ℕ, ◌+◌, ◌-◌, ◌^◌, ◌<◌, ◌≤◌, min, List, ◌++◌, ⊤, None, Some, IsSome, ◌⊎◌, ◌==◌}
+use Rattle.std.specs.Prelude.{◌≡◌, ℕ, ◌+◌, ◌-◌, ◌^◌, ◌<◌, ◌≤◌, min, List, [], ◌++◌, ⊤, None, Some, IsSome, MatchOption, ◌⊎◌, ◌==◌}
 use Rattle.std.specs.Prelude.{not, length, take}
 use Rattle.std.specs.Prelude.{codes, decimal}
 use Rattle.std.specs.List.{suffix_len}
+use Rattle.std.specs.Borrow.{Bor}
 use Rattle.std.specs.declared.option.Option.{Option}
 use Rattle.std.specs.Io.KnownBytes.{append_known}
 
@@ -14,6 +15,10 @@ Names = List ℕ → Option (List ℕ)
 abbrev pub value_at : Option Names → List ℕ → Option (List ℕ)
 value_at None name = None
 value_at (Some f) name = f name
+
+-- the bytes are those that this name is told to hold; none if no file is told
+abbrev pub AreBytesAt : Option (List ℕ) → Option (Bor (List ℕ)) → Type 0
+AreBytesAt value result = MatchOption result (value ≡ None) (λ bytes. value ≡ Some bytes.now)
 
 -- if it is told, there is a file of this name
 abbrev pub IsTaken : Option Names → List ℕ → Type 0
@@ -44,6 +49,18 @@ Moves (Some f) None from to value = ⊥
 Moves (Some f) (Some g) from to value =
     (g to ≡ value) × (g from ≡ None) × ((other : List ℕ) → ¬ (other ≡ from) → ¬ (other ≡ to) → g other ≡ f other)
 
+-- what this path held has moved to the name
+abbrev pub MovesTo : List ℕ → Option Names → Option Names → List ℕ → Type 0
+MovesTo name old new path = Moves old new path name (value_at old path)
+
+-- the same, with these bytes behind it
+abbrev pub MovesGrown : List ℕ → List ℕ → Option Names → Option Names → List ℕ → Type 0
+MovesGrown name bytes old new path = Moves old new path name (append_known (value_at old path) bytes)
+
+-- this path holds some value
+abbrev pub PutsSome : Option Names → Option Names → List ℕ → Type 0
+PutsSome old new path = (value : Option (List ℕ)) × Puts old new path value
+
 -- ---- names of new files
 -- how many bytes a path has behind its last slash: those of the file's name in its folder
 abbrev pub length_in_folder : List ℕ → ℕ
@@ -70,6 +87,11 @@ pub record IsBeside (name other : List ℕ) : Type 0 where
   pub is_front : IsFront name front
   pub number_is_less : number < 100
   pub is_new_name : other ≡ new_name front number
+
+-- an empty file is begun beside this name, where there was none
+abbrev pub BeginsBeside : List ℕ → Option (List ℕ) → Option Names → Option Names → Type 0
+BeginsBeside name begun old new =
+    (path : List ℕ) × (begun ≡ Some path) × IsBeside name path × (value_at old path ≡ None) × Puts old new path (Some [])
 
 -- if it is told, there are files of all names that a new file beside this name may have
 abbrev pub AreAllTaken : Option Names → List ℕ → Type 0

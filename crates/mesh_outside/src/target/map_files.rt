@@ -1,8 +1,7 @@
 // Files in a map, by their names.
-ghost use Rattle.std.specs.Prelude.{◌≡◌, Some, None, OnOk, OnErr, MatchOption};
-ghost use Rattle.std.specs.Io.KnownBytes.{append_known};
+ghost use Rattle.std.specs.Prelude.{Some, None, OnOk, OnErr};
 ghost use Rattle.mesh_outside.specs.Target.Memory.{held_by};
-ghost use Rattle.mesh_outside.specs.Target.Targets.{value_at, HoldsSame, Puts};
+ghost use Rattle.mesh_outside.specs.Target.Targets.{value_at, HoldsSame, Puts, AreBytesAt, Grows};
 
 use ember_io::Failed;
 use std::alloc::{AllocError, Global};
@@ -10,8 +9,7 @@ use std::collections::BTreeMap;
 
 /// The bytes of the file of this name, or None if there is no such file.
 pub fn file_bytes<'a>(files: &'a BTreeMap<String, Vec<u8>>, name: &str) -> Option<&'a [u8]>
-    ensures { MatchOption result (value_at (held_by files.now) name.now ≡ None) (λ bytes.
-        value_at (held_by files.now) name.now ≡ Some bytes.now) }
+    ensures { AreBytesAt (value_at (held_by files.now) name.now) result }
 {
     match files.get(name) {
         Some(bytes) => Some(bytes.as_slice()),
@@ -43,8 +41,7 @@ pub fn extend_file(
     name: &str,
     bytes: &[u8],
 ) -> Result<(), Failed>
-    ensures bytes { OnOk result (Puts (held_by files.old) (held_by files.new) name.now
-        (append_known (value_at (held_by files.old) name.now) bytes.now)) }
+    ensures bytes { OnOk result (Grows (Some name.now) (held_by files.old) (held_by files.new) bytes.now) }
     ensures held { OnErr result (HoldsSame (held_by files.old) (held_by files.new)) }
 {
     let Some(file) = files.get_mut(name) else {

@@ -1,10 +1,10 @@
 // Files in memory, with calls that fail on purpose.
-ghost use Rattle.std.specs.Prelude.{◌≡◌, ◌<◌, ◌≤◌, ◌↔◌, [], min, length, take, Some, None, IfOk, IfSome, OnOk, OnErr, IsErr, IsSome, IsErrOf, Contains, MatchOption, string_bytes};
+ghost use Rattle.std.specs.Prelude.{◌≡◌, ◌<◌, ◌≤◌, ◌↔◌, [], min, length, take, Some, None, IfOk, IfSome, OnOk, OnErr, IsErr, IsSome, IsErrOf, Contains, string_bytes};
 ghost use Rattle.std.specs.Io.{WritesAtMost};
 ghost use Rattle.ember_io.specs.Causes.{HasRisen, next_count, HasCause};
 ghost use Rattle.ember_io.specs.Files.{first_of};
-ghost use Rattle.mesh_outside.specs.Target.Memory.{shown, IsSameTarget};
-ghost use Rattle.mesh_outside.specs.Target.Targets.{IsTaken, HoldsSame, Puts, Grows, Moves};
+ghost use Rattle.mesh_outside.specs.Target.Memory.{shown, IsSameTarget, after_fault};
+ghost use Rattle.mesh_outside.specs.Target.Targets.{IsTaken, HoldsSame, Puts, Grows, AreBytesAt, MovesTo};
 
 use crate::target::map_files::{extend_file, file_bytes, put_file, remove_file};
 use crate::target::target::{BeginEnd, Target};
@@ -82,8 +82,7 @@ impl MemoryTarget {
 
     /// The bytes that a name holds, or None if there is no file of that name.
     pub fn bytes_of(&self, name: &str) -> Option<&[u8]>
-        ensures { MatchOption result (first_of self.now.files name.now ≡ None) (λ bytes.
-            first_of self.now.files name.now ≡ Some bytes.now) }
+        ensures { AreBytesAt (first_of self.now.files name.now) result }
     {
         file_bytes(&self.files, name)
     }
@@ -101,8 +100,7 @@ impl MemoryTarget {
     fn call(&mut self) -> Result<(), Failed>
         ensures fails { IsErr result ↔ Contains self.old.failing (next_count self.old.calls) }
         ensures called { OnOk result (self.new ≡ record self.old { calls = next_count self.old.calls }) }
-        ensures failed { OnErr result (self.new ≡
-            record self.old { calls = next_count self.old.calls; faults = next_count self.old.faults }) }
+        ensures failed { OnErr result (self.new ≡ after_fault self.old) }
         ensures later { self.old.faults ≤ self.new.faults }
     {
         self.calls = self.calls.saturating_add(1);
@@ -191,8 +189,7 @@ impl Target for MemoryTarget {
     fn keep(&mut self, name: &str) -> Result<(), Failed>
         requires begun { IsSome self.old.begun }
         requires apart { ¬ (self.old.begun ≡ Some name.now) }
-        ensures kept { OnOk result (IfSome self.old.begun (λ path.
-            Moves (shown self.old) (shown self.new) path name.now (first_of self.old.files path))) }
+        ensures kept { OnOk result (IfSome self.old.begun (MovesTo name.now (shown self.old) (shown self.new))) }
         ensures none_begun { OnOk result (self.new.begun ≡ None) }
         ensures held { OnErr result (HoldsSame (shown self.old) (shown self.new)) }
         ensures begun { OnErr result (self.new.begun ≡ self.old.begun) }

@@ -1,6 +1,7 @@
 // Files that are written one after another.
 ghost use Rattle.std.specs.Prelude.{◌≡◌, ◌≤◌, None, IfErr, OnOk};
-ghost use Rattle.mesh_outside.specs.Target.Several.{PutsBefore, PutsEach, names_and_bytes};
+ghost use Rattle.mesh_outside.specs.Target.Several.{PutsEach, names_and_bytes};
+ghost use Rattle.mesh_outside.specs.Target.Calls.{PutsUpTo};
 
 use crate::target::target::{Target, WriteEnd, write_whole};
 use std::alloc::Global;
@@ -28,8 +29,7 @@ pub fn write_each<'a, T: Target>(
 ) -> Result<(), Unwritten<'a>>
     requires { T.begun target.old ≡ None }
     ensures each { OnOk result (PutsEach (names_and_bytes files.now) (T.held target.old) (T.held target.new)) }
-    ensures some { IfErr result (λ file. PutsBefore (names_and_bytes files.now) file.name.now file.why
-        (T.held target.old) (T.held target.new) (T.faults target.old) (T.faults target.new)) }
+    ensures some { IfErr result (PutsUpTo T.Target target.old target.new files.now) }
     ensures none_begun { T.begun target.new ≡ None }
     ensures later { T.faults target.old ≤ T.faults target.new }
 {

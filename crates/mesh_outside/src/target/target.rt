@@ -1,11 +1,11 @@
 // Places where files are written whole.
-ghost use Rattle.std.specs.Prelude.{◌≡◌, ◌<◌, ◌≤◌, ◌⊎◌, List, ℕ, [], length, take, Some, None, IfOk, IfSome, OnOk, OnErr, IsSome, IsErrOf, string_bytes};
+ghost use Rattle.std.specs.Prelude.{◌≡◌, ◌<◌, ◌≤◌, List, ℕ, [], length, take, Some, None, IfOk, IfSome, OnOk, OnErr, IsSome, IsErrOf, string_bytes};
 ghost use Rattle.std.specs.declared.option.Option.{Option};
 ghost use Rattle.std.specs.Io.{WritesAtMost};
-ghost use Rattle.std.specs.Io.KnownBytes.{append_known};
 ghost use Rattle.ember_io.specs.Causes.{HasRisen, HasCause};
-ghost use Rattle.mesh_outside.specs.Target.Targets.{Names, value_at, length_in_folder, new_name, IsFront, IsBeside, IsTaken, AreAllTaken, HoldsSame, HoldsOld, Puts, Grows, Moves, HasRisenTwice};
+ghost use Rattle.mesh_outside.specs.Target.Targets.{Names, value_at, length_in_folder, new_name, IsFront, IsTaken, AreAllTaken, HoldsSame, HoldsOld, Puts, Grows, BeginsBeside, MovesTo, PutsSome};
 ghost use Rattle.mesh_outside.specs.declared.target.target.WriteEnd.TheVariants.{OutOfMemory};
+ghost use Rattle.mesh_outside.specs.Target.Calls.{IsLeftClean, KeepsBegun};
 
 use ember_io::Failed;
 use std::alloc::{AllocError, Global};
@@ -67,8 +67,7 @@ pub trait Target {
     fn keep(&mut self, name: &str) -> Result<(), Failed>
         requires begun { IsSome (begun self.old) }
         requires apart { ¬ (begun self.old ≡ Some name.now) }
-        ensures kept { OnOk result (IfSome (begun self.old) (λ path.
-            Moves (held self.old) (held self.new) path name.now (value_at (held self.old) path))) }
+        ensures kept { OnOk result (IfSome (begun self.old) (MovesTo name.now (held self.old) (held self.new))) }
         ensures none_begun { OnOk result (begun self.new ≡ None) }
         ensures held { OnErr result (HoldsSame (held self.old) (held self.new)) }
         ensures begun { OnErr result (begun self.new ≡ begun self.old) }
@@ -143,8 +142,7 @@ fn name_of_new(alloc: Global, front: &str, number: u32) -> Result<String, AllocE
 // Begins a new file beside this name, under the first of its names that is free.
 fn begin_beside<T: Target>(alloc: Global, target: &mut T, name: &str) -> Result<(), WriteEnd>
     requires { T.begun target.old ≡ None }
-    ensures begun { OnOk result ((path : List ℕ) × (T.begun target.new ≡ Some path) × IsBeside name.now path
-        × (value_at (T.held target.old) path ≡ None) × Puts (T.held target.old) (T.held target.new) path (Some [])) }
+    ensures begun { OnOk result (BeginsBeside name.now (T.begun target.new) (T.held target.old) (T.held target.new)) }
     ensures none_begun { OnErr result (T.begun target.new ≡ None) }
     ensures held { OnErr result (HoldsSame (T.held target.old) (T.held target.new)) }
     ensures later { T.faults target.old ≤ T.faults target.new }
@@ -167,12 +165,9 @@ fn begin_beside<T: Target>(alloc: Global, target: &mut T, name: &str) -> Result<
 fn write_and_keep<T: Target>(target: &mut T, name: &str, bytes: &[u8]) -> Result<(), Failed>
     requires begun { IsSome (T.begun target.old) }
     requires apart { ¬ (T.begun target.old ≡ Some name.now) }
-    ensures kept { OnOk result (IfSome (T.begun target.old) (λ path.
-        Moves (T.held target.old) (T.held target.new) path name.now
-        (append_known (value_at (T.held target.old) path) bytes.now))) }
+    ensures kept { OnOk result (KeepsBegun T.Target target.old target.new name.now bytes.now) }
     ensures none_begun { OnOk result (T.begun target.new ≡ None) }
-    ensures held { OnErr result (IfSome (T.begun target.old) (λ path. (value : Option (List ℕ)) ×
-        Puts (T.held target.old) (T.held target.new) path value)) }
+    ensures held { OnErr result (IfSome (T.begun target.old) (PutsSome (T.held target.old) (T.held target.new))) }
     ensures begun { OnErr result (T.begun target.new ≡ T.begun target.old) }
     ensures cause { HasCause (T.faults target.old) (T.faults target.new) result }
 {
@@ -197,8 +192,7 @@ pub fn write_whole<T: Target>(
     requires { T.begun target.old ≡ None }
     ensures whole { OnOk result (Puts (T.held target.old) (T.held target.new) name.now (Some bytes.now)) }
     ensures old { OnErr result (HoldsOld (T.held target.old) (T.held target.new) name.now) }
-    ensures removed { OnErr result (HoldsSame (T.held target.old) (T.held target.new)
-        ⊎ HasRisenTwice (T.faults target.old) (T.faults target.new)) }
+    ensures removed { OnErr result (IsLeftClean T.Target target.old target.new) }
     ensures none_begun { T.begun target.new ≡ None }
     ensures later { T.faults target.old ≤ T.faults target.new }
     ensures fault { IsErrOf result WriteEnd.WriteFault → HasRisen (T.faults target.old) (T.faults target.new) }

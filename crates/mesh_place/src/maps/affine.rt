@@ -2,7 +2,7 @@
 ghost use Rattle.std.specs.Prelude.{◌≡◌, ◌+◌, ◌≤◌, pos, ◌+ℤ◌, OnOk, IfOk};
 ghost use Rattle.mesh_number.specs.Number.Fractions.{signed_whole};
 ghost use Rattle.mesh_place.specs.Integers.{integer_of, sum_of};
-ghost use Rattle.mesh_place.specs.AffineMaps.{row, row_along, mirrored, identity, value_at, composed, row_of, affine_of, tuple_of, AreColumns};
+ghost use Rattle.mesh_place.specs.AffineMaps.{row, row_along, mirrored, identity, value_at, composed, row_of, affine_of, tuple_of, AreColumns, row_by};
 
 use crate::exact::integers::Integer;
 use crate::exact::sums::Sum;
@@ -32,9 +32,7 @@ fn value_at(alloc: Global, row: &Row, column: &Column) -> Result<Integer, AllocE
 
 // A row of the map by one with these columns and then by one with this row.
 fn composed_row(alloc: Global, by: &Row, columns: &Columns) -> Result<Row, AllocError>
-    ensures { IfOk result (λ r. row_of r ≡ row (value_at (row_of by.now) (tuple_of columns.now.x))
-        (value_at (row_of by.now) (tuple_of columns.now.y)) (value_at (row_of by.now) (tuple_of columns.now.z))
-        (value_at (row_of by.now) (tuple_of columns.now.origin))) }
+    ensures { IfOk result (λ r. row_of r ≡ row_by by.now columns.now) }
 {
     Ok(Row {
         x: value_at(alloc, by, &columns.x)?,

@@ -1,8 +1,7 @@
 // Whether a map turns left into right.
 ghost use Rattle.std.specs.Prelude.{◌≡◌, IfOk};
-ghost use Rattle.ember_algebra.specs.Det.{det2};
 ghost use Rattle.ember_algebra.specs.Sign.{sgn};
-ghost use Rattle.mesh_place.specs.Integers.{integer_of};
+ghost use Rattle.mesh_place.specs.Integers.{integer_of, det2_of};
 ghost use Rattle.mesh_place.specs.AffineMaps.{affine_of, determinant, is_mirroring, is_flattening};
 
 use crate::exact::integers::Integer;
@@ -19,8 +18,7 @@ fn minor(
     c: &Integer,
     d: &Integer,
 ) -> Result<Integer, AllocError>
-    ensures { IfOk result (λ n. integer_of n
-        ≡ det2 (integer_of a.now) (integer_of b.now) (integer_of c.now) (integer_of d.now)) }
+    ensures { IfOk result (λ n. integer_of n ≡ det2_of a.now b.now c.now d.now) }
 {
     let mut sum = Sum::nothing(alloc);
     sum.add(a, d)?;

@@ -1,8 +1,7 @@
 // Taylor's polynomials of sine and cosine, exactly.
-ghost use Rattle.std.specs.Prelude.{◌≡◌, ℕ, ◌+◌, ◌*◌, ◌≤◌, pos, ◌*ℤ◌, IfOk};
-ghost use Rattle.mesh_place.specs.Integers.{integer_of};
+ghost use Rattle.std.specs.Prelude.{◌+◌, ◌*◌, ◌≤◌, IfOk};
 ghost use Rattle.mesh_place.specs.Directions.{series, cosine_of, sine_of};
-ghost use Rattle.mesh_place.specs.Ratios.{IsRatio};
+ghost use Rattle.mesh_place.specs.Ratios.{IsRatioBy};
 
 use crate::exact::integers::Integer;
 use crate::exact::sums::{Sum, product};
@@ -27,8 +26,7 @@ fn series(
     under: &Integer,
 ) -> Result<Ratio, AllocError>
     requires { k + 2 * brackets ≤ 1000 }
-    ensures { IfOk result (λ r. (o u : ℕ) → integer_of over.now ≡ pos o → integer_of under.now ≡ pos u →
-        IsRatio r (series brackets k o u)) }
+    ensures { IfOk result (IsRatioBy (series brackets k) over.now under.now) }
 {
     let one = Integer::small(alloc, 1)?;
     if brackets == 0 {
@@ -54,8 +52,7 @@ fn series(
 
 // The cosine of the angle over / under.
 pub(crate) fn cosine(alloc: Global, over: &Integer, under: &Integer) -> Result<Ratio, AllocError>
-    ensures { IfOk result (λ r. (o u : ℕ) → integer_of over.now ≡ pos o → integer_of under.now ≡ pos u →
-        IsRatio r (cosine_of o u)) }
+    ensures { IfOk result (IsRatioBy cosine_of over.now under.now) }
 {
     let over_squared = product(alloc, over, over)?;
     let under_squared = product(alloc, under, under)?;
@@ -65,8 +62,7 @@ pub(crate) fn cosine(alloc: Global, over: &Integer, under: &Integer) -> Result<R
 
 // The sine of the angle over / under.
 pub(crate) fn sine(alloc: Global, over: &Integer, under: &Integer) -> Result<Ratio, AllocError>
-    ensures { IfOk result (λ r. (o u : ℕ) → integer_of over.now ≡ pos o → integer_of under.now ≡ pos u →
-        IsRatio r (sine_of o u)) }
+    ensures { IfOk result (IsRatioBy sine_of over.now under.now) }
 {
     let over_squared = product(alloc, over, over)?;
     let under_squared = product(alloc, under, under)?;

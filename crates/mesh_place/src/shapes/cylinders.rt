@@ -1,9 +1,8 @@
 // Cylinders.
 ghost use Rattle.std.specs.Prelude.{◌≡◌, ◌+◌, ◌*◌, ◌<◌, ◌≤◌, ◌++◌, OnOk, IfOk, IfErr};
-ghost use Rattle.std.specs.List.{AllZip, range_with_len};
 ghost use Rattle.mesh_place.specs.AffineMaps.{affine_of};
 ghost use Rattle.mesh_place.specs.Images.{transformed_points, transformed_content};
-ghost use Rattle.mesh_place.specs.Shapes.{next_side, side_facets, cap_facets, cylinder_facets, HasRoundCorner, IsImageOfCorner};
+ghost use Rattle.mesh_place.specs.Shapes.{side_facets, cap_facets, cylinder_facets, HasRoundCorner, AreImagesOfCorners};
 ghost use Rattle.mesh_place.specs.Shapes.{IsCylinder, IsCylinderFault};
 
 use crate::exact::integers::Integer;
@@ -94,8 +93,7 @@ fn cylinder_facets(alloc: Global, sides: u32) -> Result<Vec<Facet>, AllocError>
 // The images of all corners.
 fn corners(alloc: Global, map: &AffineMap, sides: u32) -> Result<Vec<TransformedPoint>, AllocError>
     requires { sides ≤ MOST_SIDES }
-    ensures { IfOk result (λ points. AllZip (IsImageOfCorner (affine_of map.now) sides) (range_with_len 0 (2 * sides))
-        (transformed_points points.items)) }
+    ensures { IfOk result (λ points. AreImagesOfCorners (affine_of map.now) sides (transformed_points points.items)) }
 {
     let mut points = Vec::new(alloc);
     let mut sum = Sum::nothing(alloc);

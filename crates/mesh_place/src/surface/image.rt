@@ -1,14 +1,14 @@
 // The image of a surface under an affine map.
 ghost use Rattle.std.specs.Prelude.{◌≡◌, ◌≤◌, true, None, IfOk, IfErr};
-ghost use Rattle.mesh_read.specs.Surface.Surfaces.{Point, point_of, content_of};
+ghost use Rattle.mesh_read.specs.Surface.Surfaces.{point_of, content_of};
 ghost use Rattle.std.specs.List.{list_all};
 ghost use Rattle.std.specs.Char.{is_ascii_digit};
 ghost use Rattle.ember_dec.specs.Digits.{number_from};
 ghost use Rattle.mesh_place.specs.Integers.{side_of};
 ghost use Rattle.mesh_place.specs.Decimals.{exact_value};
 ghost use Rattle.mesh_place.specs.AffineMaps.{affine_of, row_of, tuple_of, value_at};
-ghost use Rattle.mesh_place.specs.Points.{has_short_numbers, IsExactPoint};
-ghost use Rattle.mesh_place.specs.Images.{IsImage, IsImageOf, IsFaultOf, transformed_point, transformed_content, turned, facets_under, long_vertex_from};
+ghost use Rattle.mesh_place.specs.Points.{has_short_numbers};
+ghost use Rattle.mesh_place.specs.Images.{IsImage, IsImageOf, IsFaultOf, transformed_point, transformed_content, turned, facets_under, long_vertex_from, IsImageOfExact};
 
 use crate::exact::decimals::{ExactDecimal, decimal_digits};
 use crate::exact::points::{ExactPoint, has_short_numbers};
@@ -62,8 +62,7 @@ pub(crate) fn image_of_point(
     sum: &mut Sum,
 ) -> Result<TransformedPoint, AllocError>
     requires { places ≤ 4999 }
-    ensures { IfOk result (λ q. (p : Point) → IsExactPoint p places point.now →
-        IsImage (affine_of map.now) p (transformed_point q)) }
+    ensures { IfOk result (λ q. IsImageOfExact (affine_of map.now) places point.now (transformed_point q)) }
 {
     let places = (map.places + places) as u16;
     let column = Column {

@@ -112,12 +112,17 @@ whole (Err fault) facets = Err fault
 whole (Ok points) (Err fault) = Err fault
 whole (Ok points) (Ok facets) = Ok (record { points = points; facets = facets })
 
+-- the content of this many rows of points, and of this many rows of triangles after them
+abbrev pub lists_in : ℕ → ℕ → List Words → Result Content OffFault
+lists_in vertices faces rows =
+    whole (points_of (take vertices rows)) (facets_of vertices (take faces (drop vertices rows)))
+
 -- the content of the rows after the counts
 abbrev pub counted : Option Counts → List Words → Result Content OffFault
 counted None rows = Err NoCounts
 counted (Some c) rows =
     if nat_le (c.vertices + c.faces) (length rows)
-    then whole (points_of (take c.vertices rows)) (facets_of c.vertices (take c.faces (drop c.vertices rows)))
+    then lists_in c.vertices c.faces rows
     else Err FewLines
 
 -- the counts are after the keyword, or otherwise in the next row

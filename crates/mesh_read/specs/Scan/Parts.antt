@@ -1,6 +1,6 @@
 -- Parts of a file: its lines and their words, each with its place
 use Rattle.std.specs.Prelude.{ℕ, ◌+◌, ◌-◌, Bool, ◌||◌, ◌&&◌, List, [], ◌∷◌, ◌++◌, if◌then◌else◌, ◌==◌, nat_eq, nat_le}
-use Rattle.std.specs.Prelude.{length, drop, zero, suc, Option, None, Some}
+use Rattle.std.specs.Prelude.{length, map, drop, zero, suc, Option, None, Some}
 use Rattle.std.specs.List.{starts_with}
 use Rattle.ember_obj.specs.Scan.{before, onward, is_separator}
 use Rattle.mesh_read.specs.declared.scan.blanks.Blanks.{Blanks}
@@ -16,6 +16,13 @@ pub record Piece : Type 0 where
 -- a part as definitions see it
 abbrev pub piece_of : Part → Piece
 piece_of p = record { start = p.start; text = p.bytes.now }
+
+-- the same of more parts than one
+abbrev pub pieces_of : List Part → List Piece
+pieces_of parts = map piece_of parts
+
+abbrev pub three_pieces_of : Part × Part × Part → Piece × Piece × Piece
+three_pieces_of t = (piece_of t.0, piece_of t.1, piece_of t.2)
 
 -- the range of a piece
 abbrev pub span_of : Piece → Span

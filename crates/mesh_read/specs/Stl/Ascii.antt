@@ -1,5 +1,5 @@
 -- What the lines of an ASCII STL mean.
-use Rattle.std.specs.Prelude.{ℕ, ◌+◌, Bool, ◌||◌, List, [], ◌∷◌, ◌++◌, length, map, Option, None, Some}
+use Rattle.std.specs.Prelude.{◌≡◌, ℕ, ◌+◌, Bool, ◌||◌, List, [], ◌∷◌, ◌++◌, length, map, Option, None, Some}
 use Rattle.std.specs.Prelude.{Result, Ok, Err, if◌then◌else◌, codes}
 use Rattle.std.specs.Option.{option_map}
 use Rattle.std.specs.Str.{str_eq_ignore_ascii_case}
@@ -65,6 +65,10 @@ state_of r = record {
   content = content_of r.surface;
   opened = option_map (λ line. record { line = line; corners = map point_of r.corners.items }) r.opened;
 }
+
+-- a reader has read just this
+abbrev pub HasRead : Result State StlFault → Reader → Type 0
+HasRead read r = read ≡ Ok (state_of r)
 
 -- how many vertices a reader holds
 abbrev pub vertex_count : Reader → ℕ

@@ -1,6 +1,8 @@
 -- The triangles of a file: each has three points of its own, in order.
 use Rattle.std.specs.Prelude.{ℕ, ◌+◌, [], ◌∷◌, ◌++◌, length, Result, Err, ◌≡◌, ◌⊎◌}
-use Rattle.mesh_read.specs.Surface.Surfaces.{Point, Content}
+use Rattle.mesh_read.specs.declared.surface.surface.Vertex.{Vertex}
+use Rattle.mesh_read.specs.declared.surface.surface.Surface.{Surface}
+use Rattle.mesh_read.specs.Surface.Surfaces.{Point, Content, point_of, content_of}
 use Rattle.mesh_read.specs.declared.stl.fault.StlFault.{StlFault}
 use Rattle.mesh_read.specs.declared.stl.fault.StlFault.TheVariants.{OutOfMemory}
 
@@ -17,3 +19,8 @@ with_triangle place a b c content = record {
     place = place;
   }) ∷ [];
 }
+
+-- the new surface is the old one with the triangle of this place and these corners
+abbrev pub AddsTriangle : ℕ → Vertex → Vertex → Vertex → Surface → Surface → Type 0
+AddsTriangle place a b c old new =
+    content_of new ≡ with_triangle place (point_of a) (point_of b) (point_of c) (content_of old)

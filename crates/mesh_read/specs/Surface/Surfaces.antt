@@ -1,5 +1,5 @@
 -- What a mesh file holds: points in their order, and triangles over them with their places
-use Rattle.std.specs.Prelude.{ℕ, ◌<◌, Bool, false, ◌&&◌, not, List, [], ◌∷◌, length, map, All, Option}
+use Rattle.std.specs.Prelude.{◌≡◌, ℕ, ◌<◌, Bool, false, ◌&&◌, not, List, [], ◌∷◌, length, map, All, Option}
 use Rattle.std.specs.Prelude.{Some, None, Result, Ok, Err, slice_get}
 use Rattle.std.specs.List.{list_any, find}
 use Rattle.std.specs.Option.{option_map}
@@ -34,6 +34,10 @@ pub record Content : Type 0 where
 -- a surface as definitions see it
 abbrev pub content_of : Surface → Content
 content_of s = record { points = map point_of s.vertices.items; facets = s.facets.items }
+
+-- the content that was read, or would be but for a fault, is that of a surface
+abbrev pub IsSurfaceOf : {F : Type 0} → Result Content F → Surface → Type 0
+IsSurfaceOf read s = read ≡ Ok (content_of s)
 
 -- each corner of a triangle is an index below this number of vertices
 abbrev pub IsWithin : ℕ → Facet → Type 0
@@ -71,6 +75,10 @@ is_corner_too_large vertices corner = is_too_large (slice_get vertices corner)
 -- a corner of the triangle has a coordinate of 10 ^ 15 or more in size
 abbrev pub is_facet_too_large : List Vertex → Facet → Bool
 is_facet_too_large vertices f = list_any (is_corner_too_large vertices) f.corners
+
+-- the place of the first triangle with such a corner
+abbrev pub first_too_large_in : Surface → Option ℕ
+first_too_large_in s = option_map (λ f. f.place) (find (is_facet_too_large s.vertices.items) s.facets.items)
 
 -- ---- the same of what a file says
 -- all coordinates are below 10 ^ 15 in size

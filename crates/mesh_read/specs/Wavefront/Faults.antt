@@ -1,5 +1,5 @@
 -- The first fault of a file, with the text of a bad word
-use Rattle.std.specs.Prelude.{ℕ, List}
+use Rattle.std.specs.Prelude.{◌≡◌, ◌⊎◌, ℕ, List, Result, Err}
 use Rattle.mesh_read.specs.declared.surface.flaw.Flaw.{Flaw}
 use Rattle.mesh_read.specs.declared.surface.flaw.Flaw.TheVariants as flaw
 use Rattle.mesh_read.specs.declared.wavefront.fault.WavefrontFault.{WavefrontFault}
@@ -24,6 +24,10 @@ fault_of (error.FewCorners line) = FewCorners line
 fault_of error.NoTriangles = NoTriangles
 fault_of (error.TooLarge line) = TooLarge line
 fault_of error.OutOfMemory = OutOfMemory
+
+-- an error that a reading which ends so may give: its fault, or out-of-memory
+abbrev pub IsErrorOf : {X : Type 0} → Result X Fault → WavefrontFault → Type 0
+IsErrorOf reading e = (e ≡ error.OutOfMemory) ⊎ (reading ≡ Err (fault_of e))
 
 -- the fault of a file that is no mesh
 abbrev pub of_flaw : Flaw → Fault

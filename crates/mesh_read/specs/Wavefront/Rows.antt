@@ -8,14 +8,21 @@ pub record Row : Type 0 where
   pub line : ℕ
   pub words : List Piece
 
+-- a physical line with this text is joined to the next
+abbrev pub ends_in_backslash : List ℕ → Bool
+ends_in_backslash text = is_continued (without_return text)
+
+-- its text without the backslash
+abbrev pub text_before_backslash : List ℕ → List ℕ
+text_before_backslash text = take (length (without_return text) - 1) (without_return text)
+
 -- the next physical line is joined to this one
 abbrev pub goes_on : Piece → Bool
-goes_on line = is_continued (without_return line.text)
+goes_on line = ends_in_backslash line.text
 
 -- the line without the backslash at its end
 abbrev pub without_backslash : Piece → Piece
-without_backslash line =
-    record line { text = take (length (without_return line.text) - 1) (without_return line.text) }
+without_backslash line = record line { text = text_before_backslash line.text }
 
 -- the words of a physical line, without the backslash or the comment at its end
 abbrev pub words_on : Piece → List Piece

@@ -1,8 +1,9 @@
 // Rows of faces.
 ghost use Rattle.std.specs.Prelude.{◌≡◌, ◌⊎◌, ◌+◌, ◌≤◌, [], ◌∷◌, ◌++◌, length, take, Some, None, Ok, Err, OnOk, IfOk, IfErr};
 ghost use Rattle.mesh_read.specs.Scan.Parts.{words_in};
-ghost use Rattle.mesh_read.specs.Off.RowViews.{words_of_row, rows_in};
-ghost use Rattle.mesh_read.specs.Off.ReadOff.{indices, corners_of, joined, facets_in, facets_of};
+ghost use Rattle.mesh_read.specs.Off.RowViews.{words_of_row, rows_in, AddsFaceOf, corners_in, indices_in};
+ghost use Rattle.mesh_read.specs.Off.ReadOff.{indices, corners_of, facets_in, facets_of};
+ghost use Rattle.mesh_read.specs.Off.Errors.{IsErrorOf};
 
 use crate::off::fault::OffFault;
 use crate::off::row::{Row, Rows};
@@ -41,7 +42,7 @@ fn read_indices<'a>(
 ) -> Result<(), NoCorners>
     ensures ok { OnOk result (indices vertices size (words_in words.entry) ≡ Some corners.new.items) }
     ensures fault { IfErr result (λ e. (e ≡ NoCorners.OutOfMemory)
-        ⊎ (indices vertices size (words_in words.entry) ≡ None)) }
+        ⊎ (indices_in vertices size words.entry ≡ None)) }
 {
     corners.clear();
     let mut rest = words;
@@ -65,8 +66,7 @@ fn read_indices<'a>(
 // Puts the corners of a face into `corners`, in place of what it holds.
 fn read_corners<'a>(corners: &mut Vec<u32>, vertices: u32, row: Row<'a>) -> Result<(), NoCorners>
     ensures ok { OnOk result (corners_of vertices (words_of_row row.entry).words ≡ Some corners.new.items) }
-    ensures fault { IfErr result (λ e. (e ≡ NoCorners.OutOfMemory)
-        ⊎ (corners_of vertices (words_of_row row.entry).words ≡ None)) }
+    ensures fault { IfErr result (λ e. (e ≡ NoCorners.OutOfMemory) ⊎ (corners_in vertices row.entry ≡ None)) }
 {
     let Some(size) = number_in(row.first.bytes) else {
         return Err(NoCorners::BadWord);
@@ -84,10 +84,8 @@ fn add_face<'a>(
     vertices: u32,
     row: Row<'a>,
 ) -> Result<(), OffFault>
-    ensures ok { OnOk result
-        (joined (Ok facets.old.items) (facets_in vertices (words_of_row row.entry)) ≡ Ok facets.new.items) }
-    ensures fault { IfErr result (λ e. (e ≡ OffFault.OutOfMemory)
-        ⊎ (facets_in vertices (words_of_row row.entry) ≡ Err e)) }
+    ensures ok { OnOk result (AddsFaceOf vertices row.entry facets.old.items facets.new.items) }
+    ensures fault { IfErr result (IsErrorOf (facets_in vertices (words_of_row row.entry))) }
 {
     match read_corners(corners, vertices, row) {
         Ok(()) => {}
@@ -110,8 +108,7 @@ pub(crate) fn read_faces<'a>(
     requires numbered { rows.number ≤ rows.rest.start + 1 }
     requires rows { count ≤ length (rows_in rows) }
     ensures ok { IfOk result (λ facets. facets_of vertices (take count (rows_in rows.entry)) ≡ Ok facets.items) }
-    ensures fault { IfErr result (λ e. (e ≡ OffFault.OutOfMemory)
-        ⊎ (facets_of vertices (take count (rows_in rows.entry)) ≡ Err e)) }
+    ensures fault { IfErr result (IsErrorOf (facets_of vertices (take count (rows_in rows.entry)))) }
 {
     let Ok(mut facets) = Vec::with_capacity(alloc, count) else {
         return Err(OffFault::OutOfMemory);

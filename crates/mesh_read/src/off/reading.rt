@@ -1,10 +1,11 @@
 // The pass over a file.
-ghost use Rattle.std.specs.Prelude.{◌≡◌, ◌⊎◌, ◌+◌, ◌<◌, ◌≤◌, ◌^◌, [], ◌∷◌, take, drop, length, Ok, Err, IfOk, IfErr};
+ghost use Rattle.std.specs.Prelude.{◌≡◌, ◌+◌, ◌<◌, ◌≤◌, ◌^◌, ◌∷◌, length, Ok, Err, IfOk, IfErr};
 ghost use Rattle.ember_model.specs.Limits.{most_bytes};
-ghost use Rattle.mesh_read.specs.Scan.Parts.{piece_of, words_in};
-ghost use Rattle.mesh_read.specs.Surface.Surfaces.{IsSurface, content_of};
-ghost use Rattle.mesh_read.specs.Off.RowViews.{words_of_row, rows_in};
-ghost use Rattle.mesh_read.specs.Off.ReadOff.{points_of, facets_of, whole, counts_of, counted, behind_keyword, with_first, content_in, read_off_of};
+ghost use Rattle.mesh_read.specs.Scan.Parts.{words_in};
+ghost use Rattle.mesh_read.specs.Surface.Surfaces.{IsSurface, content_of, IsSurfaceOf};
+ghost use Rattle.mesh_read.specs.Off.RowViews.{words_of_row, rows_in, counts_in};
+ghost use Rattle.mesh_read.specs.Off.ReadOff.{counted, behind_keyword, content_in, read_off_of, lists_in};
+ghost use Rattle.mesh_read.specs.Off.Errors.{IsErrorOf};
 
 use crate::off::counts::counts_in;
 use crate::off::faces::read_faces;
@@ -26,12 +27,8 @@ fn read_lists<'a>(
 ) -> Result<Surface<'a>, OffFault>
     requires numbered { rows.number ≤ rows.rest.start + 1 }
     requires rows { vertices + faces ≤ length (rows_in rows) }
-    ensures ok { IfOk result (λ s. whole
-        (points_of (take vertices (rows_in rows.entry)))
-        (facets_of vertices (take faces (drop vertices (rows_in rows.entry)))) ≡ Ok (content_of s)) }
-    ensures fault { IfErr result (λ e. (e ≡ OffFault.OutOfMemory) ⊎ (whole
-        (points_of (take vertices (rows_in rows.entry)))
-        (facets_of vertices (take faces (drop vertices (rows_in rows.entry)))) ≡ Err e)) }
+    ensures ok { IfOk result (IsSurfaceOf (lists_in vertices faces (rows_in rows.entry))) }
+    ensures fault { IfErr result (IsErrorOf (lists_in vertices faces (rows_in rows.entry))) }
 {
     let (list, rest) = read_vertices(alloc, rows, vertices as usize)?;
     let facets = read_faces(alloc, rest, vertices, faces)?;
@@ -49,10 +46,8 @@ fn read_counted<'a>(
     rows: Rows<'a>,
 ) -> Result<Surface<'a>, OffFault>
     requires { rows.number ≤ rows.rest.start + 1 }
-    ensures ok { IfOk result (λ s.
-        counted (counts_of (piece_of first.entry ∷ words_in others.entry)) (rows_in rows.entry) ≡ Ok (content_of s)) }
-    ensures fault { IfErr result (λ e. (e ≡ OffFault.OutOfMemory)
-        ⊎ (counted (counts_of (piece_of first.entry ∷ words_in others.entry)) (rows_in rows.entry) ≡ Err e)) }
+    ensures ok { IfOk result (IsSurfaceOf (counted (counts_in first.entry others.entry) (rows_in rows.entry))) }
+    ensures fault { IfErr result (IsErrorOf (counted (counts_in first.entry others.entry) (rows_in rows.entry))) }
 {
     let Some((vertices, faces)) = counts_in(first, others) else {
         return Err(OffFault::NoCounts);
@@ -67,8 +62,7 @@ fn read_counted<'a>(
 fn read_behind<'a>(alloc: Global, words: Part<'a>, rows: Rows<'a>) -> Result<Surface<'a>, OffFault>
     requires { rows.number ≤ rows.rest.start + 1 }
     ensures ok { IfOk result (λ s. behind_keyword (words_in words.entry) (rows_in rows.entry) ≡ Ok (content_of s)) }
-    ensures fault { IfErr result (λ e. (e ≡ OffFault.OutOfMemory)
-        ⊎ (behind_keyword (words_in words.entry) (rows_in rows.entry) ≡ Err e)) }
+    ensures fault { IfErr result (IsErrorOf (behind_keyword (words_in words.entry) (rows_in rows.entry))) }
 {
     if let Some((first, others)) = next_word(words) {
         return read_counted(alloc, first, others, rows);
@@ -82,10 +76,8 @@ fn read_behind<'a>(alloc: Global, words: Part<'a>, rows: Rows<'a>) -> Result<Sur
 // The vertices and faces of a file with this first row.
 fn read_first<'a>(alloc: Global, row: Row<'a>, rest: Rows<'a>) -> Result<Surface<'a>, OffFault>
     requires { rest.number ≤ rest.rest.start + 1 }
-    ensures ok { IfOk result (λ s.
-        with_first row.entry.line (words_of_row row.entry).words (rows_in rest.entry) ≡ Ok (content_of s)) }
-    ensures fault { IfErr result (λ e. (e ≡ OffFault.OutOfMemory)
-        ⊎ (with_first row.entry.line (words_of_row row.entry).words (rows_in rest.entry) ≡ Err e)) }
+    ensures ok { IfOk result (IsSurfaceOf (content_in (words_of_row row.entry ∷ rows_in rest.entry))) }
+    ensures fault { IfErr result (IsErrorOf (content_in (words_of_row row.entry ∷ rows_in rest.entry))) }
 {
     if is_keyword(row.first.bytes) {
         return read_behind(alloc, row.others, rest);
@@ -103,7 +95,7 @@ fn read_first<'a>(alloc: Global, row: Row<'a>, rest: Rows<'a>) -> Result<Surface
 fn read_rows<'a>(alloc: Global, rows: Rows<'a>) -> Result<Surface<'a>, OffFault>
     requires { rows.number ≤ rows.rest.start + 1 }
     ensures ok { IfOk result (λ s. content_in (rows_in rows.entry) ≡ Ok (content_of s)) }
-    ensures fault { IfErr result (λ e. (e ≡ OffFault.OutOfMemory) ⊎ (content_in (rows_in rows.entry) ≡ Err e)) }
+    ensures fault { IfErr result (IsErrorOf (content_in (rows_in rows.entry))) }
 {
     let Some((row, rest)) = next_row(rows) else {
         return Err(OffFault::NoOff);
@@ -116,7 +108,7 @@ fn read_rows<'a>(alloc: Global, rows: Rows<'a>) -> Result<Surface<'a>, OffFault>
 fn read_mesh<'a>(alloc: Global, bytes: &'a [u8]) -> Result<Surface<'a>, OffFault>
     requires { length bytes.now ≤ most_bytes }
     ensures ok { IfOk result (λ s. read_off_of bytes.now ≡ Ok (content_of s)) }
-    ensures fault { IfErr result (λ e. (e ≡ OffFault.OutOfMemory) ⊎ (read_off_of bytes.now ≡ Err e)) }
+    ensures fault { IfErr result (IsErrorOf (read_off_of bytes.now)) }
 {
     let surface = read_rows(alloc, first_rows(bytes))?;
     Ok(as_mesh(surface)?)
@@ -138,7 +130,7 @@ pub fn read_off(alloc: Global, bytes: &[u8]) -> Result<Surface<'_>, OffFault>
     requires { length bytes.now ≤ most_bytes }
     ensures ok { IfOk result (λ s. read_off_of bytes.now ≡ Ok (content_of s)) }
     ensures surface { IfOk result IsSurface }
-    ensures fault { IfErr result (λ e. (e ≡ OffFault.OutOfMemory) ⊎ (read_off_of bytes.now ≡ Err e)) }
+    ensures fault { IfErr result (IsErrorOf (read_off_of bytes.now)) }
 {
     read_mesh(alloc, bytes)
 }

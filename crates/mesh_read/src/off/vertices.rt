@@ -1,10 +1,12 @@
 // Rows of vertices.
-ghost use Rattle.std.specs.Prelude.{◌≡◌, ◌⊎◌, ◌+◌, ◌≤◌, length, take, drop, map, Some, None, Ok, Err, MatchOption, OnOk, IfOk, IfErr};
+ghost use Rattle.std.specs.Prelude.{◌≡◌, ◌+◌, ◌≤◌, length, take, drop, map, Some, None, Ok, Err, OnOk, IfOk, IfErr};
 ghost use Rattle.mesh_number.specs.Number.Values.{value_of};
 ghost use Rattle.mesh_read.specs.Scan.Parts.{piece_of, first_three};
 ghost use Rattle.mesh_read.specs.Surface.Surfaces.{point_of};
-ghost use Rattle.mesh_read.specs.Off.RowViews.{words_of_row, rows_in};
-ghost use Rattle.mesh_read.specs.Off.ReadOff.{joined, coordinate_in, point_in, one, points_of};
+ghost use Rattle.mesh_read.specs.Off.RowViews.{words_of_row, rows_in, AddsVertexOf, three_from};
+ghost use Rattle.mesh_read.specs.Off.ReadOff.{coordinate_in, point_in, one, points_of};
+ghost use Rattle.mesh_read.specs.Off.Errors.{IsErrorOf};
+ghost use Rattle.mesh_read.specs.Scan.Found.{IsFoundAs};
 
 use crate::off::fault::OffFault;
 use crate::off::row::{Row, Rows};
@@ -27,9 +29,7 @@ fn read_coordinate<'a>(line: u32, word: Part<'a>) -> Result<Number<'a>, OffFault
 
 // The second and third word of a row.
 fn two_more<'a>(row: Row<'a>) -> Option<(Part<'a>, Part<'a>)>
-    ensures { MatchOption result (first_three (words_of_row row.entry).words ≡ None)
-        (λ t. first_three (words_of_row row.entry).words
-        ≡ Some (piece_of row.entry.first, piece_of t.0, piece_of t.1)) }
+    ensures { IsFoundAs (three_from row.entry.first) (first_three (words_of_row row.entry).words) result }
 {
     let (second, rest) = next_word(row.others)?;
     let (third, _) = next_word(rest)?;
@@ -53,10 +53,8 @@ fn read_vertex<'a>(row: Row<'a>) -> Result<Vertex<'a>, OffFault>
 // Appends the vertex of a row.
 #[tactic(auto, using(crate::proofs::Joins::point_added))]
 fn add_vertex<'a>(vertices: &mut Vec<Vertex<'a>>, row: Row<'a>) -> Result<(), OffFault>
-    ensures ok { OnOk result
-        (joined (Ok (map point_of vertices.old.items)) (one (point_in (words_of_row row.entry)))
-        ≡ Ok (map point_of vertices.new.items)) }
-    ensures fault { IfErr result (λ e. (e ≡ OffFault.OutOfMemory) ⊎ (one (point_in (words_of_row row.entry)) ≡ Err e)) }
+    ensures ok { OnOk result (AddsVertexOf row.entry vertices.old.items vertices.new.items) }
+    ensures fault { IfErr result (IsErrorOf (one (point_in (words_of_row row.entry)))) }
 {
     let vertex = read_vertex(row)?;
     if vertices.push(vertex).is_err() {
@@ -76,8 +74,7 @@ pub(crate) fn read_vertices<'a>(
     ensures ok { IfOk result (λ r. points_of (take count (rows_in rows.entry)) ≡ Ok (map point_of r.0.items)) }
     ensures rest { IfOk result (λ r. rows_in r.1 ≡ drop count (rows_in rows.entry)) }
     ensures numbered { IfOk result (λ r. r.1.number ≤ r.1.rest.start + 1) }
-    ensures fault { IfErr result (λ e. (e ≡ OffFault.OutOfMemory)
-        ⊎ (points_of (take count (rows_in rows.entry)) ≡ Err e)) }
+    ensures fault { IfErr result (IsErrorOf (points_of (take count (rows_in rows.entry)))) }
 {
     let Ok(mut vertices) = Vec::with_capacity(alloc, count) else {
         return Err(OffFault::OutOfMemory);

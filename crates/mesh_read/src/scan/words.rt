@@ -1,7 +1,8 @@
 // The words of a text.
 ghost use Rattle.std.specs.Prelude.{◌≡◌, ◌+◌, ◌<◌, ◌≤◌, slice_index, false, [], ◌∷◌, length, MatchOption, IfSome, Some, None};
 ghost use Rattle.ember_obj.specs.Scan.{before, onward};
-ghost use Rattle.mesh_read.specs.Scan.Parts.{is_blank, piece_of, words_in, words_between, first_three};
+ghost use Rattle.mesh_read.specs.Scan.Parts.{is_blank, piece_of, words_in, words_between, first_three, three_pieces_of};
+ghost use Rattle.mesh_read.specs.Scan.Found.{IsFirstAs, IsFoundAs};
 
 use crate::scan::blanks::{Blanks, is_blank};
 use crate::scan::part::Part;
@@ -36,8 +37,7 @@ fn skip_blanks<'a>(part: Part<'a>, blanks: Blanks) -> Part<'a>
 
 /// The first word, and what follows it. None if the part has no word. Blanks separate words.
 pub fn next_word_between<'a>(part: Part<'a>, blanks: Blanks) -> Option<(Part<'a>, Part<'a>)>
-    ensures words { MatchOption result (words_between blanks part.entry ≡ [])
-        (λ p. words_between blanks part.entry ≡ piece_of p.0 ∷ words_between blanks p.1) }
+    ensures words { IsFirstAs piece_of (words_between blanks) (words_between blanks part.entry) result }
     ensures shorter { IfSome result (λ p. length p.1.bytes.now < length part.entry.bytes.now) }
 {
     let start = skip_blanks(part, blanks);
@@ -58,9 +58,7 @@ pub fn next_word<'a>(line: Part<'a>) -> Option<(Part<'a>, Part<'a>)>
 
 /// The first three words, if there are three or more.
 pub fn three_words<'a>(part: Part<'a>, blanks: Blanks) -> Option<(Part<'a>, Part<'a>, Part<'a>)>
-    ensures { MatchOption result (first_three (words_between blanks part.entry) ≡ None)
-        (λ t. first_three (words_between blanks part.entry)
-        ≡ Some (piece_of t.0, piece_of t.1, piece_of t.2)) }
+    ensures { IsFoundAs three_pieces_of (first_three (words_between blanks part.entry)) result }
 {
     let (a, rest) = next_word_between(part, blanks)?;
     let (b, rest) = next_word_between(rest, blanks)?;

@@ -6,7 +6,7 @@ ghost use Rattle.mesh_read.specs.Scan.Parts.{piece_of, words_between, first_thre
 ghost use Rattle.mesh_read.specs.declared.scan.blanks.Blanks.TheVariants.{Any};
 ghost use Rattle.mesh_read.specs.Surface.Surfaces.{point_of, content_of, IsSurface};
 ghost use Rattle.mesh_read.specs.Stl.Facets.{IsErrorOf};
-ghost use Rattle.mesh_read.specs.Stl.Ascii.{state_of, coordinate_of, vertex_in, with_vertex, with_end};
+ghost use Rattle.mesh_read.specs.Stl.Ascii.{state_of, coordinate_of, vertex_in, with_vertex, with_end, HasRead};
 ghost use Rattle.mesh_read.specs.Stl.Ascii.{after_words, state_ended, vertex_count, ascii_of};
 
 use crate::scan::{Blanks, Part, next_line, next_word_between, three_words};
@@ -66,8 +66,7 @@ struct Reader<'a> {
 
 impl<'a> Reader<'a> {
     fn add_vertex(&mut self, line: u32, words: Part<'a>) -> Result<(), StlFault>
-        ensures ok { OnOk result (with_vertex line (words_between Any words.entry) (state_of self.old) ≡
-            Ok (state_of self.new)) }
+        ensures ok { OnOk result (HasRead (with_vertex line (words_between Any words.entry) (state_of self.old)) self.new) }
         ensures fault { IfErr result
             (IsErrorOf (with_vertex line (words_between Any words.entry) (state_of self.old))) }
         ensures surface { self.new.surface ≡ self.old.surface }
@@ -112,7 +111,7 @@ impl<'a> Reader<'a> {
         requires few { vertex_count self.old + 4 < 2 ^ 32 }
         requires surface { IsSurface self.old.surface }
         ensures ok { OnOk result
-            (after_words line (state_of self.old) (words_between Any text.entry) ≡ Ok (state_of self.new)) }
+            (HasRead (after_words line (state_of self.old) (words_between Any text.entry)) self.new) }
         ensures fault { IfErr result (IsErrorOf (after_words line (state_of self.old) (words_between Any text.entry))) }
         ensures surface { OnOk result (IsSurface self.new.surface) }
         ensures count { OnOk result (vertex_count self.new ≤ vertex_count self.old + 1) }

@@ -2,7 +2,7 @@
 ghost use Rattle.std.specs.Prelude.{◌≡◌, ◌+◌, ◌*◌, ◌^◌, ◌<◌, ◌≤◌, length, Ok, Err, OnOk, IfOk, IfErr};
 ghost use Rattle.std.specs.Option.{option_map};
 ghost use Rattle.ember_model.specs.Limits.{most_bytes};
-ghost use Rattle.mesh_read.specs.Surface.Surfaces.{point_of, content_of, IsSurface, no_content};
+ghost use Rattle.mesh_read.specs.Surface.Surfaces.{point_of, content_of, IsSurface, no_content, IsSurfaceOf};
 ghost use Rattle.mesh_read.specs.Stl.Binary.{number_at, point_at, with_facet_at, binary_of};
 ghost use Rattle.mesh_read.specs.Stl.Facets.{IsErrorOf};
 
@@ -32,8 +32,7 @@ fn add_facet(surface: &mut Surface, bytes: &[u8], facet: u32) -> Result<(), StlF
     requires few { length surface.old.vertices.items + 3 < 2 ^ 32 }
     requires surface { IsSurface surface.old }
     requires facet { facet + 1 < 2 ^ 32 }
-    ensures ok { let before = Ok (content_of surface.old) in
-        OnOk result (with_facet_at bytes.now facet before ≡ Ok (content_of surface.new)) }
+    ensures ok { OnOk result (IsSurfaceOf (with_facet_at bytes.now facet (Ok (content_of surface.old))) surface.new) }
     ensures fault { IfErr result (IsErrorOf (with_facet_at bytes.now facet (Ok (content_of surface.old)))) }
     ensures surface { OnOk result (IsSurface surface.new) }
     ensures count { OnOk result (length surface.new.vertices.items ≡ length surface.old.vertices.items + 3) }

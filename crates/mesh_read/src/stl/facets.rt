@@ -1,7 +1,7 @@
 // Triangles with points of their own.
 ghost use Rattle.std.specs.Prelude.{◌≡◌, ◌+◌, ◌<◌, ◌^◌, length, OnOk};
-ghost use Rattle.mesh_read.specs.Surface.Surfaces.{point_of, content_of, IsSurface};
-ghost use Rattle.mesh_read.specs.Stl.Facets.{with_triangle};
+ghost use Rattle.mesh_read.specs.Surface.Surfaces.{IsSurface};
+ghost use Rattle.mesh_read.specs.Stl.Facets.{AddsTriangle};
 
 use crate::surface::{Facet, Surface, Vertex};
 use std::alloc::AllocError;
@@ -16,8 +16,7 @@ pub(crate) fn push_triangle<'a>(
 ) -> Result<(), AllocError>
     requires few { length surface.old.vertices.items + 3 < 2 ^ 32 }
     requires surface { IsSurface surface.old }
-    ensures content { let more = with_triangle place (point_of a.entry) (point_of b.entry) (point_of c.entry) in
-        OnOk result (content_of surface.new ≡ more (content_of surface.old)) }
+    ensures content { OnOk result (AddsTriangle place a.entry b.entry c.entry surface.old surface.new) }
     ensures count { OnOk result (length surface.new.vertices.items ≡ length surface.old.vertices.items + 3) }
     ensures surface { OnOk result (IsSurface surface.new) }
 {

@@ -1,8 +1,6 @@
 // A surface as a file has it, and the first of its triangles that lies too far out.
 ghost use Rattle.std.specs.Prelude.{◌≡◌};
-ghost use Rattle.std.specs.Option.{option_map};
-ghost use Rattle.std.specs.List.{find};
-ghost use Rattle.mesh_read.specs.Surface.Surfaces.{IsSurface, content_of, is_facet_too_large, is_vertex_below, is_corner_too_large};
+ghost use Rattle.mesh_read.specs.Surface.Surfaces.{is_facet_too_large, is_vertex_below, is_corner_too_large, first_too_large_in};
 
 use mesh_number::{Number, is_below_limit};
 
@@ -57,8 +55,7 @@ fn is_far(vertices: &[Vertex], facet: &Facet) -> bool
 /// The place of the first triangle with a coordinate of 10^15 or more in size, if there is one.
 /// Vertices of no triangle don't count.
 pub fn first_too_large(surface: &Surface) -> Option<u32>
-    ensures { result ≡ option_map (λ f.
-        f.place) (find (is_facet_too_large surface.now.vertices.items) surface.now.facets.items) }
+    ensures { result ≡ first_too_large_in surface.now }
 {
     let vertices = surface.vertices.as_slice();
     let found = surface.facets.iter().find(|facet| is_far(vertices, facet));

@@ -1,9 +1,10 @@
 // The face of a line.
-ghost use Rattle.std.specs.Prelude.{◌≡◌, ◌⊎◌, ◌<◌, ◌^◌, length, map, Ok, Err, OnOk, IfErr};
-ghost use Rattle.mesh_read.specs.Scan.Parts.{piece_of};
-ghost use Rattle.mesh_read.specs.Surface.Surfaces.{content_of};
-ghost use Rattle.mesh_read.specs.Wavefront.Faults.{fault_of};
-ghost use Rattle.mesh_read.specs.Wavefront.ReadWavefront.{corners_of, facets_in, with_facets};
+ghost use Rattle.std.specs.Prelude.{◌≡◌, ◌<◌, ◌^◌, length, map, Ok, Err, OnOk, IfErr};
+ghost use Rattle.mesh_read.specs.Scan.Parts.{piece_of, pieces_of};
+ghost use Rattle.mesh_read.specs.Wavefront.ReadWavefront.{corners_of};
+ghost use Rattle.mesh_read.specs.Wavefront.Faults.{IsErrorOf};
+ghost use Rattle.mesh_read.specs.Surface.Surfaces.{IsSurfaceOf};
+ghost use Rattle.mesh_read.specs.Wavefront.RowViews.{facets_named, with_face};
 
 use crate::scan::Part;
 use crate::surface::{Surface, push_fan};
@@ -19,8 +20,7 @@ fn read_corners<'a>(
     references: &[Part<'a>],
 ) -> Result<(), WavefrontFault<'a>>
     ensures ok { OnOk result (corners_of line vertices (map piece_of references.now) ≡ Ok corners.new.items) }
-    ensures fault { IfErr result (λ e. (e ≡ WavefrontFault.OutOfMemory)
-        ⊎ (corners_of line vertices (map piece_of references.now) ≡ Err (fault_of e))) }
+    ensures fault { IfErr result (IsErrorOf (corners_of line vertices (pieces_of references.now))) }
 {
     corners.clear();
     let mut next = 0;
@@ -42,11 +42,8 @@ pub(crate) fn add_face<'a>(
     references: &[Part<'a>],
 ) -> Result<(), WavefrontFault<'a>>
     requires { length surface.old.vertices.items < 2 ^ 32 }
-    ensures ok { OnOk result (with_facets (content_of surface.old)
-        (facets_in line (length surface.old.vertices.items) (map piece_of references.now))
-        ≡ Ok (content_of surface.new)) }
-    ensures fault { IfErr result (λ e. (e ≡ WavefrontFault.OutOfMemory)
-        ⊎ (facets_in line (length surface.old.vertices.items) (map piece_of references.now) ≡ Err (fault_of e))) }
+    ensures ok { OnOk result (IsSurfaceOf (with_face line surface.old references.now) surface.new) }
+    ensures fault { IfErr result (IsErrorOf (facets_named line surface.old references.now)) }
     ensures vertices { surface.new.vertices.items ≡ surface.old.vertices.items }
 {
     read_corners(corners, line, surface.vertices.len() as u32, references)?;

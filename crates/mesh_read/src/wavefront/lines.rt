@@ -1,7 +1,8 @@
 // Physical lines.
-ghost use Rattle.std.specs.Prelude.{◌≡◌, ◌-◌, ◌≤◌, true, false, length, take, MatchOption, IfSome};
+ghost use Rattle.std.specs.Prelude.{◌≡◌, ◌-◌, ◌≤◌, true, false, length, MatchOption, IfSome};
 ghost use Rattle.std.specs.List.{list_any};
-ghost use Rattle.ember_obj.specs.Lines.{unmarked, without_return, is_hash, is_continued};
+ghost use Rattle.ember_obj.specs.Lines.{unmarked, without_return, is_hash};
+ghost use Rattle.mesh_read.specs.Wavefront.Rows.{ends_in_backslash, text_before_backslash};
 
 const MARK: [u8; 3] = [0xEF, 0xBB, 0xBF];
 
@@ -39,10 +40,8 @@ fn has_comment(line: &[u8]) -> bool
 // The bytes before the backslash at the end of the line, if the next line is joined to this one.
 pub(crate) fn before_backslash(line: &[u8]) -> Option<&[u8]>
     ensures joined { MatchOption result
-        (is_continued (without_return line.now) ≡ false)
-        (λ text. is_continued (without_return line.now) ≡ true) }
-    ensures text { IfSome result (λ text.
-        text.now ≡ take (length (without_return line.now) - 1) (without_return line.now)) }
+        (ends_in_backslash line.now ≡ false) (λ text. ends_in_backslash line.now ≡ true) }
+    ensures text { IfSome result (λ text. text.now ≡ text_before_backslash line.now) }
     ensures length { IfSome result (λ text. length text.now ≤ length line.now) }
 {
     let line = trim_return(line);

@@ -1,11 +1,12 @@
 // The pass over a file.
-ghost use Rattle.std.specs.Prelude.{◌≡◌, ◌⊎◌, ◌+◌, ◌<◌, ◌≤◌, ◌^◌, length, map, Ok, Err, OnOk, IfOk, IfErr};
+ghost use Rattle.std.specs.Prelude.{◌≡◌, ◌+◌, ◌<◌, ◌≤◌, ◌^◌, length, Ok, Err, OnOk, IfOk, IfErr};
 ghost use Rattle.ember_model.specs.Limits.{most_bytes};
-ghost use Rattle.mesh_read.specs.Scan.Parts.{piece_of};
-ghost use Rattle.mesh_read.specs.Surface.Surfaces.{IsSurface, content_of};
-ghost use Rattle.mesh_read.specs.Wavefront.Faults.{fault_of};
+ghost use Rattle.mesh_read.specs.Surface.Surfaces.{IsSurface, content_of, IsSurfaceOf};
 ghost use Rattle.mesh_read.specs.Wavefront.Rows.{rows_of};
-ghost use Rattle.mesh_read.specs.Wavefront.ReadWavefront.{keyword_of, point_in, with_point, after_words, content_in, read_wavefront_of};
+ghost use Rattle.mesh_read.specs.Wavefront.ReadWavefront.{keyword_of, point_in, after_words, content_in, read_wavefront_of};
+ghost use Rattle.mesh_read.specs.Wavefront.Faults.{IsErrorOf};
+ghost use Rattle.mesh_read.specs.Scan.Parts.{pieces_of};
+ghost use Rattle.mesh_read.specs.Wavefront.RowViews.{with_vertex};
 
 use crate::scan::Part;
 use crate::surface::{Surface, as_mesh};
@@ -39,10 +40,8 @@ fn add_vertex<'a>(
     line: u32,
     words: &[Part<'a>],
 ) -> Result<(), WavefrontFault<'a>>
-    ensures ok { OnOk result
-        (with_point (content_of surface.old) (point_in line (map piece_of words.now)) ≡ Ok (content_of surface.new)) }
-    ensures fault { IfErr result (λ e. (e ≡ WavefrontFault.OutOfMemory)
-        ⊎ (point_in line (map piece_of words.now) ≡ Err (fault_of e))) }
+    ensures ok { OnOk result (IsSurfaceOf (with_vertex line surface.old words.now) surface.new) }
+    ensures fault { IfErr result (IsErrorOf (point_in line (pieces_of words.now))) }
     ensures count { OnOk result (length surface.new.vertices.items ≡ length surface.old.vertices.items + 1) }
 {
     let vertex = read_vertex(line, words)?;
@@ -61,9 +60,8 @@ fn add_row<'a>(
 ) -> Result<(), WavefrontFault<'a>>
     requires { length surface.old.vertices.items < 2 ^ 32 }
     ensures ok { OnOk result
-        (after_words line (content_of surface.old) (map piece_of words.now) ≡ Ok (content_of surface.new)) }
-    ensures fault { IfErr result (λ e. (e ≡ WavefrontFault.OutOfMemory)
-        ⊎ (after_words line (content_of surface.old) (map piece_of words.now) ≡ Err (fault_of e))) }
+        (IsSurfaceOf (after_words line (content_of surface.old) (pieces_of words.now)) surface.new) }
+    ensures fault { IfErr result (IsErrorOf (after_words line (content_of surface.old) (pieces_of words.now))) }
     ensures count { OnOk result (length surface.new.vertices.items ≤ length surface.old.vertices.items + 1) }
 {
     let Some((keyword, others)) = words.split_first() else {
@@ -81,8 +79,7 @@ fn add_row<'a>(
 fn read_rows<'a>(alloc: Global, bytes: &'a [u8]) -> Result<Surface<'a>, WavefrontFault<'a>>
     requires { length bytes.now ≤ most_bytes }
     ensures ok { IfOk result (λ s. content_in (rows_of bytes.now) ≡ Ok (content_of s)) }
-    ensures fault { IfErr result (λ e. (e ≡ WavefrontFault.OutOfMemory)
-        ⊎ (content_in (rows_of bytes.now) ≡ Err (fault_of e))) }
+    ensures fault { IfErr result (IsErrorOf (content_in (rows_of bytes.now))) }
 {
     let mut surface = Surface {
         vertices: Vec::new(alloc),
@@ -110,8 +107,7 @@ fn read_rows<'a>(alloc: Global, bytes: &'a [u8]) -> Result<Surface<'a>, Wavefron
 fn read_mesh<'a>(alloc: Global, bytes: &'a [u8]) -> Result<Surface<'a>, WavefrontFault<'a>>
     requires { length bytes.now ≤ most_bytes }
     ensures ok { IfOk result (λ s. read_wavefront_of bytes.now ≡ Ok (content_of s)) }
-    ensures fault { IfErr result (λ e. (e ≡ WavefrontFault.OutOfMemory)
-        ⊎ (read_wavefront_of bytes.now ≡ Err (fault_of e))) }
+    ensures fault { IfErr result (IsErrorOf (read_wavefront_of bytes.now)) }
 {
     let surface = read_rows(alloc, bytes)?;
     Ok(as_mesh(surface)?)
@@ -137,8 +133,7 @@ pub fn read_wavefront(alloc: Global, bytes: &[u8]) -> Result<Surface<'_>, Wavefr
     requires { length bytes.now ≤ most_bytes }
     ensures ok { IfOk result (λ s. read_wavefront_of bytes.now ≡ Ok (content_of s)) }
     ensures surface { IfOk result IsSurface }
-    ensures fault { IfErr result (λ e. (e ≡ WavefrontFault.OutOfMemory)
-        ⊎ (read_wavefront_of bytes.now ≡ Err (fault_of e))) }
+    ensures fault { IfErr result (IsErrorOf (read_wavefront_of bytes.now)) }
 {
     read_mesh(alloc, bytes)
 }

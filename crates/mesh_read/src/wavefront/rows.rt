@@ -1,6 +1,6 @@
 // Lines joined from physical lines, as their words.
 ghost use Rattle.std.specs.Prelude.{◌≡◌, ◌+◌, ◌<◌, ◌≤◌, ◌∷◌, ◌++◌, length, map, OnOk, IfOk};
-ghost use Rattle.mesh_read.specs.Scan.Parts.{piece_of, words_in};
+ghost use Rattle.mesh_read.specs.Scan.Parts.{piece_of, words_in, pieces_of};
 ghost use Rattle.mesh_read.specs.Wavefront.Rows.{goes_on, words_on};
 ghost use Rattle.mesh_read.specs.Wavefront.RowViews.{row_of, rows_in};
 
@@ -18,8 +18,7 @@ pub(crate) struct Rows<'a> {
 // Appends the words of a text.
 #[tactic(auto, using(crate::proofs::WavefrontJoins::words_more, crate::proofs::WavefrontJoins::words_end))]
 fn add_words<'a>(words: &mut Vec<Part<'a>>, text: Part<'a>) -> Result<(), AllocError>
-    ensures { OnOk result
-        (map piece_of words.new.items ≡ map piece_of words.old.items ++ words_in text.entry) }
+    ensures { OnOk result (map piece_of words.new.items ≡ map piece_of words.old.items ++ words_in text.entry) }
 {
     let mut rest = text;
     while let Some((word, after)) = next_word(rest) {
@@ -32,7 +31,7 @@ fn add_words<'a>(words: &mut Vec<Part<'a>>, text: Part<'a>) -> Result<(), AllocE
 // Appends the words of a physical line. Returns whether the next one is joined to it.
 fn add_line<'a>(words: &mut Vec<Part<'a>>, line: Part<'a>) -> Result<bool, AllocError>
     ensures words { OnOk result
-        (map piece_of words.new.items ≡ map piece_of words.old.items ++ words_on (piece_of line.entry)) }
+        (pieces_of words.new.items ≡ pieces_of words.old.items ++ words_on (piece_of line.entry)) }
     ensures joined { IfOk result (λ more. more ≡ goes_on (piece_of line.entry)) }
 {
     match before_backslash(line.bytes) {

@@ -4,16 +4,15 @@ use Rattle.std.specs.List.{take_while}
 use Rattle.mesh_grid.specs.Snap.Steps.{IsStep}
 use Rattle.mesh_read.specs.declared.surface.surface.Surface.{Surface}
 use Rattle.ember_model.specs.declared.tri.Tri.{Tri}
+use Rattle.ember_model.specs.Limits.{narrow_limit}
 use Rattle.ember_model.specs.Meshes.{IsBalanced}
 use Rattle.ember_balance.specs.Loose.{edge_of, IsLeastLoose}
 use Rattle.mesh_grid.specs.declared.grid.grid.Grid.{Grid}
 use Rattle.mesh_grid.specs.declared.grid.choice.Wanted.{Wanted}
 use Rattle.mesh_grid.specs.declared.grid.fault.GridFault.{GridFault}
 use Rattle.mesh_grid.specs.declared.grid.fault.GridFault.TheVariants as grid_fault
-use Rattle.mesh_grid.specs.Grid.Grids.{IsGrid, IsGridFault}
+use Rattle.mesh_grid.specs.Grid.Grids.{IsGridWithin, IsGridFaultWithin}
 use Rattle.mesh_grid.specs.Grid.Places.{IsPlaceOf}
-use Rattle.ember_mesh.specs.declared.fault.JoinFault.{JoinFault}
-use Rattle.ember_mesh.specs.declared.fault.JoinFault.TheVariants as join_fault
 use Rattle.mesh_scene.specs.declared.scene.fault.Open.{Open}
 use Rattle.mesh_scene.specs.declared.scene.fault.SceneFault.{SceneFault}
 use Rattle.mesh_scene.specs.declared.scene.fault.SceneFault.TheVariants as scene_fault
@@ -76,22 +75,25 @@ of_grid_fault grid_fault.NoTriangles = scene_fault.NoTriangles
 of_grid_fault (grid_fault.StepTooSmall extent) = scene_fault.StepTooSmall extent
 of_grid_fault grid_fault.OutOfMemory = scene_fault.OutOfMemory
 
--- a fault of the meshes together as one of the scene
-abbrev pub of_join_fault : JoinFault → SceneFault
-of_join_fault (join_fault.TooManyTriangles n) = scene_fault.TooManyTriangles n
-of_join_fault join_fault.OutOfMemory = scene_fault.OutOfMemory
-
--- the grid that is wanted
-pub record IsSceneGrid (surfaces : List Surface) (wanted : Wanted) (g : Grid) : Type 0 where
+-- the grid from -m to m that is wanted
+pub record IsSceneGridWithin (m : ℕ) (surfaces : List Surface) (wanted : Wanted) (g : Grid) : Type 0 where
   pub step : IsStep g.step
-  pub grid : IsGrid surfaces wanted g
+  pub grid : IsGridWithin m surfaces wanted g
 
 -- there is no grid as it is wanted; or a surface is open on it; or there are too many triangles; or out-of-memory
+abbrev pub IsSceneFaultWithin : ℕ → List Surface → Wanted → SceneFault → Type 0
+IsSceneFaultWithin m surfaces wanted scene_fault.NoTriangles = IsGridFaultWithin m surfaces wanted grid_fault.NoTriangles
+IsSceneFaultWithin m surfaces wanted (scene_fault.StepTooSmall extent) =
+    IsGridFaultWithin m surfaces wanted (grid_fault.StepTooSmall extent)
+IsSceneFaultWithin m surfaces wanted (scene_fault.Open o) =
+    IsSceneGridWithin m surfaces wanted o.grid × IsFirstOpen o.grid surfaces o
+IsSceneFaultWithin m surfaces wanted (scene_fault.TooManyTriangles n) =
+    (g : Grid) × IsSceneGridWithin m surfaces wanted g × AreTooMany g surfaces n
+IsSceneFaultWithin m surfaces wanted scene_fault.OutOfMemory = Unit {0}
+
+-- ---- the same on the narrow grid
+abbrev pub IsSceneGrid : List Surface → Wanted → Grid → Type 0
+IsSceneGrid surfaces wanted g = IsSceneGridWithin narrow_limit surfaces wanted g
+
 abbrev pub IsSceneFault : List Surface → Wanted → SceneFault → Type 0
-IsSceneFault surfaces wanted scene_fault.NoTriangles = IsGridFault surfaces wanted grid_fault.NoTriangles
-IsSceneFault surfaces wanted (scene_fault.StepTooSmall extent) =
-    IsGridFault surfaces wanted (grid_fault.StepTooSmall extent)
-IsSceneFault surfaces wanted (scene_fault.Open o) = IsSceneGrid surfaces wanted o.grid × IsFirstOpen o.grid surfaces o
-IsSceneFault surfaces wanted (scene_fault.TooManyTriangles n) =
-    (g : Grid) × IsSceneGrid surfaces wanted g × AreTooMany g surfaces n
-IsSceneFault surfaces wanted scene_fault.OutOfMemory = Unit {0}
+IsSceneFault surfaces wanted fault = IsSceneFaultWithin narrow_limit surfaces wanted fault

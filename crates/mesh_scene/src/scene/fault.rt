@@ -1,10 +1,9 @@
 // What makes surfaces no scene.
 ghost use Rattle.std.specs.Prelude.{◌≡◌};
 ghost use Rattle.mesh_scene.specs.declared.scene.fault.SceneFault.TheVariants.{OutOfMemory};
-ghost use Rattle.mesh_scene.specs.Scene.Faults.{of_grid_fault, of_join_fault};
+ghost use Rattle.mesh_scene.specs.Scene.Faults.{of_grid_fault};
 
 use ember_balance::Loose;
-use ember_mesh::JoinFault;
 use mesh_grid::{Grid, GridFault, SceneExtent};
 use std::alloc::AllocError;
 use thiserror::Error;
@@ -61,17 +60,6 @@ impl From<GridFault> for SceneFault {
             GridFault::NoTriangles => SceneFault::NoTriangles,
             GridFault::StepTooSmall(extent) => SceneFault::StepTooSmall(extent),
             GridFault::OutOfMemory => SceneFault::OutOfMemory,
-        }
-    }
-}
-
-impl From<JoinFault> for SceneFault {
-    ghost from_gives = { λ cause fault. fault ≡ of_join_fault cause };
-
-    fn from(cause: JoinFault) -> SceneFault {
-        match cause {
-            JoinFault::TooManyTriangles(count) => SceneFault::TooManyTriangles(count),
-            JoinFault::OutOfMemory => SceneFault::OutOfMemory,
         }
     }
 }

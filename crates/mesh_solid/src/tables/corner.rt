@@ -47,7 +47,7 @@ fn broad_corner(p: &Plane, q: &Plane, r: &Plane) -> Option<SpacePoint>
 }
 
 /// The corner in which three planes meet, in lowest terms. None if they don't meet in one point, or
-/// if this point is too far away or too heavy for a `SpacePoint`.
+/// if this point is too far away for a `SpacePoint`.
 pub fn corner_of(p: &Plane, q: &Plane, r: &Plane) -> Option<SpacePoint>
     requires p { IsBroadPlane p.now }
     requires q { IsBroadPlane q.now }

@@ -12,7 +12,7 @@ pub enum TableFault {
     #[error("face {0}: an edge without a line")]
     NoLine(usize),
     /// In the face with this number, from 0, two neighbouring edges don't meet in one corner with
-    /// coordinates nearer than 2^31 and a weight below 2^75.
+    /// coordinates nearer than 2^31.
     #[error("face {0}: an edge without a corner")]
     NoCorner(usize),
     /// The faces have more than 2,147,483,647 edges.

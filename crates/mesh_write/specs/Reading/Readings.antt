@@ -1,10 +1,12 @@
 -- Meshes that a reader takes, and what it reads in the text of one
-use Rattle.std.specs.Prelude.{◌≡◌, ℕ, ◌<◌, ◌*◌, ◌^◌, ℤ, ◌*ℤ◌, pos, unsigned_abs, List, [], ◌∷◌, length, map, All}
+use Rattle.std.specs.Prelude.{◌≡◌, ℕ, ◌<◌, ◌≤◌, ◌*◌, ◌^◌, Result, Ok, ℤ, ◌*ℤ◌, pos, unsigned_abs, List, [], ◌∷◌, length, map, All}
 use Rattle.std.specs.List.{AllZip}
 use Rattle.mesh_number.specs.Number.Fractions.{Fraction}
 use Rattle.mesh_read.specs.Surface.Surfaces.{Point, Content}
 use Rattle.mesh_write.specs.declared.vertices.point.DecimalPoint.{DecimalPoint}
 use Rattle.mesh_write.specs.declared.vertices.point.IndexedTriangle.{IndexedTriangle}
+use Rattle.mesh_write.specs.declared.text.format.TextFormat.{TextFormat}
+use Rattle.mesh_write.specs.Text.Texts.{text_of}
 
 -- ---- what readers take
 -- so many units of the last of these places are below 10^15 in size
@@ -48,3 +50,19 @@ corners_of t = t.a ∷ t.b ∷ t.c ∷ []
 pub record IsReadAs (places : ℕ) (ps : List DecimalPoint) (ts : List IndexedTriangle) (content : Content) : Type 0 where
   pub points : AllZip (IsSamePoint places) ps content.points
   pub triangles : map (λ f. f.corners) content.facets ≡ map corners_of ts
+
+-- this reading finds these points and these triangles
+abbrev pub IsReadBack : {F : Type 0} → Result Content F → ℕ → List DecimalPoint → List IndexedTriangle → Type 0
+IsReadBack reading places ps ts = (content : Content) × (reading ≡ Ok content) × IsReadAs places ps ts content
+
+-- so does this reader of all texts of the format that can be read
+abbrev pub AreTextsReadBy : {F : Type 0} → (List ℕ → Result Content F) → TextFormat → Type 0
+AreTextsReadBy reader format =
+    (places : ℕ) (ps : List DecimalPoint) (ts : List IndexedTriangle) → AreReadable places ps ts →
+    IsReadBack (reader (text_of format places ps ts)) places ps ts
+
+-- and of those with at most 10^15 points and as many triangles
+abbrev pub AreShortTextsReadBy : {F : Type 0} → (List ℕ → Result Content F) → TextFormat → Type 0
+AreShortTextsReadBy reader format =
+    (places : ℕ) (ps : List DecimalPoint) (ts : List IndexedTriangle) → AreReadable places ps ts →
+    length ps ≤ 10 ^ 15 → length ts ≤ 10 ^ 15 → IsReadBack (reader (text_of format places ps ts)) places ps ts

@@ -1,5 +1,5 @@
 -- The vertices of triangles: each point once; and triangles by the indices of their corners
-use Rattle.std.specs.Prelude.{◌≡◌, ℕ, pos, Bool, ◌&&◌, List, [], ◌∷◌, ◌++◌, map, fold, slice_index_or, if◌then◌else◌}
+use Rattle.std.specs.Prelude.{◌≡◌, ℕ, pos, Bool, ◌&&◌, List, [], ◌∷◌, ◌++◌, map, fold, slice_index_or, if◌then◌else◌, Result, OnOk}
 use Rattle.std.specs.List.{list_any, position_or_len}
 use Rattle.std.specs.Ordering.{int_eq}
 use Rattle.mesh_write.specs.declared.vertices.point.DecimalPoint.{DecimalPoint}
@@ -46,3 +46,8 @@ over ps t = record { a = point_at ps t.a; b = point_at ps t.b; c = point_at ps t
 pub record IsMeshOf (ts : List DecimalTriangle) (mesh : IndexedMesh) : Type 0 where
   pub vertices : mesh.points.keys ≡ vertices_of ts
   pub triangles : mesh.triangles.items ≡ map (indexed (vertices_of ts)) ts
+
+-- from the mesh of whatever triangles, it becomes the mesh of these and this one, if the step doesn't fail
+abbrev pub AddsToMesh : {A E : Type 0} → Result A E → DecimalTriangle → IndexedMesh → IndexedMesh → Type 0
+AddsToMesh result t old new =
+    (before : List DecimalTriangle) → IsMeshOf before old → OnOk result (IsMeshOf (before ++ t ∷ []) new)

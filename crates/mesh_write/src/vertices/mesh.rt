@@ -1,7 +1,7 @@
 // Triangles over vertices.
-ghost use Rattle.std.specs.Prelude.{◌≡◌, [], ◌∷◌, ◌++◌, List, map, IfOk, OnOk};
+ghost use Rattle.std.specs.Prelude.{◌≡◌, [], List, map, IfOk, OnOk};
 ghost use Rattle.mesh_write.specs.declared.vertices.point.DecimalTriangle.{DecimalTriangle};
-ghost use Rattle.mesh_write.specs.Vertices.Vertices.{with_point, vertices_of, index_of, indexed, IsMeshOf};
+ghost use Rattle.mesh_write.specs.Vertices.Vertices.{with_point, vertices_of, index_of, indexed, IsMeshOf, AddsToMesh};
 
 use crate::vertices::point::{DecimalPoint, DecimalTriangle, IndexedTriangle};
 use indexmap::IndexSet;
@@ -36,8 +36,7 @@ impl IndexedMesh {
 
     /// Adds a triangle behind the others. Its one error is out-of-memory.
     pub fn push(&mut self, triangle: &DecimalTriangle) -> Result<(), AllocError>
-        ensures { (before : List DecimalTriangle) → IsMeshOf before self.old →
-            OnOk result (IsMeshOf (before ++ triangle.now ∷ []) self.new) }
+        ensures { AddsToMesh result triangle.now self.old self.new }
     {
         let a = vertex_at(&mut self.points, triangle.a)?;
         let b = vertex_at(&mut self.points, triangle.b)?;

@@ -5,8 +5,8 @@ use Rattle.ember_algebra.proofs.Exact.{input, stored, kept, ◌&◌, done, exact
 use Rattle.ember_wide.specs.Whole.{value_of}
 use Rattle.ember_width.specs.BroadPoints.{far_spot}
 use Rattle.ember_width.proofs.Quotients.{weighs}
-use Rattle.mesh_point.specs.SpacePoints.{IsNear}
-use Rattle.mesh_broad.proofs.ReducedPoints.{beyond_x, beyond_y, beyond_z, found_by_floors}
+use Rattle.mesh_point.specs.SpacePoints.{IsNear, spot_of}
+use Rattle.mesh_broad.proofs.ReducedPoints.{beyond_x, beyond_y, beyond_z, reduced_by_floors}
 use Rattle.mesh_broad.proofs.points.far_point.Goals as goal
 
 pub returns-in_err-x : goal.returns-in_err-x
@@ -49,8 +49,8 @@ returns c =
     let fy = exact (y.ensures.small & done) (stored w32 (input 0)) tt in
     let fz = exact (z.ensures.small & done) (stored w32 (input 0)) tt in
     let whole = weight ∙ sym e in
-    found_by_floors (to_z w32 (of_z w32 x.x.floor)) (to_z w32 (of_z w32 y.y.floor)) (to_z w32 (of_z w32 z.z.floor))
-    x.x.rest y.y.rest z.z.rest c.unsigned_abs.result (far_spot m)
+    reduced_by_floors (to_z w32 (of_z w32 x.x.floor)) (to_z w32 (of_z w32 y.y.floor)) (to_z w32 (of_z w32 z.z.floor))
+    x.x.rest y.y.rest z.z.rest c.unsigned_abs.result (far_spot m) (spot_of c.point_in.result)
     ((λ t. fx t *ℤ whole t +ℤ pos x.x.rest) ∙ sym x.ensures.place.value)
     ((λ t. fy t *ℤ whole t +ℤ pos y.y.rest) ∙ sym y.ensures.place.value)
-    ((λ t. fz t *ℤ whole t +ℤ pos z.z.rest) ∙ sym z.ensures.place.value) weight c.point_in.result c.point_in.ensures
+    ((λ t. fz t *ℤ whole t +ℤ pos z.z.rest) ∙ sym z.ensures.place.value) weight c.point_in.ensures

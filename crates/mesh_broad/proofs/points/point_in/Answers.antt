@@ -1,18 +1,9 @@
 use Rattle.std.proofs.Common.{arith, to_z-of_z}
-use Rattle.std.proofs.lemmas.Int.{ints, to_z_pos}
+use Rattle.std.proofs.lemmas.Int.{to_z_pos}
 use mir.Syntax.{w128}
 use Rattle.mesh_broad.specs.Remainders.{spot_from}
 use Rattle.mesh_broad.proofs.ReducedPoints.{reduced_as_kept}
 use Rattle.mesh_broad.proofs.points.point_in.Goals as goal
-
-pub returns-then-lowest-gt-MOST_WEIGHT : goal.returns-then-lowest-gt-MOST_WEIGHT
-returns-then-lowest-gt-MOST_WEIGHT c =
-    let a = c.args in let lowest = c.reduced-lowest in
-    record {
-      point = spot_from a.x a.y a.z lowest.result;
-      is = record { same = lowest.ensures.same a.x a.y a.z; lowest = lowest.ensures.lowest a.x a.y a.z };
-      far = λ reach. omega (arith, ints, reach.w.small, c.if-lowest-gt-MOST_WEIGHT.true);
-    }
 
 pub returns : goal.returns
 returns c =

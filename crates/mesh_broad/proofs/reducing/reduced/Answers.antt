@@ -1,5 +1,5 @@
 use Rattle.std.proofs.Common.{◌/◌}
-use Rattle.mesh_broad.proofs.LowestRemainders.{divided_same, divided_lowest, less_divided, lowest_if_one, quotients_are, smaller}
+use Rattle.mesh_broad.proofs.LowestRemainders.{divided_same, divided_lowest, less_divided, lowest_if_one, quotients_are, smaller, no_larger}
 use Rattle.mesh_broad.proofs.reducing.reduced.Goals as goal
 
 pub invariant_of-result : goal.invariant_of-result
@@ -28,3 +28,8 @@ returns-clause-lowest c i j k =
 pub returns-then-divisor-eq1-clause-lowest : goal.returns-then-divisor-eq1-clause-lowest
 returns-then-divisor-eq1-clause-lowest c i j k =
     lowest_if_one i j k c.args.r.now c.common_divisor-divisor.result c.common_divisor-divisor.ensures c.if-divisor-eq1.true
+
+pub returns-clause-weight : goal.returns-clause-weight
+returns-clause-weight c =
+    let r = c.args.r.now in let d = c.common_divisor-divisor.result in let g = c.common_divisor-divisor.ensures in
+    no_larger (r.w / d) r.w d g.positive (quotients_are r d g).w

@@ -1,11 +1,9 @@
-use Rattle.std.proofs.Common.{ℤ, subst, refl, lit≤, arith}
-use Rattle.std.proofs.lemmas.Int.{ints}
+use Rattle.std.proofs.Common.{ℤ, subst, refl, lit≤}
 use Rattle.ember_algebra.specs.Size.{Small}
 use Rattle.ember_algebra.proofs.Exact.{kept, ◌&◌, done, exact, bounded}
 use Rattle.ember_algebra.proofs.Size.{small_within}
 use Rattle.ember_width.specs.Broad.{IsRemainder, most_weight}
 use Rattle.ember_width.proofs.Places.{kept_remainder, kept_weight}
-use Rattle.mesh_point.specs.Rests.{most_corner_weight}
 use Rattle.mesh_point.proofs.meets.point_of_meet.Goals as goal
 
 pub returns-in_err-y : goal.returns-in_err-y
@@ -23,8 +21,7 @@ returns-in_err-z c =
 pub invariant_of-result : goal.invariant_of-result
 invariant_of-result c =
     let m = c.args.m.now in let v = m.valid in let e = exact (v.w & done) (kept 0) tt in
-    let small : Small most_corner_weight m.w = record { small = omega (arith, ints, e, v.weight, c.if-m-gt-MOST_WEIGHT.false) } in
-    let large : Small most_weight m.w = small_within (lit≤ tt) small in
+    let large : Small most_weight m.w = small_within (lit≤ tt) v.w in
     let x = subst (λ (d : ℤ). IsRemainder c.in_ok-x.x.rest d) e c.in_ok-x.ensures.place.rest in
     let y = subst (λ (d : ℤ). IsRemainder c.in_ok-y.y.rest d) e c.in_ok-y.ensures.place.rest in
     let z = subst (λ (d : ℤ). IsRemainder c.in_ok-z.z.rest d) e c.in_ok-z.ensures.place.rest in
@@ -33,7 +30,7 @@ invariant_of-result c =
         x = kept_remainder x large;
         y = kept_remainder y large;
         z = kept_remainder z large;
-        w = bounded (small & done) most_corner_weight (kept 0) tt;
+        w = bounded (large & done) most_weight (kept 0) tt;
         positive = kept_weight large v.weight;
       };
     }

@@ -1,13 +1,9 @@
-use Rattle.std.proofs.Common.{◌<◌, ◌≤◌, arith}
+use Rattle.std.proofs.Common.{arith}
 use borrow.Author.Differences.{ints}
-use Rattle.mesh_written.proofs.Sizes.{read_weight, between}
+use Rattle.mesh_written.proofs.Sizes.{read_weight}
 use Rattle.mesh_written.proofs.places.exact_place.Goals as goal
 
-pub invariant_of-result : goal.invariant_of-result
-invariant_of-result c =
+pub short_place-requires-clause-weight : goal.short_place-requires-clause-weight
+short_place-requires-clause-weight c =
     let corner = c.args.corner.now in
-    let weight : 0 < c.unsigned_abs.result = omega (arith, ints, c.unsigned_abs.ensures.value, read_weight corner, corner.valid.positive) in
-    let small : c.unsigned_abs.result ≤ 37778931862957161709567 = omega (arith, ints, c.unsigned_abs.ensures.value, read_weight corner, corner.valid.w.small) in
-    let b = between c.from.result c.unsigned_abs.result (omega (arith, c.from.ensures, c.requires.denominator_positive))
-    (omega (arith, c.from.ensures, c.requires.denominator_small)) weight small in
-    record { positive = b.0; small = b.1 }
+    record { small = omega (arith, ints, read_weight corner, corner.valid.positive, c.if-corner-le-MOST_LIGHT.true) }

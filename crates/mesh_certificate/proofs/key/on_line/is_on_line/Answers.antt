@@ -1,29 +1,18 @@
-use Rattle.std.proofs.Common.{SFits, to_z-of_z, sym, subst, ap, ◌∙◌, rules}
+use Rattle.std.proofs.Common.{SFits, to_z-of_z, sym, ap, ◌∙◌, rules}
 use mir.Syntax.{w128}
-use Rattle.ember_algebra.specs.Size.{Small}
 use Rattle.ember_algebra.specs.Vector.{Vector}
 use Rattle.ember_algebra.proofs.Vectors.{same_v}
-use Rattle.mesh_point.specs.Rests.{most_corner_weight}
 use Rattle.mesh_certificate.proofs.OnLine.{refused}
 use Rattle.mesh_certificate.proofs.key.on_line.is_on_line.Goals as goal
 
-pub is_moment-requires-clause-weights : goal.is_moment-requires-clause-weights
-is_moment-requires-clause-weights c = c.along-z.ensures.weight ∙ sym c.along-y.ensures.weight
+pub is_moment-requires : goal.is_moment-requires
+is_moment-requires c = c.along-z.ensures.weight ∙ sym c.along-y.ensures.weight
 
-pub is_moment-requires-clause-small : goal.is_moment-requires-clause-small
-is_moment-requires-clause-small c = subst (Small most_corner_weight) (sym c.along-y.ensures.weight) c.args.p.now.valid.w
+pub is_moment-requires-2 : goal.is_moment-requires-2
+is_moment-requires-2 c = c.along-x.ensures.weight ∙ sym c.along-z.ensures.weight
 
-pub is_moment-requires-2-clause-weights : goal.is_moment-requires-2-clause-weights
-is_moment-requires-2-clause-weights c = c.along-x.ensures.weight ∙ sym c.along-z.ensures.weight
-
-pub is_moment-requires-2-clause-small : goal.is_moment-requires-2-clause-small
-is_moment-requires-2-clause-small c = subst (Small most_corner_weight) (sym c.along-z.ensures.weight) c.args.p.now.valid.w
-
-pub is_moment-requires-3-clause-weights : goal.is_moment-requires-3-clause-weights
-is_moment-requires-3-clause-weights c = c.along-y.ensures.weight ∙ sym c.along-x.ensures.weight
-
-pub is_moment-requires-3-clause-small : goal.is_moment-requires-3-clause-small
-is_moment-requires-3-clause-small c = subst (Small most_corner_weight) (sym c.along-x.ensures.weight) c.args.p.now.valid.w
+pub is_moment-requires-3 : goal.is_moment-requires-3
+is_moment-requires-3 c = c.along-y.ensures.weight ∙ sym c.along-x.ensures.weight
 
 pub returns-then-not-is_moment : goal.returns-then-not-is_moment
 returns-then-not-is_moment c =

@@ -1,6 +1,9 @@
 use Rattle.std.proofs.Common.{arith}
+use Rattle.mesh_grid.specs.Snap.Sizes.{limit_of}
+use Rattle.mesh_grid.proofs.GridSizes.{limits_at_least_narrow}
 use Rattle.mesh_grid.proofs.WidestSteps.{fine_step_fits}
 use Rattle.mesh_grid.proofs.grid.choice.least_fine_step.Goals as goal
 
 pub unreachable-requires : goal.unreachable-requires
-unreachable-requires c = c.in-None.ensures.none 189998 (omega arith) (fine_step_fits c.args.coordinates.now c.requires)
+unreachable-requires c = c.in-None.ensures.none 189998 (omega arith) (fine_step_fits (limit_of c.args.size) c.args.coordinates.now
+    (limits_at_least_narrow c.args.size) c.requires)

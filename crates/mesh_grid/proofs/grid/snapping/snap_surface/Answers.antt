@@ -1,17 +1,10 @@
-use Rattle.std.proofs.Common.{◌≡◌, ◌∙◌, sym, subst}
-use Rattle.std.proofs.lemmas.List.Elements.{All-same}
-use Rattle.ember_model.specs.Meshes.{IsBalanced}
-use Rattle.mesh_grid.specs.Grid.Corners.{corner_at}
-use Rattle.mesh_grid.proofs.Growing.{images_of_mesh}
-use Rattle.mesh_grid.proofs.Positions.{closed_on_grid}
+use Rattle.std.proofs.Common.{lit≤}
+use Rattle.ember_model.specs.Limits.{narrow_limit, broad_limit}
+use Rattle.mesh_grid.proofs.GridLandings.{lands_further}
 use Rattle.mesh_grid.proofs.grid.snapping.snap_surface.Goals as goal
 
-pub returns-clause-mesh : goal.returns-clause-mesh
-returns-clause-mesh c = All-same (λ t. t.mesh ≡ c.args.mesh) _ _
-    (c.finished.ensures.tris ∙ c.in_ok-snapping.ensures.tris)
-    (images_of_mesh (corner_at c.args.grid.now c.args.surface.now.vertices.items) c.args.mesh
-    c.args.surface.now.facets.items)
+pub snapped_tris-requires-clause-lands : goal.snapped_tris-requires-clause-lands
+snapped_tris-requires-clause-lands c = lands_further narrow_limit broad_limit c.args.grid.now c.args.surface.now (lit≤ tt) c.requires.lands
 
-pub returns-clause-closed : goal.returns-clause-closed
-returns-clause-closed c = λ h. subst IsBalanced (sym (c.finished.ensures.tris ∙ c.in_ok-snapping.ensures.tris))
-    (closed_on_grid c.args.grid.now c.args.surface.now c.args.mesh c.requires.step h)
+pub finished-requires-clause-valid : goal.finished-requires-clause-valid
+finished-requires-clause-valid c = c.in_ok-snapped.ensures.within narrow_limit c.requires.lands

@@ -1,4 +1,4 @@
-use Rattle.std.proofs.Common.{◌≡◌, ◌<◌, Some, pos, ◌<ℤ◌, sym, arith}
+use Rattle.std.proofs.Common.{◌≡◌, Some, pos, ◌<ℤ◌, sym, arith}
 use borrow.Author.Differences.{ints}
 use mir.Syntax.{w128}
 use mir.Val.{to_z, of_z}

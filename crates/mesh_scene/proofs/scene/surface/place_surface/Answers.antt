@@ -1,7 +1,13 @@
-use Rattle.std.proofs.Common.{◌≡◌, ◌∙◌, ◌+◌, length, ap, rules}
+use Rattle.std.proofs.Common.{◌≡◌, ◌∙◌, ◌+◌, All, length, sym, ap, subst, rules}
+use Rattle.ember_model.specs.Limits.{broad_limit}
+use Rattle.ember_model.specs.Within.{IsTriWithin}
 use Rattle.mesh_grid.specs.Grid.Images.{flat_ones}
 use Rattle.mesh_scene.proofs.Meshes.{length-flat_images}
 use Rattle.mesh_scene.proofs.scene.surface.place_surface.Goals as goal
+
+pub closed-requires-clause-within : goal.closed-requires-clause-within
+closed-requires-clause-within c = subst (All (IsTriWithin broad_limit)) (sym c.deref.ensures.value)
+    (c.in-Ok.ensures.within broad_limit c.requires.lands)
 
 pub returns-clause-counts : goal.returns-clause-counts
 returns-clause-counts c =
